@@ -1,0 +1,12 @@
+//! Frames of the Simple Open Framing Header: a length and an encoding type before each message.
+//! Relies on nothing.
+#![tactic(auto)]
+
+/// The byte order of a message's numbers, as the frame's encoding type names it.
+#[derive(Clone, Copy, Debug, PartialEq, Eq)]
+pub enum Order {
+    /// SBE 1.0 little-endian, encoding type 0xEB50.
+    Little,
+    /// SBE 1.0 big-endian, encoding type 0x5BE0.
+    Big,
+}
