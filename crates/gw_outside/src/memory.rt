@@ -183,3 +183,53 @@ impl Sink for MemSink {
         }
     }
 }
+
+#[cfg(test)]
+mod tests {
+    use super::*;
+    use crate::streams::push_all;
+    use std::test::Fail;
+
+    #[test]
+    fn gives_and_takes_in_pieces(rt: HostRuntime) -> Result<(), Fail> {
+        let alloc = rt.alloc();
+        let bytes = Bytes::from([1, 2, 3, 4, 5].to_vec(alloc)?);
+        let mut source = MemSource::new(bytes, 2, Calls::from([2].to_vec(alloc)?));
+        let mut sink = MemSink::new(alloc, 4, Calls::from([2].to_vec(alloc)?))?;
+        let mut piece = [0; 3];
+        // A pull gives two bytes at most, and the second pull fails.
+        for (given, front) in [
+            (Ok(2), [1, 2]),
+            (Err(Failed), [1, 2]),
+            (Ok(2), [3, 4]),
+            (Ok(1), [5, 4]),
+            (Ok(0), [5, 4]),
+        ] {
+            assert_eq!(rt; source.pull(&mut piece), given);
+            assert_eq!(rt; &piece[..2], front.as_slice());
+        }
+        // The second push fails, and so does one past the room; neither takes anything.
+        assert_eq!(rt; push_all(&mut sink, &[7, 8]), Ok(()));
+        assert_eq!(rt; push_all(&mut sink, &[9]), Err(Failed));
+        assert_eq!(rt; push_all(&mut sink, &[9, 9, 9]), Err(Failed));
+        assert_eq!(rt; push_all(&mut sink, &[9, 10]), Ok(()));
+        assert_eq!(rt; sink.taken(), [7, 8, 9, 10].as_slice());
+        Ok(())
+    }
+
+    #[test]
+    fn never_fails_without_faults(rt: HostRuntime) -> Result<(), Fail> {
+        let alloc = rt.alloc();
+        let text = Bytes::from([1, 2].to_vec(alloc)?);
+        assert_eq!(rt; text.len(), 2);
+        assert_eq!(rt; text.as_slice(), [1, 2].as_slice());
+        let mut source = MemSource::without_faults(alloc, Bytes::from(text.into_vec()), 9);
+        let mut sink = MemSink::without_faults(alloc, 2)?;
+        let mut piece = [0; 4];
+        assert_eq!(rt; source.pull(&mut piece), Ok(2));
+        assert_eq!(rt; sink.push(&piece[..2]), Ok(2));
+        assert_eq!(rt; sink.push(&[]), Ok(0));
+        assert_eq!(rt; sink.taken(), [1, 2].as_slice());
+        Ok(())
+    }
+}
