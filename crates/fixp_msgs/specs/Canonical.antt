@@ -1,7 +1,7 @@
 -- The one way in which a session message is written: version 0, no padding, nothing behind the last
 -- element (SBE 1.0), in a frame of its own (Simple Open Framing Header 1.0).
 use Rattle.std.specs.Prelude.{◌≡◌, ◌≢◌, ℕ, ◌+◌, ◌<◌, ◌≤◌, ◌^◌, List, [], ◌∷◌, ◌++◌, Option, Some, None, IfSome, unwrap_or, length}
-use Rattle.std.specs.Int.{w16, w32, w64, byte_len, to_le_bytes, to_be_bytes}
+use Rattle.std.specs.Int.{w8, w16, w32, w64, to_le_bytes, to_be_bytes}
 use Rattle.std.specs.List.{flat_map, AllByRecursion}
 use Rattle.fixp_msgs.specs.Header.{session_schema}
 use Rattle.fixp_msgs.specs.Message.{Message}
@@ -9,20 +9,22 @@ use Rattle.fixp_msgs.specs.Table.{Field, Row, row_of, block_of, null}
 
 abbrev pub field_bytes : Field → List ℕ
 field_bytes (Field.identifier id) = id
-field_bytes (Field.number w n) = to_le_bytes w n
+field_bytes (Field.u8 n) = to_le_bytes w8 n
+field_bytes (Field.u32 n) = to_le_bytes w32 n
+field_bytes (Field.u64 n) = to_le_bytes w64 n
 field_bytes (Field.optional n) = to_le_bytes w64 (unwrap_or n null)
 
--- a text is its length in two bytes, and its bytes
-abbrev pub text_bytes : Option (List ℕ) → List ℕ
-text_bytes None = []
-text_bytes (Some text) = to_le_bytes w16 (length text) ++ text
+-- behind these bytes stands the text, if there is one: its length in two bytes, and its bytes
+abbrev pub with_text : List ℕ → Option (List ℕ) → List ℕ
+with_text bytes None = bytes
+with_text bytes (Some text) = bytes ++ to_le_bytes w16 (length text) ++ text
 
 -- the header: the block's length, the template id, the schema id and version 0
 abbrev pub header_bytes : Message → List ℕ
 header_bytes m = to_le_bytes w16 (block_of m) ++ to_le_bytes w16 (row_of m).template ++ to_le_bytes w16 session_schema ++ to_le_bytes w16 0
 
 abbrev pub message_bytes : Message → List ℕ
-message_bytes m = header_bytes m ++ flat_map field_bytes (row_of m).fields ++ text_bytes (row_of m).text
+message_bytes m = with_text (header_bytes m ++ flat_map field_bytes (row_of m).fields) (row_of m).text
 
 -- the framing header (Simple Open Framing Header 1.0): the length of the whole frame, itself counted,
 -- and the encoding type of little-endian SBE 1.0
@@ -44,7 +46,9 @@ pub record IsWritable (m : Message) : Type 0 where
 -- a writable message whose identifier has 16 bytes and whose numbers fit their widths
 abbrev pub FitsField : Field → Type 0
 FitsField (Field.identifier id) = length id ≡ 16
-FitsField (Field.number w n) = n < 256 ^ byte_len w
+FitsField (Field.u8 n) = n < 2 ^ 8
+FitsField (Field.u32 n) = n < 2 ^ 32
+FitsField (Field.u64 n) = n < 2 ^ 64
 FitsField (Field.optional n) = IfSome n (λ k. k < null)
 
 pub record IsLegal (m : Message) : Type 0 where

@@ -1,7 +1,7 @@
 -- Which bytes spell which session message (SBE 1.0: "Message structure", "Field encoding",
 -- "Variable-length data"). The bytes begin with the header; every number is little-endian.
 use Rattle.std.specs.Prelude.{◌≡◌, ℕ, ◌+◌, ◌≤◌, ◌==◌, List, [], ◌∷◌, Option, Some, None, length, take, drop, if◌then◌else◌}
-use Rattle.std.specs.Int.{w16, w64, from_le_bytes}
+use Rattle.std.specs.Int.{w8, w16, w32, w64, from_le_bytes}
 use Rattle.fixp_msgs.specs.Header.{block_length_in, template_in, schema_in, session_schema}
 use Rattle.fixp_msgs.specs.Message.{Message}
 use Rattle.fixp_msgs.specs.Table.{Field, Row, row_of, size_of, block_of, null}
@@ -13,7 +13,9 @@ unless_null n = if n == null then None else Some n
 -- the bytes of the field from this place of the block on spell its value
 abbrev pub Holds : List ℕ → ℕ → Field → Type 0
 Holds block place (Field.identifier id) = id ≡ take 16 (drop place block)
-Holds block place (Field.number w n) = n ≡ from_le_bytes w (drop place block)
+Holds block place (Field.u8 n) = n ≡ from_le_bytes w8 (drop place block)
+Holds block place (Field.u32 n) = n ≡ from_le_bytes w32 (drop place block)
+Holds block place (Field.u64 n) = n ≡ from_le_bytes w64 (drop place block)
 Holds block place (Field.optional n) = n ≡ unless_null (from_le_bytes w64 (drop place block))
 
 -- each field stands where the one before it ends

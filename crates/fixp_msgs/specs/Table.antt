@@ -1,20 +1,23 @@
 -- The table of the session messages (FIXP 1.1 names them; template ids and blocks are this project's profile).
-use Rattle.std.specs.Prelude.{◌≡◌, ℕ, ◌+◌, ◌/◌, ◌-◌, ◌^◌, Bool, List, [], ◌∷◌, Option, Some, None, sum_by, nat_eq}
+use Rattle.std.specs.Prelude.{ℕ, ◌-◌, ◌^◌, Bool, List, [], ◌∷◌, Option, Some, None, sum_by, nat_eq}
 use Rattle.std.specs.List.{list_any}
-use Rattle.std.specs.Int.{Width, w8, w32, w64, byte_len}
 use Rattle.fixp_msgs.specs.Message.{Message}
 
--- a field of a block with its value: a session's identifier of 16 bytes, an unsigned number of some
--- width, or a number of 64 bits that may be missing
+-- a field of a block with its value: a session's identifier of 16 bytes, an unsigned number of 8, 32 or
+-- 64 bits, or one of 64 bits that may be missing
 pub data Field : Type 0 where
   identifier : List ℕ → Field
-  number : Width → ℕ → Field
+  u8 : ℕ → Field
+  u32 : ℕ → Field
+  u64 : ℕ → Field
   optional : Option ℕ → Field
 
 -- how many bytes a field takes
 abbrev pub size_of : Field → ℕ
 size_of (identifier _) = 16
-size_of (number w _) = byte_len w
+size_of (u8 _) = 1
+size_of (u32 _) = 4
+size_of (u64 _) = 8
 size_of (optional _) = 8
 
 -- a row of the table: the template id, the fields of the block in order without gaps, and the
@@ -26,19 +29,19 @@ pub record Row : Type 0 where
 
 abbrev pub row_of : Message → Row
 row_of (Message.negotiate session timestamp flow credentials) =
-    record { template = 1; fields = identifier session ∷ number w64 timestamp ∷ number w8 flow ∷ []; text = Some credentials }
+    record { template = 1; fields = identifier session ∷ u64 timestamp ∷ u8 flow ∷ []; text = Some credentials }
 row_of (Message.negotiation_response session timestamp flow credentials) =
-    record { template = 2; fields = identifier session ∷ number w64 timestamp ∷ number w8 flow ∷ []; text = Some credentials }
+    record { template = 2; fields = identifier session ∷ u64 timestamp ∷ u8 flow ∷ []; text = Some credentials }
 row_of (Message.establish session timestamp keepalive next credentials) =
-    record { template = 4; fields = identifier session ∷ number w64 timestamp ∷ number w32 keepalive ∷ optional next ∷ []; text = Some credentials }
+    record { template = 4; fields = identifier session ∷ u64 timestamp ∷ u32 keepalive ∷ optional next ∷ []; text = Some credentials }
 row_of (Message.establishment_ack session timestamp keepalive next) =
-    record { template = 5; fields = identifier session ∷ number w64 timestamp ∷ number w32 keepalive ∷ optional next ∷ []; text = None }
+    record { template = 5; fields = identifier session ∷ u64 timestamp ∷ u32 keepalive ∷ optional next ∷ []; text = None }
 row_of (Message.sequence next) =
-    record { template = 7; fields = number w64 next ∷ []; text = None }
+    record { template = 7; fields = u64 next ∷ []; text = None }
 row_of Message.unsequenced_heartbeat =
     record { template = 8; fields = []; text = None }
 row_of (Message.terminate session code reason) =
-    record { template = 16; fields = identifier session ∷ number w8 code ∷ []; text = Some reason }
+    record { template = 16; fields = identifier session ∷ u8 code ∷ []; text = Some reason }
 
 -- the length of a message's block: its fields' bytes
 abbrev pub block_of : Message → ℕ

@@ -6,7 +6,7 @@ ghost use Rattle.fixp_msgs.specs.Header.{kind_of};
 use sofh_frame::Order;
 
 /// The schema id of every session message (this project's profile).
-const SESSION_SCHEMA: u16 = 0xF011;
+pub(crate) const SESSION_SCHEMA: u16 = 0xF011;
 
 /// What a message is, by its schema id and byte order (this project's profile).
 #[derive(Clone, Copy, Debug, PartialEq, Eq)]

@@ -8,6 +8,7 @@ mod frames;
 mod laws;
 mod messages;
 mod reading;
+mod writing;
 
 pub use flow::Flow;
 pub use frames::{FrameKind, kind};
@@ -17,3 +18,4 @@ pub use messages::{
     UnsequencedHeartbeat,
 };
 pub use reading::{MsgFault, read};
+pub use writing::{size, write};

@@ -135,14 +135,17 @@ fn text(bytes: &[u8]) -> Option<&[u8]>
 }
 
 /// The block, and the text that stands behind it.
+
 fn parts_and_text(message: &[u8], needed: usize) -> Option<(&[u8], &[u8])>
     requires { 8 ≤ length message.now }
     ensures found { IfSome result (λ p. (behind : List ℕ) × IsBlock message.now needed p.0.now behind × BeginsWithText behind p.1.now) }
     ensures enough { IfSome result (λ p. needed ≤ length p.0.now) }
     ensures none { IfNone result (Lacks message.now needed true) }
 {
-    let (block, behind) = parts(message, needed)?;
-    Some((block, text(behind)?))
+    match parts(message, needed) {
+        Some((block, behind)) => Some((block, text(behind)?)),
+        None => None,
+    }
 }
 
 fn negotiate<'a>(message: &'a [u8]) -> Option<SessionMsg<'a>>
