@@ -1,0 +1,113 @@
+-- The bytes of a legal message: their number, and that they spell the message.
+use Rattle.std.proofs.Common.{◌≡◌, ℕ, ◌+◌, ◌<◌, ◌≤◌, ◌^◌, List, [], ◌∷◌, ◌++◌, Option, Some, None, IfSome, unwrap_or, length, lit<, take, drop, refl, sym, ap, ◌∙◌, subst, arith, append_assoc, length-append}
+use Rattle.std.proofs.Math.Seq.{drop-append_seam, take-append_seam}
+use Rattle.std.proofs.lemmas.List.Sums.{sum_by-cons}
+use Rattle.std.proofs.lemmas.Grind.{common_steps}
+use Rattle.std.proofs.lemmas.Nat.{from_le_bytes-to_le_bytes_2, from_le_bytes-to_le_bytes_4, from_le_bytes-to_le_bytes_8}
+use Rattle.std.specs.Prelude.{sum_by}
+use Rattle.std.specs.Int.{w16, w64, from_le_bytes, to_le_bytes}
+use Rattle.std.specs.List.{flat_map, AllByRecursion}
+use Rattle.fixp_msgs.specs.Header.{block_length_in, template_in, schema_in, session_schema}
+use Rattle.fixp_msgs.specs.Message.{Message}
+use Rattle.fixp_msgs.specs.Table.{Field, row_of, size_of, block_of, null}
+use Rattle.fixp_msgs.specs.Grammar.{Spells, IsBlock, Holds, HoldsAll, HasText, BeginsWithText, unless_null}
+use Rattle.fixp_msgs.specs.Canonical.{field_bytes, with_text, header_bytes, message_bytes, frame_bytes, FitsField, IsLegal}
+
+length-field_bytes : (f : Field) → FitsField f → length (field_bytes f) ≡ size_of f
+length-field_bytes (Field.identifier id) fits = fits
+length-field_bytes (Field.u8 n) fits = refl
+length-field_bytes (Field.u32 n) fits = refl
+length-field_bytes (Field.u64 n) fits = refl
+length-field_bytes (Field.optional n) fits = refl
+
+-- the fields of a block take its bytes
+length-fields : (fs : List Field) → AllByRecursion FitsField fs → length (flat_map field_bytes fs) ≡ sum_by size_of fs
+length-fields [] _ = refl
+length-fields (f ∷ fs) (fits, all) =
+    length-append (field_bytes f) (flat_map field_bytes fs)
+    ∙ omega (arith, length-field_bytes f fits, length-fields fs all, sum_by-cons size_of f fs)
+
+-- the number that was written is read again
+optional-again : (n : Option ℕ) → IfSome n (λ k. k < null) → n ≡ unless_null (from_le_bytes w64 (to_le_bytes w64 (unwrap_or n null)))
+optional-again None fits = refl
+optional-again (Some k) fits = rw (from_le_bytes-to_le_bytes_8 k (omega arith)) (grind (arith, common_steps))
+
+-- a field's bytes hold its value, whatever follows them
+holds_first : (f : Field) (rest : List ℕ) → FitsField f → Holds (field_bytes f ++ rest) 0 f
+holds_first (Field.identifier id) rest fits = sym (subst (λ n. take n (id ++ rest) ≡ id) fits (take-append_seam id rest))
+holds_first (Field.u8 n) rest fits = omega arith
+holds_first (Field.u32 n) rest fits = sym (from_le_bytes-to_le_bytes_4 n fits)
+holds_first (Field.u64 n) rest fits = sym (from_le_bytes-to_le_bytes_8 n fits)
+holds_first (Field.optional n) rest fits = optional-again n fits
+
+-- a field is where the bytes before it end
+holds_behind : (f : Field) (front bytes : List ℕ) → Holds bytes 0 f → Holds (front ++ bytes) (length front) f
+holds_behind (Field.identifier id) front bytes h = rw (drop-append_seam front bytes) h
+holds_behind (Field.u8 n) front bytes h = rw (drop-append_seam front bytes) h
+holds_behind (Field.u32 n) front bytes h = rw (drop-append_seam front bytes) h
+holds_behind (Field.u64 n) front bytes h = rw (drop-append_seam front bytes) h
+holds_behind (Field.optional n) front bytes h = rw (drop-append_seam front bytes) h
+
+-- every field of the block is read again
+holds_all : (fs : List Field) (front : List ℕ) → AllByRecursion FitsField fs → HoldsAll (front ++ flat_map field_bytes fs) (length front) fs
+holds_all [] front _ = tt
+holds_all (f ∷ fs) front (fits, all) =
+    let P : ℕ → List ℕ → Type 0 = λ n bytes. HoldsAll bytes n fs in
+    (holds_behind f front (field_bytes f ++ flat_map field_bytes fs) (holds_first f (flat_map field_bytes fs) fits),
+     subst (λ n. P n (front ++ (field_bytes f ++ flat_map field_bytes fs))) (length-append front (field_bytes f) ∙ ap (λ n. length front + n) (length-field_bytes f fits))
+       (subst (P (length (front ++ field_bytes f))) (append_assoc front (field_bytes f) (flat_map field_bytes fs)) (holds_all fs (front ++ field_bytes f) all)))
+
+-- a text is read again, whatever follows it
+has_text : (text : Option (List ℕ)) (after : List ℕ) → IfSome text (λ t. length t ≤ 2048) → HasText (with_text [] text ++ after) text
+has_text None after _ = tt
+has_text (Some text) after short =
+    let size : from_le_bytes w16 (to_le_bytes w16 (length text)) ≡ length text = from_le_bytes-to_le_bytes_2 (length text) (omega arith) in
+    record {
+      whole = omega (arith, size, length-append text after);
+      value = subst (λ n. text ≡ take n (text ++ after)) (sym size) (sym (take-append_seam text after)) }
+
+-- the header's numbers are small
+record IsSmall (m : Message) : Type 0 where
+  block : block_of m < 2 ^ 16
+  template : (row_of m).template < 2 ^ 16
+
+is_small : (m : Message) → IsSmall m
+is_small (Message.negotiate _ _ _ _) = record { block = lit< tt; template = lit< tt }
+is_small (Message.negotiation_response _ _ _ _) = record { block = lit< tt; template = lit< tt }
+is_small (Message.establish _ _ _ _ _) = record { block = lit< tt; template = lit< tt }
+is_small (Message.establishment_ack _ _ _ _) = record { block = lit< tt; template = lit< tt }
+is_small (Message.sequence _) = record { block = lit< tt; template = lit< tt }
+is_small Message.unsequenced_heartbeat = record { block = lit< tt; template = lit< tt }
+is_small (Message.terminate _ _ _) = record { block = lit< tt; template = lit< tt }
+
+-- the text stands behind what was before it
+with_text-append : (bytes : List ℕ) (text : Option (List ℕ)) (after : List ℕ) → with_text bytes text ++ after ≡ bytes ++ (with_text [] text ++ after)
+with_text-append bytes None after = refl
+with_text-append bytes (Some text) after =
+    append_assoc (bytes ++ to_le_bytes w16 (length text)) text after ∙ append_assoc bytes (to_le_bytes w16 (length text)) (text ++ after)
+
+-- the block is the bytes behind the header, as many as the header states
+is_block : (bytes block behind : List ℕ) (size : ℕ) → drop 8 bytes ≡ block ++ behind → length bytes ≡ 8 + (length block + length behind) → block_length_in bytes ≡ size → length block ≡ size → IsBlock bytes size block behind
+is_block bytes block behind size rest all stated here =
+    let P : ℕ → List ℕ → Type 0 = λ n xs. (block ≡ take n xs) × (behind ≡ drop n xs) in
+    let parts : (block ≡ take (block_length_in bytes) (drop 8 bytes)) × (behind ≡ drop (block_length_in bytes) (drop 8 bytes)) =
+      subst (λ n. P n (drop 8 bytes)) (here ∙ sym stated)
+        (subst (P (length block)) (sym rest) (sym (take-append_seam block behind), sym (drop-append_seam block behind))) in
+    record { covers = omega arith; whole = omega arith; stated = parts.0; rest = parts.1 }
+
+pub written_spells : (m : Message) (after : List ℕ) → IsLegal m → Spells (message_bytes m ++ after) m
+written_spells m after legal =
+    let small = is_small m in
+    let size : from_le_bytes w16 (to_le_bytes w16 (block_of m)) ≡ block_of m = from_le_bytes-to_le_bytes_2 (block_of m) small.block in
+    let block : List ℕ = flat_map field_bytes (row_of m).fields in
+    let behind : List ℕ = with_text [] (row_of m).text ++ after in
+    let whole : message_bytes m ++ after ≡ header_bytes m ++ (block ++ behind) = with_text-append (header_bytes m ++ block) (row_of m).text after in
+    let P : List ℕ → Type 0 = λ bytes. Spells bytes m in
+    subst P (sym whole) (record {
+      template = from_le_bytes-to_le_bytes_2 (row_of m).template small.template;
+      schema = refl;
+      block = block;
+      behind = behind;
+      stands = is_block (header_bytes m ++ (block ++ behind)) block behind (block_of m) refl (omega (arith, length-append block behind)) size (length-fields (row_of m).fields legal.fields);
+      fields = holds_all (row_of m).fields [] legal.fields;
+      text = has_text (row_of m).text after legal.text })

@@ -1,0 +1,53 @@
+-- Which bytes spell which session message (SBE 1.0: "Message structure", "Field encoding",
+-- "Variable-length data"). The bytes begin with the header; every number is little-endian.
+use Rattle.std.specs.Prelude.{◌≡◌, ℕ, ◌+◌, ◌≤◌, ◌==◌, List, [], ◌∷◌, Option, Some, None, length, take, drop, if◌then◌else◌}
+use Rattle.std.specs.Int.{w8, w16, w32, w64, from_le_bytes}
+use Rattle.fixp_msgs.specs.Header.{block_length_in, template_in, schema_in, session_schema}
+use Rattle.fixp_msgs.specs.Message.{Message}
+use Rattle.fixp_msgs.specs.Table.{Field, Row, row_of, size_of, block_of, null}
+
+-- a number that may be missing: the null value says that it is
+abbrev pub unless_null : ℕ → Option ℕ
+unless_null n = if n == null then None else Some n
+
+-- the bytes of the field from this place of the block on spell its value
+abbrev pub Holds : List ℕ → ℕ → Field → Type 0
+Holds block place (Field.identifier id) = id ≡ take 16 (drop place block)
+Holds block place (Field.u8 n) = n ≡ from_le_bytes w8 (drop place block)
+Holds block place (Field.u32 n) = n ≡ from_le_bytes w32 (drop place block)
+Holds block place (Field.u64 n) = n ≡ from_le_bytes w64 (drop place block)
+Holds block place (Field.optional n) = n ≡ unless_null (from_le_bytes w64 (drop place block))
+
+-- each field stands where the one before it ends
+abbrev pub HoldsAll : List ℕ → ℕ → List Field → Type 0
+HoldsAll block place [] = Unit {0}
+HoldsAll block place (f ∷ fs) = Holds block place f × HoldsAll block (place + size_of f) fs
+
+-- the block that the message's header states stands whole behind the header, is at least this long,
+-- and these bytes follow it
+pub record IsBlock (message : List ℕ) (least : ℕ) (block behind : List ℕ) : Type 0 where
+  pub covers : least ≤ block_length_in message
+  pub whole : 8 + block_length_in message ≤ length message
+  pub stated : block ≡ take (block_length_in message) (drop 8 message)
+  pub rest : behind ≡ drop (block_length_in message) (drop 8 message)
+
+-- the bytes begin with the text's length in two bytes, and then the text
+pub record BeginsWithText (bytes text : List ℕ) : Type 0 where
+  pub whole : 2 + from_le_bytes w16 bytes ≤ length bytes
+  pub value : text ≡ take (from_le_bytes w16 bytes) (drop 2 bytes)
+
+abbrev pub HasText : List ℕ → Option (List ℕ) → Type 0
+HasText behind None = Unit {0}
+HasText behind (Some text) = BeginsWithText behind text
+
+-- The bytes spell the message: the header names its template and the session's schema, the stated
+-- block is whole and holds its fields, and its text stands behind the block. A block may be longer
+-- than its fields, bytes may follow the last element, and the version may be any.
+pub record Spells (bytes : List ℕ) (m : Message) : Type 0 where
+  pub template : template_in bytes ≡ (row_of m).template
+  pub schema : schema_in bytes ≡ session_schema
+  pub block : List ℕ
+  pub behind : List ℕ
+  pub stands : IsBlock bytes (block_of m) block behind
+  pub fields : HoldsAll block 0 (row_of m).fields
+  pub text : HasText behind (row_of m).text

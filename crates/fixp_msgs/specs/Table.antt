@@ -1,0 +1,56 @@
+-- The table of the session messages (FIXP 1.1 names them; template ids and blocks are this project's profile).
+use Rattle.std.specs.Prelude.{ℕ, ◌-◌, ◌^◌, Bool, List, [], ◌∷◌, Option, Some, None, sum_by, nat_eq}
+use Rattle.std.specs.List.{list_any}
+use Rattle.fixp_msgs.specs.Message.{Message}
+
+-- a field of a block with its value: a session's identifier of 16 bytes, an unsigned number of 8, 32 or
+-- 64 bits, or one of 64 bits that may be missing
+pub data Field : Type 0 where
+  identifier : List ℕ → Field
+  u8 : ℕ → Field
+  u32 : ℕ → Field
+  u64 : ℕ → Field
+  optional : Option ℕ → Field
+
+-- how many bytes a field takes
+abbrev pub size_of : Field → ℕ
+size_of (identifier _) = 16
+size_of (u8 _) = 1
+size_of (u32 _) = 4
+size_of (u64 _) = 8
+size_of (optional _) = 8
+
+-- a row of the table: the template id, the fields of the block in order without gaps, and the
+-- variable data behind the block, if the message has any
+pub record Row : Type 0 where
+  pub template : ℕ
+  pub fields : List Field
+  pub text : Option (List ℕ)
+
+abbrev pub row_of : Message → Row
+row_of (Message.negotiate session timestamp flow credentials) =
+    record { template = 1; fields = identifier session ∷ u64 timestamp ∷ u8 flow ∷ []; text = Some credentials }
+row_of (Message.negotiation_response session timestamp flow credentials) =
+    record { template = 2; fields = identifier session ∷ u64 timestamp ∷ u8 flow ∷ []; text = Some credentials }
+row_of (Message.establish session timestamp keepalive next credentials) =
+    record { template = 4; fields = identifier session ∷ u64 timestamp ∷ u32 keepalive ∷ optional next ∷ []; text = Some credentials }
+row_of (Message.establishment_ack session timestamp keepalive next) =
+    record { template = 5; fields = identifier session ∷ u64 timestamp ∷ u32 keepalive ∷ optional next ∷ []; text = None }
+row_of (Message.sequence next) =
+    record { template = 7; fields = u64 next ∷ []; text = None }
+row_of Message.unsequenced_heartbeat =
+    record { template = 8; fields = []; text = None }
+row_of (Message.terminate session code reason) =
+    record { template = 16; fields = identifier session ∷ u8 code ∷ []; text = Some reason }
+
+-- the length of a message's block: its fields' bytes
+abbrev pub block_of : Message → ℕ
+block_of m = sum_by size_of (row_of m).fields
+
+-- the number that stands for a missing one (SBE 1.0, "Null values": the greatest of the type)
+abbrev pub null : ℕ
+null = 2 ^ 64 - 1
+
+-- the templates that are read and written today
+abbrev pub is_built : ℕ → Bool
+is_built id = list_any (nat_eq id) (1 ∷ 2 ∷ 4 ∷ 5 ∷ 7 ∷ 8 ∷ 16 ∷ [])
