@@ -2,6 +2,10 @@
 //! Relies on nothing.
 #![tactic(auto)]
 
+mod header;
+
+pub use header::{FirstFrame, next};
+
 /// The byte order of a message's numbers, as the frame's encoding type names it.
 #[derive(Clone, Copy, Debug, PartialEq, Eq)]
 pub enum Order {
