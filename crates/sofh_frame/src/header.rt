@@ -1,8 +1,8 @@
 //! The framing header, and the first frame of a slice of bytes.
 //! Nothing is copied: a frame's message is lent from the slice.
 
-ghost use Rattle.std.specs.Prelude.{◌≡◌, ◌≤◌, length};
-ghost use Rattle.sofh_frame.specs.Framing.{first_of, frame_in, order_of, length_in, encoding_in};
+ghost use Rattle.std.specs.Prelude.{◌≡◌, ℕ, ◌≤◌, ◌↔◌, length};
+ghost use Rattle.sofh_frame.specs.Framing.{first_of, Frame, frame, rest, bad_length, bad_encoding, BeginsWith, IsRest, IsBadLength, IsBadEncoding, frame_in, order_of, length_in, encoding_in};
 ghost use Rattle.sofh_frame.specs.FirstFrame.{seen};
 
 use crate::Order;
@@ -95,7 +95,12 @@ fn first_frame<'a>(bytes: &'a [u8]) -> FirstFrame<'a>
 
 /// The first frame of `bytes`, or why there is none.
 pub fn next<'a>(bytes: &'a [u8]) -> FirstFrame<'a>
-    ensures { seen result ≡ first_of bytes.now }
+    ensures exact { seen result ≡ first_of bytes.now }
+    ensures whole { (f : Frame) (size : ℕ) →
+        (seen result ≡ frame f.order f.message size) ↔ BeginsWith bytes.now f size }
+    ensures rest { (seen result ≡ rest) ↔ IsRest bytes.now }
+    ensures bad_length { (n : ℕ) → (seen result ≡ bad_length n) ↔ IsBadLength bytes.now n }
+    ensures bad_encoding { (e : ℕ) → (seen result ≡ bad_encoding e) ↔ IsBadEncoding bytes.now e }
 {
     first_frame(bytes)
 }
