@@ -1,2 +1,4 @@
 pub mod Framing
 pub mod FirstFrame
+pub mod Buffered
+pub mod Lending

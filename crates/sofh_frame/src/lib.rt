@@ -2,8 +2,10 @@
 //! Relies on nothing.
 #![tactic(auto)]
 
+mod buffer;
 mod header;
 
+pub use buffer::{Framer, ROOM};
 pub use header::{FirstFrame, next};
 
 /// The byte order of a message's numbers, as the frame's encoding type names it.

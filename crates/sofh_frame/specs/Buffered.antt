@@ -1,0 +1,11 @@
+-- What a framer holds, and the room that it lends.
+use Rattle.std.specs.Prelude.{ℕ, List, ◌++◌, length, take, drop}
+
+-- the bytes held, and those that may be filled in behind them
+pub record Buffered : Type 0 where
+  pub held : List ℕ
+  pub room : List ℕ
+
+-- the room once bytes were written from its front on: just these bytes, where they are as many as the room
+abbrev pub written_over : List ℕ → List ℕ → List ℕ
+written_over room bytes = take (length room) (bytes ++ drop (length bytes) room)
