@@ -1,6 +1,6 @@
 -- Writing into the room behind the bytes that are held.
 use Rattle.std.proofs.Common.{◌≡◌, ℕ, ◌+◌, ◌-◌, ◌<◌, ◌≤◌, zero, suc, List, [], ◌∷◌, ◌++◌, length, take, drop, refl, sym, ◌∙◌, ap, append_assoc, arith}
-use Rattle.std.proofs.lemmas.List.{take-append-drop, length-append, length-take, length-drop, drop-append-le, take-append-le, take-take, drop-take}
+use Rattle.std.proofs.lemmas.List.{take-append-drop, length-append, length-take, length-drop, drop-append-le, take-append-le, take-take, drop-take, drop-drop}
 use Rattle.std.specs.List.{slice_range}
 use Rattle.std.proofs.Math.Seq.{drop-append_seam}
 use Rattle.sofh_frame.specs.Buffered.{Buffered, written_over}
@@ -65,3 +65,14 @@ view-written items bytes len start end ordered short within counted =
         ∙ room-written items bytes more end (start + 32780) short (omega arith) in
     ap (λ (xs : List ℕ). let b : Buffered = record { held = xs; room = slice_range (take len (written ++ more)) end (start + 32780) } in b) held
     ∙ ap (λ (xs : List ℕ). let b : Buffered = record { held = slice_range items start end; room = xs } in b) room
+
+-- a range without its first elements
+pub slice_range-drop : (items : List ℕ) (n start end : ℕ) → start + n ≤ end → slice_range items (start + n) end ≡ drop n (slice_range items start end)
+slice_range-drop items n start end within =
+    let apart : end - start ≡ n + (end - (start + n)) = omega arith in
+    sym (ap (λ (k : ℕ). drop n (take k (drop start items))) apart
+    ∙ drop-take n (end - (start + n)) (drop start items)
+    ∙ ap (take (end - (start + n))) (drop-drop n start items))
+
+pub length-slice_range : (items : List ℕ) (start end : ℕ) → end ≤ length items → length (slice_range items start end) ≡ end - start
+length-slice_range items start end within = simp (length-take, length-drop) (omega arith)

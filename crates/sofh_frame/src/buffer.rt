@@ -1,9 +1,9 @@
 //! A buffer that takes bytes in pieces of any size, and shows the first frame of those that it holds.
 //! It relies on the first frame of a slice.
 
-ghost use Rattle.std.specs.Prelude.{◌≡◌, [], ◌++◌, ◌+◌, ◌≤◌, length, take, drop, IfOk, vec_len};
+ghost use Rattle.std.specs.Prelude.{◌≡◌, ℕ, [], ◌++◌, ◌+◌, ◌≤◌, ◌↔◌, length, take, drop, IfOk};
 ghost use Rattle.std.specs.Borrow.{sem};
-ghost use Rattle.sofh_frame.specs.Framing.{first_of};
+ghost use Rattle.sofh_frame.specs.Framing.{first_of, Frame, frame, BeginsWith};
 ghost use Rattle.sofh_frame.specs.FirstFrame.{seen};
 ghost use Rattle.sofh_frame.specs.Lending.{LendsRoom};
 
@@ -38,9 +38,13 @@ impl Model for Framer {
 }
 
 impl Framer {
+    /// A framer that holds nothing, with `ROOM` bytes of room. It takes all of its memory here.
+    ///
+    /// # Errors
+    /// `AllocError` if there is no memory for the buffer.
     pub fn new(alloc: Global) -> Result<Framer, AllocError>
         ensures held { IfOk result (λ f. f.held ≡ []) }
-        ensures room { IfOk result (λ f. length f.room ≡ ROOM) }
+        ensures size { IfOk result (λ f. length f.room ≡ ROOM) }
     {
         Ok(Framer {
             buffer: vec![in alloc; 0; BUFFER]?,
@@ -49,24 +53,46 @@ impl Framer {
         })
     }
 
+    /// The room behind the bytes held: `ROOM` bytes less those that are held. What it contains is left open.
     pub fn room(&mut self) -> &mut [u8]
         ensures* lends { sem 𝓛 (LendsRoom self.entry result) }
+        ensures value { result.now ≡ self.old.room }
+        ensures size { length result.now + length self.old.held ≡ ROOM }
     {
         let stop = self.start + ROOM;
         self.buffer.slice_mut(self.end..stop)
     }
 
+    /// Takes the first `n` bytes of the room behind those that are held.
     pub fn filled(&mut self, n: usize)
         requires { n ≤ length self.old.room }
         ensures held { self.new.held ≡ self.old.held ++ take n self.old.room }
-        ensures room { self.new.room ≡ drop n self.old.room }
+        ensures size { length self.new.room + length self.new.held ≡ ROOM }
     {
         self.end += n;
     }
 
+    /// The first frame of the bytes held, as `next` answers it.
     pub fn peek(&self) -> FirstFrame<'_>
         ensures exact { seen result ≡ first_of self.now.held }
+        ensures whole { (f : Frame) (size : ℕ) →
+            (seen result ≡ frame f.order f.message size) ↔ BeginsWith self.now.held f size }
+        ensures size { length self.now.room + length self.now.held ≡ ROOM }
     {
         next(&self.buffer[self.start..self.end])
+    }
+
+    /// Forgets the first `n` bytes held. The others move at most once for each `ROOM` bytes that are dropped.
+    pub fn drop_front(&mut self, n: usize)
+        requires { n ≤ length self.old.held }
+        ensures held { self.new.held ≡ drop n self.old.held }
+        ensures size { length self.new.room + length self.new.held ≡ ROOM }
+    {
+        self.start += n;
+        if self.start > ROOM {
+            self.buffer.copy_within(self.start..self.end, 0);
+            self.end -= self.start;
+            self.start = 0;
+        }
     }
 }

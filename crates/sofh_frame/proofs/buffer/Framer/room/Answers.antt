@@ -1,10 +1,15 @@
 -- The room lent is what stands behind the bytes held, so these stay.
-use Rattle.std.proofs.Common.{refl, sym, ap, ◌∙◌, arith}
+use Rattle.std.proofs.Common.{refl, sym, ap, ◌∙◌, ◌≡◌, ◌+◌, ◌-◌, length, arith}
 use Rattle.sofh_frame.specs.Buffered.{Buffered, written_over}
-use Rattle.sofh_frame.proofs.BufferLemmas.{view-written}
+use Rattle.sofh_frame.proofs.BufferLemmas.{view-written, length-slice_range}
 use Rattle.sofh_frame.proofs.buffer.Framer.room.Goals as goal
 
 pub returns : goal.returns
 returns c =
     let f = c.self.inside in
-    ((refl, λ w. view-written f.buffer.items w f.buffer.len f.start f.end c.self.invariant.0 c.self.invariant.2 (omega (arith, c.self.invariant.1, c.self.invariant.3)) (sym f.buffer.ok.0) ∙ ap (λ (b : Buffered). record b { room = written_over b.room w }) c.self.view_is), record { lends = tt })
+    let held : length c.args.self.now.held ≡ f.end - f.start = ap (λ (b : Buffered). length b.held) (sym c.self.view_is) ∙ length-slice_range f.buffer.items f.start f.end (omega (arith, c.self.invariant.0, c.self.invariant.1, c.self.invariant.2, c.self.invariant.3, f.buffer.ok.0)) in
+    ((refl, λ w. view-written f.buffer.items w f.buffer.len f.start f.end c.self.invariant.0 c.self.invariant.2 (omega (arith, c.self.invariant.1, c.self.invariant.3)) (sym f.buffer.ok.0) ∙ ap (λ (b : Buffered). record b { room = written_over b.room w }) c.self.view_is), record {
+      lends = tt;
+      value = c.slice_mut.ensures.value ∙ ap (λ (b : Buffered). b.room) c.self.view_is;
+      size = omega (arith, held, ap length c.slice_mut.ensures.value, length-slice_range f.buffer.items f.end (f.start + 32780) (omega (arith, c.self.invariant.1, c.self.invariant.3, f.buffer.ok.0)), c.self.invariant.0, c.self.invariant.2);
+    })
