@@ -1,5 +1,5 @@
 -- What a framer holds, and the room that it lends.
-use Rattle.std.specs.Prelude.{ℕ, List, ◌++◌, length, take, drop}
+use Rattle.std.specs.Prelude.{◌≡◌, ℕ, ◌+◌, ◌≤◌, List, ◌++◌, length, take, drop}
 
 -- the bytes held, and those that may be filled in behind them
 pub record Buffered : Type 0 where
@@ -9,3 +9,10 @@ pub record Buffered : Type 0 where
 -- the room once bytes were written from its front on: just these bytes, where they are as many as the room
 abbrev pub written_over : List ℕ → List ℕ → List ℕ
 written_over room bytes = take (length room) (bytes ++ drop (length bytes) room)
+
+-- where the bytes held stand in the buffer: room for 32,780 bytes is always behind the place of the first
+pub record IsPlaced (start end len : ℕ) : Type 0 where
+  pub ordered : start ≤ end
+  pub short : end ≤ start + 32780
+  pub front : start ≤ 32780
+  pub whole : len ≡ 65560

@@ -2,3 +2,4 @@ pub mod Framing
 pub mod FirstFrame
 pub mod Buffered
 pub mod Lending
+pub mod Splits

@@ -27,14 +27,14 @@ pub struct Framer {
 }
 
 impl Model for Framer {
-    ghost use Rattle.std.specs.Prelude.{◌≡◌, ◌+◌, ◌≤◌, slice_range, vec_len};
-    ghost use Rattle.sofh_frame.specs.Buffered.{Buffered};
+    ghost use Rattle.std.specs.Prelude.{◌+◌, slice_range, vec_len};
+    ghost use Rattle.sofh_frame.specs.Buffered.{Buffered, IsPlaced};
 
     ghost Value = { Buffered };
 
     ghost view = { λ f. record { held = slice_range f.buffer.items f.start f.end; room = slice_range f.buffer.items f.end (f.start + 32780) } };
 
-    ghost invariant = { λ f. (f.start ≤ f.end) × (f.start ≤ 32780) × (f.end ≤ f.start + 32780) × (vec_len f.buffer ≡ 65560) };
+    ghost invariant = { λ f. IsPlaced f.start f.end (vec_len f.buffer) };
 }
 
 impl Framer {
