@@ -2,7 +2,7 @@
 use Rattle.std.proofs.Common.{◌≡◌, ℕ, ◌+◌, ◌-◌, ◌<◌, ◌≤◌, zero, suc, List, [], ◌∷◌, ◌++◌, length, take, drop, refl, sym, ◌∙◌, ap, append_assoc, arith}
 use Rattle.std.proofs.lemmas.List.{take-append-drop, length-append, length-take, length-drop, drop-append-le, take-append-le, take-take, drop-take, drop-drop}
 use Rattle.std.specs.List.{slice_range}
-use Rattle.std.proofs.Math.Seq.{drop-append_seam}
+use Rattle.std.proofs.Math.Seq.{drop-append_seam, take-append_seam}
 use Rattle.sofh_frame.specs.Buffered.{Buffered, written_over}
 
 -- what is written over a list, as far as some of its elements: the rest of the list plays no part
@@ -26,6 +26,7 @@ held-written items bytes start end ordered within =
     ∙ sym (ap (λ (xs : List ℕ). slice_range xs start end) (sym (take-append-drop end items)) ∙ front-kept items (drop end items) start end ordered within)
 
 room-written : (items bytes more : List ℕ) (end stop : ℕ) → end ≤ stop → stop ≤ length items → slice_range (take end items ++ ((bytes ++ drop (length bytes) (drop end items)) ++ more)) end stop ≡ written_over (slice_range items end stop) bytes
+unfolding written_over
 room-written items bytes more end stop ordered within =
     let long : length (take end items) ≡ end = simp length-take (omega arith) in
     let room : length (slice_range items end stop) ≡ stop - end = simp (length-take, length-drop) (omega arith) in
@@ -76,3 +77,9 @@ slice_range-drop items n start end within =
 
 pub length-slice_range : (items : List ℕ) (start end : ℕ) → end ≤ length items → length (slice_range items start end) ≡ end - start
 length-slice_range items start end within = simp (length-take, length-drop) (omega arith)
+
+-- a room that was lent is just what was left in it, since a slice keeps its length
+pub written_over_same : (room bytes : List ℕ) → length bytes ≡ length room → written_over room bytes ≡ bytes
+unfolding written_over
+written_over_same room bytes same =
+    ap (λ (n : ℕ). take n (bytes ++ drop (length bytes) room)) (sym same) ∙ take-append_seam bytes (drop (length bytes) room)

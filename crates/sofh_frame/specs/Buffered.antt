@@ -7,7 +7,7 @@ pub record Buffered : Type 0 where
   pub room : List ℕ
 
 -- the room once bytes were written from its front on: just these bytes, where they are as many as the room
-abbrev pub written_over : List ℕ → List ℕ → List ℕ
+unfoldable pub written_over : List ℕ → List ℕ → List ℕ
 written_over room bytes = take (length room) (bytes ++ drop (length bytes) room)
 
 -- where the bytes held stand in the buffer: room for 32,780 bytes is always behind the place of the first

@@ -3,3 +3,4 @@ pub mod FirstFrame
 pub mod Buffered
 pub mod Lending
 pub mod Splits
+pub mod OwnedSplit
