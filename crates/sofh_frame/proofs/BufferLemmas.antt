@@ -2,6 +2,7 @@
 use Rattle.std.proofs.Common.{◌≡◌, ℕ, ◌+◌, ◌-◌, ◌<◌, ◌≤◌, zero, suc, List, [], ◌∷◌, ◌++◌, length, take, drop, refl, sym, ◌∙◌, ap, append_assoc, arith}
 use Rattle.std.proofs.lemmas.List.{take-append-drop, length-append, length-take, length-drop, drop-append-le, take-append-le, take-take, drop-take, drop-drop}
 use Rattle.std.specs.List.{slice_range}
+use Rattle.std.proofs.lemmas.Bool.Decides.{nat_tests}
 use Rattle.std.proofs.Math.Seq.{drop-append_seam, take-append_seam}
 use Rattle.sofh_frame.specs.Buffered.{Buffered, written_over}
 
@@ -25,8 +26,14 @@ held-written items bytes start end ordered within =
     front-kept items bytes start end ordered within
     ∙ sym (ap (λ (xs : List ℕ). slice_range xs start end) (sym (take-append-drop end items)) ∙ front-kept items (drop end items) start end ordered within)
 
+-- bytes that are cut or filled up to a length, also where they have it
+written_over-cut : (room bytes : List ℕ) → take (length room) (bytes ++ drop (length bytes) room) ≡ written_over room bytes
+written_over-cut room bytes =
+    let same : length bytes ≡ length room → take (length room) (bytes ++ drop (length bytes) room) ≡ bytes =
+        λ e. ap (λ (n : ℕ). take n (bytes ++ drop (length bytes) room)) (sym e) ∙ take-append_seam bytes (drop (length bytes) room) in
+    grind (arith, nat_tests)
+
 room-written : (items bytes more : List ℕ) (end stop : ℕ) → end ≤ stop → stop ≤ length items → slice_range (take end items ++ ((bytes ++ drop (length bytes) (drop end items)) ++ more)) end stop ≡ written_over (slice_range items end stop) bytes
-unfolding written_over
 room-written items bytes more end stop ordered within =
     let long : length (take end items) ≡ end = simp length-take (omega arith) in
     let room : length (slice_range items end stop) ≡ stop - end = simp (length-take, length-drop) (omega arith) in
@@ -37,6 +44,7 @@ room-written items bytes more end stop ordered within =
     ∙ take-append-le (stop - end) written more enough
     ∙ take-written (stop - end) bytes (drop end items)
     ∙ ap (λ (n : ℕ). take n (bytes ++ drop (length bytes) (slice_range items end stop))) (sym room)
+    ∙ written_over-cut (slice_range items end stop) bytes
 
 -- a cut behind a range leaves the range
 slice_range-take : (items : List ℕ) (n start end : ℕ) → start ≤ end → end ≤ n → slice_range (take n items) start end ≡ slice_range items start end
@@ -77,9 +85,3 @@ slice_range-drop items n start end within =
 
 pub length-slice_range : (items : List ℕ) (start end : ℕ) → end ≤ length items → length (slice_range items start end) ≡ end - start
 length-slice_range items start end within = simp (length-take, length-drop) (omega arith)
-
--- a room that was lent is just what was left in it, since a slice keeps its length
-pub written_over_same : (room bytes : List ℕ) → length bytes ≡ length room → written_over room bytes ≡ bytes
-unfolding written_over
-written_over_same room bytes same =
-    ap (λ (n : ℕ). take n (bytes ++ drop (length bytes) room)) (sym same) ∙ take-append_seam bytes (drop (length bytes) room)

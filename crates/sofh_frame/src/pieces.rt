@@ -52,7 +52,6 @@ fn copy_front(into: &mut [u8], from: &[u8]) -> usize
 }
 
 /// Copies as much of `piece` as there is room for, and tells how many bytes that is.
-#[tactic(auto, using(crate::proofs::BufferLemmas::written_over_same))]
 fn pour(framer: &mut Framer, piece: &[u8]) -> usize
     ensures count { result ≡ min (length framer.old.room) (length piece.now) }
     ensures held { framer.new.held ≡ framer.old.held ++ take result piece.now }
