@@ -1,3 +1,4 @@
 pub mod FramingLemmas
 pub mod BufferLemmas
 pub mod SplitLemmas
+pub mod ReadLemmas
