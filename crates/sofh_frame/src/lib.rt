@@ -2,6 +2,16 @@
 //! Relies on nothing.
 #![tactic(auto)]
 
+mod buffer;
+mod header;
+mod laws;
+mod pieces;
+
+pub use buffer::{Framer, ROOM};
+pub use pieces::{End, OwnedFrame, Split};
+pub use laws::{bytes_are_split, split_begins, splits_are_one};
+pub use header::{FirstFrame, next};
+
 /// The byte order of a message's numbers, as the frame's encoding type names it.
 #[derive(Clone, Copy, Debug, PartialEq, Eq)]
 pub enum Order {

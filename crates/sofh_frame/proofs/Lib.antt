@@ -1,0 +1,4 @@
+pub mod FramingLemmas
+pub mod BufferLemmas
+pub mod SplitLemmas
+pub mod ReadLemmas
