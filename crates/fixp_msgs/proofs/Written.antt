@@ -111,3 +111,7 @@ written_spells m after legal =
       stands = is_block (header_bytes m ++ (block ++ behind)) block behind (block_of m) refl (omega (arith, length-append block behind)) size (length-fields (row_of m).fields legal.fields);
       fields = holds_all (row_of m).fields [] legal.fields;
       text = has_text (row_of m).text after legal.text })
+
+-- parts that were put one after another, as one list
+pub joined : (head id t k o : List ℕ) {x₀ x₁ x₂ x₃ x₄ : List ℕ} → x₀ ≡ head → x₁ ≡ x₀ ++ id → x₂ ≡ x₁ ++ t → x₃ ≡ x₂ ++ k → x₄ ≡ x₃ ++ o → x₄ ≡ head ++ (id ++ (t ++ (k ++ o)))
+joined head id t k o a b c d e = rw (e, d, c, b, a) (simp append_assoc)

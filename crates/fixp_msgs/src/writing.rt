@@ -85,14 +85,11 @@ fn put(out: &mut [u8], at: usize, bytes: &[u8]) -> usize
     end
 }
 
-/// Puts a number that may be missing, by its null value where it is.
-fn put_optional(out: &mut [u8], at: usize, number: Option<u64>) -> usize
-    requires { at + 8 ≤ length out.old }
-    ensures end { result ≡ at + 8 }
-    ensures front { take result out.new ≡ take at out.old ++ field_bytes (Field.optional number) }
-    ensures back { (n : ℕ) → result ≤ n → drop n out.new ≡ drop n out.old }
+/// The bytes of a number that may be missing: its null value where it is.
+fn optional_bytes(number: Option<u64>) -> [u8; 8]
+    ensures { result ≡ field_bytes (Field.optional number) }
 {
-    put(out, at, &number.unwrap_or(u64::MAX).to_le_bytes())
+    number.unwrap_or(u64::MAX).to_le_bytes()
 }
 
 /// Puts a text behind its length.
@@ -169,7 +166,7 @@ fn put_establish(out: &mut [u8], frame: usize, m: Establish<'_>) -> usize
     let at = put(out, at, &m.session_id);
     let at = put(out, at, &m.timestamp.to_le_bytes());
     let at = put(out, at, &m.keepalive.to_le_bytes());
-    let at = put_optional(out, at, m.next_seq);
+    let at = put(out, at, &optional_bytes(m.next_seq));
     put_text(out, at, m.credentials)
 }
 
@@ -186,7 +183,7 @@ fn put_establishment_ack(out: &mut [u8], frame: usize, m: EstablishmentAck) -> u
     let at = put(out, at, &m.session_id);
     let at = put(out, at, &m.request_timestamp.to_le_bytes());
     let at = put(out, at, &m.keepalive.to_le_bytes());
-    put_optional(out, at, m.next_seq)
+    put(out, at, &optional_bytes(m.next_seq))
 }
 
 fn put_sequence(out: &mut [u8], frame: usize, m: Sequence) -> usize
