@@ -1,0 +1,73 @@
+-- The session machine of one end: its state, and what each event makes of it.
+use Rattle.std.specs.Prelude.{◌≡◌, ℕ, ◌-◌, Bool, true, false, if◌then◌else◌, List, [], ◌++◌, drop, Option, Some, None, is_some}
+use Rattle.std.specs.List.{flat_map}
+use Rattle.sofh_frame.specs.declared.Order.{Order}
+use Rattle.fixp_msgs.specs.Canonical.{frame_bytes}
+use Rattle.fixp_end.specs.declared.config.EndConfig.{EndConfig}
+use Rattle.fixp_end.specs.declared.config.EndState.{EndState}
+use Rattle.fixp_end.specs.declared.config.Facts.{Facts}
+use Rattle.fixp_end.specs.declared.phase.Phase.{Phase}
+use Rattle.fixp_end.specs.declared.phase.Phase.TheVariants as phases
+use Rattle.fixp_end.specs.declared.ending.Act.{Act}
+use Rattle.fixp_end.specs.declared.ending.Ending.{Ending}
+use Rattle.fixp_end.specs.Acts.{is_record}
+use Rattle.fixp_end.specs.Hearing.{Said, Says}
+use Rattle.fixp_end.specs.Replies.{Outcome, reply_of, reply_to_bad_frame}
+
+-- what an end is: its configuration, the greatest number that it takes, whether a connection was begun, the
+-- last moment that it was told in milliseconds, the facts, how the connection ended, the bytes written and
+-- not yet taken, the outcome whose act is still to be done, and for how many frames it has room
+pub record State : Type 0 where
+  pub config : EndConfig
+  pub most : ℕ
+  pub begun : Bool
+  pub moment : ℕ
+  pub facts : Facts
+  pub ending : Option Ending
+  pub unsent : List ℕ
+  pub undone : Option Outcome
+  pub room : ℕ
+
+-- a new end, before its first connection
+abbrev pub fresh : EndConfig → EndState → ℕ → State
+fresh cfg recorded most = record {
+  config = cfg;
+  most = most;
+  begun = false;
+  moment = 0;
+  facts = record { phase = phases.Idle; recorded = recorded };
+  ending = None;
+  unsent = [];
+  undone = None;
+  room = 0;
+}
+
+-- a connection begins: what the one before left unsent is dropped
+abbrev pub connected : State → ℕ → State
+connected s now = record s { begun = true; moment = now; facts = record s.facts { phase = phases.Idle }; ending = None; unsent = []; undone = None }
+
+-- the bytes of the messages that an outcome writes
+abbrev pub written_bytes : Outcome → List ℕ
+written_bytes o = flat_map frame_bytes o.written
+
+-- an outcome takes effect
+abbrev pub settled : State → Outcome → State
+settled s o = record s { facts = o.next; ending = o.ending; unsent = s.unsent ++ written_bytes o; undone = None }
+
+-- the end after a frame with this outcome: where the act is a record, nothing takes effect yet
+abbrev pub after_frame : State → Outcome → ℕ → State
+after_frame s o now =
+    if is_record o.act
+    then record s { moment = now; room = s.room - 1; undone = Some o }
+    else settled (record s { moment = now; room = s.room - 1 }) o
+
+-- the end answers a frame by the reply table
+pub record AnswersFrame (old new : State) (order : Order) (message : List ℕ) (at now : ℕ) (act : Act) : Type 0 where
+  pub said : Said
+  pub says : Says order message said
+  pub replies : act ≡ (reply_of old.config old.most old.facts said at).act
+  pub after : new ≡ after_frame old (reply_of old.config old.most old.facts said at) now
+
+-- the phase, which is Ended exactly where the connection has ended
+abbrev pub phase_of : State → Phase
+phase_of s = if is_some s.ending then phases.Ended else s.facts.phase

@@ -1,0 +1,18 @@
+//! The session machine: what one end of a FIXP session answers to each frame of a connection.
+//! It reads and writes messages by `fixp_msgs`, and does no input or output itself.
+#![tactic(auto)]
+
+mod config;
+mod ending;
+mod hearing;
+mod laws;
+mod machine;
+mod output;
+mod phase;
+mod replies;
+
+pub use config::{EndConfig, EndState, Role};
+pub use ending::{Act, Ending, Violation};
+pub use laws::one_hearing;
+pub use machine::End;
+pub use phase::Phase;
