@@ -1,5 +1,5 @@
 -- Reading the frames of a stream one by one, from bytes that come in pieces.
-use Rattle.std.proofs.Common.{◌≡◌, ℕ, ◌+◌, ◌-◌, ◌<◌, ◌≤◌, List, [], ◌∷◌, ◌++◌, length, take, drop, refl, sym, ◌∙◌, ap, subst, arith, append_assoc}
+use Rattle.std.proofs.Common.{◌≡◌, ℕ, ◌+◌, ◌-◌, ◌<◌, ◌≤◌, List, [], ◌∷◌, ◌++◌, length, take, drop, refl, sym, ◌∙◌, ap, subst, arith, append_assoc, take-add}
 use Rattle.std.specs.List.{AllByRecursion}
 use Rattle.std.proofs.lemmas.List.{length-append, append-nil}
 use Rattle.std.proofs.lemmas.Grind.{flat_map-append}
@@ -7,6 +7,7 @@ use Rattle.sofh_frame.specs.Framing.{Frame, IsFrame, spelled, First, frame, rest
 use Rattle.sofh_frame.specs.Splits.{spelled_all, place_behind, IsSplit, frames_of, tail_of}
 use Rattle.sofh_frame.specs.OwnedSplit.{frames_seen, IsRead, IsEndAt}
 use Rattle.sofh_frame.specs.declared.pieces.Split.{Split}
+use Rattle.sofh_frame.specs.declared.pieces.End.{End}
 use Rattle.sofh_frame.proofs.FramingLemmas.{bad_length-append, bad_encoding-append}
 use Rattle.sofh_frame.proofs.SplitLemmas.{length-spelled}
 
@@ -34,3 +35,22 @@ IsRead-push bytes old new held left f size frames_are at_is left_is begins read 
       each = subst P (sym frames_are) each;
       at = omega (arith, at_is, read.at, begins.counts, length-spelled f, ap length spelled_are, length-append (spelled_all frames) (spelled f));
     }
+
+-- more bytes of a piece are held
+pub IsRead-pour : (bytes piece unread held more : List ℕ) (split : Split) (taken n : ℕ) → unread ≡ drop taken piece → more ≡ held ++ take n unread → IsRead (bytes ++ take taken piece) split held → IsRead (bytes ++ take (taken + n) piece) split more
+IsRead-pour bytes piece unread held more split taken n unread_is more_is read =
+    let frames = spelled_all (frames_seen split.frames.items) in
+    record {
+      joins =
+        ap (λ (xs : List ℕ). bytes ++ xs) (take-add taken n piece ∙ ap (λ (xs : List ℕ). take taken piece ++ take n xs) (sym unread_is))
+        ∙ sym (append_assoc bytes (take taken piece) (take n unread))
+        ∙ ap (λ (xs : List ℕ). xs ++ take n unread) read.joins
+        ∙ append_assoc frames held (take n unread)
+        ∙ ap (λ (xs : List ℕ). frames ++ xs) (sym more_is);
+      each = read.each;
+      at = read.at;
+    }
+
+-- the end that stands plays no part in what was read
+pub IsRead-end : (bytes : List ℕ) (split : Split) (held : List ℕ) (end : End) → IsRead bytes split held → IsRead bytes (record split { end = end }) held
+IsRead-end bytes split held end read = record { joins = read.joins; each = read.each; at = read.at }
