@@ -8,7 +8,7 @@ mod laws;
 mod pieces;
 
 pub use buffer::{Framer, ROOM};
-pub use pieces::{End, OwnedFrame, Split};
+pub use pieces::{End, OwnedFrame, Split, split_pieces};
 pub use laws::{bytes_are_split, split_begins, splits_are_one};
 pub use header::{FirstFrame, next};
 

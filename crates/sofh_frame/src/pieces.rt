@@ -3,7 +3,7 @@
 
 ghost use Rattle.std.specs.Prelude.{◌≡◌, ℕ, [], ◌∷◌, ◌++◌, ◌+◌, ◌-◌, ◌<◌, ◌≤◌, List, length, min, take, drop, IfOk, IfNone, IfSome, OnOk, IsTrue, ◌↔◌};
 ghost use Rattle.sofh_frame.specs.Framing.{rest};
-ghost use Rattle.sofh_frame.specs.OwnedSplit.{frames_seen, end_seen, IsRead, IsEndAt};
+ghost use Rattle.sofh_frame.specs.OwnedSplit.{frames_seen, end_seen, joined, SplitsAs, IsRead, IsEndAt};
 
 use std::alloc::{AllocError, Global};
 
@@ -159,4 +159,27 @@ fn feed(
         split.end = take_frames(alloc, framer, split)?;
     }
     Ok(taken)
+}
+
+/// The frames of bytes that come in these pieces, of any sizes, and what follows the frames.
+/// They are those of the pieces joined, however the bytes were cut.
+///
+/// # Errors
+/// `AllocError` if there is no memory for the frames.
+pub fn split_pieces(alloc: Global, pieces: &[&[u8]]) -> Result<Split, AllocError>
+    ensures any_cut { IfOk result (SplitsAs (joined pieces.now)) }
+{
+    let mut framer = Framer::new(alloc)?;
+    let mut split = Split {
+        frames: Vec::new(alloc),
+        at: 0,
+        end: End::Rest,
+    };
+    for piece in pieces {
+        let _taken = feed(alloc, &mut framer, &mut split, piece)?;
+        if !split.end.is_rest() {
+            return Ok(split);
+        }
+    }
+    Ok(split)
 }
