@@ -30,10 +30,10 @@ IsRead-push bytes old new held left f size frames_are at_is left_is begins read 
     let P : List Frame → Type 0 = AllByRecursion IsFrame in
     record {
       joins =
-        read.joins ∙ ap (λ (xs : List ℕ). spelled_all frames ++ xs) begins.spells
-        ∙ sym (append_assoc (spelled_all frames) (spelled f) (drop size held))
-        ∙ ap (λ (xs : List ℕ). xs ++ drop size held) (sym spelled_are)
-        ∙ ap (λ (xs : List ℕ). spelled_all (frames_seen new.frames.items) ++ xs) (sym left_is);
+          read.joins ∙ ap (λ (xs : List ℕ). spelled_all frames ++ xs) begins.spells
+          ∙ sym (append_assoc (spelled_all frames) (spelled f) (drop size held))
+          ∙ ap (λ (xs : List ℕ). xs ++ drop size held) (sym spelled_are)
+          ∙ ap (λ (xs : List ℕ). spelled_all (frames_seen new.frames.items) ++ xs) (sym left_is);
       each = subst P (sym frames_are) each;
       at = omega (arith, at_is, read.at, begins.counts, length-spelled f, ap length spelled_are, length-append (spelled_all frames) (spelled f));
     }
@@ -44,11 +44,11 @@ IsRead-pour bytes piece unread held more split taken n unread_is more_is read =
     let frames = spelled_all (frames_seen split.frames.items) in
     record {
       joins =
-        ap (λ (xs : List ℕ). bytes ++ xs) (take-add taken n piece ∙ ap (λ (xs : List ℕ). take taken piece ++ take n xs) (sym unread_is))
-        ∙ sym (append_assoc bytes (take taken piece) (take n unread))
-        ∙ ap (λ (xs : List ℕ). xs ++ take n unread) read.joins
-        ∙ append_assoc frames held (take n unread)
-        ∙ ap (λ (xs : List ℕ). frames ++ xs) (sym more_is);
+          ap (λ (xs : List ℕ). bytes ++ xs) (take-add taken n piece ∙ ap (λ (xs : List ℕ). take taken piece ++ take n xs) (sym unread_is))
+          ∙ sym (append_assoc bytes (take taken piece) (take n unread))
+          ∙ ap (λ (xs : List ℕ). xs ++ take n unread) read.joins
+          ∙ append_assoc frames held (take n unread)
+          ∙ ap (λ (xs : List ℕ). frames ++ xs) (sym more_is);
       each = read.each;
       at = read.at;
     }
@@ -118,7 +118,7 @@ pub IsRead-piece : (pieces : List (Bor (List ℕ))) (i taken : ℕ) (d : Bor (Li
 IsRead-piece pieces i taken d split held within all read =
     let piece = (get_or pieces i d).now in
     let whole : joined (take (i + 1) pieces) ≡ joined (take i pieces) ++ take taken piece =
-        joined-more pieces i d within ∙ ap (λ (xs : List ℕ). joined (take i pieces) ++ xs) (sym (ap (λ (n : ℕ). take n piece) all ∙ take-length piece)) in
+    joined-more pieces i d within ∙ ap (λ (xs : List ℕ). joined (take i pieces) ++ xs) (sym (ap (λ (n : ℕ). take n piece) all ∙ take-length piece)) in
     record { joins = whole ∙ read.joins; each = read.each; at = read.at }
 
 -- a fault within a piece ends the split of all of them

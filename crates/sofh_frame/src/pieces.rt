@@ -5,11 +5,10 @@ ghost use Rattle.std.specs.Prelude.{◌≡◌, ℕ, [], ◌∷◌, ◌++◌, ◌
 ghost use Rattle.sofh_frame.specs.Framing.{rest};
 ghost use Rattle.sofh_frame.specs.OwnedSplit.{frames_seen, end_seen, joined, SplitsAs, IsRead, IsEndAt};
 
-use std::alloc::{AllocError, Global};
-
 use crate::Order;
 use crate::buffer::{Framer, ROOM};
 use crate::header::FirstFrame;
+use std::alloc::{AllocError, Global};
 
 /// A frame with a message of its own.
 #[derive(Debug, Drop)]
@@ -122,11 +121,7 @@ fn take_frame(
 }
 
 /// Moves all whole frames from the framer to the split, and tells why no other follows.
-fn take_frames(
-    alloc: Global,
-    framer: &mut Framer,
-    split: &mut Split,
-) -> Result<End, AllocError>
+fn take_frames(alloc: Global, framer: &mut Framer, split: &mut Split) -> Result<End, AllocError>
     ensures read { OnOk result ((bytes : List ℕ) → IsRead bytes split.old framer.old.held → IsRead bytes split.new framer.new.held) }
     ensures end { IfOk result (λ end. IsEndAt end framer.new.held) }
 {
