@@ -30,7 +30,7 @@ held-written items bytes start end ordered within =
 written_over-cut : (room bytes : List ℕ) → take (length room) (bytes ++ drop (length bytes) room) ≡ written_over room bytes
 written_over-cut room bytes =
     let same : length bytes ≡ length room → take (length room) (bytes ++ drop (length bytes) room) ≡ bytes =
-        λ e. ap (λ (n : ℕ). take n (bytes ++ drop (length bytes) room)) (sym e) ∙ take-append_seam bytes (drop (length bytes) room) in
+    λ e. ap (λ (n : ℕ). take n (bytes ++ drop (length bytes) room)) (sym e) ∙ take-append_seam bytes (drop (length bytes) room) in
     grind (arith, nat_tests)
 
 room-written : (items bytes more : List ℕ) (end stop : ℕ) → end ≤ stop → stop ≤ length items → slice_range (take end items ++ ((bytes ++ drop (length bytes) (drop end items)) ++ more)) end stop ≡ written_over (slice_range items end stop) bytes
@@ -65,13 +65,13 @@ view-written items bytes len start end ordered short within counted =
     let more = drop (length written) items in
     let joined : written ++ more ≡ take end items ++ (behind ++ more) = append_assoc (take end items) behind more in
     let held : slice_range (take len (written ++ more)) start end ≡ slice_range items start end =
-        slice_range-take (written ++ more) len start end ordered (omega arith)
-        ∙ ap (λ (xs : List ℕ). slice_range xs start end) joined
-        ∙ held-written items (behind ++ more) start end ordered (omega arith) in
+    slice_range-take (written ++ more) len start end ordered (omega arith)
+    ∙ ap (λ (xs : List ℕ). slice_range xs start end) joined
+    ∙ held-written items (behind ++ more) start end ordered (omega arith) in
     let room : slice_range (take len (written ++ more)) end (start + 32780) ≡ written_over (slice_range items end (start + 32780)) bytes =
-        slice_range-take (written ++ more) len end (start + 32780) short within
-        ∙ ap (λ (xs : List ℕ). slice_range xs end (start + 32780)) joined
-        ∙ room-written items bytes more end (start + 32780) short (omega arith) in
+    slice_range-take (written ++ more) len end (start + 32780) short within
+    ∙ ap (λ (xs : List ℕ). slice_range xs end (start + 32780)) joined
+    ∙ room-written items bytes more end (start + 32780) short (omega arith) in
     ap (λ (xs : List ℕ). let b : Buffered = record { held = xs; room = slice_range (take len (written ++ more)) end (start + 32780) } in b) held
     ∙ ap (λ (xs : List ℕ). let b : Buffered = record { held = slice_range items start end; room = xs } in b) room
 

@@ -7,10 +7,9 @@ ghost use Rattle.sofh_frame.specs.Framing.{first_of, Frame, frame, BeginsWith};
 ghost use Rattle.sofh_frame.specs.FirstFrame.{seen};
 ghost use Rattle.sofh_frame.specs.Lending.{LendsRoom};
 
+use crate::header::{FirstFrame, next};
 use std::alloc::{AllocError, Global};
 use std::marker::Model;
-
-use crate::header::{FirstFrame, next};
 
 /// The most bytes that a `Framer` holds: two of the largest frames.
 pub const ROOM: usize = 32_780;

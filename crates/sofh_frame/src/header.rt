@@ -8,7 +8,7 @@ ghost use Rattle.sofh_frame.specs.FirstFrame.{seen};
 use crate::Order;
 
 /// What stands at the front of some bytes (Simple Open Framing Header).
-#[derive(Clone, Copy, Debug)]
+#[derive(Clone, Copy, Debug, PartialEq, Eq)]
 pub enum FirstFrame<'a> {
     /// A whole frame.
     Frame {

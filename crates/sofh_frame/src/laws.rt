@@ -5,17 +5,14 @@ ghost use Rattle.sofh_frame.specs.Splits.{SplitsAreOne, BytesAreSplit, SplitBegi
 /// Any two splits of the same bytes into frames and what follows them are equal.
 pub fn splits_are_one()
     ensures { SplitsAreOne }
-{
-}
+{}
 
 /// Every list of bytes has a split.
 pub fn bytes_are_split()
     ensures { BytesAreSplit }
-{
-}
+{}
 
 /// The split of some bytes begins with the frame that `next` finds, and goes on with the split of what is behind it.
 pub fn split_begins()
     ensures { SplitBegins }
-{
-}
+{}

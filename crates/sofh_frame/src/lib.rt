@@ -6,11 +6,13 @@ mod buffer;
 mod header;
 mod laws;
 mod pieces;
+#[cfg(test)]
+mod tests;
 
 pub use buffer::{Framer, ROOM};
-pub use pieces::{End, OwnedFrame, Split};
-pub use laws::{bytes_are_split, split_begins, splits_are_one};
 pub use header::{FirstFrame, next};
+pub use laws::{bytes_are_split, split_begins, splits_are_one};
+pub use pieces::{End, OwnedFrame, Split, split_pieces};
 
 /// The byte order of a message's numbers, as the frame's encoding type names it.
 #[derive(Clone, Copy, Debug, PartialEq, Eq)]

@@ -1,14 +1,14 @@
 //! The frames of bytes that come in pieces: the same ones, however the bytes were cut.
 //! It relies on the framer.
 
-ghost use Rattle.std.specs.Prelude.{◌≡◌, ℕ, [], ◌∷◌, ◌++◌, ◌+◌, ◌-◌, ◌<◌, ◌≤◌, List, length, min, take, drop, IfOk, IfNone, IfSome, OnOk};
-ghost use Rattle.sofh_frame.specs.OwnedSplit.{frames_seen, IsRead, IsEndAt};
-
-use std::alloc::{AllocError, Global};
+ghost use Rattle.std.specs.Prelude.{◌≡◌, ℕ, [], ◌∷◌, ◌++◌, ◌+◌, ◌-◌, ◌<◌, ◌≤◌, List, length, min, take, drop, IfOk, IfNone, IfSome, OnOk, IsTrue, ◌↔◌};
+ghost use Rattle.sofh_frame.specs.Framing.{rest};
+ghost use Rattle.sofh_frame.specs.OwnedSplit.{frames_seen, end_seen, joined, SplitsAs, IsRead, IsEndAt};
 
 use crate::Order;
 use crate::buffer::{Framer, ROOM};
 use crate::header::FirstFrame;
+use std::alloc::{AllocError, Global};
 
 /// A frame with a message of its own.
 #[derive(Debug, Drop)]
@@ -39,6 +39,15 @@ pub struct Split {
     pub at: u64,
     /// What stands at that place.
     pub end: End,
+}
+
+impl End {
+    /// Whether more bytes may still bring a frame.
+    fn is_rest(self) -> bool
+        ensures { IsTrue result ↔ (end_seen self ≡ rest) }
+    {
+        matches!(self, End::Rest)
+    }
 }
 
 impl Split {
@@ -109,4 +118,63 @@ fn take_frame(
         FirstFrame::BadLength(length) => Ok(Some(End::BadLength(length))),
         FirstFrame::BadEncoding(encoding) => Ok(Some(End::BadEncoding(encoding))),
     }
+}
+
+/// Moves all whole frames from the framer to the split, and tells why no other follows.
+fn take_frames(alloc: Global, framer: &mut Framer, split: &mut Split) -> Result<End, AllocError>
+    ensures read { OnOk result ((bytes : List ℕ) → IsRead bytes split.old framer.old.held → IsRead bytes split.new framer.new.held) }
+    ensures end { IfOk result (λ end. IsEndAt end framer.new.held) }
+{
+    loop {
+        if let Some(end) = take_frame(alloc, framer, split)? {
+            return Ok(end);
+        }
+    }
+}
+
+/// Takes a piece up to its end, or up to a fault, and tells how many of its bytes it took.
+fn feed(
+    alloc: Global,
+    framer: &mut Framer,
+    split: &mut Split,
+    piece: &[u8],
+) -> Result<usize, AllocError>
+    requires rest { end_seen split.old.end ≡ rest }
+    requires end { IsEndAt split.old.end framer.old.held }
+    ensures read { IfOk result (λ taken. (bytes : List ℕ) → IsRead bytes split.old framer.old.held
+        → IsRead (bytes ++ take taken piece.now) split.new framer.new.held) }
+    ensures end { OnOk result (IsEndAt split.new.end framer.new.held) }
+    ensures within { IfOk result (λ taken. taken ≤ length piece.now) }
+    ensures all { IfOk result (λ taken. end_seen split.new.end ≡ rest → taken ≡ length piece.now) }
+{
+    let mut taken = 0;
+    while taken < piece.len() && split.end.is_rest() {
+        let (_, unread) = piece.split_at(taken);
+        taken += pour(framer, unread);
+        split.end = take_frames(alloc, framer, split)?;
+    }
+    Ok(taken)
+}
+
+/// The frames of bytes that come in these pieces, of any sizes, and what follows the frames.
+/// They are those of the pieces joined, however the bytes were cut.
+///
+/// # Errors
+/// `AllocError` if there is no memory for the frames.
+pub fn split_pieces(alloc: Global, pieces: &[&[u8]]) -> Result<Split, AllocError>
+    ensures any_cut { IfOk result (SplitsAs (joined pieces.now)) }
+{
+    let mut framer = Framer::new(alloc)?;
+    let mut split = Split {
+        frames: Vec::new(alloc),
+        at: 0,
+        end: End::Rest,
+    };
+    for piece in pieces {
+        let _taken = feed(alloc, &mut framer, &mut split, piece)?;
+        if !split.end.is_rest() {
+            return Ok(split);
+        }
+    }
+    Ok(split)
 }
