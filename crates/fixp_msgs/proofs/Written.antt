@@ -21,7 +21,7 @@ length-field_bytes (Field.u64 n) fits = refl
 length-field_bytes (Field.optional n) fits = refl
 
 -- the fields of a block take its bytes
-length-fields : (fs : List Field) → AllByRecursion FitsField fs → length (flat_map field_bytes fs) ≡ sum_by size_of fs
+pub length-fields : (fs : List Field) → AllByRecursion FitsField fs → length (flat_map field_bytes fs) ≡ sum_by size_of fs
 length-fields [] _ = refl
 length-fields (f ∷ fs) (fits, all) =
     length-append (field_bytes f) (flat_map field_bytes fs)

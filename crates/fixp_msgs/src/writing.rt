@@ -21,7 +21,9 @@ const HEADERS: usize = 14;
 
 /// The number of bytes of the frame that `write` makes of the message.
 pub fn size(msg: &SessionMsg<'_>) -> usize
-    ensures { result ≡ length (frame_bytes (message_of msg.now)) }
+    ensures size { result ≡ length (frame_bytes (message_of msg.now)) }
+    ensures least { 14 ≤ result }
+    ensures most { IsWritable (message_of msg.now) → result ≤ 2100 }
 {
     match msg {
         SessionMsg::Negotiate(m) => session_frame(&m.session_id, 9) + text_size(m.credentials),
