@@ -128,3 +128,50 @@ fn vectors(rt: HostRuntime) {
         }),
     );
 }
+
+/// Reading the message answers this.
+fn reads(rt: &impl Abort, message: &[u8], answer: Result<SessionMsg<'_>, MsgFault>) {
+    assert!(rt; message.len() >= 8);
+    assert!(rt; kind(Order::Little, message) == FrameKind::Session);
+    assert_eq!(rt; read(message), answer);
+}
+
+#[test]
+fn refusals(rt: HostRuntime) {
+    // The block's length is stated below the fields' end.
+    reads(&rt, b"\x07\0\x07\0\x11\xF0\0\0\x05\0\0\0\0\0\0\0", Err(MsgFault::Short));
+    // The stated block is not whole.
+    reads(&rt, b"\x01\0\x08\0\x11\xF0\0\0", Err(MsgFault::Short));
+    // One of the two bytes of the credentials' length is missing, and then one of the credentials.
+    reads(&rt, &NEGOTIATE[6..40], Err(MsgFault::Short));
+    reads(&rt, b"\x11\0\x10\0\x11\xF0\0\00123456789abcdef\x01\x01\0", Err(MsgFault::Short));
+    // The template is none that is read.
+    reads(&rt, b"\0\0\x03\0\x11\xF0\0\0", Err(MsgFault::NotBuilt { id: 3 }));
+    reads(&rt, b"\0\0\0\x01\x11\xF0\0\0", Err(MsgFault::NotBuilt { id: 256 }));
+}
+
+#[test]
+fn longer_messages(rt: HostRuntime) {
+    // A later version, a longer block, and bytes behind the last element.
+    reads(
+        &rt,
+        b"\x0A\0\x07\0\x11\xF0\x09\0\x05\0\0\0\0\0\0\0\xEE\xEE\x01",
+        Ok(SessionMsg::Sequence(Sequence { next_seq: 5 })),
+    );
+    reads(
+        &rt,
+        b"\x12\0\x10\0\x11\xF0\0\00123456789abcdef\x02\x77\x02\0no!",
+        Ok(SessionMsg::Terminate(Terminate {
+            session_id: *b"0123456789abcdef",
+            code: 2,
+            reason: b"no",
+        })),
+    );
+}
+
+#[test]
+fn kinds(rt: HostRuntime) {
+    assert_eq!(rt; kind(Order::Big, b"\0\0\0\x08\xF0\x11\0\0"), FrameKind::Wrong);
+    assert_eq!(rt; kind(Order::Big, b"\0\0\x08\0\x11\xF0\0\0"), FrameKind::App);
+    assert_eq!(rt; kind(Order::Little, b"\0\0\x07\0\x64\0\x01\0"), FrameKind::App);
+}
