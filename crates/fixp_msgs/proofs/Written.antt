@@ -10,8 +10,8 @@ use Rattle.std.specs.List.{flat_map, AllByRecursion}
 use Rattle.fixp_msgs.specs.Header.{block_length_in, template_in, schema_in, session_schema}
 use Rattle.fixp_msgs.specs.Message.{Message}
 use Rattle.fixp_msgs.specs.Table.{Field, row_of, size_of, block_of, null}
-use Rattle.fixp_msgs.specs.Grammar.{Spells, IsBlock, Holds, HoldsAll, HasText, BeginsWithText, unless_null}
-use Rattle.fixp_msgs.specs.Canonical.{field_bytes, with_text, header_bytes, message_bytes, frame_bytes, FitsField, IsLegal}
+use Rattle.fixp_msgs.specs.Grammar.{Spells, IsBlock, Holds, HoldsAll, HasDatum, BeginsWithDatum, unless_null}
+use Rattle.fixp_msgs.specs.Canonical.{field_bytes, with_datum, header_bytes, message_bytes, frame_bytes, FitsField, IsLegal}
 
 length-field_bytes : (f : Field) → FitsField f → length (field_bytes f) ≡ size_of f
 length-field_bytes (Field.identifier id) fits = fits
@@ -57,14 +57,14 @@ holds_all (f ∷ fs) front (fits, all) =
      subst (λ n. P n (front ++ (field_bytes f ++ flat_map field_bytes fs))) (length-append front (field_bytes f) ∙ ap (λ n. length front + n) (length-field_bytes f fits))
        (subst (P (length (front ++ field_bytes f))) (append_assoc front (field_bytes f) (flat_map field_bytes fs)) (holds_all fs (front ++ field_bytes f) all)))
 
--- a text is read again, whatever follows it
-has_text : (text : Option (List ℕ)) (after : List ℕ) → IfSome text (λ t. length t ≤ 2048) → HasText (with_text [] text ++ after) text
-has_text None after _ = tt
-has_text (Some text) after short =
-    let size : from_le_bytes w16 (to_le_bytes w16 (length text)) ≡ length text = from_le_bytes-to_le_bytes_2 (length text) (omega arith) in
+-- a datum is read again, whatever follows it
+has_datum : (datum : Option (List ℕ)) (after : List ℕ) → IfSome datum (λ t. length t ≤ 2048) → HasDatum (with_datum [] datum ++ after) datum
+has_datum None after _ = tt
+has_datum (Some datum) after short =
+    let size : from_le_bytes w16 (to_le_bytes w16 (length datum)) ≡ length datum = from_le_bytes-to_le_bytes_2 (length datum) (omega arith) in
     record {
-      whole = omega (arith, size, length-append text after);
-      value = subst (λ n. text ≡ take n (text ++ after)) (sym size) (sym (take-append_seam text after)) }
+      whole = omega (arith, size, length-append datum after);
+      value = subst (λ n. datum ≡ take n (datum ++ after)) (sym size) (sym (take-append_seam datum after)) }
 
 -- the header's numbers are small
 record IsSmall (m : Message) : Type 0 where
@@ -80,11 +80,11 @@ is_small (Message.sequence _) = record { block = lit< tt; template = lit< tt }
 is_small Message.unsequenced_heartbeat = record { block = lit< tt; template = lit< tt }
 is_small (Message.terminate _ _ _) = record { block = lit< tt; template = lit< tt }
 
--- the text stands behind what was before it
-with_text-append : (bytes : List ℕ) (text : Option (List ℕ)) (after : List ℕ) → with_text bytes text ++ after ≡ bytes ++ (with_text [] text ++ after)
-with_text-append bytes None after = refl
-with_text-append bytes (Some text) after =
-    append_assoc (bytes ++ to_le_bytes w16 (length text)) text after ∙ append_assoc bytes (to_le_bytes w16 (length text)) (text ++ after)
+-- the datum stands behind what was before it
+with_datum-append : (bytes : List ℕ) (datum : Option (List ℕ)) (after : List ℕ) → with_datum bytes datum ++ after ≡ bytes ++ (with_datum [] datum ++ after)
+with_datum-append bytes None after = refl
+with_datum-append bytes (Some datum) after =
+    append_assoc (bytes ++ to_le_bytes w16 (length datum)) datum after ∙ append_assoc bytes (to_le_bytes w16 (length datum)) (datum ++ after)
 
 -- the block is the bytes behind the header, as many as the header states
 is_block : (bytes block behind : List ℕ) (size : ℕ) → drop 8 bytes ≡ block ++ behind → length bytes ≡ 8 + (length block + length behind) → block_length_in bytes ≡ size → length block ≡ size → IsBlock bytes size block behind
@@ -100,8 +100,8 @@ written_spells m after legal =
     let small = is_small m in
     let size : from_le_bytes w16 (to_le_bytes w16 (block_of m)) ≡ block_of m = from_le_bytes-to_le_bytes_2 (block_of m) small.block in
     let block : List ℕ = flat_map field_bytes (row_of m).fields in
-    let behind : List ℕ = with_text [] (row_of m).text ++ after in
-    let whole : message_bytes m ++ after ≡ header_bytes m ++ (block ++ behind) = with_text-append (header_bytes m ++ block) (row_of m).text after in
+    let behind : List ℕ = with_datum [] (row_of m).datum ++ after in
+    let whole : message_bytes m ++ after ≡ header_bytes m ++ (block ++ behind) = with_datum-append (header_bytes m ++ block) (row_of m).datum after in
     let P : List ℕ → Type 0 = λ bytes. Spells bytes m in
     subst P (sym whole) (record {
       template = from_le_bytes-to_le_bytes_2 (row_of m).template small.template;
@@ -110,7 +110,7 @@ written_spells m after legal =
       behind = behind;
       stands = is_block (header_bytes m ++ (block ++ behind)) block behind (block_of m) refl (omega (arith, length-append block behind)) size (length-fields (row_of m).fields legal.fields);
       fields = holds_all (row_of m).fields [] legal.fields;
-      text = has_text (row_of m).text after legal.text })
+      datum = has_datum (row_of m).datum after legal.datum })
 
 -- parts that were put one after another, as one list
 pub joined : (head id t k o : List ℕ) {x₀ x₁ x₂ x₃ x₄ : List ℕ} → x₀ ≡ head → x₁ ≡ x₀ ++ id → x₂ ≡ x₁ ++ t → x₃ ≡ x₂ ++ k → x₄ ≡ x₃ ++ o → x₄ ≡ head ++ (id ++ (t ++ (k ++ o)))
