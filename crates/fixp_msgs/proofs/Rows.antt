@@ -1,5 +1,5 @@
 -- What the table says of a message by its template alone, and what follows for reading.
-use Rattle.std.proofs.Common.{◌≡◌, ℕ, Bool, true, false, IsTrue, List, take, drop, Option, Some, None, Result, Ok, Err, is_some, IfSome, IfNone, IsOkAnd, refl, sym, ap, ◌∙◌, subst, arith, nat_eq, if◌then◌else◌}
+use Rattle.std.proofs.Common.{◌≡◌, ℕ, Bool, true, false, IsTrue, List, take, drop, Option, Some, None, Result, Ok, Err, is_some, IfSome, IfNone, IsOkAnd, refl, sym, ap, ◌∙◌, subst, nat_eq, if◌then◌else◌}
 use Rattle.std.proofs.lemmas.Bool.{false≢true}
 use Rattle.std.specs.Int.{w8, w16, w32, w64, from_le_bytes}
 use Rattle.std.specs.Option.{ok_or}
@@ -9,7 +9,7 @@ use Rattle.fixp_msgs.specs.declared.reading.MsgFault.TheVariants.{NotBuilt, Shor
 use Rattle.fixp_msgs.specs.Header.{template_in, block_length_in}
 use Rattle.fixp_msgs.specs.Message.{Message, message_of}
 use Rattle.fixp_msgs.specs.Table.{row_of, block_of, is_built}
-use Rattle.fixp_msgs.specs.Grammar.{Spells, IsBlock, HoldsAll, HasDatum, BeginsWithDatum, unless_null}
+use Rattle.fixp_msgs.specs.Grammar.{Spells, IsBlock, HoldsAll, HasDatum, unless_null}
 use Rattle.fixp_msgs.specs.Reading.{Answers, Lacks}
 
 -- the length of a template's block, and whether a datum stands behind it

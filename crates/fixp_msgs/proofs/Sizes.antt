@@ -1,10 +1,10 @@
 -- How many bytes a written frame has.
-use Rattle.std.proofs.Common.{◌≡◌, ℕ, ◌+◌, ◌≤◌, List, [], ◌++◌, Option, Some, None, IfSome, length, lit≤, ap, ◌∙◌, arith, length-append}
+use Rattle.std.proofs.Common.{◌≡◌, ℕ, ◌+◌, ◌≤◌, List, ◌++◌, Option, Some, None, IfSome, length, lit≤, arith, length-append}
 use Rattle.std.specs.Int.{w16, to_le_bytes}
 use Rattle.std.specs.List.{flat_map}
 use Rattle.fixp_msgs.specs.Message.{Message}
 use Rattle.fixp_msgs.specs.Table.{row_of, block_of}
-use Rattle.fixp_msgs.specs.Canonical.{field_bytes, with_datum, header_bytes, message_bytes, frame_bytes, IsLegal}
+use Rattle.fixp_msgs.specs.Canonical.{field_bytes, with_datum, header_bytes, frame_bytes, IsLegal}
 use Rattle.fixp_msgs.proofs.Written.{length-fields}
 
 -- the bytes of a datum with its length, or none

@@ -1,11 +1,11 @@
 -- The one way in which a session message is written: version 0, no padding, nothing behind the last
 -- element (SBE 1.0), in a frame of its own (Simple Open Framing Header 1.0).
-use Rattle.std.specs.Prelude.{◌≡◌, ◌≢◌, ℕ, ◌+◌, ◌<◌, ◌≤◌, ◌^◌, List, [], ◌∷◌, ◌++◌, Option, Some, None, IfSome, unwrap_or, length}
+use Rattle.std.specs.Prelude.{◌≡◌, ◌≢◌, ℕ, ◌+◌, ◌<◌, ◌≤◌, ◌^◌, List, ◌++◌, Option, Some, None, IfSome, unwrap_or, length}
 use Rattle.std.specs.Int.{w8, w16, w32, w64, to_le_bytes, to_be_bytes}
 use Rattle.std.specs.List.{flat_map, AllByRecursion}
 use Rattle.fixp_msgs.specs.Header.{session_schema}
 use Rattle.fixp_msgs.specs.Message.{Message}
-use Rattle.fixp_msgs.specs.Table.{Field, Row, row_of, block_of, null}
+use Rattle.fixp_msgs.specs.Table.{Field, row_of, block_of, null}
 
 abbrev pub field_bytes : Field → List ℕ
 field_bytes (Field.identifier id) = id

@@ -4,7 +4,7 @@ use Rattle.std.specs.Prelude.{◌≡◌, ℕ, ◌+◌, ◌≤◌, ◌==◌, List
 use Rattle.std.specs.Int.{w8, w16, w32, w64, from_le_bytes}
 use Rattle.fixp_msgs.specs.Header.{block_length_in, template_in, schema_in, session_schema}
 use Rattle.fixp_msgs.specs.Message.{Message}
-use Rattle.fixp_msgs.specs.Table.{Field, Row, row_of, size_of, block_of, null}
+use Rattle.fixp_msgs.specs.Table.{Field, row_of, size_of, block_of, null}
 
 -- a number that may be missing: the null value says that it is
 abbrev pub unless_null : ℕ → Option ℕ

@@ -14,6 +14,7 @@ pub struct Negotiate<'a> {
 
 impl Negotiate<'_> {
     pub(crate) const TEMPLATE: u16 = 1;
+
     pub(crate) const BLOCK: u16 = 25;
 }
 
@@ -31,6 +32,7 @@ pub struct NegotiationResponse<'a> {
 
 impl NegotiationResponse<'_> {
     pub(crate) const TEMPLATE: u16 = 2;
+
     pub(crate) const BLOCK: u16 = 25;
 }
 
@@ -50,6 +52,7 @@ pub struct Establish<'a> {
 
 impl Establish<'_> {
     pub(crate) const TEMPLATE: u16 = 4;
+
     pub(crate) const BLOCK: u16 = 36;
 }
 
@@ -68,6 +71,7 @@ pub struct EstablishmentAck {
 
 impl EstablishmentAck {
     pub(crate) const TEMPLATE: u16 = 5;
+
     pub(crate) const BLOCK: u16 = 36;
 }
 
@@ -79,6 +83,7 @@ pub struct Sequence {
 
 impl Sequence {
     pub(crate) const TEMPLATE: u16 = 7;
+
     pub(crate) const BLOCK: u16 = 8;
 }
 
@@ -88,6 +93,7 @@ pub struct UnsequencedHeartbeat;
 
 impl UnsequencedHeartbeat {
     pub(crate) const TEMPLATE: u16 = 8;
+
     pub(crate) const BLOCK: u16 = 0;
 }
 
@@ -104,6 +110,7 @@ pub struct Terminate<'a> {
 
 impl Terminate<'_> {
     pub(crate) const TEMPLATE: u16 = 16;
+
     pub(crate) const BLOCK: u16 = 17;
 }
 

@@ -88,7 +88,11 @@ fn optional_at(bytes: &[u8], at: usize) -> Option<u64>
     ensures { result ≡ unless_null (from_le_bytes w64 (drop at bytes.now)) }
 {
     let number = u64_at(bytes, at);
-    if number == u64::MAX { None } else { Some(number) }
+    if number == u64::MAX {
+        None
+    } else {
+        Some(number)
+    }
 }
 
 fn identifier(block: &[u8]) -> [u8; 16]
@@ -135,7 +139,6 @@ fn datum(bytes: &[u8]) -> Option<&[u8]>
 }
 
 /// The block, and the datum that stands behind it.
-
 fn parts_and_datum(message: &[u8], needed: usize) -> Option<(&[u8], &[u8])>
     requires { 8 ≤ length message.now }
     ensures found { IfSome result (λ p. (behind : List ℕ) × IsBlock message.now needed p.0.now behind × BeginsWithDatum behind p.1.now) }
@@ -153,7 +156,7 @@ fn negotiate<'a>(message: &'a [u8]) -> Option<SessionMsg<'a>>
     requires session { schema_in message.now ≡ 0xF011 }
     requires template { template_in message.now ≡ Negotiate.TEMPLATE }
     ensures found { IfSome result (λ m. Spells message.now (message_of m)) }
-    ensures none { IfNone result (Lacks message.now 25 true) }
+    ensures none { IfNone result (Lacks message.now Negotiate.BLOCK true) }
 {
     let (block, credentials) = parts_and_datum(message, Negotiate::BLOCK as usize)?;
     Some(SessionMsg::Negotiate(Negotiate {
@@ -169,7 +172,7 @@ fn negotiation_response<'a>(message: &'a [u8]) -> Option<SessionMsg<'a>>
     requires session { schema_in message.now ≡ 0xF011 }
     requires template { template_in message.now ≡ NegotiationResponse.TEMPLATE }
     ensures found { IfSome result (λ m. Spells message.now (message_of m)) }
-    ensures none { IfNone result (Lacks message.now 25 true) }
+    ensures none { IfNone result (Lacks message.now NegotiationResponse.BLOCK true) }
 {
     let (block, credentials) = parts_and_datum(message, NegotiationResponse::BLOCK as usize)?;
     Some(SessionMsg::NegotiationResponse(NegotiationResponse {
@@ -185,7 +188,7 @@ fn establish<'a>(message: &'a [u8]) -> Option<SessionMsg<'a>>
     requires session { schema_in message.now ≡ 0xF011 }
     requires template { template_in message.now ≡ Establish.TEMPLATE }
     ensures found { IfSome result (λ m. Spells message.now (message_of m)) }
-    ensures none { IfNone result (Lacks message.now 36 true) }
+    ensures none { IfNone result (Lacks message.now Establish.BLOCK true) }
 {
     let (block, credentials) = parts_and_datum(message, Establish::BLOCK as usize)?;
     Some(SessionMsg::Establish(Establish {
@@ -202,7 +205,7 @@ fn establishment_ack<'a>(message: &'a [u8]) -> Option<SessionMsg<'a>>
     requires session { schema_in message.now ≡ 0xF011 }
     requires template { template_in message.now ≡ EstablishmentAck.TEMPLATE }
     ensures found { IfSome result (λ m. Spells message.now (message_of m)) }
-    ensures none { IfNone result (Lacks message.now 36 false) }
+    ensures none { IfNone result (Lacks message.now EstablishmentAck.BLOCK false) }
 {
     let (block, _) = parts(message, EstablishmentAck::BLOCK as usize)?;
     Some(SessionMsg::EstablishmentAck(EstablishmentAck {
@@ -218,7 +221,7 @@ fn sequence<'a>(message: &'a [u8]) -> Option<SessionMsg<'a>>
     requires session { schema_in message.now ≡ 0xF011 }
     requires template { template_in message.now ≡ Sequence.TEMPLATE }
     ensures found { IfSome result (λ m. Spells message.now (message_of m)) }
-    ensures none { IfNone result (Lacks message.now 8 false) }
+    ensures none { IfNone result (Lacks message.now Sequence.BLOCK false) }
 {
     let (block, _) = parts(message, Sequence::BLOCK as usize)?;
     Some(SessionMsg::Sequence(Sequence {
@@ -231,7 +234,7 @@ fn unsequenced_heartbeat<'a>(message: &'a [u8]) -> Option<SessionMsg<'a>>
     requires session { schema_in message.now ≡ 0xF011 }
     requires template { template_in message.now ≡ UnsequencedHeartbeat.TEMPLATE }
     ensures found { IfSome result (λ m. Spells message.now (message_of m)) }
-    ensures none { IfNone result (Lacks message.now 0 false) }
+    ensures none { IfNone result (Lacks message.now UnsequencedHeartbeat.BLOCK false) }
 {
     let (_, _) = parts(message, UnsequencedHeartbeat::BLOCK as usize)?;
     Some(SessionMsg::UnsequencedHeartbeat(UnsequencedHeartbeat))
@@ -242,7 +245,7 @@ fn terminate<'a>(message: &'a [u8]) -> Option<SessionMsg<'a>>
     requires session { schema_in message.now ≡ 0xF011 }
     requires template { template_in message.now ≡ Terminate.TEMPLATE }
     ensures found { IfSome result (λ m. Spells message.now (message_of m)) }
-    ensures none { IfNone result (Lacks message.now 17 true) }
+    ensures none { IfNone result (Lacks message.now Terminate.BLOCK true) }
 {
     let (block, reason) = parts_and_datum(message, Terminate::BLOCK as usize)?;
     Some(SessionMsg::Terminate(Terminate {

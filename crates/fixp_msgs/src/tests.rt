@@ -112,7 +112,11 @@ fn vectors(rt: HostRuntime) {
             next_seq: None,
         }),
     );
-    both_ways(&rt, &SEQUENCE, SessionMsg::Sequence(Sequence { next_seq: 5 }));
+    both_ways(
+        &rt,
+        &SEQUENCE,
+        SessionMsg::Sequence(Sequence { next_seq: 5 }),
+    );
     both_ways(
         &rt,
         &HEARTBEAT,
@@ -139,15 +143,31 @@ fn reads(rt: &impl Abort, message: &[u8], answer: Result<SessionMsg<'_>, MsgFaul
 #[test]
 fn refusals(rt: HostRuntime) {
     // The block's length is stated below the fields' end.
-    reads(&rt, b"\x07\0\x07\0\x11\xF0\0\0\x05\0\0\0\0\0\0\0", Err(MsgFault::Short));
+    reads(
+        &rt,
+        b"\x07\0\x07\0\x11\xF0\0\0\x05\0\0\0\0\0\0\0",
+        Err(MsgFault::Short),
+    );
     // The stated block is not whole.
     reads(&rt, b"\x01\0\x08\0\x11\xF0\0\0", Err(MsgFault::Short));
     // One of the two bytes of the credentials' length is missing, and then one of the credentials.
     reads(&rt, &NEGOTIATE[6..40], Err(MsgFault::Short));
-    reads(&rt, b"\x11\0\x10\0\x11\xF0\0\00123456789abcdef\x01\x01\0", Err(MsgFault::Short));
+    reads(
+        &rt,
+        b"\x11\0\x10\0\x11\xF0\0\00123456789abcdef\x01\x01\0",
+        Err(MsgFault::Short),
+    );
     // The template is none that is read.
-    reads(&rt, b"\0\0\x03\0\x11\xF0\0\0", Err(MsgFault::NotBuilt { id: 3 }));
-    reads(&rt, b"\0\0\0\x01\x11\xF0\0\0", Err(MsgFault::NotBuilt { id: 256 }));
+    reads(
+        &rt,
+        b"\0\0\x03\0\x11\xF0\0\0",
+        Err(MsgFault::NotBuilt { id: 3 }),
+    );
+    reads(
+        &rt,
+        b"\0\0\0\x01\x11\xF0\0\0",
+        Err(MsgFault::NotBuilt { id: 256 }),
+    );
 }
 
 #[test]
@@ -171,7 +191,13 @@ fn longer_messages(rt: HostRuntime) {
 
 #[test]
 fn kinds(rt: HostRuntime) {
-    assert_eq!(rt; kind(Order::Big, b"\0\0\0\x08\xF0\x11\0\0"), FrameKind::Wrong);
+    assert_eq!(rt;
+        kind(Order::Big, b"\0\0\0\x08\xF0\x11\0\0"),
+        FrameKind::Wrong
+    );
     assert_eq!(rt; kind(Order::Big, b"\0\0\x08\0\x11\xF0\0\0"), FrameKind::App);
-    assert_eq!(rt; kind(Order::Little, b"\0\0\x07\0\x64\0\x01\0"), FrameKind::App);
+    assert_eq!(rt;
+        kind(Order::Little, b"\0\0\x07\0\x64\0\x01\0"),
+        FrameKind::App
+    );
 }

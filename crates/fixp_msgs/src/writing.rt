@@ -81,7 +81,12 @@ pub fn write(msg: &SessionMsg<'_>, out: &mut [u8]) -> usize
         SessionMsg::Establish(m) => put_establish(out, frame, m),
         SessionMsg::EstablishmentAck(m) => put_establishment_ack(out, frame, m),
         SessionMsg::Sequence(m) => put_sequence(out, frame, m),
-        SessionMsg::UnsequencedHeartbeat(_) => put_headers(out, frame, UnsequencedHeartbeat::BLOCK, UnsequencedHeartbeat::TEMPLATE),
+        SessionMsg::UnsequencedHeartbeat(_) => put_headers(
+            out,
+            frame,
+            UnsequencedHeartbeat::BLOCK,
+            UnsequencedHeartbeat::TEMPLATE,
+        ),
         SessionMsg::Terminate(m) => put_terminate(out, frame, m),
     }
 }
@@ -159,7 +164,12 @@ fn put_negotiation_response(out: &mut [u8], frame: usize, m: NegotiationResponse
     ensures behind { drop result out.new ≡ drop result out.old }
     ensures legal { IsLegal (message_of (variants.NegotiationResponse m.entry)) }
 {
-    let at = put_headers(out, frame, NegotiationResponse::BLOCK, NegotiationResponse::TEMPLATE);
+    let at = put_headers(
+        out,
+        frame,
+        NegotiationResponse::BLOCK,
+        NegotiationResponse::TEMPLATE,
+    );
     let at = put(out, at, &m.session_id);
     let at = put(out, at, &m.request_timestamp.to_le_bytes());
     let at = put(out, at, &[m.server_flow]);
@@ -192,7 +202,12 @@ fn put_establishment_ack(out: &mut [u8], frame: usize, m: EstablishmentAck) -> u
     ensures behind { drop result out.new ≡ drop result out.old }
     ensures legal { IsLegal (message_of (variants.EstablishmentAck m)) }
 {
-    let at = put_headers(out, frame, EstablishmentAck::BLOCK, EstablishmentAck::TEMPLATE);
+    let at = put_headers(
+        out,
+        frame,
+        EstablishmentAck::BLOCK,
+        EstablishmentAck::TEMPLATE,
+    );
     let at = put(out, at, &m.session_id);
     let at = put(out, at, &m.request_timestamp.to_le_bytes());
     let at = put(out, at, &m.keepalive.to_le_bytes());
