@@ -7,11 +7,11 @@ use Rattle.std.proofs.lemmas.Nat.{from_le_bytes-to_le_bytes_2, from_le_bytes-to_
 use Rattle.std.specs.Prelude.{sum_by}
 use Rattle.std.specs.Int.{w16, w64, from_le_bytes, to_le_bytes}
 use Rattle.std.specs.List.{flat_map, AllByRecursion}
-use Rattle.fixp_msgs.specs.Header.{block_length_in, template_in, schema_in, session_schema}
+use Rattle.fixp_msgs.specs.Header.{block_length_in}
 use Rattle.fixp_msgs.specs.Message.{Message}
 use Rattle.fixp_msgs.specs.Table.{Field, row_of, size_of, block_of, null}
-use Rattle.fixp_msgs.specs.Grammar.{Spells, IsBlock, Holds, HoldsAll, HasText, BeginsWithText, unless_null}
-use Rattle.fixp_msgs.specs.Canonical.{field_bytes, with_text, header_bytes, message_bytes, frame_bytes, FitsField, IsLegal}
+use Rattle.fixp_msgs.specs.Grammar.{Spells, IsBlock, Holds, HoldsAll, HasDatum, unless_null}
+use Rattle.fixp_msgs.specs.Canonical.{field_bytes, with_datum, header_bytes, message_bytes, FitsField, IsLegal}
 
 length-field_bytes : (f : Field) → FitsField f → length (field_bytes f) ≡ size_of f
 length-field_bytes (Field.identifier id) fits = fits
@@ -21,7 +21,7 @@ length-field_bytes (Field.u64 n) fits = refl
 length-field_bytes (Field.optional n) fits = refl
 
 -- the fields of a block take its bytes
-length-fields : (fs : List Field) → AllByRecursion FitsField fs → length (flat_map field_bytes fs) ≡ sum_by size_of fs
+pub length-fields : (fs : List Field) → AllByRecursion FitsField fs → length (flat_map field_bytes fs) ≡ sum_by size_of fs
 length-fields [] _ = refl
 length-fields (f ∷ fs) (fits, all) =
     length-append (field_bytes f) (flat_map field_bytes fs)
@@ -52,19 +52,21 @@ holds_behind (Field.optional n) front bytes h = rw (drop-append_seam front bytes
 holds_all : (fs : List Field) (front : List ℕ) → AllByRecursion FitsField fs → HoldsAll (front ++ flat_map field_bytes fs) (length front) fs
 holds_all [] front _ = tt
 holds_all (f ∷ fs) front (fits, all) =
-    let P : ℕ → List ℕ → Type 0 = λ n bytes. HoldsAll bytes n fs in
-    (holds_behind f front (field_bytes f ++ flat_map field_bytes fs) (holds_first f (flat_map field_bytes fs) fits),
-     subst (λ n. P n (front ++ (field_bytes f ++ flat_map field_bytes fs))) (length-append front (field_bytes f) ∙ ap (λ n. length front + n) (length-field_bytes f fits))
-       (subst (P (length (front ++ field_bytes f))) (append_assoc front (field_bytes f) (flat_map field_bytes fs)) (holds_all fs (front ++ field_bytes f) all)))
+    let P : ℕ → List ℕ → Type 0 = λ n bytes. HoldsAll bytes n fs in (
+      holds_behind f front (field_bytes f ++ flat_map field_bytes fs) (holds_first f (flat_map field_bytes fs) fits),
+      subst (λ n. P n (front ++ (field_bytes f ++ flat_map field_bytes fs))) (length-append front (field_bytes f) ∙ ap (λ n. length front + n) (length-field_bytes f fits))
+          (subst (P (length (front ++ field_bytes f))) (append_assoc front (field_bytes f) (flat_map field_bytes fs)) (holds_all fs (front ++ field_bytes f) all)),
+    )
 
--- a text is read again, whatever follows it
-has_text : (text : Option (List ℕ)) (after : List ℕ) → IfSome text (λ t. length t ≤ 2048) → HasText (with_text [] text ++ after) text
-has_text None after _ = tt
-has_text (Some text) after short =
-    let size : from_le_bytes w16 (to_le_bytes w16 (length text)) ≡ length text = from_le_bytes-to_le_bytes_2 (length text) (omega arith) in
+-- a datum is read again, whatever follows it
+has_datum : (datum : Option (List ℕ)) (after : List ℕ) → IfSome datum (λ t. length t ≤ 2048) → HasDatum (with_datum [] datum ++ after) datum
+has_datum None after _ = tt
+has_datum (Some datum) after short =
+    let size : from_le_bytes w16 (to_le_bytes w16 (length datum)) ≡ length datum = from_le_bytes-to_le_bytes_2 (length datum) (omega arith) in
     record {
-      whole = omega (arith, size, length-append text after);
-      value = subst (λ n. text ≡ take n (text ++ after)) (sym size) (sym (take-append_seam text after)) }
+      whole = omega (arith, size, length-append datum after);
+      value = subst (λ n. datum ≡ take n (datum ++ after)) (sym size) (sym (take-append_seam datum after));
+    }
 
 -- the header's numbers are small
 record IsSmall (m : Message) : Type 0 where
@@ -80,19 +82,19 @@ is_small (Message.sequence _) = record { block = lit< tt; template = lit< tt }
 is_small Message.unsequenced_heartbeat = record { block = lit< tt; template = lit< tt }
 is_small (Message.terminate _ _ _) = record { block = lit< tt; template = lit< tt }
 
--- the text stands behind what was before it
-with_text-append : (bytes : List ℕ) (text : Option (List ℕ)) (after : List ℕ) → with_text bytes text ++ after ≡ bytes ++ (with_text [] text ++ after)
-with_text-append bytes None after = refl
-with_text-append bytes (Some text) after =
-    append_assoc (bytes ++ to_le_bytes w16 (length text)) text after ∙ append_assoc bytes (to_le_bytes w16 (length text)) (text ++ after)
+-- the datum stands behind what was before it
+with_datum-append : (bytes : List ℕ) (datum : Option (List ℕ)) (after : List ℕ) → with_datum bytes datum ++ after ≡ bytes ++ (with_datum [] datum ++ after)
+with_datum-append bytes None after = refl
+with_datum-append bytes (Some datum) after =
+    append_assoc (bytes ++ to_le_bytes w16 (length datum)) datum after ∙ append_assoc bytes (to_le_bytes w16 (length datum)) (datum ++ after)
 
 -- the block is the bytes behind the header, as many as the header states
 is_block : (bytes block behind : List ℕ) (size : ℕ) → drop 8 bytes ≡ block ++ behind → length bytes ≡ 8 + (length block + length behind) → block_length_in bytes ≡ size → length block ≡ size → IsBlock bytes size block behind
 is_block bytes block behind size rest all stated here =
     let P : ℕ → List ℕ → Type 0 = λ n xs. (block ≡ take n xs) × (behind ≡ drop n xs) in
     let parts : (block ≡ take (block_length_in bytes) (drop 8 bytes)) × (behind ≡ drop (block_length_in bytes) (drop 8 bytes)) =
-      subst (λ n. P n (drop 8 bytes)) (here ∙ sym stated)
-        (subst (P (length block)) (sym rest) (sym (take-append_seam block behind), sym (drop-append_seam block behind))) in
+    subst (λ n. P n (drop 8 bytes)) (here ∙ sym stated)
+    (subst (P (length block)) (sym rest) (sym (take-append_seam block behind), sym (drop-append_seam block behind))) in
     record { covers = omega arith; whole = omega arith; stated = parts.0; rest = parts.1 }
 
 pub written_spells : (m : Message) (after : List ℕ) → IsLegal m → Spells (message_bytes m ++ after) m
@@ -100,8 +102,8 @@ written_spells m after legal =
     let small = is_small m in
     let size : from_le_bytes w16 (to_le_bytes w16 (block_of m)) ≡ block_of m = from_le_bytes-to_le_bytes_2 (block_of m) small.block in
     let block : List ℕ = flat_map field_bytes (row_of m).fields in
-    let behind : List ℕ = with_text [] (row_of m).text ++ after in
-    let whole : message_bytes m ++ after ≡ header_bytes m ++ (block ++ behind) = with_text-append (header_bytes m ++ block) (row_of m).text after in
+    let behind : List ℕ = with_datum [] (row_of m).datum ++ after in
+    let whole : message_bytes m ++ after ≡ header_bytes m ++ (block ++ behind) = with_datum-append (header_bytes m ++ block) (row_of m).datum after in
     let P : List ℕ → Type 0 = λ bytes. Spells bytes m in
     subst P (sym whole) (record {
       template = from_le_bytes-to_le_bytes_2 (row_of m).template small.template;
@@ -110,7 +112,8 @@ written_spells m after legal =
       behind = behind;
       stands = is_block (header_bytes m ++ (block ++ behind)) block behind (block_of m) refl (omega (arith, length-append block behind)) size (length-fields (row_of m).fields legal.fields);
       fields = holds_all (row_of m).fields [] legal.fields;
-      text = has_text (row_of m).text after legal.text })
+      datum = has_datum (row_of m).datum after legal.datum;
+    })
 
 -- parts that were put one after another, as one list
 pub joined : (head id t k o : List ℕ) {x₀ x₁ x₂ x₃ x₄ : List ℕ} → x₀ ≡ head → x₁ ≡ x₀ ++ id → x₂ ≡ x₁ ++ t → x₃ ≡ x₂ ++ k → x₄ ≡ x₃ ++ o → x₄ ≡ head ++ (id ++ (t ++ (k ++ o)))

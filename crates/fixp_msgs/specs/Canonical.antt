@@ -1,11 +1,11 @@
 -- The one way in which a session message is written: version 0, no padding, nothing behind the last
 -- element (SBE 1.0), in a frame of its own (Simple Open Framing Header 1.0).
-use Rattle.std.specs.Prelude.{◌≡◌, ◌≢◌, ℕ, ◌+◌, ◌<◌, ◌≤◌, ◌^◌, List, [], ◌∷◌, ◌++◌, Option, Some, None, IfSome, unwrap_or, length}
+use Rattle.std.specs.Prelude.{◌≡◌, ◌≢◌, ℕ, ◌+◌, ◌<◌, ◌≤◌, ◌^◌, List, ◌++◌, Option, Some, None, IfSome, unwrap_or, length}
 use Rattle.std.specs.Int.{w8, w16, w32, w64, to_le_bytes, to_be_bytes}
 use Rattle.std.specs.List.{flat_map, AllByRecursion}
 use Rattle.fixp_msgs.specs.Header.{session_schema}
 use Rattle.fixp_msgs.specs.Message.{Message}
-use Rattle.fixp_msgs.specs.Table.{Field, Row, row_of, block_of, null}
+use Rattle.fixp_msgs.specs.Table.{Field, row_of, block_of, null}
 
 abbrev pub field_bytes : Field → List ℕ
 field_bytes (Field.identifier id) = id
@@ -14,17 +14,17 @@ field_bytes (Field.u32 n) = to_le_bytes w32 n
 field_bytes (Field.u64 n) = to_le_bytes w64 n
 field_bytes (Field.optional n) = to_le_bytes w64 (unwrap_or n null)
 
--- behind these bytes stands the text, if there is one: its length in two bytes, and its bytes
-abbrev pub with_text : List ℕ → Option (List ℕ) → List ℕ
-with_text bytes None = bytes
-with_text bytes (Some text) = bytes ++ to_le_bytes w16 (length text) ++ text
+-- behind these bytes stands the datum, if there is one: its length in two bytes, and its bytes
+abbrev pub with_datum : List ℕ → Option (List ℕ) → List ℕ
+with_datum bytes None = bytes
+with_datum bytes (Some datum) = bytes ++ to_le_bytes w16 (length datum) ++ datum
 
 -- the header: the block's length, the template id, the schema id and version 0
 abbrev pub header_bytes : Message → List ℕ
 header_bytes m = to_le_bytes w16 (block_of m) ++ to_le_bytes w16 (row_of m).template ++ to_le_bytes w16 session_schema ++ to_le_bytes w16 0
 
 abbrev pub message_bytes : Message → List ℕ
-message_bytes m = with_text (header_bytes m ++ flat_map field_bytes (row_of m).fields) (row_of m).text
+message_bytes m = with_datum (header_bytes m ++ flat_map field_bytes (row_of m).fields) (row_of m).datum
 
 -- the framing header (Simple Open Framing Header 1.0): the length of the whole frame, itself counted,
 -- and the encoding type of little-endian SBE 1.0
@@ -34,14 +34,14 @@ framing_bytes size = to_be_bytes w32 size ++ to_be_bytes w16 0xEB50
 abbrev pub frame_bytes : Message → List ℕ
 frame_bytes m = framing_bytes (6 + length (message_bytes m)) ++ message_bytes m
 
--- a text has at most 2,048 bytes (this project's profile), and a number that is there is not the null value
+-- a datum has at most 2,048 bytes (this project's profile), and a number that is there is not the null value
 abbrev pub IsWritableField : Field → Type 0
 IsWritableField (Field.optional n) = n ≢ Some null
 IsWritableField _ = Unit {0}
 
 pub record IsWritable (m : Message) : Type 0 where
   pub numbers : AllByRecursion IsWritableField (row_of m).fields
-  pub text : IfSome (row_of m).text (λ text. length text ≤ 2048)
+  pub datum : IfSome (row_of m).datum (λ datum. length datum ≤ 2048)
 
 -- a writable message whose identifier has 16 bytes and whose numbers fit their widths
 abbrev pub FitsField : Field → Type 0
@@ -53,4 +53,4 @@ FitsField (Field.optional n) = IfSome n (λ k. k < null)
 
 pub record IsLegal (m : Message) : Type 0 where
   pub fields : AllByRecursion FitsField (row_of m).fields
-  pub text : IfSome (row_of m).text (λ text. length text ≤ 2048)
+  pub datum : IfSome (row_of m).datum (λ datum. length datum ≤ 2048)

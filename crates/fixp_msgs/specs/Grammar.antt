@@ -4,7 +4,7 @@ use Rattle.std.specs.Prelude.{◌≡◌, ℕ, ◌+◌, ◌≤◌, ◌==◌, List
 use Rattle.std.specs.Int.{w8, w16, w32, w64, from_le_bytes}
 use Rattle.fixp_msgs.specs.Header.{block_length_in, template_in, schema_in, session_schema}
 use Rattle.fixp_msgs.specs.Message.{Message}
-use Rattle.fixp_msgs.specs.Table.{Field, Row, row_of, size_of, block_of, null}
+use Rattle.fixp_msgs.specs.Table.{Field, row_of, size_of, block_of, null}
 
 -- a number that may be missing: the null value says that it is
 abbrev pub unless_null : ℕ → Option ℕ
@@ -31,17 +31,17 @@ pub record IsBlock (message : List ℕ) (least : ℕ) (block behind : List ℕ) 
   pub stated : block ≡ take (block_length_in message) (drop 8 message)
   pub rest : behind ≡ drop (block_length_in message) (drop 8 message)
 
--- the bytes begin with the text's length in two bytes, and then the text
-pub record BeginsWithText (bytes text : List ℕ) : Type 0 where
+-- the bytes begin with the datum's length in two bytes, and then the datum
+pub record BeginsWithDatum (bytes datum : List ℕ) : Type 0 where
   pub whole : 2 + from_le_bytes w16 bytes ≤ length bytes
-  pub value : text ≡ take (from_le_bytes w16 bytes) (drop 2 bytes)
+  pub value : datum ≡ take (from_le_bytes w16 bytes) (drop 2 bytes)
 
-abbrev pub HasText : List ℕ → Option (List ℕ) → Type 0
-HasText behind None = Unit {0}
-HasText behind (Some text) = BeginsWithText behind text
+abbrev pub HasDatum : List ℕ → Option (List ℕ) → Type 0
+HasDatum behind None = Unit {0}
+HasDatum behind (Some datum) = BeginsWithDatum behind datum
 
 -- The bytes spell the message: the header names its template and the session's schema, the stated
--- block is whole and holds its fields, and its text stands behind the block. A block may be longer
+-- block is whole and holds its fields, and its datum stands behind the block. A block may be longer
 -- than its fields, bytes may follow the last element, and the version may be any.
 pub record Spells (bytes : List ℕ) (m : Message) : Type 0 where
   pub template : template_in bytes ≡ (row_of m).template
@@ -50,4 +50,4 @@ pub record Spells (bytes : List ℕ) (m : Message) : Type 0 where
   pub behind : List ℕ
   pub stands : IsBlock bytes (block_of m) block behind
   pub fields : HoldsAll block 0 (row_of m).fields
-  pub text : HasText behind (row_of m).text
+  pub datum : HasDatum behind (row_of m).datum

@@ -1,5 +1,6 @@
 -- The header of a message (SBE 1.0, "Message header"): four numbers of two bytes each, the block's
 -- length, the template id, the schema id and the version. And what a message is by its schema id.
+-- `from_le_bytes w bytes` is the number that the first bytes spell, as many as the width w has.
 use Rattle.std.specs.Prelude.{ℕ, List, drop, ◌==◌, if◌then◌else◌}
 use Rattle.std.specs.Int.{w16, from_le_bytes, from_be_bytes}
 use Rattle.sofh_frame.specs.declared.Order.{Order}

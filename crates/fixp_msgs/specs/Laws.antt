@@ -1,5 +1,5 @@
 -- The laws of the session messages.
-use Rattle.std.specs.Prelude.{◌≡◌, ℕ, ◌+◌, ◌≤◌, List, ◌++◌, length, take, drop}
+use Rattle.std.specs.Prelude.{◌≡◌, ℕ, ◌≤◌, List, ◌++◌, length, drop}
 use Rattle.std.specs.Int.{w16, w32, from_be_bytes}
 use Rattle.sofh_frame.specs.declared.Order.TheVariants.{Little}
 use Rattle.fixp_msgs.specs.declared.frames.FrameKind.TheVariants.{Session}

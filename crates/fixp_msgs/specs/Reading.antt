@@ -6,7 +6,7 @@ use Rattle.fixp_msgs.specs.declared.reading.MsgFault.TheVariants.{NotBuilt, Shor
 use Rattle.fixp_msgs.specs.Header.{template_in}
 use Rattle.fixp_msgs.specs.Message.{Message, message_of}
 use Rattle.fixp_msgs.specs.Table.{is_built}
-use Rattle.fixp_msgs.specs.Grammar.{Spells, IsBlock, BeginsWithText}
+use Rattle.fixp_msgs.specs.Grammar.{Spells, IsBlock, BeginsWithDatum}
 
 -- The message that the bytes spell; or a template that is not built; or a template that is, of which
 -- no message is spelled.
@@ -15,7 +15,7 @@ Answers bytes (Ok m) = Spells bytes (message_of m)
 Answers bytes (Err (NotBuilt id)) = (template_in bytes ≡ id) × (is_built id ≡ false)
 Answers bytes (Err Short) = IsTrue (is_built (template_in bytes)) × ((m : Message) → Spells bytes m → ⊥)
 
--- no block of at least this length stands in the bytes, or no text behind it where there is to be one
+-- no block of at least this length stands in the bytes, or no datum behind it where there is to be one
 abbrev pub Lacks : List ℕ → ℕ → Bool → Type 0
 Lacks bytes least false = (block behind : List ℕ) → IsBlock bytes least block behind → ⊥
-Lacks bytes least true = (block behind text : List ℕ) → IsBlock bytes least block behind → BeginsWithText behind text → ⊥
+Lacks bytes least true = (block behind datum : List ℕ) → IsBlock bytes least block behind → BeginsWithDatum behind datum → ⊥

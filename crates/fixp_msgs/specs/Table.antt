@@ -25,23 +25,23 @@ size_of (optional _) = 8
 pub record Row : Type 0 where
   pub template : ℕ
   pub fields : List Field
-  pub text : Option (List ℕ)
+  pub datum : Option (List ℕ)
 
 abbrev pub row_of : Message → Row
 row_of (Message.negotiate session timestamp flow credentials) =
-    record { template = 1; fields = identifier session ∷ u64 timestamp ∷ u8 flow ∷ []; text = Some credentials }
+    record { template = 1; fields = identifier session ∷ u64 timestamp ∷ u8 flow ∷ []; datum = Some credentials }
 row_of (Message.negotiation_response session timestamp flow credentials) =
-    record { template = 2; fields = identifier session ∷ u64 timestamp ∷ u8 flow ∷ []; text = Some credentials }
+    record { template = 2; fields = identifier session ∷ u64 timestamp ∷ u8 flow ∷ []; datum = Some credentials }
 row_of (Message.establish session timestamp keepalive next credentials) =
-    record { template = 4; fields = identifier session ∷ u64 timestamp ∷ u32 keepalive ∷ optional next ∷ []; text = Some credentials }
+    record { template = 4; fields = identifier session ∷ u64 timestamp ∷ u32 keepalive ∷ optional next ∷ []; datum = Some credentials }
 row_of (Message.establishment_ack session timestamp keepalive next) =
-    record { template = 5; fields = identifier session ∷ u64 timestamp ∷ u32 keepalive ∷ optional next ∷ []; text = None }
+    record { template = 5; fields = identifier session ∷ u64 timestamp ∷ u32 keepalive ∷ optional next ∷ []; datum = None }
 row_of (Message.sequence next) =
-    record { template = 7; fields = u64 next ∷ []; text = None }
+    record { template = 7; fields = u64 next ∷ []; datum = None }
 row_of Message.unsequenced_heartbeat =
-    record { template = 8; fields = []; text = None }
+    record { template = 8; fields = []; datum = None }
 row_of (Message.terminate session code reason) =
-    record { template = 16; fields = identifier session ∷ u8 code ∷ []; text = Some reason }
+    record { template = 16; fields = identifier session ∷ u8 code ∷ []; datum = Some reason }
 
 -- the length of a message's block: its fields' bytes
 abbrev pub block_of : Message → ℕ

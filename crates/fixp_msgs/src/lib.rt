@@ -19,3 +19,6 @@ pub use messages::{
 };
 pub use reading::{MsgFault, read};
 pub use writing::{size, write};
+
+#[cfg(test)]
+mod tests;

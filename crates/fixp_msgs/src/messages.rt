@@ -12,6 +12,12 @@ pub struct Negotiate<'a> {
     pub credentials: &'a [u8],
 }
 
+impl Negotiate<'_> {
+    pub(crate) const TEMPLATE: u16 = 1;
+
+    pub(crate) const BLOCK: u16 = 25;
+}
+
 /// The server accepts a Negotiate.
 #[derive(Clone, Copy, Debug, PartialEq, Eq)]
 pub struct NegotiationResponse<'a> {
@@ -22,6 +28,12 @@ pub struct NegotiationResponse<'a> {
     /// The code of the server's flow, as read.
     pub server_flow: u8,
     pub credentials: &'a [u8],
+}
+
+impl NegotiationResponse<'_> {
+    pub(crate) const TEMPLATE: u16 = 2;
+
+    pub(crate) const BLOCK: u16 = 25;
 }
 
 /// The client binds a negotiated session to a connection.
@@ -38,6 +50,12 @@ pub struct Establish<'a> {
     pub credentials: &'a [u8],
 }
 
+impl Establish<'_> {
+    pub(crate) const TEMPLATE: u16 = 4;
+
+    pub(crate) const BLOCK: u16 = 36;
+}
+
 /// The server accepts an Establish.
 #[derive(Clone, Copy, Debug, PartialEq, Eq)]
 pub struct EstablishmentAck {
@@ -51,15 +69,33 @@ pub struct EstablishmentAck {
     pub next_seq: Option<u64>,
 }
 
+impl EstablishmentAck {
+    pub(crate) const TEMPLATE: u16 = 5;
+
+    pub(crate) const BLOCK: u16 = 36;
+}
+
 /// The number of the sender's next application message; the heartbeat of a numbered flow.
 #[derive(Clone, Copy, Debug, PartialEq, Eq)]
 pub struct Sequence {
     pub next_seq: u64,
 }
 
+impl Sequence {
+    pub(crate) const TEMPLATE: u16 = 7;
+
+    pub(crate) const BLOCK: u16 = 8;
+}
+
 /// The heartbeat of a flow without numbers.
 #[derive(Clone, Copy, Debug, PartialEq, Eq)]
 pub struct UnsequencedHeartbeat;
+
+impl UnsequencedHeartbeat {
+    pub(crate) const TEMPLATE: u16 = 8;
+
+    pub(crate) const BLOCK: u16 = 0;
+}
 
 /// The end of the session's connection.
 #[derive(Clone, Copy, Debug, PartialEq, Eq)]
@@ -70,6 +106,12 @@ pub struct Terminate<'a> {
     /// bounds, 4 re-request in progress.
     pub code: u8,
     pub reason: &'a [u8],
+}
+
+impl Terminate<'_> {
+    pub(crate) const TEMPLATE: u16 = 16;
+
+    pub(crate) const BLOCK: u16 = 17;
 }
 
 /// A session message that is read and written today.

@@ -8,7 +8,7 @@ ghost use Rattle.fixp_msgs.specs.declared.reading.MsgFault.TheVariants as faults
 ghost use Rattle.fixp_msgs.specs.Header.{kind_of, schema_in, template_in, block_length_in};
 ghost use Rattle.fixp_msgs.specs.Message.{Message, message_of};
 ghost use Rattle.fixp_msgs.specs.Table.{is_built};
-ghost use Rattle.fixp_msgs.specs.Grammar.{Spells, IsBlock, BeginsWithText, unless_null};
+ghost use Rattle.fixp_msgs.specs.Grammar.{Spells, IsBlock, BeginsWithDatum, unless_null};
 ghost use Rattle.fixp_msgs.specs.Reading.{Answers, Lacks};
 
 use crate::messages::{
@@ -48,13 +48,13 @@ fn by_template<'a>(message: &'a [u8]) -> Result<SessionMsg<'a>, MsgFault>
     ensures { Answers message.now result }
 {
     match u16_at(message, 2) {
-        1 => negotiate(message).ok_or(MsgFault::Short),
-        2 => negotiation_response(message).ok_or(MsgFault::Short),
-        4 => establish(message).ok_or(MsgFault::Short),
-        5 => establishment_ack(message).ok_or(MsgFault::Short),
-        7 => sequence(message).ok_or(MsgFault::Short),
-        8 => unsequenced_heartbeat(message).ok_or(MsgFault::Short),
-        16 => terminate(message).ok_or(MsgFault::Short),
+        Negotiate::TEMPLATE => negotiate(message).ok_or(MsgFault::Short),
+        NegotiationResponse::TEMPLATE => negotiation_response(message).ok_or(MsgFault::Short),
+        Establish::TEMPLATE => establish(message).ok_or(MsgFault::Short),
+        EstablishmentAck::TEMPLATE => establishment_ack(message).ok_or(MsgFault::Short),
+        Sequence::TEMPLATE => sequence(message).ok_or(MsgFault::Short),
+        UnsequencedHeartbeat::TEMPLATE => unsequenced_heartbeat(message).ok_or(MsgFault::Short),
+        Terminate::TEMPLATE => terminate(message).ok_or(MsgFault::Short),
         id => Err(MsgFault::NotBuilt { id }),
     }
 }
@@ -88,7 +88,11 @@ fn optional_at(bytes: &[u8], at: usize) -> Option<u64>
     ensures { result ≡ unless_null (from_le_bytes w64 (drop at bytes.now)) }
 {
     let number = u64_at(bytes, at);
-    if number == u64::MAX { None } else { Some(number) }
+    if number == u64::MAX {
+        None
+    } else {
+        Some(number)
+    }
 }
 
 fn identifier(block: &[u8]) -> [u8; 16]
@@ -117,10 +121,10 @@ fn parts(message: &[u8], needed: usize) -> Option<(&[u8], &[u8])>
     Some(body.split_at(length))
 }
 
-/// The text at the front: two bytes of length, and that many bytes.
-fn text(bytes: &[u8]) -> Option<&[u8]>
-    ensures found { IfSome result (λ t. BeginsWithText bytes.now t.now) }
-    ensures none { IfNone result ((t : List ℕ) → BeginsWithText bytes.now t → ⊥) }
+/// The datum at the front: two bytes of length, and that many bytes.
+fn datum(bytes: &[u8]) -> Option<&[u8]>
+    ensures found { IfSome result (λ t. BeginsWithDatum bytes.now t.now) }
+    ensures none { IfNone result ((t : List ℕ) → BeginsWithDatum bytes.now t → ⊥) }
 {
     if bytes.len() < 2 {
         return None;
@@ -130,20 +134,19 @@ fn text(bytes: &[u8]) -> Option<&[u8]>
     if rest.len() < length {
         return None;
     }
-    let (text, _) = rest.split_at(length);
-    Some(text)
+    let (datum, _) = rest.split_at(length);
+    Some(datum)
 }
 
-/// The block, and the text that stands behind it.
-
-fn parts_and_text(message: &[u8], needed: usize) -> Option<(&[u8], &[u8])>
+/// The block, and the datum that stands behind it.
+fn parts_and_datum(message: &[u8], needed: usize) -> Option<(&[u8], &[u8])>
     requires { 8 ≤ length message.now }
-    ensures found { IfSome result (λ p. (behind : List ℕ) × IsBlock message.now needed p.0.now behind × BeginsWithText behind p.1.now) }
+    ensures found { IfSome result (λ p. (behind : List ℕ) × IsBlock message.now needed p.0.now behind × BeginsWithDatum behind p.1.now) }
     ensures enough { IfSome result (λ p. needed ≤ length p.0.now) }
     ensures none { IfNone result (Lacks message.now needed true) }
 {
     match parts(message, needed) {
-        Some((block, behind)) => Some((block, text(behind)?)),
+        Some((block, behind)) => Some((block, datum(behind)?)),
         None => None,
     }
 }
@@ -151,11 +154,11 @@ fn parts_and_text(message: &[u8], needed: usize) -> Option<(&[u8], &[u8])>
 fn negotiate<'a>(message: &'a [u8]) -> Option<SessionMsg<'a>>
     requires header { 8 ≤ length message.now }
     requires session { schema_in message.now ≡ 0xF011 }
-    requires template { template_in message.now ≡ 1 }
+    requires template { template_in message.now ≡ Negotiate.TEMPLATE }
     ensures found { IfSome result (λ m. Spells message.now (message_of m)) }
-    ensures none { IfNone result (Lacks message.now 25 true) }
+    ensures none { IfNone result (Lacks message.now Negotiate.BLOCK true) }
 {
-    let (block, credentials) = parts_and_text(message, 25)?;
+    let (block, credentials) = parts_and_datum(message, Negotiate::BLOCK as usize)?;
     Some(SessionMsg::Negotiate(Negotiate {
         session_id: identifier(block),
         timestamp: u64_at(block, 16),
@@ -167,11 +170,11 @@ fn negotiate<'a>(message: &'a [u8]) -> Option<SessionMsg<'a>>
 fn negotiation_response<'a>(message: &'a [u8]) -> Option<SessionMsg<'a>>
     requires header { 8 ≤ length message.now }
     requires session { schema_in message.now ≡ 0xF011 }
-    requires template { template_in message.now ≡ 2 }
+    requires template { template_in message.now ≡ NegotiationResponse.TEMPLATE }
     ensures found { IfSome result (λ m. Spells message.now (message_of m)) }
-    ensures none { IfNone result (Lacks message.now 25 true) }
+    ensures none { IfNone result (Lacks message.now NegotiationResponse.BLOCK true) }
 {
-    let (block, credentials) = parts_and_text(message, 25)?;
+    let (block, credentials) = parts_and_datum(message, NegotiationResponse::BLOCK as usize)?;
     Some(SessionMsg::NegotiationResponse(NegotiationResponse {
         session_id: identifier(block),
         request_timestamp: u64_at(block, 16),
@@ -183,11 +186,11 @@ fn negotiation_response<'a>(message: &'a [u8]) -> Option<SessionMsg<'a>>
 fn establish<'a>(message: &'a [u8]) -> Option<SessionMsg<'a>>
     requires header { 8 ≤ length message.now }
     requires session { schema_in message.now ≡ 0xF011 }
-    requires template { template_in message.now ≡ 4 }
+    requires template { template_in message.now ≡ Establish.TEMPLATE }
     ensures found { IfSome result (λ m. Spells message.now (message_of m)) }
-    ensures none { IfNone result (Lacks message.now 36 true) }
+    ensures none { IfNone result (Lacks message.now Establish.BLOCK true) }
 {
-    let (block, credentials) = parts_and_text(message, 36)?;
+    let (block, credentials) = parts_and_datum(message, Establish::BLOCK as usize)?;
     Some(SessionMsg::Establish(Establish {
         session_id: identifier(block),
         timestamp: u64_at(block, 16),
@@ -200,11 +203,11 @@ fn establish<'a>(message: &'a [u8]) -> Option<SessionMsg<'a>>
 fn establishment_ack<'a>(message: &'a [u8]) -> Option<SessionMsg<'a>>
     requires header { 8 ≤ length message.now }
     requires session { schema_in message.now ≡ 0xF011 }
-    requires template { template_in message.now ≡ 5 }
+    requires template { template_in message.now ≡ EstablishmentAck.TEMPLATE }
     ensures found { IfSome result (λ m. Spells message.now (message_of m)) }
-    ensures none { IfNone result (Lacks message.now 36 false) }
+    ensures none { IfNone result (Lacks message.now EstablishmentAck.BLOCK false) }
 {
-    let (block, _) = parts(message, 36)?;
+    let (block, _) = parts(message, EstablishmentAck::BLOCK as usize)?;
     Some(SessionMsg::EstablishmentAck(EstablishmentAck {
         session_id: identifier(block),
         request_timestamp: u64_at(block, 16),
@@ -216,11 +219,11 @@ fn establishment_ack<'a>(message: &'a [u8]) -> Option<SessionMsg<'a>>
 fn sequence<'a>(message: &'a [u8]) -> Option<SessionMsg<'a>>
     requires header { 8 ≤ length message.now }
     requires session { schema_in message.now ≡ 0xF011 }
-    requires template { template_in message.now ≡ 7 }
+    requires template { template_in message.now ≡ Sequence.TEMPLATE }
     ensures found { IfSome result (λ m. Spells message.now (message_of m)) }
-    ensures none { IfNone result (Lacks message.now 8 false) }
+    ensures none { IfNone result (Lacks message.now Sequence.BLOCK false) }
 {
-    let (block, _) = parts(message, 8)?;
+    let (block, _) = parts(message, Sequence::BLOCK as usize)?;
     Some(SessionMsg::Sequence(Sequence {
         next_seq: u64_at(block, 0),
     }))
@@ -229,22 +232,22 @@ fn sequence<'a>(message: &'a [u8]) -> Option<SessionMsg<'a>>
 fn unsequenced_heartbeat<'a>(message: &'a [u8]) -> Option<SessionMsg<'a>>
     requires header { 8 ≤ length message.now }
     requires session { schema_in message.now ≡ 0xF011 }
-    requires template { template_in message.now ≡ 8 }
+    requires template { template_in message.now ≡ UnsequencedHeartbeat.TEMPLATE }
     ensures found { IfSome result (λ m. Spells message.now (message_of m)) }
-    ensures none { IfNone result (Lacks message.now 0 false) }
+    ensures none { IfNone result (Lacks message.now UnsequencedHeartbeat.BLOCK false) }
 {
-    let (_, _) = parts(message, 0)?;
+    let (_, _) = parts(message, UnsequencedHeartbeat::BLOCK as usize)?;
     Some(SessionMsg::UnsequencedHeartbeat(UnsequencedHeartbeat))
 }
 
 fn terminate<'a>(message: &'a [u8]) -> Option<SessionMsg<'a>>
     requires header { 8 ≤ length message.now }
     requires session { schema_in message.now ≡ 0xF011 }
-    requires template { template_in message.now ≡ 16 }
+    requires template { template_in message.now ≡ Terminate.TEMPLATE }
     ensures found { IfSome result (λ m. Spells message.now (message_of m)) }
-    ensures none { IfNone result (Lacks message.now 17 true) }
+    ensures none { IfNone result (Lacks message.now Terminate.BLOCK true) }
 {
-    let (block, reason) = parts_and_text(message, 17)?;
+    let (block, reason) = parts_and_datum(message, Terminate::BLOCK as usize)?;
     Some(SessionMsg::Terminate(Terminate {
         session_id: identifier(block),
         code: block[16],

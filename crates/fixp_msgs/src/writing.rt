@@ -1,16 +1,17 @@
 //! Writing a session message as a frame of its own.
 
-ghost use Rattle.std.specs.Prelude.{◌≡◌, ℕ, ◌+◌, ◌<◌, ◌≤◌, ◌^◌, ◌++◌, length, take, drop, Some};
+ghost use Rattle.std.specs.Prelude.{◌≡◌, ℕ, ◌+◌, ◌-◌, ◌<◌, ◌≤◌, ◌^◌, ◌++◌, length, take, drop, Some};
 ghost use Rattle.std.specs.Int.{w16, w64, to_le_bytes};
 ghost use Rattle.fixp_msgs.specs.declared.messages.SessionMsg.TheVariants as variants;
 ghost use Rattle.fixp_msgs.specs.Header.{session_schema};
 ghost use Rattle.fixp_msgs.specs.Message.{message_of};
 ghost use Rattle.fixp_msgs.specs.Table.{Field};
-ghost use Rattle.fixp_msgs.specs.Canonical.{field_bytes, with_text, framing_bytes, message_bytes, frame_bytes, IsWritable, IsLegal};
+ghost use Rattle.fixp_msgs.specs.Canonical.{field_bytes, with_datum, framing_bytes, message_bytes, frame_bytes, IsWritable, IsLegal};
 
 use crate::frames::SESSION_SCHEMA;
 use crate::messages::{
     Establish, EstablishmentAck, Negotiate, NegotiationResponse, Sequence, SessionMsg, Terminate,
+    UnsequencedHeartbeat,
 };
 
 /// The encoding type of little-endian SBE 1.0 (Simple Open Framing Header 1.0).
@@ -21,33 +22,45 @@ const HEADERS: usize = 14;
 
 /// The number of bytes of the frame that `write` makes of the message.
 pub fn size(msg: &SessionMsg<'_>) -> usize
-    ensures { result ≡ length (frame_bytes (message_of msg.now)) }
+    ensures size { result ≡ length (frame_bytes (message_of msg.now)) }
+    ensures least { 14 ≤ result }
+    ensures most { IsWritable (message_of msg.now) → result ≤ 2100 }
 {
     match msg {
-        SessionMsg::Negotiate(m) => session_frame(&m.session_id, 9) + text_size(m.credentials),
-        SessionMsg::NegotiationResponse(m) => session_frame(&m.session_id, 9) + text_size(m.credentials),
-        SessionMsg::Establish(m) => session_frame(&m.session_id, 20) + text_size(m.credentials),
-        SessionMsg::EstablishmentAck(m) => session_frame(&m.session_id, 20),
-        SessionMsg::Sequence(_) => HEADERS + 8,
+        SessionMsg::Negotiate(m) => {
+            session_frame(&m.session_id, Negotiate::BLOCK) + datum_size(m.credentials)
+        }
+        SessionMsg::NegotiationResponse(m) => {
+            session_frame(&m.session_id, NegotiationResponse::BLOCK) + datum_size(m.credentials)
+        }
+        SessionMsg::Establish(m) => {
+            session_frame(&m.session_id, Establish::BLOCK) + datum_size(m.credentials)
+        }
+        SessionMsg::EstablishmentAck(m) => session_frame(&m.session_id, EstablishmentAck::BLOCK),
+        SessionMsg::Sequence(_) => HEADERS + Sequence::BLOCK as usize,
         SessionMsg::UnsequencedHeartbeat(_) => HEADERS,
-        SessionMsg::Terminate(m) => session_frame(&m.session_id, 1) + text_size(m.reason),
+        SessionMsg::Terminate(m) => {
+            session_frame(&m.session_id, Terminate::BLOCK) + datum_size(m.reason)
+        }
     }
 }
 
-/// The size of a frame that carries a session's identifier and numbers of this many bytes.
-fn session_frame(id: &[u8; 16], numbers: usize) -> usize
-    requires { numbers ≤ 20 }
-    ensures size { result ≡ 14 + length id.now + numbers }
-    ensures bound { result ≤ 50 }
+/// The size of a frame without a datum, whose block has this length and begins with the
+/// session's identifier.
+fn session_frame(id: &[u8; 16], block: u16) -> usize
+    requires { 16 ≤ block }
+    ensures size { result ≡ 14 + (length id.now + (block - 16)) }
+    ensures whole { result ≡ 14 + block }
 {
-    HEADERS + id.len() + numbers
+    HEADERS + id.len() + (block as usize - 16)
 }
 
-fn text_size(text: &[u8]) -> usize
-    ensures size { result ≡ 2 + length text.now }
+/// The size of a datum with its length.
+fn datum_size(datum: &[u8]) -> usize
+    ensures size { result ≡ 2 + length datum.now }
     ensures bound { result ≤ 2 ^ 63 + 2 }
 {
-    2 + text.len()
+    2 + datum.len()
 }
 
 /// Writes the message's frame at the front of `out`, and answers the number of its bytes. It needs
@@ -68,7 +81,12 @@ pub fn write(msg: &SessionMsg<'_>, out: &mut [u8]) -> usize
         SessionMsg::Establish(m) => put_establish(out, frame, m),
         SessionMsg::EstablishmentAck(m) => put_establishment_ack(out, frame, m),
         SessionMsg::Sequence(m) => put_sequence(out, frame, m),
-        SessionMsg::UnsequencedHeartbeat(_) => put_headers(out, frame, 0, 8),
+        SessionMsg::UnsequencedHeartbeat(_) => put_headers(
+            out,
+            frame,
+            UnsequencedHeartbeat::BLOCK,
+            UnsequencedHeartbeat::TEMPLATE,
+        ),
         SessionMsg::Terminate(m) => put_terminate(out, frame, m),
     }
 }
@@ -92,16 +110,16 @@ fn optional_bytes(number: Option<u64>) -> [u8; 8]
     number.unwrap_or(u64::MAX).to_le_bytes()
 }
 
-/// Puts a text behind its length.
-fn put_text(out: &mut [u8], at: usize, text: &[u8]) -> usize
-    requires short { length text.now < 2 ^ 16 }
-    requires room { at + 2 + length text.now ≤ length out.old }
-    ensures end { result ≡ at + 2 + length text.now }
-    ensures front { take result out.new ≡ with_text (take at out.old) (Some text.now) }
+/// Puts a datum behind its length.
+fn put_datum(out: &mut [u8], at: usize, datum: &[u8]) -> usize
+    requires short { length datum.now < 2 ^ 16 }
+    requires room { at + 2 + length datum.now ≤ length out.old }
+    ensures end { result ≡ at + 2 + length datum.now }
+    ensures front { take result out.new ≡ with_datum (take at out.old) (Some datum.now) }
     ensures back { (n : ℕ) → result ≤ n → drop n out.new ≡ drop n out.old }
 {
-    let at = put(out, at, &(text.len() as u16).to_le_bytes());
-    put(out, at, text)
+    let at = put(out, at, &(datum.len() as u16).to_le_bytes());
+    put(out, at, datum)
 }
 
 /// Puts the framing header and the message header at the front: the frame's size, and the length
@@ -130,11 +148,11 @@ fn put_negotiate(out: &mut [u8], frame: usize, m: Negotiate<'_>) -> usize
     ensures behind { drop result out.new ≡ drop result out.old }
     ensures legal { IsLegal (message_of (variants.Negotiate m.entry)) }
 {
-    let at = put_headers(out, frame, 25, 1);
+    let at = put_headers(out, frame, Negotiate::BLOCK, Negotiate::TEMPLATE);
     let at = put(out, at, &m.session_id);
     let at = put(out, at, &m.timestamp.to_le_bytes());
     let at = put(out, at, &[m.client_flow]);
-    put_text(out, at, m.credentials)
+    put_datum(out, at, m.credentials)
 }
 
 fn put_negotiation_response(out: &mut [u8], frame: usize, m: NegotiationResponse<'_>) -> usize
@@ -146,11 +164,16 @@ fn put_negotiation_response(out: &mut [u8], frame: usize, m: NegotiationResponse
     ensures behind { drop result out.new ≡ drop result out.old }
     ensures legal { IsLegal (message_of (variants.NegotiationResponse m.entry)) }
 {
-    let at = put_headers(out, frame, 25, 2);
+    let at = put_headers(
+        out,
+        frame,
+        NegotiationResponse::BLOCK,
+        NegotiationResponse::TEMPLATE,
+    );
     let at = put(out, at, &m.session_id);
     let at = put(out, at, &m.request_timestamp.to_le_bytes());
     let at = put(out, at, &[m.server_flow]);
-    put_text(out, at, m.credentials)
+    put_datum(out, at, m.credentials)
 }
 
 fn put_establish(out: &mut [u8], frame: usize, m: Establish<'_>) -> usize
@@ -162,12 +185,12 @@ fn put_establish(out: &mut [u8], frame: usize, m: Establish<'_>) -> usize
     ensures behind { drop result out.new ≡ drop result out.old }
     ensures legal { IsLegal (message_of (variants.Establish m.entry)) }
 {
-    let at = put_headers(out, frame, 36, 4);
+    let at = put_headers(out, frame, Establish::BLOCK, Establish::TEMPLATE);
     let at = put(out, at, &m.session_id);
     let at = put(out, at, &m.timestamp.to_le_bytes());
     let at = put(out, at, &m.keepalive.to_le_bytes());
     let at = put(out, at, &optional_bytes(m.next_seq));
-    put_text(out, at, m.credentials)
+    put_datum(out, at, m.credentials)
 }
 
 fn put_establishment_ack(out: &mut [u8], frame: usize, m: EstablishmentAck) -> usize
@@ -179,7 +202,12 @@ fn put_establishment_ack(out: &mut [u8], frame: usize, m: EstablishmentAck) -> u
     ensures behind { drop result out.new ≡ drop result out.old }
     ensures legal { IsLegal (message_of (variants.EstablishmentAck m)) }
 {
-    let at = put_headers(out, frame, 36, 5);
+    let at = put_headers(
+        out,
+        frame,
+        EstablishmentAck::BLOCK,
+        EstablishmentAck::TEMPLATE,
+    );
     let at = put(out, at, &m.session_id);
     let at = put(out, at, &m.request_timestamp.to_le_bytes());
     let at = put(out, at, &m.keepalive.to_le_bytes());
@@ -195,7 +223,7 @@ fn put_sequence(out: &mut [u8], frame: usize, m: Sequence) -> usize
     ensures behind { drop result out.new ≡ drop result out.old }
     ensures legal { IsLegal (message_of (variants.Sequence m)) }
 {
-    let at = put_headers(out, frame, 8, 7);
+    let at = put_headers(out, frame, Sequence::BLOCK, Sequence::TEMPLATE);
     put(out, at, &m.next_seq.to_le_bytes())
 }
 
@@ -208,8 +236,8 @@ fn put_terminate(out: &mut [u8], frame: usize, m: Terminate<'_>) -> usize
     ensures behind { drop result out.new ≡ drop result out.old }
     ensures legal { IsLegal (message_of (variants.Terminate m.entry)) }
 {
-    let at = put_headers(out, frame, 17, 16);
+    let at = put_headers(out, frame, Terminate::BLOCK, Terminate::TEMPLATE);
     let at = put(out, at, &m.session_id);
     let at = put(out, at, &[m.code]);
-    put_text(out, at, m.reason)
+    put_datum(out, at, m.reason)
 }
