@@ -1,1 +1,1 @@
-mod OneThing
+pub mod OneThing

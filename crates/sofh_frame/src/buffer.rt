@@ -1,7 +1,7 @@
 //! A buffer that takes bytes in pieces of any size, and shows the first frame of those that it holds.
 //! It relies on the first frame of a slice.
 
-ghost use Rattle.std.specs.Prelude.{◌≡◌, ℕ, [], ◌++◌, ◌+◌, ◌≤◌, ◌↔◌, length, take, drop, IfOk};
+ghost use Rattle.std.specs.Prelude.{◌≡◌, ℕ, [], ◌++◌, ◌+◌, ◌≤◌, ◌↔◌, length, take, drop, IfOk, IsTrue};
 ghost use Rattle.std.specs.Borrow.{sem};
 ghost use Rattle.sofh_frame.specs.Framing.{first_of, Frame, frame, BeginsWith};
 ghost use Rattle.sofh_frame.specs.FirstFrame.{seen};
@@ -50,6 +50,13 @@ impl Framer {
             start: 0,
             end: 0,
         })
+    }
+
+    /// Whether no bytes are held.
+    pub fn is_empty(&self) -> bool
+        ensures { IsTrue result ↔ (self.now.held ≡ []) }
+    {
+        self.start == self.end
     }
 
     /// The room behind the bytes held: `ROOM` bytes less those that are held. What it contains is left open.

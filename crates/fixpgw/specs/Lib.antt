@@ -1,0 +1,9 @@
+pub mod Codes
+pub mod Words
+pub mod Configuration
+pub mod Lines
+pub mod Answer
+pub mod Progress
+pub mod Causes
+pub mod Promise
+pub mod Run
