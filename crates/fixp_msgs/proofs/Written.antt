@@ -1,6 +1,7 @@
 -- The bytes of a legal message: their number, and that they spell the message.
 use Rattle.std.proofs.Common.{◌≡◌, ℕ, ◌+◌, ◌<◌, ◌≤◌, ◌^◌, List, [], ◌∷◌, ◌++◌, Option, Some, None, IfSome, unwrap_or, length, lit<, take, drop, refl, sym, ap, ◌∙◌, subst, arith, append_assoc, length-append}
 use Rattle.std.proofs.Math.Seq.{drop-append_seam, take-append_seam}
+use Rattle.std.proofs.lemmas.List.{append-nil}
 use Rattle.std.proofs.lemmas.List.Sums.{sum_by-cons}
 use Rattle.std.proofs.lemmas.Grind.{common_steps}
 use Rattle.std.proofs.lemmas.Nat.{from_le_bytes-to_le_bytes_2, from_le_bytes-to_le_bytes_4, from_le_bytes-to_le_bytes_8}
@@ -118,3 +119,9 @@ written_spells m after legal =
 -- parts that were put one after another, as one list
 pub joined : (head id t k o : List ℕ) {x₀ x₁ x₂ x₃ x₄ : List ℕ} → x₀ ≡ head → x₁ ≡ x₀ ++ id → x₂ ≡ x₁ ++ t → x₃ ≡ x₂ ++ k → x₄ ≡ x₃ ++ o → x₄ ≡ head ++ (id ++ (t ++ (k ++ o)))
 joined head id t k o a b c d e = rw (e, d, c, b, a) (simp append_assoc)
+
+-- the same with nothing behind it
+pub message_spells : (m : Message) → IsLegal m → Spells (message_bytes m) m
+message_spells m legal =
+    let P : List ℕ → Type 0 = λ bytes. Spells bytes m in
+    subst P (append-nil (message_bytes m)) (written_spells m [] legal)

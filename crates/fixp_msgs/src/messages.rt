@@ -9,6 +9,7 @@ pub struct Negotiate<'a> {
     pub timestamp: u64,
     /// The code of the client's flow, as read.
     pub client_flow: u8,
+    /// Compared as bytes, at most 2,048 of them when written.
     pub credentials: &'a [u8],
 }
 
@@ -27,6 +28,7 @@ pub struct NegotiationResponse<'a> {
     pub request_timestamp: u64,
     /// The code of the server's flow, as read.
     pub server_flow: u8,
+    /// Compared as bytes, at most 2,048 of them when written.
     pub credentials: &'a [u8],
 }
 
@@ -45,8 +47,9 @@ pub struct Establish<'a> {
     pub timestamp: u64,
     /// The client's heartbeat interval in milliseconds.
     pub keepalive: u32,
-    /// The number of the client's next application message.
+    /// The number of the client's next application message; none on a flow without numbers.
     pub next_seq: Option<u64>,
+    /// Compared as bytes, at most 2,048 of them when written.
     pub credentials: &'a [u8],
 }
 
@@ -65,7 +68,7 @@ pub struct EstablishmentAck {
     pub request_timestamp: u64,
     /// The server's heartbeat interval in milliseconds.
     pub keepalive: u32,
-    /// The number of the server's next application message.
+    /// The number of the server's next application message; none on a flow without numbers.
     pub next_seq: Option<u64>,
 }
 
@@ -78,6 +81,7 @@ impl EstablishmentAck {
 /// The number of the sender's next application message; the heartbeat of a numbered flow.
 #[derive(Clone, Copy, Debug, PartialEq, Eq)]
 pub struct Sequence {
+    /// At least 1 where an honest peer wrote it; as read.
     pub next_seq: u64,
 }
 
@@ -105,6 +109,7 @@ pub struct Terminate<'a> {
     /// Why the connection ends, as read: 1 finished, 2 unspecified error, 3 re-request out of
     /// bounds, 4 re-request in progress.
     pub code: u8,
+    /// Free bytes, at most 2,048 of them when written.
     pub reason: &'a [u8],
 }
 

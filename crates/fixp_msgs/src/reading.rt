@@ -1,6 +1,6 @@
 //! Reading a session message from the bytes behind a frame's encoding type.
 
-ghost use Rattle.std.specs.Prelude.{◌≡◌, ℕ, ◌+◌, ◌≤◌, ◌↔◌, List, length, drop, take, IsTrue, true, false, IfOk, IsOkAnd, IsErrOf, IfSome, IfNone};
+ghost use Rattle.std.specs.Prelude.{◌≡◌, ℕ, ◌+◌, ◌≤◌, ◌↔◌, List, length, drop, take, true, false, IfOk, IsOkAnd, IfErr, IsErrOf, IfSome, IfNone};
 ghost use Rattle.std.specs.Int.{w16, w32, w64, from_le_bytes};
 ghost use Rattle.sofh_frame.specs.declared.Order.TheVariants.{Little};
 ghost use Rattle.fixp_msgs.specs.declared.frames.FrameKind.TheVariants.{Session};
@@ -9,7 +9,7 @@ ghost use Rattle.fixp_msgs.specs.Header.{kind_of, schema_in, template_in, block_
 ghost use Rattle.fixp_msgs.specs.Message.{Message, message_of};
 ghost use Rattle.fixp_msgs.specs.Table.{is_built};
 ghost use Rattle.fixp_msgs.specs.Grammar.{Spells, IsBlock, BeginsWithDatum, unless_null};
-ghost use Rattle.fixp_msgs.specs.Reading.{Answers, Lacks};
+ghost use Rattle.fixp_msgs.specs.Reading.{Answers, HasCause, Lacks};
 
 use crate::messages::{
     Establish, EstablishmentAck, Negotiate, NegotiationResponse, Sequence, SessionMsg, Terminate,
@@ -36,8 +36,10 @@ pub fn read<'a>(message: &'a [u8]) -> Result<SessionMsg<'a>, MsgFault>
     requires session { kind_of Little message.now ≡ Session }
     ensures found { IfOk result (λ m. Spells message.now (message_of m)) }
     ensures only { (m : Message) → Spells message.now m → IsOkAnd result (λ r. message_of r ≡ m) }
-    ensures not_built { (id : ℕ) → IsErrOf result (faults.NotBuilt id) ↔ ((template_in message.now ≡ id) × (is_built id ≡ false)) }
-    ensures short { IsErrOf result faults.Short ↔ (IsTrue (is_built (template_in message.now)) × ((m : Message) → Spells message.now m → ⊥)) }
+    // A fault has its cause, and comes wherever it has.
+    ensures cause { IfErr result (HasCause message.now) }
+    ensures not_built { is_built (template_in message.now) ≡ false → IsErrOf result (faults.NotBuilt (template_in message.now)) }
+    ensures short { HasCause message.now faults.Short → IsErrOf result faults.Short }
 {
     by_template(message)
 }

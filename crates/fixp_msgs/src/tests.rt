@@ -70,7 +70,7 @@ fn both_ways(rt: &impl Abort, frame: &[u8], msg: SessionMsg<'_>)
 }
 
 #[test]
-fn vectors(rt: HostRuntime) {
+fn handshake_vectors(rt: HostRuntime) {
     both_ways(
         &rt,
         &NEGOTIATE,
@@ -112,6 +112,10 @@ fn vectors(rt: HostRuntime) {
             next_seq: None,
         }),
     );
+}
+
+#[test]
+fn established_vectors(rt: HostRuntime) {
     both_ways(
         &rt,
         &SEQUENCE,
