@@ -26,12 +26,12 @@ pub struct Framer {
 }
 
 impl Model for Framer {
-    ghost use Rattle.std.specs.Prelude.{◌+◌, slice_range, vec_len};
-    ghost use Rattle.sofh_frame.specs.Buffered.{Buffered, IsPlaced};
+    ghost use Rattle.std.specs.Prelude.{vec_len};
+    ghost use Rattle.sofh_frame.specs.Buffered.{Buffered, buffered, IsPlaced};
 
     ghost Value = { Buffered };
 
-    ghost view = { λ f. record { held = slice_range f.buffer.items f.start f.end; room = slice_range f.buffer.items f.end (f.start + 32780) } };
+    ghost view = { λ f. buffered f.buffer.items f.start f.end };
 
     ghost invariant = { λ f. IsPlaced f.start f.end (vec_len f.buffer) };
 }

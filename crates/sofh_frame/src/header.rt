@@ -7,6 +7,19 @@ ghost use Rattle.sofh_frame.specs.FirstFrame.{seen};
 
 use crate::Order;
 
+/// The header's size in bytes: 4 of the length and 2 of the encoding type.
+const HEADER_SIZE: usize = 6;
+
+/// The sizes of the smallest and the largest frame in bytes, their headers included.
+const LEAST_SIZE: u32 = 14;
+
+const MOST_SIZE: u32 = 16_390;
+
+/// The encoding types of SBE 1.0.
+const LITTLE_ENDIAN: u16 = 0xEB50;
+
+const BIG_ENDIAN: u16 = 0x5BE0;
+
 /// What stands at the front of some bytes (Simple Open Framing Header).
 #[derive(Clone, Copy, Debug, PartialEq, Eq)]
 pub enum FirstFrame<'a> {
@@ -50,8 +63,8 @@ fn order_named(encoding: u16) -> Option<Order>
     ensures { result ≡ order_of encoding }
 {
     match encoding {
-        0xEB50 => Some(Order::Little),
-        0x5BE0 => Some(Order::Big),
+        LITTLE_ENDIAN => Some(Order::Little),
+        BIG_ENDIAN => Some(Order::Big),
         _ => None,
     }
 }
@@ -72,7 +85,7 @@ fn frame_at_front(bytes: &[u8], size: usize) -> FirstFrame<'_>
     }
     FirstFrame::Frame {
         order,
-        message: &bytes[6..size],
+        message: &bytes[HEADER_SIZE..size],
         size,
     }
 }
@@ -84,10 +97,10 @@ fn first_frame<'a>(bytes: &'a [u8]) -> FirstFrame<'a>
         return FirstFrame::Rest;
     }
     let length = length_at_front(bytes);
-    if length < 14 || length > 16390 {
+    if !(LEAST_SIZE..=MOST_SIZE).contains(&length) {
         return FirstFrame::BadLength(length);
     }
-    if bytes.len() < 6 {
+    if bytes.len() < HEADER_SIZE {
         return FirstFrame::Rest;
     }
     frame_at_front(bytes, length as usize)
