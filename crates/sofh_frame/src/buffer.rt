@@ -20,6 +20,7 @@ const BUFFER: usize = 2 * ROOM;
 /// Bytes that wait to be read as frames, and room for more.
 #[derive(Drop)]
 pub struct Framer {
+    /// `BUFFER` bytes, of which those from `start` to `end` are held.
     buffer: Vec<u8>,
     start: usize,
     end: usize,
@@ -62,7 +63,7 @@ impl Framer {
         self.buffer.slice_mut(self.end..stop)
     }
 
-    /// Takes the first `n` bytes of the room behind those that are held.
+    /// Holds the first `n` bytes of the room too, behind the others; `n` is at most the room's length.
     pub fn filled(&mut self, n: usize)
         requires { n ≤ length self.old.room }
         ensures held { self.new.held ≡ self.old.held ++ take n self.old.room }
@@ -81,7 +82,8 @@ impl Framer {
         next(&self.buffer[self.start..self.end])
     }
 
-    /// Forgets the first `n` bytes held. The others move at most once for each `ROOM` bytes that are dropped.
+    /// Forgets the first `n` bytes held, which are at most all of them. The others move only where more
+    /// than `ROOM` bytes were dropped since they moved last.
     pub fn drop_front(&mut self, n: usize)
         requires { n ≤ length self.old.held }
         ensures held { self.new.held ≡ drop n self.old.held }

@@ -10,14 +10,16 @@ use crate::Order;
 /// The header's size in bytes: 4 of the length and 2 of the encoding type.
 const HEADER_SIZE: usize = 6;
 
-/// The sizes of the smallest and the largest frame in bytes, their headers included.
+/// The size of the smallest frame in bytes, its header included.
 const LEAST_SIZE: u32 = 14;
 
+/// The size of the largest frame in bytes, its header included.
 const MOST_SIZE: u32 = 16_390;
 
-/// The encoding types of SBE 1.0.
+/// The encoding type of SBE 1.0 with little-endian numbers.
 const LITTLE_ENDIAN: u16 = 0xEB50;
 
+/// The encoding type of SBE 1.0 with big-endian numbers.
 const BIG_ENDIAN: u16 = 0x5BE0;
 
 /// What stands at the front of some bytes (Simple Open Framing Header).
