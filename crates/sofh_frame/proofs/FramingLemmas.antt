@@ -10,7 +10,7 @@ use Rattle.std.proofs.lemmas.List.Elements.{All-take, All-drop}
 use Rattle.std.proofs.lemmas.Nat.{be_bytes_2, be_bytes_4, from_be_bytes-to_be_bytes_2, from_be_bytes-to_be_bytes_4}
 use Rattle.sofh_frame.specs.declared.Order.{Order}
 use Rattle.sofh_frame.specs.declared.Order.TheVariants.{Little, Big}
-use Rattle.sofh_frame.specs.Framing.{Frame, IsFrame, header_of, spelled, encoding_of, frame, bad_length, bad_encoding, first_of, length_in, encoding_in, order_of, BeginsWith, IsBadLength, IsBadEncoding, IsBytes}
+use Rattle.sofh_frame.specs.Framing.{Frame, IsFrame, header_of, spelled, encoding_of, First, frame, rest, bad_length, bad_encoding, first_of, length_in, encoding_in, order_of, BeginsWith, IfFrame, IsBadLength, IsBadEncoding, IsBytes}
 
 -- a frame's parts, as its numbers give them
 pub record FrameParts (bytes : List ℕ) (order : Order) (message : List ℕ) (size : ℕ) : Type 0 where
@@ -98,6 +98,13 @@ begins-frame bytes f size are_bytes e =
       counts = counted;
       admissible = IsFrame-frame bytes f.order f.message size e;
     }
+
+-- the same, by the answer's cases
+pub IfFrame-begins : (bytes : List ℕ) (first : First) → IsBytes bytes → first ≡ first_of bytes → IfFrame first (BeginsWith bytes)
+IfFrame-begins bytes (frame order message size) are_bytes e = begins-frame bytes (record { order = order; message = message }) size are_bytes (sym e)
+IfFrame-begins bytes rest are_bytes e = tt
+IfFrame-begins bytes (bad_length n) are_bytes e = tt
+IfFrame-begins bytes (bad_encoding encoding) are_bytes e = tt
 
 at_end : (n : ℕ) → 6 + n - 6 ≡ n
 at_end n = omega arith

@@ -1,9 +1,9 @@
 //! A buffer that takes bytes in pieces of any size, and shows the first frame of those that it holds.
 //! It relies on the first frame of a slice.
 
-ghost use Rattle.std.specs.Prelude.{◌≡◌, ℕ, [], ◌++◌, ◌+◌, ◌≤◌, ◌↔◌, length, take, drop, IfOk};
+ghost use Rattle.std.specs.Prelude.{◌≡◌, ℕ, [], ◌++◌, ◌+◌, ◌≤◌, length, take, drop, IfOk};
 ghost use Rattle.std.specs.Borrow.{sem};
-ghost use Rattle.sofh_frame.specs.Framing.{first_of, Frame, frame, BeginsWith};
+ghost use Rattle.sofh_frame.specs.Framing.{first_of, Frame, frame, BeginsWith, IfFrame};
 ghost use Rattle.sofh_frame.specs.FirstFrame.{seen};
 ghost use Rattle.sofh_frame.specs.Lending.{LendsRoom};
 
@@ -75,8 +75,9 @@ impl Framer {
     /// The first frame of the bytes held, as `next` answers it.
     pub fn peek(&self) -> FirstFrame<'_>
         ensures exact { seen result ≡ first_of self.now.held }
-        ensures whole { (f : Frame) (size : ℕ) →
-            (seen result ≡ frame f.order f.message size) ↔ BeginsWith self.now.held f size }
+        ensures found { IfFrame (seen result) (BeginsWith self.now.held) }
+        ensures only { (f : Frame) (size : ℕ) → BeginsWith self.now.held f size
+            → seen result ≡ frame f.order f.message size }
         ensures size { length self.now.room + length self.now.held ≡ ROOM }
     {
         next(&self.buffer[self.start..self.end])

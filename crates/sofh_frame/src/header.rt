@@ -2,7 +2,7 @@
 //! Nothing is copied: a frame's message is lent from the slice.
 
 ghost use Rattle.std.specs.Prelude.{◌≡◌, ℕ, ◌≤◌, ◌↔◌, length};
-ghost use Rattle.sofh_frame.specs.Framing.{first_of, Frame, frame, rest, bad_length, bad_encoding, BeginsWith, IsRest, IsBadLength, IsBadEncoding, frame_in, order_of, length_in, encoding_in};
+ghost use Rattle.sofh_frame.specs.Framing.{first_of, Frame, frame, rest, bad_length, bad_encoding, BeginsWith, IfFrame, IsRest, IsBadLength, IsBadEncoding, frame_in, order_of, length_in, encoding_in};
 ghost use Rattle.sofh_frame.specs.FirstFrame.{seen};
 
 use crate::Order;
@@ -111,8 +111,9 @@ fn first_frame<'a>(bytes: &'a [u8]) -> FirstFrame<'a>
 /// The first frame of `bytes`, or why there is none.
 pub fn next<'a>(bytes: &'a [u8]) -> FirstFrame<'a>
     ensures exact { seen result ≡ first_of bytes.now }
-    ensures whole { (f : Frame) (size : ℕ) →
-        (seen result ≡ frame f.order f.message size) ↔ BeginsWith bytes.now f size }
+    ensures found { IfFrame (seen result) (BeginsWith bytes.now) }
+    ensures only { (f : Frame) (size : ℕ) → BeginsWith bytes.now f size
+        → seen result ≡ frame f.order f.message size }
     ensures rest { (seen result ≡ rest) ↔ IsRest bytes.now }
     ensures bad_length { (n : ℕ) → (seen result ≡ bad_length n) ↔ IsBadLength bytes.now n }
     ensures bad_encoding { (e : ℕ) → (seen result ≡ bad_encoding e) ↔ IsBadEncoding bytes.now e }
