@@ -1,10 +1,10 @@
 -- Writing into the room behind the bytes that are held.
-use Rattle.std.proofs.Common.{◌≡◌, ℕ, ◌+◌, ◌-◌, ◌<◌, ◌≤◌, zero, suc, List, [], ◌∷◌, ◌++◌, length, take, drop, refl, sym, ◌∙◌, ap, append_assoc, arith}
+use Rattle.std.proofs.Common.{◌≡◌, ℕ, ◌+◌, ◌-◌, ◌≤◌, zero, suc, List, [], ◌∷◌, ◌++◌, length, take, drop, refl, sym, ◌∙◌, ap, append_assoc, arith}
 use Rattle.std.proofs.lemmas.List.{take-append-drop, length-append, length-take, length-drop, drop-append-le, take-append-le, take-take, drop-take, drop-drop}
 use Rattle.std.specs.List.{slice_range}
 use Rattle.std.proofs.lemmas.Bool.Decides.{nat_tests}
 use Rattle.std.proofs.Math.Seq.{drop-append_seam, take-append_seam}
-use Rattle.sofh_frame.specs.Buffered.{Buffered, written_over}
+use Rattle.sofh_frame.specs.Buffered.{Buffered, buffered, written_over, IsPlaced}
 
 -- what is written over a list, as far as some of its elements: the rest of the list plays no part
 take-written : (n : ℕ) (bytes items : List ℕ) → take n (bytes ++ drop (length bytes) items) ≡ take n (bytes ++ drop (length bytes) (take n items))
@@ -55,24 +55,27 @@ slice_range-take items n start end ordered within =
     ∙ take-take (end - start) (n - start) (drop start items) (omega arith)
 
 -- a framer whose room is written keeps what it holds
-pub view-written : (items bytes : List ℕ) (len start end : ℕ) → start ≤ end → end ≤ start + 32780 → start + 32780 ≤ len → length items ≡ len →
+pub buffered-written : (items bytes : List ℕ) (len start end : ℕ) → len ≡ length items → IsPlaced start end len →
     let written = take end items ++ (bytes ++ drop (length bytes) (drop end items)) in
-    let all = take len (written ++ drop (length written) items) in
-    ◌≡◌ {A = Buffered} (record { held = slice_range all start end; room = slice_range all end (start + 32780) }) (record { held = slice_range items start end; room = written_over (slice_range items end (start + 32780)) bytes })
-view-written items bytes len start end ordered short within counted =
+    let old = buffered items start end in
+    buffered (take len (written ++ drop (length written) items)) start end ≡ record old { room = written_over old.room bytes }
+buffered-written items bytes len start end counted placed =
+    let stop = start + 32780 in
     let behind = bytes ++ drop (length bytes) (drop end items) in
     let written = take end items ++ behind in
     let more = drop (length written) items in
+    let all = take len (written ++ more) in
     let joined : written ++ more ≡ take end items ++ (behind ++ more) = append_assoc (take end items) behind more in
-    let held : slice_range (take len (written ++ more)) start end ≡ slice_range items start end =
-    slice_range-take (written ++ more) len start end ordered (omega arith)
+    let within : stop ≤ length items = omega (arith, placed.front, placed.whole) in
+    let held : slice_range all start end ≡ slice_range items start end =
+    slice_range-take (written ++ more) len start end placed.ordered (omega (arith, placed.short))
     ∙ ap (λ (xs : List ℕ). slice_range xs start end) joined
-    ∙ held-written items (behind ++ more) start end ordered (omega arith) in
-    let room : slice_range (take len (written ++ more)) end (start + 32780) ≡ written_over (slice_range items end (start + 32780)) bytes =
-    slice_range-take (written ++ more) len end (start + 32780) short within
-    ∙ ap (λ (xs : List ℕ). slice_range xs end (start + 32780)) joined
-    ∙ room-written items bytes more end (start + 32780) short (omega arith) in
-    ap (λ (xs : List ℕ). let b : Buffered = record { held = xs; room = slice_range (take len (written ++ more)) end (start + 32780) } in b) held
+    ∙ held-written items (behind ++ more) start end placed.ordered (omega (arith, placed.short)) in
+    let room : slice_range all end stop ≡ written_over (slice_range items end stop) bytes =
+    slice_range-take (written ++ more) len end stop placed.short (omega arith)
+    ∙ ap (λ (xs : List ℕ). slice_range xs end stop) joined
+    ∙ room-written items bytes more end stop placed.short within in
+    ap (λ (xs : List ℕ). let b : Buffered = record { held = xs; room = slice_range all end stop } in b) held
     ∙ ap (λ (xs : List ℕ). let b : Buffered = record { held = slice_range items start end; room = xs } in b) room
 
 -- a range without its first elements
@@ -83,5 +86,18 @@ slice_range-drop items n start end within =
     ∙ drop-take n (end - (start + n)) (drop start items)
     ∙ ap (take (end - (start + n))) (drop-drop n start items))
 
-pub length-slice_range : (items : List ℕ) (start end : ℕ) → end ≤ length items → length (slice_range items start end) ≡ end - start
+length-slice_range : (items : List ℕ) (start end : ℕ) → end ≤ length items → length (slice_range items start end) ≡ end - start
 length-slice_range items start end within = simp (length-take, length-drop) (omega arith)
+
+-- how much is held, and how much room there is
+pub length-held : (items : List ℕ) (b : Buffered) (len start end : ℕ) → len ≡ length items → IsPlaced start end len → buffered items start end ≡ b → length b.held ≡ end - start
+length-held items b len start end counted placed view_is =
+    ap (λ (c : Buffered). length c.held) (sym view_is) ∙ length-slice_range items start end (omega (arith, placed.short, placed.front, placed.whole))
+
+pub length-room : (items : List ℕ) (b : Buffered) (len start end : ℕ) → len ≡ length items → IsPlaced start end len → buffered items start end ≡ b → length b.room ≡ start + 32780 - end
+length-room items b len start end counted placed view_is =
+    ap (λ (c : Buffered). length c.room) (sym view_is) ∙ length-slice_range items end (start + 32780) (omega (arith, placed.front, placed.whole))
+
+-- what stands behind the bytes held is the room
+pub room-buffered : (items bytes : List ℕ) (b : Buffered) (start end : ℕ) → bytes ≡ slice_range items end (start + 32780) → buffered items start end ≡ b → bytes ≡ b.room
+room-buffered items bytes b start end bytes_are view_is = bytes_are ∙ ap (λ (c : Buffered). c.room) view_is

@@ -1,7 +1,6 @@
 -- What the first frame of some bytes says of them, and that more bytes behind it change nothing.
-use Rattle.std.proofs.Common.{◌≡◌, ◌≢◌, ℕ, ◌+◌, ◌-◌, ◌^◌, ◌<◌, ◌≤◌, ◌⊎◌, inl, inr, ◌↔◌, List, [], ◌∷◌, ◌++◌, length, take, drop, get_or, Bool, true, false, cond, Option, Some, None, IsSome, refl, sym, ◌∙◌, ap, subst, All, arith, append_assoc, Fits, w8}
+use Rattle.std.proofs.Common.{◌≡◌, ℕ, ◌+◌, ◌-◌, ◌^◌, ◌<◌, ◌≤◌, List, ◌++◌, length, take, drop, get_or, Some, refl, sym, ◌∙◌, ap, arith, append_assoc, Fits, w8}
 use Rattle.std.specs.Int.{w16, w32, from_be_bytes, to_be_bytes}
-use Rattle.std.specs.List.{slice_range}
 use Rattle.std.proofs.lemmas.Bool.Decides.{nat_tests}
 use Rattle.std.proofs.lemmas.Grind.{common_steps}
 use Rattle.std.proofs.lemmas.List.{take-append-drop, length-append, length-take, length-drop, drop-drop, take-append-le, drop-append-le, get_or_past, get_or_default}
@@ -11,7 +10,7 @@ use Rattle.std.proofs.lemmas.List.Elements.{All-take, All-drop}
 use Rattle.std.proofs.lemmas.Nat.{be_bytes_2, be_bytes_4, from_be_bytes-to_be_bytes_2, from_be_bytes-to_be_bytes_4}
 use Rattle.sofh_frame.specs.declared.Order.{Order}
 use Rattle.sofh_frame.specs.declared.Order.TheVariants.{Little, Big}
-use Rattle.sofh_frame.specs.Framing.{Frame, IsFrame, header_of, spelled, encoding_of, First, frame, rest, bad_length, bad_encoding, first_of, length_in, encoding_in, order_of, BeginsWith, IsBadLength, IsBadEncoding, IsBytes}
+use Rattle.sofh_frame.specs.Framing.{Frame, IsFrame, header_of, spelled, encoding_of, First, frame, rest, bad_length, bad_encoding, first_of, length_in, encoding_in, order_of, BeginsWith, IfFrame, IsBadLength, IsBadEncoding, IsBytes}
 
 -- a frame's parts, as its numbers give them
 pub record FrameParts (bytes : List ℕ) (order : Order) (message : List ℕ) (size : ℕ) : Type 0 where
@@ -74,19 +73,38 @@ header_of-numbers bytes f are_bytes there length_is encoding_is =
     let two : to_be_bytes w16 (encoding_of f.order) ≡ take 2 (drop 4 bytes) = be_bytes_2 (take 2 (drop 4 bytes)) _ (let long : length (take 2 (drop 4 bytes)) ≡ 2 = simp (length-take, length-drop) (omega arith) in long) (each_byte (take 2 (drop 4 bytes)) (All-take (λ b. b < 256) 2 (drop 4 bytes) (All-drop (λ b. b < 256) 4 bytes are_bytes))) (sym encoding_is) in
     ap (λ (xs : List ℕ). xs ++ to_be_bytes w16 (encoding_of f.order)) four ∙ ap (λ (xs : List ℕ). take 4 bytes ++ xs) two
 
+-- a frame's size counts the header and the message, and is all there
+pub counts-frame : (bytes : List ℕ) (order : Order) (message : List ℕ) (size : ℕ) → first_of bytes ≡ frame order message size → size ≡ 6 + length message
+counts-frame bytes order message size e =
+    let parts = parts-frame bytes order message size e in
+    omega (arith, simp (length-take, length-drop) at (ap length parts.between), parts.least, parts.there)
+
+pub IsFrame-frame : (bytes : List ℕ) (order : Order) (message : List ℕ) (size : ℕ) → first_of bytes ≡ frame order message size → IsFrame (record { order = order; message = message })
+IsFrame-frame bytes order message size e =
+    let parts = parts-frame bytes order message size e in
+    let counted = counts-frame bytes order message size e in
+    record { least = omega (arith, counted, parts.least); most = omega (arith, counted, parts.most) }
+
 -- what is found is spelled
 pub begins-frame : (bytes : List ℕ) (f : Frame) (size : ℕ) → IsBytes bytes → first_of bytes ≡ frame f.order f.message size → BeginsWith bytes f size
 begins-frame bytes f size are_bytes e =
     let parts = parts-frame bytes f.order f.message size e in
-    let counted : size ≡ 6 + length f.message = omega (arith, simp (length-take, length-drop) at (ap length parts.between), parts.least, parts.there) in
+    let counted = counts-frame bytes f.order f.message size e in
     let header_is : header_of f ≡ take 4 bytes ++ take 2 (drop 4 bytes) = header_of-numbers bytes f are_bytes parts.header (parts.states ∙ counted) (encoding_of-order_of (encoding_in bytes) f.order parts.known) in
     let behind : drop 6 bytes ≡ take (size - 6) (drop 6 bytes) ++ drop size bytes = drop_split bytes 6 size (omega (arith, parts.least)) in
     let twice : drop 2 (drop 4 bytes) ≡ drop 6 bytes = drop-drop 2 4 bytes in
     record {
       spells = rw (header_is, parts.between) (simp append_assoc (rw (← behind, ← twice, take-append-drop 2 (drop 4 bytes), take-append-drop 4 bytes) refl));
       counts = counted;
-      admissible = record { least = omega (arith, counted, parts.least); most = omega (arith, counted, parts.most) };
+      admissible = IsFrame-frame bytes f.order f.message size e;
     }
+
+-- the same, by the answer's cases
+pub IfFrame-begins : (bytes : List ℕ) (first : First) → IsBytes bytes → first ≡ first_of bytes → IfFrame first (BeginsWith bytes)
+IfFrame-begins bytes (frame order message size) are_bytes e = begins-frame bytes (record { order = order; message = message }) size are_bytes (sym e)
+IfFrame-begins bytes rest are_bytes e = tt
+IfFrame-begins bytes (bad_length n) are_bytes e = tt
+IfFrame-begins bytes (bad_encoding encoding) are_bytes e = tt
 
 at_end : (n : ℕ) → 6 + n - 6 ≡ n
 at_end n = omega arith

@@ -1,25 +1,17 @@
 -- Reading the frames of a stream one by one, from bytes that come in pieces.
-use Rattle.std.proofs.Common.{◌≡◌, ℕ, ◌+◌, ◌-◌, ◌<◌, ◌≤◌, List, [], ◌∷◌, ◌++◌, length, take, drop, refl, sym, ◌∙◌, ap, subst, arith, append_assoc, take-add, get_or, Bor}
+use Rattle.std.proofs.Common.{◌≡◌, ℕ, ◌+◌, ◌<◌, ◌≤◌, List, [], ◌∷◌, ◌++◌, length, take, drop, refl, sym, ◌∙◌, ap, subst, arith, append_assoc, take-add, get_or, Bor}
 use Rattle.std.specs.List.{AllByRecursion}
 use Rattle.std.proofs.lemmas.List.{length-append, append-nil, take-append-drop, take_all}
 use Rattle.std.proofs.Math.Seq.{take-length}
 use Rattle.std.proofs.lemmas.Grind.{flat_map-append, take_at_read}
-use Rattle.sofh_frame.specs.Framing.{Frame, IsFrame, spelled, First, frame, rest, bad_length, bad_encoding, first_of, BeginsWith}
+use Rattle.sofh_frame.specs.Framing.{Frame, IsFrame, spelled, First, rest, first_of, BeginsWith}
 use Rattle.sofh_frame.specs.Splits.{spelled_all, place_behind, IsNoFrame, IsSplit, frames_of, tail_of}
 use Rattle.sofh_frame.specs.OwnedSplit.{frames_seen, end_seen, joined, SplitsAs, IsRead, IsEndAt}
 use Rattle.sofh_frame.specs.declared.pieces.Split.{Split}
 use Rattle.sofh_frame.specs.declared.pieces.End.{End}
 use Rattle.sofh_frame.specs.declared.pieces.End.TheVariants.{Rest, BadLength, BadEncoding}
 use Rattle.sofh_frame.proofs.FramingLemmas.{bad_length-append, bad_encoding-append}
-use Rattle.sofh_frame.proofs.SplitLemmas.{length-spelled, frames_of-split, tail_of-split}
-
--- one more frame behind others
-pub spelled_all-push : (frames : List Frame) (f : Frame) → spelled_all (frames ++ f ∷ []) ≡ spelled_all frames ++ spelled f
-spelled_all-push frames f = flat_map-append spelled frames (f ∷ []) ∙ ap (λ (xs : List ℕ). spelled_all frames ++ xs) (append-nil (spelled f))
-
-AllByRecursion-push : (frames : List Frame) (f : Frame) → AllByRecursion IsFrame frames → IsFrame f → AllByRecursion IsFrame (frames ++ f ∷ [])
-AllByRecursion-push [] f each admissible = (admissible, tt)
-AllByRecursion-push (g ∷ frames) f each admissible = (each.0, AllByRecursion-push frames f each.1 admissible)
+use Rattle.sofh_frame.proofs.SplitLemmas.{length-spelled, spelled_all-push, AllByRecursion-push, frames_of-split, tail_of-split}
 
 -- the frame at the front goes behind those of the split
 pub IsRead-push : (bytes : List ℕ) (old new : Split) (held left : List ℕ) (f : Frame) (size : ℕ) → frames_seen new.frames.items ≡ frames_seen old.frames.items ++ f ∷ [] → new.at ≡ old.at + size → left ≡ drop size held → BeginsWith held f size → IsRead bytes old held → IsRead bytes new left

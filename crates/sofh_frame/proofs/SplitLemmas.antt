@@ -1,13 +1,13 @@
 -- A list of bytes has one split into frames and a tail, and it is found from the front.
-use Rattle.std.proofs.Common.{◌≡◌, ◌↔◌, ℕ, zero, suc, ◌+◌, ◌-◌, ◌<◌, ◌≤◌, List, [], ◌∷◌, ◌++◌, length, take, drop, refl, sym, ◌∙◌, ap, subst, arith, append_assoc}
-use Rattle.std.specs.List.{flat_map, AllByRecursion}
-use Rattle.std.proofs.lemmas.List.{length-append, length-drop}
+use Rattle.std.proofs.Common.{◌≡◌, ℕ, zero, suc, ◌+◌, ◌<◌, ◌≤◌, List, [], ◌∷◌, ◌++◌, length, drop, refl, sym, ◌∙◌, ap, subst, arith, append_assoc}
+use Rattle.std.specs.List.{AllByRecursion}
+use Rattle.std.proofs.lemmas.List.{length-append, length-drop, drop-drop, append-nil}
 use Rattle.std.proofs.lemmas.List.Elements.{All-drop}
 use Rattle.std.proofs.lemmas.Grind.{flat_map-append}
 use Rattle.std.proofs.Math.Seq.{drop-append_seam}
-use Rattle.sofh_frame.specs.Framing.{Frame, IsFrame, header_of, spelled, IsBytes, First, frame, rest, bad_length, bad_encoding, first_of, BeginsWith}
+use Rattle.sofh_frame.specs.Framing.{Frame, IsFrame, header_of, spelled, IsBytes, First, frame, rest, bad_length, bad_encoding, first_of}
 use Rattle.sofh_frame.specs.Splits.{spelled_all, place_behind, IsNoFrame, IsSplit, frames_from, frames_within, frames_of, tail_of, SplitsAreOne, BytesAreSplit, SplitBegins}
-use Rattle.sofh_frame.proofs.FramingLemmas.{length-header_of, begins-frame, frame-begins}
+use Rattle.sofh_frame.proofs.FramingLemmas.{length-header_of, counts-frame, IsFrame-frame, begins-frame, frame-begins}
 
 -- a frame has 6 bytes more than its message
 pub length-spelled : (f : Frame) → length (spelled f) ≡ 6 + length f.message
@@ -16,6 +16,14 @@ length-spelled f = length-append (header_of f) f.message ∙ ap (λ (n : ℕ). n
 -- behind a frame stands what was put there
 pub drop-spelled : (f : Frame) (more : List ℕ) → drop (6 + length f.message) (spelled f ++ more) ≡ more
 drop-spelled f more = ap (λ (n : ℕ). drop n (spelled f ++ more)) (sym (length-spelled f)) ∙ drop-append_seam (spelled f) more
+
+-- one more frame behind others
+pub spelled_all-push : (frames : List Frame) (f : Frame) → spelled_all (frames ++ f ∷ []) ≡ spelled_all frames ++ spelled f
+spelled_all-push frames f = flat_map-append spelled frames (f ∷ []) ∙ ap (λ (xs : List ℕ). spelled_all frames ++ xs) (append-nil (spelled f))
+
+pub AllByRecursion-push : (frames : List Frame) (f : Frame) → AllByRecursion IsFrame frames → IsFrame f → AllByRecursion IsFrame (frames ++ f ∷ [])
+AllByRecursion-push [] f each admissible = (admissible, tt)
+AllByRecursion-push (g ∷ frames) f each admissible = (each.0, AllByRecursion-push frames f each.1 admissible)
 
 -- a frame in front of a split
 pub IsSplit-cons : (bytes : List ℕ) (f : Frame) (more : List ℕ) (frames : List Frame) (tail : List ℕ) → bytes ≡ spelled f ++ more → IsFrame f → IsSplit more frames tail → IsSplit bytes (f ∷ frames) tail
@@ -120,3 +128,60 @@ pub split_begins : SplitBegins
 split_begins bytes f size are_bytes e frames tail =
     let begins = begins-frame bytes f size are_bytes e in
     (IsSplit-tail bytes f size frames tail begins.counts, IsSplit-cons bytes f (drop size bytes) frames tail begins.spells begins.admissible)
+
+-- two ways on that agree behind every frame give the same frames
+same_behind : (bytes : List ℕ) (first : First) (one other : ℕ → List Frame) → first_of bytes ≡ first → ((size : ℕ) → 14 ≤ size → one size ≡ other size) → frames_from first one ≡ frames_from first other
+same_behind bytes (frame order message size) one other e same =
+    let counted = counts-frame bytes order message size e in
+    let admissible = IsFrame-frame bytes order message size e in
+    ap (λ (fs : List Frame). let f : Frame = record { order = order; message = message } in f ∷ fs) (same size (omega (arith, counted, admissible.least)))
+same_behind bytes rest one other e same = refl
+same_behind bytes (bad_length n) one other e same = refl
+same_behind bytes (bad_encoding encoding) one other e same = refl
+
+-- a longer search finds no more frames
+frames_within-enough : (count more : ℕ) (bytes : List ℕ) → length bytes ≤ count → length bytes ≤ more → frames_within count bytes ≡ frames_within more bytes
+unfolding frames_within
+frames_within-enough zero zero bytes short within = refl
+frames_within-enough zero (suc more) [] short within = refl
+frames_within-enough zero (suc more) (b ∷ bytes) short within = absurd (omega arith)
+frames_within-enough (suc count) zero [] short within = refl
+frames_within-enough (suc count) zero (b ∷ bytes) short within = absurd (omega arith)
+frames_within-enough (suc count) (suc more) bytes short within =
+    same_behind bytes (first_of bytes) (λ size. frames_within count (drop size bytes)) (λ size. frames_within more (drop size bytes)) refl
+    (λ size least. frames_within-enough count more (drop size bytes) (omega (arith, length-drop size bytes)) (omega (arith, length-drop size bytes)))
+
+-- the frames of bytes that begin with a frame: it, and those of what is behind it
+pub frames_of-front : (f : Frame) (behind : List ℕ) → IsFrame f → frames_of (spelled f ++ behind) ≡ f ∷ frames_of behind
+unfolding frames_of frames_within
+frames_of-front f behind admissible =
+    let bytes = spelled f ++ behind in
+    let long : length behind ≤ length bytes = omega (arith, length-append (spelled f) behind) in
+    frames_within-enough (length bytes) (suc (length bytes)) bytes (omega arith) (omega arith)
+    ∙ ap (λ (first : First). frames_from first (λ size. frames_within (length bytes) (drop size bytes))) (frame-begins f behind admissible)
+    ∙ ap (λ (xs : List ℕ). f ∷ frames_within (length bytes) xs) (drop-spelled f behind)
+    ∙ ap (λ (fs : List Frame). f ∷ fs) (frames_within-enough (length bytes) (length behind) behind long (omega arith))
+
+-- the same for several frames
+pub frames_of-spelled_all : (frames : List Frame) (behind : List ℕ) → AllByRecursion IsFrame frames → frames_of (spelled_all frames ++ behind) ≡ frames ++ frames_of behind
+frames_of-spelled_all [] behind each = refl
+frames_of-spelled_all (f ∷ frames) behind each =
+    ap frames_of (append_assoc (spelled f) (spelled_all frames) behind)
+    ∙ frames_of-front f (spelled_all frames ++ behind) each.0
+    ∙ ap (λ (fs : List Frame). f ∷ fs) (frames_of-spelled_all frames behind each.1)
+
+pub tail_of-spelled_all : (frames : List Frame) (behind : List ℕ) → AllByRecursion IsFrame frames → tail_of (spelled_all frames ++ behind) ≡ tail_of behind
+unfolding tail_of
+tail_of-spelled_all frames behind each =
+    let all = spelled_all frames ++ behind in
+    let place : place_behind (frames_of all) ≡ place_behind frames + place_behind (frames_of behind) =
+    ap place_behind (frames_of-spelled_all frames behind each)
+    ∙ ap length (flat_map-append spelled frames (frames_of behind))
+    ∙ length-append (spelled_all frames) (spelled_all (frames_of behind)) in
+    ap (λ (n : ℕ). drop n all) place
+    ∙ sym (drop-drop (place_behind (frames_of behind)) (place_behind frames) all)
+    ∙ ap (drop (place_behind (frames_of behind))) (drop-append_seam (spelled_all frames) behind)
+
+-- where no frame stands at the front there is none, and all of the bytes follow
+pub frames_of-none : (bytes : List ℕ) → IsNoFrame (first_of bytes) → frames_of bytes ≡ []
+frames_of-none bytes none = frames_of-split bytes [] bytes (record { joins = refl; each = tt; ends = none })

@@ -1,10 +1,14 @@
 -- What a framer holds, and the room that it lends.
-use Rattle.std.specs.Prelude.{◌≡◌, ◌==◌, if◌then◌else◌, ℕ, ◌+◌, ◌≤◌, List, ◌++◌, length, take, drop}
+use Rattle.std.specs.Prelude.{◌≡◌, ◌==◌, if◌then◌else◌, ℕ, ◌+◌, ◌≤◌, List, ◌++◌, length, take, drop, slice_range}
 
 -- the bytes held, and those that may be filled in behind them
 pub record Buffered : Type 0 where
   pub held : List ℕ
   pub room : List ℕ
+
+-- what stands in a buffer from start to end, and the 32,780 bytes from start on that are not held
+abbrev pub buffered : List ℕ → ℕ → ℕ → Buffered
+buffered items start end = record { held = slice_range items start end; room = slice_range items end (start + 32780) }
 
 -- the room once a borrower has left these bytes in it: a slice keeps its length, so they are as many as the room;
 -- were they others, they would be cut, or filled up from the room

@@ -1,5 +1,5 @@
 -- The framing header and the first frame of a list of bytes (Simple Open Framing Header, "Message Length" and "Encoding Type").
-use Rattle.std.specs.Prelude.{◌≡◌, ◌≢◌, ℕ, ◌+◌, ◌<◌, ◌≤◌, ◌⊎◌, nat_lt, nat_le, ◌&&◌, ◌==◌, if◌then◌else◌, Bool, Option, Some, None, IsSome, All, List, ◌++◌, length, take, drop, slice_range}
+use Rattle.std.specs.Prelude.{⊤, ◌≡◌, ◌≢◌, ℕ, ◌+◌, ◌<◌, ◌≤◌, ◌⊎◌, nat_lt, nat_le, ◌&&◌, ◌==◌, if◌then◌else◌, Bool, Option, Some, None, IsSome, All, List, ◌++◌, length, take, drop, slice_range}
 use Rattle.std.specs.Int.{w16, w32, from_be_bytes, to_be_bytes}
 use Rattle.sofh_frame.specs.declared.Order.{Order}
 use Rattle.sofh_frame.specs.declared.Order.TheVariants.{Little, Big}
@@ -75,6 +75,13 @@ pub record BeginsWith (bytes : List ℕ) (f : Frame) (size : ℕ) : Type 0 where
   pub spells : bytes ≡ spelled f ++ drop size bytes
   pub counts : size ≡ 6 + length f.message
   pub admissible : IsFrame f
+
+-- a fact for a frame and its size, where one stands at the front
+abbrev pub IfFrame : First → (Frame → ℕ → Type 0) → Type 0
+IfFrame (frame order message size) P = P (record { order = order; message = message }) size
+IfFrame rest P = ⊤
+IfFrame (bad_length n) P = ⊤
+IfFrame (bad_encoding encoding) P = ⊤
 
 -- fewer than 4 bytes; or an admissible length, and fewer than 6 bytes; or both numbers admissible, and fewer bytes than the length
 abbrev pub IsRest : List ℕ → Type 0

@@ -1,5 +1,5 @@
 -- The room that a framer lends.
-use Rattle.std.specs.Prelude.{◌≡◌, ℕ, List}
+use Rattle.std.specs.Prelude.{ℕ, List}
 use Rattle.std.specs.Borrow.{Lends, MutBor, Fml, Array, u8}
 use Rattle.sofh_frame.specs.Buffered.{Buffered, written_over}
 use Rattle.sofh_frame.specs.contracts.buffer.Framer.{the_row}

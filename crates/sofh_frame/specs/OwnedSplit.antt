@@ -1,5 +1,5 @@
 -- What a split that owns its messages says, without where these lie in memory.
-use Rattle.std.specs.Prelude.{◌≡◌, ℕ, List, [], ◌∷◌, ◌++◌, map}
+use Rattle.std.specs.Prelude.{◌≡◌, ℕ, List, ◌++◌, map}
 use Rattle.std.specs.List.{flat_map, AllByRecursion}
 use Rattle.std.specs.Borrow.{Bor}
 use Rattle.sofh_frame.specs.Framing.{Frame, First, rest, bad_length, bad_encoding, first_of, IsFrame}

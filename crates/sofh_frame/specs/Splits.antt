@@ -1,5 +1,5 @@
 -- A whole list of bytes as frames, one behind another, and what follows them (Simple Open Framing Header).
-use Rattle.std.specs.Prelude.{◌≡◌, ◌↔◌, ℕ, zero, suc, ◌+◌, List, [], ◌∷◌, ◌++◌, length, drop}
+use Rattle.std.specs.Prelude.{◌≡◌, ◌↔◌, ℕ, zero, suc, List, [], ◌∷◌, ◌++◌, length, drop}
 use Rattle.std.specs.List.{flat_map, AllByRecursion}
 use Rattle.sofh_frame.specs.Framing.{Frame, IsFrame, spelled, IsBytes, First, frame, rest, bad_length, bad_encoding, first_of}
 

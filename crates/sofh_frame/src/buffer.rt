@@ -3,7 +3,7 @@
 
 ghost use Rattle.std.specs.Prelude.{◌≡◌, ℕ, [], ◌++◌, ◌+◌, ◌≤◌, ◌↔◌, length, take, drop, IfOk, IsTrue};
 ghost use Rattle.std.specs.Borrow.{sem};
-ghost use Rattle.sofh_frame.specs.Framing.{first_of, Frame, frame, BeginsWith};
+ghost use Rattle.sofh_frame.specs.Framing.{first_of, Frame, frame, BeginsWith, IfFrame};
 ghost use Rattle.sofh_frame.specs.FirstFrame.{seen};
 ghost use Rattle.sofh_frame.specs.Lending.{LendsRoom};
 
@@ -20,18 +20,19 @@ const BUFFER: usize = 2 * ROOM;
 /// Bytes that wait to be read as frames, and room for more.
 #[derive(Drop)]
 pub struct Framer {
+    /// `BUFFER` bytes, of which those from `start` to `end` are held.
     buffer: Vec<u8>,
     start: usize,
     end: usize,
 }
 
 impl Model for Framer {
-    ghost use Rattle.std.specs.Prelude.{◌+◌, slice_range, vec_len};
-    ghost use Rattle.sofh_frame.specs.Buffered.{Buffered, IsPlaced};
+    ghost use Rattle.std.specs.Prelude.{vec_len};
+    ghost use Rattle.sofh_frame.specs.Buffered.{Buffered, buffered, IsPlaced};
 
     ghost Value = { Buffered };
 
-    ghost view = { λ f. record { held = slice_range f.buffer.items f.start f.end; room = slice_range f.buffer.items f.end (f.start + 32780) } };
+    ghost view = { λ f. buffered f.buffer.items f.start f.end };
 
     ghost invariant = { λ f. IsPlaced f.start f.end (vec_len f.buffer) };
 }
@@ -69,7 +70,7 @@ impl Framer {
         self.buffer.slice_mut(self.end..stop)
     }
 
-    /// Takes the first `n` bytes of the room behind those that are held.
+    /// Holds the first `n` bytes of the room too, behind the others; `n` is at most the room's length.
     pub fn filled(&mut self, n: usize)
         requires { n ≤ length self.old.room }
         ensures held { self.new.held ≡ self.old.held ++ take n self.old.room }
@@ -81,14 +82,16 @@ impl Framer {
     /// The first frame of the bytes held, as `next` answers it.
     pub fn peek(&self) -> FirstFrame<'_>
         ensures exact { seen result ≡ first_of self.now.held }
-        ensures whole { (f : Frame) (size : ℕ) →
-            (seen result ≡ frame f.order f.message size) ↔ BeginsWith self.now.held f size }
+        ensures found { IfFrame (seen result) (BeginsWith self.now.held) }
+        ensures only { (f : Frame) (size : ℕ) → BeginsWith self.now.held f size
+            → seen result ≡ frame f.order f.message size }
         ensures size { length self.now.room + length self.now.held ≡ ROOM }
     {
         next(&self.buffer[self.start..self.end])
     }
 
-    /// Forgets the first `n` bytes held. The others move at most once for each `ROOM` bytes that are dropped.
+    /// Forgets the first `n` bytes held, which are at most all of them. The others move only where more
+    /// than `ROOM` bytes were dropped since they moved last.
     pub fn drop_front(&mut self, n: usize)
         requires { n ≤ length self.old.held }
         ensures held { self.new.held ≡ drop n self.old.held }

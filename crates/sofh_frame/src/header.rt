@@ -2,10 +2,25 @@
 //! Nothing is copied: a frame's message is lent from the slice.
 
 ghost use Rattle.std.specs.Prelude.{◌≡◌, ℕ, ◌≤◌, ◌↔◌, length};
-ghost use Rattle.sofh_frame.specs.Framing.{first_of, Frame, frame, rest, bad_length, bad_encoding, BeginsWith, IsRest, IsBadLength, IsBadEncoding, frame_in, order_of, length_in, encoding_in};
+ghost use Rattle.sofh_frame.specs.Framing.{first_of, Frame, frame, rest, bad_length, bad_encoding, BeginsWith, IfFrame, IsRest, IsBadLength, IsBadEncoding, frame_in, order_of, length_in, encoding_in};
 ghost use Rattle.sofh_frame.specs.FirstFrame.{seen};
 
 use crate::Order;
+
+/// The header's size in bytes: 4 of the length and 2 of the encoding type.
+const HEADER_SIZE: usize = 6;
+
+/// The size of the smallest frame in bytes, its header included.
+const LEAST_SIZE: u32 = 14;
+
+/// The size of the largest frame in bytes, its header included.
+const MOST_SIZE: u32 = 16_390;
+
+/// The encoding type of SBE 1.0 with little-endian numbers.
+const LITTLE_ENDIAN: u16 = 0xEB50;
+
+/// The encoding type of SBE 1.0 with big-endian numbers.
+const BIG_ENDIAN: u16 = 0x5BE0;
 
 /// What stands at the front of some bytes (Simple Open Framing Header).
 #[derive(Clone, Copy, Debug, PartialEq, Eq)]
@@ -50,8 +65,8 @@ fn order_named(encoding: u16) -> Option<Order>
     ensures { result ≡ order_of encoding }
 {
     match encoding {
-        0xEB50 => Some(Order::Little),
-        0x5BE0 => Some(Order::Big),
+        LITTLE_ENDIAN => Some(Order::Little),
+        BIG_ENDIAN => Some(Order::Big),
         _ => None,
     }
 }
@@ -72,7 +87,7 @@ fn frame_at_front(bytes: &[u8], size: usize) -> FirstFrame<'_>
     }
     FirstFrame::Frame {
         order,
-        message: &bytes[6..size],
+        message: &bytes[HEADER_SIZE..size],
         size,
     }
 }
@@ -84,10 +99,10 @@ fn first_frame<'a>(bytes: &'a [u8]) -> FirstFrame<'a>
         return FirstFrame::Rest;
     }
     let length = length_at_front(bytes);
-    if length < 14 || length > 16390 {
+    if !(LEAST_SIZE..=MOST_SIZE).contains(&length) {
         return FirstFrame::BadLength(length);
     }
-    if bytes.len() < 6 {
+    if bytes.len() < HEADER_SIZE {
         return FirstFrame::Rest;
     }
     frame_at_front(bytes, length as usize)
@@ -96,8 +111,9 @@ fn first_frame<'a>(bytes: &'a [u8]) -> FirstFrame<'a>
 /// The first frame of `bytes`, or why there is none.
 pub fn next<'a>(bytes: &'a [u8]) -> FirstFrame<'a>
     ensures exact { seen result ≡ first_of bytes.now }
-    ensures whole { (f : Frame) (size : ℕ) →
-        (seen result ≡ frame f.order f.message size) ↔ BeginsWith bytes.now f size }
+    ensures found { IfFrame (seen result) (BeginsWith bytes.now) }
+    ensures only { (f : Frame) (size : ℕ) → BeginsWith bytes.now f size
+        → seen result ≡ frame f.order f.message size }
     ensures rest { (seen result ≡ rest) ↔ IsRest bytes.now }
     ensures bad_length { (n : ℕ) → (seen result ≡ bad_length n) ↔ IsBadLength bytes.now n }
     ensures bad_encoding { (e : ℕ) → (seen result ≡ bad_encoding e) ↔ IsBadEncoding bytes.now e }
