@@ -11,7 +11,7 @@ found c = record { order = c.in-Frame.order; message = c.in-Frame.message.now }
 
 begins : (c : In-Frame) → BeginsWith c.args.self.now.framer.held (found c) c.in-Frame.size
 unfolding found
-begins c = (c.in-Frame.ensures.whole (found c) c.in-Frame.size).0 refl
+begins c = c.in-Frame.ensures.found
 
 pub returns-in-Some-clause-stands : goal.returns-in-Some-clause-stands
 unfolding found
