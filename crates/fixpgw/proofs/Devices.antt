@@ -24,16 +24,16 @@ takes_all old new bytes appended = record { count = length bytes; within = omega
 -- bytes read after others
 pub reads-more : (old mid new : Option (List ℕ)) (bytes : List ℕ) (limit : ℕ) → Consumes old mid bytes → length bytes ≤ limit → ReadsWithin mid new (limit - length bytes) → ReadsWithin old new limit
 reads-more old mid new bytes limit read most more = record {
-    bytes = bytes ++ more.bytes;
-    within = omega (arith, length-append bytes more.bytes, more.within);
-    consumed = Consumes-trans _ _ _ _ _ read more.consumed
-  }
+  bytes = bytes ++ more.bytes;
+  within = omega (arith, length-append bytes more.bytes, more.within);
+  consumed = Consumes-trans _ _ _ _ _ read more.consumed;
+}
 
 -- a text that was read to its end, or past the limit, configures what the whole source does
 pub configures-whole : (old new : Option (List ℕ)) (text whole : List ℕ) → Consumes old new text → (length text ≤ text_limit → IsAtEnd new) → old ≡ Some whole → configuration_of whole ≡ configuration_of text
 configures-whole old new text whole read ends e =
     let t = told old new text whole read e in
     elim (cases_lt text_limit (length text)) as (λ _. configuration_of whole ≡ configuration_of text) [
-      inl long ↦ configuration_of-long whole (omega (arith, ap length t.1, length-append text t.0)) ∙ sym (configuration_of-long text long)
+      | inl long ↦ configuration_of-long whole (omega (arith, ap length t.1, length-append text t.0)) ∙ sym (configuration_of-long text long)
       | inr short ↦ ap configuration_of (t.1 ∙ ap (λ (l : List ℕ). text ++ l) (at_end new t.0 (ends short) t.2) ∙ append-nil text)
     ]

@@ -55,11 +55,11 @@ comparable [] b s t e fa fb sa sb = inl (b, refl)
 comparable (x ∷ a) [] s t e fa fb sa sb = inr (x ∷ a, refl)
 comparable (x ∷ a) (y ∷ b) s t e fa fb sa sb =
     let regrouped : spelled x.frame ++ (spelled_all (frames_in a) ++ s) ≡ spelled y.frame ++ (spelled_all (frames_in b) ++ t) =
-        sym (append_assoc (spelled x.frame) (spelled_all (frames_in a)) s) ∙ e ∙ append_assoc (spelled y.frame) (spelled_all (frames_in b)) t in
+    sym (append_assoc (spelled x.frame) (spelled_all (frames_in a)) s) ∙ e ∙ append_assoc (spelled y.frame) (spelled_all (frames_in b)) t in
     let same : x.frame ≡ y.frame = same_first x.frame y.frame _ _ fa.0 fb.0 regrouped in
     let first : x ≡ y = same_heard x y same sa.0 sb.0 in
     elim (comparable a b s t (same_rest x.frame y.frame _ _ same regrouped) fa.1 fb.1 sa.1 sb.1) as (λ _. Continues (x ∷ a) (y ∷ b) ⊎ Continues (y ∷ b) (x ∷ a)) [
-      inl m ↦ inl (m.0, ap (λ (l : List Heard). y ∷ l) m.1 ∙ ap (λ (h : Heard). h ∷ (a ++ m.0)) (sym first))
+      | inl m ↦ inl (m.0, ap (λ (l : List Heard). y ∷ l) m.1 ∙ ap (λ (h : Heard). h ∷ (a ++ m.0)) (sym first))
       | inr m ↦ inr (m.0, ap (λ (l : List Heard). x ∷ l) m.1 ∙ ap (λ (h : Heard). h ∷ (b ++ m.0)) first)
     ]
 
@@ -89,7 +89,7 @@ next_stage-grows : (cfg : EndConfig) (s : Stage) (h : Heard) → Grows s (next_s
 next_stage-grows cfg s h =
     let o = reply_of cfg greatest_number s.facts h.said s.place in
     elim (is_some s.ending) as (λ b. Grows s (cond b s (answered s h o))) [
-      true ↦ Grows-refl s
+      | true ↦ Grows-refl s
       | false ↦ record { wire = Begins-more s.wire (written_bytes o); out = Begins-more s.out (line_of o.act h.frame) }
     ]
 
@@ -113,7 +113,7 @@ answer_at_end-begins : (cfg : EndConfig) (s : Stage) (tail : List ℕ) (ending :
 answer_at_end-begins cfg s tail (Some e) = (Begins-refl s.wire, Begins-refl s.out)
 answer_at_end-begins cfg s tail None =
     elim (first_of tail) as (λ x. Begins s.wire (tail_answer cfg s tail x).wire × Begins s.out (tail_answer cfg s tail x).out) [
-      frame order message size ↦ (Begins-refl s.wire, Begins-refl s.out)
+      | frame order message size ↦ (Begins-refl s.wire, Begins-refl s.out)
       | rest ↦ (Begins-refl s.wire, Begins-refl s.out)
       | bad_length n ↦ (Begins-more s.wire _, Begins-refl s.out)
       | bad_encoding e ↦ (Begins-more s.wire _, Begins-refl s.out)
@@ -124,7 +124,7 @@ answer_at_end-begins cfg s tail None =
 no_frame : (h : Heard) (heard : List Heard) (tail end : List ℕ) → tail ≡ spelled_all (frames_in (h ∷ heard)) ++ end → IsFrame h.frame → IsNoFrame (first_of tail) → ⊥
 no_frame h heard tail end e of_h none =
     let found : first_of tail ≡ frame h.frame.order h.frame.message (6 + length h.frame.message) =
-        ap first_of (e ∙ append_assoc (spelled h.frame) (spelled_all (frames_in heard)) end) ∙ frame-begins h.frame _ of_h in
+    ap first_of (e ∙ append_assoc (spelled h.frame) (spelled_all (frames_in heard)) end) ∙ frame-begins h.frame _ of_h in
     let P : First → Type 0 = IsNoFrame in
     subst P found none
 
@@ -135,7 +135,7 @@ nothing_more cfg [] [] tail end e each none = refl
 nothing_more cfg [] (h ∷ m) tail end e each none = absurd (no_frame h m tail end e each.0 none)
 nothing_more cfg (y ∷ x) m tail end e each none =
     let regrouped : spelled y.frame ++ (spelled_all (frames_in x) ++ tail) ≡ spelled y.frame ++ (spelled_all (frames_in (x ++ m)) ++ end) =
-        sym (append_assoc (spelled y.frame) (spelled_all (frames_in x)) tail) ∙ e ∙ append_assoc (spelled y.frame) (spelled_all (frames_in (x ++ m))) end in
+    sym (append_assoc (spelled y.frame) (spelled_all (frames_in x)) tail) ∙ e ∙ append_assoc (spelled y.frame) (spelled_all (frames_in (x ++ m))) end in
     nothing_more cfg x m tail end (same_rest y.frame y.frame _ _ refl regrouped) each.1 none
 
 same_tail : (x : List Heard) (s t : List ℕ) → spelled_all (frames_in x) ++ s ≡ spelled_all (frames_in x) ++ t → s ≡ t
@@ -161,7 +161,7 @@ pub stage-grows : (cfg : EndConfig) (input : List ℕ) (heard : List Heard) (mor
 stage-grows cfg input heard more joins each says answer x =
     let P : Stage → Type 0 = λ s. Grows (stage_after cfg heard) s in
     elim (comparable heard x.heard more x.tail (sym joins ∙ x.joins) each x.each says x.says) as (λ _. Grows (stage_after cfg heard) (stage_after cfg x.heard)) [
-      inl m ↦ subst P (sym (ap (stage_after cfg) m.1 ∙ stage_after-append cfg heard m.0)) (fold-grows cfg (stage_after cfg heard) m.0)
+      | inl m ↦ subst P (sym (ap (stage_after cfg) m.1 ∙ stage_after-append cfg heard m.0)) (fold-grows cfg (stage_after cfg heard) m.0)
       | inr m ↦ subst P (same_stage cfg input answer x heard m.0 more joins each m.1 (stage_after cfg x.heard).ending refl) (Grows-refl (stage_after cfg heard))
     ]
 
@@ -194,6 +194,6 @@ continued_answer cfg input a b x y m goes_on None going =
 pub one_answer : OneAnswer
 one_answer cfg input a b x y =
     elim (comparable x.heard y.heard x.tail y.tail (sym x.joins ∙ y.joins) x.each y.each x.says y.says) as (λ _. a ≡ b) [
-      inl m ↦ continued_answer cfg input a b x y m.0 m.1 (stage_after cfg x.heard).ending refl
+      | inl m ↦ continued_answer cfg input a b x y m.0 m.1 (stage_after cfg x.heard).ending refl
       | inr m ↦ sym (continued_answer cfg input b a y x m.0 m.1 (stage_after cfg y.heard).ending refl)
     ]

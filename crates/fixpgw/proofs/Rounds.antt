@@ -138,9 +138,12 @@ broken-answer cfg a read wire out left input b is =
     let bad = bad_answer cfg s a.framer.held left (first_of a.framer.held) refl b.broken in
     let at_none : answer_after cfg b.heard tail ≡ broken_answer s (reply_to_bad_frame cfg s.facts s.place) = ap (answer_at_end cfg s tail) b.going ∙ bad.1 in
     record {
-      heard = b.heard; tail = tail;
+      heard = b.heard;
+      tail = tail;
       joins = is ∙ ap (λ (l : List ℕ). l ++ left) b.joins ∙ append_assoc (spelled_all (frames_in b.heard)) a.framer.held left;
-      each = b.each; says = b.says; all = λ _. bad.0;
+      each = b.each;
+      says = b.says;
+      all = λ _. bad.0;
       is = rw (b.wire_is, b.out_is, b.place, b.ending) (sym at_none);
     }
 
@@ -148,10 +151,12 @@ pub whole-broken : (cfg : EndConfig) (before now : Content) (a : Acceptor) (read
     → Appends before.wire now.wire (wire ++ a.end.unsent) → Appends before.out now.out (out ++ a.lines.items)
     → GaveWhole cfg input before now (status_after a.place a.end.ending)
 whole-broken cfg before now a read wire out left input b is wired outed = record {
-      answer = record { wire = wire ++ a.end.unsent; out = out ++ a.lines.items; status = status_after a.place a.end.ending };
-      is = broken-answer cfg a read wire out left input b is;
-      status_is = refl; wire = wired; out = outed;
-    }
+  answer = record { wire = wire ++ a.end.unsent; out = out ++ a.lines.items; status = status_after a.place a.end.ending };
+  is = broken-answer cfg a read wire out left input b is;
+  status_is = refl;
+  wire = wired;
+  out = outed;
+}
 
 -- ---- fronts
 
@@ -161,11 +166,14 @@ pub front-stands : (cfg : EndConfig) (before now : Content) (a : Acceptor) (read
 front-stands cfg before now a read wire out left input w o stands is wired outed of_wire of_out =
     let s = stage_after cfg stands.heard in
     let joins : input ≡ spelled_all (frames_in stands.heard) ++ (a.framer.held ++ left) =
-        is ∙ ap (λ (l : List ℕ). l ++ left) stands.joins ∙ append_assoc (spelled_all (frames_in stands.heard)) a.framer.held left in
+    is ∙ ap (λ (l : List ℕ). l ++ left) stands.joins ∙ append_assoc (spelled_all (frames_in stands.heard)) a.framer.held left in
     let of_stage_wire : Begins w s.wire = subst (Begins w) (sym (ap (λ (t : Stage). t.wire) stands.stage)) of_wire in
     let of_stage_out : Begins o s.out = subst (Begins o) (sym (ap (λ (t : Stage). t.out) stands.stage)) of_out in
     record {
-      wire = w; out = o; wire_gained = wired; out_gained = outed;
+      wire = w;
+      out = o;
+      wire_gained = wired;
+      out_gained = outed;
       wire_begins = λ answer x. Begins-trans _ _ _ of_stage_wire (answered-begins cfg input stands.heard _ joins stands.each stands.says answer x).0;
       out_begins = λ answer x. Begins-trans _ _ _ of_stage_out (answered-begins cfg input stands.heard _ joins stands.each stands.says answer x).1;
     }
@@ -176,7 +184,10 @@ pub front-broken : (cfg : EndConfig) (before now : Content) (a : Acceptor) (read
 front-broken cfg before now a read wire out left input w o b is wired outed of_wire of_out =
     let is_answer = broken-answer cfg a read wire out left input b is in
     record {
-      wire = w; out = o; wire_gained = wired; out_gained = outed;
+      wire = w;
+      out = o;
+      wire_gained = wired;
+      out_gained = outed;
       wire_begins = λ answer x. subst (λ (l : Answer). Begins w l.wire) (one_answer cfg input _ answer is_answer x) of_wire;
       out_begins = λ answer x. subst (λ (l : Answer). Begins o l.out) (one_answer cfg input _ answer is_answer x) of_out;
     }
@@ -218,23 +229,23 @@ pub after-finish : (cfg : EndConfig) (before now after : Content) (a b : Accepto
     → AfterRound cfg before after b (round_of (status_at_rest a.place a.framer.held))
 after-finish cfg before now after a b talks going first unsent lines consumed end same_wire same_out =
     after-whole cfg before after b _ (final-status_at_rest a.place a.framer.held) (λ input e.
-      let t = told before.input after.input (talks.read ++ []) input (Consumes-trans _ _ _ _ _ talks.consumed consumed) e in
-      let whole : input ≡ talks.read = t.1 ∙ ap (λ (l : List ℕ). talks.read ++ [] ++ l) (at_end after.input t.0 end t.2) ∙ append-nil (talks.read ++ []) ∙ append-nil talks.read in
-      let wired : Appends before.wire after.wire (talks.wire ++ a.end.unsent) = rw (unsent, append-nil talks.wire, same_wire) talks.wire_gained in
-      let outed : Appends before.out after.out (talks.out ++ a.lines.items) = rw (lines, append-nil talks.out, same_out) talks.out_gained in
-      whole-rest cfg before after a talks.read talks.wire talks.out input talks.stands whole going first wired outed)
+    let t = told before.input after.input (talks.read ++ []) input (Consumes-trans _ _ _ _ _ talks.consumed consumed) e in
+    let whole : input ≡ talks.read = t.1 ∙ ap (λ (l : List ℕ). talks.read ++ [] ++ l) (at_end after.input t.0 end t.2) ∙ append-nil (talks.read ++ []) ∙ append-nil talks.read in
+    let wired : Appends before.wire after.wire (talks.wire ++ a.end.unsent) = rw (unsent, append-nil talks.wire, same_wire) talks.wire_gained in
+    let outed : Appends before.out after.out (talks.out ++ a.lines.items) = rw (lines, append-nil talks.out, same_out) talks.out_gained in
+    whole-rest cfg before after a talks.read talks.wire talks.out input talks.stands whole going first wired outed)
 
 -- all was pushed
 stands-emptied : (cfg : EndConfig) (read wire out : List ℕ) (a b : Acceptor) → Stands cfg read wire out a → IsEmptied a b → Stands cfg read (wire ++ a.end.unsent) (out ++ a.lines.items) b
 stands-emptied cfg read wire out a b stands emptied = record {
-      heard = stands.heard;
-      joins = rw emptied.framer stands.joins;
-      each = stands.each;
-      says = stands.says;
-      config = ap (λ (s : State). s.config) emptied.end ∙ stands.config;
-      most = ap (λ (s : State). s.most) emptied.end ∙ stands.most;
-      stage = rw (emptied.end, emptied.place, emptied.lines, append-nil (wire ++ a.end.unsent), append-nil (out ++ a.lines.items)) stands.stage;
-    }
+  heard = stands.heard;
+  joins = rw emptied.framer stands.joins;
+  each = stands.each;
+  says = stands.says;
+  config = ap (λ (s : State). s.config) emptied.end ∙ stands.config;
+  most = ap (λ (s : State). s.most) emptied.end ∙ stands.most;
+  stage = rw (emptied.end, emptied.place, emptied.lines, append-nil (wire ++ a.end.unsent), append-nil (out ++ a.lines.items)) stands.stage;
+}
 
 pub after-push : (cfg : EndConfig) (before now after : Content) (a b : Acceptor) (read wire out : List ℕ) (step : Step) → AnsweredAll cfg read wire out a step → Halts step a
     → Consumes before.input after.input read → Appends before.wire now.wire wire → Appends before.out now.out out
@@ -242,18 +253,22 @@ pub after-push : (cfg : EndConfig) (before now after : Content) (a b : Acceptor)
     → AfterRound cfg before after b (verdict_of step a.place a.end.ending)
 after-push cfg before now after a b read wire out steps.Answered all halts consumed wired outed w o emptied = absurd all
 after-push cfg before now after a b read wire out steps.Waits all halts consumed wired outed w o emptied = record {
-      read = read; wire = wire ++ a.end.unsent; out = out ++ a.lines.items;
-      stands = stands-emptied cfg read wire out a b all emptied;
-      consumed = consumed; wire_gained = Appends-trans _ _ _ _ _ wired w; out_gained = Appends-trans _ _ _ _ _ outed o;
-    }
+  read = read;
+  wire = wire ++ a.end.unsent;
+  out = out ++ a.lines.items;
+  stands = stands-emptied cfg read wire out a b all emptied;
+  consumed = consumed;
+  wire_gained = Appends-trans _ _ _ _ _ wired w;
+  out_gained = Appends-trans _ _ _ _ _ outed o;
+}
 after-push cfg before now after a b read wire out steps.Ended all halts consumed wired outed w o emptied =
     after-whole cfg before after b _ (final-status_after a.place a.end.ending) (λ input e.
-      let t = told before.input after.input read input consumed e in
-      whole-ended cfg before after a read wire out t.0 input all t.1 halts (Appends-trans _ _ _ _ _ wired w) (Appends-trans _ _ _ _ _ outed o))
+    let t = told before.input after.input read input consumed e in
+    whole-ended cfg before after a read wire out t.0 input all t.1 halts (Appends-trans _ _ _ _ _ wired w) (Appends-trans _ _ _ _ _ outed o))
 after-push cfg before now after a b read wire out steps.Broken all halts consumed wired outed w o emptied =
     after-whole cfg before after b _ (final-status_after a.place a.end.ending) (λ input e.
-      let t = told before.input after.input read input consumed e in
-      whole-broken cfg before after a read wire out t.0 input all t.1 (Appends-trans _ _ _ _ _ wired w) (Appends-trans _ _ _ _ _ outed o))
+    let t = told before.input after.input read input consumed e in
+    whole-broken cfg before after a read wire out t.0 input all t.1 (Appends-trans _ _ _ _ _ wired w) (Appends-trans _ _ _ _ _ outed o))
 
 -- ---- a piece is read and answered
 
@@ -261,14 +276,14 @@ after-push cfg before now after a b read wire out steps.Broken all halts consume
 pub stands-filled : (cfg : EndConfig) (read wire out bytes : List ℕ) (a b : Acceptor) → Stands cfg read wire out a → b.end ≡ a.end → b.lines.items ≡ a.lines.items → b.place ≡ a.place → b.framer.held ≡ a.framer.held ++ bytes
     → Stands cfg (read ++ bytes) wire out b
 stands-filled cfg read wire out bytes a b stands end lines place held = record {
-      heard = stands.heard;
-      joins = ap (λ (l : List ℕ). l ++ bytes) stands.joins ∙ append_assoc (spelled_all (frames_in stands.heard)) a.framer.held bytes ∙ ap (λ (l : List ℕ). spelled_all (frames_in stands.heard) ++ l) (sym held);
-      each = stands.each;
-      says = stands.says;
-      config = ap (λ (s : State). s.config) end ∙ stands.config;
-      most = ap (λ (s : State). s.most) end ∙ stands.most;
-      stage = rw (end, place, lines) stands.stage;
-    }
+  heard = stands.heard;
+  joins = ap (λ (l : List ℕ). l ++ bytes) stands.joins ∙ append_assoc (spelled_all (frames_in stands.heard)) a.framer.held bytes ∙ ap (λ (l : List ℕ). spelled_all (frames_in stands.heard) ++ l) (sym held);
+  each = stands.each;
+  says = stands.says;
+  config = ap (λ (s : State). s.config) end ∙ stands.config;
+  most = ap (λ (s : State). s.most) end ∙ stands.most;
+  stage = rw (end, place, lines) stands.stage;
+}
 
 -- bytes that are no frame are answered
 pub broke-off : (cfg : EndConfig) (read wire out : List ℕ) (a b : Acceptor) → Stands cfg read wire out a → IsBroken (first_of a.framer.held) → a.end.ending ≡ None
@@ -288,8 +303,8 @@ broke-off cfg read wire out a b stands broken going end held lines place =
       going = ap (λ (t : Stage). t.ending) stands.stage ∙ going;
       place = place ∙ sym (ap (λ (t : Stage). t.place) stands.stage);
       wire_is =
-        ap (λ (e : State). wire ++ e.unsent) end ∙ ap (λ o. wire ++ (a.end.unsent ++ written_bytes o)) same ∙ sym (append_assoc wire a.end.unsent (written_bytes reply))
-        ∙ ap (λ (t : Stage). t.wire ++ written_bytes reply) (sym stands.stage);
+          ap (λ (e : State). wire ++ e.unsent) end ∙ ap (λ o. wire ++ (a.end.unsent ++ written_bytes o)) same ∙ sym (append_assoc wire a.end.unsent (written_bytes reply))
+          ∙ ap (λ (t : Stage). t.wire ++ written_bytes reply) (sym stands.stage);
       out_is = ap (λ (l : List ℕ). out ++ l) lines ∙ sym (ap (λ (t : Stage). t.out) stands.stage);
       ending = ap (λ (e : State). e.ending) end ∙ ap (λ o. o.ending) same;
     }

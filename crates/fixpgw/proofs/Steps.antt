@@ -7,8 +7,7 @@ use Rattle.std.proofs.lemmas.List.Sums.{fold-append}
 use Rattle.sofh_frame.specs.Framing.{Frame, IsFrame, spelled, BeginsWith}
 use Rattle.sofh_frame.specs.Splits.{spelled_all}
 use Rattle.sofh_frame.specs.Buffered.{Buffered}
-use Rattle.sofh_frame.proofs.ReadLemmas.{spelled_all-push}
-use Rattle.sofh_frame.proofs.SplitLemmas.{length-spelled}
+use Rattle.sofh_frame.proofs.SplitLemmas.{length-spelled, spelled_all-push, AllByRecursion-push}
 use Rattle.fixp_end.specs.declared.config.EndConfig.{EndConfig}
 use Rattle.fixp_end.specs.Replies.{Outcome, reply_of}
 use Rattle.fixp_end.specs.Machine.{State, settled, written_bytes}
@@ -16,10 +15,6 @@ use Rattle.fixpgw.specs.declared.answer.Acceptor.{Acceptor}
 use Rattle.fixpgw.specs.Lines.{line_of}
 use Rattle.fixpgw.specs.Answer.{Heard, SaysSo, Stage, next_place, answered, next_stage, first_stage, stage_after, greatest_number}
 use Rattle.fixpgw.specs.Progress.{AnswersOne, Stands}
-
-pub AllByRecursion-push : {X : Type 0} (P : X → Type 0) (xs : List X) (x : X) → AllByRecursion P xs → P x → AllByRecursion P (xs ++ x ∷ [])
-AllByRecursion-push P [] x each last = (last, tt)
-AllByRecursion-push P (y ∷ xs) x each last = (each.0, AllByRecursion-push P xs x each.1 last)
 
 -- one more frame at the end
 pub stage_after-push : (cfg : EndConfig) (heard : List Heard) (h : Heard) → stage_after cfg (heard ++ h ∷ []) ≡ next_stage cfg (stage_after cfg heard) h
@@ -59,17 +54,17 @@ stands-frame cfg read wire out old end framer lines place f size one begins held
     record {
       heard = stands.heard ++ h ∷ [];
       joins =
-        stands.joins ∙ ap (λ (xs : List ℕ). spelled_all frames ++ xs) (begins.spells ∙ ap (λ (xs : List ℕ). spelled f ++ xs) (sym held))
-        ∙ sym (append_assoc (spelled_all frames) (spelled f) framer.held)
-        ∙ ap (λ (xs : List ℕ). xs ++ framer.held) (sym (ap spelled_all mapped ∙ spelled_all-push frames f));
+          stands.joins ∙ ap (λ (xs : List ℕ). spelled_all frames ++ xs) (begins.spells ∙ ap (λ (xs : List ℕ). spelled f ++ xs) (sym held))
+          ∙ sym (append_assoc (spelled_all frames) (spelled f) framer.held)
+          ∙ ap (λ (xs : List ℕ). xs ++ framer.held) (sym (ap spelled_all mapped ∙ spelled_all-push frames f));
       each = subst P (sym mapped) (AllByRecursion-push IsFrame frames f stands.each begins.admissible);
       says = AllByRecursion-push SaysSo stands.heard h stands.says one.says;
       config = ap (λ (s : State). s.config) one.state ∙ stands.config;
       most = ap (λ (s : State). s.most) one.state ∙ stands.most;
       stage =
-        stage_after-push cfg stands.heard h
-        ∙ ap (λ (s : Stage). next_stage cfg s h) going_on
-        ∙ next_stage-going cfg (stage_of wire out old) h going
-        ∙ ap (answered (stage_of wire out old) h) reply
-        ∙ answered-stage wire out old h o new (placed ∙ ap (λ (e : Option _). if is_some e then old.place else next_place old.place f) ended) (ap (λ (s : State). s.facts) one.state) ended (ap (λ (s : State). s.unsent) one.state) one.line;
+          stage_after-push cfg stands.heard h
+          ∙ ap (λ (s : Stage). next_stage cfg s h) going_on
+          ∙ next_stage-going cfg (stage_of wire out old) h going
+          ∙ ap (answered (stage_of wire out old) h) reply
+          ∙ answered-stage wire out old h o new (placed ∙ ap (λ (e : Option _). if is_some e then old.place else next_place old.place f) ended) (ap (λ (s : State). s.facts) one.state) ended (ap (λ (s : State). s.unsent) one.state) one.line;
     }

@@ -61,12 +61,12 @@ next_place place f = min (place + length (spelled f)) (2 ^ 64 - 1)
 -- a frame is answered by the reply table
 abbrev pub answered : Stage → Heard → Outcome → Stage
 answered s h o = record {
-    place = if is_some o.ending then s.place else next_place s.place h.frame;
-    facts = o.next;
-    wire = s.wire ++ written_bytes o;
-    out = s.out ++ line_of o.act h.frame;
-    ending = o.ending
-  }
+  place = if is_some o.ending then s.place else next_place s.place h.frame;
+  facts = o.next;
+  wire = s.wire ++ written_bytes o;
+  out = s.out ++ line_of o.act h.frame;
+  ending = o.ending;
+}
 
 -- frames behind the one that ended the connection are ignored
 abbrev pub next_stage : EndConfig → Stage → Heard → Stage

@@ -117,7 +117,12 @@ impl Acceptor {
         requires { IsInRange settings }
         ensures { IfOk result (IsNew (acceptor_of settings)) }
     {
-        let mut end = End::new(alloc, acceptor_config(alloc, settings), new_session(), GREATEST_NUMBER)?;
+        let mut end = End::new(
+            alloc,
+            acceptor_config(alloc, settings),
+            new_session(),
+            GREATEST_NUMBER,
+        )?;
         end.begin(0);
         Ok(Acceptor {
             end,
@@ -230,7 +235,12 @@ impl Acceptor {
     }
 
     /// Reads a piece of input, answers it, and pushes what was written. `Ok(false)` is the end.
-    fn round<S: Source, K: Sink>(&mut self, input: &mut S, wire: &mut K, out: &mut K) -> Result<bool, Status>
+    fn round<S: Source, K: Sink>(
+        &mut self,
+        input: &mut S,
+        wire: &mut K,
+        out: &mut K,
+    ) -> Result<bool, Status>
         requires { IsIdle self.old }
         ensures idle { result ≡ Ok true → IsIdle self.new }
         ensures after { (cfg : EndConfig) (before : Content) →

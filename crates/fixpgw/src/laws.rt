@@ -5,5 +5,4 @@ ghost use Rattle.fixpgw.specs.Answer.{OneAnswer};
 /// The answer to an input is one: whatever bytes the input holds, no two answers meet the definition.
 pub fn one_answer()
     ensures { OneAnswer }
-{
-}
+{}

@@ -17,15 +17,15 @@ use files::{FileSink, FileSource};
 use outside::Outside;
 use run::run;
 use status::Status;
-use std::fs;
-use std::io;
 use std::io::Printer;
 use std::process::ExitCode;
 use std::rt::{Env, Files};
 use std::sync::Wait;
+use std::{fs, io};
 use words::is_listed;
 
-const USAGE: &str = "fixpgw: an order gateway for sessions of the FIX Performance Session Layer (FIXP) 1.1
+const USAGE: &str =
+    "fixpgw: an order gateway for sessions of the FIX Performance Session Layer (FIXP) 1.1
 
   fixpgw answer CONFIG INPUT WIRE OUT   the acceptor's session over the recorded bytes of a client:
                                         replies to WIRE, one line for each message applied to OUT

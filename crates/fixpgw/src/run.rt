@@ -52,8 +52,8 @@ fn answer<R: Wait, S: Source, K: Sink>(
     ensures judged { (text : List ℕ) → S.left config.old ≡ Some text → Judges result (configuration_of text) }
     ensures given { (text told : List ℕ) → S.left config.old ≡ Some text → S.left input.old ≡ Some told →
         GaveBy (configuration_of text) told
-            (record { input = S.left input.old; wire = K.taken wire.old; out = K.taken out.old })
-            (record { input = S.left input.new; wire = K.taken wire.new; out = K.taken out.new }) result }
+        (record { input = S.left input.old; wire = K.taken wire.old; out = K.taken out.old })
+        (record { input = S.left input.new; wire = K.taken wire.new; out = K.taken out.new }) result }
     ensures within { ReadsWithin (S.left config.old) (S.left config.new) (text_limit + 1) }
     ensures none_fell { NoneFell (counts_of (S.faults config.old) (S.faults input.old) (K.faults wire.old) (K.faults out.old)) (counts_of (S.faults config.new) (S.faults input.new) (K.faults wire.new) (K.faults out.new)) }
     ensures cause { IsCaused (counts_of (S.faults config.old) (S.faults input.old) (K.faults wire.old) (K.faults out.old)) (counts_of (S.faults config.new) (S.faults input.new) (K.faults wire.new) (K.faults out.new)) result }
@@ -82,8 +82,8 @@ pub fn run<R: Wait, S: Source, K: Sink>(
     ensures judged { is_listed (bytes_of words.now) ≡ true → (text : List ℕ) → S.left outside.config ≡ Some text → Judges result.0 (configuration_of text) }
     ensures given { is_listed (bytes_of words.now) ≡ true → (text input : List ℕ) → S.left outside.config ≡ Some text → S.left outside.input ≡ Some input →
         GaveBy (configuration_of text) input
-            (record { input = S.left outside.input; wire = K.taken outside.wire; out = K.taken outside.out })
-            (record { input = S.left result.1.input; wire = K.taken result.1.wire; out = K.taken result.1.out }) result.0 }
+        (record { input = S.left outside.input; wire = K.taken outside.wire; out = K.taken outside.out })
+        (record { input = S.left result.1.input; wire = K.taken result.1.wire; out = K.taken result.1.out }) result.0 }
     ensures within { ReadsWithin (S.left outside.config) (S.left result.1.config) (text_limit + 1) }
     ensures none_fell { NoneFell (counts_of (S.faults outside.config) (S.faults outside.input) (K.faults outside.wire) (K.faults outside.out)) (counts_of (S.faults result.1.config) (S.faults result.1.input) (K.faults result.1.wire) (K.faults result.1.out)) }
     ensures cause { IsCaused (counts_of (S.faults outside.config) (S.faults outside.input) (K.faults outside.wire) (K.faults outside.out)) (counts_of (S.faults result.1.config) (S.faults result.1.input) (K.faults result.1.wire) (K.faults result.1.out)) result.0 }

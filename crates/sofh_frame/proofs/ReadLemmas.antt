@@ -18,7 +18,7 @@ pub IsRead-push : (bytes : List ℕ) (old new : Split) (held left : List ℕ) (f
 IsRead-push bytes old new held left f size frames_are at_is left_is begins read =
     let frames = frames_seen old.frames.items in
     let spelled_are : spelled_all (frames_seen new.frames.items) ≡ spelled_all frames ++ spelled f = ap spelled_all frames_are ∙ spelled_all-push frames f in
-    let each : AllByRecursion IsFrame (frames ++ f ∷ []) = AllByRecursion-push frames f read.each begins.admissible in
+    let each : AllByRecursion IsFrame (frames ++ f ∷ []) = AllByRecursion-push IsFrame frames f read.each begins.admissible in
     let P : List Frame → Type 0 = AllByRecursion IsFrame in
     record {
       joins =

@@ -21,9 +21,9 @@ drop-spelled f more = ap (λ (n : ℕ). drop n (spelled f ++ more)) (sym (length
 pub spelled_all-push : (frames : List Frame) (f : Frame) → spelled_all (frames ++ f ∷ []) ≡ spelled_all frames ++ spelled f
 spelled_all-push frames f = flat_map-append spelled frames (f ∷ []) ∙ ap (λ (xs : List ℕ). spelled_all frames ++ xs) (append-nil (spelled f))
 
-pub AllByRecursion-push : (frames : List Frame) (f : Frame) → AllByRecursion IsFrame frames → IsFrame f → AllByRecursion IsFrame (frames ++ f ∷ [])
-AllByRecursion-push [] f each admissible = (admissible, tt)
-AllByRecursion-push (g ∷ frames) f each admissible = (each.0, AllByRecursion-push frames f each.1 admissible)
+pub AllByRecursion-push : {X : Type 0} (P : X → Type 0) (xs : List X) (x : X) → AllByRecursion P xs → P x → AllByRecursion P (xs ++ x ∷ [])
+AllByRecursion-push P [] x each last = (last, tt)
+AllByRecursion-push P (y ∷ xs) x each last = (each.0, AllByRecursion-push P xs x each.1 last)
 
 -- a frame in front of a split
 pub IsSplit-cons : (bytes : List ℕ) (f : Frame) (more : List ℕ) (frames : List Frame) (tail : List ℕ) → bytes ≡ spelled f ++ more → IsFrame f → IsSplit more frames tail → IsSplit bytes (f ∷ frames) tail

@@ -12,6 +12,6 @@ returns-then-is_one_way-clause-value c =
 pub returns-clause-value : goal.returns-clause-value
 returns-clause-value c =
     elim c.else-count-eq5.branch [
-      else-count-eq5-via-then-count-eq5+else-is_one_way w ↦ sym (settings_in-other_way (table_view c.args.table) (sym (rw view-Table at w.is_one_way.ensures) ∙ w.if-is_one_way.false))
+      | else-count-eq5-via-then-count-eq5+else-is_one_way w ↦ sym (settings_in-other_way (table_view c.args.table) (sym (rw view-Table at w.is_one_way.ensures) ∙ w.if-is_one_way.false))
       | else-count-eq5-via-else-count-eq5 w ↦ sym (settings_in-other_count (table_view c.args.table) (λ five. w.if-count-eq5.false (c.len-count.ensures.len ∙ sym (key_count-view c.args.table.entries) ∙ five)))
     ]

@@ -18,8 +18,8 @@ pub returns-then-count-eq0-clause-after : goal.returns-then-count-eq0-clause-aft
 returns-then-count-eq0-clause-after g c = λ cfg before talks.
     let bytes = rw c.if-count-eq0.true at c.in-Ok.ensures.bytes in
     rw c.finish.ensures (
-      after-finish cfg before _ (record { input = g.S.Source.left c.pull.new.self; wire = g.K.Sink.taken c.args.wire.now; out = g.K.Sink.taken c.args.out.now }) c.args.self.now _
-      talks c.requires.ready.going c.requires.waits c.requires.unsent c.requires.lines bytes.0 (bytes.1 refl (rw c.pull.auto.into (room_left c.args.self.now.framer.held (length c.room.result.now) c.requires.waits c.room.ensures.size))) refl refl)
+    after-finish cfg before _ (record { input = g.S.Source.left c.pull.new.self; wire = g.K.Sink.taken c.args.wire.now; out = g.K.Sink.taken c.args.out.now }) c.args.self.now _
+    talks c.requires.ready.going c.requires.waits c.requires.unsent c.requires.lines bytes.0 (bytes.1 refl (rw c.pull.auto.into (room_left c.args.self.now.framer.held (length c.room.result.now) c.requires.waits c.room.ensures.size))) refl refl)
 
 pub returns-in_default-answer_piece-clause-after : goal.returns-in_default-answer_piece-clause-after
 returns-in_default-answer_piece-clause-after g c = λ cfg before talks.
@@ -46,6 +46,6 @@ returns-clause-after g c = λ cfg before talks.
     let emptied = c.in-Ok-push.ensures.emptied in
     let verdict = c.verdict.ensures ∙ ap (λ (place : ℕ). verdict_of step place c.push.new.self.end.ending) emptied.place ∙ ap (λ (end : State). verdict_of step c.answer_piece.new.self.place end.ending) emptied.end in
     rw verdict (
-      after-push cfg before (record { input = g.S.Source.left c.args.input.now; wire = g.K.Sink.taken c.args.wire.now; out = g.K.Sink.taken c.args.out.now }) _ c.answer_piece.new.self _ _ talks.wire talks.out c.in-Ok-answer_piece.step
-      (answered g (goal.at.returns-clause-after g c).In-Ok-answer_piece cfg before talks) c.in-Ok-answer_piece.ensures.halts
-      (Consumes-trans _ _ _ _ _ talks.consumed c.in-Ok.ensures.bytes.0) talks.wire_gained talks.out_gained c.in-Ok-push.ensures.wire c.in-Ok-push.ensures.out c.in-Ok-push.ensures.emptied)
+    after-push cfg before (record { input = g.S.Source.left c.args.input.now; wire = g.K.Sink.taken c.args.wire.now; out = g.K.Sink.taken c.args.out.now }) _ c.answer_piece.new.self _ _ talks.wire talks.out c.in-Ok-answer_piece.step
+    (answered g (goal.at.returns-clause-after g c).In-Ok-answer_piece cfg before talks) c.in-Ok-answer_piece.ensures.halts
+    (Consumes-trans _ _ _ _ _ talks.consumed c.in-Ok.ensures.bytes.0) talks.wire_gained talks.out_gained c.in-Ok-push.ensures.wire c.in-Ok-push.ensures.out c.in-Ok-push.ensures.emptied)

@@ -5,9 +5,9 @@ use Rattle.fixpgw.proofs.answer.Acceptor.take_frames.Given as goal
 
 abbrev pub invariant-loop : goal.invariant-loop
 invariant-loop l = record {
-    ready : IsOpen l.self;
-    stands : (cfg : EndConfig) (read wire out : List ℕ) → Stands cfg read wire out l.fn.self → Stands cfg read wire out l.self
-  }
+  ready : IsOpen l.self;
+  stands : (cfg : EndConfig) (read wire out : List ℕ) → Stands cfg read wire out l.fn.self → Stands cfg read wire out l.self;
+}
 
 abbrev pub decreases-loop : goal.decreases-loop
 decreases-loop l = length l.self.framer.held
