@@ -10,6 +10,8 @@ mod lines;
 mod outside;
 mod run;
 mod status;
+#[cfg(test)]
+mod tests;
 mod text;
 mod words;
 
