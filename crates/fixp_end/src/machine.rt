@@ -271,3 +271,6 @@ impl End {
         self.undone = None;
     }
 }
+
+#[cfg(test)]
+mod tests;
