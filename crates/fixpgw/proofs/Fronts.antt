@@ -1,8 +1,7 @@
 -- The answer to an input is one, and what was answered so far is a front of it.
-use Rattle.std.proofs.Common.{◌≡◌, ℕ, ◌+◌, ◌⊎◌, inl, inr, Bool, true, false, cond, List, [], ◌∷◌, ◌++◌, length, map, drop, Option, Some, None, refl, sym, ap, subst, ◌∙◌, append_assoc, append-nil}
+use Rattle.std.proofs.Common.{◌≡◌, ℕ, ◌+◌, ◌⊎◌, inl, inr, true, false, cond, List, [], ◌∷◌, ◌++◌, length, map, drop, Option, Some, None, refl, sym, ap, subst, ◌∙◌, append_assoc, append-nil}
 use Rattle.std.specs.Prelude.{is_some, fold}
 use Rattle.std.specs.List.{AllByRecursion}
-use Rattle.std.proofs.lemmas.List.{map-append}
 use Rattle.std.proofs.lemmas.List.Sums.{fold-append}
 use Rattle.sofh_frame.specs.Framing.{Frame, IsFrame, spelled, First, frame, rest, bad_length, bad_encoding, first_of}
 use Rattle.sofh_frame.specs.Splits.{spelled_all, IsNoFrame}
@@ -12,11 +11,11 @@ use Rattle.fixp_msgs.proofs.Rows.{at_most_one}
 use Rattle.fixp_end.specs.declared.config.EndConfig.{EndConfig}
 use Rattle.fixp_end.specs.declared.ending.Ending.{Ending}
 use Rattle.fixp_end.specs.Hearing.{Said, Says}
-use Rattle.fixp_end.specs.Replies.{reply_of, reply_to_bad_frame}
+use Rattle.fixp_end.specs.Replies.{reply_of}
 use Rattle.fixp_end.specs.Machine.{written_bytes}
 use Rattle.fixp_end.proofs.OneThing.{one_thing}
 use Rattle.fixpgw.specs.Lines.{line_of}
-use Rattle.fixpgw.specs.Answer.{Heard, SaysSo, Stage, answered, next_stage, first_stage, stage_after, greatest_number, Answer, ended_answer, tail_answer, broken_answer, answer_at_end, answer_after, IsAnswer, OneAnswer}
+use Rattle.fixpgw.specs.Answer.{Heard, SaysSo, Stage, answered, next_stage, first_stage, stage_after, greatest_number, Answer, ended_answer, tail_answer, answer_at_end, answer_after, IsAnswer, OneAnswer}
 use Rattle.fixpgw.specs.Promise.{Begins}
 
 abbrev pub frames_in : List Heard → List Frame

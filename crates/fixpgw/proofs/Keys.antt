@@ -1,7 +1,7 @@
 -- A table's keys, and texts that are no UTF-8.
-use Rattle.std.proofs.Common.{◌≡◌, ℕ, ◌+◌, ◌≤◌, ◌<◌, ◌==◌, ◌&&◌, nat_le, cond, option_and_then, le-leb, Bool, true, false, List, [], ◌∷◌, length, refl, sym, ap, ◌∙◌, add-one, String, Option, Some, None}
+use Rattle.std.proofs.Common.{◌≡◌, ℕ, ◌+◌, ◌≤◌, ◌==◌, ◌&&◌, nat_le, cond, option_and_then, le-leb, true, false, List, [], ◌∷◌, length, refl, ap, ◌∙◌, add-one, String, Option, Some, None}
 use Rattle.std.specs.Str.{IsUtf8, is_utf8}
-use Rattle.std.proofs.lemmas.Bool.{ne_eqb, lt-leb}
+use Rattle.std.proofs.lemmas.Bool.{ne_eqb}
 use Rattle.std.proofs.lemmas.Str.{IsUtf8-from_is_utf8}
 use Rattle.std.specs.declared.alloc.Global.{Global}
 use Rattle.toml.specs.declared.value.Value.{Value}
@@ -38,6 +38,3 @@ settings_in-other_way keys other = elim (key_count keys == 5) as (λ b. cond (b 
 
 pub settings_in-other_count : (keys : Members) → (key_count keys ≡ 5 → ⊥) → settings_in keys ≡ None
 settings_in-other_count keys other = rw (ne_eqb _ _ other) refl
-
-pub configuration_of-long : (text : List ℕ) → text_limit < length text → configuration_of text ≡ None
-configuration_of-long text long = rw (lt-leb _ _ long) refl

@@ -1,11 +1,10 @@
 -- What one round over a piece of input leaves.
-use Rattle.std.proofs.Common.{◌≡◌, ℕ, Bool, true, false, List, [], ◌∷◌, ◌++◌, length, map, take, drop, Option, Some, None, Result, Ok, Err, refl, sym, ap, subst, ◌∙◌, append_assoc, append-nil, take-append-drop, eq-eqb, ◌+◌, ◌<◌, arith}
+use Rattle.std.proofs.Common.{◌≡◌, ℕ, List, [], ◌∷◌, ◌++◌, length, take, drop, Option, Some, None, refl, sym, ap, subst, ◌∙◌, append_assoc, append-nil, take-append-drop, eq-eqb, ◌+◌, ◌<◌, arith}
 use Rattle.std.proofs.lemmas.Grind.{common_steps}
-use Rattle.std.specs.Prelude.{is_some, IsSome}
+use Rattle.std.specs.Prelude.{IsSome}
 use Rattle.std.specs.Io.KnownBytes.{Consumes, Appends, IsAtEnd}
 use Rattle.std.proofs.KnownBytes.{Appends-trans, Consumes-trans}
-use Rattle.std.specs.List.{AllByRecursion}
-use Rattle.sofh_frame.specs.Framing.{Frame, IsFrame, First, frame, rest, bad_length, bad_encoding, first_of}
+use Rattle.sofh_frame.specs.Framing.{First, frame, rest, bad_length, bad_encoding, first_of}
 use Rattle.sofh_frame.specs.Buffered.{written_over}
 use Rattle.sofh_frame.specs.Splits.{spelled_all, IsNoFrame}
 use Rattle.sofh_frame.proofs.FramingLemmas.{bad_length-append, bad_encoding-append}
@@ -20,11 +19,11 @@ use Rattle.fixpgw.specs.declared.answer.Step.{Step}
 use Rattle.fixpgw.specs.declared.answer.Step.TheVariants as steps
 use Rattle.fixpgw.specs.declared.status.Status.{Status}
 use Rattle.fixpgw.specs.declared.status.Status.TheVariants.{Done, Words, Config, InputFault, OutputFault, Message, Memory}
-use Rattle.fixpgw.specs.Answer.{Heard, SaysSo, Stage, stage_after, Answer, status_of, status_after, status_at_rest, ended_answer, broken_answer, answer_at_end, answer_after, IsAnswer}
+use Rattle.fixpgw.specs.Answer.{Stage, stage_after, Answer, status_of, status_after, status_at_rest, ended_answer, broken_answer, answer_at_end, answer_after, IsAnswer}
 use Rattle.fixpgw.specs.Progress.{IsBroken, Stands, BrokeOff, AnsweredAll, Halts, IsEmptied}
-use Rattle.fixpgw.specs.Promise.{Content, Begins, GaveWhole, GaveFront, Gave, KeepsPromise, Talks, AfterRound, round_of, verdict_of}
+use Rattle.fixpgw.specs.Promise.{Content, Begins, GaveWhole, GaveFront, Talks, AfterRound, round_of, verdict_of}
 use Rattle.fixpgw.proofs.Devices.{told, at_end}
-use Rattle.fixpgw.proofs.Fronts.{frames_in, one_answer, answered-begins, Begins-more, Begins-refl, Begins-trans}
+use Rattle.fixpgw.proofs.Fronts.{frames_in, one_answer, answered-begins, Begins-more, Begins-trans}
 
 some_of : {A : Type 0} (o : Option A) → IsSome o → (a : A) × (o ≡ Some a)
 some_of None some = cc

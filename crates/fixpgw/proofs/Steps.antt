@@ -1,5 +1,5 @@
 -- One more frame is answered.
-use Rattle.std.proofs.Common.{◌≡◌, ℕ, ◌+◌, ◌-◌, ◌^◌, ◌≤◌, min, Bool, cond, List, [], ◌∷◌, ◌++◌, length, map, drop, Vec, Global, Option, Some, None, refl, sym, ap, subst, ◌∙◌, append_assoc}
+use Rattle.std.proofs.Common.{◌≡◌, ℕ, List, [], ◌∷◌, ◌++◌, map, drop, Vec, Global, Option, None, refl, sym, ap, subst, ◌∙◌, append_assoc}
 use Rattle.std.specs.Prelude.{is_some, if◌then◌else◌}
 use Rattle.std.specs.List.{AllByRecursion}
 use Rattle.std.proofs.lemmas.List.{map-append}
@@ -7,10 +7,10 @@ use Rattle.std.proofs.lemmas.List.Sums.{fold-append}
 use Rattle.sofh_frame.specs.Framing.{Frame, IsFrame, spelled, BeginsWith}
 use Rattle.sofh_frame.specs.Splits.{spelled_all}
 use Rattle.sofh_frame.specs.Buffered.{Buffered}
-use Rattle.sofh_frame.proofs.SplitLemmas.{length-spelled, spelled_all-push, AllByRecursion-push}
+use Rattle.sofh_frame.proofs.SplitLemmas.{spelled_all-push, AllByRecursion-push}
 use Rattle.fixp_end.specs.declared.config.EndConfig.{EndConfig}
 use Rattle.fixp_end.specs.Replies.{Outcome, reply_of}
-use Rattle.fixp_end.specs.Machine.{State, settled, written_bytes}
+use Rattle.fixp_end.specs.Machine.{State, written_bytes}
 use Rattle.fixpgw.specs.declared.answer.Acceptor.{Acceptor}
 use Rattle.fixpgw.specs.Lines.{line_of}
 use Rattle.fixpgw.specs.Answer.{Heard, SaysSo, Stage, next_place, answered, next_stage, first_stage, stage_after, greatest_number}

@@ -1,6 +1,6 @@
 -- What `answer` makes of a recorded client: the replies of the acceptor to each frame, the lines of the
 -- messages applied, and the status.
-use Rattle.std.specs.Prelude.{◌≡◌, ℕ, ◌+◌, ◌-◌, ◌^◌, min, Bool, true, false, if◌then◌else◌, List, [], ◌∷◌, ◌++◌, length, map, fold, Option, Some, None, is_some}
+use Rattle.std.specs.Prelude.{◌≡◌, ℕ, ◌+◌, ◌-◌, ◌^◌, min, false, if◌then◌else◌, List, [], ◌∷◌, ◌++◌, length, map, fold, Option, Some, None, is_some}
 use Rattle.std.specs.List.{AllByRecursion}
 use Rattle.sofh_frame.specs.Framing.{Frame, spelled, IsFrame, First, frame, rest, bad_length, bad_encoding, first_of}
 use Rattle.sofh_frame.specs.Splits.{spelled_all, IsNoFrame}
@@ -15,7 +15,6 @@ use Rattle.fixp_end.specs.Hearing.{Said, Says}
 use Rattle.fixp_end.specs.Replies.{Outcome, reply_of, reply_to_bad_frame}
 use Rattle.fixp_end.specs.Machine.{written_bytes}
 use Rattle.fixpgw.specs.declared.configuration.Settings.{Settings}
-use Rattle.fixpgw.specs.declared.status.Bad.{Bad}
 use Rattle.fixpgw.specs.declared.status.Bad.TheVariants as bad
 use Rattle.fixpgw.specs.declared.status.Status.{Status}
 use Rattle.fixpgw.specs.declared.status.Status.TheVariants.{Done, Message}

@@ -1,5 +1,5 @@
 -- The causes of the statuses that blame a device (this project's profile).
-use Rattle.std.specs.Prelude.{ℕ, ◌≤◌, ◌⊎◌, Result, Ok, Err}
+use Rattle.std.specs.Prelude.{ℕ, ◌≤◌, ◌⊎◌}
 use Rattle.gw_outside.specs.Faults.{HasRisen}
 use Rattle.fixpgw.specs.declared.status.Status.{Status}
 use Rattle.fixpgw.specs.declared.status.Status.TheVariants.{Done, Words, Config, InputFault, OutputFault, Message, Memory}

@@ -1,5 +1,5 @@
 -- The configuration of `answer`: a TOML 1.0 document that is a table of exactly five keys (this project's profile).
-use Rattle.std.specs.Prelude.{ℕ, ℤ, pos, negsuc, ◌+◌, ◌==◌, ◌&&◌, ◌^◌, Bool, true, false, nat_le, ◌≤◌, if◌then◌else◌, List, length, codes, Option, Some, None, option_and_then}
+use Rattle.std.specs.Prelude.{ℕ, ℤ, pos, negsuc, ◌+◌, ◌==◌, ◌&&◌, ◌^◌, Bool, false, nat_le, ◌≤◌, if◌then◌else◌, List, length, codes, Option, Some, None, option_and_then}
 use Rattle.std.specs.Str.{bytes_eq, is_utf8}
 use Rattle.std.specs.Io.KnownBytes.{Consumes}
 use Rattle.uuid.specs.Text.{parsed}

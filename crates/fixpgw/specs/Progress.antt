@@ -1,7 +1,6 @@
 -- How far `answer` has come in the middle of its input.
-use Rattle.std.specs.Prelude.{◌≡◌, ℕ, ◌+◌, ◌*◌, ◌≤◌, ◌<◌, true, List, [], ◌++◌, length, map, Option, Some, None, IsSome}
+use Rattle.std.specs.Prelude.{◌≡◌, ℕ, ◌+◌, ◌*◌, ◌≤◌, true, List, [], ◌++◌, length, map, None, IsSome}
 use Rattle.std.specs.List.{AllByRecursion}
-use Rattle.sofh_frame.specs.declared.Order.{Order}
 use Rattle.sofh_frame.specs.Framing.{Frame, IsFrame, First, frame, rest, bad_length, bad_encoding, first_of}
 use Rattle.sofh_frame.specs.Splits.{spelled_all}
 use Rattle.fixp_end.specs.declared.config.EndConfig.{EndConfig}
@@ -12,7 +11,7 @@ use Rattle.fixpgw.specs.declared.answer.Acceptor.{Acceptor}
 use Rattle.fixpgw.specs.declared.answer.Step.{Step}
 use Rattle.fixpgw.specs.declared.answer.Step.TheVariants.{Answered, Waits, Broken, Ended}
 use Rattle.fixpgw.specs.Lines.{line_of}
-use Rattle.fixpgw.specs.Answer.{Heard, SaysSo, Stage, stage_after, first_facts, greatest_number}
+use Rattle.fixpgw.specs.Answer.{Heard, SaysSo, stage_after, first_facts, greatest_number}
 
 -- an acceptor whose connection has begun and has read nothing
 pub record IsNew (cfg : EndConfig) (a : Acceptor) : Type 0 where

@@ -1,5 +1,5 @@
 -- What `answer` promises of WIRE and OUT, where the devices tell their content.
-use Rattle.std.specs.Prelude.{◌≡◌, ℕ, ◌<◌, Bool, true, false, List, [], ◌++◌, length, drop, take, Option, Some, None, Result, Ok, Err, IfOk}
+use Rattle.std.specs.Prelude.{◌≡◌, ℕ, Bool, true, false, List, [], ◌++◌, Option, Some, Result, Ok, Err}
 use Rattle.std.specs.Io.KnownBytes.{Consumes, Appends}
 use Rattle.sofh_frame.specs.Framing.{rest, first_of}
 use Rattle.fixp_end.specs.declared.config.EndConfig.{EndConfig}

@@ -1,10 +1,9 @@
 -- What the program promises of a run, where its devices tell their content.
-use Rattle.std.specs.Prelude.{◌≡◌, ℕ, Bool, true, List, Option, Some, None, IsSome}
+use Rattle.std.specs.Prelude.{◌≡◌, ℕ, List, Option, Some, None, IsSome}
 use Rattle.std.specs.Io.KnownBytes.{Keeps}
 use Rattle.fixpgw.specs.declared.configuration.Settings.{Settings}
 use Rattle.fixpgw.specs.declared.status.Status.{Status}
 use Rattle.fixpgw.specs.declared.status.Status.TheVariants.{Done, Words, Config, InputFault, OutputFault, Message, Memory}
-use Rattle.fixpgw.specs.Configuration.{configuration_of}
 use Rattle.fixpgw.specs.Answer.{acceptor_of}
 use Rattle.fixpgw.specs.Promise.{Content, Gave}
 

@@ -67,13 +67,21 @@ struct Faults {
     room: usize,
 }
 
-const NO_FAULTS: Faults = Faults {
-    config: 0,
-    input: 0,
-    wire: 0,
-    out: 0,
-    room: 4096,
-};
+/// Devices of which these calls fail, counted from 1, with sinks of this room.
+const fn failing(config: u64, input: u64, wire: u64, out: u64, room: usize) -> Faults {
+    Faults {
+        config,
+        input,
+        wire,
+        out,
+        room,
+    }
+}
+
+/// Devices that never fail.
+const fn no_faults() -> Faults {
+    failing(0, 0, 0, 0, 4096)
+}
 
 /// The frame of a name, or bytes in hexadecimal.
 fn digits_of(word: &str) -> &str {
@@ -160,7 +168,7 @@ fn answer<R: Wait>(rt: &R, alloc: Global, input: &[u8], piece: usize) -> Result<
         CONFIG.as_bytes(),
         input,
         piece,
-        NO_FAULTS,
+        no_faults(),
     )
 }
 
@@ -268,7 +276,15 @@ fn prefixes_are_cut(rt: HostRuntime) -> Result<(), Fail> {
 #[test]
 fn refusals_of_start(rt: HostRuntime) -> Result<(), Fail> {
     let alloc = rt.alloc();
-    let two = run_words(&rt, alloc, "answer C", CONFIG.as_bytes(), &[], 1, NO_FAULTS)?;
+    let two = run_words(
+        &rt,
+        alloc,
+        "answer C",
+        CONFIG.as_bytes(),
+        &[],
+        1,
+        no_faults(),
+    )?;
     assert_eq!(rt; two.status, Status::Words);
     let other = run_words(
         &rt,
@@ -277,7 +293,7 @@ fn refusals_of_start(rt: HostRuntime) -> Result<(), Fail> {
         CONFIG.as_bytes(),
         &[],
         1,
-        NO_FAULTS,
+        no_faults(),
     )?;
     assert_eq!(rt; other.status, Status::Words);
     let texts = [
@@ -291,10 +307,10 @@ fn refusals_of_start(rt: HostRuntime) -> Result<(), Fail> {
         "session = ",
     ];
     for text in texts {
-        let ran = run_words(&rt, alloc, ANSWER, text.as_bytes(), &[], 1, NO_FAULTS)?;
+        let ran = run_words(&rt, alloc, ANSWER, text.as_bytes(), &[], 1, no_faults())?;
         assert_eq!(rt; ran.status, Status::Config, "for {text}");
     }
-    let broken = run_words(&rt, alloc, ANSWER, &[0xff], &[], 1, NO_FAULTS)?;
+    let broken = run_words(&rt, alloc, ANSWER, &[0xff], &[], 1, no_faults())?;
     assert_eq!(rt; broken.status, Status::Config);
     Ok(())
 }
@@ -313,7 +329,7 @@ fn limit_of_the_configuration(rt: HostRuntime) -> Result<(), Fail> {
     let alloc = rt.alloc();
     for (len, status) in [(1 << 20, Status::Done), ((1 << 20) + 1, Status::Config)] {
         let text = padded(alloc, len)?;
-        let ran = run_words(&rt, alloc, ANSWER, text.as_slice(), &[], 1, NO_FAULTS)?;
+        let ran = run_words(&rt, alloc, ANSWER, text.as_slice(), &[], 1, no_faults())?;
         assert_eq!(rt; ran.status, status, "at {len} bytes");
     }
     Ok(())
@@ -325,87 +341,30 @@ fn faults_of_devices(rt: HostRuntime) -> Result<(), Fail> {
     let input = bytes(alloc, "negotiate establish first second terminate")?;
     // The input comes in pieces of 41 bytes: the second holds no whole frame.
     let cases = [
+        (failing(1, 0, 0, 0, 4096), Status::InputFault, "", ""),
+        (failing(2, 0, 0, 0, 4096), Status::InputFault, "", ""),
+        (failing(0, 1, 0, 0, 4096), Status::InputFault, "", ""),
         (
-            Faults {
-                config: 1,
-                ..NO_FAULTS
-            },
-            Status::InputFault,
-            "",
-            "",
-        ),
-        (
-            Faults {
-                config: 2,
-                ..NO_FAULTS
-            },
-            Status::InputFault,
-            "",
-            "",
-        ),
-        (
-            Faults {
-                input: 1,
-                ..NO_FAULTS
-            },
-            Status::InputFault,
-            "",
-            "",
-        ),
-        (
-            Faults {
-                input: 3,
-                ..NO_FAULTS
-            },
+            failing(0, 3, 0, 0, 4096),
             Status::InputFault,
             "response",
             "",
         ),
+        (failing(0, 0, 1, 0, 4096), Status::OutputFault, "", ""),
         (
-            Faults {
-                wire: 1,
-                ..NO_FAULTS
-            },
-            Status::OutputFault,
-            "",
-            "",
-        ),
-        (
-            Faults {
-                wire: 2,
-                ..NO_FAULTS
-            },
+            failing(0, 0, 2, 0, 4096),
             Status::OutputFault,
             "response",
             "",
         ),
         (
-            Faults {
-                out: 1,
-                ..NO_FAULTS
-            },
+            failing(0, 0, 0, 1, 4096),
             Status::OutputFault,
             "response ack",
             "",
         ),
-        (
-            Faults {
-                room: 40,
-                ..NO_FAULTS
-            },
-            Status::OutputFault,
-            "",
-            "",
-        ),
-        (
-            Faults {
-                room: 60,
-                ..NO_FAULTS
-            },
-            Status::OutputFault,
-            "response",
-            "",
-        ),
+        (failing(0, 0, 0, 0, 40), Status::OutputFault, "", ""),
+        (failing(0, 0, 0, 0, 60), Status::OutputFault, "response", ""),
     ];
     for (faults, status, wire, out) in cases {
         let wire = bytes(alloc, wire)?;

@@ -1,4 +1,4 @@
-use Rattle.std.proofs.Common.{rules, arith}
+use Rattle.std.proofs.Common.{arith}
 use Rattle.std.proofs.lemmas.Str.{is_utf8-from_IsUtf8}
 use Rattle.fixpgw.proofs.Keys.{is_utf8-not, configuration_of-text, configuration_of-not_utf8}
 use Rattle.fixpgw.proofs.configuration.read_configuration.Goals as goal

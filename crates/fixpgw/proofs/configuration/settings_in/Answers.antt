@@ -1,4 +1,4 @@
-use Rattle.std.proofs.Common.{◌≡◌, sym, ◌∙◌}
+use Rattle.std.proofs.Common.{sym, ◌∙◌}
 use Rattle.toml.specs.View.{table_view}
 use Rattle.toml.proofs.Views.{view-Table}
 use Rattle.fixpgw.proofs.Keys.{key_count-view, settings_in-five, settings_in-other_way, settings_in-other_count}

@@ -1,4 +1,4 @@
-use Rattle.std.proofs.Common.{◌≡◌, ℕ, ◌+◌, ◌-◌, ◌^◌, min, refl, sym, ap, ◌∙◌}
+use Rattle.std.proofs.Common.{ℕ, ◌+◌, ◌-◌, ◌^◌, min, refl, sym, ap, ◌∙◌}
 use Rattle.sofh_frame.specs.Framing.{Frame, BeginsWith}
 use Rattle.sofh_frame.proofs.SplitLemmas.{length-spelled}
 use Rattle.fixpgw.proofs.Steps.{stands-frame}
