@@ -6,3 +6,8 @@ pub mod Truth
 pub mod Recoverable
 pub mod Idempotent
 pub mod Unsequenced
+pub mod Through
+pub mod Planned
+pub mod Carried
+pub mod Chains
+pub mod Guarantees

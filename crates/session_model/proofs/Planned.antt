@@ -1,0 +1,20 @@
+-- Plans that are continued, and histories.
+use Rattle.std.proofs.Common.{◌≡◌, ℕ, true, List, [], ◌∷◌, ◌++◌, length, drop, refl, sym, ap, subst, ◌∙◌}
+use mathlib.Core.List.{IsPrefix}
+use Rattle.session_model.specs.Journal.{History, BeginsHistory}
+use Rattle.session_model.specs.Plans.{Continues, Completes}
+use Rattle.session_model.specs.Laws.{PlanGoesOn, PlanCompletes, HistoriesGoOn}
+use Rattle.session_model.proofs.Lists.{prefix_trans, prefix_continued, drop_length}
+
+pub plan_goes_on : PlanGoesOn
+plan_goes_on plan before after begun c = subst (λ ps. IsPrefix ps plan) (sym c.behind) (prefix_continued before c.more plan begun c.planned)
+
+pub plan_completes : PlanCompletes
+plan_completes plan before after begun c =
+    c.behind ∙ (ap (λ ps. before ++ drop (length before) ps) (sym begun.1) ∙ (ap (λ ps. before ++ ps) (drop_length before begun.0) ∙ begun.1))
+
+pub histories_go_on : HistoriesGoOn
+histories_go_on first second third p q = record {
+  made = prefix_trans first.made second.made third.made p.made q.made;
+  alone = λ marked. p.alone marked ∙ q.alone (ap (λ h. h.finished) (sym (p.alone marked)) ∙ marked);
+}
