@@ -1,5 +1,6 @@
 //! The session model: journals, inboxes, flows and process lives as plain lists, and what a session guarantees over them.
+//! It stands on nothing; whatever is built above has to show that it is an instance of these definitions.
 #![tactic(auto)]
 
-/// Nothing yet.
-pub fn nothing() {}
+pub mod guarantee;
+pub mod laws;
