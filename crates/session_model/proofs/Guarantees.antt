@@ -82,7 +82,7 @@ no_flow_guarantee fb pa pb a b oa ob ia ib s =
     let g = grown_from_peer no_flow fb pa pb a b oa ob ia ib s in
     let P : List InboxRecord → Type 0 = λ i. (applied i ≡ []) × (skips i ≡ []) in
     through_keeps no_flow P (λ _. Unit {0})
-      (λ es before after t grown kept. let same = no_events_grow_nothing no_flow before after grown in (same.0 ∙ kept.0, same.1 ∙ kept.1))
+      (λ es before after t grown kept. let same = no_events_grow_nothing no_flow None before after grown in (same.0 ∙ kept.0, same.1 ∙ kept.1))
       g.processed [] ib (each_is_one g.processed) g.grown (refl, refl)
 
 pub senders_guarantee : SendersGuarantee

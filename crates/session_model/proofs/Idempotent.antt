@@ -5,7 +5,7 @@ use Rattle.session_model.specs.Journal.{Entry, IsEntry, counts_from}
 use Rattle.session_model.specs.Inbox.{Numbered, Range, InboxRecord, applied, skips, settled, next_number, past_greatest, numbers_of, numbers_in, times, SameNumbers}
 use Rattle.session_model.specs.Events.{Event, announce, message, with_number, standing, numbered, TrueOfJournal}
 use Rattle.session_model.specs.Growth.{jump, jumps, NeverBack, GrownIdempotent, SettlesOnce, GrownThrough, idempotent, jumps_through}
-use Rattle.session_model.specs.Laws.{IdempotentGoesOn, IdempotentConnections, IdempotentSettles, IdempotentKeepsOnce}
+use Rattle.session_model.specs.Laws.{IdempotentConnections, IdempotentSettles, IdempotentKeepsOnce}
 use Rattle.session_model.proofs.Lists.{all_append, counts_from-add, times-append, past_greatest-pos, past_greatest-append, past_greatest-counts_from}
 use Rattle.session_model.proofs.Inboxes.{applied-append, skips-append, numbers_of-append, numbers_in-append, next_number-append, times-settled-append}
 use Rattle.session_model.proofs.Numbering.{numbered-append, standing-append}
@@ -138,7 +138,8 @@ unwrap_twice : (c : Option ℕ) (next other : ℕ) → other ≡ unwrap_or c nex
 unwrap_twice None next other e = e
 unwrap_twice (Some n) next other e = refl
 
-pub idempotent_goes_on : IdempotentGoesOn
+pub idempotent_goes_on : (c : Option ℕ) (first second : List Event) (before between after : List InboxRecord)
+  → GrownIdempotent c first before between → GrownIdempotent (standing c first) second between after → GrownIdempotent c (first ++ second) before after
 idempotent_goes_on c first second before between after g f =
     let b = next_number before in
     let m = next_number between in

@@ -7,7 +7,7 @@ use Rattle.session_model.specs.Journal.{Entry, IsEntry, payloads, counts_from}
 use Rattle.session_model.specs.Inbox.{Numbered, InboxRecord, applied, skips, settled, next_number, past_greatest, numbers_of, payloads_of, numbers_in}
 use Rattle.session_model.specs.Events.{Event, standing, numbered, TrueOfJournal}
 use Rattle.session_model.specs.Growth.{chain, GrownInOrder, GrownRecoverable, AppliesPrefix, GrownThrough, recoverable}
-use Rattle.session_model.specs.Laws.{RecoverableGoesOn, RecoverableConnections, RecoverableCounts, RecoverableKeepsPrefix}
+use Rattle.session_model.specs.Laws.{RecoverableConnections, RecoverableCounts, RecoverableKeepsPrefix}
 use Rattle.session_model.proofs.Lists.{prefix_continued, all_weaker, all_append, all_contains, counts_from-add, length-counts_from, past_greatest-pos, past_greatest-counts_from, past_greatest-append}
 use Rattle.session_model.proofs.Inboxes.{applied-append, skips-append, numbers_of-append, payloads_of-append, length-payloads_of, next_number-append}
 use Rattle.session_model.proofs.Numbering.{numbered-append}
@@ -113,7 +113,8 @@ in_order_goes_on p q before between after g f =
       reaches = omega (arith, reach-append n p q, reach, second, len, g.reaches);
     }
 
-pub recoverable_goes_on : RecoverableGoesOn
+pub recoverable_goes_on : (c : Option ℕ) (first second : List Event) (before between after : List InboxRecord)
+  → GrownRecoverable c first before between → GrownRecoverable (standing c first) second between after → GrownRecoverable c (first ++ second) before after
 recoverable_goes_on c first second before between after g f =
     subst (λ ms. GrownInOrder ms before after) (sym (numbered-append c first second))
       (in_order_goes_on (numbered c first) (numbered (standing c first) second) before between after g f)

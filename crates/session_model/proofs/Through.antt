@@ -1,22 +1,40 @@
 -- Growth over several connections.
-use Rattle.std.proofs.Common.{◌≡◌, ℕ, zero, suc, List, [], ◌∷◌, ◌++◌, ◌↔◌, length, Option, Some, None, refl, sym, ap, subst, ◌∙◌, append-nil, Contains, arith}
+use Rattle.std.proofs.Common.{◌≡◌, ℕ, zero, suc, List, [], ◌∷◌, ◌++◌, ◌↔◌, length, Option, Some, None, refl, sym, ap, subst, ◌∙◌, append_assoc, append-nil, Contains, arith}
 use Rattle.std.specs.List.{AllByRecursion}
 use mathlib.Core.List.{IsPrefix}
 use Rattle.session_model.specs.Inbox.{Numbered, InboxRecord, applied, skips, next_number, numbers_of, payloads_of}
 use Rattle.session_model.specs.Journal.{counts_from}
 use Rattle.session_model.specs.Events.{Event}
-use Rattle.session_model.specs.Growth.{Flow, recoverable, idempotent, unsequenced, no_flow, Grown, GrownThrough}
-use Rattle.session_model.specs.Laws.{ConnectionsGoOn, NoEventsGrowNothing}
+use Rattle.session_model.specs.Growth.{Flow, recoverable, idempotent, unsequenced, no_flow, Grown, GrownByNone, GrownThrough}
+use Rattle.session_model.specs.Laws.{GrowthGoesOn, ConnectionsGoOn, NoEventsGrowNothing}
 use Rattle.session_model.proofs.Lists.{prefix_self, prefix_trans, prefix_equal}
 use Rattle.session_model.proofs.Inboxes.{applied-append, skips-append}
+use Rattle.session_model.proofs.Recoverable.{recoverable_goes_on}
+use Rattle.session_model.proofs.Idempotent.{idempotent_goes_on}
+use Rattle.session_model.proofs.Unsequenced.{unsequenced_goes_on}
 
 -- the generic induction: what every growth over fitting events keeps is kept over all connections
 pub through_keeps : (flow : Flow) (P : List InboxRecord → Type 0) (Q : List Event → Type 0)
-  → ((es : List Event) (before after : List InboxRecord) → Q es → Grown flow es before after → P before → P after)
+  → ((es : List Event) (before after : List InboxRecord) → Q es → Grown flow None es before after → P before → P after)
   → (carried : List (List Event)) (before after : List InboxRecord) → AllByRecursion Q carried → GrownThrough flow carried before after → P before → P after
 through_keeps flow P Q step [] before after all e p = subst P (sym e) p
 through_keeps flow P Q step (es ∷ later) before after all g p =
     through_keeps flow P Q step later g.0 after all.1 g.2 (step es before g.0 all.0 g.1 p)
+
+-- no flow grows by nothing, and then by nothing
+none_goes_on : (before between after : List InboxRecord) → GrownByNone before between → GrownByNone between after → GrownByNone before after
+none_goes_on before between after g f = record {
+  added = g.added ++ f.added;
+  behind = f.behind ∙ (ap (λ i. i ++ f.added) g.behind ∙ append_assoc before g.added f.added);
+  none_skipped = skips-append g.added f.added ∙ (ap (λ rs. rs ++ skips f.added) g.none_skipped ∙ f.none_skipped);
+  none_applied = applied-append g.added f.added ∙ (ap (λ ms. ms ++ applied f.added) g.none_applied ∙ f.none_applied);
+}
+
+pub growth_goes_on : GrowthGoesOn
+growth_goes_on recoverable c first second before between after g f = recoverable_goes_on c first second before between after g f
+growth_goes_on idempotent c first second before between after g f = idempotent_goes_on c first second before between after g f
+growth_goes_on unsequenced c first second before between after g f = unsequenced_goes_on first second before between after g f
+growth_goes_on no_flow c first second before between after g f = none_goes_on before between after g f
 
 through_joined : (flow : Flow) (first second : List (List Event)) (before between after : List InboxRecord)
   → GrownThrough flow first before between → GrownThrough flow second between after → GrownThrough flow (first ++ second) before after
@@ -32,7 +50,7 @@ through_parted flow (es ∷ first) second before after g =
 pub connections_go_on : ConnectionsGoOn
 connections_go_on flow first second before after = (through_parted flow first second before after, λ r. through_joined flow first second before r.0 after r.1 r.2)
 
-pub grown_begins : (flow : Flow) (es : List Event) (before after : List InboxRecord) → Grown flow es before after → IsPrefix before after
+pub grown_begins : (flow : Flow) (es : List Event) (before after : List InboxRecord) → Grown flow None es before after → IsPrefix before after
 grown_begins recoverable es before after g = (g.added, sym g.behind)
 grown_begins idempotent es before after g = (g.added, sym g.behind)
 grown_begins unsequenced es before after g = (g.added, sym g.behind)
@@ -57,7 +75,7 @@ no_payloads [] e = refl
 no_payloads (m ∷ ms) e = absurd (cc e)
 
 pub no_events_grow_nothing : NoEventsGrowNothing
-no_events_grow_nothing recoverable before after g = nothing_added before after g.added g.behind (none_of_none (applied g.added) g.from_carried) g.none_skipped
-no_events_grow_nothing idempotent before after g = nothing_added before after g.added g.behind g.applies g.skips_jumps
-no_events_grow_nothing unsequenced before after g = nothing_added before after g.added g.behind (no_payloads (applied g.added) g.delivers) g.none_skipped
-no_events_grow_nothing no_flow before after g = nothing_added before after g.added g.behind g.none_applied g.none_skipped
+no_events_grow_nothing recoverable c before after g = nothing_added before after g.added g.behind (none_of_none (applied g.added) g.from_carried) g.none_skipped
+no_events_grow_nothing idempotent c before after g = nothing_added before after g.added g.behind g.applies g.skips_jumps
+no_events_grow_nothing unsequenced c before after g = nothing_added before after g.added g.behind (no_payloads (applied g.added) g.delivers) g.none_skipped
+no_events_grow_nothing no_flow c before after g = nothing_added before after g.added g.behind g.none_applied g.none_skipped

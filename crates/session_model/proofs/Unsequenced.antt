@@ -5,7 +5,7 @@ use Rattle.session_model.specs.Journal.{Entry, counts_from}
 use Rattle.session_model.specs.Inbox.{Numbered, InboxRecord, applied, skips, next_number, numbers_of, payloads_of}
 use Rattle.session_model.specs.Events.{Event, messages, Rising}
 use Rattle.session_model.specs.Growth.{GrownUnsequenced, DeliversRising, GrownThrough, unsequenced}
-use Rattle.session_model.specs.Laws.{UnsequencedGoesOn, UnsequencedConnections, UnsequencedKeepsRising}
+use Rattle.session_model.specs.Laws.{UnsequencedConnections, UnsequencedKeepsRising}
 use Rattle.session_model.proofs.Lists.{counts_from-add, length-counts_from}
 use Rattle.session_model.proofs.Inboxes.{applied-append, skips-append, numbers_of-append, payloads_of-append, length-payloads_of}
 use Rattle.session_model.proofs.Numbering.{messages-append}
@@ -26,7 +26,8 @@ payloads_behind es before after g =
     ap (λ i. payloads_of (applied i)) g.behind ∙ (ap (λ ms. payloads_of ms) (applied-append before g.added)
       ∙ (payloads_of-append (applied before) (applied g.added) ∙ ap (λ ps. payloads_of (applied before) ++ ps) g.delivers))
 
-pub unsequenced_goes_on : UnsequencedGoesOn
+pub unsequenced_goes_on : (first second : List Event) (before between after : List InboxRecord)
+  → GrownUnsequenced first before between → GrownUnsequenced second between after → GrownUnsequenced (first ++ second) before after
 unsequenced_goes_on first second before between after g f =
     let n = next_number before in
     let a = length (messages first) in

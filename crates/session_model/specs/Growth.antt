@@ -72,17 +72,17 @@ pub record GrownByNone (before after : List InboxRecord) : Type 0 where
 pub data Flow : Type 0 where
   recoverable idempotent unsequenced no_flow : Flow
 
--- growth over one connection from its beginning
-abbrev pub Grown : Flow → List Event → List InboxRecord → List InboxRecord → Type 0
-Grown recoverable es before after = GrownRecoverable None es before after
-Grown idempotent es before after = GrownIdempotent None es before after
-Grown unsequenced es before after = GrownUnsequenced es before after
-Grown no_flow es before after = GrownByNone before after
+-- growth over events of one connection, where c stood announced before them: None at the connection's beginning
+abbrev pub Grown : Flow → Option ℕ → List Event → List InboxRecord → List InboxRecord → Type 0
+Grown recoverable c es before after = GrownRecoverable c es before after
+Grown idempotent c es before after = GrownIdempotent c es before after
+Grown unsequenced c es before after = GrownUnsequenced es before after
+Grown no_flow c es before after = GrownByNone before after
 
 -- growth over several connections, one after another; each begins with no announcement
 abbrev pub GrownThrough : Flow → List (List Event) → List InboxRecord → List InboxRecord → Type 0
 GrownThrough flow [] before after = after ≡ before
-GrownThrough flow (es ∷ later) before after = (between : List InboxRecord) × Grown flow es before between × GrownThrough flow later between after
+GrownThrough flow (es ∷ later) before after = (between : List InboxRecord) × Grown flow None es before between × GrownThrough flow later between after
 
 -- what a recoverable inbox keeps: it has applied the beginning of the peer's journal, each entry under its number
 pub record AppliesPrefix (h : List Entry) (inbox : List InboxRecord) : Type 0 where

@@ -44,17 +44,9 @@ RisingGoesOn = (h longer : List Entry) (n : ℕ) (first second : List (List ℕ)
   → Rising h n first → Rising longer (length h) second → Rising longer n (first ++ second)
 
 -- growth over two parts of one connection is growth over the whole: the second part from what stands behind the first
-abbrev pub RecoverableGoesOn : Type 0
-RecoverableGoesOn = (c : Option ℕ) (first second : List Event) (before between after : List InboxRecord)
-  → GrownRecoverable c first before between → GrownRecoverable (standing c first) second between after → GrownRecoverable c (first ++ second) before after
-
-abbrev pub IdempotentGoesOn : Type 0
-IdempotentGoesOn = (c : Option ℕ) (first second : List Event) (before between after : List InboxRecord)
-  → GrownIdempotent c first before between → GrownIdempotent (standing c first) second between after → GrownIdempotent c (first ++ second) before after
-
-abbrev pub UnsequencedGoesOn : Type 0
-UnsequencedGoesOn = (first second : List Event) (before between after : List InboxRecord)
-  → GrownUnsequenced first before between → GrownUnsequenced second between after → GrownUnsequenced (first ++ second) before after
+abbrev pub GrowthGoesOn : Type 0
+GrowthGoesOn = (flow : Flow) (c : Option ℕ) (first second : List Event) (before between after : List InboxRecord)
+  → Grown flow c first before between → Grown flow (standing c first) second between after → Grown flow c (first ++ second) before after
 
 -- growth over some connections and then over others is growth over all of them, and the other way round
 abbrev pub ConnectionsGoOn : Type 0
@@ -79,8 +71,8 @@ UnsequencedConnections = (carried : List (List Event)) (before after : List Inbo
 
 -- over no events nothing is applied and nothing skipped
 abbrev pub NoEventsGrowNothing : Type 0
-NoEventsGrowNothing = (flow : Flow) (before after : List InboxRecord)
-  → Grown flow [] before after → (applied after ≡ applied before) × (skips after ≡ skips before)
+NoEventsGrowNothing = (flow : Flow) (c : Option ℕ) (before after : List InboxRecord)
+  → Grown flow c [] before after → (applied after ≡ applied before) × (skips after ≡ skips before)
 
 -- a recoverable inbox counts 1, 2, 3 and so on, and waits for the number behind those
 abbrev pub RecoverableCounts : Type 0

@@ -1,7 +1,7 @@
 //! The laws of the definitions. Each function has an empty body: its clause is a statement about every list.
 //! They rest on nothing but the definitions of `specs/`.
 
-ghost use Rattle.session_model.specs.Laws.{NumberingLooksBack, MessageTakesStanding, NumberingSplits, TrueSplits, TrueStaysTrue, RisingStaysRising, RisingGoesOn, RecoverableGoesOn, IdempotentGoesOn, UnsequencedGoesOn, ConnectionsGoOn, RecoverableConnections, IdempotentConnections, UnsequencedConnections, NoEventsGrowNothing, RecoverableCounts, IdempotentSettles, RecoverableKeepsPrefix, IdempotentKeepsOnce, UnsequencedKeepsRising, PlanGoesOn, PlanCompletes, HistoriesGoOn, ChainedSplits};
+ghost use Rattle.session_model.specs.Laws.{NumberingLooksBack, MessageTakesStanding, NumberingSplits, TrueSplits, TrueStaysTrue, RisingStaysRising, RisingGoesOn, GrowthGoesOn, ConnectionsGoOn, RecoverableConnections, IdempotentConnections, UnsequencedConnections, NoEventsGrowNothing, RecoverableCounts, IdempotentSettles, RecoverableKeepsPrefix, IdempotentKeepsOnce, UnsequencedKeepsRising, PlanGoesOn, PlanCompletes, HistoriesGoOn, ChainedSplits};
 
 /// Behind an announcement and so many messages stands its number and as many more, whatever came before it.
 pub fn numbering_looks_back()
@@ -45,21 +45,9 @@ pub fn rising_goes_on()
 {
 }
 
-/// Recoverable growth over two parts of one connection is growth over the whole.
-pub fn recoverable_goes_on()
-    ensures law { RecoverableGoesOn }
-{
-}
-
-/// Idempotent growth over two parts of one connection is growth over the whole.
-pub fn idempotent_goes_on()
-    ensures law { IdempotentGoesOn }
-{
-}
-
-/// Unsequenced growth over two parts is growth over the whole.
-pub fn unsequenced_goes_on()
-    ensures law { UnsequencedGoesOn }
+/// Growth over two parts of one connection is growth over the whole, on each flow.
+pub fn growth_goes_on()
+    ensures law { GrowthGoesOn }
 {
 }
 
