@@ -11,3 +11,4 @@ pub mod Planned
 pub mod Carried
 pub mod Chains
 pub mod Guarantees
+pub mod Steps

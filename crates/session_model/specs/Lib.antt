@@ -6,3 +6,4 @@ pub mod Plans
 pub mod Lives
 pub mod Laws
 pub mod Guarantee
+pub mod Views

@@ -2,5 +2,8 @@
 //! It stands on nothing; whatever is built above has to show that it is an instance of these definitions.
 #![tactic(auto)]
 
+pub mod event;
 pub mod guarantee;
+pub mod implied;
 pub mod laws;
+
