@@ -107,7 +107,7 @@ idempotent_keeps_once h c es before after t g kept =
     }
 
 -- what is never back from a number is never back from an equal one
-back_same : (next other : ℕ) (c : Option ℕ) (es : List Event) → unwrap_or c next ≡ unwrap_or c other → NeverBack next c es → NeverBack other c es
+pub back_same : (next other : ℕ) (c : Option ℕ) (es : List Event) → unwrap_or c next ≡ unwrap_or c other → NeverBack next c es → NeverBack other c es
 back_same next other c [] e back = tt
 back_same next other c (announce None ∷ es) e back = absurd back
 back_same next other c (announce (Some a) ∷ es) e back = (omega (arith, back.0), back_same next other (Some a) es refl back.1)
@@ -122,11 +122,24 @@ jumps_same next other c (announce (Some a) ∷ es) e back =
 jumps_same next other None (message p ∷ es) e back = jumps_same next other None es e back
 jumps_same next other (Some m) (message p ∷ es) e back = jumps_same next other (Some (m + 1)) es refl back
 
-back-append : (next : ℕ) (c : Option ℕ) (first second : List Event) → NeverBack next c first → NeverBack next (standing c first) second → NeverBack next c (first ++ second)
+pub back-append : (next : ℕ) (c : Option ℕ) (first second : List Event) → NeverBack next c first → NeverBack next (standing c first) second → NeverBack next c (first ++ second)
 back-append next c [] second b d = d
 back-append next c (announce None ∷ first) second b d = absurd b
 back-append next c (announce (Some a) ∷ first) second b d = (b.0, back-append next (Some a) first second b.1 d)
 back-append next c (message p ∷ first) second b d = back-append next (option_map (λ n. n + 1) c) first second b d
+
+-- the two parts of what is never back
+pub back_first : (next : ℕ) (c : Option ℕ) (first second : List Event) → NeverBack next c (first ++ second) → NeverBack next c first
+back_first next c [] second b = tt
+back_first next c (announce None ∷ first) second b = absurd b
+back_first next c (announce (Some a) ∷ first) second b = (b.0, back_first next (Some a) first second b.1)
+back_first next c (message p ∷ first) second b = back_first next (option_map (λ n. n + 1) c) first second b
+
+pub back_second : (next : ℕ) (c : Option ℕ) (first second : List Event) → NeverBack next c (first ++ second) → NeverBack next (standing c first) second
+back_second next c [] second b = b
+back_second next c (announce None ∷ first) second b = absurd b
+back_second next c (announce (Some a) ∷ first) second b = back_second next (Some a) first second b.1
+back_second next c (message p ∷ first) second b = back_second next (option_map (λ n. n + 1) c) first second b
 
 jumps-append : (next : ℕ) (c : Option ℕ) (first second : List Event) → jumps next c (first ++ second) ≡ jumps next c first ++ jumps next (standing c first) second
 jumps-append next c [] second = refl
@@ -134,7 +147,7 @@ jumps-append next c (announce n ∷ first) second =
     ap (λ rs. jump (unwrap_or c next) n ++ rs) (jumps-append next n first second) ∙ sym (append_assoc (jump (unwrap_or c next) n) _ _)
 jumps-append next c (message p ∷ first) second = jumps-append next (option_map (λ n. n + 1) c) first second
 
-unwrap_twice : (c : Option ℕ) (next other : ℕ) → other ≡ unwrap_or c next → unwrap_or c other ≡ unwrap_or c next
+pub unwrap_twice : (c : Option ℕ) (next other : ℕ) → other ≡ unwrap_or c next → unwrap_or c other ≡ unwrap_or c next
 unwrap_twice None next other e = e
 unwrap_twice (Some n) next other e = refl
 

@@ -12,3 +12,4 @@ pub mod Carried
 pub mod Chains
 pub mod Guarantees
 pub mod Steps
+pub mod Growing

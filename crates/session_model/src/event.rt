@@ -14,6 +14,16 @@ pub enum Flow {
     NoFlow,
 }
 
+/// An entry of an outbound journal.
+#[derive(Clone, Copy)]
+pub struct Entry<'a> {
+    /// Which sender handed it in.
+    pub sender: u64,
+    /// The how-manieth of that sender it is, from 1 on.
+    pub own_number: u64,
+    pub payload: &'a [u8],
+}
+
 /// An event of a flow on a connection.
 #[derive(Clone, Copy)]
 pub enum Event<'a> {

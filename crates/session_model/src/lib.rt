@@ -3,7 +3,9 @@
 #![tactic(auto)]
 
 pub mod event;
+pub mod grown;
 pub mod guarantee;
 pub mod implied;
 pub mod laws;
+pub mod written;
 
