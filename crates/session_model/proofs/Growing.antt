@@ -1,6 +1,6 @@
 -- The plain inbox: one more record, and one more event.
-use Rattle.std.proofs.Common.{◌≡◌, ℕ, ◌+◌, ◌-◌, ◌<◌, ◌≤◌, max, List, [], ◌∷◌, ◌++◌, map, take, drop, length, get_or, slice_get, Option, None, Some, IfSome, unwrap_or, option_to_list, option_map, append-nil, append_assoc, refl, sym, ap, subst, ◌∙◌, arith, take-append-drop, Bool, IsTrue, bytes_eq}
-use Rattle.std.proofs.lemmas.List.{map-append}
+use Rattle.std.proofs.Common.{◌≡◌, ℕ, zero, suc, ◌+◌, ◌-◌, ◌<◌, ◌≤◌, max, List, [], ◌∷◌, ◌++◌, map, take, drop, length, get_or, slice_get, Option, None, Some, IfSome, unwrap_or, option_to_list, option_map, append-nil, append_assoc, refl, sym, ap, subst, ◌∙◌, arith, take-append-drop, Bool, IsTrue, bytes_eq}
+use Rattle.std.proofs.lemmas.List.{map-append, take_more}
 use Rattle.std.proofs.lemmas.Slice.Eq.{bytes_eq-Decides}
 use Rattle.std.proofs.lemmas.Option.{slice_get-map, slice_get-get_or}
 use Rattle.session_model.specs.Journal
@@ -13,6 +13,7 @@ use Rattle.session_model.specs.Growth.{NeverBack, Grown}
 use Rattle.session_model.specs.Views.{event_of, events_of, entry_of, journal_of, numbered_of, range_of, record_of, records_of, flow_of, first_in, end_of, MayGrow}
 use Rattle.session_model.specs.declared.event.Entry.{Entry}
 use Rattle.session_model.specs.declared.event.Event.{Event}
+use Rattle.session_model.specs.declared.event.Range.{Range}
 use Rattle.session_model.specs.declared.event.Record.{Record}
 use Rattle.session_model.specs.declared.event.Record.TheVariants.{Apply, Skip}
 use Rattle.session_model.specs.declared.event.Flow.{Flow}
@@ -136,3 +137,25 @@ entry_decided h n d p r low high e =
     let decides = bytes_eq-Decides ((get_or h (n - 1) d).payload.now) p in
     ( (λ t. record { from_one = low; found = here ∙ ap Some (decides.0 (sym e ∙ t)) })
     , λ is. e ∙ decides.1 (cc (here, is.found)) )
+
+-- one past a range that is not empty
+pub next_of_range : (r : Range) → 1 ≤ r.count → next_number (record_of (Skip r) ∷ []) ≡ r.first + r.count
+next_of_range r some = ap (λ ns. past_greatest ns) (append-nil (counts_from r.first r.count)) ∙ past r.first r.count some
+  where
+    past : (f k : ℕ) → 1 ≤ k → past_greatest (counts_from f k) ≡ f + k
+    past f zero h = absurd (omega arith)
+    past f (suc k) h = omega (arith, past_greatest-counts_from (f + 1) k (omega arith))
+
+-- what an inbox waits for over one more record, and over all of which one is a part
+pub next_more : (rs : List Record) (i : ℕ) (d : Record) → i < length rs
+  → next_number (records_of (take (i + 1) rs)) ≡ max (next_number (records_of (take i rs))) (next_number (record_of (get_or rs i d) ∷ []))
+next_more rs i d h =
+    ap (λ xs. next_number (records_of xs)) (take_more rs i d h)
+      ∙ (ap (λ x. next_number x) (records-push (take i rs) (get_or rs i d)) ∙ next_number-append (records_of (take i rs)) (record_of (get_or rs i d) ∷ []))
+
+pub next_within : (rs : List Record) (i : ℕ) (d : Record) → i < length rs → next_number (record_of (get_or rs i d) ∷ []) ≤ next_number (records_of rs)
+next_within rs i d h =
+    let parts : next_number (records_of rs) ≡ max (next_number (records_of (take (i + 1) rs))) (next_number (records_of (drop (i + 1) rs))) =
+      ap (λ xs. next_number (records_of xs)) (sym (take-append-drop (i + 1) rs))
+        ∙ (ap (λ x. next_number x) (map-append record_of (take (i + 1) rs) (drop (i + 1) rs)) ∙ next_number-append (records_of (take (i + 1) rs)) (records_of (drop (i + 1) rs))) in
+    omega (arith, parts, next_more rs i d h)

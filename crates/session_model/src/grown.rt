@@ -26,6 +26,18 @@ impl<'a> Inbox<'a> {
         Inbox { records: Vec::new(alloc), next: 1 }
     }
 
+    /// The inbox of a process life that finds these records: it waits for one past the greatest number in them.
+    pub fn open(records: Vec<Record<'a>>) -> Self
+        requires { next_number (records_of records.items) ≤ 2 ^ 64 + vec_len records }
+        ensures same { result.records.items ≡ records.entry.items }
+    {
+        let mut next = 1;
+        for found in &records {
+            next = next_behind(*found).max(next);
+        }
+        Inbox { records, next }
+    }
+
     /// Grows over the events of one connection, from its beginning. Where memory runs out, it has grown over the first of them.
     pub fn grow(&mut self, flow: Flow, events: &[Event<'a>]) -> Result<(), AllocError>
         requires { MayGrow flow self.old.next None (events_of events.now) }
@@ -55,6 +67,23 @@ impl<'a> Inbox<'a> {
             Record::Skip(range) => range.first + range.count,
         };
         Ok(())
+    }
+}
+
+/// The number that an inbox waits for whose one record is this: one past its last number, or 1 where it has none.
+fn next_behind(found: Record<'_>) -> u128
+    requires { next_number (record_of found ∷ []) ≤ 2 ^ 65 }
+    ensures exact { result ≡ next_number (record_of found.entry ∷ []) }
+{
+    match found {
+        Record::Apply(message) => message.number + 1,
+        Record::Skip(range) => {
+            if range.count == 0 {
+                1
+            } else {
+                range.first + range.count
+            }
+        }
     }
 }
 
