@@ -38,6 +38,15 @@ impl<'a> Inbox<'a> {
         Inbox { records, next }
     }
 
+    /// The records alone, as the next life finds them.
+    pub fn into_records(self) -> Vec<Record<'a>>
+        ensures same { result.items ≡ self.entry.records.items }
+        ensures fits { next_number (records_of result.items) ≤ 2 ^ 64 + vec_len result }
+    {
+        let Inbox { records, next: _ } = self;
+        records
+    }
+
     /// Grows over the events of one connection, from its beginning. Where memory runs out, it has grown over the first of them.
     pub fn grow(&mut self, flow: Flow, events: &[Event<'a>]) -> Result<(), AllocError>
         requires { MayGrow flow self.old.next None (events_of events.now) }

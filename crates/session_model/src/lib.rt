@@ -9,3 +9,6 @@ pub mod implied;
 pub mod laws;
 pub mod written;
 
+
+#[cfg(test)]
+mod tests;
