@@ -1,11 +1,11 @@
 -- What one end accepts of what the other wrote.
-use Rattle.std.proofs.Common.{◌≡◌, ℕ, zero, suc, ◌+◌, ◌-◌, ◌<◌, ◌≤◌, List, [], ◌∷◌, ◌++◌, map, flat_map, take, length, Option, Some, None, option_map, refl, sym, ap, subst, ◌∙◌, arith, append_assoc}
+use Rattle.std.proofs.Common.{◌≡◌, ℕ, ◌+◌, ◌-◌, List, [], ◌∷◌, ◌++◌, map, flat_map, length, Option, Some, None, option_map, refl, sym, ap, subst, ◌∙◌, arith, append_assoc}
 use Rattle.std.specs.List.{AllByRecursion, AllZip}
 use mathlib.Core.List.{IsPrefix}
 use Rattle.session_model.specs.Journal.{Entry, IsEntry}
 use Rattle.session_model.specs.Inbox.{Numbered}
-use Rattle.session_model.specs.Events.{Event, announce, message, with_number, standing, numbered, announced, messages, TrueOfJournal, Rising}
-use Rattle.session_model.specs.Lives.{Connection, BeginsAnew, TakenFrom, rest_lost, taken, passed_over, Linked, no_more, left_alone, right_alone, paired, first_events}
+use Rattle.session_model.specs.Events.{Event, announce, message, with_number, numbered, messages, TrueOfJournal, Rising}
+use Rattle.session_model.specs.Lives.{Connection, BeginsAnew, TakenFrom, rest_lost, taken, passed_over, Linked, left_alone, right_alone, paired, first_events}
 use Rattle.session_model.specs.Guarantee.{CarriedFrom, unread, nothing, carried}
 use Rattle.session_model.specs.Guarantee
 use Rattle.session_model.proofs.Lists.{prefix_take, all_first, all_second, all_append}
@@ -88,7 +88,7 @@ carried_fronts ws cs (p ∷ ps) (carried {w = w} {c = c} {written = ws'} {carrie
 
 -- what was carried of connections that are true is true
 pub carried_true : (h : List Entry) (ws cs : List (List Event)) → CarriedFrom ws cs
-  → AllByRecursion (TrueOfJournal h None) ws → AllByRecursion (TrueOfJournal h None) cs
+    → AllByRecursion (TrueOfJournal h None) ws → AllByRecursion (TrueOfJournal h None) cs
 carried_true h ws cs Guarantee.CarriedFrom.no_more all = tt
 carried_true h ws cs (unread {written = ws'} {carried = cs'} k) all = carried_true h ws' cs' k all.1
 carried_true h ws cs (nothing {written = ws'} {carried = cs'} k) all = (record { entries = tt; announced = tt }, carried_true h ws' cs' k all)
@@ -100,21 +100,21 @@ rising_second h n (p ∷ first) second r = rising_lower h r.0 n second (omega (a
 
 -- what rises still does where a part of it is left out, and what follows is thinned
 rising_thinned : (h : List Entry) (n : ℕ) (kept lost later thin : List (List ℕ)) → ((m : ℕ) → Rising h m later → Rising h m thin)
-  → Rising h n (kept ++ (lost ++ later)) → Rising h n (kept ++ thin)
+    → Rising h n (kept ++ (lost ++ later)) → Rising h n (kept ++ thin)
 rising_thinned h n [] lost later thin f r = f n (rising_second h n lost later r)
 rising_thinned h n (p ∷ kept) lost later thin f r = (r.0, r.1, r.2, rising_thinned h r.0 kept lost later thin f r.3)
 
 pub carried_rising : (h : List Entry) (ws cs : List (List Event)) → CarriedFrom ws cs
-  → (n : ℕ) → Rising h n (flat_map messages ws) → Rising h n (flat_map messages cs)
+    → (n : ℕ) → Rising h n (flat_map messages ws) → Rising h n (flat_map messages cs)
 carried_rising h ws cs Guarantee.CarriedFrom.no_more n r = r
 carried_rising h ws cs (unread {w = w} {written = ws'} {carried = cs'} k) n r = carried_rising h ws' cs' k n (rising_second h n (messages w) (flat_map messages ws') r)
 carried_rising h ws cs (nothing {written = ws'} {carried = cs'} k) n r = carried_rising h ws' cs' k n r
 carried_rising h ws cs (carried {w = w} {c = c} {written = ws'} {carried = cs'} t k) n r =
     let front = taken_messages w c t in
     let whole : messages w ++ flat_map messages ws' ≡ messages c ++ (front.0 ++ flat_map messages ws') =
-      ap (λ ps. ps ++ flat_map messages ws') (sym front.1) ∙ append_assoc (messages c) front.0 (flat_map messages ws') in
+    ap (λ ps. ps ++ flat_map messages ws') (sym front.1) ∙ append_assoc (messages c) front.0 (flat_map messages ws') in
     rising_thinned h n (messages c) front.0 (flat_map messages ws') (flat_map messages cs') (carried_rising h ws' cs' k)
-      (subst (λ ps. Rising h n ps) whole r)
+    (subst (λ ps. Rising h n ps) whole r)
 
 -- of linked connections, each end carried from the other
 abbrev pub written_of : List Connection → List (List Event)

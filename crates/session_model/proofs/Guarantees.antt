@@ -1,14 +1,12 @@
 -- The session guarantee.
-use Rattle.std.proofs.Common.{◌≡◌, ℕ, ◌+◌, ◌-◌, ◌≤◌, List, [], ◌∷◌, ◌++◌, map, flat_map, length, Option, None, refl, sym, ap, subst, ◌∙◌, arith}
+use Rattle.std.proofs.Common.{◌≡◌, ℕ, List, [], ◌∷◌, length, None, refl, sym, subst, ◌∙◌, arith}
 use Rattle.std.specs.List.{AllByRecursion}
-use mathlib.Core.List.{IsPrefix}
-use Rattle.session_model.specs.Journal.{Entry, OutboxRecord, entries, payloads, counts_from}
-use Rattle.session_model.specs.Inbox.{InboxRecord, applied, skips, numbers_of, payloads_of}
-use Rattle.session_model.specs.Events.{Event, messages, TrueOfJournal, Rising}
-use Rattle.session_model.specs.Growth.{Flow, recoverable, idempotent, unsequenced, no_flow, Grown, GrownThrough, AppliesPrefix, SettlesOnce, DeliversRising}
-use Rattle.session_model.specs.Lives.{Connection, Life, KeepsContract, Chained, connections_of, Linked}
-use Rattle.session_model.specs.Guarantee.{Session, SessionTurnsRound, CarriedFrom, GrownFromPeer, RecoverableGuarantee, IdempotentGuarantee, UnsequencedGuarantee, NoFlowGuarantee, SendersGuarantee}
-use Rattle.session_model.proofs.Inboxes.{applied-append}
+use Rattle.session_model.specs.Journal.{OutboxRecord, entries, payloads, counts_from}
+use Rattle.session_model.specs.Inbox.{InboxRecord, applied, skips, numbers_of}
+use Rattle.session_model.specs.Events.{Event, TrueOfJournal, Rising}
+use Rattle.session_model.specs.Growth.{Flow, recoverable, idempotent, unsequenced, no_flow, AppliesPrefix, SettlesOnce}
+use Rattle.session_model.specs.Lives.{Life, connections_of}
+use Rattle.session_model.specs.Guarantee.{Session, SessionTurnsRound, GrownFromPeer, RecoverableGuarantee, IdempotentGuarantee, UnsequencedGuarantee, NoFlowGuarantee, SendersGuarantee}
 use Rattle.session_model.proofs.Through.{through_keeps, no_events_grow_nothing}
 use Rattle.session_model.proofs.Recoverable.{recoverable_keeps_prefix}
 use Rattle.session_model.proofs.Idempotent.{idempotent_keeps_once}
@@ -27,7 +25,7 @@ session_turns_round fa fb pa pb a b oa ob ia ib s = record {
 
 -- the inbox of b is grown over what the connections of a carried
 grown_from_peer : (fa fb : Flow) (pa pb : ℕ → List (List ℕ) → List (List ℕ)) (a b : List Life) (oa ob : List OutboxRecord) (ia ib : List InboxRecord)
-  → Session fa fb pa pb a b oa ob ia ib → GrownFromPeer fa a ib
+    → Session fa fb pa pb a b oa ob ia ib → GrownFromPeer fa a ib
 grown_from_peer fa fb pa pb a b oa ob ia ib s =
     let read = read_processed fb fa pb b [] ob [] ib s.contract_b s.chained_b in
     record {
@@ -41,20 +39,22 @@ recoverable_guarantee fb pa pb a b oa ob ia ib s =
     let h = entries oa in
     let g = grown_from_peer recoverable fb pa pb a b oa ob ia ib s in
     let wrote = wrote_true recoverable fb pa a [] oa [] ia (λ _ _ _ w. w) s.contract_a s.chained_a in
-    let start : AppliesPrefix h [] = record { prefix = (payloads h, refl); counted = refl; whole = refl } in
-    ( through_keeps recoverable (AppliesPrefix h) (TrueOfJournal h None) (λ es before after t grown kept. recoverable_keeps_prefix h None es before after t grown kept)
-        g.processed [] ib (carried_true h (written_of (connections_of a)) g.processed g.from_peer wrote) g.grown start
-    , g )
+    let start : AppliesPrefix h [] = record { prefix = (payloads h, refl); counted = refl; whole = refl } in (
+      through_keeps recoverable (AppliesPrefix h) (TrueOfJournal h None) (λ es before after t grown kept. recoverable_keeps_prefix h None es before after t grown kept)
+          g.processed [] ib (carried_true h (written_of (connections_of a)) g.processed g.from_peer wrote) g.grown start,
+      g,
+    )
 
 pub idempotent_guarantee : IdempotentGuarantee
 idempotent_guarantee fb pa pb a b oa ob ia ib s =
     let h = entries oa in
     let g = grown_from_peer idempotent fb pa pb a b oa ob ia ib s in
     let wrote = wrote_true idempotent fb pa a [] oa [] ia (λ _ _ _ w. w) s.contract_a s.chained_a in
-    let start : SettlesOnce h [] = record { once = λ n. refl; entries = tt; within = omega arith } in
-    ( through_keeps idempotent (SettlesOnce h) (TrueOfJournal h None) (λ es before after t grown kept. idempotent_keeps_once h None es before after t grown kept)
-        g.processed [] ib (carried_true h (written_of (connections_of a)) g.processed g.from_peer wrote) g.grown start
-    , g )
+    let start : SettlesOnce h [] = record { once = λ n. refl; entries = tt; within = omega arith } in (
+      through_keeps idempotent (SettlesOnce h) (TrueOfJournal h None) (λ es before after t grown kept. idempotent_keeps_once h None es before after t grown kept)
+          g.processed [] ib (carried_true h (written_of (connections_of a)) g.processed g.from_peer wrote) g.grown start,
+      g,
+    )
 
 -- of whatever lists, each is one
 each_is_one : (lists : List (List Event)) → AllByRecursion (λ _. Unit {0}) lists
@@ -67,23 +67,24 @@ unsequenced_guarantee fb pa pb a b oa ob ia ib s =
     let g = grown_from_peer unsequenced fb pa pb a b oa ob ia ib s in
     let P : List InboxRecord → Type 0 = λ i. (numbers_of (applied i) ≡ counts_from 1 (length (applied i))) × (skips i ≡ []) in
     let counted : P ib = through_keeps unsequenced P (λ _. Unit {0}) (λ es before after t grown kept. unsequenced_counted es before after grown kept.0 kept.1)
-      g.processed [] ib (each_is_one g.processed) g.grown (refl, refl) in
-    let wrote = wrote_rising fb pa a [] oa [] ia s.contract_a s.chained_a in
-    ( record {
+    g.processed [] ib (each_is_one g.processed) g.grown (refl, refl) in
+    let wrote = wrote_rising fb pa a [] oa [] ia s.contract_a s.chained_a in (
+      record {
         rising = subst (λ ps. Rising h 0 ps) (sym (unsequenced_connections g.processed [] ib g.grown))
-          (carried_rising h (written_of (connections_of a)) g.processed g.from_peer 0 wrote);
+            (carried_rising h (written_of (connections_of a)) g.processed g.from_peer 0 wrote);
         counted = counted.0;
         whole = counted.1;
-      }
-    , g )
+      },
+      g,
+    )
 
 pub no_flow_guarantee : NoFlowGuarantee
 no_flow_guarantee fb pa pb a b oa ob ia ib s =
     let g = grown_from_peer no_flow fb pa pb a b oa ob ia ib s in
     let P : List InboxRecord → Type 0 = λ i. (applied i ≡ []) × (skips i ≡ []) in
     through_keeps no_flow P (λ _. Unit {0})
-      (λ es before after t grown kept. let same = no_events_grow_nothing no_flow None before after grown in (same.0 ∙ kept.0, same.1 ∙ kept.1))
-      g.processed [] ib (each_is_one g.processed) g.grown (refl, refl)
+    (λ es before after t grown kept. let same = no_events_grow_nothing no_flow None before after grown in (same.0 ∙ kept.0, same.1 ∙ kept.1))
+    g.processed [] ib (each_is_one g.processed) g.grown (refl, refl)
 
 pub senders_guarantee : SendersGuarantee
 senders_guarantee own peer plan lives outbox inbox goes c all = record {

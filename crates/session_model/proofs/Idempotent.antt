@@ -1,14 +1,14 @@
 -- The laws of idempotent growth.
-use Rattle.std.proofs.Common.{◌≡◌, ℕ, zero, suc, ◌+◌, ◌-◌, ◌<◌, ◌≤◌, max, ◌==◌, nat_lt, Bool, true, false, if◌then◌else◌, List, [], ◌∷◌, ◌++◌, map, flat_map, length, Option, Some, None, IfSome, option_map, unwrap_or, refl, sym, ap, subst, ◌∙◌, arith, append_assoc, append-nil, ltb-true, ltb-false}
+use Rattle.std.proofs.Common.{◌≡◌, ℕ, suc, ◌+◌, ◌-◌, ◌≤◌, max, nat_lt, Bool, true, false, if◌then◌else◌, List, [], ◌∷◌, ◌++◌, flat_map, length, Option, Some, None, IfSome, option_map, unwrap_or, refl, sym, ap, subst, ◌∙◌, arith, append_assoc, append-nil, ltb-false}
 use Rattle.std.specs.List.{AllByRecursion}
-use Rattle.session_model.specs.Journal.{Entry, IsEntry, counts_from}
-use Rattle.session_model.specs.Inbox.{Numbered, Range, InboxRecord, applied, skips, settled, next_number, past_greatest, numbers_of, numbers_in, times, SameNumbers}
-use Rattle.session_model.specs.Events.{Event, announce, message, with_number, standing, numbered, TrueOfJournal}
-use Rattle.session_model.specs.Growth.{jump, jumps, NeverBack, GrownIdempotent, SettlesOnce, GrownThrough, idempotent, jumps_through}
+use Rattle.session_model.specs.Journal.{IsEntry, counts_from}
+use Rattle.session_model.specs.Inbox.{Numbered, InboxRecord, applied, skips, settled, next_number, past_greatest, numbers_of, numbers_in, times, SameNumbers}
+use Rattle.session_model.specs.Events.{Event, announce, message, standing, numbered}
+use Rattle.session_model.specs.Growth.{jump, jumps, NeverBack, GrownIdempotent, jumps_through}
 use Rattle.session_model.specs.Laws.{IdempotentConnections, IdempotentSettles, IdempotentKeepsOnce}
 use Rattle.session_model.proofs.Lists.{all_append, counts_from-add, times-append, past_greatest-pos, past_greatest-append, past_greatest-counts_from}
-use Rattle.session_model.proofs.Inboxes.{applied-append, skips-append, numbers_of-append, numbers_in-append, next_number-append, times-settled-append}
-use Rattle.session_model.proofs.Numbering.{numbered-append, standing-append}
+use Rattle.session_model.proofs.Inboxes.{applied-append, skips-append, numbers_in-append, next_number-append, times-settled-append}
+use Rattle.session_model.proofs.Numbering.{numbered-append}
 use Rattle.session_model.proofs.Truth.{standing_within}
 
 -- the numbers of a jump are those up to the number announced
@@ -27,7 +27,7 @@ record Settled (next : ℕ) (c : Option ℕ) (es : List Event) : Type 0 where
   each : (n : ℕ) → times n (numbers_of (numbered c es)) + times n (numbers_in (jumps next c es)) ≡ times n (counts_from (unwrap_or c next) steps)
 
 one_more : (n m steps : ℕ) (own jumped : List ℕ) → times n own + times n jumped ≡ times n (counts_from (m + 1) steps)
-  → times n (m ∷ own) + times n jumped ≡ times n (counts_from m (suc steps))
+    → times n (m ∷ own) + times n jumped ≡ times n (counts_from m (suc steps))
 one_more n m steps own jumped e = omega (arith, e, times-append n (m ∷ []) own, times-append n (m ∷ []) (counts_from (m + 1) steps))
 
 settles : (next : ℕ) (c : Option ℕ) (es : List Event) → 1 ≤ unwrap_or c next → NeverBack next c es → Settled next c es
@@ -37,14 +37,21 @@ settles next c (announce (Some a) ∷ es) pos back =
     let r = unwrap_or c next in
     let rest = settles next (Some a) es (omega (arith, back.0)) back.1 in
     let own : numbers_in (jumps next c (announce (Some a) ∷ es)) ≡ counts_from r (a - r) ++ numbers_in (jumps next (Some a) es) =
-      numbers_in-append (jump r (Some a)) (jumps next (Some a) es) ∙ ap (λ ns. ns ++ numbers_in (jumps next (Some a) es)) (jump-numbers r a back.0) in
+    numbers_in-append (jump r (Some a)) (jumps next (Some a) es) ∙ ap (λ ns. ns ++ numbers_in (jumps next (Some a) es)) (jump-numbers r a back.0) in
     let there : r + (a - r) ≡ a = omega (arith, back.0) in
     record {
       steps = (a - r) + rest.steps;
       reached = omega (arith, rest.reached, back.0);
       greatest = omega (arith, ap (λ ns. past_greatest ns) own, past_greatest-append (counts_from r (a - r)) (numbers_in (jumps next (Some a) es)), past_greatest-counts_from r (a - r) pos, rest.greatest, back.0);
-      each = λ n. omega (arith, ap (λ ns. times n ns) own, times-append n (counts_from r (a - r)) (numbers_in (jumps next (Some a) es)), rest.each n,
-        ap (λ ns. times n ns) (counts_from-add r (a - r) rest.steps), times-append n (counts_from r (a - r)) (counts_from (r + (a - r)) rest.steps), ap (λ k. times n (counts_from k rest.steps)) there);
+      each = λ n. omega (
+        arith,
+        ap (λ ns. times n ns) own,
+        times-append n (counts_from r (a - r)) (numbers_in (jumps next (Some a) es)),
+        rest.each n,
+        ap (λ ns. times n ns) (counts_from-add r (a - r) rest.steps),
+        times-append n (counts_from r (a - r)) (counts_from (r + (a - r)) rest.steps),
+        ap (λ k. times n (counts_from k rest.steps)) there,
+      );
     }
 settles next None (message p ∷ es) pos back = let rest = settles next None es pos back in record { steps = rest.steps; reached = rest.reached; greatest = rest.greatest; each = rest.each }
 settles next (Some m) (message p ∷ es) pos back =
@@ -74,12 +81,19 @@ settled_by c es before after g =
     let pos : 1 ≤ next = past_greatest-pos (settled before) in
     let all = settles next c es (omega (arith, same)) g.never_back in
     let own : settled g.added ≡ numbers_of (numbered c es) ++ numbers_in (jumps next c es) =
-      ap (λ ms. numbers_of ms ++ numbers_in (skips g.added)) g.applies ∙ ap (λ rs. numbers_of (numbered c es) ++ numbers_in rs) g.skips_jumps in
+    ap (λ ms. numbers_of ms ++ numbers_in (skips g.added)) g.applies ∙ ap (λ rs. numbers_of (numbered c es) ++ numbers_in rs) g.skips_jumps in
     record {
       steps = all.steps;
       reached = omega (arith, all.reached, same);
-      next = omega (arith, ap (λ i. next_number i) g.behind, next_number-append before g.added, ap (λ ns. past_greatest ns) own,
-        past_greatest-append (numbers_of (numbered c es)) (numbers_in (jumps next c es)), all.greatest, same);
+      next = omega (
+        arith,
+        ap (λ i. next_number i) g.behind,
+        next_number-append before g.added,
+        ap (λ ns. past_greatest ns) own,
+        past_greatest-append (numbers_of (numbered c es)) (numbers_in (jumps next c es)),
+        all.greatest,
+        same,
+      );
       each = λ n. omega (arith, ap (λ ns. times n ns) own, times-append n (numbers_of (numbered c es)) (numbers_in (jumps next c es)), all.each n, ap (λ k. times n (counts_from k all.steps)) same);
     }
 
@@ -99,9 +113,17 @@ idempotent_keeps_once h c es before after t g kept =
     let seam : 1 + (b - 1) ≡ b = omega arith in
     let both : applied after ≡ applied before ++ numbered c es = ap (λ i. applied i) g.behind ∙ (applied-append before g.added ∙ ap (λ ms. applied before ++ ms) g.applies) in
     record {
-      once = λ n. omega (arith, ap (λ i. times n (settled i)) g.behind, times-settled-append n before g.added, kept.once n, all.each n,
-        ap (λ k. times n (counts_from 1 k)) whole, ap (λ ns. times n ns) (counts_from-add 1 (b - 1) all.steps),
-        times-append n (counts_from 1 (b - 1)) (counts_from (1 + (b - 1)) all.steps), ap (λ k. times n (counts_from k all.steps)) seam);
+      once = λ n. omega (
+        arith,
+        ap (λ i. times n (settled i)) g.behind,
+        times-settled-append n before g.added,
+        kept.once n,
+        all.each n,
+        ap (λ k. times n (counts_from 1 k)) whole,
+        ap (λ ns. times n ns) (counts_from-add 1 (b - 1) all.steps),
+        times-append n (counts_from 1 (b - 1)) (counts_from (1 + (b - 1)) all.steps),
+        ap (λ k. times n (counts_from k all.steps)) seam,
+      );
       entries = subst (AllByRecursion P) (sym both) (all_append P (applied before) (numbered c es) kept.entries t.entries);
       within = omega (arith, all.next, all.reached, standing_within h b c es t kept.within (subst (λ k. k ≤ length h + 1) (sym (agreed b c g.agrees)) kept.within));
     }
@@ -152,7 +174,7 @@ unwrap_twice None next other e = e
 unwrap_twice (Some n) next other e = refl
 
 pub idempotent_goes_on : (c : Option ℕ) (first second : List Event) (before between after : List InboxRecord)
-  → GrownIdempotent c first before between → GrownIdempotent (standing c first) second between after → GrownIdempotent c (first ++ second) before after
+    → GrownIdempotent c first before between → GrownIdempotent (standing c first) second between after → GrownIdempotent c (first ++ second) before after
 idempotent_goes_on c first second before between after g f =
     let b = next_number before in
     let m = next_number between in
@@ -166,9 +188,9 @@ idempotent_goes_on c first second before between after g f =
       agrees = g.agrees;
       never_back = back-append b c first second g.never_back (back_same m b s second same f.never_back);
       applies = applied-append g.added f.added ∙ (ap (λ ms. ms ++ applied f.added) g.applies
-        ∙ (ap (λ ms. numbered c first ++ ms) f.applies ∙ sym (numbered-append c first second)));
+          ∙ (ap (λ ms. numbered c first ++ ms) f.applies ∙ sym (numbered-append c first second)));
       skips_jumps = skips-append g.added f.added ∙ (ap (λ rs. rs ++ skips f.added) g.skips_jumps
-        ∙ (ap (λ rs. jumps b c first ++ rs) (f.skips_jumps ∙ jumps_same m b s second same f.never_back) ∙ sym (jumps-append b c first second)));
+          ∙ (ap (λ rs. jumps b c first ++ rs) (f.skips_jumps ∙ jumps_same m b s second same f.never_back) ∙ sym (jumps-append b c first second)));
     }
 
 pub idempotent_connections : IdempotentConnections
@@ -177,9 +199,10 @@ idempotent_connections (es ∷ later) before after through =
     let g = through.1 in
     let rest = idempotent_connections later through.0 after through.2 in
     let all = settled_by None es before through.0 g in
-    let reached : next_number through.0 ≡ unwrap_or (standing None es) (next_number before) = omega (arith, all.next, all.reached) in
-    ( rest.0 ∙ (ap (λ ms. ms ++ flat_map (numbered None) later) (ap (λ i. applied i) g.behind ∙ (applied-append before g.added ∙ ap (λ ms. applied before ++ ms) g.applies))
-        ∙ append_assoc (applied before) (numbered None es) (flat_map (numbered None) later))
-    , rest.1 ∙ (ap (λ rs. rs ++ jumps_through (next_number through.0) later) (ap (λ i. skips i) g.behind ∙ (skips-append before g.added ∙ ap (λ rs. skips before ++ rs) g.skips_jumps))
-        ∙ (append_assoc (skips before) (jumps (next_number before) None es) (jumps_through (next_number through.0) later)
-          ∙ ap (λ k. skips before ++ (jumps (next_number before) None es ++ jumps_through k later)) reached)) )
+    let reached : next_number through.0 ≡ unwrap_or (standing None es) (next_number before) = omega (arith, all.next, all.reached) in (
+      rest.0 ∙ (ap (λ ms. ms ++ flat_map (numbered None) later) (ap (λ i. applied i) g.behind ∙ (applied-append before g.added ∙ ap (λ ms. applied before ++ ms) g.applies))
+          ∙ append_assoc (applied before) (numbered None es) (flat_map (numbered None) later)),
+      rest.1 ∙ (ap (λ rs. rs ++ jumps_through (next_number through.0) later) (ap (λ i. skips i) g.behind ∙ (skips-append before g.added ∙ ap (λ rs. skips before ++ rs) g.skips_jumps))
+          ∙ (append_assoc (skips before) (jumps (next_number before) None es) (jumps_through (next_number through.0) later)
+          ∙ ap (λ k. skips before ++ (jumps (next_number before) None es ++ jumps_through k later)) reached)),
+    )

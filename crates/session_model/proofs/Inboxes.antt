@@ -1,8 +1,8 @@
 -- What is applied, missing and next over two parts of an inbox.
-use Rattle.std.proofs.Common.{◌≡◌, ℕ, zero, suc, ◌+◌, ◌-◌, ◌<◌, ◌≤◌, max, List, [], ◌∷◌, ◌++◌, map, flat_map, length, refl, sym, ap, ◌∙◌, arith}
+use Rattle.std.proofs.Common.{◌≡◌, ℕ, suc, ◌+◌, max, List, [], ◌∷◌, ◌++◌, length, refl, ap, arith}
 use Rattle.std.proofs.lemmas.List.{map-append}
 use Rattle.std.proofs.lemmas.Grind.{flat_map-append}
-use Rattle.session_model.specs.Inbox.{Numbered, Range, InboxRecord, apply, skip, negotiated, peer_finished, applied, skips, missing, settled, numbers_of, payloads_of, numbers_in, next_number, past_greatest, times}
+use Rattle.session_model.specs.Inbox.{Numbered, Range, InboxRecord, apply, skip, negotiated, peer_finished, applied, skips, settled, numbers_of, payloads_of, numbers_in, next_number, times}
 use Rattle.session_model.proofs.Lists.{past_greatest-append, times-append}
 
 pub applied-append : (first second : List InboxRecord) → applied (first ++ second) ≡ applied first ++ applied second

@@ -1,9 +1,9 @@
 -- Journals grow, and their entries stay.
-use Rattle.std.proofs.Common.{◌≡◌, ℕ, zero, suc, ◌+◌, ◌-◌, ◌<◌, ◌≤◌, List, [], ◌∷◌, ◌++◌, map, length, slice_get, Some, None, refl, sym, ap, ◌∙◌, arith}
+use Rattle.std.proofs.Common.{◌≡◌, ℕ, suc, ◌-◌, ◌≤◌, List, [], ◌∷◌, ◌++◌, length, refl, sym, ap, ◌∙◌, arith}
 use Rattle.std.proofs.lemmas.Option.{slice_get_within}
 use mathlib.Core.List.{IsPrefix}
-use Rattle.session_model.specs.Journal.{Entry, IsEntry, payloads, entries_of, OutboxRecord, entry, finish, entries, History, BeginsHistory}
-use Rattle.session_model.proofs.Lists.{prefix_map, prefix_get, prefix_filter, prefix_trans}
+use Rattle.session_model.specs.Journal.{Entry, IsEntry, payloads, entries_of, OutboxRecord, entry, finish, entries}
+use Rattle.session_model.proofs.Lists.{prefix_map, prefix_get, prefix_filter}
 
 pub entry_stays : (h longer : List Entry) (n : ℕ) (p : List ℕ) → IsPrefix h longer → IsEntry h n p → IsEntry longer n p
 entry_stays h longer n p begins e = record { from_one = e.from_one; found = prefix_get (payloads h) (payloads longer) (n - 1) p (prefix_map (λ (e : Entry). e.payload) h longer begins) e.found }

@@ -1,12 +1,12 @@
 -- Beginnings of lists, lists of numbers, and what holds of each element.
-use Rattle.std.proofs.Common.{◌≡◌, ℕ, zero, suc, ◌+◌, ◌-◌, ◌<◌, ◌≤◌, max, List, [], ◌∷◌, ◌++◌, map, flat_map, filter, length, take, drop, slice_get, Some, None, Bool, true, false, cond, refl, sym, ap, subst, ◌∙◌, arith, append_assoc, append-nil, length-append, take-append-drop, Contains, count_by, add-zero, zero-add, suc-add}
+use Rattle.std.proofs.Common.{◌≡◌, ℕ, zero, suc, ◌+◌, ◌≤◌, max, List, [], ◌∷◌, ◌++◌, map, filter, length, take, drop, slice_get, Some, Bool, refl, sym, ap, ◌∙◌, arith, append_assoc, append-nil, length-append, take-append-drop, Contains, add-zero, zero-add, suc-add}
 use Rattle.std.proofs.lemmas.List.{map-append}
 use Rattle.std.proofs.lemmas.List.Elements.{filter-append, All-contains, All-from_recursion}
 use Rattle.std.proofs.lemmas.List.Sums.{sum_by-append}
 use Rattle.std.specs.List.{AllByRecursion}
 use mathlib.Core.List.{IsPrefix}
 use Rattle.session_model.specs.Journal.{counts_from}
-use Rattle.session_model.specs.Inbox.{past_greatest, times, SameNumbers}
+use Rattle.session_model.specs.Inbox.{past_greatest, times}
 
 pub prefix_self : {A : Type 0} (xs : List A) → IsPrefix xs xs
 prefix_self xs = ([], append-nil xs)

@@ -1,8 +1,6 @@
 -- Plans that are continued, and histories.
-use Rattle.std.proofs.Common.{◌≡◌, ℕ, true, List, [], ◌∷◌, ◌++◌, length, drop, refl, sym, ap, subst, ◌∙◌}
+use Rattle.std.proofs.Common.{◌++◌, length, drop, sym, ap, subst, ◌∙◌}
 use mathlib.Core.List.{IsPrefix}
-use Rattle.session_model.specs.Journal.{History, BeginsHistory}
-use Rattle.session_model.specs.Plans.{Continues, Completes}
 use Rattle.session_model.specs.Laws.{PlanGoesOn, PlanCompletes, HistoriesGoOn}
 use Rattle.session_model.proofs.Lists.{prefix_trans, prefix_continued, drop_length}
 

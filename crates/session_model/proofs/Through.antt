@@ -1,13 +1,12 @@
 -- Growth over several connections.
-use Rattle.std.proofs.Common.{◌≡◌, ℕ, zero, suc, List, [], ◌∷◌, ◌++◌, ◌↔◌, length, Option, Some, None, refl, sym, ap, subst, ◌∙◌, append_assoc, append-nil, Contains, arith}
+use Rattle.std.proofs.Common.{◌≡◌, List, [], ◌∷◌, ◌++◌, None, refl, sym, ap, subst, ◌∙◌, append_assoc, append-nil, Contains, arith}
 use Rattle.std.specs.List.{AllByRecursion}
 use mathlib.Core.List.{IsPrefix}
-use Rattle.session_model.specs.Inbox.{Numbered, InboxRecord, applied, skips, next_number, numbers_of, payloads_of}
-use Rattle.session_model.specs.Journal.{counts_from}
+use Rattle.session_model.specs.Inbox.{Numbered, InboxRecord, applied, skips, payloads_of}
 use Rattle.session_model.specs.Events.{Event}
 use Rattle.session_model.specs.Growth.{Flow, recoverable, idempotent, unsequenced, no_flow, Grown, GrownByNone, GrownThrough}
 use Rattle.session_model.specs.Laws.{GrowthGoesOn, ConnectionsGoOn, NoEventsGrowNothing}
-use Rattle.session_model.proofs.Lists.{prefix_self, prefix_trans, prefix_equal}
+use Rattle.session_model.proofs.Lists.{prefix_trans, prefix_equal}
 use Rattle.session_model.proofs.Inboxes.{applied-append, skips-append}
 use Rattle.session_model.proofs.Recoverable.{recoverable_goes_on}
 use Rattle.session_model.proofs.Idempotent.{idempotent_goes_on}
@@ -15,8 +14,8 @@ use Rattle.session_model.proofs.Unsequenced.{unsequenced_goes_on}
 
 -- the generic induction: what every growth over fitting events keeps is kept over all connections
 pub through_keeps : (flow : Flow) (P : List InboxRecord → Type 0) (Q : List Event → Type 0)
-  → ((es : List Event) (before after : List InboxRecord) → Q es → Grown flow None es before after → P before → P after)
-  → (carried : List (List Event)) (before after : List InboxRecord) → AllByRecursion Q carried → GrownThrough flow carried before after → P before → P after
+    → ((es : List Event) (before after : List InboxRecord) → Q es → Grown flow None es before after → P before → P after)
+    → (carried : List (List Event)) (before after : List InboxRecord) → AllByRecursion Q carried → GrownThrough flow carried before after → P before → P after
 through_keeps flow P Q step [] before after all e p = subst P (sym e) p
 through_keeps flow P Q step (es ∷ later) before after all g p =
     through_keeps flow P Q step later g.0 after all.1 g.2 (step es before g.0 all.0 g.1 p)
@@ -37,12 +36,12 @@ growth_goes_on unsequenced c first second before between after g f = unsequenced
 growth_goes_on no_flow c first second before between after g f = none_goes_on before between after g f
 
 through_joined : (flow : Flow) (first second : List (List Event)) (before between after : List InboxRecord)
-  → GrownThrough flow first before between → GrownThrough flow second between after → GrownThrough flow (first ++ second) before after
+    → GrownThrough flow first before between → GrownThrough flow second between after → GrownThrough flow (first ++ second) before after
 through_joined flow [] second before between after e g = subst (λ i. GrownThrough flow second i after) e g
 through_joined flow (es ∷ first) second before between after f g = (f.0, f.1, through_joined flow first second f.0 between after f.2 g)
 
 through_parted : (flow : Flow) (first second : List (List Event)) (before after : List InboxRecord) → GrownThrough flow (first ++ second) before after
-  → (between : List InboxRecord) × GrownThrough flow first before between × GrownThrough flow second between after
+    → (between : List InboxRecord) × GrownThrough flow first before between × GrownThrough flow second between after
 through_parted flow [] second before after g = (before, refl, g)
 through_parted flow (es ∷ first) second before after g =
     let r = through_parted flow first second g.0 after g.2 in (r.0, (g.0, g.1, r.1), r.2)
@@ -61,10 +60,11 @@ through_begins flow [] before after e = prefix_equal before after (sym e)
 through_begins flow (es ∷ later) before after g = prefix_trans before g.0 after (grown_begins flow es before g.0 g.1) (through_begins flow later g.0 after g.2)
 
 nothing_added : (before after added : List InboxRecord) → after ≡ before ++ added → applied added ≡ [] → skips added ≡ []
-  → (applied after ≡ applied before) × (skips after ≡ skips before)
-nothing_added before after added e none none' =
-    ( ap (λ i. applied i) e ∙ (applied-append before added ∙ (ap (λ ms. applied before ++ ms) none ∙ append-nil (applied before)))
-    , ap (λ i. skips i) e ∙ (skips-append before added ∙ (ap (λ rs. skips before ++ rs) none' ∙ append-nil (skips before))) )
+    → (applied after ≡ applied before) × (skips after ≡ skips before)
+nothing_added before after added e none none' = (
+  ap (λ i. applied i) e ∙ (applied-append before added ∙ (ap (λ ms. applied before ++ ms) none ∙ append-nil (applied before))),
+  ap (λ i. skips i) e ∙ (skips-append before added ∙ (ap (λ rs. skips before ++ rs) none' ∙ append-nil (skips before))),
+)
 
 none_of_none : (ms : List Numbered) → AllByRecursion (λ m. Contains [] m) ms → ms ≡ []
 none_of_none [] all = refl

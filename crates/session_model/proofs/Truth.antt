@@ -1,10 +1,9 @@
 -- What is true of a journal, and what rises through it.
-use Rattle.std.proofs.Common.{◌≡◌, ℕ, zero, suc, ◌+◌, ◌-◌, ◌<◌, ◌≤◌, List, [], ◌∷◌, ◌++◌, length, Option, Some, None, option_map, unwrap_or, refl, sym, ap, subst, ◌∙◌, arith}
+use Rattle.std.proofs.Common.{ℕ, ◌+◌, ◌≤◌, List, [], ◌∷◌, ◌++◌, length, Option, Some, None, unwrap_or, sym, subst, arith}
 use Rattle.std.specs.List.{AllByRecursion}
-use mathlib.Core.List.{IsPrefix}
 use Rattle.session_model.specs.Journal.{Entry, IsEntry}
 use Rattle.session_model.specs.Inbox.{Numbered}
-use Rattle.session_model.specs.Events.{Event, announce, message, standing, numbered, announced, messages, TrueOfJournal, Rising}
+use Rattle.session_model.specs.Events.{Event, announce, message, standing, numbered, announced, TrueOfJournal, Rising}
 use Rattle.session_model.specs.Laws.{TrueSplits, TrueStaysTrue, RisingStaysRising, RisingGoesOn}
 use Rattle.session_model.proofs.Lists.{prefix_length, all_weaker, all_append, all_first, all_second}
 use Rattle.session_model.proofs.Journals.{entry_stays, entry_within}
@@ -62,7 +61,7 @@ rising_goes_on h longer n (p ∷ first) second begins le r s =
 
 -- behind events that are true, the number that stands announced is at most one past the journal
 pub standing_within : (h : List Entry) (next : ℕ) (c : Option ℕ) (es : List Event) → TrueOfJournal h c es
-  → next ≤ length h + 1 → unwrap_or c next ≤ length h + 1 → unwrap_or (standing c es) next ≤ length h + 1
+    → next ≤ length h + 1 → unwrap_or c next ≤ length h + 1 → unwrap_or (standing c es) next ≤ length h + 1
 standing_within h next c [] t low le = le
 standing_within h next c (announce None ∷ es) t low le = standing_within h next None es (record { entries = t.entries; announced = t.announced }) low low
 standing_within h next c (announce (Some n) ∷ es) t low le =

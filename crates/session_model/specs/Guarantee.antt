@@ -21,9 +21,9 @@ pub record Session (flow_a flow_b : Flow) (plan_a plan_b : ℕ → List (List �
 -- a session seen from the other end
 abbrev pub SessionTurnsRound : Type 0
 SessionTurnsRound = (flow_a flow_b : Flow) (plan_a plan_b : ℕ → List (List ℕ) → List (List ℕ)) (a b : List Life)
-  (outbox_a outbox_b : List OutboxRecord) (inbox_a inbox_b : List InboxRecord)
-  → Session flow_a flow_b plan_a plan_b a b outbox_a outbox_b inbox_a inbox_b
-  → Session flow_b flow_a plan_b plan_a b a outbox_b outbox_a inbox_b inbox_a
+    (outbox_a outbox_b : List OutboxRecord) (inbox_a inbox_b : List InboxRecord)
+    → Session flow_a flow_b plan_a plan_b a b outbox_a outbox_b inbox_a inbox_b
+    → Session flow_b flow_a plan_b plan_a b a outbox_b outbox_a inbox_b inbox_a
 
 -- What the connections of one end carried to the other, in order: of each written list a beginning, or nothing of it
 pub data CarriedFrom : List (List Event) → List (List Event) → Type 0 where
@@ -42,31 +42,31 @@ pub record GrownFromPeer (flow : Flow) (peer : List Life) (inbox : List InboxRec
 -- A recoverable inbox is a prefix of its peer's journal
 abbrev pub RecoverableGuarantee : Type 0
 RecoverableGuarantee = (flow_b : Flow) (plan_a plan_b : ℕ → List (List ℕ) → List (List ℕ)) (a b : List Life)
-  (outbox_a outbox_b : List OutboxRecord) (inbox_a inbox_b : List InboxRecord)
-  → Session recoverable flow_b plan_a plan_b a b outbox_a outbox_b inbox_a inbox_b
-  → AppliesPrefix (entries outbox_a) inbox_b × GrownFromPeer recoverable a inbox_b
+    (outbox_a outbox_b : List OutboxRecord) (inbox_a inbox_b : List InboxRecord)
+    → Session recoverable flow_b plan_a plan_b a b outbox_a outbox_b inbox_a inbox_b
+    → AppliesPrefix (entries outbox_a) inbox_b × GrownFromPeer recoverable a inbox_b
 
 -- An idempotent inbox holds every number below its next exactly once, as applied or as not applied; the missing numbers are
 -- the jumps of the connections that it processed
 abbrev pub IdempotentGuarantee : Type 0
 IdempotentGuarantee = (flow_b : Flow) (plan_a plan_b : ℕ → List (List ℕ) → List (List ℕ)) (a b : List Life)
-  (outbox_a outbox_b : List OutboxRecord) (inbox_a inbox_b : List InboxRecord)
-  → Session idempotent flow_b plan_a plan_b a b outbox_a outbox_b inbox_a inbox_b
-  → SettlesOnce (entries outbox_a) inbox_b × GrownFromPeer idempotent a inbox_b
+    (outbox_a outbox_b : List OutboxRecord) (inbox_a inbox_b : List InboxRecord)
+    → Session idempotent flow_b plan_a plan_b a b outbox_a outbox_b inbox_a inbox_b
+    → SettlesOnce (entries outbox_a) inbox_b × GrownFromPeer idempotent a inbox_b
 
 -- An unsequenced flow delivers only what was sent, in order and nothing twice
 abbrev pub UnsequencedGuarantee : Type 0
 UnsequencedGuarantee = (flow_b : Flow) (plan_a plan_b : ℕ → List (List ℕ) → List (List ℕ)) (a b : List Life)
-  (outbox_a outbox_b : List OutboxRecord) (inbox_a inbox_b : List InboxRecord)
-  → Session unsequenced flow_b plan_a plan_b a b outbox_a outbox_b inbox_a inbox_b
-  → DeliversRising (entries outbox_a) inbox_b × GrownFromPeer unsequenced a inbox_b
+    (outbox_a outbox_b : List OutboxRecord) (inbox_a inbox_b : List InboxRecord)
+    → Session unsequenced flow_b plan_a plan_b a b outbox_a outbox_b inbox_a inbox_b
+    → DeliversRising (entries outbox_a) inbox_b × GrownFromPeer unsequenced a inbox_b
 
 -- Where there is no flow nothing is delivered
 abbrev pub NoFlowGuarantee : Type 0
 NoFlowGuarantee = (flow_b : Flow) (plan_a plan_b : ℕ → List (List ℕ) → List (List ℕ)) (a b : List Life)
-  (outbox_a outbox_b : List OutboxRecord) (inbox_a inbox_b : List InboxRecord)
-  → Session no_flow flow_b plan_a plan_b a b outbox_a outbox_b inbox_a inbox_b
-  → (applied inbox_b ≡ []) × (skips inbox_b ≡ [])
+    (outbox_a outbox_b : List OutboxRecord) (inbox_a inbox_b : List InboxRecord)
+    → Session no_flow flow_b plan_a plan_b a b outbox_a outbox_b inbox_a inbox_b
+    → (applied inbox_b ≡ []) × (skips inbox_b ≡ [])
 
 -- what an outbox holds of its own end's senders: each sender's entries count 1, 2, 3; all that any life closed on stands
 -- there at its number; and each sender has sent a beginning of its plan
@@ -78,5 +78,5 @@ pub record HoldsSenders (plan : ℕ → List (List ℕ) → List (List ℕ)) (li
 -- The journal holds each sender's accepted messages once, in order. This needs one end alone
 abbrev pub SendersGuarantee : Type 0
 SendersGuarantee = (own peer : Flow) (plan : ℕ → List (List ℕ) → List (List ℕ)) (lives : List Life) (outbox : List OutboxRecord) (inbox : List InboxRecord)
-  → GoesOn plan → Chained [] [] lives outbox inbox → AllByRecursion (KeepsContract own peer plan) lives
-  → HoldsSenders plan lives outbox inbox
+    → GoesOn plan → Chained [] [] lives outbox inbox → AllByRecursion (KeepsContract own peer plan) lives
+    → HoldsSenders plan lives outbox inbox

@@ -50,9 +50,9 @@ pub record KeepsContract (own peer : Flow) (plan : ℕ → List (List ℕ) → L
   pub outbox_grows : IsPrefix life.opening_outbox life.closing_outbox
   pub in_order : (image : List OutboxRecord) → IsImage life.closing_outbox life.refused_outbox image → InOrder (entries image)
   pub plans : (image : List OutboxRecord) → IsImage life.closing_outbox life.refused_outbox image → (s : ℕ)
-    → Continues (plan s (payloads_of (applied life.closing_inbox))) (sent_by (entries life.opening_outbox) s) (sent_by (entries image) s)
+      → Continues (plan s (payloads_of (applied life.closing_inbox))) (sent_by (entries life.opening_outbox) s) (sent_by (entries image) s)
   pub inbox_grown : (image : List InboxRecord) → IsImage life.closing_inbox life.refused_inbox image
-    → (k : ℕ) × GrownThrough peer (first_events k (map (λ (c : Connection). c.accepted) life.connections)) life.opening_inbox image
+      → (k : ℕ) × GrownThrough peer (first_events k (map (λ (c : Connection). c.accepted) life.connections)) life.opening_inbox image
   pub writes : Writes own (entries life.opening_outbox) (entries life.closing_outbox) (map (λ (c : Connection). c.written) life.connections)
 
 -- a life that opened on these journals may leave those
@@ -92,4 +92,4 @@ pub data Linked : List Connection → List Connection → Type 0 where
   left_alone : {a : Connection} {as' bs : List Connection} → a.accepted ≡ [] → Linked as' bs → Linked (a ∷ as') bs
   right_alone : {b : Connection} {as' bs : List Connection} → b.accepted ≡ [] → Linked as' bs → Linked as' (b ∷ bs)
   paired : {a b : Connection} {as' bs : List Connection}
-    → TakenFrom b.written a.accepted → TakenFrom a.written b.accepted → Linked as' bs → Linked (a ∷ as') (b ∷ bs)
+      → TakenFrom b.written a.accepted → TakenFrom a.written b.accepted → Linked as' bs → Linked (a ∷ as') (b ∷ bs)

@@ -23,7 +23,10 @@ impl<'a> Inbox<'a> {
     pub fn new(alloc: Global) -> Self
         ensures empty { result.records.items ≡ [] }
     {
-        Inbox { records: Vec::new(alloc), next: 1 }
+        Inbox {
+            records: Vec::new(alloc),
+            next: 1,
+        }
     }
 
     /// The inbox of a process life that finds these records: it waits for one past the greatest number in them.
@@ -123,7 +126,12 @@ fn goes_on(next: u128, standing: Option<u128>, event: Event<'_>) -> bool
 }
 
 /// The record that one event adds to an inbox that waits for `next`, where `standing` stood announced before it.
-fn record_for<'a>(flow: Flow, next: u128, standing: Option<u128>, event: Event<'a>) -> Option<Record<'a>>
+fn record_for<'a>(
+    flow: Flow,
+    next: u128,
+    standing: Option<u128>,
+    event: Event<'a>,
+) -> Option<Record<'a>>
     requires fits { next ≤ 2 ^ 65 }
     requires forward { MayGrow flow next standing (event_of event ∷ []) }
     ensures grown { (before : List InboxRecord) → next_number before ≡ next → Grown (flow_of flow) standing (event_of event.entry ∷ []) before (before ++ option_to_list (option_map record_of result)) }
@@ -140,7 +148,10 @@ fn record_for<'a>(flow: Flow, next: u128, standing: Option<u128>, event: Event<'
         },
         Event::Message(payload) => {
             if takes(flow, next, standing) {
-                Some(Record::Apply(Numbered { number: next, payload }))
+                Some(Record::Apply(Numbered {
+                    number: next,
+                    payload,
+                }))
             } else {
                 None
             }
@@ -168,7 +179,10 @@ fn skipped(next: u128, number: u128) -> Option<Range>
     ensures ends { IfSome result (λ r. r.first + r.count ≡ number) }
 {
     if next < number {
-        Some(Range { first: next, count: number - next })
+        Some(Range {
+            first: next,
+            count: number - next,
+        })
     } else {
         None
     }

@@ -6,35 +6,29 @@ ghost use Rattle.session_model.specs.Guarantee.{SessionTurnsRound, RecoverableGu
 /// A session seen from its other end is a session, so that each guarantee holds in both directions.
 pub fn session_turns_round()
     ensures law { SessionTurnsRound }
-{
-}
+{}
 
 /// A recoverable inbox is a prefix of its peer's journal, over any lives, disconnects and crashes of either end.
 pub fn recoverable_guarantee()
     ensures law { RecoverableGuarantee }
-{
-}
+{}
 
 /// An idempotent inbox holds every number below its next exactly once, as applied or as not applied.
 pub fn idempotent_guarantee()
     ensures law { IdempotentGuarantee }
-{
-}
+{}
 
 /// An unsequenced flow delivers only what was sent, in order and nothing twice.
 pub fn unsequenced_guarantee()
     ensures law { UnsequencedGuarantee }
-{
-}
+{}
 
 /// Where there is no flow, nothing is delivered.
 pub fn no_flow_guarantee()
     ensures law { NoFlowGuarantee }
-{
-}
+{}
 
 /// A journal holds each sender's accepted messages once, in order, and what a life closed on at its number.
 pub fn senders_guarantee()
     ensures law { SendersGuarantee }
-{
-}
+{}

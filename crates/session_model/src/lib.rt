@@ -7,8 +7,6 @@ pub mod grown;
 pub mod guarantee;
 pub mod implied;
 pub mod laws;
-pub mod written;
-
-
 #[cfg(test)]
 mod tests;
+pub mod written;

@@ -7,9 +7,13 @@ use crate::written::is_true;
 use std::test::Fail;
 
 const ONE: Event<'static> = Event::Message(&[1]);
+
 const TWO: Event<'static> = Event::Message(&[2]);
+
 const THREE: Event<'static> = Event::Message(&[3]);
+
 const FOUR: Event<'static> = Event::Message(&[4]);
+
 const FIVE: Event<'static> = Event::Message(&[5]);
 
 fn announce(number: u64) -> Event<'static> {
@@ -22,12 +26,39 @@ fn apply(number: u128, payload: &[u8]) -> Record<'_> {
 
 #[test]
 fn numbers_behind_announcements(rt: HostRuntime) -> Result<(), Fail> {
-    let events = [ONE, announce(3), TWO, THREE, Event::Announce(None), FOUR, announce(9), FIVE];
+    let events = [
+        ONE,
+        announce(3),
+        TWO,
+        THREE,
+        Event::Announce(None),
+        FOUR,
+        announce(9),
+        FIVE,
+    ];
     let messages = numbering(rt.alloc(), &events)?;
     assert_eq!(rt; messages.len(), 3);
-    assert_eq!(rt; messages[0], Numbered { number: 3, payload: &[2] });
-    assert_eq!(rt; messages[1], Numbered { number: 4, payload: &[3] });
-    assert_eq!(rt; messages[2], Numbered { number: 9, payload: &[5] });
+    assert_eq!(rt;
+        messages[0],
+        Numbered {
+            number: 3,
+            payload: &[2]
+        }
+    );
+    assert_eq!(rt;
+        messages[1],
+        Numbered {
+            number: 4,
+            payload: &[3]
+        }
+    );
+    assert_eq!(rt;
+        messages[2],
+        Numbered {
+            number: 9,
+            payload: &[5]
+        }
+    );
     Ok(())
 }
 
@@ -35,7 +66,10 @@ fn numbers_behind_announcements(rt: HostRuntime) -> Result<(), Fail> {
 fn gap_is_asked_for(rt: HostRuntime) -> Result<(), Fail> {
     let mut inbox = Inbox::new(rt.alloc());
     inbox.grow(Flow::Recoverable, &[announce(1), ONE, TWO, THREE])?;
-    inbox.grow(Flow::Recoverable, &[announce(6), announce(4), FOUR, FIVE, announce(6)])?;
+    inbox.grow(
+        Flow::Recoverable,
+        &[announce(6), announce(4), FOUR, FIVE, announce(6)],
+    )?;
     assert_eq!(rt; inbox.next, 6);
     assert_eq!(rt; inbox.records.len(), 5);
     assert_eq!(rt; inbox.records[2], apply(3, &[3]));
@@ -56,7 +90,10 @@ fn jump_is_told(rt: HostRuntime) -> Result<(), Fail> {
     assert_eq!(rt; inbox.next, 5);
     assert_eq!(rt; inbox.records.len(), 3);
     assert_eq!(rt; inbox.records[0], apply(1, &[1]));
-    assert_eq!(rt; inbox.records[1], Record::Skip(Range { first: 2, count: 2 }));
+    assert_eq!(rt;
+        inbox.records[1],
+        Record::Skip(Range { first: 2, count: 2 })
+    );
     assert_eq!(rt; inbox.records[2], apply(4, &[4]));
     Ok(())
 }
@@ -66,12 +103,26 @@ fn bad_announcements(rt: HostRuntime) -> Result<(), Fail> {
     assert!(rt; !never_back(5, &[announce(3)]), "goes back");
     assert!(rt; !never_back(5, &[Event::Announce(None)]), "has no number");
     let journal = [
-        Entry { sender: 1, own_number: 1, payload: &[1] },
-        Entry { sender: 2, own_number: 1, payload: &[2] },
+        Entry {
+            sender: 1,
+            own_number: 1,
+            payload: &[1],
+        },
+        Entry {
+            sender: 2,
+            own_number: 1,
+            payload: &[2],
+        },
     ];
     assert!(rt; is_true(&journal, &[announce(3), announce(1), ONE, TWO, announce(3)]));
-    assert!(rt; !is_true(&journal, &[announce(1152921504606846976)]), "is above the journal");
-    assert!(rt; !is_true(&journal, &[announce(3), TWO]), "is sent again under the live number");
+    assert!(rt;
+        !is_true(&journal, &[announce(1152921504606846976)]),
+        "is above the journal"
+    );
+    assert!(rt;
+        !is_true(&journal, &[announce(3), TWO]),
+        "is sent again under the live number"
+    );
     assert!(rt; !is_true(&journal, &[announce(1), TWO]), "is another entry");
     Ok(())
 }

@@ -29,7 +29,8 @@ fn is_true_event(journal: &[Entry<'_>], standing: Option<u128>, event: Event<'_>
 {
     match event {
         Event::Announce(None) => true,
-        Event::Announce(Some(number)) => 1 <= number && u128::from(number) <= journal.len() as u128 + 1,
+        Event::Announce(Some(number)) => 1 <= number
+            && u128::from(number) <= journal.len() as u128 + 1,
         Event::Message(payload) => match standing {
             None => true,
             Some(number) => is_entry(journal, number, payload),

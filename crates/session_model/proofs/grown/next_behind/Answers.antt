@@ -1,4 +1,4 @@
-use Rattle.std.proofs.Common.{rules, ◌≡◌, ◌≤◌, ◌+◌, ◌∷◌, [], ◌^◌, sym, ap, ◌∙◌, arith}
+use Rattle.std.proofs.Common.{rules, ◌≤◌, ◌+◌, ◌∷◌, [], ◌^◌, sym, ap, ◌∙◌, arith}
 use Rattle.session_model.specs.Inbox.{next_number}
 use Rattle.session_model.specs.Views.{record_of}
 use Rattle.session_model.proofs.Growing.{next_of_range}

@@ -7,5 +7,5 @@ abbrev pub invariant-loop-event : goal.invariant-loop-event
 invariant-loop-event l = record {
   so_far : map numbered_of l.messages.items ≡ numbered None (events_of (take l.event-index l.events));
   stands : l.standing ≡ standing None (events_of (take l.event-index l.events));
-  fits : IfSome l.standing (λ n. n < 2 ^ 64 + l.event-index)
+  fits : IfSome l.standing (λ n. n < 2 ^ 64 + l.event-index);
 }

@@ -1,4 +1,4 @@
-use Rattle.std.proofs.Common.{◌≡◌, ◌≤◌, ◌+◌, ◌∷◌, [], max, take, get_or, sym, ap, ◌∙◌, arith}
+use Rattle.std.proofs.Common.{◌≡◌, ◌+◌, ◌∷◌, [], take, get_or, ap, arith}
 use Rattle.session_model.specs.Inbox.{next_number}
 use Rattle.session_model.specs.Views.{record_of, records_of}
 use Rattle.session_model.specs.declared.event.Record.{Record}
