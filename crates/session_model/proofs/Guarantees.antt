@@ -5,14 +5,15 @@ use Rattle.session_model.specs.Journal.{OutboxRecord, entries, payloads, counts_
 use Rattle.session_model.specs.Inbox.{InboxRecord, applied, skips, numbers_of}
 use Rattle.session_model.specs.Events.{Event, TrueOfJournal, Rising}
 use Rattle.session_model.specs.Growth.{Flow, recoverable, idempotent, unsequenced, no_flow, AppliesPrefix, SettlesOnce}
-use Rattle.session_model.specs.Lives.{Life, connections_of}
-use Rattle.session_model.specs.Guarantee.{Session, SessionTurnsRound, GrownFromPeer, RecoverableGuarantee, IdempotentGuarantee, UnsequencedGuarantee, NoFlowGuarantee, SendersGuarantee}
+use Rattle.session_model.specs.Lives.{Life, KeepsContract, connections_of}
+use Rattle.session_model.specs.Guarantee.{Session, SessionTurnsRound, SessionBegins, GrownFromPeer, RecoverableGuarantee, IdempotentGuarantee, UnsequencedGuarantee, NoFlowGuarantee, SendersGuarantee}
+use Rattle.session_model.proofs.Lists.{all_first}
 use Rattle.session_model.proofs.Through.{through_keeps, no_events_grow_nothing}
 use Rattle.session_model.proofs.Recoverable.{recoverable_keeps_prefix}
 use Rattle.session_model.proofs.Idempotent.{idempotent_keeps_once}
 use Rattle.session_model.proofs.Unsequenced.{unsequenced_connections, unsequenced_counted}
 use Rattle.session_model.proofs.Carried.{written_of, linked_carries, linked_turned, carried_fronts, carried_true, carried_rising}
-use Rattle.session_model.proofs.Chains.{order_kept, closings_stand, plan_kept, wrote_true, wrote_rising, read_processed}
+use Rattle.session_model.proofs.Chains.{chained_splits, order_kept, closings_stand, plan_kept, wrote_true, wrote_rising, read_processed}
 
 pub session_turns_round : SessionTurnsRound
 session_turns_round fa fb pa pb a b oa ob ia ib s = record {
@@ -22,6 +23,19 @@ session_turns_round fa fb pa pb a b oa ob ia ib s = record {
   contract_b = s.contract_a;
   linked = linked_turned (connections_of a) (connections_of b) s.linked;
 }
+
+pub session_begins : SessionBegins
+session_begins fa fb pa pb a a' b b' oa ob ia ib s linked =
+    let first = (chained_splits [] oa [] ia a a').0 s.chained_a in
+    let second = (chained_splits [] ob [] ib b b').0 s.chained_b in
+    ( first.0, second.0, first.1, second.1
+    , record {
+        chained_a = first.2;
+        chained_b = second.2;
+        contract_a = all_first (KeepsContract fa fb pa) a a' s.contract_a;
+        contract_b = all_first (KeepsContract fb fa pb) b b' s.contract_b;
+        linked = linked;
+      } )
 
 -- the inbox of b is grown over what the connections of a carried
 grown_from_peer : (fa fb : Flow) (pa pb : ℕ → List (List ℕ) → List (List ℕ)) (a b : List Life) (oa ob : List OutboxRecord) (ia ib : List InboxRecord)

@@ -1,4 +1,5 @@
 pub mod Lists
+pub mod Counts
 pub mod Journals
 pub mod Inboxes
 pub mod Numbering

@@ -1,10 +1,10 @@
 -- What is true of a journal, and what rises through it.
-use Rattle.std.proofs.Common.{ℕ, ◌+◌, ◌≤◌, List, [], ◌∷◌, ◌++◌, length, Option, Some, None, unwrap_or, sym, subst, arith}
+use Rattle.std.proofs.Common.{◌≡◌, ℕ, zero, suc, ◌+◌, ◌-◌, ◌≤◌, List, [], ◌∷◌, ◌++◌, map, length, take, drop, slice_get, Option, Some, None, unwrap_or, refl, sym, ap, subst, ◌∙◌, arith, add-one}
 use Rattle.std.specs.List.{AllByRecursion}
-use Rattle.session_model.specs.Journal.{Entry, IsEntry}
+use Rattle.session_model.specs.Journal.{Entry, IsEntry, payloads}
 use Rattle.session_model.specs.Inbox.{Numbered}
 use Rattle.session_model.specs.Events.{Event, announce, message, standing, numbered, announced, TrueOfJournal, Rising}
-use Rattle.session_model.specs.Laws.{TrueSplits, TrueStaysTrue, RisingStaysRising, RisingGoesOn}
+use Rattle.session_model.specs.Laws.{TrueSplits, AnnouncedEntriesAreTrue, TrueStaysTrue, RisingStaysRising, RisingGoesOn}
 use Rattle.session_model.proofs.Lists.{prefix_length, all_weaker, all_append, all_first, all_second}
 use Rattle.session_model.proofs.Journals.{entry_stays, entry_within}
 use Rattle.session_model.proofs.Numbering.{numbered-append, announced-append}
@@ -69,3 +69,38 @@ standing_within h next c (announce (Some n) ∷ es) t low le =
 standing_within h next None (message p ∷ es) t low le = standing_within h next None es (record { entries = t.entries; announced = t.announced }) low low
 standing_within h next (Some n) (message p ∷ es) t low le =
     standing_within h next (Some (n + 1)) es (record { entries = t.entries.1; announced = t.announced }) low (omega (arith, entry_within h n p t.entries.0))
+
+-- messages announce nothing
+none_announced : (ps : List (List ℕ)) → announced (map message ps) ≡ []
+none_announced [] = refl
+none_announced (p ∷ ps) = none_announced ps
+
+-- what stands first behind so many
+first_behind : (ps : List (List ℕ)) (m : ℕ) (p : List ℕ) (later : List (List ℕ)) → drop m ps ≡ p ∷ later → (slice_get ps m ≡ Some p) × (drop (suc m) ps ≡ later)
+first_behind [] zero p later e = absurd cc
+first_behind [] (suc m) p later e = absurd cc
+first_behind (q ∷ ps) zero p later e = (cc e, cc e)
+first_behind (q ∷ ps) (suc m) p later e = first_behind ps m p later e
+
+-- entries from a number on, numbered from it, are those entries
+entries_from : (h : List Entry) (m k : ℕ) (ps : List (List ℕ)) → drop m (payloads h) ≡ ps
+  → AllByRecursion (λ (e : Numbered). IsEntry h e.number e.payload) (numbered (Some (m + 1)) (map message (take k ps)))
+entries_from h m zero ps e = tt
+entries_from h m (suc k) [] e = tt
+entries_from h m (suc k) (p ∷ ps) e =
+    let here = first_behind (payloads h) m p ps e in
+    let place : m ≡ m + 1 - 1 = omega arith in
+    ( record { from_one = omega arith; found = subst (λ j. slice_get (payloads h) j ≡ Some p) place here.0 }
+    , entries_from h (m + 1) k ps (ap (λ j. drop j (payloads h)) (add-one m) ∙ here.1) )
+
+pub announced_entries_are_true : AnnouncedEntriesAreTrue
+announced_entries_are_true h c n k low high =
+    let m = n - 1 in
+    let ps = take k (drop m (payloads h)) in
+    let P : Numbered → Type 0 = λ e. IsEntry h e.number e.payload in
+    let Q : ℕ → Type 0 = λ a. (1 ≤ a) × (a ≤ length h + 1) in
+    let from : m + 1 ≡ n = omega arith in
+    record {
+      entries = subst (λ a. AllByRecursion P (numbered (Some a) (map message ps))) from (entries_from h m k (drop m (payloads h)) refl);
+      announced = ((low, high), subst (AllByRecursion Q) (sym (none_announced ps)) tt);
+    }

@@ -1,5 +1,5 @@
 -- The session guarantee: what two ends that keep their contracts hold of each other, over any number of lives and connections.
-use Rattle.std.specs.Prelude.{◌≡◌, ℕ, List, [], ◌∷◌, map}
+use Rattle.std.specs.Prelude.{◌≡◌, ℕ, List, [], ◌∷◌, ◌++◌, map}
 use Rattle.std.specs.List.{AllByRecursion}
 use mathlib.Core.List.{IsPrefix}
 use Rattle.session_model.specs.Journal.{OutboxRecord, entries, InOrder}
@@ -24,6 +24,15 @@ SessionTurnsRound = (flow_a flow_b : Flow) (plan_a plan_b : ℕ → List (List �
     (outbox_a outbox_b : List OutboxRecord) (inbox_a inbox_b : List InboxRecord)
     → Session flow_a flow_b plan_a plan_b a b outbox_a outbox_b inbox_a inbox_b
     → Session flow_b flow_a plan_b plan_a b a outbox_b outbox_a inbox_b inbox_a
+
+-- A beginning of a session is one: the first lives of both ends, where their connections are linked among themselves, with
+-- some journals that those lives may have left
+abbrev pub SessionBegins : Type 0
+SessionBegins = (flow_a flow_b : Flow) (plan_a plan_b : ℕ → List (List ℕ) → List (List ℕ)) (a a' b b' : List Life)
+  (outbox_a outbox_b : List OutboxRecord) (inbox_a inbox_b : List InboxRecord)
+  → Session flow_a flow_b plan_a plan_b (a ++ a') (b ++ b') outbox_a outbox_b inbox_a inbox_b
+  → Linked (connections_of a) (connections_of b)
+  → (o : List OutboxRecord) × (p : List OutboxRecord) × (i : List InboxRecord) × (j : List InboxRecord) × Session flow_a flow_b plan_a plan_b a b o p i j
 
 -- What the connections of one end carried to the other, in order: of each written list a beginning, or nothing of it
 pub data CarriedFrom : List (List Event) → List (List Event) → Type 0 where

@@ -1,13 +1,12 @@
 -- The laws of the definitions, each a statement that a public function of the crate carries.
-use Rattle.std.specs.Prelude.{◌≡◌, ℕ, ◌+◌, ◌-◌, ◌≤◌, List, [], ◌∷◌, ◌++◌, map, flat_map, length, Option, None, option_map, unwrap_or, ◌↔◌}
+use Rattle.std.specs.Prelude.{◌≡◌, ℕ, ◌+◌, ◌-◌, ◌<◌, ◌≤◌, List, [], ◌∷◌, ◌++◌, map, flat_map, length, take, drop, Option, Some, None, option_map, unwrap_or, ◌↔◌}
 use mathlib.Core.List.{IsPrefix}
-use Rattle.session_model.specs.Journal.{Entry, History, BeginsHistory, counts_from}
-use Rattle.session_model.specs.Inbox.{InboxRecord, applied, skips, settled, next_number, numbers_of, payloads_of, SameNumbers}
+use Rattle.session_model.specs.Journal.{Entry, OutboxRecord, History, BeginsHistory, payloads, counts_from}
+use Rattle.session_model.specs.Inbox.{InboxRecord, applied, skips, settled, next_number, numbers_of, payloads_of, times, SameNumbers}
 use Rattle.session_model.specs.Events.{Event, announce, message, with_number, standing, numbered, messages, TrueOfJournal, Rising}
 use Rattle.session_model.specs.Growth.{Flow, recoverable, idempotent, unsequenced, GrownInOrder, GrownRecoverable, GrownIdempotent, GrownUnsequenced, Grown, GrownThrough, jumps_through, AppliesPrefix, SettlesOnce, DeliversRising}
 use Rattle.session_model.specs.Plans.{Continues, Completes}
 use Rattle.session_model.specs.Lives.{Life, Chained}
-use Rattle.session_model.specs.Journal.{OutboxRecord}
 
 -- Numbering looks back: behind an announcement and so many messages stands its number and as many more, whatever came before;
 -- where none has a number, nothing stands announced
@@ -42,6 +41,12 @@ RisingStaysRising = (h longer : List Entry) (n : ℕ) (ps : List (List ℕ)) →
 abbrev pub RisingGoesOn : Type 0
 RisingGoesOn = (h longer : List Entry) (n : ℕ) (first second : List (List ℕ)) → IsPrefix h longer → n ≤ length h
     → Rising h n first → Rising longer (length h) second → Rising longer n (first ++ second)
+
+-- What a sender may write: an announcement of a number, and behind it the journal's entries from that number on, live or as a
+-- retransmission
+abbrev pub AnnouncedEntriesAreTrue : Type 0
+AnnouncedEntriesAreTrue = (h : List Entry) (c : Option ℕ) (n k : ℕ) → 1 ≤ n → n ≤ length h + 1
+  → TrueOfJournal h c (announce (Some n) ∷ map message (take k (drop (n - 1) (payloads h))))
 
 -- growth over two parts of one connection is growth over the whole: the second part from what stands behind the first
 abbrev pub GrowthGoesOn : Type 0
@@ -117,3 +122,7 @@ abbrev pub ChainedSplits : Type 0
 ChainedSplits = (o o' : List OutboxRecord) (i i' : List InboxRecord) (first second : List Life)
     → Chained o i (first ++ second) o' i'
     ↔ ((between : List OutboxRecord) × (waiting : List InboxRecord) × Chained o i first between waiting × Chained between waiting second o' i')
+
+-- to stand among 1 .. k is to stand there once
+abbrev pub CountsStandOnce : Type 0
+CountsStandOnce = (n k : ℕ) → (1 ≤ n → n ≤ k → times n (counts_from 1 k) ≡ 1) × (k < n → times n (counts_from 1 k) ≡ 0) × (times 0 (counts_from 1 k) ≡ 0)

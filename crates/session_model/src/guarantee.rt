@@ -1,12 +1,18 @@
 //! The session guarantee, one function for each flow and one for the senders, with empty bodies.
 //! It rests on the contract of one end over one life, and on the chaining and linking that `Session` names.
 
-ghost use Rattle.session_model.specs.Guarantee.{SessionTurnsRound, RecoverableGuarantee, IdempotentGuarantee, UnsequencedGuarantee, NoFlowGuarantee, SendersGuarantee};
+ghost use Rattle.session_model.specs.Guarantee.{SessionTurnsRound, SessionBegins, RecoverableGuarantee, IdempotentGuarantee, UnsequencedGuarantee, NoFlowGuarantee, SendersGuarantee};
 
 /// A session seen from its other end is a session, so that each guarantee holds in both directions.
 pub fn session_turns_round()
     ensures law { SessionTurnsRound }
 {}
+
+/// A beginning of a session is a session, so that each guarantee holds at every moment.
+pub fn session_begins()
+    ensures law { SessionBegins }
+{
+}
 
 /// A recoverable inbox is a prefix of its peer's journal, over any lives, disconnects and crashes of either end.
 pub fn recoverable_guarantee()

@@ -1,7 +1,7 @@
 //! The laws of the definitions. Each function has an empty body: its clause is a statement about every list.
 //! They rest on nothing but the definitions of `specs/`.
 
-ghost use Rattle.session_model.specs.Laws.{NumberingLooksBack, MessageTakesStanding, NumberingSplits, TrueSplits, TrueStaysTrue, RisingStaysRising, RisingGoesOn, GrowthGoesOn, ConnectionsGoOn, RecoverableConnections, IdempotentConnections, UnsequencedConnections, NoEventsGrowNothing, RecoverableCounts, IdempotentSettles, RecoverableKeepsPrefix, IdempotentKeepsOnce, UnsequencedKeepsRising, PlanGoesOn, PlanCompletes, HistoriesGoOn, ChainedSplits};
+ghost use Rattle.session_model.specs.Laws.{NumberingLooksBack, MessageTakesStanding, NumberingSplits, TrueSplits, TrueStaysTrue, AnnouncedEntriesAreTrue, CountsStandOnce, RisingStaysRising, RisingGoesOn, GrowthGoesOn, ConnectionsGoOn, RecoverableConnections, IdempotentConnections, UnsequencedConnections, NoEventsGrowNothing, RecoverableCounts, IdempotentSettles, RecoverableKeepsPrefix, IdempotentKeepsOnce, UnsequencedKeepsRising, PlanGoesOn, PlanCompletes, HistoriesGoOn, ChainedSplits};
 
 /// Behind an announcement and so many messages stands its number and as many more, whatever came before it.
 pub fn numbering_looks_back()
@@ -37,6 +37,12 @@ pub fn rising_stays_rising()
 pub fn rising_goes_on()
     ensures law { RisingGoesOn }
 {}
+
+/// An announcement of a number, and behind it the journal's entries from that number on, are true of the journal.
+pub fn announced_entries_are_true()
+    ensures law { AnnouncedEntriesAreTrue }
+{
+}
 
 /// Growth over two parts of one connection is growth over the whole, on each flow.
 pub fn growth_goes_on()
@@ -112,3 +118,9 @@ pub fn histories_go_on()
 pub fn chained_splits()
     ensures law { ChainedSplits }
 {}
+
+/// To stand among the numbers from 1 to k is to stand there once.
+pub fn counts_stand_once()
+    ensures law { CountsStandOnce }
+{
+}
