@@ -7,3 +7,4 @@ pub mod Lives
 pub mod Laws
 pub mod Guarantee
 pub mod Views
+pub mod Samples
