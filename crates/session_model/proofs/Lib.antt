@@ -14,3 +14,5 @@ pub mod Chains
 pub mod Guarantees
 pub mod Steps
 pub mod Growing
+pub mod Images
+pub mod Sampled

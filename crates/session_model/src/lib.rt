@@ -7,6 +7,7 @@ pub mod grown;
 pub mod guarantee;
 pub mod implied;
 pub mod laws;
+pub mod samples;
 #[cfg(test)]
 mod tests;
 pub mod written;
