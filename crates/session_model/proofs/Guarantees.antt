@@ -27,15 +27,19 @@ session_turns_round fa fb pa pb a b oa ob ia ib s = record {
 pub session_begins : SessionBegins
 session_begins fa fb pa pb a a' b b' oa ob ia ib s linked =
     let first = (chained_splits [] oa [] ia a a').0 s.chained_a in
-    let second = (chained_splits [] ob [] ib b b').0 s.chained_b in
-    ( first.0, second.0, first.1, second.1
-    , record {
+    let second = (chained_splits [] ob [] ib b b').0 s.chained_b in (
+      first.0,
+      second.0,
+      first.1,
+      second.1,
+      record {
         chained_a = first.2;
         chained_b = second.2;
         contract_a = all_first (KeepsContract fa fb pa) a a' s.contract_a;
         contract_b = all_first (KeepsContract fb fa pb) b b' s.contract_b;
         linked = linked;
-      } )
+      },
+    )
 
 -- the inbox of b is grown over what the connections of a carried
 grown_from_peer : (fa fb : Flow) (pa pb : ℕ → List (List ℕ) → List (List ℕ)) (a b : List Life) (oa ob : List OutboxRecord) (ia ib : List InboxRecord)

@@ -1,5 +1,5 @@
 -- The laws of recoverable growth.
-use Rattle.std.proofs.Common.{◌≡◌, ℕ, zero, suc, ◌+◌, ◌-◌, ◌≤◌, max, ◌==◌, Bool, true, false, if◌then◌else◌, List, [], ◌∷◌, ◌++◌, flat_map, length, drop, slice_get, Contains, Option, Some, None, refl, sym, ap, subst, ◌∙◌, arith, append_assoc, append-nil, length-append, eqb-true, eq-eqb, add-one}
+use Rattle.std.proofs.Common.{◌≡◌, ℕ, zero, suc, ◌+◌, ◌-◌, ◌≤◌, max, ◌==◌, Bool, true, false, if◌then◌else◌, List, [], ◌∷◌, ◌++◌, flat_map, length, drop, slice_get, Contains, Option, Some, None, refl, sym, ap, subst, ◌∙◌, arith, append_assoc, append-nil, length-append, eqb-true, eq-eqb, add-one, true≢false}
 use Rattle.std.proofs.lemmas.List.Elements.{Contains-append_left, Contains-append_right}
 use Rattle.std.specs.List.{AllByRecursion}
 use mathlib.Core.List.{IsPrefix}
@@ -48,7 +48,7 @@ reach_ahead n k d (m ∷ ms) e =
     by_tests zero z true false t t' both second neither first =
         let here : m.number ≡ n = eqb-true m.number n t in
         let there : m.number ≡ k = omega arith in
-        absurd (cc (eq-eqb m.number k there, t'))
+        absurd (true≢false (sym (eq-eqb m.number k there) ∙ t'))
     by_tests (suc d') z true false t t' both second neither first = omega (arith, first d' (omega arith))
     by_tests j z true true t t' both second neither first = omega arith
     by_tests j z false true t t' both second neither first = omega arith

@@ -84,14 +84,15 @@ first_behind (q ∷ ps) (suc m) p later e = first_behind ps m p later e
 
 -- entries from a number on, numbered from it, are those entries
 entries_from : (h : List Entry) (m k : ℕ) (ps : List (List ℕ)) → drop m (payloads h) ≡ ps
-  → AllByRecursion (λ (e : Numbered). IsEntry h e.number e.payload) (numbered (Some (m + 1)) (map message (take k ps)))
+    → AllByRecursion (λ (e : Numbered). IsEntry h e.number e.payload) (numbered (Some (m + 1)) (map message (take k ps)))
 entries_from h m zero ps e = tt
 entries_from h m (suc k) [] e = tt
 entries_from h m (suc k) (p ∷ ps) e =
     let here = first_behind (payloads h) m p ps e in
-    let place : m ≡ m + 1 - 1 = omega arith in
-    ( record { from_one = omega arith; found = subst (λ j. slice_get (payloads h) j ≡ Some p) place here.0 }
-    , entries_from h (m + 1) k ps (ap (λ j. drop j (payloads h)) (add-one m) ∙ here.1) )
+    let place : m ≡ m + 1 - 1 = omega arith in (
+      record { from_one = omega arith; found = subst (λ j. slice_get (payloads h) j ≡ Some p) place here.0 },
+      entries_from h (m + 1) k ps (ap (λ j. drop j (payloads h)) (add-one m) ∙ here.1),
+    )
 
 pub announced_entries_are_true : AnnouncedEntriesAreTrue
 announced_entries_are_true h c n k low high =

@@ -1,5 +1,5 @@
 -- What a connection carries of one flow, and how its messages are numbered.
--- FIXP 1.1, "Sequence numbering is implicit": Establish, EstablishmentAck, Sequence and Retransmission announce the next
+-- FIXP 1.1, implicit sequence numbering: Establish, EstablishmentAck, Sequence and Retransmission announce the next
 -- number, each application message behind takes one, and the messages themselves carry none.
 use Rattle.std.specs.Prelude.{ℕ, ◌+◌, ◌<◌, ◌≤◌, List, [], ◌∷◌, ◌++◌, length, Option, Some, None, option_map, ⊤}
 use Rattle.std.specs.List.{AllByRecursion}

@@ -11,7 +11,7 @@ abbrev pub chain : ℕ → List Numbered → List Numbered
 chain n [] = []
 chain n (m ∷ ms) = if m.number == n then m ∷ chain (n + 1) ms else chain n ms
 
--- Recoverable (FIXP 1.1, "Recoverable flow": exactly once, in order). Nothing is skipped; what is applied has consecutive
+-- Recoverable (FIXP 1.1, recoverable flow type: exactly once, in order). Nothing is skipped; what is applied has consecutive
 -- numbers from the next one on; each was carried; and at least as many are applied as the chain has
 pub record GrownInOrder (carried : List Numbered) (before after : List InboxRecord) : Type 0 where
   pub added : List InboxRecord
@@ -43,7 +43,7 @@ NeverBack next c (announce None ∷ es) = ⊥
 NeverBack next c (announce (Some n) ∷ es) = (unwrap_or c next ≤ n) × NeverBack next (Some n) es
 NeverBack next c (message _ ∷ es) = NeverBack next (option_map (λ n. n + 1) c) es
 
--- Idempotent (FIXP 1.1, "Idempotent flow": at most once, and the sender learns which were not applied). Every numbered
+-- Idempotent (FIXP 1.1, idempotent flow type: at most once, and the sender learns which were not applied). Every numbered
 -- message is applied, and each skip is one announcement's jump. What stands announced is the inbox's next number
 pub record GrownIdempotent (c : Option ℕ) (es : List Event) (before after : List InboxRecord) : Type 0 where
   pub added : List InboxRecord
@@ -53,7 +53,7 @@ pub record GrownIdempotent (c : Option ℕ) (es : List Event) (before after : Li
   pub applies : applied added ≡ numbered c es
   pub skips_jumps : skips added ≡ jumps (next_number before) c es
 
--- Unsequenced (FIXP 1.1, "Unsequenced flow": best effort). Every message is applied; the inbox numbers by its own count
+-- Unsequenced (FIXP 1.1, unsequenced flow type: best effort). Every message is applied; the inbox numbers by its own count
 pub record GrownUnsequenced (es : List Event) (before after : List InboxRecord) : Type 0 where
   pub added : List InboxRecord
   pub behind : after ≡ before ++ added

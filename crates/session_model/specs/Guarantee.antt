@@ -29,10 +29,10 @@ SessionTurnsRound = (flow_a flow_b : Flow) (plan_a plan_b : ℕ → List (List �
 -- some journals that those lives may have left
 abbrev pub SessionBegins : Type 0
 SessionBegins = (flow_a flow_b : Flow) (plan_a plan_b : ℕ → List (List ℕ) → List (List ℕ)) (a a' b b' : List Life)
-  (outbox_a outbox_b : List OutboxRecord) (inbox_a inbox_b : List InboxRecord)
-  → Session flow_a flow_b plan_a plan_b (a ++ a') (b ++ b') outbox_a outbox_b inbox_a inbox_b
-  → Linked (connections_of a) (connections_of b)
-  → (o : List OutboxRecord) × (p : List OutboxRecord) × (i : List InboxRecord) × (j : List InboxRecord) × Session flow_a flow_b plan_a plan_b a b o p i j
+    (outbox_a outbox_b : List OutboxRecord) (inbox_a inbox_b : List InboxRecord)
+    → Session flow_a flow_b plan_a plan_b (a ++ a') (b ++ b') outbox_a outbox_b inbox_a inbox_b
+    → Linked (connections_of a) (connections_of b)
+    → (o : List OutboxRecord) × (p : List OutboxRecord) × (i : List InboxRecord) × (j : List InboxRecord) × Session flow_a flow_b plan_a plan_b a b o p i j
 
 -- What the connections of one end carried to the other, in order: of each written list a beginning, or nothing of it
 pub data CarriedFrom : List (List Event) → List (List Event) → Type 0 where

@@ -1,5 +1,5 @@
 -- An inbound journal: what was applied of the peer's flow, and what was told to be missing.
--- FIXP 1.1, "Idempotent flow" with Applied and NotApplied; that both stand in one journal is this project's profile.
+-- FIXP 1.1, idempotent flow type, with Applied and NotApplied; that both stand in one journal is this project's profile.
 use Rattle.std.specs.Prelude.{◌≡◌, ℕ, ◌+◌, max, ◌==◌, List, [], ◌∷◌, ◌++◌, map, flat_map, count_by}
 use Rattle.session_model.specs.Journal.{counts_from}
 

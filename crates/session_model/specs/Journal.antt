@@ -1,5 +1,5 @@
 -- An outbound journal: the application messages that an end was given to send, in the order of their numbers.
--- FIXP 1.1, "Recoverable flow": a message's number is its place in the flow, from 1 on, and the sender can give it again.
+-- FIXP 1.1, recoverable flow type and retransmission: a message's number is its place in the flow, from 1 on, and the sender can give it again.
 use Rattle.std.specs.Prelude.{◌≡◌, ℕ, zero, suc, ◌+◌, ◌-◌, ◌≤◌, Bool, true, ◌==◌, List, [], ◌∷◌, map, filter, length, slice_get, Some}
 use mathlib.Core.List.{IsPrefix}
 

@@ -46,7 +46,7 @@ RisingGoesOn = (h longer : List Entry) (n : ℕ) (first second : List (List ℕ)
 -- retransmission
 abbrev pub AnnouncedEntriesAreTrue : Type 0
 AnnouncedEntriesAreTrue = (h : List Entry) (c : Option ℕ) (n k : ℕ) → 1 ≤ n → n ≤ length h + 1
-  → TrueOfJournal h c (announce (Some n) ∷ map message (take k (drop (n - 1) (payloads h))))
+    → TrueOfJournal h c (announce (Some n) ∷ map message (take k (drop (n - 1) (payloads h))))
 
 -- growth over two parts of one connection is growth over the whole: the second part from what stands behind the first
 abbrev pub GrowthGoesOn : Type 0

@@ -1,12 +1,12 @@
 -- Sample sessions that meet the guarantee's premises, so that these are no empty words: two lives at each end, a refused record
 -- that is lost and one that stays, connections that reached nobody, an announcement that was passed over.
-use Rattle.std.specs.Prelude.{◌≡◌, ℕ, ◌==◌, if◌then◌else◌, List, [], ◌∷◌, map, Some, None, true, false}
-use Rattle.session_model.specs.Journal.{Entry, OutboxRecord, entry, finish, History, BeginsHistory}
-use Rattle.session_model.specs.Inbox.{Numbered, InboxRecord, apply, skip, negotiated}
-use Rattle.session_model.specs.Events.{Event, announce, message}
-use Rattle.session_model.specs.Growth.{Flow, recoverable, idempotent, unsequenced, no_flow, Grown}
+use Rattle.std.specs.Prelude.{ℕ, ◌==◌, if◌then◌else◌, List, [], ◌∷◌, map, Some, None, true, false}
+use Rattle.session_model.specs.Journal.{OutboxRecord, entry, finish, BeginsHistory}
+use Rattle.session_model.specs.Inbox.{InboxRecord, apply, skip, negotiated}
+use Rattle.session_model.specs.Events.{announce, message}
+use Rattle.session_model.specs.Growth.{recoverable, idempotent, unsequenced, no_flow, Grown}
 use Rattle.session_model.specs.Plans.{GoesOn}
-use Rattle.session_model.specs.Lives.{Connection, Life}
+use Rattle.session_model.specs.Lives.{Life}
 use Rattle.session_model.specs.Guarantee.{Session}
 
 -- three payloads
@@ -47,9 +47,9 @@ first_a = record {
   closing_inbox = negotiated ∷ got 1 (reply one) ∷ [];
   refused_inbox = [];
   connections =
-    record { accepted = announce (Some 1) ∷ message (reply one) ∷ []; written = announce (Some 1) ∷ announce (Some 1) ∷ message one ∷ message two ∷ [] }
-    ∷ record { accepted = []; written = announce (Some 3) ∷ [] }
-    ∷ [];
+      record { accepted = announce (Some 1) ∷ message (reply one) ∷ []; written = announce (Some 1) ∷ announce (Some 1) ∷ message one ∷ message two ∷ [] }
+      ∷ record { accepted = []; written = announce (Some 3) ∷ [] }
+      ∷ [];
 }
 
 -- Three stood on the disk all the same. End a is asked for two, and jumps over the reply that was lost
@@ -62,9 +62,9 @@ second_a = record {
   closing_inbox = negotiated ∷ got 1 (reply one) ∷ skip (record { first = 2; count = 1 }) ∷ got 3 (reply three) ∷ [];
   refused_inbox = [];
   connections =
-    record { accepted = announce (Some 2) ∷ []; written = announce (Some 4) ∷ announce (Some 2) ∷ message two ∷ message three ∷ announce (Some 4) ∷ [] }
-    ∷ record { accepted = announce (Some 3) ∷ message (reply three) ∷ []; written = announce (Some 4) ∷ [] }
-    ∷ [];
+      record { accepted = announce (Some 2) ∷ []; written = announce (Some 4) ∷ announce (Some 2) ∷ message two ∷ message three ∷ announce (Some 4) ∷ [] }
+      ∷ record { accepted = announce (Some 3) ∷ message (reply three) ∷ []; written = announce (Some 4) ∷ [] }
+      ∷ [];
 }
 
 -- End b applied one; two was refused by its disk
@@ -89,15 +89,15 @@ second_b = record {
   closing_inbox = got 1 one ∷ got 2 two ∷ got 3 three ∷ [];
   refused_inbox = [];
   connections =
-    record { accepted = announce (Some 4) ∷ announce (Some 2) ∷ message two ∷ message three ∷ []; written = announce (Some 2) ∷ [] }
-    ∷ record { accepted = []; written = announce (Some 2) ∷ message (reply two) ∷ [] }
-    ∷ record { accepted = announce (Some 4) ∷ []; written = announce (Some 3) ∷ message (reply three) ∷ [] }
-    ∷ [];
+      record { accepted = announce (Some 4) ∷ announce (Some 2) ∷ message two ∷ message three ∷ []; written = announce (Some 2) ∷ [] }
+      ∷ record { accepted = []; written = announce (Some 2) ∷ message (reply two) ∷ [] }
+      ∷ record { accepted = announce (Some 4) ∷ []; written = announce (Some 3) ∷ message (reply three) ∷ [] }
+      ∷ [];
 }
 
 abbrev pub SequencedSample : Type 0
 SequencedSample = Session recoverable idempotent orders replies (first_a ∷ second_a ∷ []) (first_b ∷ second_b ∷ [])
-  second_a.closing_outbox second_b.closing_outbox second_a.closing_inbox second_b.closing_inbox
+    second_a.closing_outbox second_b.closing_outbox second_a.closing_inbox second_b.closing_inbox
 
 abbrev pub SamplePlansGoOn : Type 0
 SamplePlansGoOn = GoesOn orders × GoesOn replies
@@ -144,20 +144,20 @@ listener = record {
 
 abbrev pub UnsequencedSample : Type 0
 UnsequencedSample = Session unsequenced no_flow news silence (first_publisher ∷ second_publisher ∷ []) (listener ∷ [])
-  second_publisher.closing_outbox [] [] listener.closing_inbox
+    second_publisher.closing_outbox [] [] listener.closing_inbox
 
 -- growth over one connection in two parts, the second behind a number that stands announced
 abbrev pub PartsSample : Type 0
 PartsSample =
-  Grown recoverable None (announce (Some 4) ∷ announce (Some 2) ∷ message two ∷ []) (got 1 one ∷ []) (got 1 one ∷ got 2 two ∷ [])
-  × Grown recoverable (Some 3) (message three ∷ announce (Some 4) ∷ []) (got 1 one ∷ got 2 two ∷ []) (got 1 one ∷ got 2 two ∷ got 3 three ∷ [])
-  × Grown idempotent None (announce (Some 3) ∷ message three ∷ []) (got 1 one ∷ []) (got 1 one ∷ skip (record { first = 2; count = 1 }) ∷ got 3 three ∷ [])
-  × Grown idempotent (Some 4) (message one ∷ []) (got 1 one ∷ skip (record { first = 2; count = 1 }) ∷ got 3 three ∷ [])
-      (got 1 one ∷ skip (record { first = 2; count = 1 }) ∷ got 3 three ∷ got 4 one ∷ [])
+    Grown recoverable None (announce (Some 4) ∷ announce (Some 2) ∷ message two ∷ []) (got 1 one ∷ []) (got 1 one ∷ got 2 two ∷ [])
+    × Grown recoverable (Some 3) (message three ∷ announce (Some 4) ∷ []) (got 1 one ∷ got 2 two ∷ []) (got 1 one ∷ got 2 two ∷ got 3 three ∷ [])
+    × Grown idempotent None (announce (Some 3) ∷ message three ∷ []) (got 1 one ∷ []) (got 1 one ∷ skip (record { first = 2; count = 1 }) ∷ got 3 three ∷ [])
+    × Grown idempotent (Some 4) (message one ∷ []) (got 1 one ∷ skip (record { first = 2; count = 1 }) ∷ got 3 three ∷ [])
+    (got 1 one ∷ skip (record { first = 2; count = 1 }) ∷ got 3 three ∷ got 4 one ∷ [])
 
 -- a history begins a longer one, and that one with its mark
 abbrev pub HistoriesSample : Type 0
 HistoriesSample =
-  BeginsHistory (record { made = []; finished = false }) (record { made = record { sender = 1; own_number = 1; payload = one } ∷ []; finished = false })
-  × BeginsHistory (record { made = record { sender = 1; own_number = 1; payload = one } ∷ []; finished = false })
-      (record { made = record { sender = 1; own_number = 1; payload = one } ∷ []; finished = true })
+    BeginsHistory (record { made = []; finished = false }) (record { made = record { sender = 1; own_number = 1; payload = one } ∷ []; finished = false })
+    × BeginsHistory (record { made = record { sender = 1; own_number = 1; payload = one } ∷ []; finished = false })
+    (record { made = record { sender = 1; own_number = 1; payload = one } ∷ []; finished = true })

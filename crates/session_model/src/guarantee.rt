@@ -11,8 +11,7 @@ pub fn session_turns_round()
 /// A beginning of a session is a session, so that each guarantee holds at every moment.
 pub fn session_begins()
     ensures law { SessionBegins }
-{
-}
+{}
 
 /// A recoverable inbox is a prefix of its peer's journal, over any lives, disconnects and crashes of either end.
 pub fn recoverable_guarantee()

@@ -41,8 +41,7 @@ pub fn rising_goes_on()
 /// An announcement of a number, and behind it the journal's entries from that number on, are true of the journal.
 pub fn announced_entries_are_true()
     ensures law { AnnouncedEntriesAreTrue }
-{
-}
+{}
 
 /// Growth over two parts of one connection is growth over the whole, on each flow.
 pub fn growth_goes_on()
@@ -122,5 +121,4 @@ pub fn chained_splits()
 /// To stand among the numbers from 1 to k is to stand there once.
 pub fn counts_stand_once()
     ensures law { CountsStandOnce }
-{
-}
+{}

@@ -8,23 +8,19 @@ ghost use Rattle.session_model.specs.Samples.{SequencedSample, SamplePlansGoOn, 
 pub fn sequenced_sample()
     ensures session { SequencedSample }
     ensures plans { SamplePlansGoOn }
-{
-}
+{}
 
 /// A publisher of two lives on an unsequenced flow, and a listener that misses a message.
 pub fn unsequenced_sample()
     ensures session { UnsequencedSample }
-{
-}
+{}
 
 /// Growth over one connection in two parts, on a recoverable and on an idempotent flow.
 pub fn parts_sample()
     ensures parts { PartsSample }
-{
-}
+{}
 
 /// A history that goes on, and that is finished.
 pub fn histories_sample()
     ensures histories { HistoriesSample }
-{
-}
+{}
