@@ -1,8 +1,8 @@
 -- The laws of idempotent growth.
-use Rattle.std.proofs.Common.{◌≡◌, ℕ, suc, ◌+◌, ◌-◌, ◌≤◌, max, nat_lt, Bool, true, false, if◌then◌else◌, List, [], ◌∷◌, ◌++◌, flat_map, length, Option, Some, None, IfSome, option_map, unwrap_or, refl, sym, ap, subst, ◌∙◌, arith, append_assoc, append-nil, ltb-false}
+use Rattle.std.proofs.Common.{◌≡◌, ℕ, zero, suc, ◌+◌, ◌-◌, ◌≤◌, max, nat_lt, Bool, true, false, if◌then◌else◌, List, [], ◌∷◌, ◌++◌, flat_map, length, Option, Some, None, IfSome, option_map, unwrap_or, refl, sym, ap, subst, ◌∙◌, arith, append_assoc, append-nil, ltb-false}
 use Rattle.std.specs.List.{AllByRecursion}
 use Rattle.session_model.specs.Journal.{IsEntry, counts_from}
-use Rattle.session_model.specs.Inbox.{Numbered, InboxRecord, applied, skips, settled, next_number, past_greatest, numbers_of, numbers_in, times, SameNumbers}
+use Rattle.session_model.specs.Inbox.{Numbered, InboxRecord, applied, skips, settled, next_number, past_greatest, numbers_of, numbers_in, times, SameNumbers, Ascending}
 use Rattle.session_model.specs.Events.{Event, announce, message, standing, numbered}
 use Rattle.session_model.specs.Growth.{jump, jumps, NeverBack, GrownIdempotent, jumps_through}
 use Rattle.session_model.specs.Laws.{IdempotentConnections, IdempotentSettles, IdempotentKeepsOnce}
@@ -97,11 +97,41 @@ settled_by c es before after g =
       each = λ n. omega (arith, ap (λ ns. times n ns) own, times-append n (numbers_of (numbered c es)) (numbers_in (jumps next c es)), all.each n, ap (λ k. times n (counts_from k all.steps)) same);
     }
 
+-- rising numbers
+ascending_lower : (n m : ℕ) (ns : List ℕ) → m ≤ n → Ascending n ns → Ascending m ns
+ascending_lower n m [] le a = tt
+ascending_lower n m (k ∷ ns) le a = (omega (arith, a.0), a.1)
+
+ascending_counts : (n k : ℕ) (ns : List ℕ) → Ascending (n + k) ns → Ascending n (counts_from n k ++ ns)
+ascending_counts n zero ns a = ascending_lower (n + 0) n ns (omega arith) a
+ascending_counts n (suc k) ns a = (omega arith, ascending_counts (n + 1) k ns (ascending_lower (n + suc k) (n + 1 + k) ns (omega arith) a))
+
+jumps_ascend : (next : ℕ) (c : Option ℕ) (es : List Event) → NeverBack next c es → Ascending (unwrap_or c next) (numbers_in (jumps next c es))
+jumps_ascend next c [] back = tt
+jumps_ascend next c (announce None ∷ es) back = absurd back
+jumps_ascend next c (announce (Some a) ∷ es) back =
+    let r = unwrap_or c next in
+    let own : numbers_in (jumps next c (announce (Some a) ∷ es)) ≡ counts_from r (a - r) ++ numbers_in (jumps next (Some a) es) =
+    numbers_in-append (jump r (Some a)) (jumps next (Some a) es) ∙ ap (λ ns. ns ++ numbers_in (jumps next (Some a) es)) (jump-numbers r a back.0) in
+    let there : a ≡ r + (a - r) = omega (arith, back.0) in
+    subst (λ ns. Ascending r ns) (sym own)
+    (ascending_counts r (a - r) (numbers_in (jumps next (Some a) es))
+    (subst (λ k. Ascending k (numbers_in (jumps next (Some a) es))) there (jumps_ascend next (Some a) es back.1)))
+jumps_ascend next None (message p ∷ es) back = jumps_ascend next None es back
+jumps_ascend next (Some m) (message p ∷ es) back =
+    ascending_lower (m + 1) m (numbers_in (jumps next (Some (m + 1)) es)) (omega arith) (jumps_ascend next (Some (m + 1)) es back)
+
 pub idempotent_settles : IdempotentSettles
 idempotent_settles c es before after g =
+    let b = next_number before in
     let all = settled_by c es before after g in
-    let steps : all.steps ≡ next_number after - next_number before = omega (arith, all.next) in
-    (omega (arith, all.next, all.reached), omega (arith, all.next), λ n. all.each n ∙ ap (λ k. times n (counts_from (next_number before) k)) steps)
+    let steps : all.steps ≡ next_number after - b = omega (arith, all.next) in (
+      omega (arith, all.next, all.reached),
+      omega (arith, all.next),
+      (λ n. all.each n ∙ ap (λ k. times n (counts_from b k)) steps),
+      subst (λ rs. Ascending b (numbers_in rs)) (sym g.skips_jumps)
+          (subst (λ n. Ascending n (numbers_in (jumps b c es))) (agreed b c g.agrees) (jumps_ascend b c es g.never_back)),
+    )
 
 pub idempotent_keeps_once : IdempotentKeepsOnce
 idempotent_keeps_once h c es before after t g kept =

@@ -1,6 +1,6 @@
 -- An inbound journal: what was applied of the peer's flow, and what was told to be missing.
 -- FIXP 1.1, idempotent flow type, with Applied and NotApplied; that both stand in one journal is this project's profile.
-use Rattle.std.specs.Prelude.{◌≡◌, ℕ, ◌+◌, max, ◌==◌, List, [], ◌∷◌, ◌++◌, map, flat_map, count_by}
+use Rattle.std.specs.Prelude.{◌≡◌, ℕ, ◌+◌, max, ◌==◌, List, [], ◌∷◌, ◌++◌, map, flat_map, count_by, ◌≤◌, ⊤}
 use Rattle.session_model.specs.Journal.{counts_from}
 
 -- a message with its number
@@ -72,3 +72,8 @@ times n ns = count_by (λ m. m == n) ns
 -- two lists have each number as often
 abbrev pub SameNumbers : List ℕ → List ℕ → Type 0
 SameNumbers ms ns = (n : ℕ) → times n ms ≡ times n ns
+
+-- numbers that rise, each once, the first at least n
+abbrev pub Ascending : ℕ → List ℕ → Type 0
+Ascending n [] = ⊤
+Ascending n (m ∷ ms) = (n ≤ m) × Ascending (m + 1) ms

@@ -1,6 +1,6 @@
 -- An outbound journal: the application messages that an end was given to send, in the order of their numbers.
 -- FIXP 1.1, recoverable flow type and retransmission: a message's number is its place in the flow, from 1 on, and the sender can give it again.
-use Rattle.std.specs.Prelude.{◌≡◌, ℕ, zero, suc, ◌+◌, ◌-◌, ◌≤◌, Bool, true, ◌==◌, List, [], ◌∷◌, map, filter, length, slice_get, Some}
+use Rattle.std.specs.Prelude.{◌≡◌, ℕ, zero, suc, ◌+◌, ◌-◌, ◌≤◌, Bool, true, false, ◌==◌, List, [], ◌∷◌, map, filter, length, slice_get, Some}
 use mathlib.Core.List.{IsPrefix}
 
 -- one message: which sender of this end handed it in, the how-manieth of that sender it is, and its payload
@@ -51,3 +51,13 @@ pub record History : Type 0 where
 pub record BeginsHistory (first second : History) : Type 0 where
   pub made : IsPrefix first.made second.made
   pub alone : first.finished ≡ true → first ≡ second
+
+-- whether the record that nothing more comes is there
+abbrev pub is_finished : List OutboxRecord → Bool
+is_finished [] = false
+is_finished (entry _ ∷ records) = is_finished records
+is_finished (finish ∷ records) = true
+
+-- the history that an outbound journal holds
+abbrev pub history_of : List OutboxRecord → History
+history_of records = record { made = entries records; finished = is_finished records }

@@ -1,8 +1,8 @@
 -- The laws of the definitions, each a statement that a public function of the crate carries.
-use Rattle.std.specs.Prelude.{◌≡◌, ℕ, ◌+◌, ◌-◌, ◌<◌, ◌≤◌, List, [], ◌∷◌, ◌++◌, map, flat_map, length, take, drop, Option, Some, None, option_map, unwrap_or, ◌↔◌}
+use Rattle.std.specs.Prelude.{◌≡◌, ℕ, ◌+◌, ◌-◌, ◌<◌, ◌≤◌, List, [], ◌∷◌, ◌++◌, map, flat_map, length, take, drop, Option, Some, None, option_map, unwrap_or, false, ◌↔◌}
 use mathlib.Core.List.{IsPrefix}
-use Rattle.session_model.specs.Journal.{Entry, OutboxRecord, History, BeginsHistory, payloads, counts_from}
-use Rattle.session_model.specs.Inbox.{InboxRecord, applied, skips, settled, next_number, numbers_of, payloads_of, times, SameNumbers}
+use Rattle.session_model.specs.Journal.{Entry, OutboxRecord, History, BeginsHistory, history_of, is_finished, payloads, counts_from}
+use Rattle.session_model.specs.Inbox.{InboxRecord, applied, skips, missing, settled, next_number, numbers_of, payloads_of, times, SameNumbers, Ascending}
 use Rattle.session_model.specs.Events.{Event, announce, message, with_number, standing, numbered, messages, TrueOfJournal, Rising}
 use Rattle.session_model.specs.Growth.{Flow, recoverable, idempotent, unsequenced, GrownInOrder, GrownRecoverable, GrownIdempotent, GrownUnsequenced, Grown, GrownThrough, jumps_through, AppliesPrefix, SettlesOnce, DeliversRising}
 use Rattle.session_model.specs.Plans.{Continues, Completes}
@@ -84,13 +84,14 @@ abbrev pub RecoverableCounts : Type 0
 RecoverableCounts = (carried : List (List Event)) (inbox : List InboxRecord) → GrownThrough recoverable carried [] inbox
     → (numbers_of (applied inbox) ≡ counts_from 1 (length (applied inbox))) × (next_number inbox ≡ length (applied inbox) + 1)
 
--- an idempotent growth settles exactly the numbers from the old next one up to the new, each once, and the new one is what
--- stands announced
+-- an idempotent growth settles exactly the numbers from the old next one up to the new, each once; the missing ones stand in
+-- rising order; and the new next number is what stands announced
 abbrev pub IdempotentSettles : Type 0
 IdempotentSettles = (c : Option ℕ) (es : List Event) (before after : List InboxRecord) (grown : GrownIdempotent c es before after)
     → (next_number after ≡ unwrap_or (standing c es) (next_number before))
     × (next_number before ≤ next_number after)
     × SameNumbers (settled grown.added) (counts_from (next_number before) (next_number after - next_number before))
+    × Ascending (next_number before) (missing grown.added)
 
 -- growth over events that are true of the peer's journal keeps what the inbox is to keep
 abbrev pub RecoverableKeepsPrefix : Type 0
@@ -116,6 +117,10 @@ PlanCompletes = (plan before after : List (List ℕ)) → IsPrefix before plan �
 -- beginnings of histories compose
 abbrev pub HistoriesGoOn : Type 0
 HistoriesGoOn = (first second third : History) → BeginsHistory first second → BeginsHistory second third → BeginsHistory first third
+
+-- while it is not finished, a beginning of an outbound journal holds a beginning of its history
+abbrev pub RecordsBeginHistory : Type 0
+RecordsBeginHistory = (first second : List OutboxRecord) → IsPrefix first second → is_finished first ≡ false → BeginsHistory (history_of first) (history_of second)
 
 -- a beginning of chained lives is chained, and the lives behind it go on from what it left
 abbrev pub ChainedSplits : Type 0

@@ -9,7 +9,7 @@ use Rattle.session_model.specs.Events.{Event, announce, message, messages, TrueO
 use Rattle.session_model.specs.Growth.{Flow, recoverable, idempotent, unsequenced, no_flow, GrownThrough}
 use Rattle.session_model.specs.Plans.{Continues, sent_by}
 
--- One connection, seen from one end: the peer's flow as its accepted frames carried it, and its own flow as it wrote it
+-- One connection, seen from one end: the events of the peer's flow that it accepted, and those of its own flow that it wrote
 pub record Connection : Type 0 where
   pub accepted : List Event
   pub written : List Event

@@ -37,7 +37,7 @@ orders s applied = if 1 == s then one ∷ three ∷ [] else if 2 == s then two �
 abbrev pub replies : ℕ → List (List ℕ) → List (List ℕ)
 replies s applied = if 1 == s then map reply applied else []
 
--- End a sent one and two; three was refused by its disk. Its first Establish was rejected; its second connection reached nobody
+-- End a sent one and two; the append of three failed. Its first announcement was passed over; its second connection reached nobody
 abbrev pub first_a : Life
 first_a = record {
   opening_outbox = [];
@@ -52,7 +52,7 @@ first_a = record {
       ∷ [];
 }
 
--- Three stood on the disk all the same. End a is asked for two, and jumps over the reply that was lost
+-- Three stood in the journal all the same. End a is asked for two, and jumps over the reply that was lost
 abbrev pub second_a : Life
 second_a = record {
   opening_outbox = sent 1 1 one ∷ sent 2 1 two ∷ sent 1 2 three ∷ [];
@@ -67,7 +67,7 @@ second_a = record {
       ∷ [];
 }
 
--- End b applied one; two was refused by its disk
+-- End b applied one; the append of two failed
 abbrev pub first_b : Life
 first_b = record {
   opening_outbox = [];
