@@ -8,7 +8,8 @@ pub fn session_turns_round()
     ensures law { SessionTurnsRound }
 {}
 
-/// A beginning of a session is a session, so that each guarantee holds at every moment.
+/// The first lives of both ends are a session where their connections are linked among themselves. A moment within a life
+/// is not in the model.
 pub fn session_begins()
     ensures law { SessionBegins }
 {}
