@@ -1,0 +1,163 @@
+-- Sample sessions that meet the guarantee's premises, so that these are no empty words: two lives at each end, a refused record
+-- that is lost and one that stays, connections that reached nobody, an announcement that was passed over.
+use Rattle.std.specs.Prelude.{ℕ, ◌==◌, if◌then◌else◌, List, [], ◌∷◌, map, Some, None, true, false}
+use Rattle.session_model.specs.Journal.{OutboxRecord, entry, finish, BeginsHistory}
+use Rattle.session_model.specs.Inbox.{InboxRecord, apply, skip, negotiated}
+use Rattle.session_model.specs.Events.{announce, message}
+use Rattle.session_model.specs.Growth.{recoverable, idempotent, unsequenced, no_flow, Grown}
+use Rattle.session_model.specs.Plans.{GoesOn}
+use Rattle.session_model.specs.Lives.{Life}
+use Rattle.session_model.specs.Guarantee.{Session}
+
+-- three payloads
+abbrev pub one : List ℕ
+one = 1 ∷ []
+
+abbrev pub two : List ℕ
+two = 2 ∷ []
+
+abbrev pub three : List ℕ
+three = 3 ∷ []
+
+-- the reply to a message
+abbrev pub reply : List ℕ → List ℕ
+reply payload = 0 ∷ payload
+
+abbrev pub sent : ℕ → ℕ → List ℕ → OutboxRecord
+sent s k payload = entry (record { sender = s; own_number = k; payload = payload })
+
+abbrev pub got : ℕ → List ℕ → InboxRecord
+got n payload = apply (record { number = n; payload = payload })
+
+-- sender 1 of end a is to send one and three, sender 2 two
+abbrev pub orders : ℕ → List (List ℕ) → List (List ℕ)
+orders s applied = if 1 == s then one ∷ three ∷ [] else if 2 == s then two ∷ [] else []
+
+-- sender 1 of end b is to send the reply to each message applied
+abbrev pub replies : ℕ → List (List ℕ) → List (List ℕ)
+replies s applied = if 1 == s then map reply applied else []
+
+-- End a sent one and two; the append of three failed. Its first announcement was passed over; its second connection reached nobody
+abbrev pub first_a : Life
+first_a = record {
+  opening_outbox = [];
+  closing_outbox = sent 1 1 one ∷ sent 2 1 two ∷ [];
+  refused_outbox = sent 1 2 three ∷ [];
+  opening_inbox = [];
+  closing_inbox = negotiated ∷ got 1 (reply one) ∷ [];
+  refused_inbox = [];
+  connections =
+      record { accepted = announce (Some 1) ∷ message (reply one) ∷ []; written = announce (Some 1) ∷ announce (Some 1) ∷ message one ∷ message two ∷ [] }
+      ∷ record { accepted = []; written = announce (Some 3) ∷ [] }
+      ∷ [];
+}
+
+-- Three stood in the journal all the same. End a is asked for two, and jumps over the reply that was lost
+abbrev pub second_a : Life
+second_a = record {
+  opening_outbox = sent 1 1 one ∷ sent 2 1 two ∷ sent 1 2 three ∷ [];
+  closing_outbox = sent 1 1 one ∷ sent 2 1 two ∷ sent 1 2 three ∷ finish ∷ [];
+  refused_outbox = [];
+  opening_inbox = negotiated ∷ got 1 (reply one) ∷ [];
+  closing_inbox = negotiated ∷ got 1 (reply one) ∷ skip (record { first = 2; count = 1 }) ∷ got 3 (reply three) ∷ [];
+  refused_inbox = [];
+  connections =
+      record { accepted = announce (Some 2) ∷ []; written = announce (Some 4) ∷ announce (Some 2) ∷ message two ∷ message three ∷ announce (Some 4) ∷ [] }
+      ∷ record { accepted = announce (Some 3) ∷ message (reply three) ∷ []; written = announce (Some 4) ∷ [] }
+      ∷ [];
+}
+
+-- End b applied one; the append of two failed
+abbrev pub first_b : Life
+first_b = record {
+  opening_outbox = [];
+  closing_outbox = sent 1 1 (reply one) ∷ [];
+  refused_outbox = [];
+  opening_inbox = [];
+  closing_inbox = got 1 one ∷ [];
+  refused_inbox = got 2 two ∷ [];
+  connections = record { accepted = announce (Some 1) ∷ message one ∷ message two ∷ []; written = announce (Some 1) ∷ message (reply one) ∷ [] } ∷ [];
+}
+
+-- Two was lost, and is sent again. The reply to it went into a connection that reached nobody
+abbrev pub second_b : Life
+second_b = record {
+  opening_outbox = sent 1 1 (reply one) ∷ [];
+  closing_outbox = sent 1 1 (reply one) ∷ sent 1 2 (reply two) ∷ sent 1 3 (reply three) ∷ [];
+  refused_outbox = [];
+  opening_inbox = got 1 one ∷ [];
+  closing_inbox = got 1 one ∷ got 2 two ∷ got 3 three ∷ [];
+  refused_inbox = [];
+  connections =
+      record { accepted = announce (Some 4) ∷ announce (Some 2) ∷ message two ∷ message three ∷ []; written = announce (Some 2) ∷ [] }
+      ∷ record { accepted = []; written = announce (Some 2) ∷ message (reply two) ∷ [] }
+      ∷ record { accepted = announce (Some 4) ∷ []; written = announce (Some 3) ∷ message (reply three) ∷ [] }
+      ∷ [];
+}
+
+abbrev pub SequencedSample : Type 0
+SequencedSample = Session recoverable idempotent orders replies (first_a ∷ second_a ∷ []) (first_b ∷ second_b ∷ [])
+    second_a.closing_outbox second_b.closing_outbox second_a.closing_inbox second_b.closing_inbox
+
+abbrev pub SamplePlansGoOn : Type 0
+SamplePlansGoOn = GoesOn orders × GoesOn replies
+
+-- end a publishes one, two and three, end b listens and misses two
+abbrev pub news : ℕ → List (List ℕ) → List (List ℕ)
+news s applied = if 1 == s then one ∷ two ∷ three ∷ [] else []
+
+abbrev pub silence : ℕ → List (List ℕ) → List (List ℕ)
+silence s applied = []
+
+abbrev pub first_publisher : Life
+first_publisher = record {
+  opening_outbox = [];
+  closing_outbox = sent 1 1 one ∷ sent 1 2 two ∷ [];
+  refused_outbox = [];
+  opening_inbox = [];
+  closing_inbox = [];
+  refused_inbox = [];
+  connections = record { accepted = []; written = message one ∷ [] } ∷ record { accepted = []; written = message two ∷ [] } ∷ [];
+}
+
+abbrev pub second_publisher : Life
+second_publisher = record {
+  opening_outbox = sent 1 1 one ∷ sent 1 2 two ∷ [];
+  closing_outbox = sent 1 1 one ∷ sent 1 2 two ∷ sent 1 3 three ∷ [];
+  refused_outbox = [];
+  opening_inbox = [];
+  closing_inbox = [];
+  refused_inbox = [];
+  connections = record { accepted = []; written = message three ∷ [] } ∷ [];
+}
+
+abbrev pub listener : Life
+listener = record {
+  opening_outbox = [];
+  closing_outbox = [];
+  refused_outbox = [];
+  opening_inbox = [];
+  closing_inbox = got 1 one ∷ got 2 three ∷ [];
+  refused_inbox = [];
+  connections = record { accepted = message one ∷ []; written = [] } ∷ record { accepted = message three ∷ []; written = [] } ∷ [];
+}
+
+abbrev pub UnsequencedSample : Type 0
+UnsequencedSample = Session unsequenced no_flow news silence (first_publisher ∷ second_publisher ∷ []) (listener ∷ [])
+    second_publisher.closing_outbox [] [] listener.closing_inbox
+
+-- growth over one connection in two parts, the second behind a number that stands announced
+abbrev pub PartsSample : Type 0
+PartsSample =
+    Grown recoverable None (announce (Some 4) ∷ announce (Some 2) ∷ message two ∷ []) (got 1 one ∷ []) (got 1 one ∷ got 2 two ∷ [])
+    × Grown recoverable (Some 3) (message three ∷ announce (Some 4) ∷ []) (got 1 one ∷ got 2 two ∷ []) (got 1 one ∷ got 2 two ∷ got 3 three ∷ [])
+    × Grown idempotent None (announce (Some 3) ∷ message three ∷ []) (got 1 one ∷ []) (got 1 one ∷ skip (record { first = 2; count = 1 }) ∷ got 3 three ∷ [])
+    × Grown idempotent (Some 4) (message one ∷ []) (got 1 one ∷ skip (record { first = 2; count = 1 }) ∷ got 3 three ∷ [])
+    (got 1 one ∷ skip (record { first = 2; count = 1 }) ∷ got 3 three ∷ got 4 one ∷ [])
+
+-- a history begins a longer one, and that one with its mark
+abbrev pub HistoriesSample : Type 0
+HistoriesSample =
+    BeginsHistory (record { made = []; finished = false }) (record { made = record { sender = 1; own_number = 1; payload = one } ∷ []; finished = false })
+    × BeginsHistory (record { made = record { sender = 1; own_number = 1; payload = one } ∷ []; finished = false })
+    (record { made = record { sender = 1; own_number = 1; payload = one } ∷ []; finished = true })

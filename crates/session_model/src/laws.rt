@@ -1,0 +1,129 @@
+//! The laws of the definitions. Each function has an empty body: its clause is a statement about every list.
+//! They rest on nothing but the definitions of `specs/`.
+
+ghost use Rattle.session_model.specs.Laws.{NumberingLooksBack, MessageTakesStanding, NumberingSplits, TrueSplits, TrueStaysTrue, AnnouncedEntriesAreTrue, CountsStandOnce, RisingStaysRising, RisingGoesOn, GrowthGoesOn, ConnectionsGoOn, RecoverableConnections, IdempotentConnections, UnsequencedConnections, NoEventsGrowNothing, RecoverableCounts, IdempotentSettles, RecoverableKeepsPrefix, IdempotentKeepsOnce, UnsequencedKeepsRising, PlanGoesOn, PlanCompletes, HistoriesGoOn, RecordsBeginHistory, ChainedSplits};
+
+/// Behind an announcement and so many messages stands its number and as many more, whatever came before it.
+pub fn numbering_looks_back()
+    ensures law { NumberingLooksBack }
+{}
+
+/// A message has the number that stands behind the events before it.
+pub fn message_takes_standing()
+    ensures law { MessageTakesStanding }
+{}
+
+/// Of the events of one connection in two parts, the second is numbered from what stands behind the first.
+pub fn numbering_splits()
+    ensures law { NumberingSplits }
+{}
+
+/// Events are true of a journal exactly where both parts of them are.
+pub fn true_splits()
+    ensures law { TrueSplits }
+{}
+
+/// What is true of a journal stays true of it as it grows.
+pub fn true_stays_true()
+    ensures law { TrueStaysTrue }
+{}
+
+/// What rises through a journal still does as it grows.
+pub fn rising_stays_rising()
+    ensures law { RisingStaysRising }
+{}
+
+/// What rises through a journal, and then beyond it, rises.
+pub fn rising_goes_on()
+    ensures law { RisingGoesOn }
+{}
+
+/// An announcement of a number, and behind it the journal's entries from that number on, are true of the journal.
+pub fn announced_entries_are_true()
+    ensures law { AnnouncedEntriesAreTrue }
+{}
+
+/// Growth over two parts of one connection is growth over the whole, on each flow.
+pub fn growth_goes_on()
+    ensures law { GrowthGoesOn }
+{}
+
+/// Growth over some connections and then over others is growth over all of them.
+pub fn connections_go_on()
+    ensures law { ConnectionsGoOn }
+{}
+
+/// Recoverable growth over several connections, said at once; each is numbered by itself.
+pub fn recoverable_connections()
+    ensures law { RecoverableConnections }
+{}
+
+/// Idempotent growth over several connections, said at once; each is numbered by itself.
+pub fn idempotent_connections()
+    ensures law { IdempotentConnections }
+{}
+
+/// Unsequenced growth over several connections, said at once.
+pub fn unsequenced_connections()
+    ensures law { UnsequencedConnections }
+{}
+
+/// Over no events nothing is applied and nothing skipped.
+pub fn no_events_grow_nothing()
+    ensures law { NoEventsGrowNothing }
+{}
+
+/// A recoverable inbox counts 1, 2, 3 and so on, and waits for the number behind.
+pub fn recoverable_counts()
+    ensures law { RecoverableCounts }
+{}
+
+/// An idempotent growth settles each number from the old next one up to the new one once.
+pub fn idempotent_settles()
+    ensures law { IdempotentSettles }
+{}
+
+/// Recoverable growth over events that are true of a journal keeps what was applied a prefix of it.
+pub fn recoverable_keeps_prefix()
+    ensures law { RecoverableKeepsPrefix }
+{}
+
+/// Idempotent growth over events that are true of a journal keeps each number below next applied or missing, once.
+pub fn idempotent_keeps_once()
+    ensures law { IdempotentKeepsOnce }
+{}
+
+/// Unsequenced growth over messages that rise beyond what was begun keeps what was delivered rising.
+pub fn unsequenced_keeps_rising()
+    ensures law { UnsequencedKeepsRising }
+{}
+
+/// A sender that had sent a beginning of its plan has still sent one.
+pub fn plan_goes_on()
+    ensures law { PlanGoesOn }
+{}
+
+/// A sender that had sent a beginning of its plan, and completed it, has sent all of it.
+pub fn plan_completes()
+    ensures law { PlanCompletes }
+{}
+
+/// Beginnings of histories compose.
+pub fn histories_go_on()
+    ensures law { HistoriesGoOn }
+{}
+
+/// While it is not finished, a beginning of an outbound journal holds a beginning of its history.
+pub fn records_begin_history()
+    ensures law { RecordsBeginHistory }
+{}
+
+/// A beginning of chained lives is chained, and the later lives go on from what it left.
+pub fn chained_splits()
+    ensures law { ChainedSplits }
+{}
+
+/// To stand among the numbers from 1 to k is to stand there once.
+pub fn counts_stand_once()
+    ensures law { CountsStandOnce }
+{}

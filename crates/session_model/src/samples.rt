@@ -1,0 +1,26 @@
+//! Sample sessions that meet every premise of the guarantee: its words are not empty.
+//! Each function has an empty body; its clause is a session written out in `specs/Samples.antt`.
+
+ghost use Rattle.session_model.specs.Samples.{SequencedSample, SamplePlansGoOn, UnsequencedSample, PartsSample, HistoriesSample};
+
+/// Two lives at each end, a recoverable and an idempotent flow, a refused record that stays and one that is lost, connections
+/// that reached nobody, a rejected announcement, a retransmission and a jump.
+pub fn sequenced_sample()
+    ensures session { SequencedSample }
+    ensures plans { SamplePlansGoOn }
+{}
+
+/// A publisher of two lives on an unsequenced flow, and a listener that misses a message.
+pub fn unsequenced_sample()
+    ensures session { UnsequencedSample }
+{}
+
+/// Growth over one connection in two parts, on a recoverable and on an idempotent flow.
+pub fn parts_sample()
+    ensures parts { PartsSample }
+{}
+
+/// A history that goes on, and that is finished.
+pub fn histories_sample()
+    ensures histories { HistoriesSample }
+{}
