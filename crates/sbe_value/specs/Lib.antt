@@ -1,0 +1,6 @@
+pub mod Equal
+pub mod Falls
+pub mod Laws
+pub mod TreeLaws
+pub mod Trees
+pub mod Views
