@@ -1,6 +1,5 @@
 -- Lists of groups and of blocks, element by element.
 use Rattle.std.proofs.Common.{◌≡◌, ◌≢◌, ℕ, suc, ◌+◌, ◌<◌, Bool, true, false, ◌&&◌, List, [], ◌∷◌, length, drop, get_or, refl, sym, ap, ◌∙◌, arith, add-one, drop-cons}
-use Rattle.std.proofs.lemmas.Bool.{false≢true}
 use Rattle.sbe_value.specs.declared.tree.Group.{Group}
 use Rattle.sbe_value.specs.declared.tree.Group.TheVariants.{Absent, Entries}
 use Rattle.sbe_value.specs.declared.tree.Block.{Block}

@@ -1,5 +1,5 @@
 -- Which values are equal, as tests that compute. Each is true exactly of equal values.
-use Rattle.std.specs.Prelude.{ℕ, Bool, true, false, ◌==◌, ◌&&◌, List, nat_eq}
+use Rattle.std.specs.Prelude.{Bool, true, false, ◌==◌, ◌&&◌, nat_eq}
 use Rattle.std.specs.Ordering.{int_eq}
 use Rattle.std.specs.Cmp.Lexicographic.{pointwise}
 use Rattle.sbe_value.specs.declared.item.Item.{Item}

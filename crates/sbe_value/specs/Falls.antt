@@ -1,5 +1,5 @@
 -- A child of a list of groups or of blocks weighs less than the list.
-use Rattle.std.specs.Prelude.{ℕ, ◌≤◌, max, List, [], ◌∷◌}
+use Rattle.std.specs.Prelude.{◌≤◌, max, List, [], ◌∷◌}
 use Rattle.std.proofs.Common.{arith}
 use denote.Param.Weighed.{most}
 use Rattle.sbe_value.specs.declared.tree.Group.{Group}

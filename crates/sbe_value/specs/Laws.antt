@@ -1,5 +1,5 @@
 -- The tests of equality are true exactly of equal values, and so they are symmetric and transitive.
-use Rattle.std.specs.Prelude.{◌≡◌, ℕ, Bool, true, false, ◌&&◌, ◌==◌, List, refl, nat_eq}
+use Rattle.std.specs.Prelude.{◌≡◌, ℕ, Bool, true, false, List, refl, nat_eq}
 use Rattle.std.proofs.Common.{◌∙◌, sym, ap, subst, Decides}
 use Rattle.std.proofs.lemmas.Bool.{false≢true}
 use Rattle.std.proofs.lemmas.Bool.Decides.{Decides-eqb, Decides-int_eq}

@@ -1,6 +1,6 @@
 -- The tests of equality of trees are true exactly of equal trees.
 use Rattle.std.specs.Prelude.{◌≡◌, Bool, true, false, ◌&&◌, List, refl}
-use Rattle.std.proofs.Common.{sym, ap, subst, Decides}
+use Rattle.std.proofs.Common.{ap, Decides}
 use Rattle.std.proofs.lemmas.Bool.{false≢true}
 use Rattle.std.proofs.lemmas.Bool.Decides.{Decides-eqb}
 use Rattle.std.specs.Cmp.Lexicographic.{pointwise, pointwise_decides}

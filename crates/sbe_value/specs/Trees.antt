@@ -1,7 +1,7 @@
 -- The groups of a block and the entries of a group, as lists that hold one another (SBE 1.0, "Repeating groups").
 use Rattle.std.specs.Prelude.{◌≡◌, ℕ, ◌+◌, List, refl}
 use Rattle.std.specs.Coded.{Coded, coded_list}
-use base.Stored.{Gv, gnil, gnum, gcons, code_l}
+use base.Stored.{Gv, gnil, gnum, gcons}
 use Rattle.std.proofs.Common.{ap, sym, subst}
 use Rattle.sbe_value.specs.declared.item.Item.{Item}
 use Rattle.sbe_value.specs.declared.datum.Datum.{Datum}

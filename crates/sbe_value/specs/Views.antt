@@ -1,5 +1,5 @@
 -- A list of groups or of blocks, as the lists that hold one another.
-use Rattle.std.specs.Prelude.{ℕ, ◌≤◌, ◌+◌, List, [], ◌∷◌}
+use Rattle.std.specs.Prelude.{List, [], ◌∷◌}
 use Rattle.sbe_value.specs.declared.tree.Group.{Group}
 use Rattle.sbe_value.specs.declared.tree.Group.TheVariants.{Absent, Entries}
 use Rattle.sbe_value.specs.declared.tree.Block.{Block}

@@ -42,6 +42,8 @@ mod tests {
         lines.end_line()?;
         assert_eq!(rt; lines.as_slice(), b"end\n".as_slice());
         assert_eq!(rt; lines.copy(rt.alloc())?, lines);
+        let inner: Vec<u8> = Vec::from(lines);
+        assert_eq!(rt; Bytes::from(inner).len(), 4);
         Ok(())
     }
 
@@ -83,7 +85,10 @@ mod tests {
         path.push(Step::Key(Bytes::from_slice(alloc, b"fields")?))?;
         path.push(Step::At(1))?;
         assert_eq!(rt; path.copy(alloc)?, path);
-        assert_eq!(rt; path.text(alloc)?.as_slice(), b"message[0].fields[1]".as_slice());
+        assert_eq!(rt;
+            path.text(alloc)?.as_slice(),
+            b"message[0].fields[1]".as_slice()
+        );
         Ok(())
     }
 }

@@ -2,6 +2,8 @@
 
 ghost use Rattle.std.specs.Prelude.{◌≡◌, ◌↔◌, [], ◌∷◌, ◌++◌, length, IsTrue, IfOk, OnOk, OnErr};
 ghost use Rattle.std.specs.Cmp.Lexicographic.{pointwise};
+ghost use Rattle.sbe_value.specs.Equal.{step_eq};
+ghost use Rattle.sbe_value.specs.PathText.{step_text, path_text};
 
 use crate::Bytes;
 use std::alloc::{AllocError, Global};
@@ -139,6 +141,22 @@ impl Path {
         Ok(())
     }
 
+    /// The path as people read it: keys joined by dots, and `[i]` for a place in a list.
+    pub fn text(&self, alloc: Global) -> Result<Bytes, AllocError>
+        ensures { IfOk result (λ b. b ≡ path_text self.now) }
+    {
+        let mut text = Bytes::new(alloc);
+        let mut rest = self.inner.as_slice();
+        if let [Step::Key(key), others @ ..] = rest {
+            text.extend_from_slice(key.as_slice())?;
+            rest = others;
+        }
+        for step in rest {
+            write_step(alloc, step, &mut text)?;
+        }
+        Ok(text)
+    }
+
     /// An equal path of its own.
     pub fn copy(&self, alloc: Global) -> Result<Path, AllocError>
         ensures { IfOk result (λ l. l ≡ self.now) }
@@ -148,5 +166,21 @@ impl Path {
             inner.push(step.copy(alloc)?)?;
         }
         Ok(Path { inner })
+    }
+}
+
+// Writes a step behind others.
+fn write_step(alloc: Global, step: &Step, text: &mut Bytes) -> Result<(), AllocError>
+    ensures { OnOk result (text.new ≡ text.old ++ step_text step.now) }
+{
+    match step {
+        Step::Key(key) => {
+            text.push(b'.')?;
+            text.extend_from_slice(key.as_slice())
+        }
+        Step::At(place) => {
+            let digits = format!(in alloc; "[{place}]")?;
+            text.extend_from_slice(digits.as_bytes())
+        }
     }
 }

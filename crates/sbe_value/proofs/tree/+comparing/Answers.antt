@@ -1,5 +1,4 @@
 use Rattle.std.proofs.Common.{◌≡◌, ◌∙◌, sym, rules}
-use Rattle.sbe_value.specs.Views.{groups_of, blocks_of}
 use Rattle.sbe_value.specs.Equal.{groups_eq, blocks_eq}
 use Rattle.sbe_value.specs.TreeLaws.{groups_exact, blocks_exact}
 use Rattle.sbe_value.proofs.Rows.{groups_eq-lengths, blocks_eq-lengths}

@@ -1,5 +1,4 @@
-use Rattle.std.proofs.Common.{ap, sym, ◌∙◌, rules}
-use Rattle.sbe_value.specs.Trees.{count_of_groups}
+use Rattle.std.proofs.Common.{rules}
 use Rattle.sbe_value.proofs.Rows.{count_of_groups-groups_of}
 use Rattle.sbe_value.proofs.tree.Groups.len.Goals as goal
 
