@@ -1,0 +1,50 @@
+-- Names, ids and types that are told apart (SBE 1.0, "Message schema", names and ids).
+use Rattle.std.specs.Prelude.{ℕ, ℤ, pos, Bool, true, false, ◌||◌, is_some, List}
+use Rattle.sbe_schema.specs.declared.meaning.Meaning as meaning
+use Rattle.sbe_schema.specs.declared.meaning.Meaning.TheVariants as means
+use Rattle.sbe_schema.specs.declared.types.TypeDef.{TypeDef}
+use Rattle.sbe_schema.specs.Names.{is_named, is_listed, primitive_named}
+use Rattle.sbe_schema.specs.Meanings.{meaning_of}
+use Rattle.sbe_schema.specs.Places.{Table, whole, type_table, value_table, bit_table, member_table, message_table, field_table, group_table, data_table}
+
+-- the name stands before in the same list or block, or is a primitive's and a type's
+abbrev pub is_duplicate_name : List (List ℕ) → Table → Bool
+is_duplicate_name names whole = false
+is_duplicate_name names (type_table t) = is_named t.name names || is_some (primitive_named t.name)
+is_duplicate_name names (value_table prim v) = is_named v.name names
+is_duplicate_name names (bit_table prim b) = is_named b.name names
+is_duplicate_name names (member_table end m) = is_named m.name names
+is_duplicate_name names (message_table m) = is_named m.name names
+is_duplicate_name names (field_table floor end f) = is_named f.name names
+is_duplicate_name names (group_table holder floor g) = is_named g.name names
+is_duplicate_name names (data_table holder floor d) = is_named d.name names
+
+-- the id stands before among the messages, or among the elements of the message
+abbrev pub is_duplicate_id : List ℤ → Table → Bool
+is_duplicate_id ids whole = false
+is_duplicate_id ids (type_table t) = false
+is_duplicate_id ids (value_table prim v) = false
+is_duplicate_id ids (bit_table prim b) = false
+is_duplicate_id ids (member_table end m) = false
+is_duplicate_id ids (message_table m) = is_listed (pos m.id) ids
+is_duplicate_id ids (field_table floor end f) = is_listed (pos f.id) ids
+is_duplicate_id ids (group_table holder floor g) = is_listed (pos g.id) ids
+is_duplicate_id ids (data_table holder floor d) = is_listed (pos d.id) ids
+
+abbrev pub is_unknown : meaning.Meaning → Bool
+is_unknown means.Unknown = true
+is_unknown (means.Number prim length) = false
+is_unknown (means.Code prim) = false
+is_unknown means.Composite = false
+
+abbrev pub is_composite : meaning.Meaning → Bool
+is_composite means.Unknown = false
+is_composite (means.Number prim length) = false
+is_composite (means.Code prim) = false
+is_composite means.Composite = true
+
+-- a name that is neither a primitive's nor a type's, or a member that is a composite
+abbrev pub is_unknown_type : List TypeDef → Table → Bool
+is_unknown_type types (member_table end m) = is_unknown (meaning_of types m.type_name) || is_composite (meaning_of types m.type_name)
+is_unknown_type types (field_table floor end f) = is_unknown (meaning_of types f.type_name)
+is_unknown_type types _ = false

@@ -1,0 +1,44 @@
+-- Names, and the names of the primitives.
+use Rattle.std.specs.Prelude.{ℕ, Bool, true, false, ◌||◌, if◌then◌else◌, Option, Some, None, List, [], ◌∷◌, nat_eq, codes}
+use Rattle.std.specs.Ordering.{int_eq}
+use Rattle.std.specs.Prelude.{ℤ}
+use Rattle.std.specs.Cmp.Lexicographic.{pointwise}
+use Rattle.sbe_prim.specs.declared.Primitive.{Primitive}
+use Rattle.sbe_prim.specs.declared.Primitive.TheVariants.{Char, Int8, Int16, Int32, Int64, UInt8, UInt16, UInt32, UInt64, Float, Double}
+
+-- two names are the same bytes
+abbrev pub same_name : List ℕ → List ℕ → Bool
+same_name a b = pointwise nat_eq a b
+
+-- a name stands among others
+abbrev pub is_named : List ℕ → List (List ℕ) → Bool
+is_named name [] = false
+is_named name (other ∷ names) = same_name name other || is_named name names
+
+-- a number stands among others
+abbrev pub is_listed : ℤ → List ℤ → Bool
+is_listed z [] = false
+is_listed z (other ∷ numbers) = int_eq z other || is_listed z numbers
+
+-- the word by which a schema names a primitive
+abbrev pub word_of : Primitive → List ℕ
+word_of Char = codes "char"
+word_of Int8 = codes "int8"
+word_of Int16 = codes "int16"
+word_of Int32 = codes "int32"
+word_of Int64 = codes "int64"
+word_of UInt8 = codes "uint8"
+word_of UInt16 = codes "uint16"
+word_of UInt32 = codes "uint32"
+word_of UInt64 = codes "uint64"
+word_of Float = codes "float"
+word_of Double = codes "double"
+
+abbrev pub first_named : List ℕ → List Primitive → Option Primitive
+first_named name [] = None
+first_named name (p ∷ ps) = if same_name name (word_of p) then Some p else first_named name ps
+
+-- the primitive of a name, if it is one's
+unfoldable pub primitive_named : List ℕ → Option Primitive
+primitive_named name =
+    first_named name (Char ∷ Int8 ∷ Int16 ∷ Int32 ∷ Int64 ∷ UInt8 ∷ UInt16 ∷ UInt32 ∷ UInt64 ∷ Float ∷ Double ∷ [])

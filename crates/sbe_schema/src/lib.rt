@@ -1,0 +1,25 @@
+//! Schemas of Simple Binary Encoding 1.0: their types and messages, and the
+//! check that a schema is one by which messages can be laid out.
+//! It stands on the primitives and on the list types.
+#![tactic(auto)]
+
+mod check;
+mod checked;
+mod fault;
+mod groups;
+mod meaning;
+mod messages;
+mod schema;
+mod types;
+
+pub use check::{check, fault_tells};
+pub use checked::Checked;
+pub use fault::{Part, SchemaFault, SchemaKind, Spot};
+pub use groups::{GroupDef, GroupDefs};
+pub use meaning::Meaning;
+pub use messages::{DataDef, DataDefs, FieldDef, FieldDefs, MessageDef, MessageDefs};
+pub use schema::Schema;
+pub use types::{
+    BitDef, BitDefs, Constant, MemberDef, MemberDefs, Presence, TypeDef, TypeDefs, TypeKind,
+    ValueDef, ValueDefs,
+};
