@@ -38,17 +38,20 @@ abbrev pub first_place : Schema → SchemaKind → List Place → Option (List S
 first_place schema kind [] = None
 first_place schema kind (p ∷ ps) = if occurs schema kind p then Some (path_of p.spots) else first_place schema kind ps
 
-abbrev pub at_first : SchemaKind → Option (List Step) → Option (SchemaKind × List Step) → Option (SchemaKind × List Step)
-at_first kind (Some path) others = Some (kind, path)
+abbrev pub fault : SchemaKind → List Step → SchemaFault
+fault kind path = record { kind = kind; path = path }
+
+abbrev pub at_first : SchemaKind → Option (List Step) → Option SchemaFault → Option SchemaFault
+at_first kind (Some path) others = Some (fault kind path)
 at_first kind None others = others
 
 -- the least of some rules that is broken, at the first place that breaks it
-abbrev pub least_of_rules : Schema → List SchemaKind → List Place → Option (SchemaKind × List Step)
+abbrev pub least_of_rules : Schema → List SchemaKind → List Place → Option SchemaFault
 least_of_rules schema [] places = None
 least_of_rules schema (kind ∷ kinds) places = at_first kind (first_place schema kind places) (least_of_rules schema kinds places)
 
 -- what the check reports of a schema, if anything
-unfoldable pub fault_of : Schema → Option (SchemaKind × List Step)
+unfoldable pub fault_of : Schema → Option SchemaFault
 fault_of schema = least_of_rules schema rules_in_order (walk schema)
 
 -- a table breaks none of some rules
@@ -66,7 +69,7 @@ is_checked schema = all_keep schema (walk schema)
 
 -- what a refusal says: want of memory with the empty path, or the least fault at its first place
 abbrev pub Explains : Schema → SchemaFault → Type 0
-Explains schema fault = ((fault.kind ≡ Memory) × (fault.path ≡ [])) ⊎ (fault_of schema ≡ Some (fault.kind, fault.path))
+Explains schema found = ((found.kind ≡ Memory) × (found.path ≡ [])) ⊎ (fault_of schema ≡ Some found)
 
 -- a schema is checked exactly where no fault is found
 abbrev pub FaultTells : Schema → Type 0

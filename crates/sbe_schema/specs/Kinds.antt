@@ -7,7 +7,8 @@ use Rattle.sbe_schema.specs.declared.types.TypeDef.{TypeDef}
 use Rattle.sbe_schema.specs.declared.types.TypeKind.{TypeKind}
 use Rattle.sbe_schema.specs.declared.types.TypeKind.TheVariants.{Number, Enum, Set, Composite}
 use Rattle.sbe_schema.specs.declared.types.ValueDef.{ValueDef}
-use Rattle.sbe_schema.specs.Names.{is_listed}
+use Rattle.std.specs.FinSet as set
+use Rattle.sbe_schema.specs.Names.{Numbers}
 use Rattle.sbe_schema.specs.Offsets.{block_length_of}
 use Rattle.sbe_schema.specs.Places.{Holder, Table, whole, type_table, value_table, bit_table, member_table, message_table, field_table, group_table, data_table}
 
@@ -43,9 +44,9 @@ is_bad_enum_kind (Set prim bits) = false
 is_bad_enum_kind (Composite members) = false
 
 -- a value stands once, and between the ends of what its primitive's bytes hold
-abbrev pub is_bad_enum : List ℤ → Table → Bool
+abbrev pub is_bad_enum : Numbers → Table → Bool
 is_bad_enum numbers (type_table t) = is_bad_enum_kind t.kind
-is_bad_enum numbers (value_table prim v) = is_listed v.value numbers || not (lies_within (least_of prim) (greatest_of prim) v.value)
+is_bad_enum numbers (value_table prim v) = set.contains numbers v.value || not (lies_within (least_of prim) (greatest_of prim) v.value)
 is_bad_enum numbers _ = false
 
 -- a set is an unsigned integer
@@ -56,9 +57,9 @@ is_bad_set_kind (Enum prim values) = false
 is_bad_set_kind (Composite members) = false
 
 -- a bit stands once, and below the width of its primitive
-abbrev pub is_bad_set : List ℤ → Table → Bool
+abbrev pub is_bad_set : Numbers → Table → Bool
 is_bad_set numbers (type_table t) = is_bad_set_kind t.kind
-is_bad_set numbers (bit_table prim b) = is_listed (pos b.bit) numbers || not (nat_lt b.bit (8 * size_of prim))
+is_bad_set numbers (bit_table prim b) = set.contains numbers (pos b.bit) || not (nat_lt b.bit (8 * size_of prim))
 is_bad_set numbers _ = false
 
 abbrev pub is_dimension : Primitive → Bool

@@ -15,24 +15,24 @@ use Rattle.sbe_schema.specs.declared.types.Constant.TheVariants.{Num, Text}
 use Rattle.sbe_schema.specs.declared.messages.MessageDef.{MessageDef}
 use Rattle.sbe_schema.specs.Groups.{GroupTree, no_groups, group}
 use Rattle.sbe_schema.specs.Meanings.{meaning_of}
-use Rattle.sbe_schema.specs.Offsets.{block_length_of}
+use Rattle.sbe_schema.specs.Offsets.{plus, block_length_of}
 use Rattle.sbe_schema.specs.Kinds.{is_char, is_uint8}
 use Rattle.sbe_schema.specs.Places.{Holder, Table, whole, type_table, value_table, bit_table, member_table, message_table, field_table, group_table, data_table}
 
 -- how many elements lie in groups at every depth
 abbrev pub count_of_groups : GroupTree → ℕ
 count_of_groups no_groups = 0
-count_of_groups (group g inner rest) = (1 + (length g.fields + length g.vars) + count_of_groups inner) + count_of_groups rest
+count_of_groups (group g inner rest) = plus (plus (plus (length g.fields) (length g.vars)) (plus 1 (count_of_groups inner))) (count_of_groups rest)
 
 -- the block lengths of groups at every depth, each once
 abbrev pub blocks_of_groups : List TypeDef → GroupTree → ℕ
 blocks_of_groups types no_groups = 0
-blocks_of_groups types (group g inner rest) = (block_length_of types g.block_length g.fields + blocks_of_groups types inner) + blocks_of_groups types rest
+blocks_of_groups types (group g inner rest) = plus (plus (block_length_of types g.block_length g.fields) (blocks_of_groups types inner)) (blocks_of_groups types rest)
 
 -- a message has at most 1,024 elements, and its blocks are at most 16,384 bytes together
 abbrev pub is_large_message : List TypeDef → MessageDef → Bool
 is_large_message types m =
-    nat_lt 1024 ((length m.fields + length m.vars) + count_of_groups m.groups) || nat_lt 16384 (block_length_of types m.block_length m.fields + blocks_of_groups types m.groups)
+    nat_lt 1024 (plus (plus (length m.fields) (length m.vars)) (count_of_groups m.groups)) || nat_lt 16384 (plus (block_length_of types m.block_length m.fields) (blocks_of_groups types m.groups))
 
 -- a number is stated, and is above a limit, or is one that the primitive does not hold
 abbrev pub is_above : Option ℤ → ℕ → Bool

@@ -10,7 +10,7 @@ use Rattle.sbe_schema.specs.Names.{same_name, primitive_named}
 
 abbrev pub type_named : List ℕ → List TypeDef → Option TypeKind
 type_named name [] = None
-type_named name (t ∷ ts) = if same_name name t.name then Some t.kind else type_named name ts
+type_named name (t ∷ ts) = if same_name t.name name then Some t.kind else type_named name ts
 
 abbrev pub meaning_of_kind : TypeKind → meaning.Meaning
 meaning_of_kind (Number prim length null low high) = means.Number prim length

@@ -1,8 +1,8 @@
 -- Names, and the names of the primitives.
 use Rattle.std.specs.Prelude.{ℕ, Bool, true, false, ◌||◌, if◌then◌else◌, Option, Some, None, List, [], ◌∷◌, nat_eq, codes}
-use Rattle.std.specs.Ordering.{int_eq}
-use Rattle.std.specs.Prelude.{ℤ}
-use Rattle.std.specs.Cmp.Lexicographic.{pointwise}
+use Rattle.std.specs.Ordering.{nat_cmp, int_cmp}
+use Rattle.std.specs.Cmp.Lexicographic.{pointwise, slice_cmp}
+use Rattle.std.specs.FinSet.{FinSet}
 use Rattle.sbe_prim.specs.declared.Primitive.{Primitive}
 use Rattle.sbe_prim.specs.declared.Primitive.TheVariants.{Char, Int8, Int16, Int32, Int64, UInt8, UInt16, UInt32, UInt64, Float, Double}
 
@@ -10,15 +10,12 @@ use Rattle.sbe_prim.specs.declared.Primitive.TheVariants.{Char, Int8, Int16, Int
 abbrev pub same_name : List ℕ → List ℕ → Bool
 same_name a b = pointwise nat_eq a b
 
--- a name stands among others
-abbrev pub is_named : List ℕ → List (List ℕ) → Bool
-is_named name [] = false
-is_named name (other ∷ names) = same_name name other || is_named name names
+-- a set of names, and a set of numbers
+abbrev pub Names : Type 0
+Names = FinSet (slice_cmp nat_cmp)
 
--- a number stands among others
-abbrev pub is_listed : ℤ → List ℤ → Bool
-is_listed z [] = false
-is_listed z (other ∷ numbers) = int_eq z other || is_listed z numbers
+abbrev pub Numbers : Type 0
+Numbers = FinSet int_cmp
 
 -- the word by which a schema names a primitive
 abbrev pub word_of : Primitive → List ℕ
@@ -36,7 +33,7 @@ word_of Double = codes "double"
 
 abbrev pub first_named : List ℕ → List Primitive → Option Primitive
 first_named name [] = None
-first_named name (p ∷ ps) = if same_name name (word_of p) then Some p else first_named name ps
+first_named name (p ∷ ps) = if same_name (word_of p) name then Some p else first_named name ps
 
 -- the primitive of a name, if it is one's
 unfoldable pub primitive_named : List ℕ → Option Primitive

@@ -1,5 +1,5 @@
 -- Sizes, offsets and block lengths in bytes (SBE 1.0, "Field offsets", "Composite data types", "Block length").
-use Rattle.std.specs.Prelude.{ℕ, ◌+◌, ◌*◌, max, ℤ, pos, negsuc, Option, Some, None, List, [], ◌∷◌}
+use Rattle.std.specs.Prelude.{ℕ, ◌+◌, ◌-◌, ◌*◌, ◌^◌, max, min, ℤ, pos, negsuc, Option, Some, None, List, [], ◌∷◌}
 use Rattle.sbe_prim.specs.declared.Primitive.{Primitive}
 use Rattle.sbe_prim.specs.Primitives.{size_of}
 use Rattle.sbe_schema.specs.declared.meaning.Meaning as meaning
@@ -13,6 +13,10 @@ use Rattle.sbe_schema.specs.declared.types.Presence.TheVariants.{Required, Optio
 use Rattle.sbe_schema.specs.declared.messages.FieldDef.{FieldDef}
 use Rattle.sbe_schema.specs.Names.{primitive_named}
 use Rattle.sbe_schema.specs.Meanings.{type_named, meaning_of, meaning_of_kind}
+
+-- a sum that ends at the greatest number of 128 bits, which lies above every stated offset and every limit
+abbrev pub plus : ℕ → ℕ → ℕ
+plus a b = min (a + b) (2 ^ 128 - 1)
 
 -- the bytes of a number, an enum or a set; an array has as many elements as its length, and a length below 2 is the primitive itself
 abbrev pub simple_size : meaning.Meaning → ℕ
@@ -35,7 +39,7 @@ offset_of end (Some (negsuc n)) = 0
 
 -- where a member ends, whose predecessor ends there
 abbrev pub member_end : List TypeDef → ℕ → MemberDef → ℕ
-member_end types end m = offset_of end m.offset + taken m.presence (simple_size (meaning_of types m.type_name))
+member_end types end m = plus (offset_of end m.offset) (taken m.presence (simple_size (meaning_of types m.type_name)))
 
 abbrev pub members_end : List TypeDef → ℕ → List MemberDef → ℕ
 members_end types end [] = end
@@ -58,7 +62,7 @@ type_size types name = size_by types (primitive_named name) (type_named name typ
 
 -- where a field ends, whose predecessor ends there
 abbrev pub field_end : List TypeDef → ℕ → FieldDef → ℕ
-field_end types end f = offset_of end f.offset + taken f.presence (type_size types f.type_name)
+field_end types end f = plus (offset_of end f.offset) (taken f.presence (type_size types f.type_name))
 
 abbrev pub fields_end : List TypeDef → ℕ → List FieldDef → ℕ
 fields_end types end [] = end

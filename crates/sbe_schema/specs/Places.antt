@@ -14,6 +14,7 @@ use Rattle.sbe_schema.specs.declared.messages.MessageDef.{MessageDef}
 use Rattle.sbe_schema.specs.declared.messages.FieldDef.{FieldDef}
 use Rattle.sbe_schema.specs.declared.messages.DataDef.{DataDef}
 use Rattle.sbe_schema.specs.Groups.{GroupHead}
+use Rattle.sbe_schema.specs.Names.{Names, Numbers}
 
 -- the block that holds an element: how deep its group lies (0 is a message's root block), since when it is there, and the lowest since of the root block's data
 pub record Holder : Type 0 where
@@ -34,12 +35,12 @@ pub data Table : Type 0 where
   group_table : Holder → ℤ → GroupHead → Table
   data_table : Holder → ℤ → DataDef → Table
 
--- a table, its place, the names that stand before it in its list or block, and the numbers before it that must differ from its own:
+-- a table, its place, the set of the names that stand before it in its list or block, and the set of the numbers before it that must differ from its own:
 -- ids of messages, of the elements of one message, values of one enum, bits of one set
 pub record Place : Type 0 where
   pub spots : List Spot
-  pub names : List (List ℕ)
-  pub numbers : List ℤ
+  pub names : Names
+  pub numbers : Numbers
   pub table : Table
 
 -- the key of a list in the text of a schema

@@ -3,7 +3,7 @@
 //! It stands on the primitives and on the list types.
 #![tactic(auto)]
 
-mod check;
+mod checking;
 mod checked;
 mod fault;
 mod groups;
@@ -12,7 +12,7 @@ mod messages;
 mod schema;
 mod types;
 
-pub use check::{check, fault_tells};
+pub use checking::{check, fault_tells};
 pub use checked::Checked;
 pub use fault::{Part, SchemaFault, SchemaKind, Spot};
 pub use groups::{GroupDef, GroupDefs};
