@@ -5,7 +5,8 @@ use Rattle.sbe_schema.specs.declared.fault.SchemaKind.{SchemaKind}
 use Rattle.sbe_schema.specs.declared.fault.SchemaKind.TheVariants.{DuplicateName, DuplicateId, UnknownType, BadOffset, ShortLength, BadEnum, BadSet, BadDimension, BadData, IllegalExtension, OverLimit, Memory}
 use Rattle.sbe_schema.specs.declared.fault.SchemaFault.{SchemaFault}
 use Rattle.sbe_schema.specs.declared.schema.Schema.{Schema}
-use Rattle.sbe_schema.specs.Places.{Place, path_of}
+use Rattle.sbe_schema.specs.Names.{Names, Numbers}
+use Rattle.sbe_schema.specs.Places.{Place, Table, path_of}
 use Rattle.sbe_schema.specs.Walk.{walk}
 use Rattle.sbe_schema.specs.Identity.{is_duplicate_name, is_duplicate_id, is_unknown_type}
 use Rattle.sbe_schema.specs.Layout.{is_bad_offset, is_short_length}
@@ -13,20 +14,24 @@ use Rattle.sbe_schema.specs.Kinds.{is_bad_enum, is_bad_set, is_bad_dimension, is
 use Rattle.sbe_schema.specs.Versions.{is_illegal_extension}
 use Rattle.sbe_schema.specs.Limits.{is_over_limit}
 
+-- a table breaks a rule, where these names and numbers stand before it
+abbrev pub breaks : Schema → SchemaKind → Names → Numbers → Table → Bool
+breaks schema DuplicateName names numbers table = is_duplicate_name names table
+breaks schema DuplicateId names numbers table = is_duplicate_id numbers table
+breaks schema UnknownType names numbers table = is_unknown_type schema.types table
+breaks schema BadOffset names numbers table = is_bad_offset schema.types table
+breaks schema ShortLength names numbers table = is_short_length schema.types table
+breaks schema BadEnum names numbers table = is_bad_enum numbers table
+breaks schema BadSet names numbers table = is_bad_set numbers table
+breaks schema BadDimension names numbers table = is_bad_dimension schema.types table
+breaks schema BadData names numbers table = is_bad_data table
+breaks schema IllegalExtension names numbers table = is_illegal_extension schema.version table
+breaks schema OverLimit names numbers table = is_over_limit schema table
+breaks schema Memory names numbers table = false
+
 -- the table at a place breaks a rule
 abbrev pub occurs : Schema → SchemaKind → Place → Bool
-occurs schema DuplicateName p = is_duplicate_name p.names p.table
-occurs schema DuplicateId p = is_duplicate_id p.numbers p.table
-occurs schema UnknownType p = is_unknown_type schema.types p.table
-occurs schema BadOffset p = is_bad_offset schema.types p.table
-occurs schema ShortLength p = is_short_length schema.types p.table
-occurs schema BadEnum p = is_bad_enum p.numbers p.table
-occurs schema BadSet p = is_bad_set p.numbers p.table
-occurs schema BadDimension p = is_bad_dimension schema.types p.table
-occurs schema BadData p = is_bad_data p.table
-occurs schema IllegalExtension p = is_illegal_extension schema.version p.table
-occurs schema OverLimit p = is_over_limit schema p.table
-occurs schema Memory p = false
+occurs schema kind p = breaks schema kind p.names p.numbers p.table
 
 -- the rules, the least first
 abbrev pub rules_in_order : List SchemaKind

@@ -10,7 +10,7 @@ use Rattle.sbe_schema.specs.declared.types.ValueDef.{ValueDef}
 use Rattle.std.specs.FinSet as set
 use Rattle.sbe_schema.specs.Names.{Numbers}
 use Rattle.sbe_schema.specs.Offsets.{block_length_of}
-use Rattle.sbe_schema.specs.Places.{Holder, Table, whole, type_table, value_table, bit_table, member_table, message_table, field_table, group_table, data_table}
+use Rattle.sbe_schema.specs.Places.{Table, whole, type_table, value_table, bit_table, member_table, message_table, field_table, group_table, data_table}
 
 abbrev pub is_uint8 : Primitive → Bool
 is_uint8 UInt8 = true

@@ -12,3 +12,5 @@ pub mod Kinds
 pub mod Versions
 pub mod Limits
 pub mod Checked
+pub mod Search
+pub mod Indexed

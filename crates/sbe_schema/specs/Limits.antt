@@ -17,7 +17,7 @@ use Rattle.sbe_schema.specs.Groups.{GroupTree, no_groups, group}
 use Rattle.sbe_schema.specs.Meanings.{meaning_of}
 use Rattle.sbe_schema.specs.Offsets.{plus, block_length_of}
 use Rattle.sbe_schema.specs.Kinds.{is_char, is_uint8}
-use Rattle.sbe_schema.specs.Places.{Holder, Table, whole, type_table, value_table, bit_table, member_table, message_table, field_table, group_table, data_table}
+use Rattle.sbe_schema.specs.Places.{Table, whole, type_table, value_table, bit_table, member_table, message_table, field_table, group_table, data_table}
 
 -- how many elements lie in groups at every depth
 abbrev pub count_of_groups : GroupTree → ℕ

@@ -1,5 +1,6 @@
 -- What the name of a type stands for (SBE 1.0, "Types"): a primitive, or the first type of that name.
-use Rattle.std.specs.Prelude.{ℕ, if◌then◌else◌, Option, Some, None, List, [], ◌∷◌}
+use Rattle.std.specs.Prelude.{ℕ, if◌then◌else◌, Option, Some, None, unwrap_or, List, [], ◌∷◌}
+use Rattle.std.specs.Option.{option_map}
 use Rattle.sbe_prim.specs.declared.Primitive.{Primitive}
 use Rattle.sbe_schema.specs.declared.meaning.Meaning as meaning
 use Rattle.sbe_schema.specs.declared.meaning.Meaning.TheVariants as means
@@ -20,8 +21,7 @@ meaning_of_kind (Composite members) = means.Composite
 
 abbrev pub meaning_by : Option Primitive → Option TypeKind → meaning.Meaning
 meaning_by (Some p) kind = means.Number p 1
-meaning_by None (Some kind) = meaning_of_kind kind
-meaning_by None None = means.Unknown
+meaning_by None kind = unwrap_or (option_map meaning_of_kind kind) means.Unknown
 
 abbrev pub meaning_of : List TypeDef → List ℕ → meaning.Meaning
 meaning_of types name = meaning_by (primitive_named name) (type_named name types)

@@ -1,5 +1,6 @@
 -- Sizes, offsets and block lengths in bytes (SBE 1.0, "Field offsets", "Composite data types", "Block length").
-use Rattle.std.specs.Prelude.{ℕ, ◌+◌, ◌-◌, ◌*◌, ◌^◌, max, min, ℤ, pos, negsuc, Option, Some, None, List, [], ◌∷◌}
+use Rattle.std.specs.Prelude.{ℕ, ◌+◌, ◌-◌, ◌*◌, ◌^◌, max, min, ℤ, pos, negsuc, Option, Some, None, unwrap_or, List, [], ◌∷◌}
+use Rattle.std.specs.Option.{option_map}
 use Rattle.sbe_prim.specs.declared.Primitive.{Primitive}
 use Rattle.sbe_prim.specs.Primitives.{size_of}
 use Rattle.sbe_schema.specs.declared.meaning.Meaning as meaning
@@ -54,8 +55,7 @@ size_of_kind types (Set prim bits) = size_of prim
 
 abbrev pub size_by : List TypeDef → Option Primitive → Option TypeKind → ℕ
 size_by types (Some p) kind = size_of p
-size_by types None (Some kind) = size_of_kind types kind
-size_by types None None = 0
+size_by types None kind = unwrap_or (option_map (size_of_kind types) kind) 0
 
 abbrev pub type_size : List TypeDef → List ℕ → ℕ
 type_size types name = size_by types (primitive_named name) (type_named name types)

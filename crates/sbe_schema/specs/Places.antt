@@ -6,6 +6,7 @@ use Rattle.sbe_value.specs.declared.path.Step.TheVariants.{Key, At}
 use Rattle.sbe_schema.specs.declared.fault.Spot.{Spot}
 use Rattle.sbe_schema.specs.declared.fault.Part.{Part}
 use Rattle.sbe_schema.specs.declared.fault.Part.TheVariants.{Types, Values, Bits, Members, Messages, Fields, Groups, Data}
+use Rattle.sbe_schema.specs.declared.holder.Holder.{Holder}
 use Rattle.sbe_schema.specs.declared.types.TypeDef.{TypeDef}
 use Rattle.sbe_schema.specs.declared.types.ValueDef.{ValueDef}
 use Rattle.sbe_schema.specs.declared.types.BitDef.{BitDef}
@@ -15,12 +16,6 @@ use Rattle.sbe_schema.specs.declared.messages.FieldDef.{FieldDef}
 use Rattle.sbe_schema.specs.declared.messages.DataDef.{DataDef}
 use Rattle.sbe_schema.specs.Groups.{GroupHead}
 use Rattle.sbe_schema.specs.Names.{Names, Numbers}
-
--- the block that holds an element: how deep its group lies (0 is a message's root block), since when it is there, and the lowest since of the root block's data
-pub record Holder : Type 0 where
-  pub depth : ℕ
-  pub since : ℤ
-  pub lowest : Option ℤ
 
 -- what stands at a place. A value and a bit come with the primitive of their type, a member and a field with the end of what stands before it.
 -- An element of a block comes with that block, and with the greatest since of the block and of the elements of its kind before it.

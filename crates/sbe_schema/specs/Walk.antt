@@ -1,11 +1,12 @@
 -- The walk over a schema: types before messages, a table before what lies in it, depth first.
-use Rattle.std.specs.Prelude.{ℕ, ◌+◌, ℤ, pos, Option, Some, None, List, [], ◌∷◌, ◌++◌}
+use Rattle.std.specs.Prelude.{ℕ, ◌+◌, min, ℤ, pos, Option, Some, None, List, [], ◌∷◌, ◌++◌}
 use Rattle.std.specs.Int.{int_max, int_min}
 use Rattle.std.specs.FinSet as set
 use Rattle.sbe_prim.specs.declared.Primitive.{Primitive}
 use Rattle.sbe_schema.specs.declared.fault.Spot.{Spot}
 use Rattle.sbe_schema.specs.declared.fault.Part.{Part}
 use Rattle.sbe_schema.specs.declared.fault.Part.TheVariants.{Types, Values, Bits, Members, Messages, Fields, Groups, Data}
+use Rattle.sbe_schema.specs.declared.holder.Holder.{Holder}
 use Rattle.sbe_schema.specs.declared.schema.Schema.{Schema}
 use Rattle.sbe_schema.specs.declared.types.TypeDef.{TypeDef}
 use Rattle.sbe_schema.specs.declared.types.TypeKind.{TypeKind}
@@ -19,7 +20,7 @@ use Rattle.sbe_schema.specs.declared.messages.DataDef.{DataDef}
 use Rattle.sbe_schema.specs.Groups.{GroupHead, GroupTree, no_groups, group}
 use Rattle.sbe_schema.specs.Names.{Names, Numbers}
 use Rattle.sbe_schema.specs.Offsets.{member_end, field_end}
-use Rattle.sbe_schema.specs.Places.{Holder, Table, whole, type_table, value_table, bit_table, member_table, message_table, field_table, group_table, data_table, Place}
+use Rattle.sbe_schema.specs.Places.{Table, whole, type_table, value_table, bit_table, member_table, message_table, field_table, group_table, data_table, Place}
 
 -- a table at its place in a list of what stands at `base`
 abbrev pub spot : Part → ℕ → Spot
@@ -93,9 +94,9 @@ ids_of_groups ids no_groups = ids
 ids_of_groups ids (group g inner rest) =
     ids_of_groups (ids_of_data (ids_of_groups (ids_of_fields (set.insert ids (pos g.id)) g.fields) inner) g.vars) rest
 
--- an entry of a group as the holder of its elements
+-- an entry of a group as the holder of its elements; the depth 4 stands for every greater one too
 abbrev pub entry_of : Holder → GroupHead → Holder
-entry_of holder g = record { depth = holder.depth + 1; since = g.since; lowest = None }
+entry_of holder g = record { depth = min (holder.depth + 1) 4; since = g.since; lowest = None }
 
 abbrev pub walk_groups : List TypeDef → List Spot → Holder → Names → Numbers → ℤ → ℕ → GroupTree → List Place
 walk_groups types base holder names ids floor at no_groups = []

@@ -1,0 +1,3 @@
+pub mod KeySets
+pub mod Fold
+pub mod TypeMaps
