@@ -1,3 +1,4 @@
 pub mod KeySets
 pub mod Fold
+pub mod Trees
 pub mod TypeMaps

@@ -9,6 +9,7 @@ use Rattle.sbe_schema.specs.declared.types.TypeKind.TheVariants.{Number, Enum, S
 use Rattle.sbe_schema.specs.declared.types.ValueDef.{ValueDef}
 use Rattle.std.specs.FinSet as set
 use Rattle.sbe_schema.specs.Names.{Numbers}
+use Rattle.sbe_schema.specs.Groups.{GroupHead}
 use Rattle.sbe_schema.specs.Offsets.{block_length_of}
 use Rattle.sbe_schema.specs.Places.{Table, whole, type_table, value_table, bit_table, member_table, message_table, field_table, group_table, data_table}
 
@@ -66,9 +67,12 @@ abbrev pub is_dimension : Primitive → Bool
 is_dimension prim = is_uint8 prim || is_uint16 prim
 
 -- a dimension is two of uint8 and uint16, the first of which holds the block length
-abbrev pub is_bad_dimension : List TypeDef → Table → Bool
-is_bad_dimension types (group_table holder floor g) =
+abbrev pub is_unfit_dimension : List TypeDef → GroupHead → Bool
+is_unfit_dimension types g =
     not (is_dimension g.block_prim && is_dimension g.count_prim) || int_lt (greatest_of g.block_prim) (pos (block_length_of types g.block_length g.fields))
+
+abbrev pub is_bad_dimension : List TypeDef → Table → Bool
+is_bad_dimension types (group_table holder floor g) = is_unfit_dimension types g
 is_bad_dimension types _ = false
 
 -- the length of data is uint8, uint16 or uint32

@@ -11,8 +11,10 @@ mod holder;
 mod index;
 mod meaning;
 mod messages;
+mod rules;
 mod schema;
 mod sets;
+mod tests_of_tables;
 mod types;
 
 pub use checking::{check, fault_tells};
