@@ -87,16 +87,16 @@ least-cons s (k ∷ ks) n r p ps =
 in_order : Rising 0 rules_in_order
 in_order = (lit≤ tt, (lit≤ tt, (lit≤ tt, (lit≤ tt, (lit≤ tt, (lit≤ tt, (lit≤ tt, (lit≤ tt, (lit≤ tt, (lit≤ tt, (lit≤ tt, tt)))))))))))
 
-pub folded-is : (s : Schema) (best : Option SchemaFault) (ps : List Place) → folded s best ps ≡ better best (least_of_rules s rules_in_order ps)
+pub folded_is : (s : Schema) (best : Option SchemaFault) (ps : List Place) → folded s best ps ≡ better best (least_of_rules s rules_in_order ps)
 unfolding rule_of
-folded-is s best [] = sym (better-none best)
-folded-is s best (p ∷ ps) =
-    folded-is s (better best (found_at (first_broken s rules_in_order p.names p.numbers p.table) p.spots)) ps ∙ better_assoc best _ _ ∙ ap (better best) (sym (least-cons s rules_in_order 0 in_order p ps))
+folded_is s best [] = sym (better-none best)
+folded_is s best (p ∷ ps) =
+    folded_is s (better best (found_at (first_broken s rules_in_order p.names p.numbers p.table) p.spots)) ps ∙ better_assoc best _ _ ∙ ap (better best) (sym (least-cons s rules_in_order 0 in_order p ps))
 
-pub folded-append : (s : Schema) (best : Option SchemaFault) (xs ys : List Place) → folded s best (xs ++ ys) ≡ folded s (folded s best xs) ys
-folded-append s best [] ys = refl
-folded-append s best (x ∷ xs) ys =
-    folded-append s (better best (found_at (rule_of s x.names x.numbers x.table) x.spots)) xs ys
+pub folded_append : (s : Schema) (best : Option SchemaFault) (xs ys : List Place) → folded s best (xs ++ ys) ≡ folded s (folded s best xs) ys
+folded_append s best [] ys = refl
+folded_append s best (x ∷ xs) ys =
+    folded_append s (better best (found_at (rule_of s x.names x.numbers x.table) x.spots)) xs ys
 
 -- ---- a schema is checked exactly where no fault is found
 

@@ -122,13 +122,23 @@ lowest_since (d ∷ ds) = Some (lower d.since (lowest_since ds))
 abbrev pub root_of : MessageDef → Holder
 root_of m = record { depth = 0; since = m.since; lowest = lowest_since m.vars }
 
+-- the elements of a block, with the ids before them
+abbrev pub walk_block : List TypeDef → List Spot → Holder → Numbers → List FieldDef → GroupTree → List DataDef → List Place
+walk_block types base holder ids fields groups vars =
+    let field_names = names_of_fields set.empty fields in
+    let field_ids = ids_of_fields ids fields in
+    walk_fields types base set.empty ids holder.since 0 0 fields ++ (walk_groups types base holder field_names field_ids holder.since 0 groups ++ walk_data base holder (names_of_groups field_names groups) (ids_of_groups field_ids groups) holder.since 0 vars)
+
+abbrev pub ids_of_block : Numbers → List FieldDef → GroupTree → List DataDef → Numbers
+ids_of_block ids fields groups vars = ids_of_data (ids_of_groups (ids_of_fields ids fields) groups) vars
+
+-- a group and the elements of its entries
+abbrev pub walk_group : List TypeDef → List Spot → Holder → Names → Numbers → ℤ → ℕ → GroupHead → GroupTree → List Place
+walk_group types base holder names ids floor at g inner =
+    place base Groups at names ids (group_table holder floor g) ∷ walk_block types (base ++ spot Groups at ∷ []) (entry_of holder g) (set.insert ids (pos g.id)) g.fields inner g.vars
+
 abbrev pub walk_message : List TypeDef → ℕ → MessageDef → List Place
-walk_message types at m =
-    let here = spot Messages at ∷ [] in
-    let root = root_of m in
-    let field_names = names_of_fields set.empty m.fields in
-    let field_ids = ids_of_fields set.empty m.fields in
-    walk_fields types here set.empty set.empty m.since 0 0 m.fields ++ (walk_groups types here root field_names field_ids m.since 0 m.groups ++ walk_data here root (names_of_groups field_names m.groups) (ids_of_groups field_ids m.groups) m.since 0 m.vars)
+walk_message types at m = walk_block types (spot Messages at ∷ []) (root_of m) set.empty m.fields m.groups m.vars
 
 abbrev pub walk_messages : List TypeDef → Names → Numbers → ℕ → List MessageDef → List Place
 walk_messages types names ids at [] = []

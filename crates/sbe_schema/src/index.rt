@@ -72,6 +72,15 @@ impl<'a> Index<'a> {
         }
     }
 
+    /// Where a member ends whose predecessor ends there.
+    pub fn member_end(&self, end: u128, member: &MemberDef) -> u128
+        requires { Indexes self.now }
+        ensures { result ≡ member_end self.now.schema.now.types end member.now }
+    {
+        let size = simple_size(self.meaning(&member.type_name));
+        plus(offset_of(end, member.offset), taken(member.presence, size))
+    }
+
     /// Where a field ends whose predecessor ends there.
     pub fn field_end(&self, end: u128, field: &FieldDef) -> u128
         requires { Indexes self.now }

@@ -14,8 +14,10 @@ mod messages;
 mod rules;
 mod schema;
 mod sets;
+mod state;
 mod tests_of_tables;
 mod types;
+mod walk;
 
 pub use checking::{check, fault_tells};
 pub use checked::Checked;
