@@ -8,8 +8,9 @@ use Rattle.sbe_schema.specs.declared.fault.SchemaFault.{SchemaFault}
 use Rattle.sbe_schema.specs.declared.fault.SchemaKind.{SchemaKind}
 use Rattle.sbe_schema.specs.declared.schema.Schema.{Schema}
 use Rattle.sbe_schema.specs.Names.{Names, Numbers}
-use Rattle.sbe_schema.specs.Places.{Place, Table, path_of}
-use Rattle.sbe_schema.specs.Walk.{walk}
+use Rattle.sbe_schema.specs.Places.{Place, Table, whole, path_of}
+use Rattle.std.specs.FinSet as set
+use Rattle.sbe_schema.specs.Walk.{walk, walk_types, walk_messages}
 use Rattle.sbe_schema.specs.Checked.{breaks, occurs, rules_in_order, first_place, fault, at_first, least_of_rules, fault_of, keeps, all_keep, is_checked, FaultTells}
 use Rattle.sbe_schema.specs.Search.{rank, first_broken, rule_of, found_at, better, folded}
 
@@ -74,10 +75,10 @@ first_above s [] n r names numbers table spots = tt
 first_above s (k ∷ ks) n r names numbers table spots =
     found_above (breaks s k names numbers table) k n _ spots r.0 (first_above s ks (suc (rank k)) r.1 names numbers table spots)
 
-by_cases : (b : Bool) (o : Option (List Step)) (k : SchemaKind) (spots : List Spot) (first : Option SchemaKind) (rest whole : Option SchemaFault) → Above (suc (rank k)) (found_at first spots) → Above (rank k) (at_first k o rest) → whole ≡ better (found_at first spots) rest → at_first k (if b then Some (path_of spots) else o) whole ≡ better (found_at (if b then Some k else first) spots) (at_first k o rest)
-by_cases true o k spots first rest whole f r e = sym (better_left (fault k (path_of spots)) (at_first k o rest) r)
-by_cases false (Some path) k spots first rest whole f r e = sym (better_right (found_at first spots) (fault k path) f)
-by_cases false None k spots first rest whole f r e = e
+by_cases : (b : Bool) (o : Option (List Step)) (k : SchemaKind) (spots : List Spot) (first : Option SchemaKind) (rest all : Option SchemaFault) → Above (suc (rank k)) (found_at first spots) → Above (rank k) (at_first k o rest) → all ≡ better (found_at first spots) rest → at_first k (if b then Some (path_of spots) else o) all ≡ better (found_at (if b then Some k else first) spots) (at_first k o rest)
+by_cases true o k spots first rest all f r e = sym (better_left (fault k (path_of spots)) (at_first k o rest) r)
+by_cases false (Some path) k spots first rest all f r e = sym (better_right (found_at first spots) (fault k path) f)
+by_cases false None k spots first rest all f r e = e
 
 least-cons : (s : Schema) (kinds : List SchemaKind) (n : ℕ) → Rising n kinds → (p : Place) (ps : List Place) → least_of_rules s kinds (p ∷ ps) ≡ better (found_at (first_broken s kinds p.names p.numbers p.table) p.spots) (least_of_rules s kinds ps)
 least-cons s [] n r p ps = refl
@@ -125,3 +126,15 @@ none_is (Some x) e = absurd (false≢true e)
 pub tells : (s : Schema) → FaultTells s
 unfolding is_checked fault_of
 tells s = (λ t. none_is _ (sym (all_none s (walk s)) ∙ t), λ e. all_none s (walk s) ∙ ap is_none e)
+
+pub checked_by_none : (s : Schema) → fault_of s ≡ None → IsTrue (is_checked s)
+checked_by_none s = (tells s).1
+
+-- the walk from its first place on
+pub found_by_walk : (s : Schema) (best end : Option SchemaFault) → best ≡ found_at (rule_of s set.empty set.empty whole) [] → end ≡ folded s (folded s best (walk_types s.types set.empty 0 s.types)) (walk_messages s.types set.empty set.empty 0 s.messages) → end ≡ fault_of s
+unfolding fault_of walk
+found_by_walk s best end b e =
+    e
+    ∙ sym (folded_append s best (walk_types s.types set.empty 0 s.types) (walk_messages s.types set.empty set.empty 0 s.messages))
+    ∙ ap (λ o. folded s o (walk_types s.types set.empty 0 s.types ++ walk_messages s.types set.empty set.empty 0 s.messages)) b
+    ∙ folded_is s None (record { spots = []; names = set.empty; numbers = set.empty; table = whole } ∷ (walk_types s.types set.empty 0 s.types ++ walk_messages s.types set.empty set.empty 0 s.messages))

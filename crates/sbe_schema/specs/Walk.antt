@@ -55,10 +55,13 @@ walk_kind types base (Enum prim values) = walk_values base prim set.empty set.em
 walk_kind types base (Set prim bits) = walk_bits base prim set.empty set.empty 0 bits
 walk_kind types base (Composite members) = walk_members types base set.empty 0 0 members
 
+-- a type and what lies in it
+abbrev pub walk_type : List TypeDef → Names → ℕ → TypeDef → List Place
+walk_type types names at t = place [] Types at names set.empty (type_table t) ∷ walk_kind types (spot Types at ∷ []) t.kind
+
 abbrev pub walk_types : List TypeDef → Names → ℕ → List TypeDef → List Place
 walk_types types names at [] = []
-walk_types types names at (t ∷ ts) =
-    (place [] Types at names set.empty (type_table t) ∷ walk_kind types (spot Types at ∷ []) t.kind) ++ walk_types types (set.insert names t.name) (at + 1) ts
+walk_types types names at (t ∷ ts) = walk_type types names at t ++ walk_types types (set.insert names t.name) (at + 1) ts
 
 -- ---- the elements of a block: its fields, then its groups, then its data
 
@@ -137,13 +140,15 @@ abbrev pub walk_group : List TypeDef → List Spot → Holder → Names → Numb
 walk_group types base holder names ids floor at g inner =
     place base Groups at names ids (group_table holder floor g) ∷ walk_block types (base ++ spot Groups at ∷ []) (entry_of holder g) (set.insert ids (pos g.id)) g.fields inner g.vars
 
-abbrev pub walk_message : List TypeDef → ℕ → MessageDef → List Place
-walk_message types at m = walk_block types (spot Messages at ∷ []) (root_of m) set.empty m.fields m.groups m.vars
+-- a message and the elements that lie in it
+abbrev pub walk_message : List TypeDef → Names → Numbers → ℕ → MessageDef → List Place
+walk_message types names ids at m =
+    place [] Messages at names ids (message_table m) ∷ walk_block types (spot Messages at ∷ []) (root_of m) set.empty m.fields m.groups m.vars
 
 abbrev pub walk_messages : List TypeDef → Names → Numbers → ℕ → List MessageDef → List Place
 walk_messages types names ids at [] = []
 walk_messages types names ids at (m ∷ ms) =
-    (place [] Messages at names ids (message_table m) ∷ walk_message types at m) ++ walk_messages types (set.insert names m.name) (set.insert ids (pos m.id)) (at + 1) ms
+    walk_message types names ids at m ++ walk_messages types (set.insert names m.name) (set.insert ids (pos m.id)) (at + 1) ms
 
 unfoldable pub walk : Schema → List Place
 walk schema =
