@@ -49,13 +49,13 @@ better_assoc (Some f) (Some g) None = better-none _
 better_assoc (Some f) (Some g) (Some h) =
     elim (nat_lt (rank g.kind) (rank f.kind)) as (λ b. nat_lt (rank g.kind) (rank f.kind) ≡ b → better (if b then Some g else Some f) (Some h) ≡ better (Some f) (better (Some g) (Some h))) [
       | true ↦ λ p. elim (nat_lt (rank h.kind) (rank g.kind)) as (λ b. nat_lt (rank h.kind) (rank g.kind) ≡ b → (if b then Some h else Some g) ≡ better (Some f) (if b then Some h else Some g)) [
-          | true ↦ λ q. let t : nat_lt (rank h.kind) (rank f.kind) ≡ true = grind (arith, nat_tests) in sym (ap (λ b. if b then Some h else Some f) t)
-          | false ↦ λ q. sym (ap (λ b. if b then Some g else Some f) p)
-        ] refl
+        | true ↦ λ q. let t : nat_lt (rank h.kind) (rank f.kind) ≡ true = grind (arith, nat_tests) in sym (ap (λ b. if b then Some h else Some f) t)
+        | false ↦ λ q. sym (ap (λ b. if b then Some g else Some f) p)
+      ] refl
       | false ↦ λ p. elim (nat_lt (rank h.kind) (rank g.kind)) as (λ b. nat_lt (rank h.kind) (rank g.kind) ≡ b → better (Some f) (Some h) ≡ better (Some f) (if b then Some h else Some g)) [
-          | true ↦ λ q. refl
-          | false ↦ λ q. let t : nat_lt (rank h.kind) (rank f.kind) ≡ false = grind (arith, nat_tests) in ap (λ b. if b then Some h else Some f) t ∙ sym (ap (λ b. if b then Some g else Some f) p)
-        ] refl
+        | true ↦ λ q. refl
+        | false ↦ λ q. let t : nat_lt (rank h.kind) (rank f.kind) ≡ false = grind (arith, nat_tests) in ap (λ b. if b then Some h else Some f) t ∙ sym (ap (λ b. if b then Some g else Some f) p)
+      ] refl
     ] refl
 
 at_first_above : (k : SchemaKind) (n : ℕ) (o : Option (List Step)) (l : Option SchemaFault) → n ≤ rank k → Above (suc (rank k)) l → Above n (at_first k o l)

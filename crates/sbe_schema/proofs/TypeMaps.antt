@@ -22,7 +22,7 @@ module _ {A : Type 0} (f : TypeKind → A) where
   holds_more types n t key value old new pos within is k v held updates =
       let next : suc (n - 1) ≡ n = omega arith in
       let front : drop (n - 1) types ≡ t ∷ drop n types =
-          drop-cons types (n - 1) t (omega arith) ∙ (λ i. sym is i ∷ drop (next i) types) in
+      drop-cons types (n - 1) t (omega arith) ∙ (λ i. sym is i ∷ drop (next i) types) in
       record {
         at = λ name.
             updates name

@@ -72,5 +72,4 @@ fn fault_of_whole(alloc: Global, rule: Option<SchemaKind>) -> Option<SchemaFault
 /// The law that a schema is checked exactly where the walk finds no fault.
 pub fn fault_tells(schema: &Schema)
     ensures { FaultTells schema.now }
-{
-}
+{}

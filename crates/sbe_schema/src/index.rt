@@ -6,7 +6,7 @@ ghost use Rattle.sbe_schema.specs.Meanings.{meaning_of, meaning_of_kind};
 ghost use Rattle.sbe_schema.specs.Offsets.{plus, simple_size, taken, offset_of, member_end, members_end, size_of_kind, type_size, field_end, fields_end, block_length_of};
 ghost use Rattle.sbe_schema.specs.Indexed.{Indexes, Holds, meaning_in};
 
-use crate::{FieldDef, MemberDef, Meaning, Presence, Schema, TypeDef, TypeKind};
+use crate::{FieldDef, Meaning, MemberDef, Presence, Schema, TypeDef, TypeKind};
 use sbe_prim::{Primitive, size};
 use sbe_value::Bytes;
 use std::alloc::{AllocError, Global};

@@ -3,8 +3,9 @@
 //! It stands on the primitives and on the list types.
 #![tactic(auto)]
 
-mod checking;
 mod checked;
+mod checking;
+mod conditions;
 mod fault;
 mod groups;
 mod holder;
@@ -15,16 +16,14 @@ mod rules;
 mod schema;
 mod sets;
 mod state;
-mod tests_of_tables;
 mod types;
 mod walk;
 
-pub use checking::{check, fault_tells};
 pub use checked::Checked;
-pub use fault::{Part, SchemaFault, SchemaKind, Spot};
-pub use holder::Holder;
-pub use index::{find_primitive, primitive_name};
+pub use checking::{check, fault_tells};
+pub use fault::{SchemaFault, SchemaKind};
 pub use groups::{GroupDef, GroupDefs};
+pub use index::{Index, find_primitive, primitive_name};
 pub use meaning::Meaning;
 pub use messages::{DataDef, DataDefs, FieldDef, FieldDefs, MessageDef, MessageDefs};
 pub use schema::Schema;
@@ -32,3 +31,107 @@ pub use types::{
     BitDef, BitDefs, Constant, MemberDef, MemberDefs, Presence, TypeDef, TypeDefs, TypeKind,
     ValueDef, ValueDefs,
 };
+
+#[cfg(test)]
+mod tests {
+    use super::*;
+    use sbe_prim::Order;
+    use sbe_value::Bytes;
+    use std::alloc::{AllocError, Global};
+    use std::test::Fail;
+
+    fn field(
+        alloc: Global,
+        name: &[u8],
+        id: u16,
+        type_name: &[u8],
+        offset: Option<i128>,
+    ) -> Result<FieldDef, AllocError> {
+        Ok(FieldDef {
+            name: Bytes::from_slice(alloc, name)?,
+            id,
+            type_name: Bytes::from_slice(alloc, type_name)?,
+            presence: Presence::Required,
+            value: None,
+            offset,
+            since: 0,
+        })
+    }
+
+    fn message(alloc: Global, id: u16, fields: Vec<FieldDef>) -> Result<MessageDef, AllocError> {
+        Ok(MessageDef {
+            name: Bytes::from_slice(alloc, b"M")?,
+            id,
+            since: 0,
+            block_length: None,
+            fields: FieldDefs::from(fields),
+            groups: GroupDefs::from(Vec::new(alloc)),
+            vars: DataDefs::from(Vec::new(alloc)),
+        })
+    }
+
+    fn schema(alloc: Global, messages: Vec<MessageDef>) -> Schema {
+        Schema {
+            id: 201,
+            version: 0,
+            order: Order::Little,
+            types: TypeDefs::from(Vec::new(alloc)),
+            messages: MessageDefs::from(messages),
+        }
+    }
+
+    #[test]
+    fn refuses_low_offset(rt: HostRuntime) -> Result<(), Fail> {
+        let alloc = rt.alloc();
+        let a = field(alloc, b"a", 1, b"uint32", None)?;
+        let b = field(alloc, b"b", 2, b"uint8", Some(3))?;
+        let low = message(alloc, 1, vec![in alloc; a, b]?)?;
+        match check(alloc, schema(alloc, vec![in alloc; low]?)) {
+            Ok(_) => assert!(rt; false),
+            Err((_, fault)) => {
+                assert_eq!(rt; fault.kind, SchemaKind::BadOffset);
+                let path = fault.path.text(alloc)?;
+                assert_eq!(rt; path.as_slice(), b"message[0].fields[1]".as_slice());
+            }
+        }
+        Ok(())
+    }
+
+    #[test]
+    fn the_least_rule_comes_first(rt: HostRuntime) -> Result<(), Fail> {
+        let alloc = rt.alloc();
+        let low = field(alloc, b"a", 1, b"uint32", Some(-1))?;
+        let first = message(alloc, 1, vec![in alloc; low]?)?;
+        let second = message(alloc, 2, Vec::new(alloc))?;
+        match check(alloc, schema(alloc, vec![in alloc; first, second]?)) {
+            Ok(_) => assert!(rt; false),
+            Err((_, fault)) => {
+                assert_eq!(rt; fault.kind, SchemaKind::DuplicateName);
+                let path = fault.path.text(alloc)?;
+                assert_eq!(rt; path.as_slice(), b"message[1]".as_slice());
+            }
+        }
+        Ok(())
+    }
+
+    #[test]
+    fn admits_a_message_of_numbers(rt: HostRuntime) -> Result<(), Fail> {
+        let alloc = rt.alloc();
+        let a = field(alloc, b"a", 1, b"uint8", None)?;
+        let b = field(alloc, b"b", 2, b"int64", None)?;
+        let mix = message(alloc, 1, vec![in alloc; a, b]?)?;
+        match check(alloc, schema(alloc, vec![in alloc; mix]?)) {
+            Ok(checked) => {
+                fault_tells(&checked.schema);
+                assert_eq!(rt; checked.schema.messages.as_slice().len(), 1);
+            }
+            Err(_) => assert!(rt; false),
+        }
+        assert_eq!(rt; find_primitive(b"int64"), Some(sbe_prim::Primitive::Int64));
+        assert_eq!(rt;
+            primitive_name(sbe_prim::Primitive::Int64),
+            b"int64".as_slice()
+        );
+        Ok(())
+    }
+}

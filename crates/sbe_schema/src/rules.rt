@@ -9,14 +9,15 @@ ghost use Rattle.sbe_schema.specs.Views.{head_of, groups_of};
 ghost use Rattle.sbe_schema.specs.Limits.{count_of_groups, blocks_of_groups, is_large_message};
 ghost use Rattle.sbe_schema.specs.Kinds.{is_unfit_dimension};
 
+use crate::conditions::{
+    is_above, is_bad_enum_kind, is_bad_set_kind, is_bad_value, is_below, is_dimension,
+    is_large_kind, is_lower, is_not_with_group, is_out_of_turn,
+};
+use crate::holder::Holder;
 use crate::index::{Index, find_primitive, plus};
 use crate::sets::{NameSet, NumberSet};
-use crate::tests_of_tables::{
-    is_above, is_bad_enum_kind, is_bad_set_kind, is_bad_value, is_below, is_dimension, is_large_kind,
-    is_lower, is_not_with_group, is_out_of_turn,
-};
 use crate::{
-    BitDef, DataDef, FieldDef, GroupDef, Holder, Meaning, MemberDef, MessageDef, Schema, SchemaKind,
+    BitDef, DataDef, FieldDef, GroupDef, Meaning, MemberDef, MessageDef, Schema, SchemaKind,
     TypeDef, ValueDef,
 };
 use sbe_prim::{Primitive, greatest, least, size};
@@ -26,7 +27,9 @@ const MOST_BYTES: u16 = 16_384;
 
 // The greatest numbers of types, of messages, and of elements of a message.
 const MOST_TYPES: usize = 1_024;
+
 const MOST_MESSAGES: usize = 256;
+
 const MOST_ELEMENTS: u128 = 1_024;
 
 /// The rule that the schema as a whole breaks.
@@ -238,7 +241,9 @@ fn is_bad_dimension(index: &Index<'_>, g: &GroupDef) -> bool
 {
     let length = index.block_length(g.block_length, g.fields.as_slice());
     let most = greatest(g.block_prim);
-    !(is_dimension(g.block_prim) && is_dimension(g.count_prim)) || most < 0 || (most as u128) < length
+    !(is_dimension(g.block_prim) && is_dimension(g.count_prim))
+        || most < 0
+        || (most as u128) < length
 }
 
 /// The least rule that a data field breaks.

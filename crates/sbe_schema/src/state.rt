@@ -5,8 +5,9 @@ ghost use Rattle.sbe_value.specs.declared.path.Step.TheVariants.{Key, At};
 ghost use Rattle.sbe_schema.specs.Places.{key_of, path_of};
 ghost use Rattle.sbe_schema.specs.Search.{rank, found_at, better};
 
+use crate::fault::{Part, Spot};
 use crate::sets::NumberSet;
-use crate::{Part, SchemaFault, SchemaKind, Spot};
+use crate::{SchemaFault, SchemaKind};
 use sbe_value::{Bytes, Path, Step};
 use std::alloc::{AllocError, Global};
 

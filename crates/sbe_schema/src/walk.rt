@@ -7,6 +7,8 @@ ghost use Rattle.sbe_schema.specs.Search.{folded};
 ghost use Rattle.sbe_schema.specs.Views.{head_of, groups_of};
 ghost use Rattle.sbe_schema.specs.Walk.{walk_values, walk_bits, walk_members, walk_kind, walk_type, walk_types, walk_fields, walk_data, walk_groups, walk_group, walk_block, walk_message, walk_messages, names_of_fields, names_of_groups, ids_of_fields, ids_of_data, ids_of_groups, ids_of_block, lowest_since, lower};
 
+use crate::fault::{Part, Spot};
+use crate::holder::Holder;
 use crate::index::Index;
 use crate::rules::{
     rule_of_bit, rule_of_data, rule_of_field, rule_of_group, rule_of_member, rule_of_message,
@@ -15,8 +17,7 @@ use crate::rules::{
 use crate::sets::{NameSet, NumberSet};
 use crate::state::{State, note};
 use crate::{
-    BitDef, DataDef, FieldDef, GroupDef, Holder, MemberDef, MessageDef, Part, Spot, TypeDef, TypeKind,
-    ValueDef,
+    BitDef, DataDef, FieldDef, GroupDef, MemberDef, MessageDef, TypeDef, TypeKind, ValueDef,
 };
 use sbe_prim::Primitive;
 use std::alloc::AllocError;
@@ -262,11 +263,7 @@ fn walk_message(
 }
 
 /// Walks over the types of a schema and all that lies in them.
-pub fn walk_types(
-    index: &Index<'_>,
-    state: &mut State,
-    types: &[TypeDef],
-) -> Result<(), AllocError>
+pub fn walk_types(index: &Index<'_>, state: &mut State, types: &[TypeDef]) -> Result<(), AllocError>
     requires index { Indexes index.now }
     requires top { state.old.trail.items ≡ [] }
     ensures fault { OnOk result (state.new.fault

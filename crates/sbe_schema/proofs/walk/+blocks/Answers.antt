@@ -18,15 +18,15 @@ walk_groups-loop-at-preserved t c =
     let schema = c.args.index.now.schema.now in
     let g = c.index-groups-at.result in
     let front : drop c.loop-at.at c.args.groups.now ≡ g ∷ drop (c.loop-at.at + 1) c.args.groups.now =
-        front_at c.args.groups.now c.loop-at.at g c.loop-at-test.true c.index-groups-at.is in
+    front_at c.args.groups.now c.loop-at.at g c.loop-at-test.true c.index-groups-at.is in
     let done = c.in_ok-walk_group.ensures in
     let floor = to_z w128 c.loop-at.floor-bits in
     let kept : FitsSigned w128 c.max-floor.result = search rules in
     let came : FitsSigned w128 g.since = search rules in
     let higher : to_z w128 (of_z w128 c.max-floor.result) ≡ int_max floor g.since =
-        to_z-of_z w128 c.max-floor.result kept
-        ∙ c.max-floor.ensures.value
-        ∙ ap (int_max floor) (to_z-of_z w128 g.since came) in
+    to_z-of_z w128 c.max-floor.result kept
+    ∙ c.max-floor.ensures.value
+    ∙ ap (int_max floor) (to_z-of_z w128 g.since came) in
     record {
       fault = groups_step schema schema.types c.loop-at.state.trail.items _ c.args.holder.now c.loop-at.names _ c.loop-at.state.ids _ floor _ c.loop-at.at g _ c.loop-at.state.fault _ _ done.trail done.names done.ids higher done.fault (ap (λ gs. folded schema c.loop-at.state.fault (walk_groups schema.types c.loop-at.state.trail.items c.args.holder.now c.loop-at.names c.loop-at.state.ids floor c.loop-at.at (groups_of gs))) (sym front) ∙ c.loop-at.invariant.fault);
       names = ap (λ n. names_of_groups n (groups_of (drop (c.loop-at.at + 1) c.args.groups.now))) done.names ∙ ap (λ gs. names_of_groups c.loop-at.names (groups_of gs)) (sym front) ∙ c.loop-at.invariant.names;

@@ -6,7 +6,8 @@ ghost use Rattle.sbe_schema.specs.Kinds.{is_dimension, is_bad_enum_kind, is_bad_
 ghost use Rattle.sbe_schema.specs.Versions.{is_lower, is_out_of_turn, is_not_with_group};
 ghost use Rattle.sbe_schema.specs.Limits.{is_above, is_unheld, is_large_kind, is_text, is_unfit, is_bad_value};
 
-use crate::{Constant, Holder, Meaning, Presence, TypeKind};
+use crate::holder::Holder;
+use crate::{Constant, Meaning, Presence, TypeKind};
 use sbe_prim::{Primitive, can_hold};
 
 /// Whether a number is stated and lies below an end.
