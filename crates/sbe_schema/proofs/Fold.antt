@@ -1,5 +1,5 @@
 -- The walk that keeps the best fault so far ends with the least fault at its first place.
-use Rattle.std.proofs.Common.{◌≡◌, ℕ, suc, ◌≤◌, ◌<◌, ◌∙◌, sym, ap, refl, Bool, true, false, not, ◌&&◌, Option, Some, None, IsTrue, is_none, nat_lt, List, [], ◌∷◌, ◌++◌, if◌then◌else◌, arith, le_refl, lit≤}
+use Rattle.std.proofs.Common.{◌≡◌, ℕ, suc, ◌≤◌, ◌∙◌, sym, ap, refl, Bool, true, false, not, ◌&&◌, Option, Some, None, IsTrue, is_none, nat_lt, List, [], ◌∷◌, ◌++◌, if◌then◌else◌, arith, le_refl, lit≤}
 use Rattle.std.proofs.lemmas.Bool.{false≢true}
 use Rattle.std.proofs.lemmas.Bool.Decides.{nat_tests}
 use Rattle.sbe_value.specs.declared.path.Step.{Step}

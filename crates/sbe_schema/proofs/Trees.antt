@@ -1,5 +1,5 @@
 -- The groups of an entry weigh less than the list that their group stands in.
-use Rattle.std.proofs.Common.{◌≡◌, ℕ, zero, suc, ◌<◌, ◌≤◌, sym, ap, List, [], ◌∷◌, length, drop, get_or, arith}
+use Rattle.std.proofs.Common.{◌≡◌, ℕ, zero, suc, ◌<◌, ap, List, [], ◌∷◌, length, get_or, arith}
 use Rattle.sbe_schema.specs.declared.groups.GroupDef.{GroupDef}
 use Rattle.sbe_schema.specs.Groups.{weight_of}
 use Rattle.sbe_schema.specs.Views.{groups_of}

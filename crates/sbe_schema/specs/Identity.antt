@@ -1,5 +1,5 @@
 -- Names, ids and types that are told apart (SBE 1.0, "Message schema", names and ids).
-use Rattle.std.specs.Prelude.{ℕ, ℤ, pos, Bool, true, false, ◌||◌, is_some, List}
+use Rattle.std.specs.Prelude.{pos, Bool, true, false, ◌||◌, is_some, List}
 use Rattle.sbe_schema.specs.declared.meaning.Meaning as meaning
 use Rattle.sbe_schema.specs.declared.meaning.Meaning.TheVariants as means
 use Rattle.sbe_schema.specs.declared.types.TypeDef.{TypeDef}

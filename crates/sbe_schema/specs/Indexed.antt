@@ -11,7 +11,7 @@ use Rattle.sbe_schema.specs.declared.types.TypeDef.{TypeDef}
 use Rattle.sbe_schema.specs.declared.types.TypeKind.{TypeKind}
 use Rattle.sbe_prim.specs.declared.Primitive.{Primitive}
 use Rattle.sbe_schema.specs.Names.{primitive_named}
-use Rattle.sbe_schema.specs.Meanings.{type_named, meaning_of_kind, meaning_by}
+use Rattle.sbe_schema.specs.Meanings.{type_named, meaning_of_kind}
 use Rattle.sbe_schema.specs.Offsets.{size_of_kind}
 
 -- the map has, at each name, what is so of the first type of that name

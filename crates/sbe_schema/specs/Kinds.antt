@@ -1,7 +1,7 @@
 -- Enums, sets, dimensions and data lengths that are refused (SBE 1.0, "Enumerations", "Multi-value choice", "Repeating group dimensions", "Variable-length data").
-use Rattle.std.specs.Prelude.{ℕ, ◌*◌, ℤ, pos, int_lt, nat_lt, Bool, true, false, not, ◌||◌, ◌&&◌, List, [], ◌∷◌}
+use Rattle.std.specs.Prelude.{◌*◌, pos, int_lt, nat_lt, Bool, true, false, not, ◌||◌, ◌&&◌, List, [], ◌∷◌}
 use Rattle.sbe_prim.specs.declared.Primitive.{Primitive}
-use Rattle.sbe_prim.specs.declared.Primitive.TheVariants.{Char, Int8, Int16, Int32, Int64, UInt8, UInt16, UInt32, UInt64, Float, Double}
+use Rattle.sbe_prim.specs.declared.Primitive.TheVariants.{Char, UInt8, UInt16, UInt32, UInt64}
 use Rattle.sbe_prim.specs.Primitives.{size_of, least_of, greatest_of, lies_within}
 use Rattle.sbe_schema.specs.declared.types.TypeDef.{TypeDef}
 use Rattle.sbe_schema.specs.declared.types.TypeKind.{TypeKind}
@@ -11,7 +11,7 @@ use Rattle.std.specs.FinSet as set
 use Rattle.sbe_schema.specs.Names.{Numbers}
 use Rattle.sbe_schema.specs.Groups.{GroupHead}
 use Rattle.sbe_schema.specs.Offsets.{block_length_of}
-use Rattle.sbe_schema.specs.Places.{Table, whole, type_table, value_table, bit_table, member_table, message_table, field_table, group_table, data_table}
+use Rattle.sbe_schema.specs.Places.{Table, type_table, value_table, bit_table, group_table, data_table}
 
 abbrev pub is_uint8 : Primitive → Bool
 is_uint8 UInt8 = true

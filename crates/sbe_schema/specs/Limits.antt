@@ -1,5 +1,5 @@
 -- How much a schema may have (this project's profile), and the values that a type holds (SBE 1.0, "Constant fields", "Range attributes").
-use Rattle.std.specs.Prelude.{ℕ, ◌+◌, ℤ, pos, int_lt, nat_lt, Bool, true, false, not, ◌||◌, ◌&&◌, Option, Some, None, is_some, List, [], ◌∷◌, length}
+use Rattle.std.specs.Prelude.{ℕ, ℤ, pos, int_lt, nat_lt, Bool, true, false, not, ◌||◌, ◌&&◌, Option, Some, None, is_some, List, length}
 use Rattle.sbe_prim.specs.declared.Primitive.{Primitive}
 use Rattle.sbe_prim.specs.Primitives.{holds}
 use Rattle.sbe_schema.specs.declared.meaning.Meaning as meaning

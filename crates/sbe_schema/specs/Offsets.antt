@@ -13,7 +13,7 @@ use Rattle.sbe_schema.specs.declared.types.Presence.{Presence}
 use Rattle.sbe_schema.specs.declared.types.Presence.TheVariants.{Required, Optional, Constant}
 use Rattle.sbe_schema.specs.declared.messages.FieldDef.{FieldDef}
 use Rattle.sbe_schema.specs.Names.{primitive_named}
-use Rattle.sbe_schema.specs.Meanings.{type_named, meaning_of, meaning_of_kind}
+use Rattle.sbe_schema.specs.Meanings.{type_named, meaning_of}
 
 -- a sum that ends at the greatest number of 128 bits, which lies above every stated offset and every limit
 abbrev pub plus : ℕ → ℕ → ℕ

@@ -1,5 +1,5 @@
 -- The tables of a schema in the order of a walk, each with its place and with what its rules need of its surroundings.
-use Rattle.std.specs.Prelude.{ℕ, ◌+◌, ℤ, pos, Option, Some, None, List, [], ◌∷◌, ◌++◌, codes}
+use Rattle.std.specs.Prelude.{ℕ, ℤ, List, [], ◌∷◌, codes}
 use Rattle.sbe_prim.specs.declared.Primitive.{Primitive}
 use Rattle.sbe_value.specs.declared.path.Step.{Step}
 use Rattle.sbe_value.specs.declared.path.Step.TheVariants.{Key, At}

@@ -1,8 +1,8 @@
 -- Extensions that an older reader could not skip (SBE 1.0, "Schema extension mechanism").
-use Rattle.std.specs.Prelude.{ℕ, ℤ, pos, int_lt, nat_lt, Bool, true, false, not, ◌||◌, ◌&&◌, Option, Some, None, nat_le}
+use Rattle.std.specs.Prelude.{ℕ, ℤ, pos, int_lt, nat_lt, Bool, false, not, ◌||◌, ◌&&◌, Option, Some, None}
 use Rattle.std.specs.Ordering.{int_eq}
 use Rattle.sbe_schema.specs.declared.holder.Holder.{Holder}
-use Rattle.sbe_schema.specs.Places.{Table, whole, type_table, value_table, bit_table, member_table, message_table, field_table, group_table, data_table}
+use Rattle.sbe_schema.specs.Places.{Table, message_table, field_table, group_table, data_table}
 
 abbrev pub is_lower : Option ℤ → ℤ → Bool
 is_lower None since = false

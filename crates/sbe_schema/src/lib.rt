@@ -80,20 +80,30 @@ mod tests {
         }
     }
 
+    fn refusal(alloc: Global, schema: Schema) -> Option<SchemaFault> {
+        match check(alloc, schema) {
+            Ok(checked) => {
+                drop(checked);
+                None
+            }
+            Err((schema, fault)) => {
+                drop(schema);
+                Some(fault)
+            }
+        }
+    }
+
     #[test]
     fn refuses_low_offset(rt: HostRuntime) -> Result<(), Fail> {
         let alloc = rt.alloc();
         let a = field(alloc, b"a", 1, b"uint32", None)?;
         let b = field(alloc, b"b", 2, b"uint8", Some(3))?;
         let low = message(alloc, 1, vec![in alloc; a, b]?)?;
-        match check(alloc, schema(alloc, vec![in alloc; low]?)) {
-            Ok(_) => assert!(rt; false),
-            Err((_, fault)) => {
-                assert_eq!(rt; fault.kind, SchemaKind::BadOffset);
-                let path = fault.path.text(alloc)?;
-                assert_eq!(rt; path.as_slice(), b"message[0].fields[1]".as_slice());
-            }
-        }
+        let messages = vec![in alloc; low]?;
+        let fault = refusal(alloc, schema(alloc, messages)).ok_or("checked")?;
+        assert_eq!(rt; fault.kind, SchemaKind::BadOffset);
+        let path = fault.path.text(alloc)?;
+        assert_eq!(rt; path.as_slice(), b"message[0].fields[1]".as_slice());
         Ok(())
     }
 
@@ -103,14 +113,11 @@ mod tests {
         let low = field(alloc, b"a", 1, b"uint32", Some(-1))?;
         let first = message(alloc, 1, vec![in alloc; low]?)?;
         let second = message(alloc, 2, Vec::new(alloc))?;
-        match check(alloc, schema(alloc, vec![in alloc; first, second]?)) {
-            Ok(_) => assert!(rt; false),
-            Err((_, fault)) => {
-                assert_eq!(rt; fault.kind, SchemaKind::DuplicateName);
-                let path = fault.path.text(alloc)?;
-                assert_eq!(rt; path.as_slice(), b"message[1]".as_slice());
-            }
-        }
+        let messages = vec![in alloc; first, second]?;
+        let fault = refusal(alloc, schema(alloc, messages)).ok_or("checked")?;
+        assert_eq!(rt; fault.kind, SchemaKind::DuplicateName);
+        let path = fault.path.text(alloc)?;
+        assert_eq!(rt; path.as_slice(), b"message[1]".as_slice());
         Ok(())
     }
 
@@ -120,13 +127,10 @@ mod tests {
         let a = field(alloc, b"a", 1, b"uint8", None)?;
         let b = field(alloc, b"b", 2, b"int64", None)?;
         let mix = message(alloc, 1, vec![in alloc; a, b]?)?;
-        match check(alloc, schema(alloc, vec![in alloc; mix]?)) {
-            Ok(checked) => {
-                fault_tells(&checked.schema);
-                assert_eq!(rt; checked.schema.messages.as_slice().len(), 1);
-            }
-            Err(_) => assert!(rt; false),
-        }
+        let messages = vec![in alloc; mix]?;
+        let whole = schema(alloc, messages);
+        fault_tells(&whole);
+        assert!(rt; refusal(alloc, whole).is_none());
         assert_eq!(rt; find_primitive(b"int64"), Some(sbe_prim::Primitive::Int64));
         assert_eq!(rt;
             primitive_name(sbe_prim::Primitive::Int64),

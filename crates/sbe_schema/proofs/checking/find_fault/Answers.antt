@@ -1,4 +1,4 @@
-use Rattle.std.proofs.Common.{◌≡◌, ◌∙◌, [], rules}
+use Rattle.std.proofs.Common.{◌≡◌, [], rules}
 use Rattle.std.specs.FinSet as set
 use Rattle.sbe_schema.specs.Places.{whole}
 use Rattle.sbe_schema.specs.Walk.{walk_types, walk_messages}

@@ -1,4 +1,4 @@
-use Rattle.std.proofs.Common.{◌≡◌, ◌-◌, ◌<◌, ap, arith}
+use Rattle.std.proofs.Common.{◌-◌, ◌<◌, ap, arith}
 use Rattle.sbe_schema.specs.Groups.{weight_of}
 use Rattle.sbe_schema.specs.Views.{groups_of}
 use Rattle.sbe_schema.proofs.Trees.{weight_at}

@@ -1,4 +1,4 @@
-use Rattle.std.proofs.Common.{◌≡◌, ◌≤◌, [], length, drop}
+use Rattle.std.proofs.Common.{◌≡◌, drop}
 use Rattle.std.specs.FinSet as set
 use Rattle.sbe_schema.specs.Search.{folded}
 use Rattle.sbe_schema.specs.Walk.{walk_bits}

@@ -1,12 +1,7 @@
-use Rattle.std.proofs.Common.{◌≡◌, suc, ◌+◌, ◌∙◌, sym, ap, ◌∷◌, drop, refl, rules, arith}
-use Rattle.std.proofs.lemmas.Int.{ints, to_z-of_z}
-use Rattle.std.specs.Int.{int_max}
+use Rattle.std.proofs.Common.{◌≡◌, ◌+◌, ◌∙◌, sym, ap, ◌∷◌, drop}
 use Rattle.sbe_schema.specs.Search.{folded}
-use Rattle.sbe_schema.specs.Groups.{weight_of}
-use Rattle.sbe_schema.specs.Views.{groups_of}
-use Rattle.sbe_schema.specs.Walk.{walk_groups, walk_types, walk_messages, names_of_groups, ids_of_groups}
-use Rattle.sbe_schema.proofs.Steps.{front_at, groups_step, types_step, messages_step}
-use Rattle.sbe_schema.proofs.Trees.{weight_at}
+use Rattle.sbe_schema.specs.Walk.{walk_types}
+use Rattle.sbe_schema.proofs.Steps.{front_at, types_step}
 use Rattle.sbe_schema.proofs.walk.walk_types.Goals as goal
 
 pub loop-at-preserved : goal.loop-at-preserved
