@@ -23,7 +23,7 @@ pub use checked::Checked;
 pub use checking::{check, fault_tells};
 pub use fault::{SchemaFault, SchemaKind};
 pub use groups::{GroupDef, GroupDefs};
-pub use index::{Index, find_primitive, primitive_name};
+pub use index::{Index, find_primitive, offset_of, plus, primitive_name};
 pub use meaning::Meaning;
 pub use messages::{DataDef, DataDefs, FieldDef, FieldDefs, MessageDef, MessageDefs};
 pub use schema::Schema;
