@@ -2,3 +2,4 @@ pub mod Trees
 pub mod Views
 pub mod Falls
 pub mod Plans
+pub mod Context

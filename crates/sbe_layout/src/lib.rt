@@ -4,8 +4,11 @@
 
 mod blocks;
 mod items;
+mod lay;
 mod plan;
+mod resolve;
 
 pub use blocks::{BlockPlan, GroupPlan, GroupPlans};
 pub use items::{DataPlan, DataPlans, ItemKind, ItemPlan, ItemPlans, Mark, Marks};
+pub use lay::lay_out;
 pub use plan::{MessagePlan, MessagePlans, Plan};

@@ -1,7 +1,8 @@
 //! The plan of a schema's messages.
 
-ghost use Rattle.std.specs.Prelude.{◌≡◌, IfSome, IfNone};
-ghost use Rattle.sbe_layout.specs.Plans.{message_of};
+ghost use Rattle.std.specs.Prelude.{◌≡◌, ◌↔◌, Some, IfSome, IsNone};
+ghost use Rattle.std.specs.Option.{option_copied};
+ghost use Rattle.sbe_layout.specs.Plans.{message_of, HasTemplate};
 
 use crate::blocks::BlockPlan;
 use sbe_prim::Order;
@@ -32,6 +33,27 @@ pub struct Plan {
     pub order: Order,
     /// Its messages.
     pub messages: MessagePlans,
+}
+
+impl Plan {
+    /// The message of a template; none where the schema lacks the template.
+    pub fn message(&self, template: u16) -> Option<&MessagePlan>
+        ensures found { IfSome result (λ m. Some m.now ≡ message_of template self.now.messages) }
+        ensures lacking { IsNone result ↔ ¬ HasTemplate template self.now.messages }
+    {
+        first_of(self.messages.as_slice(), template)
+    }
+}
+
+fn first_of(messages: &[MessagePlan], template: u16) -> Option<&MessagePlan>
+    ensures { option_copied result ≡ message_of template messages.now }
+{
+    for m in messages {
+        if m.template == template {
+            return Some(m);
+        }
+    }
+    None
 }
 
 /// The messages of a schema, in schema order.
