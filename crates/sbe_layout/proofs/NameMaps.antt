@@ -17,7 +17,7 @@ resolves_more types n t key value old new pos within is k v held updates =
     let next : suc (n - 1) ≡ n = omega arith in
     let back : n - 1 + 1 ≡ n = omega arith in
     let front : drop (n - 1) types ≡ t ∷ drop n types =
-        drop-cons types (n - 1) t (omega arith) ∙ (λ i. sym is i ∷ drop (next i) types) in
+    drop-cons types (n - 1) t (omega arith) ∙ (λ i. sym is i ∷ drop (next i) types) in
     record {
       found = λ name.
           updates name

@@ -24,7 +24,7 @@ append-none (plan head inner rest) = ap (plan head inner) (append-none rest)
 pub plans_step : (types : List TypeDef) (made : List GroupPlan) (p : GroupPlan) (groups : List GroupDef) (i : ℕ) (g : GroupDef) (target : PlanTree) → i < length groups → g ≡ get_or groups i g → head_of p ≡ group_head types (schema_head_of g) → p.block.groups ≡ groups_plan types g.groups → append_plans (plans_of made) (groups_plan types (groups_of (drop i groups))) ≡ target → append_plans (plans_of (made ++ p ∷ [])) (groups_plan types (groups_of (drop (i + 1) groups))) ≡ target
 plans_step types made p groups i g target h e head inner whole =
     let front : drop i groups ≡ g ∷ drop (i + 1) groups =
-        rw (add-one, drop-cons groups i g) (ap (λ z. z ∷ drop (suc i) groups) (sym e)) in
+    rw (add-one, drop-cons groups i g) (ap (λ z. z ∷ drop (suc i) groups) (sym e)) in
     append-push made p _
     ∙ (λ k. append_plans (plans_of made) (plan (head k) (inner k) (groups_plan types (groups_of (drop (i + 1) groups)))))
     ∙ ap (λ gs. append_plans (plans_of made) (groups_plan types (groups_of gs))) (sym front)

@@ -143,7 +143,11 @@ fn items_plan(
     Ok(items)
 }
 
-fn marks_plan(alloc: Global, types: &Types<'_>, fields: &[FieldDef]) -> Result<Vec<Mark>, AllocError>
+fn marks_plan(
+    alloc: Global,
+    types: &Types<'_>,
+    fields: &[FieldDef],
+) -> Result<Vec<Mark>, AllocError>
     requires { Knows types.now }
     ensures { IfOk result (λ marks. marks.items ≡ marks_of types.now.index.schema.now.types 0 fields.now) }
 {
