@@ -1,0 +1,3 @@
+pub mod NameMaps
+pub mod Rows
+pub mod Templates

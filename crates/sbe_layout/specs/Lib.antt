@@ -1,0 +1,5 @@
+pub mod Trees
+pub mod Views
+pub mod Falls
+pub mod Plans
+pub mod Context

@@ -1,0 +1,5 @@
+pub mod KeySets
+pub mod Fold
+pub mod Steps
+pub mod Trees
+pub mod TypeMaps

@@ -1,0 +1,14 @@
+use Rattle.std.proofs.Common.{◌≡◌, ◌≤◌, length, drop}
+use Rattle.sbe_schema.specs.Groups.{weight_of}
+use Rattle.sbe_schema.specs.Views.{groups_of}
+use Rattle.sbe_schema.specs.Limits.{blocks_of_groups}
+use Rattle.sbe_schema.proofs.rules.+blocks_of_groups.Given as goal
+
+abbrev pub invariant-loop-i : goal.invariant-loop-i
+invariant-loop-i l = record { within : l.i ≤ length l.groups; counted : l.bytes ≡ blocks_of_groups l.index.schema.now.types (groups_of (drop l.i l.groups)) }
+
+abbrev pub decreases-loop-i : goal.decreases-loop-i
+decreases-loop-i l = l.i
+
+abbrev pub decreases-blocks_of_groups : goal.decreases-blocks_of_groups
+decreases-blocks_of_groups l = weight_of (groups_of l.groups.now)

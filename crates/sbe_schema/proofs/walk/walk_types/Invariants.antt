@@ -1,0 +1,14 @@
+use Rattle.std.proofs.Common.{◌≡◌, [], drop}
+use Rattle.std.specs.FinSet as set
+use Rattle.sbe_schema.specs.Search.{folded}
+use Rattle.sbe_schema.specs.Walk.{walk_types}
+use Rattle.sbe_schema.proofs.walk.walk_types.Given as goal
+
+-- what is left, from here on, gives what all gives
+abbrev pub invariant-loop-at : goal.invariant-loop-at
+invariant-loop-at l =
+    let schema = l.index.schema.now in
+    record {
+      fault : folded schema l.state.fault (walk_types schema.types l.names l.at (drop l.at l.types)) ≡ folded schema l.fn.state.fault (walk_types schema.types set.empty 0 l.types);
+      trail : l.state.trail.items ≡ [];
+    }

@@ -1,0 +1,16 @@
+pub mod Groups
+pub mod Views
+pub mod Falls
+pub mod Names
+pub mod Meanings
+pub mod Offsets
+pub mod Places
+pub mod Walk
+pub mod Identity
+pub mod Layout
+pub mod Kinds
+pub mod Versions
+pub mod Limits
+pub mod Checked
+pub mod Search
+pub mod Indexed
