@@ -8,7 +8,7 @@ use Rattle.session_model.specs.Growth.{recoverable, idempotent, unsequenced, no_
 use Rattle.session_model.specs.Plans.{Continues, sent_by}
 use Rattle.session_model.specs.Lives.{Connection, Life, IsImage, first_events, KeepsContract, TakenFrom, rest_lost, taken, passed_over, Linked, left_alone, right_alone, paired}
 use Rattle.session_model.specs.Lives
-use Rattle.session_model.specs.Samples.{one, two, three, reply, sent, got, orders, replies, first_a, second_a, first_b, second_b, SequencedSample, SamplePlansGoOn, news, silence, first_publisher, second_publisher, listener, UnsequencedSample, PartsSample, HistoriesSample}
+use Rattle.session_model.specs.Samples.{one, two, three, reply, sent, got, orders, replies, first_a, second_a, first_b, second_b, SequencedSample, SamplePlansGoOn, news, silence, first_publisher, second_publisher, listener, UnsequencedSample, PartsSample, HistoriesSample, PlansSample}
 use Rattle.session_model.proofs.Lists.{prefix_self, prefix_map}
 use Rattle.session_model.proofs.Images.{image_of_none, image_of_one}
 
@@ -340,3 +340,6 @@ histories_sample = (
   record { made = (record { sender = 1; own_number = 1; payload = one } ∷ [], refl); alone = λ marked. absurd (cc marked) },
   record { made = ([], refl); alone = λ marked. absurd (cc marked) },
 )
+
+pub plans_sample : PlansSample
+plans_sample = ((two ∷ three ∷ [], refl), record { behind = refl })

@@ -1,11 +1,12 @@
 -- Sample sessions that meet the guarantee's premises, so that these are no empty words: two lives at each end, a refused record
 -- that is lost and one that stays, connections that reached nobody, an announcement that was passed over.
 use Rattle.std.specs.Prelude.{ℕ, ◌==◌, if◌then◌else◌, List, [], ◌∷◌, map, Some, None, true, false}
+use mathlib.Core.List.{IsPrefix}
 use Rattle.session_model.specs.Journal.{OutboxRecord, entry, finish, BeginsHistory}
 use Rattle.session_model.specs.Inbox.{InboxRecord, apply, skip, negotiated}
 use Rattle.session_model.specs.Events.{announce, message}
 use Rattle.session_model.specs.Growth.{recoverable, idempotent, unsequenced, no_flow, Grown}
-use Rattle.session_model.specs.Plans.{GoesOn}
+use Rattle.session_model.specs.Plans.{GoesOn, Completes}
 use Rattle.session_model.specs.Lives.{Life}
 use Rattle.session_model.specs.Guarantee.{Session}
 
@@ -161,3 +162,7 @@ HistoriesSample =
     BeginsHistory (record { made = []; finished = false }) (record { made = record { sender = 1; own_number = 1; payload = one } ∷ []; finished = false })
     × BeginsHistory (record { made = record { sender = 1; own_number = 1; payload = one } ∷ []; finished = false })
     (record { made = record { sender = 1; own_number = 1; payload = one } ∷ []; finished = true })
+
+-- a sender that had sent one of three payloads sends the two others
+abbrev pub PlansSample : Type 0
+PlansSample = IsPrefix (one ∷ []) (one ∷ two ∷ three ∷ []) × Completes (one ∷ two ∷ three ∷ []) (one ∷ []) (one ∷ two ∷ three ∷ [])

@@ -1,7 +1,7 @@
 //! Sample sessions that meet every premise of the guarantee: its words are not empty.
 //! Each function has an empty body; its clause is a session written out in `specs/Samples.antt`.
 
-ghost use Rattle.session_model.specs.Samples.{SequencedSample, SamplePlansGoOn, UnsequencedSample, PartsSample, HistoriesSample};
+ghost use Rattle.session_model.specs.Samples.{SequencedSample, SamplePlansGoOn, UnsequencedSample, PartsSample, HistoriesSample, PlansSample};
 
 /// Two lives at each end, a recoverable and an idempotent flow, a refused record that stays and one that is lost, connections
 /// that reached nobody, a rejected announcement, a retransmission and a jump.
@@ -23,4 +23,9 @@ pub fn parts_sample()
 /// A history that goes on, and that is finished.
 pub fn histories_sample()
     ensures histories { HistoriesSample }
+{}
+
+/// A plan of which a beginning was sent, and then the rest.
+pub fn plans_sample()
+    ensures plans { PlansSample }
 {}
