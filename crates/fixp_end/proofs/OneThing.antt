@@ -1,12 +1,11 @@
 -- The message of a frame says one thing: its kind, its template and the grammar decide which.
 use Rattle.std.proofs.Common.{◌≡◌, ℕ, true, false, List, refl, sym, ap, ◌∙◌}
-use Rattle.sofh_frame.specs.declared.Order.{Order}
 use Rattle.fixp_msgs.specs.Laws.{AtMostOneMessage}
 use Rattle.fixp_msgs.specs.Header.{template_in}
 use Rattle.fixp_msgs.specs.Message.{Message, negotiate, negotiation_response, establish, establishment_ack, sequence, unsequenced_heartbeat, terminate}
 use Rattle.fixp_msgs.specs.Table.{is_built, row_of}
 use Rattle.fixp_msgs.specs.Grammar.{Spells}
-use Rattle.fixp_end.specs.Hearing.{Said, application, session, wrong_order, too_short, unread, Says}
+use Rattle.fixp_end.specs.Hearing.{application, session, wrong_order, too_short, unread}
 use Rattle.fixp_end.specs.Laws.{SaysOneThing}
 
 -- the template of a message that is spelled is read

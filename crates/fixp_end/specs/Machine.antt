@@ -1,5 +1,5 @@
 -- The session machine of one end: its state, and what each event makes of it.
-use Rattle.std.specs.Prelude.{◌≡◌, ℕ, ◌-◌, Bool, true, false, if◌then◌else◌, List, [], ◌++◌, drop, Option, Some, None, is_some}
+use Rattle.std.specs.Prelude.{◌≡◌, ℕ, ◌-◌, Bool, true, false, if◌then◌else◌, List, [], ◌++◌, Option, Some, None, is_some}
 use Rattle.std.specs.List.{flat_map}
 use Rattle.sofh_frame.specs.declared.Order.{Order}
 use Rattle.fixp_msgs.specs.Canonical.{frame_bytes}
@@ -12,7 +12,7 @@ use Rattle.fixp_end.specs.declared.ending.Act.{Act}
 use Rattle.fixp_end.specs.declared.ending.Ending.{Ending}
 use Rattle.fixp_end.specs.Acts.{is_record}
 use Rattle.fixp_end.specs.Hearing.{Said, Says}
-use Rattle.fixp_end.specs.Replies.{Outcome, reply_of, reply_to_bad_frame}
+use Rattle.fixp_end.specs.Replies.{Outcome, reply_of}
 
 -- what an end is: its configuration, the greatest number that it takes, whether a connection was begun, the
 -- last moment that it was told in milliseconds, the facts, how the connection ended, the bytes written and

@@ -1,5 +1,5 @@
 -- A reply of the code as an outcome of the reply table.
-use Rattle.std.specs.Prelude.{ℕ, List, [], ◌∷◌, None}
+use Rattle.std.specs.Prelude.{List, [], ◌∷◌, None}
 use Rattle.fixp_msgs.specs.Flow.{flow_code}
 use Rattle.fixp_msgs.specs.Message.{Message, negotiation_response, establishment_ack, terminate}
 use Rattle.fixp_end.specs.declared.config.EndConfig.{EndConfig}

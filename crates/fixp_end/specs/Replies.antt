@@ -1,13 +1,13 @@
 -- The reply table: what an end does at each event (FIXP 1.1, "Session lifecycle"; where the standard leaves
 -- a choice, and for every code, this project's profile).
-use Rattle.std.specs.Prelude.{◌≡◌, ℕ, ◌+◌, ◌==◌, ◌&&◌, ◌||◌, Bool, true, false, not, nat_le, if◌then◌else◌, List, [], ◌∷◌, Option, Some, None, is_none}
+use Rattle.std.specs.Prelude.{ℕ, ◌+◌, ◌==◌, ◌&&◌, ◌||◌, Bool, true, false, not, nat_le, if◌then◌else◌, List, [], ◌∷◌, Option, Some, None, is_none}
 use Rattle.std.specs.Str.{bytes_eq}
 use Rattle.fixp_msgs.specs.declared.flow.Flow.{Flow}
 use Rattle.fixp_msgs.specs.declared.flow.Flow.TheVariants as flows
 use Rattle.fixp_msgs.specs.Flow.{flow_code}
 use Rattle.fixp_msgs.specs.Message.{Message, negotiate, negotiation_response, establish, establishment_ack, sequence, unsequenced_heartbeat, terminate}
 use Rattle.fixp_end.specs.declared.config.Role.{Role}
-use Rattle.fixp_end.specs.declared.config.Role.TheVariants.{Initiator, Acceptor}
+use Rattle.fixp_end.specs.declared.config.Role.TheVariants.{Acceptor}
 use Rattle.fixp_end.specs.declared.config.EndConfig.{EndConfig}
 use Rattle.fixp_end.specs.declared.phase.Phase.TheVariants.{Established}
 use Rattle.fixp_end.specs.declared.ending.Act.{Act}
