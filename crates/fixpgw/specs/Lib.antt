@@ -7,3 +7,4 @@ pub mod Progress
 pub mod Causes
 pub mod Promise
 pub mod Run
+pub mod Told

@@ -1,7 +1,10 @@
-//! The real devices: files and standard output. They tell nothing of their content.
+//! The real devices: files and standard output. They tell of their content what the reader or writer behind them
+//! tells, and the operating system's tell nothing.
 
-ghost use Rattle.std.specs.Prelude.{◌<◌, ◌≤◌, length, None, IfOk};
+ghost use Rattle.std.specs.Prelude.{◌≡◌, ◌<◌, ◌≤◌, length, None, Some, IfOk, MatchResult};
 ghost use Rattle.std.specs.Io.{ReadsAtMost, WritesAtMost};
+ghost use Rattle.std.specs.Io.KnownBytes.{ReadConsumes, WriteAppends};
+ghost use Rattle.fixpgw.specs.declared.files.Target.TheVariants.{File, Printer, Missing};
 
 use gw_outside::{Failed, Sink, Source};
 use std::io;
@@ -16,7 +19,10 @@ pub struct FileSource<F> {
 
 impl<F> FileSource<F> {
     /// A source over what opening a file gave.
-    pub fn new(opened: io::Result<F>) -> FileSource<F> {
+    pub fn new(opened: io::Result<F>) -> FileSource<F>
+        ensures file { MatchResult opened (λ file. result.file ≡ Some file) (λ _. result.file ≡ None) }
+        ensures faults { result.faults ≡ 0 }
+    {
         FileSource {
             file: opened.ok(),
             faults: 0,
@@ -26,7 +32,8 @@ impl<F> FileSource<F> {
 
 /// Reads, and again where a signal came between.
 fn read_some<F: Read>(file: &mut F, into: &mut [u8]) -> io::Result<usize>
-    ensures { ReadsAtMost result into.new }
+    ensures bound { ReadsAtMost result into.new }
+    ensures bytes { ReadConsumes (F.remaining file.old) (F.remaining file.new) result into.new }
 {
     for _ in 0..u64::MAX {
         match file.read(into) {
@@ -38,7 +45,9 @@ fn read_some<F: Read>(file: &mut F, into: &mut [u8]) -> io::Result<usize>
 }
 
 impl<F: Read> Source for FileSource<F> {
-    ghost left = { λ _. None };
+    ghost use Rattle.fixpgw.specs.Told.{told_by};
+
+    ghost left = { λ s. told_by F.remaining s.file };
 
     ghost faults = { λ s. s.faults };
 
@@ -70,7 +79,10 @@ pub struct FileSink<F, P> {
 
 impl<F, P> FileSink<F, P> {
     /// A sink over what making a file gave.
-    pub fn new(made: io::Result<F>) -> FileSink<F, P> {
+    pub fn new(made: io::Result<F>) -> FileSink<F, P>
+        ensures target { MatchResult made (λ file. result.target ≡ File file) (λ _. result.target ≡ Missing) }
+        ensures faults { result.faults ≡ 0 }
+    {
         let target = match made {
             Ok(file) => Target::File(file),
             Err(_) => Target::Missing,
@@ -79,7 +91,10 @@ impl<F, P> FileSink<F, P> {
     }
 
     /// A sink over a printer, as standard output.
-    pub fn printing(printer: P) -> FileSink<F, P> {
+    pub fn printing(printer: P) -> FileSink<F, P>
+        ensures target { result.target ≡ Printer printer }
+        ensures faults { result.faults ≡ 0 }
+    {
         FileSink {
             target: Target::Printer(printer),
             faults: 0,
@@ -91,6 +106,7 @@ impl<F, P> FileSink<F, P> {
 fn write_some<W: Write>(writer: &mut W, bytes: &[u8]) -> Result<usize, Failed>
     ensures count { IfOk result (λ n. n ≤ length bytes.now) }
     ensures some { 0 < length bytes.now → IfOk result (λ n. 0 < n) }
+    ensures bytes { WriteAppends (W.contents writer.old) (W.contents writer.new) result bytes.now }
 {
     for _ in 0..u64::MAX {
         match writer.write(bytes) {
@@ -104,7 +120,9 @@ fn write_some<W: Write>(writer: &mut W, bytes: &[u8]) -> Result<usize, Failed>
 }
 
 impl<F: Write, P: Write> Sink for FileSink<F, P> {
-    ghost taken = { λ _. None };
+    ghost use Rattle.fixpgw.specs.Told.{told_into};
+
+    ghost taken = { λ k. told_into F.contents P.contents k.target };
 
     ghost faults = { λ k. k.faults };
 
