@@ -1,0 +1,4 @@
+pub mod Words
+pub mod Types
+pub mod Messages
+pub mod Text

@@ -1,0 +1,173 @@
+//! The keys of a table: what lies at one that has to be there, at one that may be absent, and keys that are not known.
+
+ghost use Rattle.std.specs.Prelude.{◌≡◌, ◌≤◌, ℕ, List, [], ◌∷◌, IfOk, IfSome, Some, None, map, option_copied, option_map};
+ghost use Rattle.sbe_value.specs.declared.path.Step.TheVariants.{Key};
+ghost use Rattle.toml.specs.View.{view, table_view};
+ghost use Rattle.toml_walk.specs.declared.fault.TomlFault.TheVariants.{Missing};
+ghost use Rattle.toml_walk.specs.Reading.{IsFault, Reads, under};
+ghost use Rattle.toml_walk.specs.Keys.{defaulted, is_among, only, optional, required, unknown_member};
+ghost use Rattle.toml_walk.specs.Values.{name_of, natural_of, number_of, text_of};
+
+use crate::fault::{TomlFault, deepened};
+use crate::value::{read_name, read_natural, read_number, read_text};
+use sbe_value::{Bytes, Path, Step};
+use std::alloc::{AllocError, Global};
+use toml::{Table, Value};
+
+/// The step to a key.
+fn step_to(alloc: Global, key: &str) -> Result<Step, AllocError>
+    ensures { IfOk result (λ step. step ≡ Key key.now) }
+{
+    Ok(Step::Key(Bytes::from_slice(alloc, key.as_bytes())?))
+}
+
+/// The path of a key.
+fn path_to(alloc: Global, key: &str) -> Result<Path, AllocError>
+    ensures { IfOk result (λ path. path ≡ Key key.now ∷ []) }
+{
+    let mut path = Path::new(alloc);
+    path.push(step_to(alloc, key)?)?;
+    Ok(path)
+}
+
+/// The fault of a key that has to be there and is absent.
+pub fn missing(alloc: Global, key: &str) -> TomlFault
+    ensures { IsFault result (Missing (Key key.now ∷ [])) }
+{
+    match path_to(alloc, key) {
+        Ok(path) => TomlFault::Missing(path),
+        Err(_) => TomlFault::Memory,
+    }
+}
+
+/// What was read from the value at a key, its fault told from the table.
+pub fn under_key<T>(alloc: Global, key: &str, inner: Result<T, TomlFault>) -> Result<T, TomlFault>
+    ensures { Reads result (under (Key key.now) inner) }
+{
+    match inner {
+        Ok(value) => Ok(value),
+        Err(fault) => match step_to(alloc, key) {
+            Ok(step) => Err(deepened(step, fault)),
+            Err(_) => Err(TomlFault::Memory),
+        },
+    }
+}
+
+/// The name at a key.
+pub fn name_at(alloc: Global, keys: &Value, key: &str) -> Result<Bytes, TomlFault>
+    ensures { Reads result (required key.now name_of (view keys.now)) }
+{
+    match keys.get(key) {
+        Some(value) => under_key(alloc, key, read_name(alloc, value)),
+        None => Err(missing(alloc, key)),
+    }
+}
+
+/// The whole number at a key, from the least to the greatest.
+pub fn natural_at(
+    alloc: Global,
+    keys: &Value,
+    key: &str,
+    least: u64,
+    greatest: u64,
+) -> Result<u64, TomlFault>
+    ensures value { Reads result (required key.now (natural_of least greatest) (view keys.now)) }
+    ensures range { IfOk result (λ n. (least ≤ n) × (n ≤ greatest)) }
+{
+    match keys.get(key) {
+        Some(value) => under_key(alloc, key, read_natural(alloc, value, least, greatest)),
+        None => Err(missing(alloc, key)),
+    }
+}
+
+/// Whether a key is one of the known ones.
+fn is_among(key: &str, known: &[&str]) -> bool
+    ensures { result ≡ is_among key.now (map (λ k. k.now) known.now) }
+{
+    for one in known {
+        if *one == key {
+            return true;
+        }
+    }
+    false
+}
+
+/// The first key of a table that is none of the known ones.
+fn unknown_member<'a>(table: &'a Table, known: &[&str]) -> Option<&'a str>
+    ensures { option_copied result ≡ unknown_member (map (λ k. k.now) known.now) (table_view table.now) }
+{
+    for (key, _value) in table.iter() {
+        if !is_among(key.as_str(), known) {
+            return Some(key.as_str());
+        }
+    }
+    None
+}
+
+/// Checks that a table has no key but the known ones.
+///
+/// # Errors
+/// `UnknownKey` of the least other key by its bytes.
+pub fn only(alloc: Global, keys: &Value, known: &[&str]) -> Result<(), TomlFault>
+    ensures { Reads result (only (map (λ k. k.now) known.now) (view keys.now)) }
+{
+    let Some(table) = keys.as_table() else {
+        return Ok(());
+    };
+    match unknown_member(table, known) {
+        Some(key) => match path_to(alloc, key) {
+            Ok(path) => Err(TomlFault::UnknownKey(path)),
+            Err(_) => Err(TomlFault::Memory),
+        },
+        None => Ok(()),
+    }
+}
+
+/// The whole number at a key, from the least to the greatest, or the default where the key is absent.
+pub fn natural_or(
+    alloc: Global,
+    keys: &Value,
+    key: &str,
+    least: u64,
+    greatest: u64,
+    default: u64,
+) -> Result<u64, TomlFault>
+    requires { (least ≤ default) × (default ≤ greatest) }
+    ensures value { Reads result (defaulted key.now default (natural_of least greatest) (view keys.now)) }
+    ensures range { IfOk result (λ n. (least ≤ n) × (n ≤ greatest)) }
+{
+    match keys.get(key) {
+        Some(value) => under_key(alloc, key, read_natural(alloc, value, least, greatest)),
+        None => Ok(default),
+    }
+}
+
+/// The number at a key, or the default where the key is absent.
+pub fn number_or(alloc: Global, keys: &Value, key: &str, default: i128) -> Result<i128, TomlFault>
+    ensures { Reads result (defaulted key.now default number_of (view keys.now)) }
+{
+    match keys.get(key) {
+        Some(value) => under_key(alloc, key, read_number(alloc, value)),
+        None => Ok(default),
+    }
+}
+
+/// The number at a key, if it is there.
+pub fn optional_number(alloc: Global, keys: &Value, key: &str) -> Result<Option<i128>, TomlFault>
+    ensures { Reads result (optional key.now number_of (view keys.now)) }
+{
+    match keys.get(key) {
+        Some(value) => Ok(Some(under_key(alloc, key, read_number(alloc, value))?)),
+        None => Ok(None),
+    }
+}
+
+/// The number at a key.
+pub fn number_at(alloc: Global, keys: &Value, key: &str) -> Result<i128, TomlFault>
+    ensures { Reads result (required key.now number_of (view keys.now)) }
+{
+    match keys.get(key) {
+        Some(value) => under_key(alloc, key, read_number(alloc, value)),
+        None => Err(missing(alloc, key)),
+    }
+}
