@@ -32,7 +32,7 @@ pub enum SchemaKind {
 }
 
 /// The first rule that a schema breaks, and the place of the table that breaks it.
-#[derive(Debug, Drop)]
+#[derive(Debug, Drop, PartialEq)]
 pub struct SchemaFault {
     /// The rule.
     pub kind: SchemaKind,

@@ -2,3 +2,4 @@ pub mod Words
 pub mod Types
 pub mod Messages
 pub mod Text
+pub mod Faults

@@ -1,6 +1,7 @@
 -- The messages of a schema as TOML tables: the keys of each in the order in which they are visited (this project's profile).
-use Rattle.std.specs.Prelude.{ℕ, zero, suc, ℤ, pos, Option, Some, None, List, [], ◌∷◌, Ok, Err, codes}
-use Rattle.toml.specs.Data.{Data}
+use Rattle.std.specs.Prelude.{ℕ, ◌+◌, ℤ, pos, if◌then◌else◌, Option, Some, None, List, [], ◌∷◌, Ok, Err, codes}
+use Rattle.toml.specs.Data.{Data, array, table, Items, no_items, item, Members, no_members, member, same_key}
+use Rattle.sbe_value.specs.declared.path.Step.TheVariants.{Key, At}
 use Rattle.sbe_prim.specs.declared.Primitive.{Primitive}
 use Rattle.sbe_prim.specs.declared.Primitive.TheVariants.{UInt16}
 use Rattle.sbe_schema.specs.declared.types.Presence.TheVariants.{Required}
@@ -8,7 +9,8 @@ use Rattle.sbe_schema.specs.declared.messages.FieldDef.{FieldDef}
 use Rattle.sbe_schema.specs.declared.messages.DataDef.{DataDef}
 use Rattle.sbe_schema.specs.declared.messages.MessageDef.{MessageDef}
 use Rattle.sbe_schema.specs.Groups.{GroupHead, GroupTree, no_groups, group}
-use Rattle.toml_walk.specs.Reading.{Read, ◌>>=◌}
+use Rattle.toml_walk.specs.declared.fault.TomlFault.TheVariants.{WrongKind}
+use Rattle.toml_walk.specs.Reading.{Read, ◌>>=◌, under}
 use Rattle.toml_walk.specs.Keys.{required, defaulted, optional, list_of, table_of, only}
 use Rattle.toml_walk.specs.Values.{name_of, number_of, natural_of}
 use Rattle.schema_toml.specs.Words.{primitive_of, presence_of, constant_of}
@@ -45,3 +47,57 @@ data_keys since keys =
 
 abbrev pub datum_of : ℤ → Data → Read DataDef
 datum_of since = table_of (data_keys since)
+
+-- a group without the groups of its entries, and those groups
+abbrev pub GroupRead : Type 0
+GroupRead = GroupHead × GroupTree
+
+-- {name, id, block_prim?, count_prim?, since?, block_length?, fields?, groups?, data?}, of which `inner` reads the groups
+abbrev pub group_keys : (ℤ → Read GroupTree) → ℤ → Data → Read GroupRead
+group_keys inner since keys =
+    required (codes "name") name_of keys >>= λ name.
+    required (codes "id") id_of keys >>= λ id.
+    defaulted (codes "block_prim") UInt16 primitive_of keys >>= λ block_prim.
+    defaulted (codes "count_prim") UInt16 primitive_of keys >>= λ count_prim.
+    defaulted (codes "since") since number_of keys >>= λ own_since.
+    optional (codes "block_length") number_of keys >>= λ block_length.
+    defaulted (codes "fields") [] (list_of (field_of own_since)) keys >>= λ fields.
+    inner own_since >>= λ groups.
+    defaulted (codes "data") [] (list_of (datum_of own_since)) keys >>= λ vars.
+    only (codes "name" ∷ codes "id" ∷ codes "block_prim" ∷ codes "count_prim" ∷ codes "since" ∷ codes "block_length" ∷ codes "fields" ∷ codes "groups" ∷ codes "data" ∷ []) keys >>= λ _.
+    Ok (record { name = name; id = id; block_prim = block_prim; count_prim = count_prim; since = own_since; block_length = block_length; fields = fields; vars = vars }, groups)
+
+-- the groups of a block, as the value at their key and as a list of tables; each group's own groups lie in it
+abbrev mutual
+  pub group_of : ℤ → Data → Read GroupRead
+  group_of since (table keys) = group_keys (λ own_since. groups_in own_since keys) since (table keys)
+  group_of since _ = Err (WrongKind [])
+
+  pub groups_in : ℤ → Members → Read GroupTree
+  groups_in since no_members = Ok no_groups
+  groups_in since (member key d keys) = if same_key (codes "groups") key then under (Key (codes "groups")) (groups_of since d) else groups_in since keys
+
+  pub groups_of : ℤ → Data → Read GroupTree
+  groups_of since (array ds) = groups_from since 0 ds
+  groups_of since _ = Err (WrongKind [])
+
+  pub groups_from : ℤ → ℕ → Items → Read GroupTree
+  groups_from since at no_items = Ok no_groups
+  groups_from since at (item d ds) =
+      under (At at) (group_of since d) >>= λ g. groups_from since (at + 1) ds >>= λ rest. Ok (group g.0 g.1 rest)
+
+-- {name, id, since?, block_length?, fields?, groups?, data?}
+abbrev message_keys : Data → Read MessageDef
+message_keys keys =
+    required (codes "name") name_of keys >>= λ name.
+    required (codes "id") id_of keys >>= λ id.
+    defaulted (codes "since") (pos 0) number_of keys >>= λ since.
+    optional (codes "block_length") number_of keys >>= λ block_length.
+    defaulted (codes "fields") [] (list_of (field_of since)) keys >>= λ fields.
+    defaulted (codes "groups") no_groups (groups_of since) keys >>= λ groups.
+    defaulted (codes "data") [] (list_of (datum_of since)) keys >>= λ vars.
+    only (codes "name" ∷ codes "id" ∷ codes "since" ∷ codes "block_length" ∷ codes "fields" ∷ codes "groups" ∷ codes "data" ∷ []) keys >>= λ _.
+    Ok (record { name = name; id = id; since = since; block_length = block_length; fields = fields; groups = groups; vars = vars })
+
+abbrev pub message_of : Data → Read MessageDef
+message_of = table_of message_keys

@@ -12,6 +12,8 @@ use Rattle.sbe_schema.specs.declared.types.Presence.TheVariants.{Required}
 use Rattle.toml_walk.specs.Reading.{Read, ◌>>=◌}
 use Rattle.toml_walk.specs.Keys.{required, defaulted, optional, list_of, table_of, only}
 use Rattle.toml_walk.specs.Values.{text_of, name_of, number_of, natural_of}
+use Rattle.schema_toml.specs.declared.types.Kind.{Kind}
+use Rattle.schema_toml.specs.declared.types.Kind.TheVariants as kinds
 use Rattle.schema_toml.specs.Words.{listed, word_in, primitive_of, presence_of, constant_of}
 
 -- {name, value}
@@ -84,23 +86,17 @@ composite_kind keys =
     only (codes "name" ∷ codes "kind" ∷ codes "members" ∷ []) keys >>= λ _.
     Ok (Composite members)
 
--- the four kinds of types
-pub data Kind : Type 0 where
-  a_number : Kind
-  an_enum : Kind
-  a_set : Kind
-  a_composite : Kind
-
+-- the word of a kind
 abbrev pub kind_word_of : Data → Read Kind
 kind_word_of d =
     text_of d >>= λ text.
-    listed (word_in ((codes "number", a_number) ∷ (codes "enum", an_enum) ∷ (codes "set", a_set) ∷ (codes "composite", a_composite) ∷ []) text)
+    listed (word_in ((codes "number", kinds.Number) ∷ (codes "enum", kinds.Enum) ∷ (codes "set", kinds.Set) ∷ (codes "composite", kinds.Composite) ∷ []) text)
 
 abbrev pub kind_keys : Kind → Data → Read TypeKind
-kind_keys a_number keys = number_kind keys
-kind_keys an_enum keys = enum_kind keys
-kind_keys a_set keys = set_kind keys
-kind_keys a_composite keys = composite_kind keys
+kind_keys kinds.Number keys = number_kind keys
+kind_keys kinds.Enum keys = enum_kind keys
+kind_keys kinds.Set keys = set_kind keys
+kind_keys kinds.Composite keys = composite_kind keys
 
 -- {name, kind}, and then by the kind
 abbrev type_keys : Data → Read TypeDef

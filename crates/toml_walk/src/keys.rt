@@ -9,7 +9,7 @@ ghost use Rattle.toml_walk.specs.Keys.{defaulted, is_among, only, optional, requ
 ghost use Rattle.toml_walk.specs.Values.{name_of, natural_of, number_of, text_of};
 
 use crate::fault::{TomlFault, deepened};
-use crate::value::{read_name, read_natural, read_number, read_text};
+use crate::value::read_natural;
 use sbe_value::{Bytes, Path, Step};
 use std::alloc::{AllocError, Global};
 use toml::{Table, Value};
@@ -50,16 +50,6 @@ pub fn under_key<T>(alloc: Global, key: &str, inner: Result<T, TomlFault>) -> Re
             Ok(step) => Err(deepened(step, fault)),
             Err(_) => Err(TomlFault::Memory),
         },
-    }
-}
-
-/// The name at a key.
-pub fn name_at(alloc: Global, keys: &Value, key: &str) -> Result<Bytes, TomlFault>
-    ensures { Reads result (required key.now name_of (view keys.now)) }
-{
-    match keys.get(key) {
-        Some(value) => under_key(alloc, key, read_name(alloc, value)),
-        None => Err(missing(alloc, key)),
     }
 }
 
@@ -139,35 +129,5 @@ pub fn natural_or(
     match keys.get(key) {
         Some(value) => under_key(alloc, key, read_natural(alloc, value, least, greatest)),
         None => Ok(default),
-    }
-}
-
-/// The number at a key, or the default where the key is absent.
-pub fn number_or(alloc: Global, keys: &Value, key: &str, default: i128) -> Result<i128, TomlFault>
-    ensures { Reads result (defaulted key.now default number_of (view keys.now)) }
-{
-    match keys.get(key) {
-        Some(value) => under_key(alloc, key, read_number(alloc, value)),
-        None => Ok(default),
-    }
-}
-
-/// The number at a key, if it is there.
-pub fn optional_number(alloc: Global, keys: &Value, key: &str) -> Result<Option<i128>, TomlFault>
-    ensures { Reads result (optional key.now number_of (view keys.now)) }
-{
-    match keys.get(key) {
-        Some(value) => Ok(Some(under_key(alloc, key, read_number(alloc, value))?)),
-        None => Ok(None),
-    }
-}
-
-/// The number at a key.
-pub fn number_at(alloc: Global, keys: &Value, key: &str) -> Result<i128, TomlFault>
-    ensures { Reads result (required key.now number_of (view keys.now)) }
-{
-    match keys.get(key) {
-        Some(value) => under_key(alloc, key, read_number(alloc, value)),
-        None => Err(missing(alloc, key)),
     }
 }

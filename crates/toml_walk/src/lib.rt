@@ -3,12 +3,14 @@
 //! It stands on `toml` and on the paths of the value types.
 #![tactic(auto)]
 
-mod elements;
 mod fault;
 mod keys;
+mod reader;
 mod value;
 
 pub use fault::{TomlFault, deepened};
-pub use elements::{Element, read_list};
-pub use keys::{missing, name_at, natural_at, natural_or, number_at, number_or, only, optional_number, under_key};
-pub use value::{is_name, read_name, read_natural, read_number, read_text, wide_number};
+pub use keys::{missing, natural_at, natural_or, only, under_key};
+pub use reader::{
+    Names, Numbers, Reader, defaulted, list_or_empty, optional, read_list, required, required_list,
+};
+pub use value::{is_name, read_held, read_name, read_natural, read_number, read_text, wide_number};

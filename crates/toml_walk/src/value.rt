@@ -101,7 +101,10 @@ pub fn wide_number(text: &str) -> Option<u128>
 }
 
 /// A number that `i128` holds.
-fn held(alloc: Global, number: u128) -> Result<i128, TomlFault>
+///
+/// # Errors
+/// `Range` with the empty path where it is past `i128`.
+pub fn read_held(alloc: Global, number: u128) -> Result<i128, TomlFault>
     ensures { Reads result (held number) }
 {
     if number <= GREATEST_HELD {
@@ -121,7 +124,7 @@ pub fn read_number(alloc: Global, value: &Value) -> Result<i128, TomlFault>
     match value {
         Value::Integer(number) => Ok(*number as i128),
         Value::String(text) => match wide_number(text.as_str()) {
-            Some(number) => held(alloc, number),
+            Some(number) => read_held(alloc, number),
             None => Err(TomlFault::WrongKind(Path::new(alloc))),
         },
         _ => Err(TomlFault::WrongKind(Path::new(alloc))),
@@ -132,7 +135,12 @@ pub fn read_number(alloc: Global, value: &Value) -> Result<i128, TomlFault>
 ///
 /// # Errors
 /// `WrongKind` where the value is no number and `Range` where it is another, each with the empty path.
-pub fn read_natural(alloc: Global, value: &Value, least: u64, greatest: u64) -> Result<u64, TomlFault>
+pub fn read_natural(
+    alloc: Global,
+    value: &Value,
+    least: u64,
+    greatest: u64,
+) -> Result<u64, TomlFault>
     ensures value { Reads result (natural_of least greatest (view value.now)) }
     ensures range { IfOk result (λ n. (least ≤ n) × (n ≤ greatest)) }
 {

@@ -1,0 +1,136 @@
+//! The messages of a schema.
+
+ghost use Rattle.std.specs.Prelude.{◌≡◌};
+
+use crate::groups::groups_or_none;
+use crate::words::{Constants, Presences, Primitives};
+use sbe_prim::Primitive;
+use sbe_schema::{DataDef, DataDefs, FieldDef, FieldDefs, MessageDef, Presence};
+use sbe_value::Path;
+use std::alloc::Global;
+use toml::Value;
+use toml_walk::{
+    Names, Numbers, Reader, TomlFault, defaulted, list_or_empty, natural_at, only, optional,
+    required,
+};
+
+/// The greatest id.
+pub const GREATEST_ID: u64 = 65534;
+
+/// Fields of a block, in what came with a version.
+pub struct Fields;
+
+impl Reader for Fields {
+    type Holder = i128;
+
+    type Made = FieldDef;
+
+    ghost use Rattle.schema_toml.specs.Messages.{field_of};
+
+    ghost spelled = { field_of };
+
+    fn read(alloc: Global, since: i128, keys: &Value) -> Result<FieldDef, TomlFault> {
+        if !keys.is_table() {
+            return Err(TomlFault::WrongKind(Path::new(alloc)));
+        }
+        let name = required::<Names>(alloc, (), keys, "name")?;
+        let id = natural_at(alloc, keys, "id", 0, GREATEST_ID)?;
+        let type_name = required::<Names>(alloc, (), keys, "type")?;
+        let presence = defaulted::<Presences>(alloc, (), keys, "presence", Presence::Required)?;
+        let value = optional::<Constants>(alloc, (), keys, "value")?;
+        let offset = optional::<Numbers>(alloc, (), keys, "offset")?;
+        let since = defaulted::<Numbers>(alloc, (), keys, "since", since)?;
+        only(
+            alloc,
+            keys,
+            &["name", "id", "type", "presence", "value", "offset", "since"],
+        )?;
+        Ok(FieldDef {
+            name,
+            id: id as u16,
+            type_name,
+            presence,
+            value,
+            offset,
+            since,
+        })
+    }
+}
+
+/// Variable-length data of a block, in what came with a version.
+pub struct Data;
+
+impl Reader for Data {
+    type Holder = i128;
+
+    type Made = DataDef;
+
+    ghost use Rattle.schema_toml.specs.Messages.{datum_of};
+
+    ghost spelled = { datum_of };
+
+    fn read(alloc: Global, since: i128, keys: &Value) -> Result<DataDef, TomlFault> {
+        if !keys.is_table() {
+            return Err(TomlFault::WrongKind(Path::new(alloc)));
+        }
+        let name = required::<Names>(alloc, (), keys, "name")?;
+        let id = natural_at(alloc, keys, "id", 0, GREATEST_ID)?;
+        let length = defaulted::<Primitives>(alloc, (), keys, "length", Primitive::UInt16)?;
+        let since = defaulted::<Numbers>(alloc, (), keys, "since", since)?;
+        only(alloc, keys, &["name", "id", "length", "since"])?;
+        Ok(DataDef {
+            name,
+            id: id as u16,
+            length,
+            since,
+        })
+    }
+}
+
+/// Messages of a schema.
+pub struct Messages;
+
+impl Reader for Messages {
+    type Holder = ();
+
+    type Made = MessageDef;
+
+    ghost use Rattle.schema_toml.specs.Messages.{message_of};
+
+    ghost spelled = { λ _. message_of };
+
+    fn read(alloc: Global, _holder: (), keys: &Value) -> Result<MessageDef, TomlFault> {
+        if !keys.is_table() {
+            return Err(TomlFault::WrongKind(Path::new(alloc)));
+        }
+        let name = required::<Names>(alloc, (), keys, "name")?;
+        let id = natural_at(alloc, keys, "id", 0, GREATEST_ID)?;
+        let since = defaulted::<Numbers>(alloc, (), keys, "since", 0)?;
+        let block_length = optional::<Numbers>(alloc, (), keys, "block_length")?;
+        let fields = list_or_empty::<Fields>(alloc, since, keys, "fields")?;
+        let groups = groups_or_none(alloc, since, keys)?;
+        let vars = list_or_empty::<Data>(alloc, since, keys, "data")?;
+        only(
+            alloc,
+            keys,
+            &[
+                "name",
+                "id",
+                "since",
+                "block_length",
+                "fields",
+                "groups",
+                "data",
+            ],
+        )?;
+        Ok(MessageDef {
+            name,
+            id: id as u16,
+            since,
+            block_length,
+            fields: FieldDefs::from(fields),
+            groups,
+            vars: DataDefs::from(vars),
+        })
+    }
+}
