@@ -9,6 +9,6 @@ mod text;
 mod types;
 mod words;
 
-pub use fault::ConfigFault;
+pub use fault::{ConfigFault, TEXT_LIMIT};
 pub use text::read_schema;
 pub use toml_walk::TomlFault;
