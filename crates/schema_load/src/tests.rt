@@ -10,6 +10,9 @@ use sbe_value::Path;
 use schema_toml::{ConfigFault, TomlFault};
 use std::alloc::{AllocError, Global};
 
+// The id and version of most texts.
+const HEAD: &str = "id = 1\nversion = 3\n";
+
 // A kind of fault and its path, as `Range message[0].id`.
 fn placed(alloc: Global, kind: &str, path: &Path) -> Result<String, AllocError> {
     let text = path.text(alloc)?;
@@ -47,8 +50,39 @@ fn told(alloc: Global, text: &[u8]) -> Result<String, AllocError> {
     }
 }
 
-// What is said of a schema of version 3 with these types and messages.
-fn told_behind_head(alloc: Global, body: &str) -> Result<String, AllocError> {
-    let text = format!(in alloc; "id = 1\nversion = 3\n{body}")?;
-    told(alloc, text.as_bytes())
+// The lines of a table that are not told so, with what is told. A line is `FAULT | TEXT`, with ` ; ` for a line end of
+// the text, which stands between two others; a line that begins with `#` is a heading.
+fn wrong_lines(
+    alloc: Global,
+    before: &str,
+    table: &str,
+    behind: &str,
+) -> Result<String, AllocError> {
+    let mut wrong = format!(in alloc; "")?;
+    for line in table.lines() {
+        let found = match line.split_once(" | ") {
+            Some((want, text)) => told_otherwise(alloc, want, before, text, behind)?,
+            None if line.is_empty() || line.starts_with("#") => continue,
+            None => format!(in alloc; "no case: {line}\n")?,
+        };
+        wrong.push_str(found.as_str())?;
+    }
+    Ok(wrong)
+}
+
+// What is said of a text, if it is not what is wanted.
+fn told_otherwise(
+    alloc: Global,
+    want: &str,
+    before: &str,
+    text: &str,
+    behind: &str,
+) -> Result<String, AllocError> {
+    let whole = format!(in alloc; "{before}{text}{behind}")?.replace(alloc, " ; ", "\n")?;
+    let found = told(alloc, whole.as_bytes())?;
+    if found.as_str() == want {
+        format!(in alloc; "")
+    } else {
+        format!(in alloc; "{found}, not {want}, at {text}\n")
+    }
 }

@@ -1,7 +1,7 @@
 //! Schemas at each limit and one past it, made by repeating a part of their text.
 
 use crate::TEXT_LIMIT;
-use crate::tests::{told, told_behind_head};
+use crate::tests::{HEAD, told, wrong_lines};
 use std::alloc::{AllocError, Global};
 use std::test::Fail;
 
@@ -179,100 +179,37 @@ const REPEATED: &[Case] = &[
     ),
 ];
 
-const WRITTEN: &[(&str, &str)] = &[
-    // levels of groups
-    (
-        "message = [{name = 'M', id = 1, groups = [{name = 'g', id = 1, groups = [{name = 'g', id = 2, groups = [{name = 'g', id = 3, groups = [{name = 'g', id = 4, data = [{name = 'd', id = 5}]}]}]}]}]}]",
-        "Ok",
-    ),
-    (
-        "message = [{name = 'M', id = 1, groups = [{name = 'g', id = 1, groups = [{name = 'g', id = 2, groups = [{name = 'g', id = 3, groups = [{name = 'g', id = 4, groups = [{name = 'g', id = 5}]}]}]}]}]}]",
-        "OverLimit message[0].groups[0].groups[0].groups[0].groups[0].groups[0]",
-    ),
-    (
-        "message = [{name = 'M', id = 1, groups = [{name = 'g', id = 1, groups = [{name = 'g', id = 2, groups = [{name = 'g', id = 3, groups = [{name = 'g', id = 4, groups = [{name = 'g', id = 5, groups = [{name = 'g', id = 1}]}]}]}]}]}]}]",
-        "DuplicateId message[0].groups[0].groups[0].groups[0].groups[0].groups[0].groups[0]",
-    ),
-    // bytes of a block, and of all blocks of a message
-    (
-        "message = [{name = 'M', id = 1, fields = [{name = 'a', id = 1, type = 'char', offset = 16383}]}]",
-        "Ok",
-    ),
-    (
-        "message = [{name = 'M', id = 1, fields = [{name = 'a', id = 1, type = 'char', offset = 16384}]}]",
-        "BadOffset message[0].fields[0]",
-    ),
-    (
-        "message = [{name = 'M', id = 1, block_length = 16384}, {name = 'N', id = 2, groups = [{name = 'g', id = 1, block_length = 16384}]}]",
-        "Ok",
-    ),
-    (
-        "message = [{name = 'M', id = 1, block_length = 16384}, {name = 'N', id = 2, block_length = 16385}]",
-        "OverLimit message[1]",
-    ),
-    (
-        "message = [{name = 'M', id = 1, groups = [{name = 'g', id = 1, block_length = 16385}]}]",
-        "OverLimit message[0]",
-    ),
-    (
-        "message = [{name = 'M', id = 1, block_length = 16384, groups = [{name = 'g', id = 1}], data = [{name = 'd', id = 2}]}]",
-        "Ok",
-    ),
-    (
-        "message = [{name = 'M', id = 1, block_length = 16384, groups = [{name = 'g', id = 1, block_length = 1}]}]",
-        "OverLimit message[0]",
-    ),
-    (
-        "message = [{name = 'M', id = 1, block_length = 10000, groups = [{name = 'g', id = 1, block_length = 6000, groups = [{name = 'h', id = 2, block_length = 380}]}, {name = 'i', id = 3, fields = [{name = 'a', id = 4, type = 'int32'}]}]}]",
-        "Ok",
-    ),
-    (
-        "message = [{name = 'M', id = 1, block_length = 10000, groups = [{name = 'g', id = 1, block_length = 6000, groups = [{name = 'h', id = 2, block_length = 381}]}, {name = 'i', id = 3, fields = [{name = 'a', id = 4, type = 'int32'}]}]}]",
-        "OverLimit message[0]",
-    ),
-    // lengths, bits and ids
-    (
-        "message = []\ntype = [{name = 'T', kind = 'number', prim = 'uint8', length = 16384}]",
-        "Ok",
-    ),
-    (
-        "message = []\ntype = [{name = 'T', kind = 'number', prim = 'uint8', length = 16385}]",
-        "Range type[0].length",
-    ),
-    (
-        "message = []\ntype = [{name = 'T', kind = 'set', prim = 'uint64', bits = [{name = 'a', bit = 63}]}]",
-        "Ok",
-    ),
-    (
-        "message = []\ntype = [{name = 'T', kind = 'set', prim = 'uint64', bits = [{name = 'a', bit = 64}]}]",
-        "Range type[0].bits[0].bit",
-    ),
-    (
-        "message = [{name = 'M', id = 65534, fields = [{name = 'a', id = 65534, type = 'char'}], groups = [{name = 'g', id = 65533}], data = [{name = 'd', id = 65532}]}]",
-        "Ok",
-    ),
-    (
-        "message = [{name = 'M', id = 65535}]",
-        "Range message[0].id",
-    ),
-    (
-        "message = [{name = 'M', id = 1, fields = [{name = 'a', id = 65535, type = 'char'}]}]",
-        "Range message[0].fields[0].id",
-    ),
-    (
-        "message = [{name = 'M', id = 1, groups = [{name = 'g', id = 65535}]}]",
-        "Range message[0].groups[0].id",
-    ),
-    (
-        "message = [{name = 'M', id = 1, data = [{name = 'd', id = 65535}]}]",
-        "Range message[0].data[0].id",
-    ),
-];
+const WRITTEN: &str = "
+# levels of groups
+Ok | message = [{name = 'M', id = 1, groups = [{name = 'g', id = 1, groups = [{name = 'g', id = 2, groups = [{name = 'g', id = 3, groups = [{name = 'g', id = 4, data = [{name = 'd', id = 5}]}]}]}]}]}]
+OverLimit message[0].groups[0].groups[0].groups[0].groups[0].groups[0] | message = [{name = 'M', id = 1, groups = [{name = 'g', id = 1, groups = [{name = 'g', id = 2, groups = [{name = 'g', id = 3, groups = [{name = 'g', id = 4, groups = [{name = 'g', id = 5}]}]}]}]}]}]
+DuplicateId message[0].groups[0].groups[0].groups[0].groups[0].groups[0].groups[0] | message = [{name = 'M', id = 1, groups = [{name = 'g', id = 1, groups = [{name = 'g', id = 2, groups = [{name = 'g', id = 3, groups = [{name = 'g', id = 4, groups = [{name = 'g', id = 5, groups = [{name = 'g', id = 1}]}]}]}]}]}]}]
+# bytes of a block, and of all blocks of a message
+Ok | message = [{name = 'M', id = 1, fields = [{name = 'a', id = 1, type = 'char', offset = 16383}]}]
+BadOffset message[0].fields[0] | message = [{name = 'M', id = 1, fields = [{name = 'a', id = 1, type = 'char', offset = 16384}]}]
+Ok | message = [{name = 'M', id = 1, block_length = 16384}, {name = 'N', id = 2, groups = [{name = 'g', id = 1, block_length = 16384}]}]
+OverLimit message[1] | message = [{name = 'M', id = 1, block_length = 16384}, {name = 'N', id = 2, block_length = 16385}]
+OverLimit message[0] | message = [{name = 'M', id = 1, groups = [{name = 'g', id = 1, block_length = 16385}]}]
+Ok | message = [{name = 'M', id = 1, block_length = 16384, groups = [{name = 'g', id = 1}], data = [{name = 'd', id = 2}]}]
+OverLimit message[0] | message = [{name = 'M', id = 1, block_length = 16384, groups = [{name = 'g', id = 1, block_length = 1}]}]
+Ok | message = [{name = 'M', id = 1, block_length = 10000, groups = [{name = 'g', id = 1, block_length = 6000, groups = [{name = 'h', id = 2, block_length = 380}]}, {name = 'i', id = 3, fields = [{name = 'a', id = 4, type = 'int32'}]}]}]
+OverLimit message[0] | message = [{name = 'M', id = 1, block_length = 10000, groups = [{name = 'g', id = 1, block_length = 6000, groups = [{name = 'h', id = 2, block_length = 381}]}, {name = 'i', id = 3, fields = [{name = 'a', id = 4, type = 'int32'}]}]}]
+# lengths, bits and ids
+Ok | message = [] ; type = [{name = 'T', kind = 'number', prim = 'uint8', length = 16384}]
+Range type[0].length | message = [] ; type = [{name = 'T', kind = 'number', prim = 'uint8', length = 16385}]
+Ok | message = [] ; type = [{name = 'T', kind = 'set', prim = 'uint64', bits = [{name = 'a', bit = 63}]}]
+Range type[0].bits[0].bit | message = [] ; type = [{name = 'T', kind = 'set', prim = 'uint64', bits = [{name = 'a', bit = 64}]}]
+Ok | message = [{name = 'M', id = 65534, fields = [{name = 'a', id = 65534, type = 'char'}], groups = [{name = 'g', id = 65533}], data = [{name = 'd', id = 65532}]}]
+Range message[0].id | message = [{name = 'M', id = 65535}]
+Range message[0].fields[0].id | message = [{name = 'M', id = 1, fields = [{name = 'a', id = 65535, type = 'char'}]}]
+Range message[0].groups[0].id | message = [{name = 'M', id = 1, groups = [{name = 'g', id = 65535}]}]
+Range message[0].data[0].id | message = [{name = 'M', id = 1, data = [{name = 'd', id = 65535}]}]
+";
 
 // A text of a part that stands many times.
 fn repeated(alloc: Global, case: &Case) -> Result<String, AllocError> {
     let (before, part, count, behind, _want) = case;
-    let mut text = format!(in alloc; "{before}")?;
+    let mut text = format!(in alloc; "{HEAD}{before}")?;
     for at in 0..*count {
         let place = format!(in alloc; "{at}")?;
         let part = part.replace(alloc, "#", place.as_str())?;
@@ -295,14 +232,12 @@ fn padded(alloc: Global, start: &str, length: usize) -> Result<Vec<u8>, AllocErr
 fn limits(rt: HostRuntime) -> Result<(), Fail> {
     let alloc = rt.alloc();
     for case in REPEATED {
-        let body = repeated(alloc, case)?;
-        let found = told_behind_head(alloc, body.as_str())?;
+        let text = repeated(alloc, case)?;
+        let found = told(alloc, text.as_bytes())?;
         assert_eq!(rt; found.as_str(), case.4, "at {} times {}", case.2, case.1);
     }
-    for (body, want) in WRITTEN {
-        let found = told_behind_head(alloc, body)?;
-        assert_eq!(rt; found.as_str(), *want, "at {body}");
-    }
+    let written = wrong_lines(alloc, HEAD, WRITTEN, "")?;
+    assert_eq!(rt; written.as_str(), "");
     Ok(())
 }
 
@@ -327,6 +262,8 @@ fn lengths_of_texts(rt: HostRuntime) -> Result<(), Fail> {
         let found = told(alloc, text.as_slice())?;
         assert_eq!(rt; found.as_str(), want, "at {length} of {start}");
     }
+    let found = told(alloc, b"")?;
+    assert_eq!(rt; found.as_str(), "Missing id");
     let found = told(alloc, b"id = 1 # \xFF\nversion = 0\nmessage = []")?;
     assert_eq!(rt; found.as_str(), "Text");
     Ok(())
