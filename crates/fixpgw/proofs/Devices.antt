@@ -4,7 +4,7 @@ use Rattle.std.proofs.Math.Seq.{take-length}
 use Rattle.std.specs.Io.KnownBytes.{Appends, Consumes, IsAtEnd}
 use Rattle.std.proofs.KnownBytes.{Consumes-trans}
 use Rattle.gw_outside.specs.Faults.{TakesFront}
-use Rattle.fixpgw.specs.Configuration.{ReadsWithin}
+use Rattle.fixpgw.specs.Texts.{ReadsWithin}
 
 -- what was told of an input is what was read of it and what is left
 pub told : (before now : Option (List ℕ)) (read input : List ℕ) → Consumes before now read → before ≡ Some input → (left : List ℕ) × (input ≡ read ++ left) × (now ≡ Some left)

@@ -1,6 +1,6 @@
-mod Keys
 mod Devices
 mod Hexadecimal
 mod Steps
 mod Fronts
 mod Rounds
+pub mod Printing

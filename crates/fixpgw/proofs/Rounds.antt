@@ -35,7 +35,7 @@ abbrev IsFinal : Status → Type 0
 IsFinal Done = Unit {0}
 IsFinal (Message b) = Unit {0}
 IsFinal Words = ⊥
-IsFinal Config = ⊥
+IsFinal (Config fault) = ⊥
 IsFinal InputFault = ⊥
 IsFinal OutputFault = ⊥
 IsFinal Memory = ⊥
@@ -62,7 +62,7 @@ after-whole : (cfg : EndConfig) (before now : Content) (a : Acceptor) (status : 
 after-whole cfg before now a Done final gave = gave
 after-whole cfg before now a (Message b) final gave = gave
 after-whole cfg before now a Words final gave = absurd final
-after-whole cfg before now a Config final gave = absurd final
+after-whole cfg before now a (Config fault) final gave = absurd final
 after-whole cfg before now a InputFault final gave = absurd final
 after-whole cfg before now a OutputFault final gave = absurd final
 after-whole cfg before now a Memory final gave = absurd final

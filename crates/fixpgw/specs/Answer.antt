@@ -14,7 +14,7 @@ use Rattle.fixp_end.specs.declared.ending.Ending.TheVariants as endings
 use Rattle.fixp_end.specs.Hearing.{Said, Says}
 use Rattle.fixp_end.specs.Replies.{Outcome, reply_of, reply_to_bad_frame}
 use Rattle.fixp_end.specs.Machine.{written_bytes}
-use Rattle.fixpgw.specs.declared.configuration.Settings.{Settings}
+use Rattle.session_config.specs.declared.settings.Settings.{Settings}
 use Rattle.fixpgw.specs.declared.status.Bad.TheVariants as bad
 use Rattle.fixpgw.specs.declared.status.Status.{Status}
 use Rattle.fixpgw.specs.declared.status.Status.TheVariants.{Done, Message}
@@ -26,7 +26,7 @@ greatest_number = 2 ^ 24
 
 -- the acceptor that `answer` is: it reads an unsequenced flow, and sends none
 abbrev pub acceptor_of : Settings → EndConfig
-acceptor_of s = record { role = Acceptor; session = s.session; own_flow = flows.None; peer_flow = flows.Unsequenced; keepalive = s.keepalive; credentials = [] }
+acceptor_of s = record { role = Acceptor; session = s.session; own_flow = flows.None; peer_flow = flows.Unsequenced; keepalive = s.keepalive; credentials = s.credentials }
 
 -- a new session: not negotiated, and awaiting message 1
 abbrev pub first_facts : Facts

@@ -27,6 +27,6 @@ IsCaused before after InputFault = HasRisen before.config after.config ⊎ HasRi
 IsCaused before after OutputFault = HasRisen before.wire after.wire ⊎ HasRisen before.out after.out
 IsCaused before after Done = Unit {0}
 IsCaused before after Words = Unit {0}
-IsCaused before after Config = Unit {0}
+IsCaused before after (Config fault) = Unit {0}
 IsCaused before after (Message bad) = Unit {0}
 IsCaused before after Memory = Unit {0}

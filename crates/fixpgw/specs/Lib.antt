@@ -1,10 +1,11 @@
 pub mod Codes
 pub mod Words
-pub mod Configuration
+pub mod Texts
 pub mod Lines
 pub mod Answer
 pub mod Progress
 pub mod Causes
 pub mod Promise
+pub mod Layouts
 pub mod Run
 pub mod Told

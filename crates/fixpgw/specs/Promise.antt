@@ -49,7 +49,7 @@ Gave cfg input before after InputFault = GaveFront cfg input before after
 Gave cfg input before after OutputFault = GaveFront cfg input before after
 Gave cfg input before after Memory = GaveFront cfg input before after
 Gave cfg input before after Words = ⊥
-Gave cfg input before after Config = ⊥
+Gave cfg input before after (Config fault) = ⊥
 
 -- the same where the input is told
 abbrev pub KeepsPromise : EndConfig → Content → Content → Status → Type 0
@@ -58,7 +58,7 @@ KeepsPromise cfg before after status = (input : List ℕ) → before.input ≡ S
 -- the statuses that end a conversation
 abbrev pub IsConversationEnd : Status → Type 0
 IsConversationEnd Words = ⊥
-IsConversationEnd Config = ⊥
+IsConversationEnd (Config fault) = ⊥
 IsConversationEnd Done = Unit {0}
 IsConversationEnd (Message b) = Unit {0}
 IsConversationEnd InputFault = Unit {0}
@@ -92,7 +92,7 @@ AfterRound cfg before now a (Err status) = KeepsPromise cfg before now status
 abbrev pub round_of : Status → Result Bool Status
 round_of Done = Ok false
 round_of Words = Err Words
-round_of Config = Err Config
+round_of (Config fault) = Err (Config fault)
 round_of InputFault = Err InputFault
 round_of OutputFault = Err OutputFault
 round_of (Message b) = Err (Message b)

@@ -8,16 +8,16 @@ ghost use Rattle.fixpgw.specs.Progress.{AnswersOne};
 ghost use Rattle.std.specs.Io.KnownBytes.{Appends};
 ghost use Rattle.gw_outside.specs.Faults.{HasRisen, TakesFront};
 ghost use Rattle.fixpgw.specs.Answer.{status_of, status_at_rest};
-ghost use Rattle.fixpgw.specs.Configuration.{IsInRange};
+ghost use Rattle.session_config.specs.Settings.{IsInRange};
 ghost use Rattle.fixpgw.specs.Causes.{NoneFell, IsCaused, counts_of};
 ghost use Rattle.fixpgw.specs.Promise.{Content, Talks, IsIdle, AfterRound, KeepsPromise, IsConversationEnd, round_of, verdict_of};
 
-use crate::configuration::Settings;
 use crate::lines::push_line;
 use crate::status::{Bad, Status};
 use fixp_end::{End, EndConfig, EndState, Ending, Role};
 use fixp_msgs::Flow;
-use gw_outside::{Bytes, Failed, Sink, Source, push_all};
+use gw_outside::{Failed, Sink, Source, push_all};
+use session_config::Settings;
 use sofh_frame::{FirstFrame, Framer, Order};
 use std::alloc::{AllocError, Global};
 use std::sync::Wait;
@@ -55,17 +55,21 @@ pub enum Step {
 }
 
 /// The configuration of the acceptor.
-fn acceptor_config(alloc: Global, settings: Settings) -> EndConfig
+fn acceptor_config(settings: Settings) -> EndConfig
     ensures { result ≡ acceptor_of settings }
 {
-    let session = settings.session;
+    let Settings {
+        session,
+        keepalive,
+        credentials,
+    } = settings;
     EndConfig {
         role: Role::Acceptor,
         session,
         own_flow: Flow::None,
         peer_flow: Flow::Unsequenced,
-        keepalive: settings.keepalive,
-        credentials: Bytes::from(Vec::new(alloc)),
+        keepalive,
+        credentials,
     }
 }
 
@@ -119,7 +123,7 @@ impl Acceptor {
     {
         let mut end = End::new(
             alloc,
-            acceptor_config(alloc, settings),
+            acceptor_config(settings),
             new_session(),
             GREATEST_NUMBER,
         )?;

@@ -28,6 +28,17 @@ impl<F> FileSource<F> {
             faults: 0,
         }
     }
+
+    /// A source for a command that reads none.
+    pub fn unused() -> FileSource<F>
+        ensures file { result.file ≡ None }
+        ensures faults { result.faults ≡ 0 }
+    {
+        FileSource {
+            file: None,
+            faults: 0,
+        }
+    }
 }
 
 /// Reads, and again where a signal came between.
@@ -88,6 +99,17 @@ impl<F, P> FileSink<F, P> {
             Err(_) => Target::Missing,
         };
         FileSink { target, faults: 0 }
+    }
+
+    /// A sink for a command that writes none.
+    pub fn unused() -> FileSink<F, P>
+        ensures target { result.target ≡ Missing }
+        ensures faults { result.faults ≡ 0 }
+    {
+        FileSink {
+            target: Target::Missing,
+            faults: 0,
+        }
     }
 
     /// A sink over a printer, as standard output.

@@ -3,7 +3,9 @@
 #![tactic(auto)]
 
 mod answer;
-mod configuration;
+mod check;
+mod configured;
+mod describe;
 mod files;
 mod laws;
 mod lines;
@@ -15,22 +17,25 @@ mod tests;
 mod text;
 mod words;
 
+use describe::describe;
 use files::{FileSink, FileSource};
 use outside::Outside;
 use run::run;
 use status::Status;
+use std::alloc::AllocError;
 use std::io::Printer;
 use std::process::ExitCode;
 use std::rt::{Env, Files};
 use std::sync::Wait;
 use std::{fs, io};
-use words::is_listed;
+use words::command_of;
 
 const USAGE: &str =
     "fixpgw: an order gateway for sessions of the FIX Performance Session Layer (FIXP) 1.1
 
   fixpgw answer CONFIG INPUT WIRE OUT   the acceptor's session over the recorded bytes of a client:
                                         replies to WIRE, one line for each message applied to OUT
+  fixpgw check CONFIG OUT               the layout of the schema in CONFIG, to OUT
   fixpgw --help                         this text
   fixpgw --version                      the name and the version
 
@@ -58,20 +63,31 @@ fn sink<'a, R: Files + Print>(rt: &'a R, path: &str) -> FileSink<R::File, Printe
     FileSink::new(fs::create(rt, path))
 }
 
-/// Runs the command over the files that well-formed words name.
+/// A sink that OUT names: `-` is standard output.
+fn out_sink<'a, R: Files + Print>(rt: &'a R, path: &str) -> FileSink<R::File, Printer<'a, R>> {
+    if path == "-" {
+        FileSink::printing(io::writer(rt))
+    } else {
+        sink(rt, path)
+    }
+}
+
+/// Runs the command over the files that its words name; a device that the form does not name is never used.
 fn run_over_files<R: Wait + Files + Print + AllocGlobal>(rt: &R, words: &[String]) -> Status {
-    let [_command, config, input, wire, out] = words else {
-        return Status::Words;
-    };
-    let outside = Outside {
-        config: source(rt, config.as_str()),
-        input: source(rt, input.as_str()),
-        wire: sink(rt, wire.as_str()),
-        out: if out.as_str() == "-" {
-            FileSink::printing(io::writer(rt))
-        } else {
-            sink(rt, out.as_str())
+    let outside = match words {
+        [_command, config, input, wire, out] => Outside {
+            config: source(rt, config.as_str()),
+            input: source(rt, input.as_str()),
+            wire: sink(rt, wire.as_str()),
+            out: out_sink(rt, out.as_str()),
         },
+        [_command, config, out] => Outside {
+            config: source(rt, config.as_str()),
+            input: FileSource::unused(),
+            wire: FileSink::unused(),
+            out: out_sink(rt, out.as_str()),
+        },
+        _ => return Status::Words,
     };
     let (status, outside) = run(rt, rt.alloc(), words, outside);
     let Outside {
@@ -83,14 +99,25 @@ fn run_over_files<R: Wait + Files + Print + AllocGlobal>(rt: &R, words: &[String
     status
 }
 
+/// What is wrong, as a line for people.
+fn line_of<R: AllocGlobal>(rt: &R, status: &Status) -> Result<String, AllocError> {
+    match status {
+        Status::Config(fault) => describe(rt.alloc(), fault),
+        status => format!(in rt.alloc(); "{status}"),
+    }
+}
+
 /// Prints the status on standard output, and what is wrong in words on standard error. A status that cannot
 /// be printed is an output fault.
-fn report<R: Print + Eprint>(rt: &R, status: Status) -> ExitCode {
+fn report<R: Print + Eprint + AllocGlobal>(rt: &R, status: Status) -> ExitCode {
     let code = status.code();
     let name = status.name();
     let printed = println!(rt; "status {code} {name}");
     if code != 0 {
-        let _ = eprintln!(rt; "fixpgw: {status}");
+        let _ = match line_of(rt, &status) {
+            Ok(line) => eprintln!(rt; "fixpgw: {line}"),
+            Err(_) => eprintln!(rt; "fixpgw: {status}"),
+        };
     }
     match printed {
         Ok(()) => ExitCode::from(code),
@@ -121,7 +148,7 @@ fn main(rt: HostRuntime) -> ExitCode {
         }
         [word] if word.as_str() == "--help" || word.as_str() == "-h" => show(&rt, USAGE),
         [word] if word.as_str() == "--version" => show(&rt, VERSION),
-        words if is_listed(words) => {
+        words if command_of(words).is_some() => {
             let status = run_over_files(&rt, words);
             report(&rt, status)
         }

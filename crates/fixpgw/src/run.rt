@@ -1,44 +1,29 @@
 //! The run of a command: words, configuration, work.
 
-ghost use Rattle.std.specs.Prelude.{◌≡◌, ◌↔◌, ◌+◌, ◌≤◌, ℕ, List, true, false, None, Some, IfOk, IfErr, IsErrOf};
-ghost use Rattle.std.specs.Io.KnownBytes.{Keeps};
+ghost use Rattle.std.specs.Prelude.{◌≡◌, ◌↔◌, ◌+◌, ◌≤◌, ℕ, List, Some, None};
 ghost use Rattle.gw_outside.specs.Faults.{HasRisen};
-ghost use Rattle.fixpgw.specs.Words.{bytes_of, is_listed};
-ghost use Rattle.fixpgw.specs.Configuration.{IsInRange, ReadsWithin, configuration_of, text_limit};
+ghost use Rattle.schema_toml.specs.Faults.{text_limit};
+ghost use Rattle.session_config.specs.Settings.{settings_of_text};
+ghost use Rattle.schema_load.specs.Load.{plan_of_text};
+ghost use Rattle.fixpgw.specs.declared.words.Command.{Command};
+ghost use Rattle.fixpgw.specs.declared.words.Command.TheVariants as commands;
+ghost use Rattle.fixpgw.specs.Words.{bytes_of, command_of};
+ghost use Rattle.fixpgw.specs.Texts.{ReadsWithin};
 ghost use Rattle.fixpgw.specs.Causes.{NoneFell, IsCaused, counts_of};
-ghost use Rattle.fixpgw.specs.Run.{Judges, GaveBy, IsUnconfigured};
+ghost use Rattle.fixpgw.specs.Layouts.{GaveLayout};
+ghost use Rattle.fixpgw.specs.Run.{Judges, JudgesBy, GaveBy};
 
 use crate::answer::converse;
-use crate::configuration::{Refusal, Settings, read_configuration};
+use crate::check::print_layout;
+use crate::configured::read_config;
 use crate::outside::Outside;
 use crate::status::Status;
-use crate::text::{TextFault, read_text};
-use crate::words::is_listed;
+use crate::words::{Command, command_of};
 use gw_outside::{Sink, Source};
+use sbe_layout::Plan;
+use session_config::Settings;
 use std::alloc::Global;
 use std::sync::Wait;
-
-/// Reads the configuration of `answer`.
-fn read_settings<S: Source>(alloc: Global, config: &mut S) -> Result<Settings, Status>
-    ensures range { IfOk result IsInRange }
-    ensures ok { IfOk result (λ settings. (text : List ℕ) → S.left config.old ≡ Some text → configuration_of text ≡ Some settings) }
-    ensures refused { IsErrOf result Status.Config → (text : List ℕ) → S.left config.old ≡ Some text → configuration_of text ≡ None }
-    ensures unconfigured { IfErr result IsUnconfigured }
-    ensures within { ReadsWithin (S.left config.old) (S.left config.new) (text_limit + 1) }
-    ensures counted { S.faults config.old ≤ S.faults config.new }
-    ensures fault { IsErrOf result Status.InputFault → HasRisen (S.faults config.old) (S.faults config.new) }
-{
-    let text = match read_text(alloc, config) {
-        Ok(text) => text,
-        Err(TextFault::Source) => return Err(Status::InputFault),
-        Err(TextFault::Memory) => return Err(Status::Memory),
-    };
-    match read_configuration(alloc, text.as_slice()) {
-        Ok(settings) => Ok(settings),
-        Err(Refusal::NoConfiguration) => Err(Status::Config),
-        Err(Refusal::Memory) => Err(Status::Memory),
-    }
-}
 
 /// `answer`: the acceptor's session over recorded bytes.
 fn answer<R: Wait, S: Source, K: Sink>(
@@ -49,9 +34,9 @@ fn answer<R: Wait, S: Source, K: Sink>(
     wire: &mut K,
     out: &mut K,
 ) -> Status
-    ensures judged { (text : List ℕ) → S.left config.old ≡ Some text → Judges result (configuration_of text) }
+    ensures judged { (text : List ℕ) → S.left config.old ≡ Some text → Judges result (settings_of_text text) }
     ensures given { (text told : List ℕ) → S.left config.old ≡ Some text → S.left input.old ≡ Some told →
-        GaveBy (configuration_of text) told
+        GaveBy (settings_of_text text) told
         (record { input = S.left input.old; wire = K.taken wire.old; out = K.taken out.old })
         (record { input = S.left input.new; wire = K.taken wire.new; out = K.taken out.new }) result }
     ensures within { ReadsWithin (S.left config.old) (S.left config.new) (text_limit + 1) }
@@ -59,8 +44,24 @@ fn answer<R: Wait, S: Source, K: Sink>(
     ensures cause { IsCaused (counts_of (S.faults config.old) (S.faults input.old) (K.faults wire.old) (K.faults out.old)) (counts_of (S.faults config.new) (S.faults input.new) (K.faults wire.new) (K.faults out.new)) result }
     ensures listed { result ≡ Status.Words → ⊥ }
 {
-    match read_settings(alloc, config) {
+    match read_config::<S, Settings>(alloc, config) {
         Ok(settings) => converse(rt, alloc, settings, input, wire, out),
+        Err(status) => status,
+    }
+}
+
+/// `check`: the layout of a schema.
+fn check<S: Source, K: Sink>(alloc: Global, config: &mut S, out: &mut K) -> Status
+    ensures judged { (text : List ℕ) → S.left config.old ≡ Some text → Judges result (plan_of_text text) }
+    ensures given { (text : List ℕ) → S.left config.old ≡ Some text → GaveLayout (plan_of_text text) (K.taken out.old) (K.taken out.new) result }
+    ensures within { ReadsWithin (S.left config.old) (S.left config.new) (text_limit + 1) }
+    ensures counted { (S.faults config.old ≤ S.faults config.new) × (K.faults out.old ≤ K.faults out.new) }
+    ensures input_cause { result ≡ Status.InputFault → HasRisen (S.faults config.old) (S.faults config.new) }
+    ensures output_cause { result ≡ Status.OutputFault → HasRisen (K.faults out.old) (K.faults out.new) }
+    ensures listed { result ≡ Status.Words → ⊥ }
+{
+    match read_config::<S, Plan>(alloc, config) {
+        Ok(plan) => print_layout(alloc, &plan, out),
         Err(status) => status,
     }
 }
@@ -68,37 +69,40 @@ fn answer<R: Wait, S: Source, K: Sink>(
 /// Runs the command that the words name, over these devices, and gives them back with its status.
 ///
 /// The words are refused exactly where they are no listed form, and then no device is touched. CONFIG is
-/// refused exactly where it is no configuration. Where the devices tell their content, WIRE and OUT gain what
-/// the definition of the answer says of CONFIG and INPUT: all of it at statuses 0 and 12, and a front of it
-/// where a device failed or memory ran out.
+/// refused, with its first fault, exactly where it has one. Where the devices tell their content, `answer` gives
+/// WIRE and OUT what the definition of the answer says of CONFIG and INPUT, and `check` gives OUT the lines of the
+/// layout: all of it at statuses 0 and 12, and a front of it where a device failed or memory ran out.
 pub fn run<R: Wait, S: Source, K: Sink>(
     rt: &R,
     alloc: Global,
     words: &[String],
     outside: Outside<S, K>,
 ) -> (Status, Outside<S, K>)
-    ensures words { (result.0 ≡ Status.Words) ↔ (is_listed (bytes_of words.now) ≡ false) }
-    ensures untouched { is_listed (bytes_of words.now) ≡ false → result.1 ≡ outside }
-    ensures judged { is_listed (bytes_of words.now) ≡ true → (text : List ℕ) → S.left outside.config ≡ Some text → Judges result.0 (configuration_of text) }
-    ensures given { is_listed (bytes_of words.now) ≡ true → (text input : List ℕ) → S.left outside.config ≡ Some text → S.left outside.input ≡ Some input →
-        GaveBy (configuration_of text) input
+    ensures words { (result.0 ≡ Status.Words) ↔ (command_of (bytes_of words.now) ≡ None) }
+    ensures untouched { command_of (bytes_of words.now) ≡ None → result.1 ≡ outside }
+    ensures judged { (command : Command) → command_of (bytes_of words.now) ≡ Some command → (text : List ℕ) → S.left outside.config ≡ Some text → JudgesBy command text result.0 }
+    ensures given { command_of (bytes_of words.now) ≡ Some commands.Answer → (text input : List ℕ) → S.left outside.config ≡ Some text → S.left outside.input ≡ Some input →
+        GaveBy (settings_of_text text) input
         (record { input = S.left outside.input; wire = K.taken outside.wire; out = K.taken outside.out })
         (record { input = S.left result.1.input; wire = K.taken result.1.wire; out = K.taken result.1.out }) result.0 }
+    ensures printed { command_of (bytes_of words.now) ≡ Some commands.Check → (text : List ℕ) → S.left outside.config ≡ Some text → GaveLayout (plan_of_text text) (K.taken outside.out) (K.taken result.1.out) result.0 }
+    ensures spared { command_of (bytes_of words.now) ≡ Some commands.Check → (result.1.input ≡ outside.input) × (result.1.wire ≡ outside.wire) }
     ensures within { ReadsWithin (S.left outside.config) (S.left result.1.config) (text_limit + 1) }
     ensures none_fell { NoneFell (counts_of (S.faults outside.config) (S.faults outside.input) (K.faults outside.wire) (K.faults outside.out)) (counts_of (S.faults result.1.config) (S.faults result.1.input) (K.faults result.1.wire) (K.faults result.1.out)) }
     ensures cause { IsCaused (counts_of (S.faults outside.config) (S.faults outside.input) (K.faults outside.wire) (K.faults outside.out)) (counts_of (S.faults result.1.config) (S.faults result.1.input) (K.faults result.1.wire) (K.faults result.1.out)) result.0 }
 {
     let mut outside = outside;
-    if !is_listed(words) {
-        return (Status::Words, outside);
-    }
-    let status = answer(
-        rt,
-        alloc,
-        &mut outside.config,
-        &mut outside.input,
-        &mut outside.wire,
-        &mut outside.out,
-    );
+    let status = match command_of(words) {
+        None => Status::Words,
+        Some(Command::Answer) => answer(
+            rt,
+            alloc,
+            &mut outside.config,
+            &mut outside.input,
+            &mut outside.wire,
+            &mut outside.out,
+        ),
+        Some(Command::Check) => check(alloc, &mut outside.config, &mut outside.out),
+    };
     (status, outside)
 }

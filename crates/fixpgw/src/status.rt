@@ -3,6 +3,7 @@
 ghost use Rattle.std.specs.Prelude.{◌≡◌};
 
 use fixp_end::Violation;
+use schema_toml::ConfigFault;
 use thiserror::Error;
 
 /// What is wrong with an input, and where: places are counted from 0 in bytes of the input.
@@ -20,7 +21,7 @@ pub enum Bad {
 }
 
 /// How a command ended.
-#[derive(Clone, Copy, Debug, PartialEq, Eq, Error)]
+#[derive(Debug, Drop, PartialEq, Error)]
 pub enum Status {
     /// The command did all of its work.
     #[error("done")]
@@ -28,9 +29,9 @@ pub enum Status {
     /// The words are none of the listed forms.
     #[error("words: these are not the words of a command; --help lists them")]
     Words,
-    /// The configuration is none.
-    #[error("config: not a TOML table of exactly the five keys session, keepalive, client_flow, server_flow and senders with the values that answer takes, in at most 1048576 bytes")]
-    Config,
+    /// CONFIG is none of the command's: the fault, and its place.
+    #[error("config: CONFIG is none of this command's")]
+    Config(ConfigFault),
     /// CONFIG or INPUT could not be read.
     #[error("input: CONFIG or INPUT could not be read")]
     InputFault,
@@ -56,7 +57,7 @@ impl Status {
         match self {
             Status::Done => 0,
             Status::Words => 1,
-            Status::Config => 2,
+            Status::Config(_) => 2,
             Status::InputFault => 3,
             Status::OutputFault => 4,
             Status::Message(_) => 12,
@@ -71,7 +72,7 @@ impl Status {
         match self {
             Status::Done => "done",
             Status::Words => "words",
-            Status::Config => "config",
+            Status::Config(_) => "config",
             Status::InputFault => "input-fault",
             Status::OutputFault => "output-fault",
             Status::Message(_) => "message",

@@ -2,14 +2,17 @@
 
 ghost use Rattle.std.specs.Prelude.{◌<◌};
 
+use crate::describe::describe;
 use crate::outside::Outside;
 use crate::run::run;
 use crate::status::{Bad, Status};
 use fixp_end::Violation;
 use gw_outside::{Bytes, Calls, MemSink, MemSource};
+use schema_toml::ConfigFault;
 use std::alloc::{AllocError, Global};
 use std::sync::Wait;
 use std::test::Fail;
+use toml_walk::TomlFault;
 
 const CONFIG: &str = "session = \"00112233-4455-6677-8899-aabbccddeeff\"
 keepalive = 1000
@@ -274,44 +277,165 @@ fn prefixes_are_cut(rt: HostRuntime) -> Result<(), Fail> {
 }
 
 #[test]
+fn refusals_of_words(rt: HostRuntime) -> Result<(), Fail> {
+    let alloc = rt.alloc();
+    let config = CONFIG.as_bytes();
+    for words in [
+        "answer C",
+        "answer C O",
+        "check C I W O",
+        "check C",
+        "check",
+        "journal C O",
+    ] {
+        let ran = run_words(&rt, alloc, words, config, &[], 1, no_faults())?;
+        assert_eq!(rt; ran.status, Status::Words, "for {words}");
+    }
+    Ok(())
+}
+
+/// What a run says of CONFIG on standard error, up to the fault's name.
+fn refusal(alloc: Global, status: &Status) -> Result<String, AllocError> {
+    match status {
+        Status::Config(fault) => describe(alloc, fault),
+        status => format!(in alloc; "{status}"),
+    }
+}
+
+/// How many lines of the configuration stand before a text, the text, and what is said of both.
+const REFUSED: [(usize, &str, &str); 22] = [
+    (0, "", "config: session: Missing: "),
+    (0, "keepalive = 1000", "config: session: Missing: "),
+    (0, "session = 1", "config: session: WrongKind: "),
+    (0, "session = \"00112233\"", "config: session: Range: "),
+    (0, "session = ", "config: Text: "),
+    (1, "", "config: keepalive: Missing: "),
+    (1, "keepalive = \"1000\"", "config: keepalive: WrongKind: "),
+    (1, "keepalive = 99", "config: keepalive: Range: "),
+    (1, "keepalive = 60001", "config: keepalive: Range: "),
+    (2, "", "config: client_flow: Missing: "),
+    (
+        2,
+        "client_flow = \"idempotent\"",
+        "config: client_flow: Range: ",
+    ),
+    (
+        2,
+        "client_flow = \"Unsequenced\"",
+        "config: client_flow: Range: ",
+    ),
+    (
+        3,
+        "server_flow = \"recoverable\"",
+        "config: server_flow: Range: ",
+    ),
+    (4, "credentials = \"abc\"", "config: credentials: Range: "),
+    (4, "credentials = 1", "config: credentials: WrongKind: "),
+    (4, "", "config: senders: Range: "),
+    (4, "senders = 1", "config: senders: Range: "),
+    (4, "senders = 17\ndesks = 17", "config: senders: Range: "),
+    (5, "desks = 1", "config: desks: Range: "),
+    (5, "order_version = 3", "config: order_version: Range: "),
+    (5, "reference = 0", "config: reference: Range: "),
+    (5, "zeta = 1\nalpha = 1", "config: alpha: UnknownKey: "),
+];
+
+/// The first lines of the configuration, and a text behind them.
+fn config_of(alloc: Global, lines: usize, text: &str) -> Result<String, AllocError> {
+    let mut all = String::new(alloc);
+    for line in CONFIG.lines().take(lines) {
+        all.push_str(line)?;
+        all.push_str("\n")?;
+    }
+    all.push_str(text)?;
+    Ok(all)
+}
+
+#[test]
 fn refusals_of_start(rt: HostRuntime) -> Result<(), Fail> {
     let alloc = rt.alloc();
-    let two = run_words(
-        &rt,
-        alloc,
-        "answer C",
-        CONFIG.as_bytes(),
-        &[],
-        1,
-        no_faults(),
-    )?;
-    assert_eq!(rt; two.status, Status::Words);
-    let other = run_words(
-        &rt,
-        alloc,
-        "check C I W O",
-        CONFIG.as_bytes(),
-        &[],
-        1,
-        no_faults(),
-    )?;
-    assert_eq!(rt; other.status, Status::Words);
-    let texts = [
-        "",
-        "keepalive = 1000\n",
-        "session = \"00112233-4455-6677-8899-aabbccddeeff\"\nkeepalive = 99\nclient_flow = \"unsequenced\"\nserver_flow = \"none\"\nsenders = 0\n",
-        "session = \"00112233-4455-6677-8899-aabbccddeeff\"\nkeepalive = 1000\nclient_flow = \"idempotent\"\nserver_flow = \"none\"\nsenders = 0\n",
-        "session = \"00112233\"\nkeepalive = 1000\nclient_flow = \"unsequenced\"\nserver_flow = \"none\"\nsenders = 0\n",
-        "session = \"00112233-4455-6677-8899-aabbccddeeff\"\nkeepalive = 1000\nclient_flow = \"unsequenced\"\nserver_flow = \"none\"\nsenders = 1\n",
-        "session = \"00112233-4455-6677-8899-aabbccddeeff\"\nkeepalive = 1000\nclient_flow = \"unsequenced\"\nserver_flow = \"none\"\nsenders = 0\ndesks = 0\n",
-        "session = ",
-    ];
-    for text in texts {
-        let ran = run_words(&rt, alloc, ANSWER, text.as_bytes(), &[], 1, no_faults())?;
-        assert_eq!(rt; ran.status, Status::Config, "for {text}");
+    for (lines, text, said) in REFUSED {
+        let config = config_of(alloc, lines, text)?;
+        let ran = run_words(&rt, alloc, ANSWER, config.as_bytes(), &[], 1, no_faults())?;
+        let told = refusal(alloc, &ran.status)?;
+        assert!(rt; told.as_str().starts_with(said), "for {config}: {told}");
     }
     let broken = run_words(&rt, alloc, ANSWER, &[0xff], &[], 1, no_faults())?;
-    assert_eq!(rt; broken.status, Status::Config);
+    assert_eq!(rt;
+        broken.status,
+        Status::Config(ConfigFault::Toml(TomlFault::Text))
+    );
+    Ok(())
+}
+
+const CHECK: &str = "check C O";
+
+/// A schema of one message with fields of one and of eight bytes, without stated offsets.
+const MIX: &str = "id = 201
+version = 0
+message = [{ name = \"M\", id = 1, fields = [
+    { name = \"a\", id = 1, type = \"uint8\", presence = \"optional\" },
+    { name = \"b\", id = 2, type = \"int64\", presence = \"optional\" },
+    { name = \"c\", id = 3, type = \"uint8\" },
+    { name = \"d\", id = 4, type = \"int64\" },
+] }]
+";
+
+const MIX_LINES: &str = "message M 1 18
+a 0 1
+b 1 8
+c 9 1
+d 10 8
+";
+
+#[test]
+fn layout_lines(rt: HostRuntime) -> Result<(), Fail> {
+    let alloc = rt.alloc();
+    let ran = run_words(&rt, alloc, CHECK, MIX.as_bytes(), &[], 1, no_faults())?;
+    assert_eq!(rt; ran.status, Status::Done);
+    assert_eq!(rt; ran.out.as_slice(), MIX_LINES.as_bytes());
+    assert_eq!(rt; ran.wire.len(), 0);
+    let full = run_words(
+        &rt,
+        alloc,
+        CHECK,
+        MIX.as_bytes(),
+        &[],
+        1,
+        failing(0, 0, 0, 0, 20),
+    )?;
+    assert_eq!(rt; full.status, Status::OutputFault);
+    let failed = run_words(
+        &rt,
+        alloc,
+        CHECK,
+        MIX.as_bytes(),
+        &[],
+        1,
+        failing(1, 0, 0, 0, 4096),
+    )?;
+    assert_eq!(rt; failed.status, Status::InputFault);
+    Ok(())
+}
+
+#[test]
+fn refuses_low_offset(rt: HostRuntime) -> Result<(), Fail> {
+    let alloc = rt.alloc();
+    let text = "id = 1
+version = 0
+message = [{ name = \"M\", id = 1, fields = [
+    { name = \"a\", id = 1, type = \"uint32\" },
+    { name = \"b\", id = 2, type = \"uint8\", offset = 3 },
+] }]
+";
+    let ran = run_words(&rt, alloc, CHECK, text.as_bytes(), &[], 1, no_faults())?;
+    let told = refusal(alloc, &ran.status)?;
+    assert!(rt;
+        told.as_str()
+            .starts_with("config: message[0].fields[1]: BadOffset: "),
+        "{told}"
+    );
+    assert_eq!(rt; ran.out.len(), 0);
     Ok(())
 }
 
@@ -327,7 +451,8 @@ fn padded(alloc: Global, len: usize) -> Result<Vec<u8>, AllocError> {
 #[test]
 fn limit_of_the_configuration(rt: HostRuntime) -> Result<(), Fail> {
     let alloc = rt.alloc();
-    for (len, status) in [(1 << 20, Status::Done), ((1 << 20) + 1, Status::Config)] {
+    let too_long = Status::Config(ConfigFault::TooLong);
+    for (len, status) in [(1 << 20, Status::Done), ((1 << 20) + 1, too_long)] {
         let text = padded(alloc, len)?;
         let ran = run_words(&rt, alloc, ANSWER, text.as_slice(), &[], 1, no_faults())?;
         assert_eq!(rt; ran.status, status, "at {len} bytes");

@@ -3,10 +3,11 @@
 ghost use Rattle.std.specs.Prelude.{◌≡◌, ℕ, ◌+◌, ◌-◌, ◌≤◌, List, ◌++◌, length, IfOk, OnOk, OnErr, IsErrOf};
 ghost use Rattle.std.specs.Io.KnownBytes.{Consumes, IsAtEnd};
 ghost use Rattle.gw_outside.specs.Faults.{HasRisen};
-ghost use Rattle.fixpgw.specs.Configuration.{text_limit, ReadsWithin};
+ghost use Rattle.schema_toml.specs.Faults.{text_limit};
+ghost use Rattle.fixpgw.specs.Texts.{ReadsWithin};
 
-use crate::configuration::TEXT_LIMIT;
 use gw_outside::Source;
+use schema_toml::TEXT_LIMIT;
 use std::alloc::{AllocError, Global};
 
 /// How many bytes a pull asks for.

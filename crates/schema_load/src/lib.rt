@@ -4,7 +4,8 @@
 
 mod loading;
 
-pub use loading::{TEXT_LIMIT, load};
+pub use loading::load;
+pub use schema_toml::TEXT_LIMIT;
 
 #[cfg(test)]
 mod tests;

@@ -7,11 +7,8 @@ ghost use Rattle.schema_load.specs.Load.{plan_of_text, plan_unless};
 
 use sbe_layout::{Plan, lay_out};
 use sbe_schema::{Schema, check};
-use schema_toml::{ConfigFault, TomlFault, read_schema};
+use schema_toml::{ConfigFault, TEXT_LIMIT, TomlFault, read_schema};
 use std::alloc::Global;
-
-/// The greatest configuration text, in bytes.
-pub const TEXT_LIMIT: usize = 1 << 20;
 
 /// The plan of the messages of the schema that a text spells.
 ///

@@ -90,7 +90,7 @@ settings_of_document text = document_of text >>= settings_of
 abbrev pub settings_of_text : List ℕ → Result Settings ConfigFault
 settings_of_text = limited (λ text. of_text (settings_of_document text))
 
--- the ranges of some settings
+-- settings that a configuration may give: the interval, and how long the credentials are
 pub record IsInRange (s : Settings) : Type 0 where
   pub least : 100 ≤ s.keepalive
   pub most : s.keepalive ≤ 60000

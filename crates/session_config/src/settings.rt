@@ -1,11 +1,11 @@
 //! The settings of `answer`: the acceptor's session over recorded bytes.
 
-ghost use Rattle.std.specs.Prelude.{◌≡◌, codes, []};
+ghost use Rattle.std.specs.Prelude.{◌≡◌, ◌≤◌, codes, [], length, IfOk};
 ghost use Rattle.toml_walk.specs.Keys.{defaulted};
 ghost use Rattle.toml.specs.View.{view};
 ghost use Rattle.toml_walk.specs.Reading.{Reads};
 ghost use Rattle.schema_toml.specs.Faults.{Tells};
-ghost use Rattle.session_config.specs.Settings.{credentials_of, demanded, is_none, is_unsequenced, link_of, settings_of, settings_of_document, settings_of_text, trade_of};
+ghost use Rattle.session_config.specs.Settings.{IsInRange, credentials_of, demanded, is_none, is_unsequenced, link_of, settings_of, settings_of_document, settings_of_text, trade_of};
 
 use crate::readers::{Credentials, Flows, Sessions};
 use fixp_msgs::Flow;
@@ -52,15 +52,18 @@ fn is_none(flow: Flow) -> bool
 }
 
 /// The credentials, none where the key is absent.
+#[tactic(auto, using(crate::proofs::Readings::credentials_le))]
 fn read_credentials(alloc: Global, keys: &Value) -> Result<Bytes, TomlFault>
-    ensures { Reads result (defaulted (codes "credentials") [] credentials_of (view keys.now)) }
+    ensures value { Reads result (defaulted (codes "credentials") [] credentials_of (view keys.now)) }
+    ensures short { IfOk result (λ bytes. length bytes ≤ 2048) }
 {
     defaulted::<Credentials>(alloc, (), keys, "credentials", Bytes::new(alloc))
 }
 
 /// The keys of the session itself.
 fn read_link(alloc: Global, keys: &Value) -> Result<Settings, TomlFault>
-    ensures { Reads result (link_of (view keys.now)) }
+    ensures value { Reads result (link_of (view keys.now)) }
+    ensures range { IfOk result IsInRange }
 {
     let session = required::<Sessions>(alloc, (), keys, "session")?;
     let keepalive = natural_at(alloc, keys, "keepalive", 100, 60000)?;
@@ -97,7 +100,8 @@ fn read_trade(alloc: Global, keys: &Value) -> Result<bool, TomlFault>
 }
 
 fn read_table(alloc: Global, keys: &Value) -> Result<Settings, TomlFault>
-    ensures { Reads result (settings_of (view keys.now)) }
+    ensures value { Reads result (settings_of (view keys.now)) }
+    ensures range { IfOk result IsInRange }
 {
     let settings = read_link(alloc, keys)?;
     read_trade(alloc, keys)?;
@@ -120,7 +124,8 @@ fn read_table(alloc: Global, keys: &Value) -> Result<Settings, TomlFault>
 }
 
 fn read_keys(alloc: Global, text: &[u8]) -> Result<Settings, TomlFault>
-    ensures { Reads result (settings_of_document text.now) }
+    ensures value { Reads result (settings_of_document text.now) }
+    ensures range { IfOk result IsInRange }
 {
     let keys = read_document(alloc, text)?;
     read_table(alloc, &keys)
@@ -132,7 +137,8 @@ fn read_keys(alloc: Global, text: &[u8]) -> Result<Settings, TomlFault>
 /// `TooLong` exactly where the text is longer than `TEXT_LIMIT`, and else the first fault in the order in which
 /// its keys are visited.
 pub fn read_settings(alloc: Global, text: &[u8]) -> Result<Settings, ConfigFault>
-    ensures { Tells result (settings_of_text text.now) }
+    ensures value { Tells result (settings_of_text text.now) }
+    ensures range { IfOk result IsInRange }
 {
     if text.len() > TEXT_LIMIT {
         return Err(ConfigFault::TooLong);

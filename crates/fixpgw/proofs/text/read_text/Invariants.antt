@@ -1,6 +1,6 @@
 use Rattle.std.proofs.Common.{◌≤◌, ◌-◌, ◌+◌, length}
 use Rattle.std.specs.Io.KnownBytes.{Consumes}
-use Rattle.fixpgw.specs.Configuration.{text_limit}
+use Rattle.schema_toml.specs.Faults.{text_limit}
 use Rattle.fixpgw.proofs.text.read_text.Given as goal
 
 abbrev pub invariant-loop-source : goal.invariant-loop-source

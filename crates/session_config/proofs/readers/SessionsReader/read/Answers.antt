@@ -1,7 +1,7 @@
 use Rattle.std.proofs.Common.{sym}
 use Rattle.toml.specs.View.{view}
 use Rattle.uuid.specs.Text.{parsed}
-use Rattle.session_config.proofs.Absent.{none_unless, session_refused}
+use Rattle.session_config.proofs.Readings.{none_unless, session_refused}
 use Rattle.session_config.proofs.readers.SessionsReader.read.Goals as goal
 
 pub returns-in-Err : goal.returns-in-Err
