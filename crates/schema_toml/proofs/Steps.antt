@@ -1,0 +1,134 @@
+-- Steps of a reader over the keys of a table: what a reading that went well says of each, and how to read again what
+-- was written.
+use Rattle.std.proofs.Common.{◌≡◌, ℕ, ◌+◌, Bool, true, false, cond, List, [], ◌∷◌, map, Option, Some, None, option_map, Result, Ok, Err, refl, ap, sym, subst, ◌∙◌}
+use Rattle.sbe_value.specs.declared.path.Step.{Step}
+use Rattle.sbe_value.specs.declared.path.Step.TheVariants.{Key, At}
+use Rattle.toml.specs.Data.{Data, string, integer, float, boolean, datetime, array, table, Items, no_items, item, Members, no_members, get_member, as_array, as_table}
+use Rattle.toml.specs.View.{items_of}
+use Rattle.toml_walk.specs.Reading.{Read, ◌>>=◌, under}
+use Rattle.toml_walk.specs.Keys.{required, required_of, defaulted, defaulted_of, optional, optional_of, elements, list_of, list_of_items, table_of, only, unless_unknown, unknown_member}
+use Rattle.schema_toml.specs.Written.{with_keys, table_by, list_data}
+use Rattle.schema_toml.proofs.WithKeys.{found, pick, get-with_keys, all_known, unknown-with_keys}
+
+-- what is written of each value that is read is read back
+abbrev pub Back : {A : Type 0} → (Data → Read A) → (A → Data) → Type 0
+Back {A} read write = (d : Data) (a : A) → read d ≡ Ok a → read (write a) ≡ Ok a
+
+-- the same of a value, if it is there
+abbrev pub IfBack : {A : Type 0} → (Data → Read A) → (A → Data) → Option A → Type 0
+IfBack read write None = Unit {0}
+IfBack read write (Some a) = read (write a) ≡ Ok a
+
+-- ---- what went well
+
+abbrev pub given : {A : Type 0} → A → Read A
+given a = Ok a
+
+pub ok_value : {A : Type 0} (a b : A) → given a ≡ Ok b → a ≡ b
+ok_value a b same = cc
+
+pub bind_inv : {A B G : Type 0} (r : Read A) (next : A → Read B) (b : B) → (r >>= next) ≡ Ok b → ((a : A) → r ≡ Ok a → next a ≡ Ok b → G) → G
+bind_inv (Ok a) next b went so = so a refl went
+bind_inv (Err fault) next b went so = absurd cc
+
+pub under_inv : {A B G : Type 0} (step : Step) (r : Read A) (next : A → Read B) (b : B) → (under step r >>= next) ≡ Ok b → ((a : A) → r ≡ Ok a → next a ≡ Ok b → G) → G
+under_inv step (Ok a) next b went so = so a refl went
+under_inv step (Err fault) next b went so = absurd cc
+
+required_by : {A B G : Type 0} (key : List ℕ) (read : Data → Read A) (write : A → Data) (o : Option Data) (next : A → Read B) (b : B) → Back read write
+    → (required_of key read o >>= next) ≡ Ok b → ((a : A) → read (write a) ≡ Ok a → next a ≡ Ok b → G) → G
+required_by key read write None next b back went so = absurd cc
+required_by key read write (Some d) next b back went so = under_inv (Key key) (read d) next b went (λ a same more. so a (back d a same) more)
+
+pub required_inv : {A B G : Type 0} (key : List ℕ) (read : Data → Read A) (write : A → Data) (ms : Members) (next : A → Read B) (b : B) → Back read write
+    → (required key read (table ms) >>= next) ≡ Ok b → ((a : A) → read (write a) ≡ Ok a → next a ≡ Ok b → G) → G
+required_inv key read write ms = required_by key read write (get_member key ms)
+
+defaulted_by : {A B G : Type 0} (key : List ℕ) (default : A) (read : Data → Read A) (write : A → Data) (o : Option Data) (next : A → Read B) (b : B) → Back read write → read (write default) ≡ Ok default
+    → (defaulted_of key default read o >>= next) ≡ Ok b → ((a : A) → read (write a) ≡ Ok a → next a ≡ Ok b → G) → G
+defaulted_by key default read write None next b back ready went so = so default ready went
+defaulted_by key default read write (Some d) next b back ready went so = under_inv (Key key) (read d) next b went (λ a same more. so a (back d a same) more)
+
+pub defaulted_inv : {A B G : Type 0} (key : List ℕ) (default : A) (read : Data → Read A) (write : A → Data) (ms : Members) (next : A → Read B) (b : B) → Back read write → read (write default) ≡ Ok default
+    → (defaulted key default read (table ms) >>= next) ≡ Ok b → ((a : A) → read (write a) ≡ Ok a → next a ≡ Ok b → G) → G
+defaulted_inv key default read write ms = defaulted_by key default read write (get_member key ms)
+
+some_by : {A B G : Type 0} (key : List ℕ) (read : Data → Read A) (write : A → Data) (d : Data) (r : Read A) (next : Option A → Read B) (b : B) → Back read write → read d ≡ r
+    → ((under (Key key) r >>= (λ a. Ok (Some a))) >>= next) ≡ Ok b → ((o : Option A) → IfBack read write o → next o ≡ Ok b → G) → G
+some_by key read write d (Ok a) next b back same went so = so (Some a) (back d a same) went
+some_by key read write d (Err fault) next b back same went so = absurd cc
+
+optional_by : {A B G : Type 0} (key : List ℕ) (read : Data → Read A) (write : A → Data) (o : Option Data) (next : Option A → Read B) (b : B) → Back read write
+    → (optional_of key read o >>= next) ≡ Ok b → ((o : Option A) → IfBack read write o → next o ≡ Ok b → G) → G
+optional_by key read write None next b back went so = so None tt went
+optional_by key read write (Some d) next b back went so = some_by key read write d (read d) next b back refl went so
+
+pub optional_inv : {A B G : Type 0} (key : List ℕ) (read : Data → Read A) (write : A → Data) (ms : Members) (next : Option A → Read B) (b : B) → Back read write
+    → (optional key read (table ms) >>= next) ≡ Ok b → ((o : Option A) → IfBack read write o → next o ≡ Ok b → G) → G
+optional_inv key read write ms = optional_by key read write (get_member key ms)
+
+only_by : {B : Type 0} (o : Option (List ℕ)) (next : Unit {0} → Read B) (b : B) → (unless_unknown o >>= next) ≡ Ok b → next tt ≡ Ok b
+only_by None next b went = went
+only_by (Some key) next b went = absurd cc
+
+pub only_inv : {B : Type 0} (known : List (List ℕ)) (ms : Members) (next : Unit {0} → Read B) (b : B) → (only known (table ms) >>= next) ≡ Ok b → next tt ≡ Ok b
+only_inv known ms = only_by (unknown_member known ms)
+
+pub table_inv : {A G : Type 0} (read : Data → Read A) (d : Data) (a : A) → table_of read d ≡ Ok a → ((ms : Members) → read (table ms) ≡ Ok a → G) → G
+table_inv read (table ms) a went so = so ms went
+table_inv read (array ds) a went so = absurd cc
+table_inv read (string s) a went so = absurd cc
+table_inv read (integer z) a went so = absurd cc
+table_inv read (float x) a went so = absurd cc
+table_inv read (boolean x) a went so = absurd cc
+table_inv read (datetime x) a went so = absurd cc
+
+-- ---- reading again
+
+found_by : (key : List ℕ) (ps : List (List ℕ × Option Data)) (o : Option Data) → found key ps None ≡ o → get_member key (with_keys no_members ps) ≡ o
+found_by key ps o same = get-with_keys key ps no_members ∙ same
+
+pub required_again : {A B : Type 0} (key : List ℕ) (read : Data → Read A) (d : Data) (ps : List (List ℕ × Option Data)) (a : A) (next : A → Read B) (b : B)
+    → found key ps None ≡ Some d → read d ≡ Ok a → next a ≡ Ok b → (required key read (table_by ps) >>= next) ≡ Ok b
+required_again key read d ps a next b at back more = rw (found_by key ps (Some d) at, back) more
+
+pub defaulted_again : {A B : Type 0} (key : List ℕ) (default : A) (read : Data → Read A) (d : Data) (ps : List (List ℕ × Option Data)) (a : A) (next : A → Read B) (b : B)
+    → found key ps None ≡ Some d → read d ≡ Ok a → next a ≡ Ok b → (defaulted key default read (table_by ps) >>= next) ≡ Ok b
+defaulted_again key default read d ps a next b at back more = rw (found_by key ps (Some d) at, back) more
+
+optional_of_again : {A B : Type 0} (key : List ℕ) (read : Data → Read A) (write : A → Data) (o : Option A) (next : Option A → Read B) (b : B)
+    → IfBack read write o → next o ≡ Ok b → (optional_of key read (pick (option_map write o) None) >>= next) ≡ Ok b
+optional_of_again key read write None next b back more = more
+optional_of_again key read write (Some a) next b back more = rw back more
+
+pub optional_again : {A B : Type 0} (key : List ℕ) (read : Data → Read A) (write : A → Data) (ps : List (List ℕ × Option Data)) (o : Option A) (next : Option A → Read B) (b : B)
+    → found key ps None ≡ pick (option_map write o) None → IfBack read write o → next o ≡ Ok b → (optional key read (table_by ps) >>= next) ≡ Ok b
+optional_again key read write ps o next b at back more = rw (found_by key ps (pick (option_map write o) None) at) (optional_of_again key read write o next b back more)
+
+pub only_again : {B : Type 0} (known : List (List ℕ)) (ps : List (List ℕ × Option Data)) (next : Unit {0} → Read B) (b : B)
+    → all_known known ps ≡ true → next tt ≡ Ok b → (only known (table_by ps) >>= next) ≡ Ok b
+only_again known ps next b all more = rw (unknown-with_keys known ps no_members all refl) more
+
+-- ---- lists
+
+abbrev pub AllBack : {A : Type 0} → (Data → Read A) → (A → Data) → List A → Type 0
+AllBack read write [] = Unit {0}
+AllBack read write (a ∷ xs) = (read (write a) ≡ Ok a) × AllBack read write xs
+
+elements_back : {A : Type 0} (read : Data → Read A) (write : A → Data) (at : ℕ) (ds : Items) (xs : List A) → Back read write → elements read at ds ≡ Ok xs → AllBack read write xs
+elements_back read write at no_items xs back went = subst (AllBack read write) (ok_value [] xs went) tt
+elements_back read write at (item d ds) xs back went =
+    under_inv (At at) (read d) (λ a. elements read (at + 1) ds >>= (λ rest. Ok (a ∷ rest))) xs went (λ a same more.
+    bind_inv (elements read (at + 1) ds) (λ rest. Ok (a ∷ rest)) xs more (λ rest went_on last.
+    subst (AllBack read write) (ok_value (a ∷ rest) xs last) (back d a same, elements_back read write (at + 1) ds rest back went_on)))
+
+elements_again : {A : Type 0} (read : Data → Read A) (write : A → Data) (at : ℕ) (xs : List A) → AllBack read write xs → elements read at (items_of (map write xs)) ≡ Ok xs
+elements_again read write at [] back = refl
+elements_again read write at (a ∷ xs) back = rw (back.0, elements_again read write (at + 1) xs back.1) refl
+
+list_back_by : {A : Type 0} (read : Data → Read A) (write : A → Data) (o : Option Items) (xs : List A) → Back read write → list_of_items read o ≡ Ok xs → AllBack read write xs
+list_back_by read write None xs back went = absurd cc
+list_back_by read write (Some ds) xs back went = elements_back read write 0 ds xs back went
+
+pub list_back : {A : Type 0} (read : Data → Read A) (write : A → Data) → Back read write → Back (list_of read) (list_data write)
+list_back read write back d xs went = elements_again read write 0 xs (list_back_by read write (as_array d) xs back went)
