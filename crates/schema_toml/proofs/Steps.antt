@@ -7,7 +7,7 @@ use Rattle.toml.specs.Data.{Data, string, integer, float, boolean, datetime, arr
 use Rattle.toml.specs.View.{items_of}
 use Rattle.toml_walk.specs.Reading.{Read, ◌>>=◌, under}
 use Rattle.toml_walk.specs.Keys.{required, required_of, defaulted, defaulted_of, optional, optional_of, elements, list_of, list_of_items, table_of, only, unless_unknown, unknown_member}
-use Rattle.schema_toml.specs.Written.{with_keys, table_by, list_data}
+use Rattle.schema_toml.specs.Written.{Pairs, with_keys, table_by, list_data}
 use Rattle.schema_toml.proofs.WithKeys.{found, pick, get-with_keys, all_known, unknown-with_keys}
 
 -- what is written of each value that is read is read back
@@ -85,29 +85,24 @@ table_inv read (datetime x) a went so = absurd cc
 
 -- ---- reading again
 
-found_by : (key : List ℕ) (ps : List (List ℕ × Option Data)) (o : Option Data) → found key ps None ≡ o → get_member key (with_keys no_members ps) ≡ o
+found_by : (key : List ℕ) (ps : Pairs) (o : Option Data) → found key ps None ≡ o → get_member key (with_keys no_members ps) ≡ o
 found_by key ps o same = get-with_keys key ps no_members ∙ same
 
-pub required_again : {A B : Type 0} (key : List ℕ) (read : Data → Read A) (d : Data) (ps : List (List ℕ × Option Data)) (a : A) (next : A → Read B) (b : B)
-    → found key ps None ≡ Some d → read d ≡ Ok a → next a ≡ Ok b → (required key read (table_by ps) >>= next) ≡ Ok b
-required_again key read d ps a next b at back more = rw (found_by key ps (Some d) at, back) more
+pub required_is : {A : Type 0} (key : List ℕ) (read : Data → Read A) (d : Data) (ps : Pairs) (a : A) → found key ps None ≡ Some d → read d ≡ Ok a → required key read (table_by ps) ≡ Ok a
+required_is key read d ps a at again = rw (found_by key ps (Some d) at, again) refl
 
-pub defaulted_again : {A B : Type 0} (key : List ℕ) (default : A) (read : Data → Read A) (d : Data) (ps : List (List ℕ × Option Data)) (a : A) (next : A → Read B) (b : B)
-    → found key ps None ≡ Some d → read d ≡ Ok a → next a ≡ Ok b → (defaulted key default read (table_by ps) >>= next) ≡ Ok b
-defaulted_again key default read d ps a next b at back more = rw (found_by key ps (Some d) at, back) more
+pub defaulted_is : {A : Type 0} (key : List ℕ) (default : A) (read : Data → Read A) (d : Data) (ps : Pairs) (a : A) → found key ps None ≡ Some d → read d ≡ Ok a → defaulted key default read (table_by ps) ≡ Ok a
+defaulted_is key default read d ps a at again = rw (found_by key ps (Some d) at, again) refl
 
-optional_of_again : {A B : Type 0} (key : List ℕ) (read : Data → Read A) (write : A → Data) (o : Option A) (next : Option A → Read B) (b : B)
-    → IfBack read write o → next o ≡ Ok b → (optional_of key read (pick (option_map write o) None) >>= next) ≡ Ok b
-optional_of_again key read write None next b back more = more
-optional_of_again key read write (Some a) next b back more = rw back more
+optional_of_is : {A : Type 0} (key : List ℕ) (read : Data → Read A) (write : A → Data) (o : Option A) → IfBack read write o → optional_of key read (pick (option_map write o) None) ≡ Ok o
+optional_of_is key read write None again = refl
+optional_of_is key read write (Some a) again = rw again refl
 
-pub optional_again : {A B : Type 0} (key : List ℕ) (read : Data → Read A) (write : A → Data) (ps : List (List ℕ × Option Data)) (o : Option A) (next : Option A → Read B) (b : B)
-    → found key ps None ≡ pick (option_map write o) None → IfBack read write o → next o ≡ Ok b → (optional key read (table_by ps) >>= next) ≡ Ok b
-optional_again key read write ps o next b at back more = rw (found_by key ps (pick (option_map write o) None) at) (optional_of_again key read write o next b back more)
+pub optional_is : {A : Type 0} (key : List ℕ) (read : Data → Read A) (write : A → Data) (ps : Pairs) (o : Option A) → found key ps None ≡ pick (option_map write o) None → IfBack read write o → optional key read (table_by ps) ≡ Ok o
+optional_is key read write ps o at again = rw (found_by key ps (pick (option_map write o) None) at) (optional_of_is key read write o again)
 
-pub only_again : {B : Type 0} (known : List (List ℕ)) (ps : List (List ℕ × Option Data)) (next : Unit {0} → Read B) (b : B)
-    → all_known known ps ≡ true → next tt ≡ Ok b → (only known (table_by ps) >>= next) ≡ Ok b
-only_again known ps next b all more = rw (unknown-with_keys known ps no_members all refl) more
+pub only_is : (known : List (List ℕ)) (ps : Pairs) → all_known known ps ≡ true → only known (table_by ps) ≡ Ok tt
+only_is known ps all = rw (unknown-with_keys known ps no_members all refl) refl
 
 -- ---- lists
 

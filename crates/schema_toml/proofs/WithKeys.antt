@@ -7,7 +7,7 @@ use Rattle.std.proofs.lemmas.Map.Text.{is_eq-slice_cmp}
 use Rattle.std.proofs.lemmas.Slice.Eq.{bytes_eq-Decides}
 use Rattle.toml.specs.Data.{Data, Members, no_members, member, get_member, same_key, depth, members_depth}
 use Rattle.toml_walk.specs.Keys.{is_among, unknown_member}
-use Rattle.schema_toml.specs.Written.{add_member, add_if, with_keys}
+use Rattle.schema_toml.specs.Written.{Pairs, add_member, add_if, with_keys}
 
 -- ---- one key
 
@@ -100,7 +100,7 @@ pick None rest = rest
 pick (Some d) rest = Some d
 
 -- what is found at a key among some, the last one first
-abbrev pub found : List ℕ → List (List ℕ × Option Data) → Option Data → Option Data
+abbrev pub found : List ℕ → Pairs → Option Data → Option Data
 found key [] rest = rest
 found key (p ∷ ps) rest = found key ps (cond (same_key key p.0) (pick p.1 rest) rest)
 
@@ -112,12 +112,12 @@ get-add_if : (key k : List ℕ) (o : Option Data) (ms : Members) → get_member 
 get-add_if key k None ms = same_both (same_key key k) (get_member key ms)
 get-add_if key k (Some d) ms = get-add_member key k d ms
 
-pub get-with_keys : (key : List ℕ) (ps : List (List ℕ × Option Data)) (ms : Members) → get_member key (with_keys ms ps) ≡ found key ps (get_member key ms)
+pub get-with_keys : (key : List ℕ) (ps : Pairs) (ms : Members) → get_member key (with_keys ms ps) ≡ found key ps (get_member key ms)
 get-with_keys key [] ms = refl
 get-with_keys key (p ∷ ps) ms = get-with_keys key ps (add_if p.0 p.1 ms) ∙ ap (found key ps) (get-add_if key p.0 p.1 ms)
 
 -- each key is a known one
-abbrev pub all_known : List (List ℕ) → List (List ℕ × Option Data) → Bool
+abbrev pub all_known : List (List ℕ) → Pairs → Bool
 all_known known [] = true
 all_known known (p ∷ ps) = cond (is_among p.0 known) (all_known known ps) false
 
@@ -129,7 +129,7 @@ unknown-add_if : (known : List (List ℕ)) (k : List ℕ) (o : Option Data) (ms 
 unknown-add_if known k None ms among before = before
 unknown-add_if known k (Some d) ms among before = unknown-add_member known k d ms among before
 
-pub unknown-with_keys : (known : List (List ℕ)) (ps : List (List ℕ × Option Data)) (ms : Members) → all_known known ps ≡ true → unknown_member known ms ≡ None → unknown_member known (with_keys ms ps) ≡ None
+pub unknown-with_keys : (known : List (List ℕ)) (ps : Pairs) (ms : Members) → all_known known ps ≡ true → unknown_member known ms ≡ None → unknown_member known (with_keys ms ps) ≡ None
 unknown-with_keys known [] ms all before = before
 unknown-with_keys known (p ∷ ps) ms all before =
     let both = known_first (is_among p.0 known) (all_known known ps) all in
@@ -140,7 +140,7 @@ option_depth None = 0
 option_depth (Some d) = depth d
 
 -- the greatest depth of what is there
-abbrev pub deepest : List (List ℕ × Option Data) → ℕ
+abbrev pub deepest : Pairs → ℕ
 deepest [] = 0
 deepest (p ∷ ps) = max (option_depth p.1) (deepest ps)
 
@@ -148,7 +148,7 @@ depth-add_if : (most : ℕ) (k : List ℕ) (o : Option Data) (ms : Members) → 
 depth-add_if most k None ms here all = all
 depth-add_if most k (Some d) ms here all = depth-add_member most k d ms here all
 
-pub depth-with_keys : (most : ℕ) (ps : List (List ℕ × Option Data)) (ms : Members) → deepest ps ≤ most → members_depth ms ≤ most → members_depth (with_keys ms ps) ≤ most
+pub depth-with_keys : (most : ℕ) (ps : Pairs) (ms : Members) → deepest ps ≤ most → members_depth ms ≤ most → members_depth (with_keys ms ps) ≤ most
 depth-with_keys most [] ms here all = all
 depth-with_keys most (p ∷ ps) ms here all =
     depth-with_keys most ps (add_if p.0 p.1 ms) (omega arith) (depth-add_if most p.0 p.1 ms (omega arith) all)

@@ -42,8 +42,12 @@ abbrev pub with_keys : Members → List (List ℕ × Option Data) → Members
 with_keys ms [] = ms
 with_keys ms (p ∷ ps) = with_keys (add_if p.0 p.1 ms) ps
 
+-- keys, each with what lies at it, if it is there
+abbrev pub Pairs : Type 0
+Pairs = List (List ℕ × Option Data)
+
 -- a table by its keys
-abbrev pub table_by : List (List ℕ × Option Data) → Data
+abbrev pub table_by : Pairs → Data
 table_by ps = table (with_keys no_members ps)
 
 module _ {A : Type 0} where
@@ -79,18 +83,29 @@ constant_data (Text text) = string text
 
 -- ---- types
 
+abbrev pub value_pairs : ValueDef → Pairs
+value_pairs v =
+    (codes "name", Some (string v.name)) ∷ (codes "value", Some (number_data v.value)) ∷ []
+
 abbrev pub value_data : ValueDef → Data
-value_data v = table_by ((codes "name", Some (string v.name)) ∷ (codes "value", Some (number_data v.value)) ∷ [])
+value_data v = table_by (value_pairs v)
+
+abbrev pub bit_pairs : BitDef → Pairs
+bit_pairs b =
+    (codes "name", Some (string b.name)) ∷ (codes "bit", Some (natural_data b.bit)) ∷ []
 
 abbrev pub bit_data : BitDef → Data
-bit_data b = table_by ((codes "name", Some (string b.name)) ∷ (codes "bit", Some (natural_data b.bit)) ∷ [])
+bit_data b = table_by (bit_pairs b)
+
+abbrev pub member_pairs : MemberDef → Pairs
+member_pairs m =
+    (codes "name", Some (string m.name)) ∷ (codes "type", Some (string m.type_name)) ∷ (codes "offset", option_map number_data m.offset) ∷ (codes "presence", Some (presence_data m.presence)) ∷ (codes "value", option_map constant_data m.value) ∷ []
 
 abbrev pub member_data : MemberDef → Data
-member_data m =
-    table_by ((codes "name", Some (string m.name)) ∷ (codes "type", Some (string m.type_name)) ∷ (codes "offset", option_map number_data m.offset) ∷ (codes "presence", Some (presence_data m.presence)) ∷ (codes "value", option_map constant_data m.value) ∷ [])
+member_data m = table_by (member_pairs m)
 
 -- the keys of a kind, behind the name of its type
-abbrev pub kind_pairs : TypeKind → List (List ℕ × Option Data)
+abbrev pub kind_pairs : TypeKind → Pairs
 kind_pairs (Number prim length null low high) =
     (codes "kind", Some (string (codes "number"))) ∷ (codes "prim", Some (primitive_data prim)) ∷ (codes "length", Some (natural_data length)) ∷ (codes "null", option_map number_data null) ∷ (codes "min", option_map number_data low) ∷ (codes "max", option_map number_data high) ∷ []
 kind_pairs (Enum prim values) =
@@ -100,23 +115,35 @@ kind_pairs (Set prim bits) =
 kind_pairs (Composite members) =
     (codes "kind", Some (string (codes "composite"))) ∷ (codes "members", Some (list_data member_data members)) ∷ []
 
+abbrev pub type_pairs : TypeDef → Pairs
+type_pairs t = (codes "name", Some (string t.name)) ∷ kind_pairs t.kind
+
 abbrev pub type_data : TypeDef → Data
-type_data t = table_by ((codes "name", Some (string t.name)) ∷ kind_pairs t.kind)
+type_data t = table_by (type_pairs t)
 
 -- ---- messages
 
+abbrev pub field_pairs : FieldDef → Pairs
+field_pairs f =
+    (codes "name", Some (string f.name)) ∷ (codes "id", Some (natural_data f.id)) ∷ (codes "type", Some (string f.type_name)) ∷ (codes "presence", Some (presence_data f.presence)) ∷ (codes "value", option_map constant_data f.value) ∷ (codes "offset", option_map number_data f.offset) ∷ (codes "since", Some (number_data f.since)) ∷ []
+
 abbrev pub field_data : FieldDef → Data
-field_data f =
-    table_by ((codes "name", Some (string f.name)) ∷ (codes "id", Some (natural_data f.id)) ∷ (codes "type", Some (string f.type_name)) ∷ (codes "presence", Some (presence_data f.presence)) ∷ (codes "value", option_map constant_data f.value) ∷ (codes "offset", option_map number_data f.offset) ∷ (codes "since", Some (number_data f.since)) ∷ [])
+field_data f = table_by (field_pairs f)
+
+abbrev pub datum_pairs : DataDef → Pairs
+datum_pairs v =
+    (codes "name", Some (string v.name)) ∷ (codes "id", Some (natural_data v.id)) ∷ (codes "length", Some (primitive_data v.length)) ∷ (codes "since", Some (number_data v.since)) ∷ []
 
 abbrev pub datum_data : DataDef → Data
-datum_data v =
-    table_by ((codes "name", Some (string v.name)) ∷ (codes "id", Some (natural_data v.id)) ∷ (codes "length", Some (primitive_data v.length)) ∷ (codes "since", Some (number_data v.since)) ∷ [])
+datum_data v = table_by (datum_pairs v)
 
 -- a group, beside the data of the groups of its entries
+abbrev pub group_pairs : GroupHead → Data → Pairs
+group_pairs g inner =
+    (codes "name", Some (string g.name)) ∷ (codes "id", Some (natural_data g.id)) ∷ (codes "block_prim", Some (primitive_data g.block_prim)) ∷ (codes "count_prim", Some (primitive_data g.count_prim)) ∷ (codes "since", Some (number_data g.since)) ∷ (codes "block_length", option_map number_data g.block_length) ∷ (codes "fields", Some (list_data field_data g.fields)) ∷ (codes "groups", Some inner) ∷ (codes "data", Some (list_data datum_data g.vars)) ∷ []
+
 abbrev pub group_data : GroupHead → Data → Data
-group_data g inner =
-    table_by ((codes "name", Some (string g.name)) ∷ (codes "id", Some (natural_data g.id)) ∷ (codes "block_prim", Some (primitive_data g.block_prim)) ∷ (codes "count_prim", Some (primitive_data g.count_prim)) ∷ (codes "since", Some (number_data g.since)) ∷ (codes "block_length", option_map number_data g.block_length) ∷ (codes "fields", Some (list_data field_data g.fields)) ∷ (codes "groups", Some inner) ∷ (codes "data", Some (list_data datum_data g.vars)) ∷ [])
+group_data g inner = table_by (group_pairs g inner)
 
 abbrev pub groups_list : GroupTree → List Data
 groups_list no_groups = []
@@ -125,12 +152,18 @@ groups_list (group g inner rest) = group_data g (array (items_of (groups_list in
 abbrev pub groups_data : GroupTree → Data
 groups_data tree = array (items_of (groups_list tree))
 
+abbrev pub message_pairs : MessageDef → Pairs
+message_pairs m =
+    (codes "name", Some (string m.name)) ∷ (codes "id", Some (natural_data m.id)) ∷ (codes "since", Some (number_data m.since)) ∷ (codes "block_length", option_map number_data m.block_length) ∷ (codes "fields", Some (list_data field_data m.fields)) ∷ (codes "groups", Some (groups_data m.groups)) ∷ (codes "data", Some (list_data datum_data m.vars)) ∷ []
+
 abbrev pub message_data : MessageDef → Data
-message_data m =
-    table_by ((codes "name", Some (string m.name)) ∷ (codes "id", Some (natural_data m.id)) ∷ (codes "since", Some (number_data m.since)) ∷ (codes "block_length", option_map number_data m.block_length) ∷ (codes "fields", Some (list_data field_data m.fields)) ∷ (codes "groups", Some (groups_data m.groups)) ∷ (codes "data", Some (list_data datum_data m.vars)) ∷ [])
+message_data m = table_by (message_pairs m)
 
 -- ---- schemas
 
+abbrev pub schema_pairs : Schema → Pairs
+schema_pairs s =
+    (codes "id", Some (natural_data s.id)) ∷ (codes "version", Some (natural_data s.version)) ∷ (codes "order", Some (order_data s.order)) ∷ (codes "type", Some (list_data type_data s.types)) ∷ (codes "message", Some (list_data message_data s.messages)) ∷ []
+
 abbrev pub schema_members : Schema → Members
-schema_members s =
-    with_keys no_members ((codes "id", Some (natural_data s.id)) ∷ (codes "version", Some (natural_data s.version)) ∷ (codes "order", Some (order_data s.order)) ∷ (codes "type", Some (list_data type_data s.types)) ∷ (codes "message", Some (list_data message_data s.messages)) ∷ [])
+schema_members s = with_keys no_members (schema_pairs s)
