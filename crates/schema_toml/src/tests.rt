@@ -1,4 +1,6 @@
 use super::*;
+use sbe_prim::{Order, Primitive};
+use sbe_schema::Presence;
 use std::test::Fail;
 
 const SAMPLE: &str = r#"
@@ -59,8 +61,18 @@ fn a_printed_schema_reads_back(rt: HostRuntime) -> Result<(), Fail> {
     let schema = read_schema(alloc, SAMPLE.as_bytes())?;
     let lines = print_schema(alloc, &schema)?;
     let back = read_schema(alloc, lines.as_slice())?;
+    assert_eq!(rt; (back.id, back.version), (7, 3));
+    assert_eq!(rt; back.order, Order::Big);
+    assert_eq!(rt; back.types.as_slice().len(), 4);
+    let message = &back.messages.as_slice()[0];
+    assert_eq!(rt; message.since, 1);
+    assert_eq!(rt; message.block_length, Some(40));
+    let legs = &message.groups.as_slice()[0];
+    assert_eq!(rt; legs.fields.as_slice()[0].presence, Presence::Optional);
+    assert_eq!(rt; legs.groups.as_slice()[0].count_prim, Primitive::UInt8);
+    let text = std::str::from_utf8(lines.as_slice())?;
+    assert!(rt; text.contains("max = \"18446744073709551615\""));
     let again = print_schema(alloc, &back)?;
     assert_eq!(rt; again, lines);
-    println!(rt; "{}", std::str::from_utf8(lines.as_slice())?)?;
     Ok(())
 }
