@@ -31,9 +31,13 @@ number_by true b n = refl
 number_by false true n = refl
 number_by false false n = refl
 
+below_by : (a : Bool) (n : ℕ) → depth (cond a (integer (negsuc n)) (integer (pos 0))) ≡ 0
+below_by true n = refl
+below_by false n = refl
+
 number_flat : (z : ℤ) → depth (number_data z) ≡ 0
 number_flat (pos n) = number_by (nat_le n (2 ^ 63 - 1)) (nat_le n (2 ^ 127 - 1)) n
-number_flat (negsuc n) = refl
+number_flat (negsuc n) = below_by (nat_le n (2 ^ 63 - 1)) n
 
 numbers_flat : (o : Option ℤ) → option_depth (option_map number_data o) ≡ 0
 numbers_flat None = refl

@@ -15,58 +15,63 @@ use Rattle.toml_walk.specs.Keys.{list_of}
 use Rattle.toml_walk.specs.Values.{name_of, number_of, natural_of}
 use Rattle.schema_toml.specs.Words.{primitive_of, presence_of, constant_of}
 use Rattle.schema_toml.specs.Messages.{id_of, field_keys, field_of, data_keys, datum_of, GroupRead, group_keys, group_of, groups_in, groups_of, groups_from, message_keys, message_of}
-use Rattle.schema_toml.specs.Written.{field_pairs, field_data, datum_pairs, datum_data, group_pairs, group_data, groups_list, groups_data, message_pairs, message_data, list_data, number_data, natural_data, presence_data, primitive_data, constant_data}
+use Rattle.schema_toml.specs.Written.{text_data, field_pairs, field_data, datum_pairs, datum_data, group_pairs, group_data, groups_list, groups_data, message_pairs, message_data, list_data, number_data, natural_data, presence_data, primitive_data, constant_data}
 use Rattle.schema_toml.proofs.Nested.{told_by_keys}
+use Rattle.schema_toml.proofs.Sound.{Sound, SoundItems, SoundMembers}
 use Rattle.schema_toml.proofs.Steps.{Back, bind_inv, under_inv, given, ok_value, table_inv, required_inv, defaulted_inv, optional_inv, only_inv, required_is, defaulted_is, optional_is, only_is, list_back}
-use Rattle.schema_toml.proofs.WordsBack.{name_back, number_again, number_back, natural_back, presence_back, primitive_again, primitive_back, constant_back}
+use Rattle.schema_toml.proofs.WordsBack.{name_back, number_back, natural_back, presence_back, primitive_again, primitive_back, constant_back}
 
-pub field_back : (since : ℤ) → Back (field_of since) field_data
-field_back since d x went =
-    table_inv (field_keys since) d x went (λ ms went.
-    required_inv (codes "name") name_of string ms _ x name_back went (λ name name_again went.
-    required_inv (codes "id") id_of natural_data ms _ x (natural_back 0 65534) went (λ id id_again went.
-    required_inv (codes "type") name_of string ms _ x name_back went (λ type_name type_name_again went.
-    defaulted_inv (codes "presence") Required presence_of presence_data ms _ x presence_back refl went (λ presence presence_again went.
-    optional_inv (codes "value") constant_of constant_data ms _ x constant_back went (λ value value_again went.
-    optional_inv (codes "offset") number_of number_data ms _ x number_back went (λ offset offset_again went.
-    defaulted_inv (codes "since") since number_of number_data ms _ x number_back (number_again since) went (λ own_since own_since_again went.
+-- a number that is read again
+abbrev Ready : ℤ → Type 0
+Ready since = number_of (number_data since) ≡ Ok since
+
+pub field_back : (since : ℤ) → Ready since → Back (field_of since) field_data
+field_back since ready d x sound went =
+    table_inv (field_keys since) d x sound went (λ ms sound went.
+    required_inv (codes "name") name_of text_data ms sound _ x name_back went (λ name name_again went.
+    required_inv (codes "id") id_of natural_data ms sound _ x (natural_back 0 65534) went (λ id id_again went.
+    required_inv (codes "type") name_of text_data ms sound _ x name_back went (λ type_name type_name_again went.
+    defaulted_inv (codes "presence") Required presence_of presence_data ms sound _ x presence_back refl went (λ presence presence_again went.
+    optional_inv (codes "value") constant_of constant_data ms sound _ x constant_back went (λ value value_again went.
+    optional_inv (codes "offset") number_of number_data ms sound _ x number_back went (λ offset offset_again went.
+    defaulted_inv (codes "since") since number_of number_data ms sound _ x number_back ready went (λ own_since own_since_again went.
     let made : FieldDef = record { name = name; id = id; type_name = type_name; presence = presence; value = value; offset = offset; since = own_since } in
     let ps = field_pairs made in
     subst (λ (y : FieldDef). field_of since (field_data y) ≡ Ok y) (ok_value made x (only_inv (codes "name" ∷ codes "id" ∷ codes "type" ∷ codes "presence" ∷ codes "value" ∷ codes "offset" ∷ codes "since" ∷ []) ms _ x went))
-    (rw (required_is (codes "name") name_of (string name) ps name refl name_again, required_is (codes "id") id_of (natural_data id) ps id refl id_again, required_is (codes "type") name_of (string type_name) ps type_name refl type_name_again, defaulted_is (codes "presence") Required presence_of (presence_data presence) ps presence refl presence_again, optional_is (codes "value") constant_of constant_data ps value refl value_again, optional_is (codes "offset") number_of number_data ps offset refl offset_again, defaulted_is (codes "since") since number_of (number_data own_since) ps own_since refl own_since_again, only_is (codes "name" ∷ codes "id" ∷ codes "type" ∷ codes "presence" ∷ codes "value" ∷ codes "offset" ∷ codes "since" ∷ []) ps refl) refl)))))))))
+    (rw (required_is (codes "name") name_of (text_data name) ps name refl name_again, required_is (codes "id") id_of (natural_data id) ps id refl id_again, required_is (codes "type") name_of (text_data type_name) ps type_name refl type_name_again, defaulted_is (codes "presence") Required presence_of (presence_data presence) ps presence refl presence_again, optional_is (codes "value") constant_of constant_data ps value refl value_again, optional_is (codes "offset") number_of number_data ps offset refl offset_again, defaulted_is (codes "since") since number_of (number_data own_since) ps own_since refl own_since_again, only_is (codes "name" ∷ codes "id" ∷ codes "type" ∷ codes "presence" ∷ codes "value" ∷ codes "offset" ∷ codes "since" ∷ []) ps refl) refl)))))))))
 
-pub datum_back : (since : ℤ) → Back (datum_of since) datum_data
-datum_back since d x went =
-    table_inv (data_keys since) d x went (λ ms went.
-    required_inv (codes "name") name_of string ms _ x name_back went (λ name name_again went.
-    required_inv (codes "id") id_of natural_data ms _ x (natural_back 0 65534) went (λ id id_again went.
-    defaulted_inv (codes "length") UInt16 primitive_of primitive_data ms _ x primitive_back (primitive_again UInt16) went (λ length length_again went.
-    defaulted_inv (codes "since") since number_of number_data ms _ x number_back (number_again since) went (λ own_since own_since_again went.
+pub datum_back : (since : ℤ) → Ready since → Back (datum_of since) datum_data
+datum_back since ready d x sound went =
+    table_inv (data_keys since) d x sound went (λ ms sound went.
+    required_inv (codes "name") name_of text_data ms sound _ x name_back went (λ name name_again went.
+    required_inv (codes "id") id_of natural_data ms sound _ x (natural_back 0 65534) went (λ id id_again went.
+    defaulted_inv (codes "length") UInt16 primitive_of primitive_data ms sound _ x primitive_back (primitive_again UInt16) went (λ length length_again went.
+    defaulted_inv (codes "since") since number_of number_data ms sound _ x number_back ready went (λ own_since own_since_again went.
     let made : DataDef = record { name = name; id = id; length = length; since = own_since } in
     let ps = datum_pairs made in
     subst (λ (y : DataDef). datum_of since (datum_data y) ≡ Ok y) (ok_value made x (only_inv (codes "name" ∷ codes "id" ∷ codes "length" ∷ codes "since" ∷ []) ms _ x went))
-    (rw (required_is (codes "name") name_of (string name) ps name refl name_again, required_is (codes "id") id_of (natural_data id) ps id refl id_again, defaulted_is (codes "length") UInt16 primitive_of (primitive_data length) ps length refl length_again, defaulted_is (codes "since") since number_of (number_data own_since) ps own_since refl own_since_again, only_is (codes "name" ∷ codes "id" ∷ codes "length" ∷ codes "since" ∷ []) ps refl) refl))))))
+    (rw (required_is (codes "name") name_of (text_data name) ps name refl name_again, required_is (codes "id") id_of (natural_data id) ps id refl id_again, defaulted_is (codes "length") UInt16 primitive_of (primitive_data length) ps length refl length_again, defaulted_is (codes "since") since number_of (number_data own_since) ps own_since refl own_since_again, only_is (codes "name" ∷ codes "id" ∷ codes "length" ∷ codes "since" ∷ []) ps refl) refl))))))
 
 -- ---- groups
 
 -- a group is read again where its own groups are
-group_again : (inner : ℤ → Read GroupTree) (since : ℤ) (ms : Members) (x : GroupRead) → ((own : ℤ) (tree : GroupTree) → inner own ≡ Ok tree → groups_of own (groups_data tree) ≡ Ok tree)
+group_again : (inner : ℤ → Read GroupTree) (since : ℤ) (ms : Members) (x : GroupRead) → Ready since → SoundMembers ms → ((own : ℤ) → Ready own → (tree : GroupTree) → inner own ≡ Ok tree → groups_of own (groups_data tree) ≡ Ok tree)
     → group_keys inner since (table ms) ≡ Ok x → group_of since (group_data x.0 (groups_data x.1)) ≡ Ok x
-group_again inner since ms x inner_back went =
-    required_inv (codes "name") name_of string ms _ x name_back went (λ name name_again went.
-    required_inv (codes "id") id_of natural_data ms _ x (natural_back 0 65534) went (λ id id_again went.
-    defaulted_inv (codes "block_prim") UInt16 primitive_of primitive_data ms _ x primitive_back (primitive_again UInt16) went (λ block_prim block_prim_again went.
-    defaulted_inv (codes "count_prim") UInt16 primitive_of primitive_data ms _ x primitive_back (primitive_again UInt16) went (λ count_prim count_prim_again went.
-    defaulted_inv (codes "since") since number_of number_data ms _ x number_back (number_again since) went (λ own_since own_since_again went.
-    optional_inv (codes "block_length") number_of number_data ms _ x number_back went (λ block_length block_length_again went.
-    defaulted_inv (codes "fields") [] (list_of (field_of own_since)) (list_data field_data) ms _ x (list_back (field_of own_since) field_data (field_back own_since)) refl went (λ fields fields_again went.
+group_again inner since ms x ready sound inner_back went =
+    required_inv (codes "name") name_of text_data ms sound _ x name_back went (λ name name_again went.
+    required_inv (codes "id") id_of natural_data ms sound _ x (natural_back 0 65534) went (λ id id_again went.
+    defaulted_inv (codes "block_prim") UInt16 primitive_of primitive_data ms sound _ x primitive_back (primitive_again UInt16) went (λ block_prim block_prim_again went.
+    defaulted_inv (codes "count_prim") UInt16 primitive_of primitive_data ms sound _ x primitive_back (primitive_again UInt16) went (λ count_prim count_prim_again went.
+    defaulted_inv (codes "since") since number_of number_data ms sound _ x number_back ready went (λ own_since own_since_again went.
+    optional_inv (codes "block_length") number_of number_data ms sound _ x number_back went (λ block_length block_length_again went.
+    defaulted_inv (codes "fields") [] (list_of (field_of own_since)) (list_data field_data) ms sound _ x (list_back (field_of own_since) field_data (field_back own_since own_since_again)) refl went (λ fields fields_again went.
     bind_inv (inner own_since) _ x went (λ groups told went.
-    let groups_again = inner_back own_since groups told in
-    defaulted_inv (codes "data") [] (list_of (datum_of own_since)) (list_data datum_data) ms _ x (list_back (datum_of own_since) datum_data (datum_back own_since)) refl went (λ vars vars_again went.
+    let groups_again = inner_back own_since own_since_again groups told in
+    defaulted_inv (codes "data") [] (list_of (datum_of own_since)) (list_data datum_data) ms sound _ x (list_back (datum_of own_since) datum_data (datum_back own_since own_since_again)) refl went (λ vars vars_again went.
     let head : GroupHead = record { name = name; id = id; block_prim = block_prim; count_prim = count_prim; since = own_since; block_length = block_length; fields = fields; vars = vars } in
     let ps = group_pairs head (groups_data groups) in
     subst (λ (y : GroupRead). group_of since (group_data y.0 (groups_data y.1)) ≡ Ok y) (ok_value (head, groups) x (only_inv (codes "name" ∷ codes "id" ∷ codes "block_prim" ∷ codes "count_prim" ∷ codes "since" ∷ codes "block_length" ∷ codes "fields" ∷ codes "groups" ∷ codes "data" ∷ []) ms _ x went))
-    (told_by_keys since (group_data head (groups_data groups)) ∙ rw (required_is (codes "name") name_of (string name) ps name refl name_again, required_is (codes "id") id_of (natural_data id) ps id refl id_again, defaulted_is (codes "block_prim") UInt16 primitive_of (primitive_data block_prim) ps block_prim refl block_prim_again, defaulted_is (codes "count_prim") UInt16 primitive_of (primitive_data count_prim) ps count_prim refl count_prim_again, defaulted_is (codes "since") since number_of (number_data own_since) ps own_since refl own_since_again, optional_is (codes "block_length") number_of number_data ps block_length refl block_length_again, defaulted_is (codes "fields") [] (list_of (field_of own_since)) ((list_data field_data) fields) ps fields refl fields_again, defaulted_is (codes "groups") no_groups (groups_of own_since) (groups_data groups) ps groups refl groups_again, defaulted_is (codes "data") [] (list_of (datum_of own_since)) ((list_data datum_data) vars) ps vars refl vars_again, only_is (codes "name" ∷ codes "id" ∷ codes "block_prim" ∷ codes "count_prim" ∷ codes "since" ∷ codes "block_length" ∷ codes "fields" ∷ codes "groups" ∷ codes "data" ∷ []) ps refl) refl))))))))))
+    (told_by_keys since (group_data head (groups_data groups)) ∙ rw (required_is (codes "name") name_of (text_data name) ps name refl name_again, required_is (codes "id") id_of (natural_data id) ps id refl id_again, defaulted_is (codes "block_prim") UInt16 primitive_of (primitive_data block_prim) ps block_prim refl block_prim_again, defaulted_is (codes "count_prim") UInt16 primitive_of (primitive_data count_prim) ps count_prim refl count_prim_again, defaulted_is (codes "since") since number_of (number_data own_since) ps own_since refl own_since_again, optional_is (codes "block_length") number_of number_data ps block_length refl block_length_again, defaulted_is (codes "fields") [] (list_of (field_of own_since)) ((list_data field_data) fields) ps fields refl fields_again, defaulted_is (codes "groups") no_groups (groups_of own_since) (groups_data groups) ps groups refl groups_again, defaulted_is (codes "data") [] (list_of (datum_of own_since)) ((list_data datum_data) vars) ps vars refl vars_again, only_is (codes "name" ∷ codes "id" ∷ codes "block_prim" ∷ codes "count_prim" ∷ codes "since" ∷ codes "block_length" ∷ codes "fields" ∷ codes "groups" ∷ codes "data" ∷ []) ps refl) refl))))))))))
 
 in_by : {G : Type 0} (found : Bool) (step : Step) (here behind : Read GroupTree) (tree : GroupTree) → cond found (under step here) behind ≡ Ok tree
     → (here ≡ Ok tree → G) → (behind ≡ Ok tree → G) → G
@@ -75,51 +80,51 @@ in_by true step (Err fault) behind tree went first second = absurd cc
 in_by false step here behind tree went first second = second went
 
 mutual
-  group_back : (since : ℤ) (d : Data) (x : GroupRead) → group_of since d ≡ Ok x → group_of since (group_data x.0 (groups_data x.1)) ≡ Ok x
-  group_back since (table keys) x went = group_again (λ own. groups_in own keys) since keys x (λ own tree told. in_back own keys tree told) went
-  group_back since (array ds) x went = absurd cc
-  group_back since (string s) x went = absurd cc
-  group_back since (integer z) x went = absurd cc
-  group_back since (float y) x went = absurd cc
-  group_back since (boolean y) x went = absurd cc
-  group_back since (datetime y) x went = absurd cc
+  group_back : (since : ℤ) → Ready since → (d : Data) (x : GroupRead) → Sound d → group_of since d ≡ Ok x → group_of since (group_data x.0 (groups_data x.1)) ≡ Ok x
+  group_back since ready (table keys) x sound went = group_again (λ own. groups_in own keys) since keys x ready sound (λ own own_ready tree told. in_back own own_ready keys tree sound told) went
+  group_back since ready (array ds) x sound went = absurd cc
+  group_back since ready (string s) x sound went = absurd cc
+  group_back since ready (integer z) x sound went = absurd cc
+  group_back since ready (float y) x sound went = absurd cc
+  group_back since ready (boolean y) x sound went = absurd cc
+  group_back since ready (datetime y) x sound went = absurd cc
 
-  in_back : (since : ℤ) (keys : Members) (tree : GroupTree) → groups_in since keys ≡ Ok tree → groups_of since (groups_data tree) ≡ Ok tree
-  in_back since no_members tree went = subst (λ (t : GroupTree). groups_of since (groups_data t) ≡ Ok t) (ok_value no_groups tree went) refl
-  in_back since (member key d keys) tree went =
-      in_by (same_key (codes "groups") key) (Key (codes "groups")) (groups_of since d) (groups_in since keys) tree went (λ told. groups_back since d tree told) (λ told. in_back since keys tree told)
+  in_back : (since : ℤ) → Ready since → (keys : Members) (tree : GroupTree) → SoundMembers keys → groups_in since keys ≡ Ok tree → groups_of since (groups_data tree) ≡ Ok tree
+  in_back since ready no_members tree sound went = subst (λ (t : GroupTree). groups_of since (groups_data t) ≡ Ok t) (ok_value no_groups tree went) refl
+  in_back since ready (member key d keys) tree sound went =
+      in_by (same_key (codes "groups") key) (Key (codes "groups")) (groups_of since d) (groups_in since keys) tree went (λ told. groups_back since ready d tree sound.0 told) (λ told. in_back since ready keys tree sound.1 told)
 
-  pub groups_back : (since : ℤ) (d : Data) (tree : GroupTree) → groups_of since d ≡ Ok tree → groups_of since (groups_data tree) ≡ Ok tree
-  groups_back since (array ds) tree went = from_back since 0 ds tree went
-  groups_back since (table keys) tree went = absurd cc
-  groups_back since (string s) tree went = absurd cc
-  groups_back since (integer z) tree went = absurd cc
-  groups_back since (float y) tree went = absurd cc
-  groups_back since (boolean y) tree went = absurd cc
-  groups_back since (datetime y) tree went = absurd cc
+  pub groups_back : (since : ℤ) → Ready since → (d : Data) (tree : GroupTree) → Sound d → groups_of since d ≡ Ok tree → groups_of since (groups_data tree) ≡ Ok tree
+  groups_back since ready (array ds) tree sound went = from_back since ready 0 ds tree sound went
+  groups_back since ready (table keys) tree sound went = absurd cc
+  groups_back since ready (string s) tree sound went = absurd cc
+  groups_back since ready (integer z) tree sound went = absurd cc
+  groups_back since ready (float y) tree sound went = absurd cc
+  groups_back since ready (boolean y) tree sound went = absurd cc
+  groups_back since ready (datetime y) tree sound went = absurd cc
 
-  from_back : (since : ℤ) (at : ℕ) (ds : Items) (tree : GroupTree) → groups_from since at ds ≡ Ok tree → groups_from since at (items_of (groups_list tree)) ≡ Ok tree
-  from_back since at no_items tree went = subst (λ (t : GroupTree). groups_from since at (items_of (groups_list t)) ≡ Ok t) (ok_value no_groups tree went) refl
-  from_back since at (item d ds) tree went =
+  from_back : (since : ℤ) → Ready since → (at : ℕ) (ds : Items) (tree : GroupTree) → SoundItems ds → groups_from since at ds ≡ Ok tree → groups_from since at (items_of (groups_list tree)) ≡ Ok tree
+  from_back since ready at no_items tree sound went = subst (λ (t : GroupTree). groups_from since at (items_of (groups_list t)) ≡ Ok t) (ok_value no_groups tree went) refl
+  from_back since ready at (item d ds) tree sound went =
       under_inv (At at) (group_of since d) _ tree went (λ x told went.
       bind_inv (groups_from since (at + 1) ds) _ tree went (λ rest told_on went.
       subst (λ (t : GroupTree). groups_from since at (items_of (groups_list t)) ≡ Ok t) (ok_value (group x.0 x.1 rest) tree went)
-      (rw (group_back since d x told, from_back since (at + 1) ds rest told_on) refl)))
+      (rw (group_back since ready d x sound.0 told, from_back since ready (at + 1) ds rest sound.1 told_on) refl)))
 
 -- ---- messages
 
 pub message_back : Back message_of message_data
-message_back d x went =
-    table_inv message_keys d x went (λ ms went.
-    required_inv (codes "name") name_of string ms _ x name_back went (λ name name_again went.
-    required_inv (codes "id") id_of natural_data ms _ x (natural_back 0 65534) went (λ id id_again went.
-    defaulted_inv (codes "since") (pos 0) number_of number_data ms _ x number_back refl went (λ since since_again went.
-    optional_inv (codes "block_length") number_of number_data ms _ x number_back went (λ block_length block_length_again went.
-    defaulted_inv (codes "fields") [] (list_of (field_of since)) (list_data field_data) ms _ x (list_back (field_of since) field_data (field_back since)) refl went (λ fields fields_again went.
-    defaulted_inv (codes "groups") no_groups (groups_of since) groups_data ms _ x (groups_back since) refl went (λ groups groups_again went.
-    defaulted_inv (codes "data") [] (list_of (datum_of since)) (list_data datum_data) ms _ x (list_back (datum_of since) datum_data (datum_back since)) refl went (λ vars vars_again went.
+message_back d x sound went =
+    table_inv message_keys d x sound went (λ ms sound went.
+    required_inv (codes "name") name_of text_data ms sound _ x name_back went (λ name name_again went.
+    required_inv (codes "id") id_of natural_data ms sound _ x (natural_back 0 65534) went (λ id id_again went.
+    defaulted_inv (codes "since") (pos 0) number_of number_data ms sound _ x number_back refl went (λ since since_again went.
+    optional_inv (codes "block_length") number_of number_data ms sound _ x number_back went (λ block_length block_length_again went.
+    defaulted_inv (codes "fields") [] (list_of (field_of since)) (list_data field_data) ms sound _ x (list_back (field_of since) field_data (field_back since since_again)) refl went (λ fields fields_again went.
+    defaulted_inv (codes "groups") no_groups (groups_of since) groups_data ms sound _ x (groups_back since since_again) refl went (λ groups groups_again went.
+    defaulted_inv (codes "data") [] (list_of (datum_of since)) (list_data datum_data) ms sound _ x (list_back (datum_of since) datum_data (datum_back since since_again)) refl went (λ vars vars_again went.
     let made : MessageDef = record { name = name; id = id; since = since; block_length = block_length; fields = fields; groups = groups; vars = vars } in
     let ps = message_pairs made in
     subst (λ (y : MessageDef). message_of (message_data y) ≡ Ok y) (ok_value made x (only_inv (codes "name" ∷ codes "id" ∷ codes "since" ∷ codes "block_length" ∷ codes "fields" ∷ codes "groups" ∷ codes "data" ∷ []) ms _ x went))
-    (rw (required_is (codes "name") name_of (string name) ps name refl name_again, required_is (codes "id") id_of (natural_data id) ps id refl id_again, defaulted_is (codes "since") (pos 0) number_of (number_data since) ps since refl since_again, optional_is (codes "block_length") number_of number_data ps block_length refl block_length_again, defaulted_is (codes "fields") [] (list_of (field_of since)) ((list_data field_data) fields) ps fields refl fields_again, defaulted_is (codes "groups") no_groups (groups_of since) (groups_data groups) ps groups refl groups_again, defaulted_is (codes "data") [] (list_of (datum_of since)) ((list_data datum_data) vars) ps vars refl vars_again, only_is (codes "name" ∷ codes "id" ∷ codes "since" ∷ codes "block_length" ∷ codes "fields" ∷ codes "groups" ∷ codes "data" ∷ []) ps refl) refl)))))))))
+    (rw (required_is (codes "name") name_of (text_data name) ps name refl name_again, required_is (codes "id") id_of (natural_data id) ps id refl id_again, defaulted_is (codes "since") (pos 0) number_of (number_data since) ps since refl since_again, optional_is (codes "block_length") number_of number_data ps block_length refl block_length_again, defaulted_is (codes "fields") [] (list_of (field_of since)) ((list_data field_data) fields) ps fields refl fields_again, defaulted_is (codes "groups") no_groups (groups_of since) (groups_data groups) ps groups refl groups_again, defaulted_is (codes "data") [] (list_of (datum_of since)) ((list_data datum_data) vars) ps vars refl vars_again, only_is (codes "name" ∷ codes "id" ∷ codes "since" ∷ codes "block_length" ∷ codes "fields" ∷ codes "groups" ∷ codes "data" ∷ []) ps refl) refl)))))))))
 

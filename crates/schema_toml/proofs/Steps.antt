@@ -1,23 +1,39 @@
 -- Steps of a reader over the keys of a table: what a reading that went well says of each, and how to read again what
 -- was written.
-use Rattle.std.proofs.Common.{◌≡◌, ℕ, ◌+◌, Bool, true, false, cond, List, [], ◌∷◌, map, Option, Some, None, option_map, Result, Ok, Err, refl, ap, sym, subst, ◌∙◌}
+use Rattle.std.proofs.Common.{◌≡◌, ℕ, ◌+◌, Bool, true, false, cond, List, [], ◌∷◌, map, Option, Some, None, option_map, Result, Ok, Err, Ordering, Less, Equal, Greater, nat_cmp, refl, ap, sym, subst, ◌∙◌}
+use Rattle.std.specs.Cmp.Lexicographic.{slice_cmp}
+use Rattle.std.specs.Ordering.{match_ordering}
 use Rattle.sbe_value.specs.declared.path.Step.{Step}
 use Rattle.sbe_value.specs.declared.path.Step.TheVariants.{Key, At}
-use Rattle.toml.specs.Data.{Data, string, integer, float, boolean, datetime, array, table, Items, no_items, item, Members, no_members, get_member, as_array, as_table}
+use Rattle.toml.specs.Data.{Data, string, integer, float, boolean, datetime, array, table, Items, no_items, item, Members, no_members, member, get_member, as_array, as_table}
 use Rattle.toml.specs.View.{items_of}
 use Rattle.toml_walk.specs.Reading.{Read, ◌>>=◌, under}
 use Rattle.toml_walk.specs.Keys.{required, required_of, defaulted, defaulted_of, optional, optional_of, elements, list_of, list_of_items, table_of, only, unless_unknown, unknown_member}
 use Rattle.schema_toml.specs.Written.{Pairs, with_keys, table_by, list_data}
+use Rattle.schema_toml.proofs.Sound.{Sound, SoundItems, SoundMembers}
 use Rattle.schema_toml.proofs.WithKeys.{found, pick, get-with_keys, all_known, unknown-with_keys}
 
--- what is written of each value that is read is read back
+-- what is written of each value that is read of sound data is read back
 abbrev pub Back : {A : Type 0} → (Data → Read A) → (A → Data) → Type 0
-Back {A} read write = (d : Data) (a : A) → read d ≡ Ok a → read (write a) ≡ Ok a
+Back {A} read write = (d : Data) (a : A) → Sound d → read d ≡ Ok a → read (write a) ≡ Ok a
 
 -- the same of a value, if it is there
 abbrev pub IfBack : {A : Type 0} → (Data → Read A) → (A → Data) → Option A → Type 0
 IfBack read write None = Unit {0}
 IfBack read write (Some a) = read (write a) ≡ Ok a
+
+abbrev pub SoundOption : Option Data → Type 0
+SoundOption None = Unit {0}
+SoundOption (Some d) = Sound d
+
+member_by : (o : Ordering) (d : Data) (rest : Option Data) → Sound d → SoundOption rest → SoundOption (match_ordering o rest (Some d) rest)
+member_by Less d rest here more = more
+member_by Equal d rest here more = here
+member_by Greater d rest here more = more
+
+member_sound : (key : List ℕ) (ms : Members) → SoundMembers ms → SoundOption (get_member key ms)
+member_sound key no_members all = tt
+member_sound key (member k d ms) all = member_by (slice_cmp nat_cmp key k) d (get_member key ms) all.0 (member_sound key ms all.1)
 
 -- ---- what went well
 
@@ -35,37 +51,37 @@ pub under_inv : {A B G : Type 0} (step : Step) (r : Read A) (next : A → Read B
 under_inv step (Ok a) next b went so = so a refl went
 under_inv step (Err fault) next b went so = absurd cc
 
-required_by : {A B G : Type 0} (key : List ℕ) (read : Data → Read A) (write : A → Data) (o : Option Data) (next : A → Read B) (b : B) → Back read write
+required_by : {A B G : Type 0} (key : List ℕ) (read : Data → Read A) (write : A → Data) (o : Option Data) → SoundOption o → (next : A → Read B) (b : B) → Back read write
     → (required_of key read o >>= next) ≡ Ok b → ((a : A) → read (write a) ≡ Ok a → next a ≡ Ok b → G) → G
-required_by key read write None next b back went so = absurd cc
-required_by key read write (Some d) next b back went so = under_inv (Key key) (read d) next b went (λ a same more. so a (back d a same) more)
+required_by key read write None sound next b back went so = absurd cc
+required_by key read write (Some d) sound next b back went so = under_inv (Key key) (read d) next b went (λ a same more. so a (back d a sound same) more)
 
-pub required_inv : {A B G : Type 0} (key : List ℕ) (read : Data → Read A) (write : A → Data) (ms : Members) (next : A → Read B) (b : B) → Back read write
+pub required_inv : {A B G : Type 0} (key : List ℕ) (read : Data → Read A) (write : A → Data) (ms : Members) → SoundMembers ms → (next : A → Read B) (b : B) → Back read write
     → (required key read (table ms) >>= next) ≡ Ok b → ((a : A) → read (write a) ≡ Ok a → next a ≡ Ok b → G) → G
-required_inv key read write ms = required_by key read write (get_member key ms)
+required_inv key read write ms sound = required_by key read write (get_member key ms) (member_sound key ms sound)
 
-defaulted_by : {A B G : Type 0} (key : List ℕ) (default : A) (read : Data → Read A) (write : A → Data) (o : Option Data) (next : A → Read B) (b : B) → Back read write → read (write default) ≡ Ok default
+defaulted_by : {A B G : Type 0} (key : List ℕ) (default : A) (read : Data → Read A) (write : A → Data) (o : Option Data) → SoundOption o → (next : A → Read B) (b : B) → Back read write → read (write default) ≡ Ok default
     → (defaulted_of key default read o >>= next) ≡ Ok b → ((a : A) → read (write a) ≡ Ok a → next a ≡ Ok b → G) → G
-defaulted_by key default read write None next b back ready went so = so default ready went
-defaulted_by key default read write (Some d) next b back ready went so = under_inv (Key key) (read d) next b went (λ a same more. so a (back d a same) more)
+defaulted_by key default read write None sound next b back ready went so = so default ready went
+defaulted_by key default read write (Some d) sound next b back ready went so = under_inv (Key key) (read d) next b went (λ a same more. so a (back d a sound same) more)
 
-pub defaulted_inv : {A B G : Type 0} (key : List ℕ) (default : A) (read : Data → Read A) (write : A → Data) (ms : Members) (next : A → Read B) (b : B) → Back read write → read (write default) ≡ Ok default
+pub defaulted_inv : {A B G : Type 0} (key : List ℕ) (default : A) (read : Data → Read A) (write : A → Data) (ms : Members) → SoundMembers ms → (next : A → Read B) (b : B) → Back read write → read (write default) ≡ Ok default
     → (defaulted key default read (table ms) >>= next) ≡ Ok b → ((a : A) → read (write a) ≡ Ok a → next a ≡ Ok b → G) → G
-defaulted_inv key default read write ms = defaulted_by key default read write (get_member key ms)
+defaulted_inv key default read write ms sound = defaulted_by key default read write (get_member key ms) (member_sound key ms sound)
 
-some_by : {A B G : Type 0} (key : List ℕ) (read : Data → Read A) (write : A → Data) (d : Data) (r : Read A) (next : Option A → Read B) (b : B) → Back read write → read d ≡ r
+some_by : {A B G : Type 0} (key : List ℕ) (read : Data → Read A) (write : A → Data) (d : Data) → Sound d → (r : Read A) (next : Option A → Read B) (b : B) → Back read write → read d ≡ r
     → ((under (Key key) r >>= (λ a. Ok (Some a))) >>= next) ≡ Ok b → ((o : Option A) → IfBack read write o → next o ≡ Ok b → G) → G
-some_by key read write d (Ok a) next b back same went so = so (Some a) (back d a same) went
-some_by key read write d (Err fault) next b back same went so = absurd cc
+some_by key read write d sound (Ok a) next b back same went so = so (Some a) (back d a sound same) went
+some_by key read write d sound (Err fault) next b back same went so = absurd cc
 
-optional_by : {A B G : Type 0} (key : List ℕ) (read : Data → Read A) (write : A → Data) (o : Option Data) (next : Option A → Read B) (b : B) → Back read write
+optional_by : {A B G : Type 0} (key : List ℕ) (read : Data → Read A) (write : A → Data) (o : Option Data) → SoundOption o → (next : Option A → Read B) (b : B) → Back read write
     → (optional_of key read o >>= next) ≡ Ok b → ((o : Option A) → IfBack read write o → next o ≡ Ok b → G) → G
-optional_by key read write None next b back went so = so None tt went
-optional_by key read write (Some d) next b back went so = some_by key read write d (read d) next b back refl went so
+optional_by key read write None sound next b back went so = so None tt went
+optional_by key read write (Some d) sound next b back went so = some_by key read write d sound (read d) next b back refl went so
 
-pub optional_inv : {A B G : Type 0} (key : List ℕ) (read : Data → Read A) (write : A → Data) (ms : Members) (next : Option A → Read B) (b : B) → Back read write
+pub optional_inv : {A B G : Type 0} (key : List ℕ) (read : Data → Read A) (write : A → Data) (ms : Members) → SoundMembers ms → (next : Option A → Read B) (b : B) → Back read write
     → (optional key read (table ms) >>= next) ≡ Ok b → ((o : Option A) → IfBack read write o → next o ≡ Ok b → G) → G
-optional_inv key read write ms = optional_by key read write (get_member key ms)
+optional_inv key read write ms sound = optional_by key read write (get_member key ms) (member_sound key ms sound)
 
 only_by : {B : Type 0} (o : Option (List ℕ)) (next : Unit {0} → Read B) (b : B) → (unless_unknown o >>= next) ≡ Ok b → next tt ≡ Ok b
 only_by None next b went = went
@@ -74,14 +90,14 @@ only_by (Some key) next b went = absurd cc
 pub only_inv : {B : Type 0} (known : List (List ℕ)) (ms : Members) (next : Unit {0} → Read B) (b : B) → (only known (table ms) >>= next) ≡ Ok b → next tt ≡ Ok b
 only_inv known ms = only_by (unknown_member known ms)
 
-pub table_inv : {A G : Type 0} (read : Data → Read A) (d : Data) (a : A) → table_of read d ≡ Ok a → ((ms : Members) → read (table ms) ≡ Ok a → G) → G
-table_inv read (table ms) a went so = so ms went
-table_inv read (array ds) a went so = absurd cc
-table_inv read (string s) a went so = absurd cc
-table_inv read (integer z) a went so = absurd cc
-table_inv read (float x) a went so = absurd cc
-table_inv read (boolean x) a went so = absurd cc
-table_inv read (datetime x) a went so = absurd cc
+pub table_inv : {A G : Type 0} (read : Data → Read A) (d : Data) (a : A) → Sound d → table_of read d ≡ Ok a → ((ms : Members) → SoundMembers ms → read (table ms) ≡ Ok a → G) → G
+table_inv read (table ms) a sound went so = so ms sound went
+table_inv read (array ds) a sound went so = absurd cc
+table_inv read (string s) a sound went so = absurd cc
+table_inv read (integer z) a sound went so = absurd cc
+table_inv read (float x) a sound went so = absurd cc
+table_inv read (boolean x) a sound went so = absurd cc
+table_inv read (datetime x) a sound went so = absurd cc
 
 -- ---- reading again
 
@@ -110,20 +126,22 @@ abbrev pub AllBack : {A : Type 0} → (Data → Read A) → (A → Data) → Lis
 AllBack read write [] = Unit {0}
 AllBack read write (a ∷ xs) = (read (write a) ≡ Ok a) × AllBack read write xs
 
-elements_back : {A : Type 0} (read : Data → Read A) (write : A → Data) (at : ℕ) (ds : Items) (xs : List A) → Back read write → elements read at ds ≡ Ok xs → AllBack read write xs
-elements_back read write at no_items xs back went = subst (AllBack read write) (ok_value [] xs went) tt
-elements_back read write at (item d ds) xs back went =
+elements_back : {A : Type 0} (read : Data → Read A) (write : A → Data) (at : ℕ) (ds : Items) (xs : List A) → Back read write → SoundItems ds → elements read at ds ≡ Ok xs → AllBack read write xs
+elements_back read write at no_items xs back sound went = subst (AllBack read write) (ok_value [] xs went) tt
+elements_back read write at (item d ds) xs back sound went =
     under_inv (At at) (read d) (λ a. elements read (at + 1) ds >>= (λ rest. Ok (a ∷ rest))) xs went (λ a same more.
     bind_inv (elements read (at + 1) ds) (λ rest. Ok (a ∷ rest)) xs more (λ rest went_on last.
-    subst (AllBack read write) (ok_value (a ∷ rest) xs last) (back d a same, elements_back read write (at + 1) ds rest back went_on)))
+    subst (AllBack read write) (ok_value (a ∷ rest) xs last) (back d a sound.0 same, elements_back read write (at + 1) ds rest back sound.1 went_on)))
 
 elements_again : {A : Type 0} (read : Data → Read A) (write : A → Data) (at : ℕ) (xs : List A) → AllBack read write xs → elements read at (items_of (map write xs)) ≡ Ok xs
 elements_again read write at [] back = refl
 elements_again read write at (a ∷ xs) back = rw (back.0, elements_again read write (at + 1) xs back.1) refl
 
-list_back_by : {A : Type 0} (read : Data → Read A) (write : A → Data) (o : Option Items) (xs : List A) → Back read write → list_of_items read o ≡ Ok xs → AllBack read write xs
-list_back_by read write None xs back went = absurd cc
-list_back_by read write (Some ds) xs back went = elements_back read write 0 ds xs back went
-
 pub list_back : {A : Type 0} (read : Data → Read A) (write : A → Data) → Back read write → Back (list_of read) (list_data write)
-list_back read write back d xs went = elements_again read write 0 xs (list_back_by read write (as_array d) xs back went)
+list_back read write back (array ds) xs sound went = elements_again read write 0 xs (elements_back read write 0 ds xs back sound went)
+list_back read write back (table ms) xs sound went = absurd cc
+list_back read write back (string s) xs sound went = absurd cc
+list_back read write back (integer z) xs sound went = absurd cc
+list_back read write back (float x) xs sound went = absurd cc
+list_back read write back (boolean x) xs sound went = absurd cc
+list_back read write back (datetime x) xs sound went = absurd cc

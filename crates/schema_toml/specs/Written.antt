@@ -3,6 +3,7 @@ use Rattle.std.specs.Prelude.{ℕ, ◌-◌, ◌^◌, ℤ, pos, negsuc, nat_le, i
 use Rattle.std.specs.Cmp.Lexicographic.{slice_cmp}
 use Rattle.std.specs.Fmt.{decimal}
 use Rattle.std.specs.Ordering.{nat_cmp, match_ordering}
+use Rattle.std.specs.Str.{is_utf8}
 use Rattle.toml.specs.Data.{Data, string, integer, array, table, Members, no_members, member}
 use Rattle.toml.specs.View.{items_of}
 use Rattle.sbe_prim.specs.declared.Order.{Order}
@@ -56,11 +57,15 @@ module _ {A : Type 0} where
 
 -- ---- what stands at a key by itself
 
--- a number above the greatest TOML integer is a string of its decimal digits, as far as 128 bits hold it
+-- a text, where it is UTF-8
+abbrev pub text_data : List ℕ → Data
+text_data text = string (if is_utf8 text then text else [])
+
+-- a number above the greatest TOML integer is a string of its decimal digits, as far as 128 bits hold it; and none is below the least
 abbrev pub number_data : ℤ → Data
 number_data (pos n) =
     if nat_le n (2 ^ 63 - 1) then integer (pos n) else if nat_le n (2 ^ 127 - 1) then string (decimal n) else integer (pos n)
-number_data (negsuc n) = integer (negsuc n)
+number_data (negsuc n) = if nat_le n (2 ^ 63 - 1) then integer (negsuc n) else integer (pos 0)
 
 abbrev pub natural_data : ℕ → Data
 natural_data n = integer (pos n)
@@ -75,31 +80,31 @@ presence_data Optional = string (codes "optional")
 presence_data Always = string (codes "constant")
 
 abbrev pub primitive_data : Primitive → Data
-primitive_data p = string (word_of p)
+primitive_data p = text_data (word_of p)
 
 abbrev pub constant_data : Constant → Data
 constant_data (Num z) = number_data z
-constant_data (Text text) = string text
+constant_data (Text text) = text_data text
 
 -- ---- types
 
 abbrev pub value_pairs : ValueDef → Pairs
 value_pairs v =
-    (codes "name", Some (string v.name)) ∷ (codes "value", Some (number_data v.value)) ∷ []
+    (codes "name", Some (text_data v.name)) ∷ (codes "value", Some (number_data v.value)) ∷ []
 
 abbrev pub value_data : ValueDef → Data
 value_data v = table_by (value_pairs v)
 
 abbrev pub bit_pairs : BitDef → Pairs
 bit_pairs b =
-    (codes "name", Some (string b.name)) ∷ (codes "bit", Some (natural_data b.bit)) ∷ []
+    (codes "name", Some (text_data b.name)) ∷ (codes "bit", Some (natural_data b.bit)) ∷ []
 
 abbrev pub bit_data : BitDef → Data
 bit_data b = table_by (bit_pairs b)
 
 abbrev pub member_pairs : MemberDef → Pairs
 member_pairs m =
-    (codes "name", Some (string m.name)) ∷ (codes "type", Some (string m.type_name)) ∷ (codes "offset", option_map number_data m.offset) ∷ (codes "presence", Some (presence_data m.presence)) ∷ (codes "value", option_map constant_data m.value) ∷ []
+    (codes "name", Some (text_data m.name)) ∷ (codes "type", Some (text_data m.type_name)) ∷ (codes "offset", option_map number_data m.offset) ∷ (codes "presence", Some (presence_data m.presence)) ∷ (codes "value", option_map constant_data m.value) ∷ []
 
 abbrev pub member_data : MemberDef → Data
 member_data m = table_by (member_pairs m)
@@ -116,7 +121,7 @@ kind_pairs (Composite members) =
     (codes "kind", Some (string (codes "composite"))) ∷ (codes "members", Some (list_data member_data members)) ∷ []
 
 abbrev pub type_pairs : TypeDef → Pairs
-type_pairs t = (codes "name", Some (string t.name)) ∷ kind_pairs t.kind
+type_pairs t = (codes "name", Some (text_data t.name)) ∷ kind_pairs t.kind
 
 abbrev pub type_data : TypeDef → Data
 type_data t = table_by (type_pairs t)
@@ -125,14 +130,14 @@ type_data t = table_by (type_pairs t)
 
 abbrev pub field_pairs : FieldDef → Pairs
 field_pairs f =
-    (codes "name", Some (string f.name)) ∷ (codes "id", Some (natural_data f.id)) ∷ (codes "type", Some (string f.type_name)) ∷ (codes "presence", Some (presence_data f.presence)) ∷ (codes "value", option_map constant_data f.value) ∷ (codes "offset", option_map number_data f.offset) ∷ (codes "since", Some (number_data f.since)) ∷ []
+    (codes "name", Some (text_data f.name)) ∷ (codes "id", Some (natural_data f.id)) ∷ (codes "type", Some (text_data f.type_name)) ∷ (codes "presence", Some (presence_data f.presence)) ∷ (codes "value", option_map constant_data f.value) ∷ (codes "offset", option_map number_data f.offset) ∷ (codes "since", Some (number_data f.since)) ∷ []
 
 abbrev pub field_data : FieldDef → Data
 field_data f = table_by (field_pairs f)
 
 abbrev pub datum_pairs : DataDef → Pairs
 datum_pairs v =
-    (codes "name", Some (string v.name)) ∷ (codes "id", Some (natural_data v.id)) ∷ (codes "length", Some (primitive_data v.length)) ∷ (codes "since", Some (number_data v.since)) ∷ []
+    (codes "name", Some (text_data v.name)) ∷ (codes "id", Some (natural_data v.id)) ∷ (codes "length", Some (primitive_data v.length)) ∷ (codes "since", Some (number_data v.since)) ∷ []
 
 abbrev pub datum_data : DataDef → Data
 datum_data v = table_by (datum_pairs v)
@@ -140,7 +145,7 @@ datum_data v = table_by (datum_pairs v)
 -- a group, beside the data of the groups of its entries
 abbrev pub group_pairs : GroupHead → Data → Pairs
 group_pairs g inner =
-    (codes "name", Some (string g.name)) ∷ (codes "id", Some (natural_data g.id)) ∷ (codes "block_prim", Some (primitive_data g.block_prim)) ∷ (codes "count_prim", Some (primitive_data g.count_prim)) ∷ (codes "since", Some (number_data g.since)) ∷ (codes "block_length", option_map number_data g.block_length) ∷ (codes "fields", Some (list_data field_data g.fields)) ∷ (codes "groups", Some inner) ∷ (codes "data", Some (list_data datum_data g.vars)) ∷ []
+    (codes "name", Some (text_data g.name)) ∷ (codes "id", Some (natural_data g.id)) ∷ (codes "block_prim", Some (primitive_data g.block_prim)) ∷ (codes "count_prim", Some (primitive_data g.count_prim)) ∷ (codes "since", Some (number_data g.since)) ∷ (codes "block_length", option_map number_data g.block_length) ∷ (codes "fields", Some (list_data field_data g.fields)) ∷ (codes "groups", Some inner) ∷ (codes "data", Some (list_data datum_data g.vars)) ∷ []
 
 abbrev pub group_data : GroupHead → Data → Data
 group_data g inner = table_by (group_pairs g inner)
@@ -154,7 +159,7 @@ groups_data tree = array (items_of (groups_list tree))
 
 abbrev pub message_pairs : MessageDef → Pairs
 message_pairs m =
-    (codes "name", Some (string m.name)) ∷ (codes "id", Some (natural_data m.id)) ∷ (codes "since", Some (number_data m.since)) ∷ (codes "block_length", option_map number_data m.block_length) ∷ (codes "fields", Some (list_data field_data m.fields)) ∷ (codes "groups", Some (groups_data m.groups)) ∷ (codes "data", Some (list_data datum_data m.vars)) ∷ []
+    (codes "name", Some (text_data m.name)) ∷ (codes "id", Some (natural_data m.id)) ∷ (codes "since", Some (number_data m.since)) ∷ (codes "block_length", option_map number_data m.block_length) ∷ (codes "fields", Some (list_data field_data m.fields)) ∷ (codes "groups", Some (groups_data m.groups)) ∷ (codes "data", Some (list_data datum_data m.vars)) ∷ []
 
 abbrev pub message_data : MessageDef → Data
 message_data m = table_by (message_pairs m)

@@ -108,8 +108,7 @@ fn schema_table(alloc: Global, schema: &Schema) -> Result<Table, AllocError>
 /// and whose groups lie at most 16 deep; of any other schema nothing is claimed.
 ///
 /// # Errors
-/// Want of memory; and any schema that no text spells because a text of it is not UTF-8 or a number of it is below
-/// -2^63.
+/// Want of memory.
 pub fn print_schema(alloc: Global, schema: &Schema) -> Result<Lines, AllocError>
     ensures back { IfOk result (λ lines. (text : List ℕ) → schema_of_text text ≡ Ok schema.now → levels_of_schema schema.now ≤ 16 → schema_of_text lines ≡ Ok schema.now) }
 {

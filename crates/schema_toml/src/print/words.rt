@@ -1,9 +1,8 @@
 //! Names, numbers, words and constants as TOML values.
 
 ghost use Rattle.std.specs.Prelude.{◌≡◌, IfOk};
-ghost use Rattle.toml.specs.Data.{string};
 ghost use Rattle.toml.specs.View.{view};
-ghost use Rattle.schema_toml.specs.Written.{number_data};
+ghost use Rattle.schema_toml.specs.Written.{number_data, text_data};
 
 use crate::print::Written;
 use sbe_prim::{Order, Primitive};
@@ -18,17 +17,17 @@ const GREATEST_INTEGER: i128 = (1 << 63) - 1;
 /// The least TOML integer.
 const LEAST_INTEGER: i128 = -(1 << 63);
 
-/// A text that is UTF-8.
+/// A text, empty where it is not UTF-8: no schema's text spells any other.
 fn text_value(alloc: Global, text: &[u8]) -> Result<Value, AllocError>
-    ensures { IfOk result (λ v. view v ≡ string text.now) }
+    ensures { IfOk result (λ v. view v ≡ text_data text.now) }
 {
     match std::str::from_utf8(text) {
         Ok(text) => Value::string(alloc, text),
-        Err(_) => Err(AllocError),
+        Err(_) => Value::string(alloc, ""),
     }
 }
 
-/// A number that is no less than the least TOML integer.
+/// A number, 0 where it is below the least TOML integer: no schema's text spells any lesser.
 fn number_value(alloc: Global, number: i128) -> Result<Value, AllocError>
     ensures { IfOk result (λ v. view v ≡ number_data number) }
 {
@@ -38,14 +37,14 @@ fn number_value(alloc: Global, number: i128) -> Result<Value, AllocError>
     } else if number >= LEAST_INTEGER {
         Ok(Value::Integer(number as i64))
     } else {
-        Err(AllocError)
+        Ok(Value::Integer(0))
     }
 }
 
 impl Written for Bytes {
-    ghost use Rattle.toml.specs.Data.{string};
+    ghost use Rattle.schema_toml.specs.Written.{text_data};
 
-    ghost spelling = { string };
+    ghost spelling = { text_data };
 
     fn to_value(&self, alloc: Global) -> Result<Value, AllocError> {
         text_value(alloc, self.as_slice())
