@@ -1,6 +1,6 @@
 -- What a frame says to an end (FIXP 1.1; the schema id of session messages is this project's profile).
 use Rattle.std.specs.Prelude.{◌≡◌, ℕ, false, List, IsTrue}
-use Rattle.sofh_frame.specs.declared.Order.{Order}
+use Rattle.sbe_prim.specs.declared.Order.{Order}
 use Rattle.fixp_msgs.specs.declared.frames.FrameKind.TheVariants.{App, Session, Wrong}
 use Rattle.fixp_msgs.specs.Header.{kind_of, template_in}
 use Rattle.fixp_msgs.specs.Message.{Message, message_of}

@@ -1,6 +1,6 @@
 -- The laws of the session machine.
 use Rattle.std.specs.Prelude.{◌≡◌, List, ℕ}
-use Rattle.sofh_frame.specs.declared.Order.{Order}
+use Rattle.sbe_prim.specs.declared.Order.{Order}
 use Rattle.fixp_end.specs.Hearing.{Said, Says}
 
 -- the message of a frame says one thing

@@ -1,7 +1,7 @@
 -- The session machine of one end: its state, and what each event makes of it.
 use Rattle.std.specs.Prelude.{◌≡◌, ℕ, ◌-◌, Bool, true, false, if◌then◌else◌, List, [], ◌++◌, Option, Some, None, is_some}
 use Rattle.std.specs.List.{flat_map}
-use Rattle.sofh_frame.specs.declared.Order.{Order}
+use Rattle.sbe_prim.specs.declared.Order.{Order}
 use Rattle.fixp_msgs.specs.Canonical.{frame_bytes}
 use Rattle.fixp_end.specs.declared.config.EndConfig.{EndConfig}
 use Rattle.fixp_end.specs.declared.config.EndState.{EndState}

@@ -3,8 +3,8 @@
 -- `from_le_bytes w bytes` is the number that the first bytes spell, as many as the width w has.
 use Rattle.std.specs.Prelude.{ℕ, List, drop, ◌==◌, if◌then◌else◌}
 use Rattle.std.specs.Int.{w16, from_le_bytes, from_be_bytes}
-use Rattle.sofh_frame.specs.declared.Order.{Order}
-use Rattle.sofh_frame.specs.declared.Order.TheVariants.{Little, Big}
+use Rattle.sbe_prim.specs.declared.Order.{Order}
+use Rattle.sbe_prim.specs.declared.Order.TheVariants.{Little, Big}
 use Rattle.fixp_msgs.specs.declared.frames.FrameKind.{FrameKind}
 use Rattle.fixp_msgs.specs.declared.frames.FrameKind.TheVariants.{App, Session, Wrong}
 

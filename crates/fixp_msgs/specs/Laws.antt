@@ -1,7 +1,7 @@
 -- The laws of the session messages.
 use Rattle.std.specs.Prelude.{◌≡◌, ℕ, ◌≤◌, List, ◌++◌, length, drop}
 use Rattle.std.specs.Int.{w16, w32, from_be_bytes}
-use Rattle.sofh_frame.specs.declared.Order.TheVariants.{Little}
+use Rattle.sbe_prim.specs.declared.Order.TheVariants.{Little}
 use Rattle.fixp_msgs.specs.declared.frames.FrameKind.TheVariants.{Session}
 use Rattle.fixp_msgs.specs.Header.{kind_of}
 use Rattle.fixp_msgs.specs.Message.{Message}

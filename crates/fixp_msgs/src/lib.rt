@@ -1,6 +1,6 @@
 //! Session messages of the FIX Performance Session Layer: their fields, how they are
 //! told from application messages, and their bytes, read and written.
-//! It stands on the byte order of `sofh_frame`.
+//! It stands on the byte order of `sbe_prim`, which `sofh_frame` gives again.
 #![tactic(auto)]
 
 mod flow;

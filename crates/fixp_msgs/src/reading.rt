@@ -2,7 +2,7 @@
 
 ghost use Rattle.std.specs.Prelude.{◌≡◌, ℕ, ◌+◌, ◌≤◌, ◌↔◌, List, length, drop, take, true, false, IfOk, IsOkAnd, IfErr, IsErrOf, IfSome, IfNone};
 ghost use Rattle.std.specs.Int.{w16, w32, w64, from_le_bytes};
-ghost use Rattle.sofh_frame.specs.declared.Order.TheVariants.{Little};
+ghost use Rattle.sbe_prim.specs.declared.Order.TheVariants.{Little};
 ghost use Rattle.fixp_msgs.specs.declared.frames.FrameKind.TheVariants.{Session};
 ghost use Rattle.fixp_msgs.specs.declared.reading.MsgFault.TheVariants as faults;
 ghost use Rattle.fixp_msgs.specs.Header.{kind_of, schema_in, template_in, block_length_in};

@@ -70,7 +70,7 @@ fn both_ways(rt: &impl Abort, frame: &[u8], msg: SessionMsg<'_>)
 }
 
 #[test]
-fn handshake_vectors(rt: HostRuntime) {
+fn negotiation_vectors(rt: HostRuntime) {
     both_ways(
         &rt,
         &NEGOTIATE,
@@ -91,6 +91,10 @@ fn handshake_vectors(rt: HostRuntime) {
             credentials: &[],
         }),
     );
+}
+
+#[test]
+fn establishment_vectors(rt: HostRuntime) {
     both_ways(
         &rt,
         &ESTABLISH,

@@ -2,7 +2,7 @@
 use Rattle.std.proofs.Common.{◌≡◌, ℕ, ◌/◌, ◌%◌, List, [], ◌∷◌, ◌++◌, refl, ap, sym, ◌∙◌, append_assoc, codes}
 use Rattle.std.specs.Prelude.{slice_index, decimal}
 use Rattle.std.specs.Int.{w16, to_be_bytes}
-use Rattle.sofh_frame.specs.declared.Order.{Order}
+use Rattle.sbe_prim.specs.declared.Order.{Order}
 use Rattle.sofh_frame.specs.Framing.{encoding_of}
 use Rattle.fixpgw.specs.Lines.{payload_of, deliver_line}
 use Rattle.hex.specs.Hex.{encode_with, encode_lower, lower_digits}

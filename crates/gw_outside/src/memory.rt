@@ -5,9 +5,9 @@ ghost use Rattle.std.specs.Io.KnownBytes.{ReadConsumes, WriteAppends};
 ghost use Rattle.gw_outside.specs.Faults.{HasCause};
 ghost use Rattle.gw_outside.specs.InMemory.{fails_next, pulled, pushed, refuses};
 
-use crate::bytes::Bytes;
 use crate::faults::{Calls, Failed};
 use crate::streams::{Sink, Source};
+use sbe_value::Bytes;
 use std::alloc::{AllocError, Global};
 use std::marker::Model;
 
@@ -223,7 +223,7 @@ mod tests {
         let text = Bytes::from([1, 2].to_vec(alloc)?);
         assert_eq!(rt; text.len(), 2);
         assert_eq!(rt; text.as_slice(), [1, 2].as_slice());
-        let mut source = MemSource::without_faults(alloc, Bytes::from(text.into_vec()), 9);
+        let mut source = MemSource::without_faults(alloc, Bytes::from(Vec::from(text)), 9);
         let mut sink = MemSink::without_faults(alloc, 2)?;
         let mut piece = [0; 4];
         assert_eq!(rt; source.pull(&mut piece), Ok(2));

@@ -5,7 +5,7 @@ use Rattle.sbe_schema.specs.declared.groups.GroupDef.{GroupDef}
 use Rattle.sbe_schema.specs.Groups.{weight_of}
 use Rattle.sbe_schema.specs.Views.{groups_of, head_of as schema_head_of}
 use Rattle.sbe_layout.specs.declared.blocks.GroupPlan.{GroupPlan}
-use Rattle.sbe_layout.specs.Trees.{PlanHead, PlanTree, no_plans, plan}
+use Rattle.sbe_layout.specs.Trees.{PlanTree, no_plans, plan}
 use Rattle.sbe_layout.specs.Views.{head_of, plans_of}
 use Rattle.sbe_layout.specs.Plans.{groups_plan, group_head}
 

@@ -1,5 +1,5 @@
 -- A message of a template is found exactly where some message has it.
-use Rattle.std.proofs.Common.{◌≡◌, ℕ, ◌⊎◌, inl, inr, ◌∙◌, sym, ap, refl, Bool, true, false, Option, Some, None, is_some, IsNone, if◌then◌else◌, ◌==◌, List, [], ◌∷◌, rules, eqb-true, eq-eqb}
+use Rattle.std.proofs.Common.{◌≡◌, ℕ, inl, inr, ◌∙◌, sym, ap, refl, true, false, Option, Some, None, is_some, IsNone, if◌then◌else◌, ◌==◌, List, [], ◌∷◌, rules, eqb-true, eq-eqb}
 use Rattle.std.proofs.lemmas.Bool.{false≢true}
 use Rattle.std.specs.Option.{option_copied}
 use denote.Bor.{Bor}

@@ -1,5 +1,5 @@
 -- The groups of an entry weigh less than the list that their group stands in.
-use Rattle.std.specs.Prelude.{ℕ, ◌≤◌, max, List, [], ◌∷◌}
+use Rattle.std.specs.Prelude.{◌≤◌, max, List, [], ◌∷◌}
 use Rattle.std.proofs.Common.{arith}
 use denote.Param.Weighed.{most}
 use Rattle.sbe_layout.specs.declared.blocks.GroupPlan.{GroupPlan}

@@ -1,5 +1,5 @@
 -- The messages of a schema as TOML tables: the keys of each in the order in which they are visited (this project's profile).
-use Rattle.std.specs.Prelude.{ℕ, ◌+◌, ℤ, pos, if◌then◌else◌, Option, Some, None, List, [], ◌∷◌, Ok, Err, codes}
+use Rattle.std.specs.Prelude.{◌≡◌, false, Result, ℕ, ◌+◌, ℤ, pos, if◌then◌else◌, Option, Some, None, List, [], ◌∷◌, Ok, Err, codes}
 use Rattle.toml.specs.Data.{Data, array, table, Items, no_items, item, Members, no_members, member, same_key}
 use Rattle.sbe_value.specs.declared.path.Step.TheVariants.{Key, At}
 use Rattle.sbe_prim.specs.declared.Primitive.{Primitive}
@@ -8,19 +8,29 @@ use Rattle.sbe_schema.specs.declared.types.Presence.TheVariants.{Required}
 use Rattle.sbe_schema.specs.declared.messages.FieldDef.{FieldDef}
 use Rattle.sbe_schema.specs.declared.messages.DataDef.{DataDef}
 use Rattle.sbe_schema.specs.declared.messages.MessageDef.{MessageDef}
+use Rattle.sbe_schema.specs.declared.groups.GroupDef.{GroupDef}
+use Rattle.sbe_schema.specs.Views.{head_of}
 use Rattle.sbe_schema.specs.Groups.{GroupHead, GroupTree, no_groups, group}
+use Rattle.toml_walk.specs.declared.fault.TomlFault.{TomlFault}
 use Rattle.toml_walk.specs.declared.fault.TomlFault.TheVariants.{WrongKind}
-use Rattle.toml_walk.specs.Reading.{Read, ◌>>=◌, under}
+use Rattle.toml_walk.specs.Reading.{Read, ◌>>=◌, under, is_memory}
 use Rattle.toml_walk.specs.Keys.{required, defaulted, optional, list_of, table_of, only}
 use Rattle.toml_walk.specs.Values.{name_of, number_of, natural_of}
+use Rattle.schema_toml.specs.declared.messages.Holder.{Holder}
+use Rattle.schema_toml.specs.declared.groups.Start.{Start}
+use Rattle.schema_toml.specs.declared.groups.Inside.{Inside}
 use Rattle.schema_toml.specs.Words.{primitive_of, presence_of, constant_of}
 
 -- the greatest id
 abbrev pub id_of : Data → Read ℕ
 id_of = natural_of 0 65534
 
+-- {since?}: the version with which a message or a group came, by default that of what holds it
+abbrev pub own_of : ℤ → Data → Read Holder
+own_of since keys = defaulted (codes "since") since number_of keys >>= λ own. Ok (record { since = own })
+
 -- {name, id, type, presence?, value?, offset?, since?}, in what came with the version `since`
-abbrev field_keys : ℤ → Data → Read FieldDef
+abbrev pub field_keys : ℤ → Data → Read FieldDef
 field_keys since keys =
     required (codes "name") name_of keys >>= λ name.
     required (codes "id") id_of keys >>= λ id.
@@ -36,7 +46,7 @@ abbrev pub field_of : ℤ → Data → Read FieldDef
 field_of since = table_of (field_keys since)
 
 -- {name, id, length?, since?}
-abbrev data_keys : ℤ → Data → Read DataDef
+abbrev pub data_keys : ℤ → Data → Read DataDef
 data_keys since keys =
     required (codes "name") name_of keys >>= λ name.
     required (codes "id") id_of keys >>= λ id.
@@ -48,24 +58,38 @@ data_keys since keys =
 abbrev pub datum_of : ℤ → Data → Read DataDef
 datum_of since = table_of (data_keys since)
 
--- a group without the groups of its entries, and those groups
-abbrev pub GroupRead : Type 0
-GroupRead = GroupHead × GroupTree
-
--- {name, id, block_prim?, count_prim?, since?, block_length?, fields?, groups?, data?}, of which `inner` reads the groups
-abbrev pub group_keys : (ℤ → Read GroupTree) → ℤ → Data → Read GroupRead
-group_keys inner since keys =
+-- {name, id, block_prim?, count_prim?, since?, block_length?} of a group
+abbrev pub start_of : ℤ → Data → Read Start
+start_of since keys =
     required (codes "name") name_of keys >>= λ name.
     required (codes "id") id_of keys >>= λ id.
     defaulted (codes "block_prim") UInt16 primitive_of keys >>= λ block_prim.
     defaulted (codes "count_prim") UInt16 primitive_of keys >>= λ count_prim.
-    defaulted (codes "since") since number_of keys >>= λ own_since.
+    own_of since keys >>= λ own.
     optional (codes "block_length") number_of keys >>= λ block_length.
-    defaulted (codes "fields") [] (list_of (field_of own_since)) keys >>= λ fields.
-    inner own_since >>= λ groups.
-    defaulted (codes "data") [] (list_of (datum_of own_since)) keys >>= λ vars.
+    Ok (record { name = name; id = id; block_prim = block_prim; count_prim = count_prim; own = own; block_length = block_length })
+
+-- a group without the groups of its entries, and those groups
+abbrev pub GroupRead : Type 0
+GroupRead = GroupHead × GroupTree
+
+-- {fields?, groups?, data?} of a group of this version behind its start, of which `inner` reads the groups
+abbrev pub inside_of : Read GroupTree → ℤ → Data → Read Inside
+inside_of inner since keys =
+    defaulted (codes "fields") [] (list_of (field_of since)) keys >>= λ fields.
+    inner >>= λ groups.
+    defaulted (codes "data") [] (list_of (datum_of since)) keys >>= λ vars.
     only (codes "name" ∷ codes "id" ∷ codes "block_prim" ∷ codes "count_prim" ∷ codes "since" ∷ codes "block_length" ∷ codes "fields" ∷ codes "groups" ∷ codes "data" ∷ []) keys >>= λ _.
-    Ok (record { name = name; id = id; block_prim = block_prim; count_prim = count_prim; since = own_since; block_length = block_length; fields = fields; vars = vars }, groups)
+    Ok (record { fields = fields; groups = groups; vars = vars })
+
+abbrev pub head_with : Start → Inside → GroupHead
+head_with start inside = record { name = start.name; id = start.id; block_prim = start.block_prim; count_prim = start.count_prim; since = start.own.since; block_length = start.block_length; fields = inside.fields; vars = inside.vars }
+
+abbrev pub group_keys : (ℤ → Read GroupTree) → ℤ → Data → Read GroupRead
+group_keys inner since keys =
+    start_of since keys >>= λ start.
+    inside_of (inner start.own.since) start.own.since keys >>= λ inside.
+    Ok (head_with start inside, inside.groups)
 
 -- the groups of a block, as the value at their key and as a list of tables; each group's own groups lie in it
 abbrev mutual
@@ -86,18 +110,27 @@ abbrev mutual
   groups_from since at (item d ds) =
       under (At at) (group_of since d) >>= λ g. groups_from since (at + 1) ds >>= λ rest. Ok (group g.0 g.1 rest)
 
+-- a group told by its keys alone: its own groups lie at the key `groups`
+unfoldable pub group_by_keys : ℤ → Data → Read GroupRead
+group_by_keys since d = table_of (λ keys. group_keys (λ own_since. defaulted (codes "groups") no_groups (groups_of own_since) keys) since keys) d
+
+-- a group is what is told, unless memory ran out
+abbrev pub ReadsGroup : Result GroupDef TomlFault → Read GroupRead → Type 0
+ReadsGroup (Ok g) told = told ≡ Ok (head_of g, g.groups)
+ReadsGroup (Err fault) told = is_memory fault ≡ false → told ≡ Err fault
+
 -- {name, id, since?, block_length?, fields?, groups?, data?}
-abbrev message_keys : Data → Read MessageDef
+abbrev pub message_keys : Data → Read MessageDef
 message_keys keys =
     required (codes "name") name_of keys >>= λ name.
     required (codes "id") id_of keys >>= λ id.
-    defaulted (codes "since") (pos 0) number_of keys >>= λ since.
+    own_of (pos 0) keys >>= λ own.
     optional (codes "block_length") number_of keys >>= λ block_length.
-    defaulted (codes "fields") [] (list_of (field_of since)) keys >>= λ fields.
-    defaulted (codes "groups") no_groups (groups_of since) keys >>= λ groups.
-    defaulted (codes "data") [] (list_of (datum_of since)) keys >>= λ vars.
+    defaulted (codes "fields") [] (list_of (field_of own.since)) keys >>= λ fields.
+    defaulted (codes "groups") no_groups (groups_of own.since) keys >>= λ groups.
+    defaulted (codes "data") [] (list_of (datum_of own.since)) keys >>= λ vars.
     only (codes "name" ∷ codes "id" ∷ codes "since" ∷ codes "block_length" ∷ codes "fields" ∷ codes "groups" ∷ codes "data" ∷ []) keys >>= λ _.
-    Ok (record { name = name; id = id; since = since; block_length = block_length; fields = fields; groups = groups; vars = vars })
+    Ok (record { name = name; id = id; since = own.since; block_length = block_length; fields = fields; groups = groups; vars = vars })
 
 abbrev pub message_of : Data → Read MessageDef
 message_of = table_of message_keys

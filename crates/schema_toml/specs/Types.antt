@@ -17,7 +17,7 @@ use Rattle.schema_toml.specs.declared.types.Kind.TheVariants as kinds
 use Rattle.schema_toml.specs.Words.{listed, word_in, primitive_of, presence_of, constant_of}
 
 -- {name, value}
-abbrev value_keys : Data → Read ValueDef
+abbrev pub value_keys : Data → Read ValueDef
 value_keys keys =
     required (codes "name") name_of keys >>= λ name.
     required (codes "value") number_of keys >>= λ value.
@@ -28,7 +28,7 @@ abbrev pub value_of : Data → Read ValueDef
 value_of = table_of value_keys
 
 -- {name, bit}
-abbrev bit_keys : Data → Read BitDef
+abbrev pub bit_keys : Data → Read BitDef
 bit_keys keys =
     required (codes "name") name_of keys >>= λ name.
     required (codes "bit") (natural_of 0 63) keys >>= λ bit.
@@ -39,7 +39,7 @@ abbrev pub bit_of : Data → Read BitDef
 bit_of = table_of bit_keys
 
 -- {name, type, offset?, presence?, value?}
-abbrev member_keys : Data → Read MemberDef
+abbrev pub member_keys : Data → Read MemberDef
 member_keys keys =
     required (codes "name") name_of keys >>= λ name.
     required (codes "type") name_of keys >>= λ type_name.
@@ -99,7 +99,7 @@ kind_keys kinds.Set keys = set_kind keys
 kind_keys kinds.Composite keys = composite_kind keys
 
 -- {name, kind}, and then by the kind
-abbrev type_keys : Data → Read TypeDef
+abbrev pub type_keys : Data → Read TypeDef
 type_keys keys =
     required (codes "name") name_of keys >>= λ name.
     required (codes "kind") kind_word_of keys >>= λ kind.

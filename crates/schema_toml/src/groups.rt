@@ -1,19 +1,18 @@
 //! The groups of a block: a list of tables in which each group holds its own groups.
 
-ghost use Rattle.std.specs.Prelude.{◌≡◌, codes, IfOk, IfErr, Ok, Err, false};
+ghost use Rattle.std.specs.Prelude.{◌≡◌, codes};
 ghost use Rattle.sbe_value.specs.declared.path.Step.TheVariants.{At};
 ghost use Rattle.sbe_schema.specs.Groups.{no_groups};
-ghost use Rattle.sbe_schema.specs.Views.{head_of, groups_of as tree_of};
 ghost use Rattle.toml.specs.View.{view, items_view};
-ghost use Rattle.toml_walk.specs.Reading.{Reads, is_memory, under};
+ghost use Rattle.toml_walk.specs.Reading.{Reads, under};
 ghost use Rattle.toml_walk.specs.Keys.{defaulted};
-ghost use Rattle.schema_toml.specs.Messages.{group_of, groups_from, groups_of};
+ghost use Rattle.schema_toml.specs.Messages.{ReadsGroup, group_by_keys, group_of, groups_of, inside_of, start_of};
 
-use crate::messages::{Data, Fields, GREATEST_ID};
+use crate::messages::{Data, Fields, GREATEST_ID, Holder, read_own};
 use crate::words::Primitives;
 use sbe_prim::Primitive;
 use sbe_schema::{DataDefs, FieldDefs, GroupDef, GroupDefs};
-use sbe_value::{Path, Step};
+use sbe_value::{Bytes, Path, Step};
 use std::alloc::Global;
 use toml::Value;
 use toml_walk::{
@@ -23,25 +22,27 @@ use toml_walk::{
 
 /// The groups at their key in a table, none where the key is absent.
 #[cycle(groups)]
-pub fn groups_or_none(alloc: Global, since: i128, keys: &Value) -> Result<GroupDefs, TomlFault>
-    ensures { Reads result (defaulted (codes "groups") no_groups (groups_of since) (view keys.now)) }
+#[tactic(auto, using(crate::proofs::Nested::get_depth))]
+pub fn groups_or_none(alloc: Global, holder: Holder, keys: &Value) -> Result<GroupDefs, TomlFault>
+    ensures { Reads result (defaulted (codes "groups") no_groups (groups_of holder.since) (view keys.now)) }
 {
     match keys.get("groups") {
-        Some(value) => under_key(alloc, "groups", read_groups(alloc, since, value)),
+        Some(value) => under_key(alloc, "groups", read_groups(alloc, holder, value)),
         None => Ok(GroupDefs::from(Vec::new(alloc))),
     }
 }
 
 #[cycle(groups)]
-fn read_groups(alloc: Global, since: i128, value: &Value) -> Result<GroupDefs, TomlFault>
-    ensures { Reads result (groups_of since (view value.now)) }
+#[tactic(auto, using(crate::proofs::Nested::array_depth, crate::proofs::Nested::item_depth, crate::proofs::Nested::one_more, crate::proofs::Nested::none_left))]
+fn read_groups(alloc: Global, holder: Holder, value: &Value) -> Result<GroupDefs, TomlFault>
+    ensures { Reads result (groups_of holder.since (view value.now)) }
 {
     let Some(values) = value.as_array() else {
         return Err(TomlFault::WrongKind(Path::new(alloc)));
     };
     let mut groups = Vec::with_capacity(alloc, values.len())?;
     for value in values {
-        let group = read_group_at(alloc, since, groups.len() as u64, value)?;
+        let group = read_group_at(alloc, holder, groups.len() as u64, value)?;
         if groups.push(group).is_err() {
             return Err(TomlFault::Memory);
         }
@@ -51,33 +52,102 @@ fn read_groups(alloc: Global, since: i128, value: &Value) -> Result<GroupDefs, T
 
 /// A group at a place of a list, its fault told from the list.
 #[cycle(groups)]
-fn read_group_at(alloc: Global, since: i128, at: u64, value: &Value) -> Result<GroupDef, TomlFault>
-    ensures ok { IfOk result (λ g. under (At at) (group_of since (view value.now)) ≡ Ok (head_of g, g.groups)) }
-    ensures err { IfErr result (λ fault. is_memory fault ≡ false → under (At at) (group_of since (view value.now)) ≡ Err fault) }
+fn read_group_at(
+    alloc: Global,
+    holder: Holder,
+    at: u64,
+    value: &Value,
+) -> Result<GroupDef, TomlFault>
+    ensures { ReadsGroup result (under (At at) (group_of holder.since (view value.now))) }
 {
-    match read_group(alloc, since, value) {
+    match read_group(alloc, holder, value) {
         Ok(group) => Ok(group),
         Err(fault) => Err(deepened(Step::At(at), fault)),
     }
 }
 
+/// A group by its keys.
 #[cycle(groups)]
-fn read_group(alloc: Global, since: i128, keys: &Value) -> Result<GroupDef, TomlFault>
-    ensures ok { IfOk result (λ g. group_of since (view keys.now) ≡ Ok (head_of g, g.groups)) }
-    ensures err { IfErr result (λ fault. is_memory fault ≡ false → group_of since (view keys.now) ≡ Err fault) }
+#[tactic(auto, unfolding(crate::specs::Messages::group_by_keys))]
+fn read_group(alloc: Global, holder: Holder, keys: &Value) -> Result<GroupDef, TomlFault>
+    ensures { ReadsGroup result (group_by_keys holder.since (view keys.now)) }
 {
     if !keys.is_table() {
         return Err(TomlFault::WrongKind(Path::new(alloc)));
     }
+    let start = read_start(alloc, holder, keys)?;
+    let Inside {
+        fields,
+        groups,
+        vars,
+    } = read_inside(alloc, start.own, keys)?;
+    let Start {
+        name,
+        id,
+        block_prim,
+        count_prim,
+        own,
+        block_length,
+    } = start;
+    Ok(GroupDef {
+        name,
+        id,
+        block_prim,
+        count_prim,
+        since: own.since,
+        block_length,
+        fields,
+        groups,
+        vars,
+    })
+}
+
+/// What a group says of itself before what lies in it.
+#[derive(Debug, Drop)]
+pub struct Start {
+    name: Bytes,
+    id: u16,
+    block_prim: Primitive,
+    count_prim: Primitive,
+    own: Holder,
+    block_length: Option<i128>,
+}
+
+/// What lies in a group.
+#[derive(Debug, Drop)]
+pub struct Inside {
+    fields: FieldDefs,
+    groups: GroupDefs,
+    vars: DataDefs,
+}
+
+fn read_start(alloc: Global, holder: Holder, keys: &Value) -> Result<Start, TomlFault>
+    ensures { Reads result (start_of holder.since (view keys.now)) }
+{
     let name = required::<Names>(alloc, (), keys, "name")?;
     let id = natural_at(alloc, keys, "id", 0, GREATEST_ID)?;
     let block_prim = defaulted::<Primitives>(alloc, (), keys, "block_prim", Primitive::UInt16)?;
     let count_prim = defaulted::<Primitives>(alloc, (), keys, "count_prim", Primitive::UInt16)?;
-    let since = defaulted::<Numbers>(alloc, (), keys, "since", since)?;
+    let own = read_own(alloc, holder.since, keys)?;
     let block_length = optional::<Numbers>(alloc, (), keys, "block_length")?;
-    let fields = list_or_empty::<Fields>(alloc, since, keys, "fields")?;
-    let groups = groups_or_none(alloc, since, keys)?;
-    let vars = list_or_empty::<Data>(alloc, since, keys, "data")?;
+    Ok(Start {
+        name,
+        id: id as u16,
+        block_prim,
+        count_prim,
+        own,
+        block_length,
+    })
+}
+
+/// What lies in a group of this version.
+#[cycle(groups)]
+fn read_inside(alloc: Global, holder: Holder, keys: &Value) -> Result<Inside, TomlFault>
+    ensures { Reads result (inside_of (defaulted (codes "groups") no_groups (groups_of holder.since) (view keys.now)) holder.since (view keys.now)) }
+{
+    let fields = list_or_empty::<Fields>(alloc, holder, keys, "fields")?;
+    let groups = groups_or_none(alloc, holder, keys)?;
+    let vars = list_or_empty::<Data>(alloc, holder, keys, "data")?;
     only(
         alloc,
         keys,
@@ -93,13 +163,7 @@ fn read_group(alloc: Global, since: i128, keys: &Value) -> Result<GroupDef, Toml
             "data",
         ],
     )?;
-    Ok(GroupDef {
-        name,
-        id: id as u16,
-        block_prim,
-        count_prim,
-        since,
-        block_length,
+    Ok(Inside {
         fields: FieldDefs::from(fields),
         groups,
         vars: DataDefs::from(vars),

@@ -1,6 +1,9 @@
 //! The messages of a schema.
 
 ghost use Rattle.std.specs.Prelude.{◌≡◌};
+ghost use Rattle.toml.specs.View.{view};
+ghost use Rattle.toml_walk.specs.Reading.{Reads};
+ghost use Rattle.schema_toml.specs.Messages.{own_of};
 
 use crate::groups::groups_or_none;
 use crate::words::{Constants, Presences, Primitives};
@@ -17,19 +20,34 @@ use toml_walk::{
 /// The greatest id.
 pub const GREATEST_ID: u64 = 65534;
 
+/// What holds an element, as far as the element's defaults depend on it.
+#[derive(Clone, Copy, Debug)]
+pub struct Holder {
+    /// The version with which it came.
+    pub since: i128,
+}
+
+/// The version with which a message or a group came, by default that of what holds it.
+pub fn read_own(alloc: Global, since: i128, keys: &Value) -> Result<Holder, TomlFault>
+    ensures { Reads result (own_of since (view keys.now)) }
+{
+    let since = defaulted::<Numbers>(alloc, (), keys, "since", since)?;
+    Ok(Holder { since })
+}
+
 /// Fields of a block, in what came with a version.
 pub struct Fields;
 
 impl Reader for Fields {
-    type Holder = i128;
+    type Holder = Holder;
 
     type Made = FieldDef;
 
     ghost use Rattle.schema_toml.specs.Messages.{field_of};
 
-    ghost spelled = { field_of };
+    ghost spelled = { λ holder. field_of holder.since };
 
-    fn read(alloc: Global, since: i128, keys: &Value) -> Result<FieldDef, TomlFault> {
+    fn read(alloc: Global, holder: Holder, keys: &Value) -> Result<FieldDef, TomlFault> {
         if !keys.is_table() {
             return Err(TomlFault::WrongKind(Path::new(alloc)));
         }
@@ -39,7 +57,7 @@ impl Reader for Fields {
         let presence = defaulted::<Presences>(alloc, (), keys, "presence", Presence::Required)?;
         let value = optional::<Constants>(alloc, (), keys, "value")?;
         let offset = optional::<Numbers>(alloc, (), keys, "offset")?;
-        let since = defaulted::<Numbers>(alloc, (), keys, "since", since)?;
+        let since = defaulted::<Numbers>(alloc, (), keys, "since", holder.since)?;
         only(
             alloc,
             keys,
@@ -61,22 +79,22 @@ impl Reader for Fields {
 pub struct Data;
 
 impl Reader for Data {
-    type Holder = i128;
+    type Holder = Holder;
 
     type Made = DataDef;
 
     ghost use Rattle.schema_toml.specs.Messages.{datum_of};
 
-    ghost spelled = { datum_of };
+    ghost spelled = { λ holder. datum_of holder.since };
 
-    fn read(alloc: Global, since: i128, keys: &Value) -> Result<DataDef, TomlFault> {
+    fn read(alloc: Global, holder: Holder, keys: &Value) -> Result<DataDef, TomlFault> {
         if !keys.is_table() {
             return Err(TomlFault::WrongKind(Path::new(alloc)));
         }
         let name = required::<Names>(alloc, (), keys, "name")?;
         let id = natural_at(alloc, keys, "id", 0, GREATEST_ID)?;
         let length = defaulted::<Primitives>(alloc, (), keys, "length", Primitive::UInt16)?;
-        let since = defaulted::<Numbers>(alloc, (), keys, "since", since)?;
+        let since = defaulted::<Numbers>(alloc, (), keys, "since", holder.since)?;
         only(alloc, keys, &["name", "id", "length", "since"])?;
         Ok(DataDef {
             name,
@@ -105,11 +123,11 @@ impl Reader for Messages {
         }
         let name = required::<Names>(alloc, (), keys, "name")?;
         let id = natural_at(alloc, keys, "id", 0, GREATEST_ID)?;
-        let since = defaulted::<Numbers>(alloc, (), keys, "since", 0)?;
+        let own = read_own(alloc, 0, keys)?;
         let block_length = optional::<Numbers>(alloc, (), keys, "block_length")?;
-        let fields = list_or_empty::<Fields>(alloc, since, keys, "fields")?;
-        let groups = groups_or_none(alloc, since, keys)?;
-        let vars = list_or_empty::<Data>(alloc, since, keys, "data")?;
+        let fields = list_or_empty::<Fields>(alloc, own, keys, "fields")?;
+        let groups = groups_or_none(alloc, own, keys)?;
+        let vars = list_or_empty::<Data>(alloc, own, keys, "data")?;
         only(
             alloc,
             keys,
@@ -126,7 +144,7 @@ impl Reader for Messages {
         Ok(MessageDef {
             name,
             id: id as u16,
-            since,
+            since: own.since,
             block_length,
             fields: FieldDefs::from(fields),
             groups,

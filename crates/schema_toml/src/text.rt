@@ -12,7 +12,9 @@ use sbe_prim::Order;
 use sbe_schema::{MessageDefs, Schema, TypeDefs};
 use std::alloc::Global;
 use toml::Value;
-use toml_walk::{TomlFault, defaulted, list_or_empty, natural_at, only, required_list};
+use toml_walk::{
+    TomlFault, defaulted, list_or_empty, natural_at, only, read_document, required_list,
+};
 
 /// The greatest version.
 const GREATEST_VERSION: u64 = 65534;
@@ -45,9 +47,6 @@ fn read_table(alloc: Global, keys: &Value) -> Result<Schema, TomlFault>
 pub fn read_schema(alloc: Global, text: &[u8]) -> Result<Schema, TomlFault>
     ensures { Reads result (schema_of_text text.now) }
 {
-    match toml::table_from_slice(alloc, text) {
-        Ok(table) => read_table(alloc, &Value::Table(table)),
-        Err(error) if error.is_memory() => Err(TomlFault::Memory),
-        Err(_) => Err(TomlFault::Text),
-    }
+    let keys = read_document(alloc, text)?;
+    read_table(alloc, &keys)
 }

@@ -8,8 +8,8 @@ use Rattle.std.proofs.lemmas.List.Folds.{drop_split}
 use Rattle.std.proofs.Math.Seq.{take-append_seam}
 use Rattle.std.proofs.lemmas.List.Elements.{All-take, All-drop}
 use Rattle.std.proofs.lemmas.Nat.{be_bytes_2, be_bytes_4, from_be_bytes-to_be_bytes_2, from_be_bytes-to_be_bytes_4}
-use Rattle.sofh_frame.specs.declared.Order.{Order}
-use Rattle.sofh_frame.specs.declared.Order.TheVariants.{Little, Big}
+use Rattle.sbe_prim.specs.declared.Order.{Order}
+use Rattle.sbe_prim.specs.declared.Order.TheVariants.{Little, Big}
 use Rattle.sofh_frame.specs.Framing.{Frame, IsFrame, header_of, spelled, encoding_of, First, frame, rest, bad_length, bad_encoding, first_of, length_in, encoding_in, order_of, BeginsWith, IfFrame, IsBadLength, IsBadEncoding, IsBytes}
 
 -- a frame's parts, as its numbers give them

@@ -1,8 +1,8 @@
 -- The framing header and the first frame of a list of bytes (Simple Open Framing Header, "Message Length" and "Encoding Type").
 use Rattle.std.specs.Prelude.{⊤, ◌≡◌, ◌≢◌, ℕ, ◌+◌, ◌<◌, ◌≤◌, ◌⊎◌, nat_lt, nat_le, ◌&&◌, ◌==◌, if◌then◌else◌, Bool, Option, Some, None, IsSome, All, List, ◌++◌, length, take, drop, slice_range}
 use Rattle.std.specs.Int.{w16, w32, from_be_bytes, to_be_bytes}
-use Rattle.sofh_frame.specs.declared.Order.{Order}
-use Rattle.sofh_frame.specs.declared.Order.TheVariants.{Little, Big}
+use Rattle.sbe_prim.specs.declared.Order.{Order}
+use Rattle.sbe_prim.specs.declared.Order.TheVariants.{Little, Big}
 
 -- a message, and the order of its numbers' bytes
 pub record Frame : Type 0 where

@@ -8,7 +8,7 @@ use Rattle.toml_walk.specs.declared.fault.TomlFault.TheVariants.{Missing, WrongK
 use Rattle.toml_walk.specs.Reading.{Read, ◌>>=◌, under}
 
 module _ {A : Type 0} where
-  abbrev required_of : List ℕ → (Data → Read A) → Option Data → Read A
+  abbrev pub required_of : List ℕ → (Data → Read A) → Option Data → Read A
   required_of key read None = Err (Missing (Key key ∷ []))
   required_of key read (Some d) = under (Key key) (read d)
 
@@ -16,7 +16,7 @@ module _ {A : Type 0} where
   abbrev pub required : List ℕ → (Data → Read A) → Data → Read A
   required key read keys = required_of key read (get key keys)
 
-  abbrev defaulted_of : List ℕ → A → (Data → Read A) → Option Data → Read A
+  abbrev pub defaulted_of : List ℕ → A → (Data → Read A) → Option Data → Read A
   defaulted_of key default read None = Ok default
   defaulted_of key default read (Some d) = under (Key key) (read d)
 
@@ -24,7 +24,7 @@ module _ {A : Type 0} where
   abbrev pub defaulted : List ℕ → A → (Data → Read A) → Data → Read A
   defaulted key default read keys = defaulted_of key default read (get key keys)
 
-  abbrev optional_of : List ℕ → (Data → Read A) → Option Data → Read (Option A)
+  abbrev pub optional_of : List ℕ → (Data → Read A) → Option Data → Read (Option A)
   optional_of key read None = Ok None
   optional_of key read (Some d) = under (Key key) (read d) >>= (λ a. Ok (Some a))
 
@@ -37,7 +37,7 @@ module _ {A : Type 0} where
   elements read at no_items = Ok []
   elements read at (item d ds) = under (At at) (read d) >>= (λ a. elements read (at + 1) ds >>= (λ rest. Ok (a ∷ rest)))
 
-  abbrev list_of_items : (Data → Read A) → Option Items → Read (List A)
+  abbrev pub list_of_items : (Data → Read A) → Option Items → Read (List A)
   list_of_items read None = Err (WrongKind [])
   list_of_items read (Some ds) = elements read 0 ds
 
@@ -46,7 +46,7 @@ module _ {A : Type 0} where
   list_of read d = list_of_items read (as_array d)
 
   -- a table, by its keys
-  abbrev table_of_members : (Data → Read A) → Data → Option Members → Read A
+  abbrev pub table_of_members : (Data → Read A) → Data → Option Members → Read A
   table_of_members read d None = Err (WrongKind [])
   table_of_members read d (Some keys) = read d
 

@@ -1,3 +1,4 @@
 pub mod Reading
 pub mod Keys
 pub mod Values
+pub mod Documents

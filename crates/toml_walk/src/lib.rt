@@ -3,11 +3,13 @@
 //! It stands on `toml` and on the paths of the value types.
 #![tactic(auto)]
 
+mod document;
 mod fault;
 mod keys;
 mod reader;
 mod value;
 
+pub use document::read_document;
 pub use fault::{TomlFault, deepened};
 pub use keys::{missing, natural_at, natural_or, only, under_key};
 pub use reader::{

@@ -1,4 +1,4 @@
-use Rattle.std.proofs.Common.{◌≡◌, ◌+◌, ◌∙◌, ap, drop, arith}
+use Rattle.std.proofs.Common.{◌+◌, ◌∙◌, ap, drop, arith}
 use Rattle.sbe_schema.specs.Views.{groups_of}
 use Rattle.sbe_layout.specs.Views.{plans_of}
 use Rattle.sbe_layout.specs.Plans.{groups_plan}

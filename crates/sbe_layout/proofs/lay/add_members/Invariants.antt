@@ -1,4 +1,4 @@
-use Rattle.std.proofs.Common.{◌≡◌, ◌++◌, ◌+◌, ◌*◌, drop}
+use Rattle.std.proofs.Common.{◌≡◌, ◌++◌, drop}
 use Rattle.sbe_layout.specs.Plans.{items_of_members}
 use Rattle.sbe_layout.proofs.lay.add_members.Given as goal
 

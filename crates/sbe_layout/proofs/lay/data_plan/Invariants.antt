@@ -1,4 +1,4 @@
-use Rattle.std.proofs.Common.{◌≡◌, ◌++◌, ◌+◌, ◌*◌, drop}
+use Rattle.std.proofs.Common.{◌≡◌, ◌++◌, drop}
 use Rattle.sbe_layout.specs.Plans.{data_of}
 use Rattle.sbe_layout.proofs.lay.data_plan.Given as goal
 

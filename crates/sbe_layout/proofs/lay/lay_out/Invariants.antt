@@ -1,4 +1,4 @@
-use Rattle.std.proofs.Common.{◌≡◌, ◌++◌, ◌+◌, ◌*◌, drop}
+use Rattle.std.proofs.Common.{◌≡◌, ◌++◌, drop}
 use Rattle.sbe_layout.specs.Plans.{message_plans}
 use Rattle.sbe_layout.proofs.lay.lay_out.Given as goal
 

@@ -1,4 +1,4 @@
-use Rattle.std.proofs.Common.{◌≡◌, ◌++◌, ◌+◌, ◌*◌, drop}
+use Rattle.std.proofs.Common.{◌≡◌, ◌++◌, drop}
 use Rattle.sbe_layout.specs.Plans.{marks_of}
 use Rattle.sbe_layout.proofs.lay.marks_plan.Given as goal
 

@@ -1,4 +1,4 @@
-use Rattle.std.proofs.Common.{◌≡◌, ◌++◌, ◌+◌, ◌*◌, drop}
+use Rattle.std.proofs.Common.{◌≡◌, drop}
 use Rattle.sbe_layout.specs.Plans.{message_of}
 use Rattle.sbe_layout.proofs.plan.first_of.Given as goal
 
