@@ -36,21 +36,21 @@ signed_held false n fits = tt
 integer_sound : (negative : Bool) (n : ℕ) (x : Scalar) → integer_of negative n ≡ Some x → SoundScalar x
 integer_sound negative n x told =
     cond_inv (nat_lt n (2 ^ 63) || (negative && n == 2 ^ 63)) _ _ x told
-      (λ fits told. subst SoundScalar (some_value (Integer (with_sign negative n)) x told) (signed_held negative n fits))
-      (λ _ told. absurd cc)
+    (λ fits told. subst SoundScalar (some_value (Integer (with_sign negative n)) x told) (signed_held negative n fits))
+    (λ _ told. absurd cc)
 
 prefixed_sound : (radix : ℕ) (digits : List ℕ) (x : Scalar) → prefixed_integer radix digits ≡ Some x → SoundScalar x
 unfolding prefixed_integer
 prefixed_sound radix digits x told =
     cond_inv ((nat_lt 0 (length digits) && list_all (λ c. is_digit c radix) digits) && nat_lt (digits_value radix digits) (2 ^ 63)) _ _ x told
-      (λ _ told. subst SoundScalar (some_value (Integer (pos (digits_value radix digits))) x told) tt)
-      (λ _ told. absurd cc)
+    (λ _ told. subst SoundScalar (some_value (Integer (pos (digits_value radix digits))) x told) tt)
+    (λ _ told. absurd cc)
 
 float_sound : (negative : Bool) (p : Parts) (x : Scalar) → float_of negative p ≡ Some x → SoundScalar x
 float_sound negative p x told =
     cond_inv (float_is_finite (nearest binary64 negative p)) _ _ x told
-      (λ _ told. subst SoundScalar (some_value (Float (nearest binary64 negative p)) x told) tt)
-      (λ _ told. absurd cc)
+    (λ _ told. subst SoundScalar (some_value (Float (nearest binary64 negative p)) x told) tt)
+    (λ _ told. absurd cc)
 
 decimal_sound : (negative : Bool) (word : List ℕ) (x : Scalar) → decimal_number negative word ≡ Some x → SoundScalar x
 unfolding decimal_number
@@ -59,8 +59,8 @@ decimal_sound negative word x told =
     cond_inv (bytes_eq word (codes "nan")) _ _ x told (λ _ told. subst SoundScalar (some_value (Float nan) x told) tt) (λ _ told.
     cond_inv (not ((scan word).len == length word && is_decimal (scan word))) _ _ x told (λ _ told. absurd cc) (λ _ told.
     cond_inv ((scan word).point || nat_lt 0 (length (scan word).exponent)) _ _ x told
-      (λ _ told. float_sound negative (scan word) x told)
-      (λ _ told. integer_sound negative (digits_of (scan word)) x told))))
+    (λ _ told. float_sound negative (scan word) x told)
+    (λ _ told. integer_sound negative (digits_of (scan word)) x told))))
 
 plain_sound : (word : List ℕ) (x : Scalar) → plain_number word ≡ Some x → SoundScalar x
 unfolding plain_number
@@ -104,10 +104,10 @@ atom_sound : SoundReader atom
 unfolding atom
 atom_sound text r t told =
     cond_inv (starts_string text) _ _ r told
-      (λ starts told. map_inv (λ p. (string p.0, p.1)) (quoted text) r told (λ q made same.
-      let both = quoted_sound text q starts t made in
-      subst Got same (is_utf8-from_IsUtf8 q.0 both.0, both.1)))
-      (λ _ told. map_inv (λ p. (scalar_data p.0, p.1)) (unquoted text) r told (λ q made same. subst Got same (unquoted_sound text q t made)))
+    (λ starts told. map_inv (λ p. (string p.0, p.1)) (quoted text) r told (λ q made same.
+    let both = quoted_sound text q starts t made in
+    subst Got same (is_utf8-from_IsUtf8 q.0 both.0, both.1)))
+    (λ _ told. map_inv (λ p. (scalar_data p.0, p.1)) (unquoted text) r told (λ q made same. subst Got same (unquoted_sound text q t made)))
 
 -- ---- keys
 
@@ -116,8 +116,8 @@ unfolding simple_key
 simple_tail text q t told =
     cond_inv (starts_string text) _ _ q told (λ starts told. (one_line_sound text q starts t told).1) (λ _ told.
     cond_inv (is_bare (first text)) _ _ q told
-      (λ _ told. subst (λ (x : List ℕ × List ℕ). Tail x.1) (some_value (split_while is_bare text) q told) (tail-drop _ text t))
-      (λ _ told. absurd cc))
+    (λ _ told. subst (λ (x : List ℕ × List ℕ). Tail x.1) (some_value (split_while is_bare text) q told) (tail-drop _ text t))
+    (λ _ told. absurd cc))
 
 key_after_tail : (n : ℕ) (path : List (List ℕ)) (text : List ℕ) (q : Key × List ℕ) → Tail text → key_after n path text ≡ Some q → Tail q.1
 unfolding key_after
@@ -126,8 +126,8 @@ key_after_tail (suc n) path text q t told =
     then_inv _ (simple_key text) q told (λ part made told.
     let rest = tail-skip_ws part.1 (simple_tail text part t made) in
     cond_inv (first (skip_ws part.1) == dot) _ _ q told
-      (λ _ told. key_after_tail n (path ++ part.0 ∷ []) (skip_ws (drop 1 (skip_ws part.1))) q (tail-skip_ws _ (tail-drop 1 _ rest)) told)
-      (λ _ told. subst (λ (x : Key × List ℕ). Tail x.1) (some_value ((path, part.0), skip_ws part.1) q told) rest))
+    (λ _ told. key_after_tail n (path ++ part.0 ∷ []) (skip_ws (drop 1 (skip_ws part.1))) q (tail-skip_ws _ (tail-drop 1 _ rest)) told)
+    (λ _ told. subst (λ (x : Key × List ℕ). Tail x.1) (some_value ((path, part.0), skip_ws part.1) q told) rest))
 
 key_tail : (text : List ℕ) (q : Key × List ℕ) → Tail text → key text ≡ Some q → Tail q.1
 key_tail text q t told = key_after_tail recursion_limit [] text q t told
@@ -170,11 +170,11 @@ items_sound val sound zero found text r all t told = absurd cc
 items_sound val sound (suc n) found text r all t told =
     let blank = tail-skip_from true false text t in
     cond_inv (first (skip_blank text) == right_bracket) _ _ r told
-      (λ _ told. subst GotItems (some_value (found, drop 1 (skip_blank text)) r told) (all, tail-drop 1 _ blank))
-      (λ _ told. then_inv _ (val (skip_blank text)) r told (λ v made told.
-      let here = sound (skip_blank text) v blank made in
-      then_inv _ (after_element right_bracket v.1) r told (λ rest at told.
-      items_sound val sound n (push_item found v.0) rest r (push_sound found v.0 all here.0) (after_element_tail right_bracket v.1 rest here.1 at) told)))
+    (λ _ told. subst GotItems (some_value (found, drop 1 (skip_blank text)) r told) (all, tail-drop 1 _ blank))
+    (λ _ told. then_inv _ (val (skip_blank text)) r told (λ v made told.
+    let here = sound (skip_blank text) v blank made in
+    then_inv _ (after_element right_bracket v.1) r told (λ rest at told.
+    items_sound val sound n (push_item found v.0) rest r (push_sound found v.0 all here.0) (after_element_tail right_bracket v.1 rest here.1 at) told)))
 
 abbrev GotMembers : Members × List ℕ → Type 0
 GotMembers r = SoundMembers r.0 × Tail r.1
@@ -185,24 +185,24 @@ members_sound val sound zero found text r all t told = absurd cc
 members_sound val sound (suc n) found text r all t told =
     let blank = tail-skip_from true false text t in
     cond_inv (first (skip_blank text) == right_brace) _ _ r told
-      (λ _ told. subst GotMembers (some_value (close found, drop 1 (skip_blank text)) r told) (close_sound found all, tail-drop 1 _ blank))
-      (λ _ told. then_inv _ (keyval val (skip_blank text)) r told (λ e made told.
-      let here = keyval_sound val sound (skip_blank text) e blank made in
-      then_inv _ (put e.0.0 e.0.1 found) r told (λ more placed told.
-      then_inv _ (after_element right_brace e.1) r told (λ rest at told.
-      members_sound val sound n more rest r (put_sound e.0.0.0 e.0.0.1 e.0.1 here.0 found more all placed) (after_element_tail right_brace e.1 rest here.1 at) told))))
+    (λ _ told. subst GotMembers (some_value (close found, drop 1 (skip_blank text)) r told) (close_sound found all, tail-drop 1 _ blank))
+    (λ _ told. then_inv _ (keyval val (skip_blank text)) r told (λ e made told.
+    let here = keyval_sound val sound (skip_blank text) e blank made in
+    then_inv _ (put e.0.0 e.0.1 found) r told (λ more placed told.
+    then_inv _ (after_element right_brace e.1) r told (λ rest at told.
+    members_sound val sound n more rest r (put_sound e.0.0.0 e.0.0.1 e.0.1 here.0 found more all placed) (after_element_tail right_brace e.1 rest here.1 at) told))))
 
 val_sound : (depth : ℕ) → SoundReader (val depth)
 unfolding val
 val_sound zero text r t told = atom_sound text r t told
 val_sound (suc depth) text r t told =
     cond_inv (first text == left_bracket) _ _ r told
-      (λ _ told. map_inv (λ p. (array p.0, p.1)) (items (val depth) (length text) no_items (drop 1 text)) r told (λ p made same.
-      subst Got same (items_sound (val depth) (val_sound depth) (length text) no_items (drop 1 text) p tt (tail-drop 1 text t) made)))
-      (λ _ told. cond_inv (first text == left_brace) _ _ r told
-        (λ _ told. map_inv (λ p. (table p.0, p.1)) (members (val depth) (length text) no_nodes (drop 1 text)) r told (λ p made same.
-        subst Got same (members_sound (val depth) (val_sound depth) (length text) no_nodes (drop 1 text) p tt (tail-drop 1 text t) made)))
-        (λ _ told. atom_sound text r t told))
+    (λ _ told. map_inv (λ p. (array p.0, p.1)) (items (val depth) (length text) no_items (drop 1 text)) r told (λ p made same.
+    subst Got same (items_sound (val depth) (val_sound depth) (length text) no_items (drop 1 text) p tt (tail-drop 1 text t) made)))
+    (λ _ told. cond_inv (first text == left_brace) _ _ r told
+    (λ _ told. map_inv (λ p. (table p.0, p.1)) (members (val depth) (length text) no_nodes (drop 1 text)) r told (λ p made same.
+    subst Got same (members_sound (val depth) (val_sound depth) (length text) no_nodes (drop 1 text) p tt (tail-drop 1 text t) made)))
+    (λ _ told. atom_sound text r t told))
 
 -- ---- lines
 
@@ -220,14 +220,14 @@ expression_sound : (text : List ℕ) (e : Expression × List ℕ) → Tail text 
 unfolding expression
 expression_sound text e t told =
     cond_inv (first text == left_bracket && slice_index text 1 == left_bracket) _ _ e told
-      (λ _ told. then_inv _ (header_key (drop 2 text)) e told (λ k made told.
-      map_inv (λ rest. ((k.0, array_table), rest)) (after_byte right_bracket k.1) e told (λ rest at same.
-      subst GotExpression same (tt, after_tail right_bracket k.1 rest (header_key_tail (drop 2 text) k (tail-drop 2 text t) made) at))))
-      (λ _ told. cond_inv (first text == left_bracket) _ _ e told
-        (λ _ told. map_inv (λ p. ((p.0, std_table), p.1)) (header_key (drop 1 text)) e told (λ k made same.
-        subst GotExpression same (tt, header_key_tail (drop 1 text) k (tail-drop 1 text t) made)))
-        (λ _ told. map_inv (λ p. ((p.0.0, key_value p.0.1), p.1)) (keyval (val recursion_limit) text) e told (λ p made same.
-        subst GotExpression same (keyval_sound (val recursion_limit) (val_sound recursion_limit) text p t made))))
+    (λ _ told. then_inv _ (header_key (drop 2 text)) e told (λ k made told.
+    map_inv (λ rest. ((k.0, array_table), rest)) (after_byte right_bracket k.1) e told (λ rest at same.
+    subst GotExpression same (tt, after_tail right_bracket k.1 rest (header_key_tail (drop 2 text) k (tail-drop 2 text t) made) at))))
+    (λ _ told. cond_inv (first text == left_bracket) _ _ e told
+    (λ _ told. map_inv (λ p. ((p.0, std_table), p.1)) (header_key (drop 1 text)) e told (λ k made same.
+    subst GotExpression same (tt, header_key_tail (drop 1 text) k (tail-drop 1 text t) made)))
+    (λ _ told. map_inv (λ p. ((p.0.0, key_value p.0.1), p.1)) (keyval (val recursion_limit) text) e told (λ p made same.
+    subst GotExpression same (keyval_sound (val recursion_limit) (val_sound recursion_limit) text p t made))))
 
 line_sound : (text : List ℕ) (e : Expression × List ℕ) → Tail text → line text ≡ Some e → GotExpression e
 unfolding line
@@ -241,11 +241,11 @@ lines_sound zero doc last text all t told = absurd cc
 lines_sound (suc n) doc last text all t told =
     let blank = tail-skip_from true false text t in
     cond_inv (length (skip_blank text) == 0) _ _ last told
-      (λ _ told. subst (λ (x : Document). SoundNodes x.0) (some_value doc last told) all)
-      (λ _ told. then_inv _ (line (skip_blank text)) last told (λ e made told.
-      let here = line_sound (skip_blank text) e blank made in
-      then_inv _ (define doc e.0) last told (λ next defined told.
-      lines_sound n next last e.1 (define_sound doc next e.0.0.0 e.0.0.1 e.0.1 here.0 all defined) here.1 told)))
+    (λ _ told. subst (λ (x : Document). SoundNodes x.0) (some_value doc last told) all)
+    (λ _ told. then_inv _ (line (skip_blank text)) last told (λ e made told.
+    let here = line_sound (skip_blank text) e blank made in
+    then_inv _ (define doc e.0) last told (λ next defined told.
+    lines_sound n next last e.1 (define_sound doc next e.0.0.0 e.0.0.1 e.0.1 here.0 all defined) here.1 told)))
 
 bom_by : (b : Bool) (text : List ℕ) → Tail text → Tail (cond b (drop 3 text) text)
 bom_by true text t = tail-drop 3 text t

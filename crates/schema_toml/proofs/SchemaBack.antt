@@ -1,16 +1,18 @@
 -- Schemas: what is written of a schema that a text spells is read as it.
-use Rattle.std.proofs.Common.{◌≡◌, ℕ, ◌≤◌, true, List, [], ◌∷◌, Option, Some, None, option_map, Ok, IsUtf8, codes, refl, subst, ◌∙◌}
+use Rattle.std.proofs.Common.{◌≡◌, ℕ, ◌≤◌, true, cond, List, [], ◌∷◌, Option, Some, None, option_map, Ok, IsUtf8, codes, refl, subst, ◌∙◌}
 use Rattle.sbe_prim.specs.declared.Order.TheVariants.{Little}
 use Rattle.sbe_schema.specs.declared.schema.Schema.{Schema}
 use Rattle.std.specs.Str.{is_utf8}
 use Rattle.toml.specs.Data.{Data, table, Members}
 use Rattle.toml.specs.Parse.{parse_document}
+use Rattle.toml_walk.specs.Documents.{table_or_fault}
 use Rattle.toml_walk.specs.Keys.{list_of}
+use Rattle.toml_walk.specs.Reading.{◌>>=◌}
 use Rattle.toml_walk.specs.Values.{natural_of}
 use Rattle.schema_toml.specs.Words.{order_of}
 use Rattle.schema_toml.specs.Types.{type_of}
 use Rattle.schema_toml.specs.Messages.{id_of, message_of}
-use Rattle.schema_toml.specs.Text.{document_of, schema_of, schema_of_document, schema_of_text}
+use Rattle.schema_toml.specs.Text.{schema_of, schema_of_text}
 use Rattle.schema_toml.specs.Written.{list_data, natural_data, order_data, type_data, message_data, schema_pairs, schema_members}
 use Rattle.schema_toml.proofs.Parsed.{document_sound}
 use Rattle.schema_toml.proofs.Sound.{SoundMembers}
@@ -32,14 +34,14 @@ schema_back ms x sound went =
     subst (λ (y : Schema). schema_of (table (schema_members y)) ≡ Ok y) (ok_value made x (only_inv (codes "id" ∷ codes "version" ∷ codes "order" ∷ codes "type" ∷ codes "message" ∷ []) ms _ x went))
     (rw (required_is (codes "id") id_of (natural_data id) ps id refl id_again, required_is (codes "version") (natural_of 0 65534) (natural_data version) ps version refl version_again, defaulted_is (codes "order") Little order_of (order_data order) ps order refl order_again, defaulted_is (codes "type") [] (list_of type_of) ((list_data type_data) types) ps types refl types_again, required_is (codes "message") (list_of message_of) ((list_data message_data) messages) ps messages refl messages_again, only_is (codes "id" ∷ codes "version" ∷ codes "order" ∷ codes "type" ∷ codes "message" ∷ []) ps refl) refl))))))
 
-by_document : (text : List ℕ) (o : Option Members) (x : Schema) → document_of text ≡ o → schema_of_document o ≡ Ok x → schema_of (table (schema_members x)) ≡ Ok x
+by_document : (text : List ℕ) (o : Option Members) (x : Schema) → cond (is_utf8 text) (parse_document text) None ≡ o → (table_or_fault o >>= schema_of) ≡ Ok x → schema_of (table (schema_members x)) ≡ Ok x
 by_document text None x is told = absurd cc
 by_document text (Some ms) x is told =
     cond_inv (is_utf8 text) (parse_document text) None ms is
-      (λ valid parsed. schema_back ms x (document_sound text ms valid parsed) told)
-      (λ _ none. absurd cc)
+    (λ valid parsed. schema_back ms x (document_sound text ms valid parsed) told)
+    (λ _ none. absurd cc)
 
 -- a text that reads as what is written of a schema spells the schema, if any text does
 pub text_back : (text lines : List ℕ) (ms : Members) (x : Schema) → schema_of_text text ≡ Ok x → is_utf8 lines ≡ true → parse_document lines ≡ Some ms → ms ≡ schema_members x
     → schema_of_text lines ≡ Ok x
-text_back text lines ms x told valid parsed same = rw (valid, parsed, same) (by_document text (document_of text) x refl told)
+text_back text lines ms x told valid parsed same = rw (valid, parsed, same) (by_document text (cond (is_utf8 text) (parse_document text) None) x refl told)

@@ -165,13 +165,13 @@ put_sound path k d here = along_dots_sound path (at_key k (key_value d)) (at_key
 define_as_sound : (doc new : Document) (path : List (List ℕ)) (k : List ℕ) (what : Definition) → SoundDefinition what → SoundNodes doc.0 → define_as doc (path, k) what ≡ Some new → SoundNodes new.0
 define_as_sound doc new path k (key_value d) here all told =
     map_inv (λ root. (root, doc.1)) (along_header doc.1 (put (path, k) d) doc.0) new told
-      (λ root made same. subst (λ (x : Document). SoundNodes x.0) same (along_header_sound doc.1 (put (path, k) d) (put_sound path k d here) doc.0 root all made))
+    (λ root made same. subst (λ (x : Document). SoundNodes x.0) same (along_header_sound doc.1 (put (path, k) d) (put_sound path k d here) doc.0 root all made))
 define_as_sound doc new path k std_table here all told =
     map_inv (λ root. (root, path ++ k ∷ [])) (along_header path (at_key k std_table) doc.0) new told
-      (λ root made same. subst (λ (x : Document). SoundNodes x.0) same (along_header_sound path (at_key k std_table) (at_key_sound k std_table tt) doc.0 root all made))
+    (λ root made same. subst (λ (x : Document). SoundNodes x.0) same (along_header_sound path (at_key k std_table) (at_key_sound k std_table tt) doc.0 root all made))
 define_as_sound doc new path k array_table here all told =
     map_inv (λ root. (root, path ++ k ∷ [])) (along_header path (at_key k array_table) doc.0) new told
-      (λ root made same. subst (λ (x : Document). SoundNodes x.0) same (along_header_sound path (at_key k array_table) (at_key_sound k array_table tt) doc.0 root all made))
+    (λ root made same. subst (λ (x : Document). SoundNodes x.0) same (along_header_sound path (at_key k array_table) (at_key_sound k array_table tt) doc.0 root all made))
 
 -- one more expression
 pub define_sound : (doc new : Document) (path : List (List ℕ)) (k : List ℕ) (what : Definition) → SoundDefinition what → SoundNodes doc.0 → define doc ((path, k), what) ≡ Some new → SoundNodes new.0

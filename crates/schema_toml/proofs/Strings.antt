@@ -44,8 +44,8 @@ simple_sound c d told =
     cond_inv (c == 0x72) _ _ d told (λ same told. simple_at c 0x72 13 d same (omega arith) refl told) (λ _ told.
     cond_inv (c == 0x74) _ _ d told (λ same told. simple_at c 0x74 9 d same (omega arith) refl told) (λ _ told.
     cond_inv (c == quote || c == backslash) _ _ d told
-      (λ same told. let low : c < 128 = grind (arith, nat_tests) in let whole_ : is_scalar c ≡ true = grind (arith, nat_tests) in (low, subst (λ (x : ℕ). is_scalar x ≡ true) (some_value c d told) whole_))
-      (λ _ told. absurd cc)))))))
+    (λ same told. let low : c < 128 = grind (arith, nat_tests) in let whole_ : is_scalar c ≡ true = grind (arith, nat_tests) in (low, subst (λ (x : ℕ). is_scalar x ≡ true) (some_value c d told) whole_))
+    (λ _ told. absurd cc)))))))
 
 hex_ascii : (c : ℕ) → nat_lt 0 (hex_len c) ≡ true → c < 128
 hex_ascii c told = grind (arith, nat_tests)
@@ -68,21 +68,21 @@ unfolding hex_escape
 hex_sound n text q valid told =
     let digits = take n text in
     cond_inv ((nat_le n (length text) && list_all (λ c. is_digit c 16) digits) && is_scalar (digits_value 16 digits)) _ _ q told
-      (λ all told.
-      let both = and_parts (nat_le n (length text) && list_all (λ c. is_digit c 16) digits) (is_scalar (digits_value 16 digits)) all in
-      let inner = and_parts (nat_le n (length text)) (list_all (λ c. is_digit c 16) digits) both.0 in
-      subst Escaped (some_value (digits_value 16 digits, drop n text) q told) (scalar_by (digits_value 16 digits) both.1, digits_behind n text inner.1 valid))
-      (λ _ told. absurd cc)
+    (λ all told.
+    let both = and_parts (nat_le n (length text) && list_all (λ c. is_digit c 16) digits) (is_scalar (digits_value 16 digits)) all in
+    let inner = and_parts (nat_le n (length text)) (list_all (λ c. is_digit c 16) digits) both.0 in
+    subst Escaped (some_value (digits_value 16 digits, drop n text) q told) (scalar_by (digits_value 16 digits) both.1, digits_behind n text inner.1 valid))
+    (λ _ told. absurd cc)
 
 escape_char_sound : (text : List ℕ) (q : ℕ × List ℕ) → IsUtf8 text → escape_char text ≡ Some q → Escaped q
 unfolding escape_char
 escape_char_sound [] q valid told = absurd cc
 escape_char_sound (c ∷ cs) q valid told =
     cond_inv (nat_lt 0 (hex_len c)) _ _ q told
-      (λ hex told. hex_sound (hex_len c) cs q (utf8_behind [] c cs (hex_ascii c hex) valid) told)
-      (λ _ told. map_inv (λ d. (d, cs)) (simple_escape c) q told (λ d made same.
-      let both = simple_sound c d made in
-      subst Escaped same (scalar_by d both.1, utf8_behind [] c cs both.0 valid)))
+    (λ hex told. hex_sound (hex_len c) cs q (utf8_behind [] c cs (hex_ascii c hex) valid) told)
+    (λ _ told. map_inv (λ d. (d, cs)) (simple_escape c) q told (λ d made same.
+    let both = simple_sound c d made in
+    subst Escaped same (scalar_by d both.1, utf8_behind [] c cs both.0 valid)))
 
 abbrev Both : List ℕ × List ℕ → Type 0
 Both e = IsUtf8 e.0 × IsUtf8 e.1
@@ -91,10 +91,10 @@ escape_sound : (multi : Bool) (text : List ℕ) (e : List ℕ × List ℕ) → I
 unfolding escape
 escape_sound multi text e valid told =
     cond_inv (multi && starts_newline (skip_ws text)) _ _ e told
-      (λ _ told. subst Both (some_value ([], skip_lines text) e told) (IsUtf8-nil, utf8-skip_lines text valid))
-      (λ _ told. map_inv (λ q. (encode_utf8 q.0, q.1)) (escape_char text) e told (λ q made same.
-      let both = escape_char_sound text q valid made in
-      subst Both same (IsUtf8-encode q.0 both.0, both.1)))
+    (λ _ told. subst Both (some_value ([], skip_lines text) e told) (IsUtf8-nil, utf8-skip_lines text valid))
+    (λ _ told. map_inv (λ q. (encode_utf8 q.0, q.1)) (escape_char text) e told (λ q made same.
+    let both = escape_char_sound text q valid made in
+    subst Both same (IsUtf8-encode q.0 both.0, both.1)))
 
 -- ---- pieces
 
@@ -115,33 +115,33 @@ special_sound : (delim : ℕ) (multi : Bool) (p text : List ℕ) (q : Option (Li
 unfolding special
 special_sound delim multi p [] q some ascii valid told =
     cond_inv (0 == delim) _ _ q told
-      (λ same told. let never : ⊥ = grind (arith, nat_tests) in absurd never)
-      (λ _ told. cond_inv (multi && false) _ _ q told (λ both told. absurd (false≢true (and_parts multi false both).1)) (λ _ told. absurd cc))
+    (λ same told. let never : ⊥ = grind (arith, nat_tests) in absurd never)
+    (λ _ told. cond_inv (multi && false) _ _ q told (λ both told. absurd (false≢true (and_parts multi false both).1)) (λ _ told. absurd cc))
 special_sound delim multi p (c ∷ cs) q some ascii valid told =
     cond_inv (c == delim) _ _ q told
-      (λ same told.
-      let low : c < 128 = grind (arith, nat_tests) in
-      let before = utf8_before p c cs low valid in
-      let behind = utf8_behind p c cs low valid in
-      cond_inv multi _ _ q told
-        (λ _ told. cond_inv (prefix_len (λ x. x == delim) (c ∷ cs) == 3) _ _ q told
-          (λ _ told. subst (Piece p) (some_value (None, drop 3 (c ∷ cs)) q told) (record { before = before; piece = tt; rest = tail-drop 3 (c ∷ cs) (record { front = p; valid = valid }) }))
-          (λ _ told. cond_inv (nat_lt (prefix_len (λ x. x == delim) (c ∷ cs)) 6) _ _ q told
-            (λ _ told. subst (Piece p) (some_value (Some (delim ∷ []), cs) q told) (record { before = before; piece = (ascii_one delim ascii, behind); rest = whole cs behind }))
-            (λ _ told. absurd cc)))
-        (λ _ told. subst (Piece p) (some_value (None, cs) q told) (record { before = before; piece = tt; rest = whole cs behind })))
-      (λ _ told. cond_inv (c == backslash) _ _ q told
-        (λ same told.
-        let low : c < 128 = grind (arith, nat_tests) in
-        map_inv (λ e. (Some e.0, e.1)) (escape multi cs) q told (λ e made is.
-        let both = escape_sound multi cs e (utf8_behind p c cs low valid) made in
-        subst (Piece p) is (record { before = utf8_before p c cs low valid; piece = both; rest = whole e.1 both.1 })))
-        (λ _ told. cond_inv (multi && starts_newline (c ∷ cs)) _ _ q told
-          (λ newline told.
-          let low = newline_ascii multi c cs newline in
-          let behind = utf8_behind p c cs low valid in
-          subst (Piece p) (some_value (Some (c ∷ []), cs) q told) (record { before = utf8_before p c cs low valid; piece = (ascii_one c low, behind); rest = whole cs behind }))
-          (λ _ told. absurd cc)))
+    (λ same told.
+    let low : c < 128 = grind (arith, nat_tests) in
+    let before = utf8_before p c cs low valid in
+    let behind = utf8_behind p c cs low valid in
+    cond_inv multi _ _ q told
+    (λ _ told. cond_inv (prefix_len (λ x. x == delim) (c ∷ cs) == 3) _ _ q told
+    (λ _ told. subst (Piece p) (some_value (None, drop 3 (c ∷ cs)) q told) (record { before = before; piece = tt; rest = tail-drop 3 (c ∷ cs) (record { front = p; valid = valid }) }))
+    (λ _ told. cond_inv (nat_lt (prefix_len (λ x. x == delim) (c ∷ cs)) 6) _ _ q told
+    (λ _ told. subst (Piece p) (some_value (Some (delim ∷ []), cs) q told) (record { before = before; piece = (ascii_one delim ascii, behind); rest = whole cs behind }))
+    (λ _ told. absurd cc)))
+    (λ _ told. subst (Piece p) (some_value (None, cs) q told) (record { before = before; piece = tt; rest = whole cs behind })))
+    (λ _ told. cond_inv (c == backslash) _ _ q told
+    (λ same told.
+    let low : c < 128 = grind (arith, nat_tests) in
+    map_inv (λ e. (Some e.0, e.1)) (escape multi cs) q told (λ e made is.
+    let both = escape_sound multi cs e (utf8_behind p c cs low valid) made in
+    subst (Piece p) is (record { before = utf8_before p c cs low valid; piece = both; rest = whole e.1 both.1 })))
+    (λ _ told. cond_inv (multi && starts_newline (c ∷ cs)) _ _ q told
+    (λ newline told.
+    let low = newline_ascii multi c cs newline in
+    let behind = utf8_behind p c cs low valid in
+    subst (Piece p) (some_value (Some (c ∷ []), cs) q told) (record { before = utf8_before p c cs low valid; piece = (ascii_one c low, behind); rest = whole cs behind }))
+    (λ _ told. absurd cc)))
 
 -- ---- bodies
 
@@ -165,16 +165,16 @@ unfolding body
 body_sound delim multi zero p text r some ascii valid told = absurd cc
 body_sound delim multi (suc n) p [] r some ascii valid told =
     cond_inv (is_plain delim multi 0) _ _ r told
-      (λ plain _. absurd (no_plain delim multi plain))
-      (λ _ told. then_inv (λ q. after_piece (body delim multi n) q.0 q.1) (special delim multi []) r told (λ q made told.
-      piece_sound (body delim multi n) p q.0 q.1 r (special_sound delim multi p [] q some ascii valid made) (λ text x valid told. body_sound delim multi n [] text x some ascii valid told) told))
+    (λ plain _. absurd (no_plain delim multi plain))
+    (λ _ told. then_inv (λ q. after_piece (body delim multi n) q.0 q.1) (special delim multi []) r told (λ q made told.
+    piece_sound (body delim multi n) p q.0 q.1 r (special_sound delim multi p [] q some ascii valid made) (λ text x valid told. body_sound delim multi n [] text x some ascii valid told) told))
 body_sound delim multi (suc n) p (c ∷ cs) r some ascii valid told =
     cond_inv (is_plain delim multi c) _ _ r told
-      (λ _ told. map_inv (λ x. (c ∷ x.0, x.1)) (body delim multi n cs) r told (λ x made same.
-      let ended = body_sound delim multi n (p ++ c ∷ []) cs x some ascii (rw append_assoc valid) made in
-      subst (Ended p) same (rw append_assoc at ended.0, ended.1)))
-      (λ _ told. then_inv (λ q. after_piece (body delim multi n) q.0 q.1) (special delim multi (c ∷ cs)) r told (λ q made told.
-      piece_sound (body delim multi n) p q.0 q.1 r (special_sound delim multi p (c ∷ cs) q some ascii valid made) (λ text x valid told. body_sound delim multi n [] text x some ascii valid told) told))
+    (λ _ told. map_inv (λ x. (c ∷ x.0, x.1)) (body delim multi n cs) r told (λ x made same.
+    let ended = body_sound delim multi n (p ++ c ∷ []) cs x some ascii (rw append_assoc valid) made in
+    subst (Ended p) same (rw append_assoc at ended.0, ended.1)))
+    (λ _ told. then_inv (λ q. after_piece (body delim multi n) q.0 q.1) (special delim multi (c ∷ cs)) r told (λ q made told.
+    piece_sound (body delim multi n) p q.0 q.1 r (special_sound delim multi p (c ∷ cs) q some ascii valid made) (λ text x valid told. body_sound delim multi n [] text x some ascii valid told) told))
 
 -- ---- strings at their delimiters
 
@@ -195,12 +195,12 @@ trim_sound [] valid = valid
 trim_sound (c ∷ []) valid = trim_by (c == line_feed) (starts_newline (c ∷ [])) [] [] (c ∷ []) (λ _. IsUtf8-nil) (λ _ _. IsUtf8-nil) valid
 trim_sound (c ∷ d ∷ rest) valid =
     trim_by (c == line_feed) (starts_newline (c ∷ d ∷ rest)) (d ∷ rest) rest (c ∷ d ∷ rest)
-      (λ same. let low : c < 128 = grind (arith, nat_tests) in utf8_behind [] c (d ∷ rest) low valid)
-      (λ other same.
-      let low : c < 128 = grind (arith, nat_tests) in
-      let next : d < 128 = pair_ascii c d rest same other in
-      utf8_behind [] d rest next (utf8_behind [] c (d ∷ rest) low valid))
-      valid
+    (λ same. let low : c < 128 = grind (arith, nat_tests) in utf8_behind [] c (d ∷ rest) low valid)
+    (λ other same.
+    let low : c < 128 = grind (arith, nat_tests) in
+    let next : d < 128 = pair_ascii c d rest same other in
+    utf8_behind [] d rest next (utf8_behind [] c (d ∷ rest) low valid))
+    valid
 
 three_behind : (c : ℕ) (cs : List ℕ) → 0 < c → c < 128 → (slice_index (c ∷ cs) 1 == c && slice_index (c ∷ cs) 2 == c) ≡ true → IsUtf8 cs → IsUtf8 (drop 3 (c ∷ cs))
 three_behind c [] some low same valid = valid
@@ -225,5 +225,5 @@ quoted_sound (c ∷ cs) r starts t told =
     let some : 0 < c = grind (arith, nat_tests) in
     let low : c < 128 = grind (arith, nat_tests) in
     cond_inv (slice_index (c ∷ cs) 1 == c && slice_index (c ∷ cs) 2 == c) _ _ r told
-      (λ same told. body_sound c true (length (c ∷ cs)) [] (trim_newline (drop 3 (c ∷ cs))) r some low (trim_sound (drop 3 (c ∷ cs)) (three_behind c cs some low same (utf8_behind t.front c cs low t.valid))) told)
-      (λ _ told. one_line_sound (c ∷ cs) r starts t told)
+    (λ same told. body_sound c true (length (c ∷ cs)) [] (trim_newline (drop 3 (c ∷ cs))) r some low (trim_sound (drop 3 (c ∷ cs)) (three_behind c cs some low same (utf8_behind t.front c cs low t.valid))) told)
+    (λ _ told. one_line_sound (c ∷ cs) r starts t told)

@@ -7,7 +7,7 @@ use Rattle.toml.specs.Data.{string}
 use Rattle.schema_toml.specs.Written.{text_data}
 
 not_utf8 : (bs : List ℕ) → (IsUtf8 bs → ⊥) → is_utf8 bs ≡ false
-not_utf8 bs never = elim (cases_Bool (is_utf8 bs)) [ | inl valid ↦ absurd (never (IsUtf8-from_is_utf8 bs valid)) | inr other ↦ other ]
+not_utf8 bs never = elim (cases_Bool (is_utf8 bs)) [ inl valid ↦ absurd (never (IsUtf8-from_is_utf8 bs valid)) | inr other ↦ other ]
 
 pub valid_text : (text bytes : List ℕ) → text ≡ bytes → IsUtf8 bytes → string text ≡ text_data bytes
 valid_text text bytes same valid = rw (same, is_utf8-from_IsUtf8 bytes valid) refl

@@ -48,7 +48,7 @@ added_at : (o : Ordering) (key k l : List ℕ) (d e : Data) (ms : Members) → s
 added_at Less key k l d e ms order more = get-member key k d (member l e ms)
 added_at Equal key k l d e ms order more =
     subst (λ (x : List ℕ). get_member key (member l d ms) ≡ cond (same_key key x) (Some d) (get_member key (member l e ms))) (sym (equal_keys k l order))
-      (get-member key l d ms ∙ hidden (same_key key l) (Some d) (Some e) (get_member key ms) ∙ ap (cond (same_key key l) (Some d)) (sym (get-member key l e ms)))
+    (get-member key l d ms ∙ hidden (same_key key l) (Some d) (Some e) (get_member key ms) ∙ ap (cond (same_key key l) (Some d)) (sym (get-member key l e ms)))
 added_at Greater key k l d e ms order more =
     get-member key l e (add_member k d ms) ∙ ap (cond (same_key key l) (Some e)) more
     ∙ swapped (same_key key k) (same_key key l) (Some d) (Some e) (get_member key ms) (apart_keys key k l order)
