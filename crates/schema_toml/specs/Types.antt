@@ -11,10 +11,10 @@ use Rattle.sbe_schema.specs.declared.types.MemberDef.{MemberDef}
 use Rattle.sbe_schema.specs.declared.types.Presence.TheVariants.{Required}
 use Rattle.toml_walk.specs.Reading.{Read, ◌>>=◌}
 use Rattle.toml_walk.specs.Keys.{required, defaulted, optional, list_of, table_of, only}
-use Rattle.toml_walk.specs.Values.{text_of, name_of, number_of, natural_of}
+use Rattle.toml_walk.specs.Values.{text_of, name_of, number_of, natural_of, word_in, listed}
 use Rattle.schema_toml.specs.declared.types.Kind.{Kind}
 use Rattle.schema_toml.specs.declared.types.Kind.TheVariants as kinds
-use Rattle.schema_toml.specs.Words.{listed, word_in, primitive_of, presence_of, constant_of}
+use Rattle.schema_toml.specs.Words.{primitive_of, presence_of, constant_of}
 
 -- {name, value}
 abbrev pub value_keys : Data → Read ValueDef

@@ -6,6 +6,9 @@ ghost use Rattle.schema_toml.specs.Faults.{is_memory};
 use sbe_schema::{SchemaFault, SchemaKind};
 use toml_walk::TomlFault;
 
+/// The greatest configuration text, in bytes.
+pub const TEXT_LIMIT: usize = 1 << 20;
+
 /// Why a configuration was refused.
 #[derive(Debug, Drop, PartialEq)]
 pub enum ConfigFault {

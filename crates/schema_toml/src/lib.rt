@@ -10,7 +10,7 @@ mod text;
 mod types;
 mod words;
 
-pub use fault::ConfigFault;
+pub use fault::{ConfigFault, TEXT_LIMIT};
 pub use print::print_schema;
 pub use text::read_schema;
 pub use toml_walk::TomlFault;

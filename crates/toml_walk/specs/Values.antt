@@ -1,6 +1,7 @@
 -- What stands at a key by itself: names, texts and numbers (this project's profile).
 use Rattle.std.specs.Prelude.{ℕ, ◌-◌, ◌^◌, ◌==◌, ◌&&◌, ◌||◌, Bool, true, false, not, nat_le, if◌then◌else◌, Option, Some, None, List, [], ◌∷◌, length, Ok, Err, ℤ, pos, negsuc}
 use Rattle.std.specs.Char.{is_ascii_digit, is_ascii_alphabetic, is_ascii_alphanumeric}
+use Rattle.std.specs.Str.{bytes_eq}
 use Rattle.std.specs.Str.Parse.{digits_value}
 use Rattle.toml.specs.Data.{Data, string, integer, as_str}
 use Rattle.toml_walk.specs.declared.fault.TomlFault.TheVariants.{WrongKind, Range}
@@ -14,6 +15,19 @@ text_of_string (Some text) = Ok text
 
 abbrev pub text_of : Data → Read (List ℕ)
 text_of d = text_of_string (as_str d)
+
+-- ---- words
+
+module _ {A : Type 0} where
+  -- the value of a word, if it is one of a list
+  abbrev pub word_in : List (List ℕ × A) → List ℕ → Option A
+  word_in [] text = None
+  word_in (w ∷ ws) text = if bytes_eq text w.0 then Some w.1 else word_in ws text
+
+  -- a text that is no word of its list is out of range
+  abbrev pub listed : Option A → Read A
+  listed None = Err (Range [])
+  listed (Some a) = Ok a
 
 -- ---- names: 1 to 64 letters, digits or `_` (95), the first no digit
 

@@ -3,7 +3,7 @@
 ghost use Rattle.std.specs.Prelude.{◌≡◌, ◌≤◌, ℕ, List, [], ◌∷◌, IfOk, IfSome, Some, None, map, option_copied, option_map};
 ghost use Rattle.sbe_value.specs.declared.path.Step.TheVariants.{Key};
 ghost use Rattle.toml.specs.View.{view, table_view};
-ghost use Rattle.toml_walk.specs.declared.fault.TomlFault.TheVariants.{Missing};
+ghost use Rattle.toml_walk.specs.declared.fault.TomlFault.TheVariants.{Missing, Range};
 ghost use Rattle.toml_walk.specs.Reading.{IsFault, Reads, under};
 ghost use Rattle.toml_walk.specs.Keys.{defaulted, is_among, only, optional, required, unknown_member};
 ghost use Rattle.toml_walk.specs.Values.{name_of, natural_of, number_of, text_of};
@@ -36,6 +36,16 @@ pub fn missing(alloc: Global, key: &str) -> TomlFault
 {
     match path_to(alloc, key) {
         Ok(path) => TomlFault::Missing(path),
+        Err(_) => TomlFault::Memory,
+    }
+}
+
+/// The fault of a value at a key that breaks a condition.
+pub fn out_of_range(alloc: Global, key: &str) -> TomlFault
+    ensures { IsFault result (Range (Key key.now ∷ [])) }
+{
+    match path_to(alloc, key) {
+        Ok(path) => TomlFault::Range(path),
         Err(_) => TomlFault::Memory,
     }
 }

@@ -11,7 +11,7 @@ mod value;
 
 pub use document::read_document;
 pub use fault::{TomlFault, deepened};
-pub use keys::{missing, natural_at, natural_or, only, under_key};
+pub use keys::{missing, natural_at, natural_or, only, out_of_range, under_key};
 pub use reader::{
     Names, Numbers, Reader, defaulted, list_or_empty, optional, read_list, required, required_list,
 };

@@ -1,0 +1,10 @@
+//! Configuration texts: from the text of a schema to the plan of its messages.
+//! It stands on the text of schemas, on their check and on their layout.
+#![tactic(auto)]
+
+mod loading;
+
+pub use loading::{TEXT_LIMIT, load};
+
+#[cfg(test)]
+mod tests;
