@@ -64,12 +64,14 @@ fn a_printed_schema_reads_back(rt: HostRuntime) -> Result<(), Fail> {
     assert_eq!(rt; (back.id, back.version), (7, 3));
     assert_eq!(rt; back.order, Order::Big);
     assert_eq!(rt; back.types.as_slice().len(), 4);
-    let message = &back.messages.as_slice()[0];
+    let message = back.messages.as_slice().first().ok_or("no message")?;
     assert_eq!(rt; message.since, 1);
     assert_eq!(rt; message.block_length, Some(40));
-    let legs = &message.groups.as_slice()[0];
-    assert_eq!(rt; legs.fields.as_slice()[0].presence, Presence::Optional);
-    assert_eq!(rt; legs.groups.as_slice()[0].count_prim, Primitive::UInt8);
+    let legs = message.groups.as_slice().first().ok_or("no group")?;
+    let side = legs.fields.as_slice().first().ok_or("no field")?;
+    assert_eq!(rt; side.presence, Presence::Optional);
+    let parts = legs.groups.as_slice().first().ok_or("no inner group")?;
+    assert_eq!(rt; parts.count_prim, Primitive::UInt8);
     let text = std::str::from_utf8(lines.as_slice())?;
     assert!(rt; text.contains("max = \"18446744073709551615\""));
     let again = print_schema(alloc, &back)?;
