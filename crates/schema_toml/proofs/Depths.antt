@@ -1,5 +1,5 @@
 -- How deep what is written of a schema nests.
-use Rattle.std.proofs.Common.{◌≡◌, ℕ, ◌+◌, ◌*◌, ◌-◌, ◌≤◌, ◌^◌, max, Bool, true, false, cond, nat_le, ℤ, pos, negsuc, List, [], ◌∷◌, map, Option, Some, None, option_map, refl, ap, arith}
+use Rattle.std.proofs.Common.{◌≡◌, ℕ, ◌+◌, ◌*◌, ◌-◌, ◌≤◌, ◌^◌, Bool, true, false, cond, nat_le, ℤ, pos, negsuc, List, [], ◌∷◌, map, Option, Some, None, option_map, refl, arith}
 use Rattle.std.specs.Fmt.{decimal}
 use Rattle.sbe_prim.specs.declared.Order.{Order}
 use Rattle.sbe_prim.specs.declared.Order.TheVariants.{Little, Big}
@@ -18,10 +18,10 @@ use Rattle.sbe_schema.specs.declared.types.TypeDef.{TypeDef}
 use Rattle.sbe_schema.specs.declared.types.TypeKind.{TypeKind}
 use Rattle.sbe_schema.specs.declared.types.TypeKind.TheVariants.{Number, Enum, Set, Composite}
 use Rattle.sbe_schema.specs.declared.types.ValueDef.{ValueDef}
-use Rattle.toml.specs.Data.{Data, string, integer, array, table, no_members, depth, items_depth, members_depth}
+use Rattle.toml.specs.Data.{Data, string, integer, no_members, depth, items_depth, members_depth}
 use Rattle.toml.specs.View.{items_of}
 use Rattle.schema_toml.specs.Levels.{levels_of_groups, levels_of_messages, levels_of_schema}
-use Rattle.schema_toml.specs.Written.{Pairs, with_keys, table_by, number_data, order_data, presence_data, constant_data, list_data, value_pairs, value_data, bit_pairs, bit_data, member_pairs, member_data, kind_pairs, type_pairs, type_data, field_pairs, field_data, datum_pairs, datum_data, group_pairs, group_data, groups_list, groups_data, message_pairs, message_data, schema_pairs, schema_members}
+use Rattle.schema_toml.specs.Written.{Pairs, table_by, number_data, order_data, presence_data, constant_data, list_data, value_pairs, value_data, bit_pairs, bit_data, member_pairs, member_data, kind_pairs, type_pairs, type_data, field_pairs, field_data, datum_pairs, datum_data, group_pairs, group_data, groups_list, groups_data, message_pairs, message_data, schema_pairs, schema_members}
 use Rattle.schema_toml.proofs.WithKeys.{option_depth, deepest, depth-with_keys}
 
 -- ---- what stands at a key by itself

@@ -1,7 +1,7 @@
 -- Groups that are written one by one.
 use Rattle.std.proofs.Common.{◌≡◌, ℕ, ◌+◌, ◌<◌, List, [], ◌∷◌, ◌++◌, length, drop, get_or, map, ap, append_assoc, refl}
 use Rattle.std.proofs.lemmas.List.{drop_more}
-use Rattle.toml.specs.Data.{Data, array}
+use Rattle.toml.specs.Data.{array}
 use Rattle.toml.specs.View.{view, items_of}
 use Rattle.toml.specs.declared.value.Value.{Value}
 use Rattle.sbe_schema.specs.declared.groups.GroupDef.{GroupDef}

@@ -1,9 +1,9 @@
 -- Messages: what is written of a message that was read is read as it.
-use Rattle.std.proofs.Common.{◌≡◌, ℕ, ◌+◌, Bool, true, false, cond, ℤ, pos, List, [], ◌∷◌, Option, Some, None, option_map, Ok, Err, codes, refl, sym, subst, ◌∙◌}
+use Rattle.std.proofs.Common.{◌≡◌, ℕ, ◌+◌, Bool, true, false, cond, ℤ, pos, [], ◌∷◌, Some, None, Ok, Err, codes, refl, sym, subst, ◌∙◌}
 use Rattle.sbe_value.specs.declared.path.Step.{Step}
 use Rattle.sbe_value.specs.declared.path.Step.TheVariants.{Key, At}
 use Rattle.sbe_prim.specs.declared.Primitive.TheVariants.{UInt16}
-use Rattle.sbe_schema.specs.Groups.{GroupHead, GroupTree, no_groups, group}
+use Rattle.sbe_schema.specs.Groups.{GroupTree, no_groups, group}
 use Rattle.sbe_schema.specs.declared.types.Presence.TheVariants.{Required}
 use Rattle.sbe_schema.specs.declared.messages.FieldDef.{FieldDef}
 use Rattle.sbe_schema.specs.declared.messages.DataDef.{DataDef}
@@ -12,7 +12,7 @@ use Rattle.toml.specs.Data.{Data, string, integer, float, boolean, datetime, arr
 use Rattle.toml.specs.View.{items_of}
 use Rattle.toml_walk.specs.Reading.{Read, ◌>>=◌, under}
 use Rattle.toml_walk.specs.Keys.{list_of}
-use Rattle.toml_walk.specs.Values.{name_of, number_of, natural_of}
+use Rattle.toml_walk.specs.Values.{name_of, number_of}
 use Rattle.schema_toml.specs.Words.{primitive_of, presence_of, constant_of}
 use Rattle.schema_toml.specs.declared.messages.Holder.{Holder}
 use Rattle.schema_toml.specs.declared.groups.Start.{Start}
@@ -21,7 +21,7 @@ use Rattle.schema_toml.specs.Messages.{own_of, start_of, inside_of, head_with, g
 use Rattle.schema_toml.specs.Written.{Pairs, table_by, text_data, field_pairs, field_data, datum_pairs, datum_data, group_pairs, group_data, groups_list, groups_data, message_pairs, message_data, list_data, number_data, natural_data, presence_data, primitive_data, constant_data}
 use Rattle.schema_toml.proofs.Nested.{told_by_keys}
 use Rattle.schema_toml.proofs.Sound.{Sound, SoundItems, SoundMembers}
-use Rattle.schema_toml.proofs.Steps.{Back, IfBack, bind_inv, under_inv, given, ok_value, table_inv, required_inv, defaulted_inv, optional_inv, only_inv, required_is, defaulted_is, optional_is, only_is, list_back}
+use Rattle.schema_toml.proofs.Steps.{Back, IfBack, bind_inv, under_inv, ok_value, table_inv, required_inv, defaulted_inv, optional_inv, only_inv, required_is, defaulted_is, optional_is, only_is, list_back}
 use Rattle.schema_toml.proofs.WithKeys.{found}
 use Rattle.schema_toml.proofs.WordsBack.{name_back, number_back, natural_back, presence_back, primitive_again, primitive_back, constant_back}
 

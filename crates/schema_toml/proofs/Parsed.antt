@@ -1,6 +1,5 @@
 -- What a UTF-8 text writes as a TOML document: data whose texts are UTF-8 and whose integers TOML has.
-use Rattle.std.proofs.Common.{◌≡◌, ℕ, zero, suc, ◌+◌, ◌-◌, ◌<◌, ◌≤◌, ◌^◌, ◌&&◌, ◌||◌, ◌==◌, Bool, true, false, not, cond, nat_lt, nat_le, ℤ, pos, negsuc, List, [], ◌∷◌, ◌++◌, length, take, drop, filter, slice_index, IsUtf8, codes, Option, Some, None, option_map, option_and_then, refl, sym, subst, arith}
-use Rattle.std.proofs.lemmas.Bool.{and_parts}
+use Rattle.std.proofs.Common.{◌≡◌, ℕ, zero, suc, ◌^◌, ◌&&◌, ◌||◌, ◌==◌, Bool, true, false, not, cond, nat_lt, pos, List, [], ◌∷◌, ◌++◌, length, take, drop, filter, slice_index, codes, Option, Some, subst, arith}
 use Rattle.std.proofs.lemmas.Bool.Decides.{nat_tests}
 use Rattle.std.proofs.lemmas.Str.{is_utf8-from_IsUtf8, IsUtf8-from_is_utf8}
 use Rattle.std.specs.Char.{is_digit}
@@ -15,12 +14,12 @@ use Rattle.toml_parser.specs.declared.scalar.Scalar.{Scalar}
 use Rattle.toml_parser.specs.declared.scalar.Scalar.TheVariants.{Boolean, Integer, Float, Datetime}
 use Rattle.toml_parser.specs.Lexical.{first, skip_ws, skip_blank, split_while, is_bare, dot, comma, dash, plus, equals, left_bracket, right_bracket, left_brace, right_brace, underscore}
 use Rattle.toml_parser.specs.Numbers.{radix_of, prefixed_integer, integer_of, float_of, decimal_number, plain_number, number, word_value, word_len, unquoted, looks_like_datetime, underscores_fit, underscore_radix, is_decimal}
-use Rattle.toml_parser.specs.Strings.{Key, simple_key, key_after, key, quoted, one_line, starts_string, recursion_limit}
-use Rattle.toml.specs.Data.{Data, string, integer, array, table, Items, no_items, Members, push_item}
-use Rattle.toml.specs.Tables.{Nodes, no_nodes, close, Definition, key_value, std_table, array_table, Expression, Document, put, define}
-use Rattle.toml.specs.Parse.{read_map, after_byte, after_element, key_equals, keyval, items, members, scalar_data, atom, val, header_key, expression, line, ends_line, lines, skip_bom, parse_document}
+use Rattle.toml_parser.specs.Strings.{Key, simple_key, key_after, key, quoted, starts_string, recursion_limit}
+use Rattle.toml.specs.Data.{Data, string, array, table, Items, no_items, Members, push_item}
+use Rattle.toml.specs.Tables.{Nodes, no_nodes, close, key_value, std_table, array_table, Expression, Document, put, define}
+use Rattle.toml.specs.Parse.{after_byte, after_element, key_equals, keyval, items, members, scalar_data, atom, val, header_key, expression, line, ends_line, lines, skip_bom, parse_document}
 use Rattle.schema_toml.proofs.Sound.{Held, Sound, SoundItems, SoundMembers, SoundNodes, SoundDefinition, some_value, map_inv, push_sound, close_sound, put_sound, define_sound}
-use Rattle.schema_toml.proofs.Strings.{cond_inv, then_inv, Quoted, one_line_sound, quoted_sound}
+use Rattle.schema_toml.proofs.Strings.{cond_inv, then_inv, one_line_sound, quoted_sound}
 use Rattle.schema_toml.proofs.Tails.{Tail, whole, tail-drop, tail-skip_ws, tail-skip_from}
 
 -- ---- numbers and words

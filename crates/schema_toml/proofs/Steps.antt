@@ -1,14 +1,14 @@
 -- Steps of a reader over the keys of a table: what a reading that went well says of each, and how to read again what
 -- was written.
-use Rattle.std.proofs.Common.{◌≡◌, ℕ, ◌+◌, Bool, true, false, cond, List, [], ◌∷◌, map, Option, Some, None, option_map, Result, Ok, Err, Ordering, Less, Equal, Greater, nat_cmp, refl, ap, sym, subst, ◌∙◌}
+use Rattle.std.proofs.Common.{◌≡◌, ℕ, ◌+◌, true, List, [], ◌∷◌, map, Option, Some, None, option_map, Ok, Err, Ordering, Less, Equal, Greater, nat_cmp, refl, subst, ◌∙◌}
 use Rattle.std.specs.Cmp.Lexicographic.{slice_cmp}
 use Rattle.std.specs.Ordering.{match_ordering}
 use Rattle.sbe_value.specs.declared.path.Step.{Step}
 use Rattle.sbe_value.specs.declared.path.Step.TheVariants.{Key, At}
-use Rattle.toml.specs.Data.{Data, string, integer, float, boolean, datetime, array, table, Items, no_items, item, Members, no_members, member, get_member, as_array, as_table}
+use Rattle.toml.specs.Data.{Data, string, integer, float, boolean, datetime, array, table, Items, no_items, item, Members, no_members, member, get_member}
 use Rattle.toml.specs.View.{items_of}
 use Rattle.toml_walk.specs.Reading.{Read, ◌>>=◌, under}
-use Rattle.toml_walk.specs.Keys.{required, required_of, defaulted, defaulted_of, optional, optional_of, elements, list_of, list_of_items, table_of, only, unless_unknown, unknown_member}
+use Rattle.toml_walk.specs.Keys.{required, required_of, defaulted, defaulted_of, optional, optional_of, elements, list_of, table_of, only, unless_unknown, unknown_member}
 use Rattle.schema_toml.specs.Written.{Pairs, with_keys, table_by, list_data}
 use Rattle.schema_toml.proofs.Sound.{Sound, SoundItems, SoundMembers}
 use Rattle.schema_toml.proofs.WithKeys.{found, pick, get-with_keys, all_known, unknown-with_keys}

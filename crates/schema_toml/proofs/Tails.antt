@@ -1,11 +1,11 @@
 -- What is left of a UTF-8 text behind what was read of it, and what of it is UTF-8 itself.
-use Rattle.std.proofs.Common.{◌≡◌, ℕ, zero, suc, ◌+◌, ◌<◌, ◌≤◌, ◌&&◌, ◌||◌, ◌==◌, Bool, true, false, not, cond, nat_le, List, [], ◌∷◌, ◌++◌, length, take, drop, get_or, IsUtf8, Option, Some, None, is_some, unwrap_or, refl, ap, sym, subst, ◌∙◌, append_assoc, arith}
-use Rattle.std.proofs.Math.Seq.{drop-append_seam, take-append_seam}
+use Rattle.std.proofs.Common.{◌≡◌, ℕ, suc, ◌+◌, ◌<◌, ◌&&◌, ◌||◌, ◌==◌, Bool, true, false, cond, List, [], ◌∷◌, ◌++◌, length, take, drop, get_or, IsUtf8, Some, None, is_some, unwrap_or, refl, subst, append_assoc, arith}
+use Rattle.std.proofs.Math.Seq.{take-append_seam}
 use Rattle.std.proofs.lemmas.Bool.Decides.{nat_tests}
 use Rattle.std.proofs.lemmas.List.{take-append-drop}
 use Rattle.std.proofs.lemmas.Str.{IsUtf8-drop, IsUtf8-take, IsCharBoundary-after_ascii, IsCharBoundary-before_ascii}
 use Rattle.std.specs.List.{prefix_len}
-use Rattle.toml_parser.specs.Lexical.{first, is_ws, is_non_eol, starts_newline, skip_ws, skip_from, skip_turn, skip_blank, skip_lines, line_feed, carriage_return}
+use Rattle.toml_parser.specs.Lexical.{first, is_ws, skip_ws, skip_from, skip_turn, skip_lines, line_feed, carriage_return}
 
 -- the text is what is left of a UTF-8 text
 pub record Tail (text : List ℕ) : Type 0 where

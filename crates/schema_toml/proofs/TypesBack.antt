@@ -1,5 +1,5 @@
 -- Types: what is written of a type that was read is read as it.
-use Rattle.std.proofs.Common.{◌≡◌, ℕ, List, [], ◌∷◌, Option, Some, None, option_map, Ok, codes, refl, subst}
+use Rattle.std.proofs.Common.{◌≡◌, ℕ, List, [], ◌∷◌, Ok, codes, refl, subst}
 use Rattle.sbe_schema.specs.declared.types.TypeDef.{TypeDef}
 use Rattle.sbe_schema.specs.declared.types.TypeKind.{TypeKind}
 use Rattle.sbe_schema.specs.declared.types.TypeKind.TheVariants.{Number, Enum, Set, Composite}

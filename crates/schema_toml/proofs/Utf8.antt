@@ -1,5 +1,5 @@
 -- What is written of a text, by the test for UTF-8.
-use Rattle.std.proofs.Common.{◌≡◌, ℕ, true, false, List, [], IsUtf8, refl, inl, inr}
+use Rattle.std.proofs.Common.{◌≡◌, ℕ, false, List, [], IsUtf8, refl, inl, inr}
 use Rattle.std.proofs.lemmas.Bool.{cases_Bool}
 use Rattle.std.proofs.lemmas.Str.{IsUtf8-from_is_utf8, is_utf8-from_IsUtf8}
 use Rattle.std.specs.Str.{is_utf8}

@@ -1,5 +1,5 @@
 -- What stands at a key by itself: what is written of it is read as it.
-use Rattle.std.proofs.Common.{◌≡◌, ℕ, zero, suc, slice_index, nat_lt, ◌+◌, ◌-◌, ◌<◌, ◌≤◌, ◌^◌, ◌&&◌, Bool, true, false, not, nat_le, cond, ℤ, pos, negsuc, List, [], ◌∷◌, length, Option, Some, None, Result, Ok, Err, codes, refl, ap, sym, subst, inl, inr, arith}
+use Rattle.std.proofs.Common.{◌≡◌, ℕ, zero, suc, slice_index, nat_lt, ◌-◌, ◌<◌, ◌^◌, ◌&&◌, Bool, true, false, nat_le, cond, ℤ, pos, negsuc, List, [], ◌∷◌, Option, Some, None, Ok, Err, codes, refl, subst, arith}
 use Rattle.std.proofs.lemmas.Bool.{and_parts}
 use Rattle.std.proofs.lemmas.Str.{IsUtf8-from_ascii, is_utf8-from_IsUtf8}
 use Rattle.std.specs.List.{list_all}
@@ -18,10 +18,9 @@ use Rattle.sbe_schema.specs.declared.types.Constant.{Constant}
 use Rattle.sbe_schema.specs.declared.types.Constant.TheVariants.{Num, Text}
 use Rattle.sbe_schema.specs.declared.types.Presence.{Presence}
 use Rattle.sbe_schema.specs.declared.types.Presence.TheVariants.{Required, Optional, Constant as Always}
-use Rattle.toml.specs.Data.{Data, string, integer, float, boolean, datetime, array, table, as_str}
+use Rattle.toml.specs.Data.{Data, string, integer, float, boolean, datetime, array, table}
 use Rattle.toml_walk.specs.declared.fault.TomlFault.TheVariants.{Range}
-use Rattle.toml_walk.specs.Reading.{Read, ◌>>=◌}
-use Rattle.toml_walk.specs.Values.{are_digits, between, held, is_name, name_of, natural_of, number_by, number_of, text_of, wide_number}
+use Rattle.toml_walk.specs.Values.{are_digits, between, held, is_name, name_of, natural_of, number_by, number_of, wide_number}
 use Rattle.schema_toml.specs.Words.{constant_by, constant_of, order_of, presence_of, primitive_of}
 use Rattle.schema_toml.specs.Written.{text_data, constant_data, natural_data, number_data, order_data, presence_data, primitive_data}
 use Rattle.schema_toml.proofs.Sound.{Held, Sound}
