@@ -5,10 +5,15 @@
 mod fault;
 mod groups;
 mod messages;
+mod print;
 mod text;
 mod types;
 mod words;
 
 pub use fault::{ConfigFault, TEXT_LIMIT};
+pub use print::print_schema;
 pub use text::read_schema;
 pub use toml_walk::TomlFault;
+
+#[cfg(test)]
+mod tests;
