@@ -368,6 +368,39 @@ fn refusals_of_start(rt: HostRuntime) -> Result<(), Fail> {
     Ok(())
 }
 
+/// A Negotiate with two bytes of credentials, and one with others.
+const NEGOTIATE_WITH: &str =
+    "0000002beb501900010011f0000000112233445566778899aabbccddeeff0100000000000000030200ab01";
+
+const NEGOTIATE_WITH_OTHERS: &str =
+    "0000002beb501900010011f0000000112233445566778899aabbccddeeff0100000000000000030200ab02";
+
+#[test]
+fn takes_every_key(rt: HostRuntime) -> Result<(), Fail> {
+    let alloc = rt.alloc();
+    let text = "credentials = \"aB01\"\ndesks = 0\norder_version = 2\nreference = 1000000000000000";
+    let config = config_of(alloc, 5, text)?;
+    let config = config.as_bytes();
+    let wire = bytes(alloc, "response")?;
+    let input = bytes(alloc, NEGOTIATE_WITH)?;
+    let ran = run_words(&rt, alloc, ANSWER, config, input.as_slice(), 9, no_faults())?;
+    assert_eq!(rt; ran.status, Status::Done);
+    assert_eq!(rt; ran.wire.as_slice(), wire.as_slice());
+    let others = bytes(alloc, NEGOTIATE_WITH_OTHERS)?;
+    let other = run_words(
+        &rt,
+        alloc,
+        ANSWER,
+        config,
+        others.as_slice(),
+        9,
+        no_faults(),
+    )?;
+    assert_eq!(rt; other.status, not_built(0));
+    assert_eq!(rt; other.wire.len(), 0);
+    Ok(())
+}
+
 const CHECK: &str = "check C O";
 
 /// A schema of one message with fields of one and of eight bytes, without stated offsets.

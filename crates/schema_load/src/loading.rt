@@ -1,8 +1,8 @@
 //! The plan of the messages of the schema that a configuration text spells.
 
-ghost use Rattle.std.specs.Prelude.{◌≡◌};
+ghost use Rattle.std.specs.Prelude.{◌≡◌, ◌<◌, length, Err};
 ghost use Rattle.sbe_schema.specs.Checked.{fault_of};
-ghost use Rattle.schema_toml.specs.Faults.{Tells};
+ghost use Rattle.schema_toml.specs.Faults.{Tells, text_limit};
 ghost use Rattle.schema_load.specs.Load.{plan_of_text, plan_unless};
 
 use sbe_layout::{Plan, lay_out};
@@ -17,7 +17,8 @@ use std::alloc::Global;
 /// with the first fault of its text; else `Schema` with the least rule of schemas that it breaks, at its first
 /// place. Want of memory is told as a fault that `ConfigFault::is_memory` knows.
 pub fn load(alloc: Global, text: &[u8]) -> Result<Plan, ConfigFault>
-    ensures { Tells result (plan_of_text text.now) }
+    ensures told { Tells result (plan_of_text text.now) }
+    ensures too_long { text_limit < length text.now → result ≡ Err ConfigFault.TooLong }
 {
     if text.len() > TEXT_LIMIT {
         return Err(ConfigFault::TooLong);

@@ -1,10 +1,10 @@
 //! The settings of `answer`: the acceptor's session over recorded bytes.
 
-ghost use Rattle.std.specs.Prelude.{◌≡◌, ◌≤◌, codes, [], length, IfOk};
+ghost use Rattle.std.specs.Prelude.{◌≡◌, ◌≤◌, ◌<◌, codes, [], length, IfOk, Err};
 ghost use Rattle.toml_walk.specs.Keys.{defaulted};
 ghost use Rattle.toml.specs.View.{view};
 ghost use Rattle.toml_walk.specs.Reading.{Reads};
-ghost use Rattle.schema_toml.specs.Faults.{Tells};
+ghost use Rattle.schema_toml.specs.Faults.{Tells, text_limit};
 ghost use Rattle.session_config.specs.Settings.{IsInRange, credentials_of, demanded, is_none, is_unsequenced, link_of, settings_of, settings_of_document, settings_of_text, trade_of};
 
 use crate::readers::{Credentials, Flows, Sessions};
@@ -137,7 +137,8 @@ fn read_keys(alloc: Global, text: &[u8]) -> Result<Settings, TomlFault>
 /// `TooLong` exactly where the text is longer than `TEXT_LIMIT`, and else the first fault in the order in which
 /// its keys are visited.
 pub fn read_settings(alloc: Global, text: &[u8]) -> Result<Settings, ConfigFault>
-    ensures value { Tells result (settings_of_text text.now) }
+    ensures told { Tells result (settings_of_text text.now) }
+    ensures too_long { text_limit < length text.now → result ≡ Err ConfigFault.TooLong }
     ensures range { IfOk result IsInRange }
 {
     if text.len() > TEXT_LIMIT {
