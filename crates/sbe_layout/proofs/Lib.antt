@@ -1,3 +1,4 @@
 pub mod NameMaps
 pub mod Rows
 pub mod Templates
+pub mod Composites

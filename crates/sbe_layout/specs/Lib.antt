@@ -2,4 +2,5 @@ pub mod Trees
 pub mod Views
 pub mod Falls
 pub mod Plans
+pub mod Parts
 pub mod Context

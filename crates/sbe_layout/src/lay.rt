@@ -5,15 +5,15 @@ ghost use Rattle.sbe_schema.specs.Views.{groups_of, head_of as schema_head_of};
 ghost use Rattle.sbe_layout.specs.Views.{plans_of, head_of};
 ghost use Rattle.sbe_layout.specs.Trees.{plan};
 ghost use Rattle.sbe_layout.specs.Context.{Knows};
-ghost use Rattle.sbe_layout.specs.Plans.{plan_of, message_plan, block_plan, groups_plan, group_head, items_of_fields, items_of_field, items_of_members, items_of_member, marks_of, data_of, resolved};
+ghost use Rattle.sbe_layout.specs.Plans.{plan_of, message_plan, block_plan, groups_plan, group_head, items_of_fields, items_of_field, marks_of, data_of};
+ghost use Rattle.sbe_layout.specs.Parts.{items_of_parts};
 
 use crate::blocks::{BlockPlan, GroupPlan, GroupPlans};
 use crate::items::{DataPlan, DataPlans, ItemPlan, ItemPlans, Mark, Marks};
+use crate::parts::Part;
 use crate::plan::{MessagePlan, MessagePlans, Plan};
-use crate::resolve::{Resolved, Types, members_at};
-use sbe_schema::{
-    Checked, DataDef, FieldDef, GroupDef, MemberDef, MessageDef, Presence, offset_of, plus,
-};
+use crate::resolve::{Resolved, Types};
+use sbe_schema::{Checked, DataDef, FieldDef, GroupDef, MessageDef, Presence, offset_of, plus};
 use sbe_value::Bytes;
 use std::alloc::{AllocError, Global};
 
@@ -179,6 +179,7 @@ fn data_plan(alloc: Global, vars: &[DataDef]) -> Result<Vec<DataPlan>, AllocErro
 }
 
 // Adds the items of a field, the field before ending at `end`.
+#[tactic(auto, using(crate::proofs::Composites::items_by_parts))]
 fn add_field(
     alloc: Global,
     types: &Types<'_>,
@@ -196,10 +197,7 @@ fn add_field(
     let start = offset_of(end, f.offset);
     match types.resolve(&f.type_name) {
         None => Ok(()),
-        Some(Resolved::Members(at)) => {
-            let members = members_at(types.index.schema.types.as_slice(), at);
-            add_members(alloc, types, f, start, members, items)
-        }
+        Some(Resolved::Members(at)) => add_parts(alloc, f, start, types.parts_at(at), items),
         Some(Resolved::Simple(kind)) => {
             let name = f.name.copy(alloc)?;
             items.push(ItemPlan {
@@ -215,56 +213,28 @@ fn add_field(
     }
 }
 
-// Adds the items of the members of a field that begins at `start`.
-fn add_members(
+// Adds the items of the parts of a field that begins at `start`.
+fn add_parts(
     alloc: Global,
-    types: &Types<'_>,
     f: &FieldDef,
     start: u128,
-    members: &[MemberDef],
+    parts: &[Part],
     items: &mut Vec<ItemPlan>,
 ) -> Result<(), AllocError>
-    requires { Knows types.now }
     ensures { OnOk result (items.new.items
-        ≡ items.old.items ++ items_of_members types.now.index.schema.now.types f.now.name f.now.since start 0 members.now) }
+        ≡ items.old.items ++ items_of_parts f.now.name f.now.since start parts.now) }
 {
-    let mut end = 0u128;
-    for m in members {
-        let place = plus(start, offset_of(end, m.offset));
-        add_member(alloc, types, f, place, m, items)?;
-        end = types.index.member_end(end, m);
+    for part in parts {
+        let name = joined(alloc, &f.name, &part.name)?;
+        items.push(ItemPlan {
+            name,
+            offset: plus(start, part.place),
+            size: part.size,
+            since: f.since,
+            presence: part.presence,
+            kind: part.kind,
+        })?;
     }
-    Ok(())
-}
-
-// Adds the item of a member at its place.
-fn add_member(
-    alloc: Global,
-    types: &Types<'_>,
-    f: &FieldDef,
-    place: u128,
-    m: &MemberDef,
-    items: &mut Vec<ItemPlan>,
-) -> Result<(), AllocError>
-    requires { Knows types.now }
-    ensures { OnOk result (items.new.items
-        ≡ items.old.items ++ items_of_member types.now.index.schema.now.types f.now.name f.now.since place m.now (resolved types.now.index.schema.now.types m.now.type_name)) }
-{
-    let Some(Resolved::Simple(kind)) = types.resolve(&m.type_name) else {
-        return Ok(());
-    };
-    if matches!(m.presence, Presence::Constant) {
-        return Ok(());
-    }
-    let name = joined(alloc, &f.name, &m.name)?;
-    items.push(ItemPlan {
-        name,
-        offset: place,
-        size: types.index.size(&m.type_name),
-        since: f.since,
-        presence: m.presence,
-        kind,
-    })?;
     Ok(())
 }
 

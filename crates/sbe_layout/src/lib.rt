@@ -5,6 +5,7 @@
 mod blocks;
 mod items;
 mod lay;
+mod parts;
 mod plan;
 mod resolve;
 

@@ -1,11 +1,16 @@
-//! What the names of a schema's types stand for.
+//! What the names of a schema's types stand for, and the parts of its composites.
 
-ghost use Rattle.std.specs.Prelude.{◌≡◌, ◌+◌, Some, IfOk, slice_get};
+ghost use Rattle.std.specs.Prelude.{◌≡◌, ◌+◌, ◌++◌, Some, IfOk, OnOk, slice_get};
+ghost use Rattle.sbe_schema.specs.Indexed.{Indexes};
 ghost use Rattle.sbe_layout.specs.Plans.{resolved_kind, resolved, members_of};
-ghost use Rattle.sbe_layout.specs.Context.{Resolves, Knows};
+ghost use Rattle.sbe_layout.specs.Parts.{part_of, parts_of, parts_of_types};
+ghost use Rattle.sbe_layout.specs.Context.{Resolves, Knows, resolved_in};
 
 use crate::items::ItemKind;
-use sbe_schema::{Index, MemberDef, Schema, TypeDef, TypeKind, find_primitive};
+use crate::parts::{Part, Parts};
+use sbe_schema::{
+    Index, MemberDef, Presence, Schema, TypeDef, TypeKind, find_primitive, offset_of,
+};
 use sbe_value::Bytes;
 use std::alloc::{AllocError, Global};
 use std::collections::BTreeMap;
@@ -26,6 +31,8 @@ pub struct Types<'a> {
     pub index: Index<'a>,
     /// What their names stand for.
     pub names: BTreeMap<Bytes, Resolved>,
+    /// The parts of each, in order.
+    pub parts: Vec<Parts>,
 }
 
 impl<'a> Types<'a> {
@@ -35,8 +42,13 @@ impl<'a> Types<'a> {
         ensures whole { IfOk result Knows }
     {
         let index = Index::new(alloc, schema)?;
-        let names = names_of(alloc, schema.types.as_slice())?;
-        Ok(Types { index, names })
+        let names = names_of(alloc, index.schema.types.as_slice())?;
+        let parts = parts_of_types(alloc, &index, &names)?;
+        Ok(Types {
+            index,
+            names,
+            parts,
+        })
     }
 
     /// What a name stands for, if anything.
@@ -44,27 +56,106 @@ impl<'a> Types<'a> {
         requires { Knows self.now }
         ensures { result ≡ resolved self.now.index.schema.now.types name.now }
     {
-        match find_primitive(name.as_slice()) {
-            Some(prim) => Some(Resolved::Simple(ItemKind::Number {
-                prim,
-                length: 1,
-                null: None,
-                min: None,
-                max: None,
-            })),
-            None => self.names.get(name).copied(),
+        look_up(&self.names, name)
+    }
+
+    /// The parts of the composite at a place, if one is there.
+    pub fn parts_at(&self, at: u64) -> &[Part]
+        requires { Knows self.now }
+        ensures { result.now
+            ≡ parts_of self.now.index.schema.now.types 0 (members_of (slice_get self.now.index.schema.now.types at)) }
+    {
+        match self.parts.get(at as usize) {
+            None => &[],
+            Some(parts) => parts.as_slice(),
         }
     }
 }
 
-/// The members of the composite at a place, if one is there.
-pub fn members_at(types: &[TypeDef], at: u64) -> &[MemberDef]
-    ensures { result.now ≡ members_of (slice_get types.now at) }
+// What a name stands for by the map of the names.
+fn look_up(names: &BTreeMap<Bytes, Resolved>, name: &Bytes) -> Option<Resolved>
+    ensures { result ≡ resolved_in names.now name.now }
 {
-    match types.get(at as usize) {
-        None => &[],
-        Some(t) => members_of(t),
+    match find_primitive(name.as_slice()) {
+        Some(prim) => Some(Resolved::Simple(ItemKind::Number {
+            prim,
+            length: 1,
+            null: None,
+            min: None,
+            max: None,
+        })),
+        None => names.get(name).copied(),
     }
+}
+
+// The parts of each type, in order: each member is resolved here, and nowhere else.
+fn parts_of_types(
+    alloc: Global,
+    index: &Index<'_>,
+    names: &BTreeMap<Bytes, Resolved>,
+) -> Result<Vec<Parts>, AllocError>
+    requires indexed { Indexes index.now }
+    requires resolves { Resolves names.now 0 index.now.schema.now.types }
+    ensures { IfOk result (λ lists. lists.items
+        ≡ parts_of_types index.now.schema.now.types index.now.schema.now.types) }
+{
+    let mut lists = Vec::new(alloc);
+    for t in index.schema.types.as_slice() {
+        let parts = parts_of(alloc, index, names, members_of(t))?;
+        lists.push(Parts::from(parts))?;
+    }
+    Ok(lists)
+}
+
+// The parts of the members of a composite.
+fn parts_of(
+    alloc: Global,
+    index: &Index<'_>,
+    names: &BTreeMap<Bytes, Resolved>,
+    members: &[MemberDef],
+) -> Result<Vec<Part>, AllocError>
+    requires indexed { Indexes index.now }
+    requires resolves { Resolves names.now 0 index.now.schema.now.types }
+    ensures { IfOk result (λ parts. parts.items ≡ parts_of index.now.schema.now.types 0 members.now) }
+{
+    let mut parts = Vec::new(alloc);
+    let mut end = 0u128;
+    for m in members {
+        add_part(alloc, index, names, end, m, &mut parts)?;
+        end = index.member_end(end, m);
+    }
+    Ok(parts)
+}
+
+// Adds the part of a member, the member before ending at `end`.
+fn add_part(
+    alloc: Global,
+    index: &Index<'_>,
+    names: &BTreeMap<Bytes, Resolved>,
+    end: u128,
+    m: &MemberDef,
+    parts: &mut Vec<Part>,
+) -> Result<(), AllocError>
+    requires indexed { Indexes index.now }
+    requires resolves { Resolves names.now 0 index.now.schema.now.types }
+    ensures { OnOk result (parts.new.items
+        ≡ parts.old.items ++ part_of index.now.schema.now.types end m.now (resolved index.now.schema.now.types m.now.type_name)) }
+{
+    let Some(Resolved::Simple(kind)) = look_up(names, &m.type_name) else {
+        return Ok(());
+    };
+    if matches!(m.presence, Presence::Constant) {
+        return Ok(());
+    }
+    let name = m.name.copy(alloc)?;
+    parts.push(Part {
+        name,
+        place: offset_of(end, m.offset),
+        size: index.size(&m.type_name),
+        presence: m.presence,
+        kind,
+    })?;
+    Ok(())
 }
 
 fn members_of(t: &TypeDef) -> &[MemberDef]
