@@ -1,0 +1,5 @@
+pub mod Spots
+pub mod State
+pub mod Below
+pub mod Names
+pub mod Pairing
