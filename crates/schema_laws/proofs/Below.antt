@@ -5,7 +5,7 @@ use Rattle.std.specs.Int.{int_max}
 use Rattle.std.specs.FinSet as set
 use Rattle.sbe_prim.specs.declared.Primitive.{Primitive}
 use Rattle.sbe_schema.specs.declared.fault.Spot.{Spot}
-use Rattle.sbe_schema.specs.declared.fault.Part.TheVariants.{Values, Bits, Members, Fields, Groups, Data}
+use Rattle.sbe_schema.specs.declared.fault.Part.TheVariants.{Types, Values, Bits, Members, Fields, Groups, Data}
 use Rattle.sbe_schema.specs.declared.holder.Holder.{Holder}
 use Rattle.sbe_schema.specs.declared.types.TypeDef.{TypeDef}
 use Rattle.sbe_schema.specs.declared.types.TypeKind.{TypeKind}
@@ -19,7 +19,7 @@ use Rattle.sbe_schema.specs.Groups.{GroupTree, no_groups, group}
 use Rattle.sbe_schema.specs.Names.{Names, Numbers}
 use Rattle.sbe_schema.specs.Offsets.{member_end, field_end}
 use Rattle.sbe_schema.specs.Places.{Place}
-use Rattle.sbe_schema.specs.Walk.{spot, walk_values, walk_bits, walk_members, walk_kind, walk_fields, walk_groups, walk_data, walk_block, names_of_fields, names_of_groups, ids_of_fields, ids_of_groups, ids_of_data, entry_of}
+use Rattle.sbe_schema.specs.Walk.{spot, walk_values, walk_bits, walk_members, walk_kind, walk_types, walk_fields, walk_groups, walk_data, walk_block, names_of_fields, names_of_groups, ids_of_fields, ids_of_groups, ids_of_data, entry_of}
 
 -- the path goes on below the base
 abbrev pub Goes : List Spot → List Spot → Type 0
@@ -86,3 +86,16 @@ block_below types base holder ids fields groups vars =
     let field_names : Names = names_of_fields set.empty fields in
     let field_ids : Numbers = ids_of_fields ids fields in
     all_append (Below base) _ _ (fields_below types base set.empty ids holder.since 0 0 fields) (all_append (Below base) _ _ (groups_below types base holder field_names field_ids holder.since 0 groups) (data_below base holder (names_of_groups field_names groups) (ids_of_groups field_ids groups) holder.since 0 vars))
+
+-- what is told of the types stands below a type's place
+abbrev pub InTypes : Place → Type 0
+InTypes p = (i : ℕ) × (rest : List Spot) × (p.spots ≡ spot Types i ∷ rest)
+
+below_in_types : (i : ℕ) (ps : List Place) → AllByRecursion (Below (spot Types i ∷ [])) ps → AllByRecursion InTypes ps
+below_in_types i [] a = tt
+below_in_types i (p ∷ ps) a = ((i, a.0.0 ∷ a.0.1, a.0.2), below_in_types i ps a.1)
+
+pub types_in : (types : List TypeDef) (names : Names) (at : ℕ) (ts : List TypeDef) → AllByRecursion InTypes (walk_types types names at ts)
+types_in types names at [] = tt
+types_in types names at (t ∷ ts) =
+    ((at, [], refl), all_append InTypes _ _ (below_in_types at _ (kind_below types (spot Types at ∷ []) t.kind)) (types_in types (set.insert names t.name) (at + 1) ts))

@@ -1,5 +1,5 @@
 -- At each place of a walk, the set of names holds what the places before it, in the same list or block, are named.
-use Rattle.std.proofs.Common.{◌≡◌, ℕ, ◌+◌, ◌≤◌, ◌==◌, ℤ, pos, Bool, true, false, ◌&&◌, ◌||◌, Option, Some, None, List, [], ◌∷◌, ◌++◌, refl, sym, ap, subst, ◌∙◌, arith, append_assoc}
+use Rattle.std.proofs.Common.{◌≡◌, ℕ, ◌+◌, ◌==◌, ℤ, pos, Bool, false, ◌&&◌, ◌||◌, Option, Some, None, List, [], ◌∷◌, ◌++◌, refl, sym, ap, subst, ◌∙◌}
 use Rattle.std.specs.List.{AllByRecursion}
 use Rattle.std.specs.Ordering.{nat_cmp, eq_by_cmp}
 use Rattle.std.specs.Cmp.Lexicographic.{slice_cmp, nat_list_cmp_total}
@@ -26,9 +26,11 @@ use Rattle.sbe_schema.specs.Offsets.{member_end, field_end}
 use Rattle.sbe_schema.specs.Places.{Place, Table, type_table, value_table, bit_table, member_table, message_table, field_table, group_table, data_table}
 use Rattle.sbe_schema.specs.Walk.{spot, place, root_of, walk_values, walk_bits, walk_members, walk_kind, walk_types, walk_fields, walk_groups, walk_data, walk_block, walk_messages, walk, names_of_fields, names_of_groups, ids_of_fields, ids_of_groups, ids_of_data, entry_of}
 use Rattle.schema_laws.specs.Pairs.{name_of, list_of}
-use Rattle.schema_laws.proofs.Spots.{same_part, same_part-itself, same_spot, siblings, siblings-last, siblings-deeper, siblings-higher, siblings-other, other_at}
-use Rattle.schema_laws.proofs.State.{add, adds, adds-append, NoneNear, adds-none, Told, told-append}
-use Rattle.schema_laws.proofs.Below.{Below, all_append, kind_below, block_below}
+use Rattle.schema_laws.proofs.Spots.{same_part, same_spot, siblings, siblings-deeper, siblings-other}
+use Rattle.schema_laws.proofs.State.{adds-append, NoneNear, adds-none, Told, told-append}
+use Rattle.schema_laws.proofs.Lists as lists
+use Rattle.schema_laws.proofs.Lists.{Free, FreeFrom, Holds, holds_none, holds_more, free_below, holds_over, free_over}
+use Rattle.schema_laws.proofs.Below.{Below, InTypes, types_in, kind_below, block_below}
 
 abbrev pub named_as : Option (List ℕ) → List ℕ → Bool
 named_as None n = false
@@ -41,92 +43,39 @@ abbrev pub Seen : Type 0
 Seen = List Spot → List ℕ → Bool
 
 abbrev pub with : Seen → Place → Seen
-with s p = add siblings named s p
+with s p = lists.with named s p
 
 abbrev pub after : Seen → List Place → Seen
-after s ps = adds siblings named s ps
+after s ps = lists.after named s ps
 
-abbrev pub knows : Place → List ℕ → Bool
-knows p n = set.contains p.names n
+abbrev pub Knows : Place → (List ℕ → Bool) → Type 0
+Knows p f = (n : List ℕ) → set.contains p.names n ≡ f n
 
 abbrev pub Tells : Seen → List Place → Type 0
-Tells s ps = Told siblings named knows s ps
-
--- of one list or block at a base, the names so far are these
-abbrev pub Holds : List Spot → Part → Seen → Names → Type 0
-Holds base list s names = (x : Spot) → list_of x.part ≡ list → (n : List ℕ) → s (base ++ x ∷ []) n ≡ set.contains names n
-
--- nothing was told below a base; below those of a list from a number on
-abbrev pub Free : List Spot → Seen → Type 0
-Free base s = (y : Spot) (r : List Spot) (n : List ℕ) → s (base ++ y ∷ r) n ≡ false
-
-abbrev pub FreeFrom : List Spot → Part → ℕ → Seen → Type 0
-FreeFrom base part at s = (j : ℕ) → at ≤ j → (y : Spot) (r : List Spot) (n : List ℕ) → s (base ++ spot part j ∷ y ∷ r) n ≡ false
-
--- ---- one place
-
-holds_more : (base : List Spot) (part : Part) (at : ℕ) (names : Names) (ids : Numbers) (table : Table) (s : Seen) (name : List ℕ)
-    → name_of table ≡ Some name → Holds base (list_of part) s names → Holds base (list_of part) (with s (place base part at names ids table)) (set.insert names name)
-holds_more base part at names ids table s name e h x l n =
-    let near : siblings (base ++ spot part at ∷ []) (base ++ x ∷ []) ≡ true = siblings-last base (spot part at) x ∙ (ap (λ p. same_part (list_of part) p) l ∙ same_part-itself (list_of part)) in
-    (λ i. (near i && named_as (e i) n) || h x l n i) ∙ sym (set.contains-insert nat_list_cmp_total names name n)
-
-free_below : (base : List Spot) (part : Part) (at : ℕ) (names : Names) (ids : Numbers) (table : Table) (s : Seen)
-    → FreeFrom base part at s → Free (base ++ spot part at ∷ []) (with s (place base part at names ids table))
-free_below base part at names ids table s free y r n =
-    let deep : (base ++ spot part at ∷ []) ++ y ∷ r ≡ base ++ spot part at ∷ y ∷ r = append_assoc base (spot part at ∷ []) (y ∷ r) in
-    let away : siblings (base ++ spot part at ∷ []) ((base ++ spot part at ∷ []) ++ y ∷ r) ≡ false = ap (λ l. siblings (base ++ spot part at ∷ []) l) deep ∙ siblings-deeper base (spot part at) (spot part at) y r in
-    let none : s ((base ++ spot part at ∷ []) ++ y ∷ r) n ≡ false = ap (λ l. s l n) deep ∙ free at (omega arith) y r n in
-    λ i. (away i && named table n) || none i
-
--- ---- what lies below one place touches neither its list nor what lies below another
-
-none_near : (path here : List Spot) (ps : List Place) → ((y : Spot) (r : List Spot) → siblings (here ++ y ∷ r) path ≡ false) → AllByRecursion (Below here) ps → NoneNear siblings named path ps
-none_near path here [] away a = tt
-none_near path here (p ∷ ps) away a = (ap (λ l. siblings l path) a.0.2 ∙ away a.0.0 a.0.1, none_near path here ps away a.1)
-
-holds_over : (base : List Spot) (x : Spot) (list : Part) (s : Seen) (names : Names) (ps : List Place)
-    → AllByRecursion (Below (base ++ x ∷ [])) ps → Holds base list s names → Holds base list (after s ps) names
-holds_over base x list s names ps below h z l n =
-    let away : (y : Spot) (r : List Spot) → siblings ((base ++ x ∷ []) ++ y ∷ r) (base ++ z ∷ []) ≡ false
-    = λ y r. ap (λ w. siblings w (base ++ z ∷ [])) (append_assoc base (x ∷ []) (y ∷ r)) ∙ siblings-higher base x z y r in
-    adds-none siblings named s ps (base ++ z ∷ []) n (none_near (base ++ z ∷ []) (base ++ x ∷ []) ps away below) ∙ h z l n
-
-free_over : (base : List Spot) (part : Part) (at : ℕ) (names : Names) (ids : Numbers) (table : Table) (s : Seen) (ps : List Place)
-    → AllByRecursion (Below (base ++ spot part at ∷ [])) ps → FreeFrom base part at s → FreeFrom base part (at + 1) (after (with s (place base part at names ids table)) ps)
-free_over base part at names ids table s ps below free j h z t n =
-    let path : List Spot = base ++ spot part j ∷ z ∷ t in
-    let other : same_spot (spot part at) (spot part j) ≡ false = other_at part at j (omega arith) in
-    let away : (y : Spot) (r : List Spot) → siblings ((base ++ spot part at ∷ []) ++ y ∷ r) (base ++ spot part j ∷ z ∷ t) ≡ false
-    = λ y r. ap (λ w. siblings w (base ++ spot part j ∷ z ∷ t)) (append_assoc base (spot part at ∷ []) (y ∷ r)) ∙ siblings-other base (spot part at) (spot part j) y z r t other in
-    adds-none siblings named (with s (place base part at names ids table)) ps (base ++ spot part j ∷ z ∷ t) n (none_near (base ++ spot part j ∷ z ∷ t) (base ++ spot part at ∷ []) ps away below)
-    ∙ (λ i. (siblings-deeper base (spot part at) (spot part j) z t i && named table n) || free j (omega arith) z t n i)
-
-holds_none : (base : List Spot) (list : Part) (s : Seen) → Free base s → Holds base list s set.empty
-holds_none base list s free x l n = free x [] n ∙ sym (set.contains-empty (slice_cmp nat_cmp) n)
+Tells s ps = Told siblings named Knows s ps
 
 -- ---- the lists
 
 values_tell : (base : List Spot) (prim : Primitive) (names : Names) (numbers : Numbers) (at : ℕ) (vs : List ValueDef) (s : Seen) → Holds base Values s names → Tells s (walk_values base prim names numbers at vs)
 values_tell base prim names numbers at [] s h = tt
 values_tell base prim names numbers at (v ∷ vs) s h =
-    (λ n. sym (h (spot Values at) refl n), values_tell base prim (set.insert names v.name) (set.insert numbers v.value) (at + 1) vs _ (holds_more base Values at names numbers (value_table prim v) s v.name refl h))
+    (λ n. sym (h (spot Values at) refl n), values_tell base prim (set.insert names v.name) (set.insert numbers v.value) (at + 1) vs _ (holds_more nat_list_cmp_total named base Values at names numbers (value_table prim v) s names v.name (λ n. refl) h))
 
 bits_tell : (base : List Spot) (prim : Primitive) (names : Names) (numbers : Numbers) (at : ℕ) (bs : List BitDef) (s : Seen) → Holds base Bits s names → Tells s (walk_bits base prim names numbers at bs)
 bits_tell base prim names numbers at [] s h = tt
 bits_tell base prim names numbers at (b ∷ bs) s h =
-    (λ n. sym (h (spot Bits at) refl n), bits_tell base prim (set.insert names b.name) (set.insert numbers (pos b.bit)) (at + 1) bs _ (holds_more base Bits at names numbers (bit_table prim b) s b.name refl h))
+    (λ n. sym (h (spot Bits at) refl n), bits_tell base prim (set.insert names b.name) (set.insert numbers (pos b.bit)) (at + 1) bs _ (holds_more nat_list_cmp_total named base Bits at names numbers (bit_table prim b) s names b.name (λ n. refl) h))
 
 members_tell : (types : List TypeDef) (base : List Spot) (names : Names) (end at : ℕ) (ms : List MemberDef) (s : Seen) → Holds base Members s names → Tells s (walk_members types base names end at ms)
 members_tell types base names end at [] s h = tt
 members_tell types base names end at (m ∷ ms) s h =
-    (λ n. sym (h (spot Members at) refl n), members_tell types base (set.insert names m.name) (member_end types end m) (at + 1) ms _ (holds_more base Members at names set.empty (member_table end m) s m.name refl h))
+    (λ n. sym (h (spot Members at) refl n), members_tell types base (set.insert names m.name) (member_end types end m) (at + 1) ms _ (holds_more nat_list_cmp_total named base Members at names set.empty (member_table end m) s names m.name (λ n. refl) h))
 
 kind_tells : (types : List TypeDef) (base : List Spot) (kind : TypeKind) (s : Seen) → Free base s → Tells s (walk_kind types base kind)
 kind_tells types base (Number prim length null low high) s free = tt
-kind_tells types base (Enum prim values) s free = values_tell base prim set.empty set.empty 0 values s (holds_none base Values s free)
-kind_tells types base (Set prim bits) s free = bits_tell base prim set.empty set.empty 0 bits s (holds_none base Bits s free)
-kind_tells types base (Composite members) s free = members_tell types base set.empty 0 0 members s (holds_none base Members s free)
+kind_tells types base (Enum prim values) s free = values_tell base prim set.empty set.empty 0 values s (holds_none (slice_cmp nat_cmp) base Values s free)
+kind_tells types base (Set prim bits) s free = bits_tell base prim set.empty set.empty 0 bits s (holds_none (slice_cmp nat_cmp) base Bits s free)
+kind_tells types base (Composite members) s free = members_tell types base set.empty 0 0 members s (holds_none (slice_cmp nat_cmp) base Members s free)
 
 types_tell : (types : List TypeDef) (names : Names) (at : ℕ) (ts : List TypeDef) (s : Seen) → Holds [] Types s names → FreeFrom [] Types at s → Tells s (walk_types types names at ts)
 types_tell types names at [] s h free = tt
@@ -134,11 +83,11 @@ types_tell types names at (t ∷ ts) s h free =
     let head : Place = place [] Types at names set.empty (type_table t) in
     let inside = walk_kind types (spot Types at ∷ []) t.kind in
     let below = kind_below types (spot Types at ∷ []) t.kind in
-    let told = kind_tells types (spot Types at ∷ []) t.kind (with s head) (free_below [] Types at names set.empty (type_table t) s free) in
+    let told = kind_tells types (spot Types at ∷ []) t.kind (with s head) (free_below named [] Types at names set.empty (type_table t) s free) in
     let more = types_tell types (set.insert names t.name) (at + 1) ts (after (with s head) inside)
-    (holds_over [] (spot Types at) Types (with s head) (set.insert names t.name) inside below (holds_more [] Types at names set.empty (type_table t) s t.name refl h))
-    (free_over [] Types at names set.empty (type_table t) s inside below free) in
-    (λ n. sym (h (spot Types at) refl n), told-append siblings named knows (with s head) inside (walk_types types (set.insert names t.name) (at + 1) ts) told more)
+    (holds_over named [] (spot Types at) Types (with s head) (set.insert names t.name) inside below (holds_more nat_list_cmp_total named [] Types at names set.empty (type_table t) s names t.name (λ n. refl) h))
+    (free_over named [] Types at names set.empty (type_table t) s inside below free) in
+    (λ n. sym (h (spot Types at) refl n), told-append siblings named Knows (with s head) inside (walk_types types (set.insert names t.name) (at + 1) ts) told more)
 
 -- ---- blocks
 
@@ -146,13 +95,13 @@ fields_tell : (types : List TypeDef) (base : List Spot) (names : Names) (ids : N
     → Tells s (walk_fields types base names ids floor end at fs) × Holds base Fields (after s (walk_fields types base names ids floor end at fs)) (names_of_fields names fs)
 fields_tell types base names ids floor end at [] s h = (tt, h)
 fields_tell types base names ids floor end at (f ∷ fs) s h =
-    let more = fields_tell types base (set.insert names f.name) (set.insert ids (pos f.id)) (int_max floor f.since) (field_end types end f) (at + 1) fs _ (holds_more base Fields at names ids (field_table floor end f) s f.name refl h) in
+    let more = fields_tell types base (set.insert names f.name) (set.insert ids (pos f.id)) (int_max floor f.since) (field_end types end f) (at + 1) fs _ (holds_more nat_list_cmp_total named base Fields at names ids (field_table floor end f) s names f.name (λ n. refl) h) in
     ((λ n. sym (h (spot Fields at) refl n), more.0), more.1)
 
 data_tell : (base : List Spot) (holder : Holder) (names : Names) (ids : Numbers) (floor : ℤ) (at : ℕ) (ds : List DataDef) (s : Seen) → Holds base Fields s names → Tells s (walk_data base holder names ids floor at ds)
 data_tell base holder names ids floor at [] s h = tt
 data_tell base holder names ids floor at (d ∷ ds) s h =
-    (λ n. sym (h (spot Data at) refl n), data_tell base holder (set.insert names d.name) (set.insert ids (pos d.id)) (int_max floor d.since) (at + 1) ds _ (holds_more base Data at names ids (data_table holder floor d) s d.name refl h))
+    (λ n. sym (h (spot Data at) refl n), data_tell base holder (set.insert names d.name) (set.insert ids (pos d.id)) (int_max floor d.since) (at + 1) ds _ (holds_more nat_list_cmp_total named base Data at names ids (data_table holder floor d) s names d.name (λ n. refl) h))
 
 -- fields leave what lies below groups free
 fields_free : (types : List TypeDef) (base : List Spot) (names : Names) (ids : Numbers) (floor : ℤ) (end at : ℕ) (fs : List FieldDef) (path : List Spot) (s : Seen) (n : List ℕ)
@@ -175,10 +124,10 @@ block_from types base holder ids fields groups vars groups_told s free =
     let first = walk_fields types base set.empty ids holder.since 0 0 fields in
     let second = walk_groups types base holder field_names field_ids holder.since 0 groups in
     let third = walk_data base holder (names_of_groups field_names groups) (ids_of_groups field_ids groups) holder.since 0 vars in
-    let one = fields_tell types base set.empty ids holder.since 0 0 fields s (holds_none base Fields s free) in
+    let one = fields_tell types base set.empty ids holder.since 0 0 fields s (holds_none (slice_cmp nat_cmp) base Fields s free) in
     let two = groups_told (after s first) one.1 (λ j h y r n. fields_free types base set.empty ids holder.since 0 0 fields (base ++ spot Groups j ∷ y ∷ r) s n (λ k. siblings-deeper base (spot Fields k) (spot Groups j) y r) (free (spot Groups j) (y ∷ r) n)) in
     let three = data_tell base holder (names_of_groups field_names groups) (ids_of_groups field_ids groups) holder.since 0 vars (after (after s first) second) two.1 in
-    told-append siblings named knows s first (second ++ third) one.0 (told-append siblings named knows (after s first) second third two.0 three)
+    told-append siblings named Knows s first (second ++ third) one.0 (told-append siblings named Knows (after s first) second third two.0 three)
 
 groups_tell : (types : List TypeDef) (base : List Spot) (holder : Holder) (names : Names) (ids : Numbers) (floor : ℤ) (at : ℕ) (tree : GroupTree) → GroupsTell types base holder names ids floor at tree
 groups_tell types base holder names ids floor at no_groups s h free = (tt, h)
@@ -192,11 +141,11 @@ groups_tell types base holder names ids floor at (group g inner rest) s h free =
     let inside : List Place = walk_block types here entry (set.insert ids (pos g.id)) g.fields inner g.vars in
     let others : List Place = walk_groups types base holder (set.insert names g.name) (ids_of_data group_ids g.vars) (int_max floor g.since) (at + 1) rest in
     let below : AllByRecursion (Below here) inside = block_below types here entry (set.insert ids (pos g.id)) g.fields inner g.vars in
-    let told : Tells (with s head) inside = block_from types here entry (set.insert ids (pos g.id)) g.fields inner g.vars (groups_tell types here entry field_names field_ids g.since 0 inner) (with s head) (free_below base Groups at names ids (group_table holder floor g) s free) in
+    let told : Tells (with s head) inside = block_from types here entry (set.insert ids (pos g.id)) g.fields inner g.vars (groups_tell types here entry field_names field_ids g.since 0 inner) (with s head) (free_below named base Groups at names ids (group_table holder floor g) s free) in
     let more = groups_tell types base holder (set.insert names g.name) (ids_of_data group_ids g.vars) (int_max floor g.since) (at + 1) rest (after (with s head) inside)
-    (holds_over base (spot Groups at) Fields (with s head) (set.insert names g.name) inside below (holds_more base Groups at names ids (group_table holder floor g) s g.name refl h))
-    (free_over base Groups at names ids (group_table holder floor g) s inside below free) in (
-      (λ n. sym (h (spot Groups at) refl n), told-append siblings named knows (with s head) inside others told more.0),
+    (holds_over named base (spot Groups at) Fields (with s head) (set.insert names g.name) inside below (holds_more nat_list_cmp_total named base Groups at names ids (group_table holder floor g) s names g.name (λ n. refl) h))
+    (free_over named base Groups at names ids (group_table holder floor g) s inside below free) in (
+      (λ n. sym (h (spot Groups at) refl n), told-append siblings named Knows (with s head) inside others told more.0),
       subst (λ (t : Seen). Holds base Fields t (names_of_groups (set.insert names g.name) rest)) (sym (adds-append siblings named (with s head) inside others)) more.1,
     )
 
@@ -211,27 +160,15 @@ messages_tell types names ids at (m ∷ ms) s h free =
     let head : Place = place [] Messages at names ids (message_table m) in
     let inside = walk_block types here (root_of m) set.empty m.fields m.groups m.vars in
     let below = block_below types here (root_of m) set.empty m.fields m.groups m.vars in
-    let told = block_tells types here (root_of m) set.empty m.fields m.groups m.vars (with s head) (free_below [] Messages at names ids (message_table m) s free) in
+    let told = block_tells types here (root_of m) set.empty m.fields m.groups m.vars (with s head) (free_below named [] Messages at names ids (message_table m) s free) in
     let more = messages_tell types (set.insert names m.name) (set.insert ids (pos m.id)) (at + 1) ms (after (with s head) inside)
-    (holds_over [] (spot Messages at) Messages (with s head) (set.insert names m.name) inside below (holds_more [] Messages at names ids (message_table m) s m.name refl h))
-    (free_over [] Messages at names ids (message_table m) s inside below free) in
-    (λ n. sym (h (spot Messages at) refl n), told-append siblings named knows (with s head) inside (walk_messages types (set.insert names m.name) (set.insert ids (pos m.id)) (at + 1) ms) told more)
+    (holds_over named [] (spot Messages at) Messages (with s head) (set.insert names m.name) inside below (holds_more nat_list_cmp_total named [] Messages at names ids (message_table m) s names m.name (λ n. refl) h))
+    (free_over named [] Messages at names ids (message_table m) s inside below free) in
+    (λ n. sym (h (spot Messages at) refl n), told-append siblings named Knows (with s head) inside (walk_messages types (set.insert names m.name) (set.insert ids (pos m.id)) (at + 1) ms) told more)
 
 -- ---- the whole walk
 
 -- what is told of the types touches no message
-abbrev InTypes : Place → Type 0
-InTypes p = (i : ℕ) × (rest : List Spot) × (p.spots ≡ spot Types i ∷ rest)
-
-below_in_types : (i : ℕ) (ps : List Place) → AllByRecursion (Below (spot Types i ∷ [])) ps → AllByRecursion InTypes ps
-below_in_types i [] a = tt
-below_in_types i (p ∷ ps) a = ((i, a.0.0 ∷ a.0.1, a.0.2), below_in_types i ps a.1)
-
-types_in : (types : List TypeDef) (names : Names) (at : ℕ) (ts : List TypeDef) → AllByRecursion InTypes (walk_types types names at ts)
-types_in types names at [] = tt
-types_in types names at (t ∷ ts) =
-    ((at, [], refl), all_append InTypes _ _ (below_in_types at _ (kind_below types (spot Types at ∷ []) t.kind)) (types_in types (set.insert names t.name) (at + 1) ts))
-
 no_type : (p : Part) → list_of p ≡ Messages → same_part Types p ≡ false
 no_type Types e = cc
 no_type Values e = refl
@@ -264,4 +201,4 @@ walk_tells schema =
     let second = messages_tell schema.types set.empty set.empty 0 schema.messages (after start types)
     (λ x l n. adds-none siblings named start types (x ∷ []) n (messages_apart x [] types l apart) ∙ sym (set.contains-empty (slice_cmp nat_cmp) n))
     (λ j h y r n. adds-none siblings named start types (spot Messages j ∷ y ∷ r) n (messages_apart (spot Messages j) (y ∷ r) types refl apart)) in
-    (λ n. set.contains-empty (slice_cmp nat_cmp) n, told-append siblings named knows start types (walk_messages schema.types set.empty set.empty 0 schema.messages) first second)
+    (λ n. set.contains-empty (slice_cmp nat_cmp) n, told-append siblings named Knows start types (walk_messages schema.types set.empty set.empty 0 schema.messages) first second)

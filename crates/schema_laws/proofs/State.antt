@@ -1,6 +1,6 @@
 -- What was told of the places so far: whether one of them is a sibling of a path and has a name or number.
 use Rattle.std.proofs.Common.{◌≡◌, Bool, true, false, ◌&&◌, ◌||◌, List, [], ◌∷◌, ◌++◌, refl, ap, ◌∙◌}
-use Rattle.std.specs.List.{list_any}
+use Rattle.std.specs.List.{list_any, AllByRecursion}
 use Rattle.sbe_schema.specs.declared.fault.Spot.{Spot}
 use Rattle.sbe_schema.specs.Places.{Table, Place}
 
@@ -46,20 +46,26 @@ module _ {V : Type 0} (near : List Spot → List Spot → Bool) (has : Table →
   adds-none s [] path v none = refl
   adds-none s (p ∷ ps) path v none = adds-none (add s p) ps path v none.1 ∙ ap (λ b. (b && has p.table v) || s path v) none.0
 
-  module _ (knows : Place → V → Bool) where
+  -- what was told from the start
+  pub adds-start : (ps : List Place) (path : List Spot) (v : V) → adds (λ _ _. false) ps path v ≡ list_any (λ q. near q.spots path && has q.table v) ps
+  adds-start ps path v = adds-any (λ _ _. false) ps path v ∙ or_false _
+
+  module _ (Knows : Place → (V → Bool) → Type 0) where
     -- each place knows what was told before it
     abbrev pub Told : (List Spot → V → Bool) → List Place → Type 0
     Told s [] = Unit {0}
-    Told s (p ∷ ps) = ((v : V) → knows p v ≡ s p.spots v) × Told (add s p) ps
+    Told s (p ∷ ps) = Knows p (s p.spots) × Told (add s p) ps
 
     pub told-append : (s : List Spot → V → Bool) (ps qs : List Place) → Told s ps → Told (adds s ps) qs → Told s (ps ++ qs)
     told-append s [] qs a b = b
     told-append s (p ∷ ps) qs a b = (a.0, told-append (add s p) ps qs a.1 b)
 
-    told_at : (s : List Spot → V → Bool) (before : List Place) (p : Place) (after : List Place) → Told s (before ++ p ∷ after) → (v : V) → knows p v ≡ adds s before p.spots v
+    -- at each split, a place knows what was told of the places before it
+    pub told_at : (s : List Spot → V → Bool) (before : List Place) (p : Place) (after : List Place) → Told s (before ++ p ∷ after) → Knows p (adds s before p.spots)
     told_at s [] p after t = t.0
     told_at s (q ∷ before) p after t = told_at (add s q) before p after t.1
 
-    -- at each split, a place knows what the places before it hold
-    pub told_of_split : (before : List Place) (p : Place) (after : List Place) → Told (λ _ _. false) (before ++ p ∷ after) → (v : V) → knows p v ≡ list_any (λ q. near q.spots p.spots && has q.table v) before
-    told_of_split before p after t v = told_at (λ _ _. false) before p after t v ∙ (adds-any (λ _ _. false) before p.spots v ∙ or_false _)
+    -- places that have nothing to know
+    pub told_of_none : (s : List Spot → V → Bool) (ps : List Place) → AllByRecursion (λ p. (f : V → Bool) → Knows p f) ps → Told s ps
+    told_of_none s [] a = tt
+    told_of_none s (p ∷ ps) a = (a.0 (s p.spots), told_of_none (add s p) ps a.1)

@@ -1,7 +1,6 @@
--- From the tests to the pairs that they tell of.
-use Rattle.std.proofs.Common.{◌≡◌, ℕ, zero, suc, ◌<◌, ◌⊎◌, inl, inr, ◌↔◌, Bool, true, false, ◌&&◌, is_some, Option, Some, None, List, [], ◌∷◌, ◌++◌, length, slice_index_or, refl, sym, ap, ◌∙◌, arith, Contains}
-use Rattle.std.proofs.lemmas.Bool.{false≢true, and_parts, and_from, or_cases, or_left, or_right}
-use Rattle.std.proofs.lemmas.List.Elements.{Contains-append_right}
+-- The law of names: what the test tells, at each kind of table.
+use Rattle.std.proofs.Common.{◌≡◌, ℕ, ◌⊎◌, inl, inr, ◌↔◌, true, false, ◌&&◌, is_some, Option, Some, None, List, ◌∷◌, ◌++◌, refl, sym, ap, ◌∙◌, Contains}
+use Rattle.std.proofs.lemmas.Bool.{false≢true, or_cases, or_left, or_right}
 use Rattle.std.specs.List.{list_any}
 use Rattle.std.specs.Ordering.{nat_cmp, is_eq}
 use Rattle.std.specs.Cmp.{Equal-is, tied_itself}
@@ -11,26 +10,11 @@ use Rattle.sbe_schema.specs.Names.{Names, primitive_named}
 use Rattle.sbe_schema.specs.Places.{Place, Table, whole, type_table, value_table, bit_table, member_table, message_table, field_table, group_table, data_table}
 use Rattle.sbe_schema.specs.Identity.{is_duplicate_name}
 use Rattle.schema_laws.specs.Pairs.{name_of, AreSiblings, HaveOneName, IsNamedAsPrimitive, NamesAreToldApart}
+use Rattle.schema_laws.proofs.Found.{told_pair}
 use Rattle.schema_laws.proofs.Spots.{siblings, siblings_tell, siblings_are}
-use Rattle.schema_laws.proofs.State.{told_of_split}
-use Rattle.schema_laws.proofs.Names.{named_as, named, knows, Tells, walk_tells}
+use Rattle.schema_laws.proofs.State.{told_at, adds-start}
+use Rattle.schema_laws.proofs.Names.{named_as, named, Knows, Tells, walk_tells}
 use Rattle.std.proofs.Common.{subst}
-
-pub any_found : (test : Place → Bool) (ps : List Place) → list_any test ps ≡ true → (q : Place) × Contains ps q × (test q ≡ true)
-any_found test [] e = absurd (false≢true e)
-any_found test (p ∷ ps) e =
-    elim (or_cases (test p) (list_any test ps) e) [
-      | inl here ↦ (p, (0, omega arith, refl), here)
-      | inr more ↦ let found = any_found test ps more in (found.0, Contains-append_right (p ∷ []) ps found.0 found.1, found.2)
-    ]
-
-found_at : (test : Place → Bool) (ps : List Place) (q : Place) (k : ℕ) → k < length ps → slice_index_or ps k q ≡ q → test q ≡ true → list_any test ps ≡ true
-found_at test [] q k h e t = absurd (omega arith)
-found_at test (p ∷ ps) q zero h e t = or_left (test p) (list_any test ps) (ap test e ∙ t)
-found_at test (p ∷ ps) q (suc k) h e t = or_right (test p) (list_any test ps) (found_at test ps q k (omega arith) e t)
-
-pub found_any : (test : Place → Bool) (ps : List Place) (q : Place) → Contains ps q → test q ≡ true → list_any test ps ≡ true
-found_any test ps q c t = found_at test ps q c.0 c.1 c.2 t
 
 named_tells : (o : Option (List ℕ)) (n : List ℕ) → named_as o n ≡ true → o ≡ Some n
 named_tells None n e = absurd (false≢true e)
@@ -46,16 +30,10 @@ NameBefore before p = (q : Place) × Contains before q × AreSiblings q.spots p.
 name_pair : (before : List Place) (p : Place) (name : List ℕ) → name_of p.table ≡ Some name → set.contains p.names name ≡ list_any (λ q. siblings q.spots p.spots && named q.table name) before
     → (set.contains p.names name ≡ true) ↔ NameBefore before p
 name_pair before p name e told =
-    let there : set.contains p.names name ≡ true → NameBefore before p
-    = λ yes.
-    let found = any_found (λ q. siblings q.spots p.spots && named q.table name) before (sym told ∙ yes) in
-    let both = and_parts (siblings found.0.spots p.spots) (named found.0.table name) found.2 in
-    (found.0, found.1, siblings_tell found.0.spots p.spots both.0, (name, named_tells (name_of found.0.table) name both.1, e)) in
-    let back : NameBefore before p → set.contains p.names name ≡ true
-    = λ s.
-    told
-    ∙ found_any (λ q. siblings q.spots p.spots && named q.table name) before s.0 s.1 (and_from (siblings s.0.spots p.spots) (named s.0.table name) (siblings_are s.0.spots p.spots s.2) (named_is (name_of s.0.table) name (s.3.1 ∙ (sym s.3.2 ∙ e)))) in
-    (there, back)
+    told_pair siblings AreSiblings siblings_tell siblings_are before p.spots (λ t. named t name) (λ t. HaveOneName t p.table)
+    (λ t yes. (name, named_tells (name_of t) name yes, e))
+    (λ t same. named_is (name_of t) name (same.1 ∙ (sym same.2 ∙ e)))
+    (set.contains p.names name) told
 
 -- the rule, at each kind of table
 name_rule : (names : Names) (t : Table) (Q : Type 0) → ((name : List ℕ) → name_of t ≡ Some name → (set.contains names name ≡ true) ↔ Q) → (name_of t ≡ None → Q → ⊥)
@@ -76,4 +54,4 @@ name_rule names (data_table holder floor d) Q at none = (λ e. inr ((at d.name r
 pub names_are_told_apart : NamesAreToldApart
 names_are_told_apart schema before p after split =
     let tells : Tells (λ _ _. false) (before ++ p ∷ after) = subst (λ (ps : List Place). Tells (λ _ _. false) ps) split (walk_tells schema) in
-    name_rule p.names p.table (NameBefore before p) (λ name e. name_pair before p name e (told_of_split siblings named knows before p after tells name)) (λ none s. cc (none, s.3.2))
+    name_rule p.names p.table (NameBefore before p) (λ name e. name_pair before p name e (told_at siblings named Knows (λ _ _. false) before p after tells name ∙ adds-start siblings named before p.spots name)) (λ none s. cc (none, s.3.2))
