@@ -9,3 +9,4 @@ pub mod Found
 pub mod NamePairs
 pub mod IdPairs
 pub mod NumberPairs
+pub mod KeptPairs

@@ -28,7 +28,7 @@ known : (o : Option ℤ) (numbers : Numbers) (f : ℤ → Bool) (number : ℤ) �
 known None numbers f number e k = absurd cc
 known (Some m) numbers f number e k = k
 
-number_pair : (schema : Schema) (before : List Place) (p : Place) (after : List Place) → walk schema ≡ before ++ p ∷ after → (number : ℤ) → number_of p.table ≡ Some number
+pub number_pair : (schema : Schema) (before : List Place) (p : Place) (after : List Place) → walk schema ≡ before ++ p ∷ after → (number : ℤ) → number_of p.table ≡ Some number
     → (set.contains p.numbers number ≡ true) ↔ IsNumberedBefore before p
 number_pair schema before p after split number e =
     let tells : Tells (λ _ _. false) (before ++ p ∷ after) = subst (λ (ps : List Place). Tells (λ _ _. false) ps) split (walk_tells schema) in

@@ -3,6 +3,7 @@
 #![tactic(auto)]
 
 ghost use Rattle.schema_laws.specs.Pairs.{NamesAreToldApart, IdsAreToldApart, ValuesAreToldApart, BitsAreToldApart};
+ghost use Rattle.schema_laws.specs.Kept.{CheckedNamesDiffer, CheckedTypesAreNoPrimitives, CheckedIdsDiffer, CheckedNumbersDiffer};
 
 /// A table is refused for its name exactly where a table before it, in the same list or block, has the same name,
 /// or where it is a type that is named as a primitive.
@@ -26,4 +27,24 @@ pub fn values_are_told_apart()
 /// width of the primitive.
 pub fn bits_are_told_apart()
     ensures law { BitsAreToldApart }
+{}
+
+/// No two tables of a checked schema that are in one list or block have one name.
+pub fn checked_names_differ()
+    ensures law { CheckedNamesDiffer }
+{}
+
+/// No type of a checked schema has the name of a primitive.
+pub fn checked_types_are_no_primitives()
+    ensures law { CheckedTypesAreNoPrimitives }
+{}
+
+/// No two messages of a checked schema have one id, nor have two elements of one message.
+pub fn checked_ids_differ()
+    ensures law { CheckedIdsDiffer }
+{}
+
+/// No two values of one enum, and no two bits of one set, have one number in a checked schema.
+pub fn checked_numbers_differ()
+    ensures law { CheckedNumbersDiffer }
 {}
