@@ -1,0 +1,12 @@
+pub mod Spots
+pub mod State
+pub mod Below
+pub mod Lists
+pub mod Names
+pub mod Numbers
+pub mod Ids
+pub mod Found
+pub mod NamePairs
+pub mod IdPairs
+pub mod NumberPairs
+pub mod KeptPairs

@@ -1,0 +1,50 @@
+//! Laws of a checked schema, in the subject's own words: which two tables are refused for one name, one id or one number.
+//! Each function has an empty body: its clause is a statement about every schema, and every table of its walk.
+#![tactic(auto)]
+
+ghost use Rattle.schema_laws.specs.Pairs.{NamesAreToldApart, IdsAreToldApart, ValuesAreToldApart, BitsAreToldApart};
+ghost use Rattle.schema_laws.specs.Kept.{CheckedNamesDiffer, CheckedTypesAreNoPrimitives, CheckedIdsDiffer, CheckedNumbersDiffer};
+
+/// A table is refused for its name exactly where a table before it, in the same list or block, has the same name,
+/// or where it is a type that is named as a primitive.
+pub fn names_are_told_apart()
+    ensures law { NamesAreToldApart }
+{}
+
+/// A table is refused for its id exactly where a table before it has the same id, and both are messages, or both are
+/// fields, groups and data of one message, at any depth.
+pub fn ids_are_told_apart()
+    ensures law { IdsAreToldApart }
+{}
+
+/// A value of an enum is refused exactly where a value before it in the same enum has the same number, or where its
+/// number is none of the primitive's.
+pub fn values_are_told_apart()
+    ensures law { ValuesAreToldApart }
+{}
+
+/// A bit of a set is refused exactly where a bit before it in the same set has the same number, or where it is past the
+/// width of the primitive.
+pub fn bits_are_told_apart()
+    ensures law { BitsAreToldApart }
+{}
+
+/// No two tables of a checked schema that are in one list or block have one name.
+pub fn checked_names_differ()
+    ensures law { CheckedNamesDiffer }
+{}
+
+/// No type of a checked schema has the name of a primitive.
+pub fn checked_types_are_no_primitives()
+    ensures law { CheckedTypesAreNoPrimitives }
+{}
+
+/// No two messages of a checked schema have one id, nor have two elements of one message.
+pub fn checked_ids_differ()
+    ensures law { CheckedIdsDiffer }
+{}
+
+/// No two values of one enum, and no two bits of one set, have one number in a checked schema.
+pub fn checked_numbers_differ()
+    ensures law { CheckedNumbersDiffer }
+{}
