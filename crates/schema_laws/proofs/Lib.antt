@@ -10,3 +10,5 @@ pub mod NamePairs
 pub mod IdPairs
 pub mod NumberPairs
 pub mod KeptPairs
+pub mod Truth
+pub mod Whole

@@ -4,6 +4,7 @@
 
 ghost use Rattle.schema_laws.specs.Pairs.{NamesAreToldApart, IdsAreToldApart, ValuesAreToldApart, BitsAreToldApart};
 ghost use Rattle.schema_laws.specs.Kept.{CheckedNamesDiffer, CheckedTypesAreNoPrimitives, CheckedIdsDiffer, CheckedNumbersDiffer};
+ghost use Rattle.schema_laws.specs.Standing.{WalkTellsTruly, WalkLeavesNoneOut};
 
 /// A table is refused for its name exactly where a table before it, in the same list or block, has the same name,
 /// or where it is a type that is named as a primitive.
@@ -47,4 +48,14 @@ pub fn checked_ids_differ()
 /// No two values of one enum, and no two bits of one set, have one number in a checked schema.
 pub fn checked_numbers_differ()
     ensures law { CheckedNumbersDiffer }
+{}
+
+/// At each place of the walk stands the table that the schema's own lists have at its path.
+pub fn walk_tells_truly()
+    ensures law { WalkTellsTruly }
+{}
+
+/// Each path at which the schema has a table is a place of the walk.
+pub fn walk_leaves_none_out()
+    ensures law { WalkLeavesNoneOut }
 {}

@@ -1,0 +1,94 @@
+-- What stands at a path of a schema: the path read against the schema's own lists, with no walk.
+use Rattle.std.specs.Prelude.{◌≡◌, ℕ, zero, suc, Option, Some, None, option_map, List, [], ◌∷◌}
+use Rattle.std.specs.List.{Contains, slice_get}
+use Rattle.sbe_schema.specs.declared.fault.Spot.{Spot}
+use Rattle.sbe_schema.specs.declared.fault.Part.{Part}
+use Rattle.sbe_schema.specs.declared.fault.Part.TheVariants.{Types, Values, Bits, Members, Messages, Fields, Groups, Data}
+use Rattle.sbe_schema.specs.declared.schema.Schema.{Schema}
+use Rattle.sbe_schema.specs.declared.types.TypeDef.{TypeDef}
+use Rattle.sbe_schema.specs.declared.types.TypeKind.{TypeKind}
+use Rattle.sbe_schema.specs.declared.types.TypeKind.TheVariants.{Enum, Set, Composite}
+use Rattle.sbe_schema.specs.declared.types.ValueDef.{ValueDef}
+use Rattle.sbe_schema.specs.declared.types.BitDef.{BitDef}
+use Rattle.sbe_schema.specs.declared.types.MemberDef.{MemberDef}
+use Rattle.sbe_schema.specs.declared.messages.MessageDef.{MessageDef}
+use Rattle.sbe_schema.specs.declared.messages.FieldDef.{FieldDef}
+use Rattle.sbe_schema.specs.declared.messages.DataDef.{DataDef}
+use Rattle.sbe_schema.specs.Groups.{GroupHead, GroupTree, no_groups, group}
+use Rattle.sbe_schema.specs.Places.{Place, Table, whole, type_table, value_table, bit_table, member_table, message_table, field_table, group_table, data_table}
+use Rattle.sbe_schema.specs.Walk.{walk}
+
+-- a table as it stands in the schema's text
+pub data Item : Type 0 where
+  the_type : TypeDef → Item
+  the_value : ValueDef → Item
+  the_bit : BitDef → Item
+  the_member : MemberDef → Item
+  the_message : MessageDef → Item
+  the_field : FieldDef → Item
+  the_group : GroupHead → Item
+  the_data : DataDef → Item
+
+-- the table of a place, without what its rules need of its surroundings
+abbrev pub item_of : Table → Option Item
+item_of whole = None
+item_of (type_table t) = Some (the_type t)
+item_of (value_table prim v) = Some (the_value v)
+item_of (bit_table prim b) = Some (the_bit b)
+item_of (member_table end m) = Some (the_member m)
+item_of (message_table m) = Some (the_message m)
+item_of (field_table floor end f) = Some (the_field f)
+item_of (group_table holder floor g) = Some (the_group g)
+item_of (data_table holder floor d) = Some (the_data d)
+
+-- the values of an enum, the bits of a set, the members of a composite
+abbrev pub in_kind : TypeKind → Part → ℕ → Option Item
+in_kind (Enum prim values) Values at = option_map the_value (slice_get values at)
+in_kind (Set prim bits) Bits at = option_map the_bit (slice_get bits at)
+in_kind (Composite members) Members at = option_map the_member (slice_get members at)
+in_kind _ _ at = None
+
+abbrev pub below_type : TypeDef → List Spot → Option Item
+below_type t [] = Some (the_type t)
+below_type t (s ∷ []) = in_kind t.kind s.part s.at
+below_type t (s ∷ w ∷ ws) = None
+
+-- the fields, groups and data of a block
+abbrev pub in_block : List FieldDef → (ℕ → List Spot → Option Item) → List DataDef → Part → ℕ → List Spot → Option Item
+in_block fields groups vars Fields at [] = option_map the_field (slice_get fields at)
+in_block fields groups vars Groups at path = groups at path
+in_block fields groups vars Data at [] = option_map the_data (slice_get vars at)
+in_block fields groups vars _ at path = None
+
+-- the group of a number, and what lies in it
+abbrev pub in_groups : GroupTree → ℕ → List Spot → Option Item
+in_groups no_groups at path = None
+in_groups (group g inner rest) zero [] = Some (the_group g)
+in_groups (group g inner rest) zero (s ∷ path) = in_block g.fields (in_groups inner) g.vars s.part s.at path
+in_groups (group g inner rest) (suc at) path = in_groups rest at path
+
+abbrev pub below_message : MessageDef → List Spot → Option Item
+below_message m [] = Some (the_message m)
+below_message m (s ∷ path) = in_block m.fields (in_groups m.groups) m.vars s.part s.at path
+
+abbrev pub and_then : {A : Type 0} → (A → List Spot → Option Item) → Option A → List Spot → Option Item
+and_then f None path = None
+and_then f (Some x) path = f x path
+
+abbrev pub in_schema : Schema → Part → ℕ → List Spot → Option Item
+in_schema schema Types at path = and_then below_type (slice_get schema.types at) path
+in_schema schema Messages at path = and_then below_message (slice_get schema.messages at) path
+in_schema schema _ at path = None
+
+-- what stands at a path, if anything
+abbrev pub item_at : Schema → List Spot → Option Item
+item_at schema [] = None
+item_at schema (s ∷ path) = in_schema schema s.part s.at path
+
+-- At each place of the walk stands what the schema has at its path
+abbrev pub WalkTellsTruly : Type 0
+WalkTellsTruly = (schema : Schema) (p : Place) → Contains (walk schema) p → item_at schema p.spots ≡ item_of p.table
+
+-- Each path at which a table stands is a place of the walk
+abbrev pub WalkLeavesNoneOut : Type 0
+WalkLeavesNoneOut = (schema : Schema) (path : List Spot) (item : Item) → item_at schema path ≡ Some item → (p : Place) × Contains (walk schema) p × (p.spots ≡ path)
