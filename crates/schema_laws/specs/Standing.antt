@@ -17,6 +17,7 @@ use Rattle.sbe_schema.specs.declared.messages.DataDef.{DataDef}
 use Rattle.sbe_schema.specs.Groups.{GroupHead, GroupTree, no_groups, group}
 use Rattle.sbe_schema.specs.Places.{Place, Table, whole, type_table, value_table, bit_table, member_table, message_table, field_table, group_table, data_table}
 use Rattle.sbe_schema.specs.Walk.{walk}
+use Rattle.schema_laws.specs.Kept.{NoTwo}
 
 -- a table as it stands in the schema's text
 pub data Item : Type 0 where
@@ -92,3 +93,7 @@ WalkTellsTruly = (schema : Schema) (p : Place) → Contains (walk schema) p → 
 -- Each path at which a table stands is a place of the walk
 abbrev pub WalkLeavesNoneOut : Type 0
 WalkLeavesNoneOut = (schema : Schema) (path : List Spot) (item : Item) → item_at schema path ≡ Some item → (p : Place) × Contains (walk schema) p × (p.spots ≡ path)
+
+-- and no path is there twice
+abbrev pub WalkRepeatsNone : Type 0
+WalkRepeatsNone = (schema : Schema) → NoTwo (λ q p. q.spots ≡ p.spots) (walk schema)

@@ -1,10 +1,11 @@
-//! Laws of a checked schema, in the subject's own words: which two tables are refused for one name, one id or one number.
-//! Each function has an empty body: its clause is a statement about every schema, and every table of its walk.
+//! Laws of a checked schema, in the subject's own words: which two tables are refused for one name, one id or one
+//! number, that a checked schema has no such two, and that the walk which they speak of is the schema's tables, each once.
+//! Each function has an empty body: its clause is a statement about every schema.
 #![tactic(auto)]
 
 ghost use Rattle.schema_laws.specs.Pairs.{NamesAreToldApart, IdsAreToldApart, ValuesAreToldApart, BitsAreToldApart};
 ghost use Rattle.schema_laws.specs.Kept.{CheckedNamesDiffer, CheckedTypesAreNoPrimitives, CheckedIdsDiffer, CheckedNumbersDiffer};
-ghost use Rattle.schema_laws.specs.Standing.{WalkTellsTruly, WalkLeavesNoneOut};
+ghost use Rattle.schema_laws.specs.Standing.{WalkTellsTruly, WalkLeavesNoneOut, WalkRepeatsNone};
 
 /// A table is refused for its name exactly where a table before it, in the same list or block, has the same name,
 /// or where it is a type that is named as a primitive.
@@ -58,4 +59,9 @@ pub fn walk_tells_truly()
 /// Each path at which the schema has a table is a place of the walk.
 pub fn walk_leaves_none_out()
     ensures law { WalkLeavesNoneOut }
+{}
+
+/// No path is twice in the walk.
+pub fn walk_repeats_none()
+    ensures law { WalkRepeatsNone }
 {}
