@@ -12,3 +12,4 @@ pub mod NumberPairs
 pub mod KeptPairs
 pub mod Truth
 pub mod Whole
+pub mod Once

@@ -42,17 +42,17 @@ abbrev At : Schema → List Spot → Part → ℕ → Option Item
 At schema base part at = item_at schema (base ++ spot part at ∷ [])
 
 values_true : (schema : Schema) (base : List Spot) (prim : Primitive) (names : Names) (numbers : Numbers) (at : ℕ) (vs : List ValueDef)
-    → ((i : ℕ) → At schema base Values (at + i) ≡ option_map the_value (slice_get vs i)) → AllByRecursion (IsTrueOf schema) (walk_values base prim names numbers at vs)
+    → ((i : ℕ) → At schema base Values (at + i) ≡ option_map (the_value prim) (slice_get vs i)) → AllByRecursion (IsTrueOf schema) (walk_values base prim names numbers at vs)
 values_true schema base prim names numbers at [] h = tt
 values_true schema base prim names numbers at (v ∷ vs) h =
-    let look : ℕ → Option Item = λ i. option_map the_value (slice_get (v ∷ vs) i) in
+    let look : ℕ → Option Item = λ i. option_map (the_value prim) (slice_get (v ∷ vs) i) in
     (first (At schema base Values) look at h, values_true schema base prim (set.insert names v.name) (set.insert numbers v.value) (at + 1) vs (next (At schema base Values) look at h))
 
 bits_true : (schema : Schema) (base : List Spot) (prim : Primitive) (names : Names) (numbers : Numbers) (at : ℕ) (bs : List BitDef)
-    → ((i : ℕ) → At schema base Bits (at + i) ≡ option_map the_bit (slice_get bs i)) → AllByRecursion (IsTrueOf schema) (walk_bits base prim names numbers at bs)
+    → ((i : ℕ) → At schema base Bits (at + i) ≡ option_map (the_bit prim) (slice_get bs i)) → AllByRecursion (IsTrueOf schema) (walk_bits base prim names numbers at bs)
 bits_true schema base prim names numbers at [] h = tt
 bits_true schema base prim names numbers at (b ∷ bs) h =
-    let look : ℕ → Option Item = λ i. option_map the_bit (slice_get (b ∷ bs) i) in
+    let look : ℕ → Option Item = λ i. option_map (the_bit prim) (slice_get (b ∷ bs) i) in
     (first (At schema base Bits) look at h, bits_true schema base prim (set.insert names b.name) (set.insert numbers (pos b.bit)) (at + 1) bs (next (At schema base Bits) look at h))
 
 members_true : (schema : Schema) (types : List TypeDef) (base : List Spot) (names : Names) (end at : ℕ) (ms : List MemberDef)
@@ -68,8 +68,8 @@ from_zero f g h i = let same : 0 + i ≡ i = omega arith in ap f same ∙ h i
 kind_true : (schema : Schema) (types : List TypeDef) (base : List Spot) (kind : TypeKind)
     → ((part : Part) (i : ℕ) → At schema base part i ≡ in_kind kind part i) → AllByRecursion (IsTrueOf schema) (walk_kind types base kind)
 kind_true schema types base (Number prim length null low high) h = tt
-kind_true schema types base (Enum prim values) h = values_true schema base prim set.empty set.empty 0 values (from_zero (At schema base Values) (λ i. option_map the_value (slice_get values i)) (h Values))
-kind_true schema types base (Set prim bits) h = bits_true schema base prim set.empty set.empty 0 bits (from_zero (At schema base Bits) (λ i. option_map the_bit (slice_get bits i)) (h Bits))
+kind_true schema types base (Enum prim values) h = values_true schema base prim set.empty set.empty 0 values (from_zero (At schema base Values) (λ i. option_map (the_value prim) (slice_get values i)) (h Values))
+kind_true schema types base (Set prim bits) h = bits_true schema base prim set.empty set.empty 0 bits (from_zero (At schema base Bits) (λ i. option_map (the_bit prim) (slice_get bits i)) (h Bits))
 kind_true schema types base (Composite members) h = members_true schema types base set.empty 0 0 members (from_zero (At schema base Members) (λ i. option_map the_member (slice_get members i)) (h Members))
 
 types_true : (schema : Schema) (types : List TypeDef) (names : Names) (at : ℕ) (ts : List TypeDef)

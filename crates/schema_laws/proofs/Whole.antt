@@ -58,14 +58,14 @@ from_zero : (base : List Spot) (part : Part) (path : List Spot) (i : ℕ) → Wi
 from_zero base part path i = let same : 0 + i ≡ i = omega arith in ap (Within base part path) same
 
 values_found : (base : List Spot) (prim : Primitive) (names : Names) (numbers : Numbers) (at : ℕ) (vs : List ValueDef) (i : ℕ) (item : Item)
-    → option_map the_value (slice_get vs i) ≡ Some item → Found (walk_values base prim names numbers at vs) (base ++ spot Values (at + i) ∷ [])
+    → option_map (the_value prim) (slice_get vs i) ≡ Some item → Found (walk_values base prim names numbers at vs) (base ++ spot Values (at + i) ∷ [])
 values_found base prim names numbers at [] i item e = absurd cc
 values_found base prim names numbers at (v ∷ vs) zero item e = found_head _ _ _ (here base Values [] at)
 values_found base prim names numbers at (v ∷ vs) (suc i) item e =
     found_tail _ _ _ (found_at _ _ _ (behind base Values [] at i) (values_found base prim (set.insert names v.name) (set.insert numbers v.value) (at + 1) vs i item e))
 
 bits_found : (base : List Spot) (prim : Primitive) (names : Names) (numbers : Numbers) (at : ℕ) (bs : List BitDef) (i : ℕ) (item : Item)
-    → option_map the_bit (slice_get bs i) ≡ Some item → Found (walk_bits base prim names numbers at bs) (base ++ spot Bits (at + i) ∷ [])
+    → option_map (the_bit prim) (slice_get bs i) ≡ Some item → Found (walk_bits base prim names numbers at bs) (base ++ spot Bits (at + i) ∷ [])
 bits_found base prim names numbers at [] i item e = absurd cc
 bits_found base prim names numbers at (b ∷ bs) zero item e = found_head _ _ _ (here base Bits [] at)
 bits_found base prim names numbers at (b ∷ bs) (suc i) item e =

@@ -119,13 +119,13 @@ HaveOneNumber s t = (number : ℤ) × (number_of s ≡ Some number) × (number_o
 abbrev pub IsNumberedBefore : List Place → Place → Type 0
 IsNumberedBefore before p = (q : Place) × Contains before q × AreSiblings q.spots p.spots × HaveOneNumber q.table p.table
 
--- A value is refused exactly where a value before it in the same enum has the same number, or its number is no value of the primitive
+-- A value breaks the rule of enums exactly where a value before it in the same enum has the same number, or its number is no value of the primitive
 abbrev pub ValuesAreToldApart : Type 0
 ValuesAreToldApart = (schema : Schema) (before : List Place) (p : Place) (after : List Place) → walk schema ≡ before ++ p ∷ after
     → (prim : Primitive) (v : ValueDef) → p.table ≡ value_table prim v
     → (is_bad_enum p.numbers p.table ≡ true) ↔ (IsNumberedBefore before p ⊎ (lies_within (least_of prim) (greatest_of prim) v.value ≡ false))
 
--- A bit is refused exactly where a bit before it in the same set has the same number, or its number is past the width of the primitive
+-- A bit breaks the rule of sets exactly where a bit before it in the same set has the same number, or its number is past the width of the primitive
 abbrev pub BitsAreToldApart : Type 0
 BitsAreToldApart = (schema : Schema) (before : List Place) (p : Place) (after : List Place) → walk schema ≡ before ++ p ∷ after
     → (prim : Primitive) (b : BitDef) → p.table ≡ bit_table prim b

@@ -1,6 +1,7 @@
 -- What stands at a path of a schema: the path read against the schema's own lists, with no walk.
 use Rattle.std.specs.Prelude.{◌≡◌, ℕ, zero, suc, Option, Some, None, option_map, List, [], ◌∷◌}
 use Rattle.std.specs.List.{Contains, slice_get}
+use Rattle.sbe_prim.specs.declared.Primitive.{Primitive}
 use Rattle.sbe_schema.specs.declared.fault.Spot.{Spot}
 use Rattle.sbe_schema.specs.declared.fault.Part.{Part}
 use Rattle.sbe_schema.specs.declared.fault.Part.TheVariants.{Types, Values, Bits, Members, Messages, Fields, Groups, Data}
@@ -17,12 +18,13 @@ use Rattle.sbe_schema.specs.declared.messages.DataDef.{DataDef}
 use Rattle.sbe_schema.specs.Groups.{GroupHead, GroupTree, no_groups, group}
 use Rattle.sbe_schema.specs.Places.{Place, Table, whole, type_table, value_table, bit_table, member_table, message_table, field_table, group_table, data_table}
 use Rattle.sbe_schema.specs.Walk.{walk}
+use Rattle.schema_laws.specs.Kept.{NoTwo}
 
--- a table as it stands in the schema's text
+-- a table as it stands in the schema's text; a value and a bit with the primitive of their type
 pub data Item : Type 0 where
   the_type : TypeDef → Item
-  the_value : ValueDef → Item
-  the_bit : BitDef → Item
+  the_value : Primitive → ValueDef → Item
+  the_bit : Primitive → BitDef → Item
   the_member : MemberDef → Item
   the_message : MessageDef → Item
   the_field : FieldDef → Item
@@ -33,8 +35,8 @@ pub data Item : Type 0 where
 abbrev pub item_of : Table → Option Item
 item_of whole = None
 item_of (type_table t) = Some (the_type t)
-item_of (value_table prim v) = Some (the_value v)
-item_of (bit_table prim b) = Some (the_bit b)
+item_of (value_table prim v) = Some (the_value prim v)
+item_of (bit_table prim b) = Some (the_bit prim b)
 item_of (member_table end m) = Some (the_member m)
 item_of (message_table m) = Some (the_message m)
 item_of (field_table floor end f) = Some (the_field f)
@@ -43,8 +45,8 @@ item_of (data_table holder floor d) = Some (the_data d)
 
 -- the values of an enum, the bits of a set, the members of a composite
 abbrev pub in_kind : TypeKind → Part → ℕ → Option Item
-in_kind (Enum prim values) Values at = option_map the_value (slice_get values at)
-in_kind (Set prim bits) Bits at = option_map the_bit (slice_get bits at)
+in_kind (Enum prim values) Values at = option_map (the_value prim) (slice_get values at)
+in_kind (Set prim bits) Bits at = option_map (the_bit prim) (slice_get bits at)
 in_kind (Composite members) Members at = option_map the_member (slice_get members at)
 in_kind _ _ at = None
 
@@ -92,3 +94,7 @@ WalkTellsTruly = (schema : Schema) (p : Place) → Contains (walk schema) p → 
 -- Each path at which a table stands is a place of the walk
 abbrev pub WalkLeavesNoneOut : Type 0
 WalkLeavesNoneOut = (schema : Schema) (path : List Spot) (item : Item) → item_at schema path ≡ Some item → (p : Place) × Contains (walk schema) p × (p.spots ≡ path)
+
+-- and no path is there twice
+abbrev pub WalkRepeatsNone : Type 0
+WalkRepeatsNone = (schema : Schema) → NoTwo (λ q p. q.spots ≡ p.spots) (walk schema)

@@ -1,30 +1,31 @@
-//! Laws of a checked schema, in the subject's own words: which two tables are refused for one name, one id or one number.
-//! Each function has an empty body: its clause is a statement about every schema, and every table of its walk.
+//! Laws of a checked schema, in the subject's own words: which two tables break the rules by one name, one id or
+//! one number, that a checked schema has no such two, and that the walk which they speak of is the schema's tables, each once.
+//! Each function has an empty body: its clause is a statement about every schema.
 #![tactic(auto)]
 
 ghost use Rattle.schema_laws.specs.Pairs.{NamesAreToldApart, IdsAreToldApart, ValuesAreToldApart, BitsAreToldApart};
 ghost use Rattle.schema_laws.specs.Kept.{CheckedNamesDiffer, CheckedTypesAreNoPrimitives, CheckedIdsDiffer, CheckedNumbersDiffer};
-ghost use Rattle.schema_laws.specs.Standing.{WalkTellsTruly, WalkLeavesNoneOut};
+ghost use Rattle.schema_laws.specs.Standing.{WalkTellsTruly, WalkLeavesNoneOut, WalkRepeatsNone};
 
-/// A table is refused for its name exactly where a table before it, in the same list or block, has the same name,
+/// A table breaks the rule of names exactly where a table before it, in the same list or block, has the same name,
 /// or where it is a type that is named as a primitive.
 pub fn names_are_told_apart()
     ensures law { NamesAreToldApart }
 {}
 
-/// A table is refused for its id exactly where a table before it has the same id, and both are messages, or both are
+/// A table breaks the rule of ids exactly where a table before it has the same id, and both are messages, or both are
 /// fields, groups and data of one message, at any depth.
 pub fn ids_are_told_apart()
     ensures law { IdsAreToldApart }
 {}
 
-/// A value of an enum is refused exactly where a value before it in the same enum has the same number, or where its
+/// A value breaks the rule of enums exactly where a value before it in the same enum has the same number, or where its
 /// number is none of the primitive's.
 pub fn values_are_told_apart()
     ensures law { ValuesAreToldApart }
 {}
 
-/// A bit of a set is refused exactly where a bit before it in the same set has the same number, or where it is past the
+/// A bit breaks the rule of sets exactly where a bit before it in the same set has the same number, or where it is past the
 /// width of the primitive.
 pub fn bits_are_told_apart()
     ensures law { BitsAreToldApart }
@@ -58,4 +59,9 @@ pub fn walk_tells_truly()
 /// Each path at which the schema has a table is a place of the walk.
 pub fn walk_leaves_none_out()
     ensures law { WalkLeavesNoneOut }
+{}
+
+/// No path is twice in the walk.
+pub fn walk_repeats_none()
+    ensures law { WalkRepeatsNone }
 {}
