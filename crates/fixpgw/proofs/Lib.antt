@@ -4,3 +4,4 @@ mod Steps
 mod Fronts
 mod Rounds
 pub mod Printing
+mod Completing

@@ -1,10 +1,10 @@
 -- How far the layout of a schema was printed.
-use Rattle.std.proofs.Common.{◌≡◌, ℕ, zero, suc, ◌+◌, ◌<◌, ◌≤◌, List, [], ◌∷◌, ◌++◌, length, get_or, take, drop, Option, refl, sym, ap, subst, ◌∙◌, append_assoc, append-nil, arith, length-append}
+use Rattle.std.proofs.Common.{◌≡◌, ℕ, ◌+◌, ◌<◌, ◌≤◌, List, [], ◌++◌, length, get_or, take, drop, Option, refl, sym, ap, subst, ◌∙◌, append_assoc, append-nil, arith, length-append}
 use Rattle.std.proofs.lemmas.List.{drop_more, drop_all}
 use Rattle.std.proofs.Math.Seq.{take-append-add}
 use Rattle.std.proofs.lemmas.List.{take-append-le}
 use Rattle.std.specs.Io.KnownBytes.{Appends}
-use Rattle.std.proofs.KnownBytes.{Appends-trans, Appends-nil}
+use Rattle.std.proofs.KnownBytes.{Appends-trans}
 use Rattle.gw_outside.specs.Faults.{TakesFront}
 use Rattle.sbe_layout.specs.declared.plan.MessagePlan.{MessagePlan}
 use Rattle.layout_text.specs.Lines.{lines_of_message, lines_of_messages}

@@ -9,3 +9,4 @@ pub mod Promise
 pub mod Layouts
 pub mod Run
 pub mod Told
+pub mod Completeness

@@ -1,5 +1,5 @@
 -- What the program promises of a run, where its devices tell their content.
-use Rattle.std.specs.Prelude.{◌≡◌, ℕ, List, Option, Result, Ok, Err, IsOk}
+use Rattle.std.specs.Prelude.{◌≡◌, ℕ, List, Result, Ok, Err, IsOk}
 use Rattle.std.specs.Io.KnownBytes.{Keeps}
 use Rattle.schema_toml.specs.declared.fault.ConfigFault.{ConfigFault}
 use Rattle.session_config.specs.declared.settings.Settings.{Settings}

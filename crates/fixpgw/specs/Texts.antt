@@ -1,5 +1,5 @@
 -- What is read of CONFIG.
-use Rattle.std.specs.Prelude.{◌≡◌, ℕ, ◌≤◌, List, length, Option, Result, Ok, Err}
+use Rattle.std.specs.Prelude.{◌≡◌, ℕ, ◌≤◌, List, length, Option, Result, Err}
 use Rattle.std.specs.Io.KnownBytes.{Consumes}
 use Rattle.schema_toml.specs.declared.fault.ConfigFault.{ConfigFault}
 use Rattle.fixpgw.specs.declared.status.Status.{Status}
