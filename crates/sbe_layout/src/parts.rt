@@ -24,33 +24,4 @@ pub struct Part {
 }
 
 /// The parts of a type, in the order of its members; only a composite has any.
-#[derive(Debug, Drop)]
-pub struct Parts {
-    inner: Vec<Part>,
-}
-
-impl Model for Parts {
-    ghost use Rattle.std.specs.Prelude.{List};
-    ghost use Rattle.sbe_layout.specs.declared.parts.Part.{Part};
-
-    ghost Value = { List Part };
-
-    ghost view = { λ l. l.inner.items };
-}
-
-impl From<Vec<Part>> for Parts {
-    ghost from_gives = { λ v l. l ≡ v.items };
-
-    fn from(inner: Vec<Part>) -> Parts {
-        Parts { inner }
-    }
-}
-
-impl Parts {
-    /// The parts of a type, as a slice.
-    pub fn as_slice(&self) -> &[Part]
-        ensures { result.now ≡ self.now }
-    {
-        self.inner.as_slice()
-    }
-}
+pub type Parts = List<Part>;

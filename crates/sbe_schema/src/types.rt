@@ -1,10 +1,8 @@
 //! The types of a schema (SBE 1.0, message schema, types).
 
-ghost use Rattle.std.specs.Prelude.{◌≡◌};
-
+use lists::List;
 use sbe_prim::Primitive;
 use sbe_value::Bytes;
-use std::marker::Model;
 
 /// A named type of a schema.
 #[derive(Debug, Drop)]
@@ -106,165 +104,13 @@ pub struct MemberDef {
 }
 
 /// The types of a schema, in order.
-#[derive(Debug, Drop)]
-pub struct TypeDefs {
-    inner: Vec<TypeDef>,
-}
-
-impl Model for TypeDefs {
-    ghost use Rattle.std.specs.Prelude.{List};
-    ghost use Rattle.sbe_schema.specs.declared.types.TypeDef.{TypeDef};
-
-    ghost Value = { List TypeDef };
-
-    ghost view = { λ l. l.inner.items };
-}
-
-impl From<Vec<TypeDef>> for TypeDefs {
-    ghost from_gives = { λ v l. l ≡ v.items };
-
-    fn from(inner: Vec<TypeDef>) -> TypeDefs {
-        TypeDefs { inner }
-    }
-}
-
-impl From<TypeDefs> for Vec<TypeDef> {
-    ghost from_gives = { λ l v. v.items ≡ l };
-
-    fn from(list: TypeDefs) -> Vec<TypeDef> {
-        let TypeDefs { inner } = list;
-        inner
-    }
-}
-
-impl TypeDefs {
-    /// The types of a schema, as a slice.
-    pub fn as_slice(&self) -> &[TypeDef]
-        ensures { result.now ≡ self.now }
-    {
-        self.inner.as_slice()
-    }
-}
+pub type TypeDefs = List<TypeDef>;
 
 /// The listed values of an enum, in order.
-#[derive(Debug, Drop)]
-pub struct ValueDefs {
-    inner: Vec<ValueDef>,
-}
-
-impl Model for ValueDefs {
-    ghost use Rattle.std.specs.Prelude.{List};
-    ghost use Rattle.sbe_schema.specs.declared.types.ValueDef.{ValueDef};
-
-    ghost Value = { List ValueDef };
-
-    ghost view = { λ l. l.inner.items };
-}
-
-impl From<Vec<ValueDef>> for ValueDefs {
-    ghost from_gives = { λ v l. l ≡ v.items };
-
-    fn from(inner: Vec<ValueDef>) -> ValueDefs {
-        ValueDefs { inner }
-    }
-}
-
-impl From<ValueDefs> for Vec<ValueDef> {
-    ghost from_gives = { λ l v. v.items ≡ l };
-
-    fn from(list: ValueDefs) -> Vec<ValueDef> {
-        let ValueDefs { inner } = list;
-        inner
-    }
-}
-
-impl ValueDefs {
-    /// The listed values of an enum, as a slice.
-    pub fn as_slice(&self) -> &[ValueDef]
-        ensures { result.now ≡ self.now }
-    {
-        self.inner.as_slice()
-    }
-}
+pub type ValueDefs = List<ValueDef>;
 
 /// The named bits of a set, in order.
-#[derive(Debug, Drop)]
-pub struct BitDefs {
-    inner: Vec<BitDef>,
-}
-
-impl Model for BitDefs {
-    ghost use Rattle.std.specs.Prelude.{List};
-    ghost use Rattle.sbe_schema.specs.declared.types.BitDef.{BitDef};
-
-    ghost Value = { List BitDef };
-
-    ghost view = { λ l. l.inner.items };
-}
-
-impl From<Vec<BitDef>> for BitDefs {
-    ghost from_gives = { λ v l. l ≡ v.items };
-
-    fn from(inner: Vec<BitDef>) -> BitDefs {
-        BitDefs { inner }
-    }
-}
-
-impl From<BitDefs> for Vec<BitDef> {
-    ghost from_gives = { λ l v. v.items ≡ l };
-
-    fn from(list: BitDefs) -> Vec<BitDef> {
-        let BitDefs { inner } = list;
-        inner
-    }
-}
-
-impl BitDefs {
-    /// The named bits of a set, as a slice.
-    pub fn as_slice(&self) -> &[BitDef]
-        ensures { result.now ≡ self.now }
-    {
-        self.inner.as_slice()
-    }
-}
+pub type BitDefs = List<BitDef>;
 
 /// The members of a composite, in order.
-#[derive(Debug, Drop)]
-pub struct MemberDefs {
-    inner: Vec<MemberDef>,
-}
-
-impl Model for MemberDefs {
-    ghost use Rattle.std.specs.Prelude.{List};
-    ghost use Rattle.sbe_schema.specs.declared.types.MemberDef.{MemberDef};
-
-    ghost Value = { List MemberDef };
-
-    ghost view = { λ l. l.inner.items };
-}
-
-impl From<Vec<MemberDef>> for MemberDefs {
-    ghost from_gives = { λ v l. l ≡ v.items };
-
-    fn from(inner: Vec<MemberDef>) -> MemberDefs {
-        MemberDefs { inner }
-    }
-}
-
-impl From<MemberDefs> for Vec<MemberDef> {
-    ghost from_gives = { λ l v. v.items ≡ l };
-
-    fn from(list: MemberDefs) -> Vec<MemberDef> {
-        let MemberDefs { inner } = list;
-        inner
-    }
-}
-
-impl MemberDefs {
-    /// The members of a composite, as a slice.
-    pub fn as_slice(&self) -> &[MemberDef]
-        ensures { result.now ≡ self.now }
-    {
-        self.inner.as_slice()
-    }
-}
+pub type MemberDefs = List<MemberDef>;
