@@ -2,8 +2,9 @@
 //! see as the list of its elements. It stands on nothing but std.
 #![tactic(auto)]
 
-ghost use Rattle.std.specs.Prelude.{◌≡◌, ◌↔◌, [], ◌∷◌, ◌++◌, length, true, IsTrue, IfOk, OnOk, OnErr};
+ghost use Rattle.std.specs.Prelude.{◌≡◌, ◌↔◌, [], ◌∷◌, ◌++◌, length, IsTrue, IfOk, OnOk, OnErr};
 ghost use Rattle.std.specs.Cmp.Lexicographic.{pointwise};
+ghost use Rattle.lists.specs.Exact.{Exact};
 
 use std::alloc::{AllocError, Global};
 use std::cmp::Ordering;
@@ -26,7 +27,14 @@ pub trait Element: PartialEq + Drop {
         Ok(copies)
     }
 
-    ghost exact: { (x y : Self) → (Self.eq x y ≡ true) ↔ (x ≡ y) };
+    ghost exact: { Exact Self.eq };
+}
+
+/// Whether two values are equal.
+pub fn are_equal<T: Element>(a: &T, b: &T) -> bool
+    ensures { IsTrue result ↔ (a.now ≡ b.now) }
+{
+    *a == *b
 }
 
 /// A list of elements in order.

@@ -1,33 +1,27 @@
-//! Schemas of Simple Binary Encoding 1.0: their types and messages, and the
-//! check that a schema is one by which messages can be laid out.
-//! It stands on the primitives and on the list types.
+//! The check that a schema of Simple Binary Encoding 1.0 is one by which messages
+//! can be laid out. It stands on the types of a schema and on the primitives.
 #![tactic(auto)]
 
 mod checked;
 mod checking;
 mod conditions;
 mod fault;
-mod groups;
 mod holder;
 mod index;
 mod meaning;
-mod messages;
 mod rules;
-mod schema;
 mod sets;
 mod state;
-mod types;
 mod walk;
 
 pub use checked::Checked;
 pub use checking::{check, fault_tells};
-pub use fault::{SchemaFault, SchemaKind};
-pub use groups::{GroupDef, GroupDefs};
-pub use index::{Index, find_primitive, offset_of, plus, primitive_name};
+pub use fault::{Part, SchemaFault, SchemaKind, Spot};
+pub use index::{Index, offset_of, plus};
 pub use meaning::Meaning;
-pub use messages::{DataDef, DataDefs, FieldDef, FieldDefs, MessageDef, MessageDefs};
-pub use schema::Schema;
-pub use types::{
-    BitDef, BitDefs, Constant, MemberDef, MemberDefs, Presence, TypeDef, TypeDefs, TypeKind,
+pub use state::{part_key, path_to};
+pub use schema_types::{
+    BitDef, BitDefs, Constant, DataDef, DataDefs, FieldDef, FieldDefs, GroupDef, GroupDefs,
+    MemberDef, MemberDefs, MessageDef, MessageDefs, Presence, Schema, TypeDef, TypeDefs, TypeKind,
     ValueDef, ValueDefs,
 };

@@ -19,7 +19,8 @@ pub enum Datum {
 impl PartialEq for Datum {
     ghost use Rattle.std.specs.Prelude.{◌≡◌, ◌↔◌, IsTrue};
     ghost use Rattle.sbe_value.specs.Equal.{datum_eq};
-    ghost use Rattle.sbe_value.specs.Laws.{partial_equivalence, datum_exact};
+    ghost use Rattle.lists.specs.Exact.{partial_equivalence};
+    ghost use Rattle.sbe_value.specs.Laws.{datum_exact};
 
     ghost eq = { datum_eq };
 

@@ -25,7 +25,8 @@ pub enum Item {
 impl PartialEq for Item {
     ghost use Rattle.std.specs.Prelude.{◌≡◌, ◌↔◌, IsTrue};
     ghost use Rattle.sbe_value.specs.Equal.{item_eq};
-    ghost use Rattle.sbe_value.specs.Laws.{partial_equivalence, item_exact};
+    ghost use Rattle.lists.specs.Exact.{partial_equivalence};
+    ghost use Rattle.sbe_value.specs.Laws.{item_exact};
 
     ghost eq = { item_eq };
 

@@ -19,7 +19,8 @@ pub struct Message {
 impl PartialEq for Message {
     ghost use Rattle.std.specs.Prelude.{◌≡◌, ◌↔◌, IsTrue};
     ghost use Rattle.sbe_value.specs.Equal.{message_eq};
-    ghost use Rattle.sbe_value.specs.TreeLaws.{partial_equivalence, message_exact};
+    ghost use Rattle.lists.specs.Exact.{partial_equivalence};
+    ghost use Rattle.sbe_value.specs.TreeLaws.{message_exact};
 
     ghost eq = { message_eq };
 

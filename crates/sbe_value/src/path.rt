@@ -20,7 +20,8 @@ pub enum Step {
 impl PartialEq for Step {
     ghost use Rattle.std.specs.Prelude.{◌≡◌, ◌↔◌, IsTrue};
     ghost use Rattle.sbe_value.specs.Equal.{step_eq};
-    ghost use Rattle.sbe_value.specs.Laws.{partial_equivalence, step_exact};
+    ghost use Rattle.lists.specs.Exact.{partial_equivalence};
+    ghost use Rattle.sbe_value.specs.Laws.{step_exact};
 
     ghost eq = { step_eq };
 

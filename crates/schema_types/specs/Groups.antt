@@ -5,10 +5,10 @@ use Rattle.std.specs.Coded.{Coded, code_by, coded×, coded_ℕ, coded_ℤ, coded
 use base.Stored.{Gv, gnil, gnum, gcons}
 use Rattle.sbe_prim.specs.declared.Primitive.{Primitive}
 use Rattle.sbe_prim.specs.contracts.Primitive as primitive
-use Rattle.sbe_schema.specs.declared.messages.FieldDef.{FieldDef}
-use Rattle.sbe_schema.specs.declared.messages.DataDef.{DataDef}
-use Rattle.sbe_schema.specs.contracts.messages.FieldDef as field
-use Rattle.sbe_schema.specs.contracts.messages.DataDef as data_field
+use Rattle.schema_types.specs.declared.messages.FieldDef.{FieldDef}
+use Rattle.schema_types.specs.declared.messages.DataDef.{DataDef}
+use Rattle.schema_types.specs.contracts.messages.FieldDef as field
+use Rattle.schema_types.specs.contracts.messages.DataDef as data_field
 
 -- a group without the groups of its entries
 pub record GroupHead : Type 0 where

@@ -1,7 +1,7 @@
 -- A list of groups, as the list that holds the groups of the entries.
 use Rattle.std.specs.Prelude.{List, [], ◌∷◌}
-use Rattle.sbe_schema.specs.declared.groups.GroupDef.{GroupDef}
-use Rattle.sbe_schema.specs.Groups.{GroupHead, GroupTree, no_groups, group}
+use Rattle.schema_types.specs.declared.groups.GroupDef.{GroupDef}
+use Rattle.schema_types.specs.Groups.{GroupHead, GroupTree, no_groups, group}
 
 abbrev pub head_of : GroupDef → GroupHead
 head_of g = record {

@@ -2,10 +2,10 @@
 use Rattle.std.specs.Prelude.{◌≤◌, max, List, [], ◌∷◌}
 use Rattle.std.proofs.Common.{arith}
 use denote.Param.Weighed.{most}
-use Rattle.sbe_schema.specs.declared.groups.GroupDef.{GroupDef}
-use Rattle.sbe_schema.specs.declared.groups.GroupDefs.TheDeep.{deep-GroupDef}
-use Rattle.sbe_schema.specs.Groups.{weight_of}
-use Rattle.sbe_schema.specs.Views.{groups_of}
+use Rattle.schema_types.specs.declared.groups.GroupDef.{GroupDef}
+use Rattle.schema_types.specs.declared.groups.GroupDefs.TheDeep.{deep-GroupDef}
+use Rattle.schema_types.specs.Groups.{weight_of}
+use Rattle.schema_types.specs.Views.{groups_of}
 
 group_falls : (gs : List GroupDef) → most deep-GroupDef gs ≤ weight_of (groups_of gs)
 group_falls [] = omega arith
