@@ -19,9 +19,9 @@ pub use checking::{check, fault_tells};
 pub use fault::{Part, SchemaFault, SchemaKind, Spot};
 pub use index::{Index, offset_of, plus};
 pub use meaning::Meaning;
-pub use state::{part_key, path_to};
 pub use schema_types::{
     BitDef, BitDefs, Constant, DataDef, DataDefs, FieldDef, FieldDefs, GroupDef, GroupDefs,
     MemberDef, MemberDefs, MessageDef, MessageDefs, Presence, Schema, TypeDef, TypeDefs, TypeKind,
     ValueDef, ValueDefs,
 };
+pub use state::{part_key, path_to};

@@ -9,10 +9,9 @@ mod message;
 mod path;
 mod tree;
 
-use lists::List;
-
 pub use datum::{Datum, Datums};
 pub use item::{Item, Items};
+use lists::List;
 pub use message::Message;
 pub use path::{Path, Step, text_of_path, write_step};
 pub use tree::{Block, Blocks, Group, Groups};
