@@ -1,11 +1,9 @@
 //! What a plan says of the fields and the data of a block.
 
-ghost use Rattle.std.specs.Prelude.{◌≡◌};
-
+use lists::List;
 use sbe_prim::Primitive;
 use sbe_schema::Presence;
 use sbe_value::Bytes;
-use std::marker::Model;
 
 /// The type of an item, as far as messages depend on it.
 #[derive(Debug, Clone, Copy, PartialEq, Eq)]

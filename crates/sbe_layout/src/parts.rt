@@ -1,12 +1,10 @@
 //! What a composite gives to each field of its type: one part for each of its
 //! members that is an item. It is resolved once, however many fields there are.
 
-ghost use Rattle.std.specs.Prelude.{◌≡◌};
-
 use crate::items::ItemKind;
+use lists::List;
 use sbe_schema::Presence;
 use sbe_value::Bytes;
-use std::marker::Model;
 
 /// A member of a composite that is an item of each field of that type.
 #[derive(Debug, Drop)]

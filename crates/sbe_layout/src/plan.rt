@@ -5,9 +5,9 @@ ghost use Rattle.std.specs.Option.{option_copied};
 ghost use Rattle.sbe_layout.specs.Plans.{message_of, HasTemplate};
 
 use crate::blocks::BlockPlan;
+use lists::List;
 use sbe_prim::Order;
 use sbe_value::Bytes;
-use std::marker::Model;
 
 /// A message.
 #[derive(Debug, Drop)]

@@ -13,7 +13,7 @@ pub use datum::{Datum, Datums};
 pub use item::{Item, Items};
 use lists::List;
 pub use message::Message;
-pub use path::{Path, Step, text_of_path, write_step};
+pub use path::{Path, Step, text_of_path};
 pub use tree::{Block, Blocks, Group, Groups};
 
 /// A list of bytes, as a name, a text or a payload.

@@ -71,8 +71,8 @@ pub fn text_of_path(alloc: Global, path: &Path) -> Result<Bytes, AllocError>
     Ok(text)
 }
 
-/// Writes a step behind others: a dot and the key, or the place in brackets.
-pub fn write_step(alloc: Global, step: &Step, text: &mut Bytes) -> Result<(), AllocError>
+// Writes a step behind others: a dot and the key, or the place in brackets.
+fn write_step(alloc: Global, step: &Step, text: &mut Bytes) -> Result<(), AllocError>
     ensures { OnOk result (text.new ≡ text.old ++ step_text step.now) }
 {
     match step {
