@@ -9,8 +9,11 @@ pub mod Idempotent
 pub mod Unsequenced
 pub mod Through
 pub mod Planned
+pub mod Handshakes
 pub mod Carried
 pub mod Chains
+pub mod Kept
+pub mod Finishes
 pub mod Guarantees
 pub mod Steps
 pub mod Growing

@@ -8,6 +8,4 @@ pub mod guarantee;
 pub mod implied;
 pub mod laws;
 pub mod samples;
-#[cfg(test)]
-mod tests;
 pub mod written;
