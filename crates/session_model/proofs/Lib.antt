@@ -15,6 +15,7 @@ pub mod Chains
 pub mod Kept
 pub mod Finishes
 pub mod Guarantees
+pub mod InTime
 pub mod Steps
 pub mod Growing
 pub mod Images

@@ -9,7 +9,8 @@ use Rattle.session_model.specs.Growth.{recoverable, idempotent, unsequenced, no_
 use Rattle.session_model.specs.Plans.{Continues, Completes, SendersDone, sent_by}
 use Rattle.session_model.specs.Lives.{Connection, Life, accepted_of, IsImage, first_events, ReportsSkips, KeepsConnections, KeepsOutbox, KeepsContract, TakenFrom, rest_lost, taken, rejected, Linked, left_alone, right_alone, paired}
 use Rattle.session_model.specs.Lives
-use Rattle.session_model.specs.Samples.{one, two, three, reply, sent, got, missed, orders, replies, first_a, second_a, first_b, second_b, SequencedSample, SamplePlansGoOn, news, silence, first_publisher, second_publisher, listener, UnsequencedSample, PartsSample, HeldSample, HistoriesSample, PlansSample}
+use Rattle.session_model.specs.Moments.{End, HasNow, fresh}
+use Rattle.session_model.specs.Samples.{HistorySample, one, two, three, reply, sent, got, missed, orders, replies, first_a, second_a, first_b, second_b, SequencedSample, SamplePlansGoOn, news, silence, first_publisher, second_publisher, listener, UnsequencedSample, PartsSample, HeldSample, HistoriesSample, PlansSample}
 use Rattle.session_model.proofs.Lists.{prefix_self, prefix_equal, prefix_map, drop_length}
 use Rattle.session_model.proofs.Journals.{prefix_entries}
 use Rattle.session_model.proofs.Images.{image_of_none, image_of_one}
@@ -520,3 +521,41 @@ histories_sample = (
 
 pub plans_sample : PlansSample
 plans_sample = ((two ∷ three ∷ [], refl), record { behind = refl })
+
+-- a first connection, on the link 1
+has_first : (e : End) (c : Connection) → e.now.served.connections ≡ c ∷ [] → e.links ≡ 1 ∷ [] → HasNow e 1 c
+has_first e c connection link = record { earlier = []; before = []; connection = connection; link = link }
+
+pub history_sample : HistorySample
+history_sample =
+    let heard : Connection = record { accepted = []; written = announce handshake (Some 1) ∷ []; added = []; reported = []; drained = false } in
+    let spoke : Connection =
+    record { accepted = announce handshake (Some 1) ∷ []; written = announce handshake (Some 1) ∷ []; added = []; reported = []; drained = false } in (
+      (
+        tt,
+        (
+          tt,
+          (
+            tt,
+            (
+              tt,
+              (
+                record { n = 1; c = fresh; has = has_first _ fresh refl refl; comes = taken rest_lost },
+                (
+                  tt,
+                  (
+                    record { n = 1; c = heard; has = has_first _ heard refl refl; comes = taken rest_lost },
+                    (tt, (record { n = 1; c = spoke; has = has_first _ spoke refl refl; comes = taken (taken rest_lost) }, ((image, image), tt))),
+                  ),
+                ),
+              ),
+            ),
+          ),
+        ),
+      ),
+      refl,
+      refl,
+    )
+  where
+    image : {A : Type 0} {closing : List A} → IsImage closing [] closing
+    image {closing = closing} = record { kept = []; beginning = ([], refl); holds = sym (append-nil closing) }

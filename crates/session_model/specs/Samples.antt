@@ -1,6 +1,6 @@
 -- Sample sessions that meet the guarantee's premises, so that these are no empty words: two lives at each end, a refused record
 -- that is lost and one that stays, connections that reached nobody, an Establish that was rejected, two finishes.
-use Rattle.std.specs.Prelude.{ℕ, ◌==◌, if◌then◌else◌, List, [], ◌∷◌, map, Some, None, true, false}
+use Rattle.std.specs.Prelude.{◌≡◌, ℕ, ◌==◌, if◌then◌else◌, List, [], ◌∷◌, map, Some, None, true, false}
 use mathlib.Core.List.{IsPrefix}
 use Rattle.session_model.specs.Journal.{OutboxRecord, entry, finish, BeginsHistory}
 use Rattle.session_model.specs.Inbox.{Range, InboxRecord, apply, skip, negotiated, peer_finished}
@@ -9,6 +9,7 @@ use Rattle.session_model.specs.Growth.{recoverable, idempotent, unsequenced, no_
 use Rattle.session_model.specs.Plans.{GoesOn, Completes}
 use Rattle.session_model.specs.Lives.{Connection, Life}
 use Rattle.session_model.specs.Guarantee.{Session}
+use Rattle.session_model.specs.Moments.{Step, of_a, of_b, keep, connect, write, process, stop, opened_on, after, beginning, SessionHistory}
 
 -- three payloads
 abbrev pub one : List ℕ
@@ -251,3 +252,24 @@ HistoriesSample =
 -- a sender that had sent one of three payloads sends the two others
 abbrev pub PlansSample : Type 0
 PlansSample = IsPrefix (one ∷ []) (one ∷ two ∷ three ∷ []) × Completes (one ∷ two ∷ three ∷ []) (one ∷ []) (one ∷ two ∷ three ∷ [])
+
+-- the first steps of a session: end a is given one and sends it, end b applies it, and a stops
+abbrev pub first_steps : List Step
+first_steps =
+    of_a (keep (sent 1 1 one))
+    ∷ of_a (connect 1)
+    ∷ of_a (write (announce handshake (Some 1)))
+    ∷ of_b (connect 1)
+    ∷ of_b (process (announce handshake (Some 1) ∷ []) [])
+    ∷ of_b (write (announce handshake (Some 1)))
+    ∷ of_a (process (announce handshake (Some 1) ∷ []) [])
+    ∷ of_a (write (message one))
+    ∷ of_b (process (message one ∷ []) (got 1 one ∷ []))
+    ∷ of_a (stop (sent 1 1 one ∷ []) [])
+    ∷ []
+
+abbrev pub HistorySample : Type 0
+HistorySample =
+    SessionHistory first_steps
+    × ((after first_steps beginning).a.now ≡ opened_on (sent 1 1 one ∷ []) [])
+    × ((after first_steps beginning).b.now.served.closing_inbox ≡ got 1 one ∷ [])

@@ -1,7 +1,7 @@
 //! Sample sessions that meet every premise of the guarantee: its words are not empty.
 //! Each function has an empty body; its clause is a session written out in `specs/Samples.antt`.
 
-ghost use Rattle.session_model.specs.Samples.{SequencedSample, SamplePlansGoOn, UnsequencedSample, PartsSample, HeldSample, HistoriesSample, PlansSample};
+ghost use Rattle.session_model.specs.Samples.{SequencedSample, SamplePlansGoOn, UnsequencedSample, PartsSample, HeldSample, HistorySample, HistoriesSample, PlansSample};
 
 /// Two lives at each end, a recoverable and an idempotent flow, a refused record that stays and one that is lost, connections
 /// that reached nobody, a rejected Establish, a retransmission, a jump that is reported, and the finishes of both ends. It
@@ -27,6 +27,11 @@ pub fn parts_sample()
 /// A message that comes too early, is held, and is applied with the one that it waited for.
 pub fn held_sample()
     ensures held { HeldSample }
+{}
+
+/// The first steps of a session in the order of time, and what they make of both ends.
+pub fn history_sample()
+    ensures history { HistorySample }
 {}
 
 /// A history that goes on, and that is finished.
