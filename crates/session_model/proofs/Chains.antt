@@ -184,7 +184,7 @@ pub record Processed (peer : Flow) (lives : List Life) (before after : List Inbo
   pub grown : GrownThrough peer events before after
 
 -- so many events as there are, or more, are all
-first_of_all : (k : ℕ) (lists : List (List Event)) → count_events lists ≤ k → first_events k lists ≡ lists
+pub first_of_all : (k : ℕ) (lists : List (List Event)) → count_events lists ≤ k → first_events k lists ≡ lists
 first_of_all k [] le = refl
 first_of_all k (es ∷ later) le =
     let here : take k es ≡ es = take_all k es (omega arith) in

@@ -7,7 +7,7 @@ use Rattle.session_model.specs.Inbox.{InboxRecord, applied, skips, missing, sett
 use Rattle.session_model.specs.Events.{Announcer, Event, announce, handshake, message, with_number, standing, numbered, messages, TrueOfJournal, Rising, IsHandshake, HandshakeFirst, BeginsWithHandshake}
 use Rattle.session_model.specs.Growth.{Flow, recoverable, idempotent, unsequenced, GrownInOrder, GrownRecoverable, GrownIdempotent, GrownUnsequenced, Grown, GrownLater, GrownThrough, jumps_through, AppliesPrefix, SettlesOnce, DeliversRising}
 use Rattle.session_model.specs.Plans.{Continues, Completes}
-use Rattle.session_model.specs.Lives.{Served, Life, KeepsConnections, KeepsOutbox, KeepsContract, Chained, TakenFrom}
+use Rattle.session_model.specs.Lives.{Served, Life, served_on, written_of, Writes, KeepsConnections, KeepsOutbox, KeepsContract, Chained, TakenFrom}
 
 -- Numbering looks back: behind an announcement and so many messages stands its number and as many more, whatever came before;
 -- where none has a number, nothing stands announced
@@ -147,6 +147,15 @@ PlanCompletes = (plan before after : List (List ℕ)) → IsPrefix before plan �
 abbrev pub SeenStaysKept : Type 0
 SeenStaysKept = (own peer : Flow) (opened seen longer : List Entry) (life : Served) → IsPrefix seen longer
     → KeepsConnections own peer opened seen life → KeepsConnections own peer opened longer life
+
+-- what is kept on some connections of a life, none of whose records was refused, and on those behind them is kept on all;
+-- but what was written on all of them has to be said of all, since on an unsequenced flow it rises from one to the next
+abbrev pub ServingGoesOn : Type 0
+ServingGoesOn = (own peer : Flow) (opened seen : List Entry) (first second : Served)
+    → first.refused_inbox ≡ [] → second.opening_inbox ≡ first.closing_inbox
+    → KeepsConnections own peer opened seen first → KeepsConnections own peer opened seen second
+    → Writes own opened seen (written_of (first.connections ++ second.connections))
+    → KeepsConnections own peer opened seen (served_on first second)
 
 abbrev pub ContractJoins : Type 0
 ContractJoins = (own peer : Flow) (plan : ℕ → List (List ℕ) → List (List ℕ)) (life : Life) (seen : List Entry)

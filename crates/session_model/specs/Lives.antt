@@ -90,6 +90,16 @@ pub record KeepsConnections (own peer : Flow) (opened seen : List Entry) (life :
   pub writes : Writes own opened seen (written_of life.connections)
   pub reports : AllByRecursion ReportsSkips life.connections
 
+-- what a life served, and then served behind it
+abbrev pub served_on : Served → Served → Served
+served_on first second = record {
+  opening_inbox = first.opening_inbox;
+  closing_inbox = second.closing_inbox;
+  refused_inbox = second.refused_inbox;
+  processed = first.processed + second.processed;
+  connections = first.connections ++ second.connections;
+}
+
 -- What one life of an end keeps of its outbox; it is said once the senders' gate is closed. Of every image: the history goes
 -- on, each sender's entries are in order and continue its plan; and a finish that the life added, or may have added, stands
 -- behind all that the senders were to send

@@ -77,25 +77,11 @@ lived (stop outbox inbox) life = opened_on outbox inbox
 -- and of the end
 abbrev pub past_behind : Deed → End → List Life
 past_behind (stop outbox inbox) e = lives_of e
-past_behind (connect n) e = e.past
-past_behind (keep r) e = e.past
-past_behind (lose_outbox rs) e = e.past
-past_behind (write event) e = e.past
-past_behind (report r) e = e.past
-past_behind (drain taken) e = e.past
-past_behind (process es rs) e = e.past
-past_behind (lose_inbox es rs) e = e.past
+past_behind deed e = e.past
 
 abbrev pub links_behind : Deed → List ℕ → List ℕ
 links_behind (connect n) links = links ++ n ∷ []
-links_behind (keep r) links = links
-links_behind (lose_outbox rs) links = links
-links_behind (write event) links = links
-links_behind (report r) links = links
-links_behind (drain taken) links = links
-links_behind (process es rs) links = links
-links_behind (lose_inbox es rs) links = links
-links_behind (stop outbox inbox) links = links
+links_behind deed links = links
 
 abbrev pub does : Deed → End → End
 does deed e = record { past = past_behind deed e; now = lived deed e.now; links = links_behind deed e.links }
@@ -128,11 +114,7 @@ May (process es rs) e other = MayAccept e other es
 May (lose_inbox es rs) e other = MayAccept e other es
 May (stop outbox inbox) e other =
     IsImage e.now.closing_outbox e.now.refused_outbox outbox × IsImage e.now.served.closing_inbox e.now.served.refused_inbox inbox
-May (keep r) e other = ⊤
-May (lose_outbox rs) e other = ⊤
-May (write event) e other = ⊤
-May (report r) e other = ⊤
-May (drain taken) e other = ⊤
+May deed e other = ⊤
 
 -- both ends, and a step of one of them
 pub record Ends : Type 0 where

@@ -1,7 +1,7 @@
 //! The laws of the definitions. Each function has an empty body: its clause is a statement about every list.
 //! They rest on nothing but the definitions of `specs/`.
 
-ghost use Rattle.session_model.specs.Laws.{NumberingLooksBack, MessageTakesStanding, NumberingSplits, TrueSplits, TrueStaysTrue, HandshakeSplits, HandshakeBeforeMessages, TakenIsTrue, AnnouncedEntriesAreTrue, CountsStandOnce, RisingStaysRising, RisingGoesOn, GrowthGoesOn, HeldGoesOn, NothingHeld, ConnectionsGoOn, RecoverableConnections, IdempotentConnections, UnsequencedConnections, NoEventsGrowNothing, RecoverableCounts, IdempotentSettles, RecoverableKeepsPrefix, IdempotentKeepsOnce, UnsequencedKeepsRising, PlanGoesOn, PlanCompletes, SeenStaysKept, ContractJoins, HistoriesGoOn, RecordsBeginHistory, ChainedSplits};
+ghost use Rattle.session_model.specs.Laws.{NumberingLooksBack, MessageTakesStanding, NumberingSplits, TrueSplits, TrueStaysTrue, HandshakeSplits, HandshakeBeforeMessages, TakenIsTrue, AnnouncedEntriesAreTrue, CountsStandOnce, RisingStaysRising, RisingGoesOn, GrowthGoesOn, HeldGoesOn, NothingHeld, ConnectionsGoOn, RecoverableConnections, IdempotentConnections, UnsequencedConnections, NoEventsGrowNothing, RecoverableCounts, IdempotentSettles, RecoverableKeepsPrefix, IdempotentKeepsOnce, UnsequencedKeepsRising, PlanGoesOn, PlanCompletes, SeenStaysKept, ServingGoesOn, ContractJoins, HistoriesGoOn, RecordsBeginHistory, ChainedSplits};
 
 /// Behind an announcement and so many messages stands its number and as many more, whatever came before it.
 pub fn numbering_looks_back()
@@ -137,6 +137,11 @@ pub fn plan_completes()
 /// What was kept as far as the outbox was seen is kept of a longer one.
 pub fn seen_stays_kept()
     ensures law { SeenStaysKept }
+{}
+
+/// What is kept on some connections of a life and on those behind them is kept on all.
+pub fn serving_goes_on()
+    ensures law { ServingGoesOn }
 {}
 
 /// Both parts of an end's contract are the contract, once the outbox is closed.
