@@ -1,5 +1,5 @@
 -- A session in the order of time: its lives are chained, its connections linked, and each moment goes on in the later ones.
-use Rattle.std.proofs.Common.{◌≡◌, ◌≢◌, ℕ, zero, suc, ◌+◌, ◌<◌, ◌≤◌, ◌==◌, Bool, true, false, if◌then◌else◌, List, [], ◌∷◌, ◌++◌, flat_map, refl, sym, ap, subst, ◌∙◌, arith, append_assoc, append-nil, ne_eqb, eqb-true, eq-eqb, nat_lt, ltb-false}
+use Rattle.std.proofs.Common.{◌≡◌, ◌≢◌, ℕ, ◌+◌, ◌<◌, ◌≤◌, ◌==◌, Bool, true, false, if◌then◌else◌, List, [], ◌∷◌, ◌++◌, refl, sym, ap, subst, ◌∙◌, arith, append_assoc, append-nil, ne_eqb, eqb-true, eq-eqb, nat_lt, ltb-false}
 use Rattle.std.proofs.lemmas.Bool.{eqb-false, ltb-true}
 use Rattle.std.proofs.lemmas.Grind.{flat_map-append}
 use Rattle.std.specs.List.{AllByRecursion, AllZip}
@@ -9,7 +9,7 @@ use Rattle.session_model.specs.Events.{Event}
 use Rattle.session_model.specs.Lives.{Connection, Life, Leads, Chained, IsImage, TakenFrom, rest_lost, taken, rejected, Linked, left_alone, right_alone, paired, connections_of}
 use Rattle.session_model.specs.Lives
 use Rattle.session_model.specs.Journal.{OutboxRecord}
-use Rattle.session_model.specs.Moments.{Deed, connect, keep, lose_outbox, write, report, drain, process, lose_inbox, stop, End, lives_of, opened_on, fresh, at_last, lived, does, written_on, HasNow, MayAccept, May, Ends, Step, of_a, of_b, step, after, Happens, newborn, beginning, BeginsConnection, ConnectionsBegin, BeginsLife, LivesGoOn, HistoryBegins, HistoryIsSession}
+use Rattle.session_model.specs.Moments.{Deed, connect, keep, lose_outbox, write, report, drain, process, lose_inbox, stop, End, lives_of, opened_on, fresh, at_last, lived, does, written_on, MayAccept, May, Ends, Step, of_a, of_b, step, after, Happens, newborn, beginning, BeginsConnection, ConnectionsBegin, BeginsLife, LivesGoOn, HistoryBegins, HistoryIsSession}
 use Rattle.session_model.proofs.Lists.{prefix_self, prefix_of_append, prefix_trans}
 use Rattle.session_model.proofs.Chains.{chained_splits}
 

@@ -63,15 +63,19 @@ lived (lose_outbox rs) life = record life { refused_outbox = rs }
 lived (write e) life = on_connections (at_last (λ c. record c { written = c.written ++ e ∷ [] })) life
 lived (report r) life = on_connections (at_last (λ c. record c { reported = c.reported ++ r ∷ [] })) life
 lived (drain taken) life = on_connections (at_last (λ c. record c { drained = taken })) life
-lived (process es rs) life = record life { served = record life.served {
-  closing_inbox = life.served.closing_inbox ++ rs;
-  processed = life.served.processed + length es;
-  connections = at_last (λ c. record c { accepted = c.accepted ++ es; added = c.added ++ rs }) life.served.connections;
-} }
-lived (lose_inbox es rs) life = record life { served = record life.served {
-  refused_inbox = rs;
-  connections = at_last (λ c. record c { accepted = c.accepted ++ es }) life.served.connections;
-} }
+lived (process es rs) life = record life {
+  served = record life.served {
+    closing_inbox = life.served.closing_inbox ++ rs;
+    processed = life.served.processed + length es;
+    connections = at_last (λ c. record c { accepted = c.accepted ++ es; added = c.added ++ rs }) life.served.connections;
+  };
+}
+lived (lose_inbox es rs) life = record life {
+  served = record life.served {
+    refused_inbox = rs;
+    connections = at_last (λ c. record c { accepted = c.accepted ++ es }) life.served.connections;
+  };
+}
 lived (stop outbox inbox) life = opened_on outbox inbox
 
 -- and of the end
