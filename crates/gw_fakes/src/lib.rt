@@ -3,7 +3,10 @@
 #![tactic(auto)]
 
 pub use calls::Calls;
+pub use disk::{MemDisk, Pick};
 pub use streams::{MemSink, MemSource};
 
 mod calls;
+mod disk;
+mod meter;
 mod streams;

@@ -2,7 +2,7 @@
 use Rattle.std.specs.Prelude.{◌≡◌, ◌↔◌, ℕ, ◌+◌, ◌-◌, ◌≤◌, min, max, List, ◌++◌, length, take, drop, Option, Some}
 
 -- the content with these bytes at this place, over what stood there and past its end
-abbrev pub written : ℕ → List ℕ → List ℕ → List ℕ
+abbrev pub written : {A : Type 0} → ℕ → List A → List A → List A
 written at bytes content = take at content ++ bytes ++ drop (at + length bytes) content
 
 -- n bytes were read from this place: as many as the piece takes and the content has there, at the front of the piece
