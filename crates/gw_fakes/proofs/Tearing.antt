@@ -1,11 +1,10 @@
 -- A write of which a stop may leave any part: what may be left behind it is what might have been left before, torn.
-use Rattle.std.proofs.Common.{◌≡◌, ◌⊎◌, inl, inr, ⊎_elim, ℕ, zero, suc, Bool, true, false, ◌+◌, ◌≤◌, ◌<◌, max, List, [], ◌∷◌, ◌++◌, length, get_or, take, drop, refl, sym, ap, ◌∙◌, subst, arith, length-append, length-take, length-drop}
-use Rattle.std.proofs.lemmas.Bool.{and_parts, and_from, or_left, leb-true, le-leb, false≢true, eqb-true, eq-eqb, cases_lt, cases_Bool}
-use Rattle.std.proofs.lemmas.List.{take_all, take-take, drop_all, length-replicate}
+use Rattle.std.proofs.Common.{◌≡◌, inl, inr, ℕ, zero, suc, Bool, true, false, ◌+◌, ◌≤◌, max, List, [], ◌∷◌, ◌++◌, length, get_or, take, drop, refl, sym, ap, ◌∙◌, subst, arith, length-take}
+use Rattle.std.proofs.lemmas.Bool.{and_parts, and_from, leb-true, le-leb, false≢true, eq-eqb, cases_lt}
+use Rattle.std.proofs.lemmas.List.{take-take, drop_all, length-replicate}
 use Rattle.std.specs.Prelude.{◌==◌, ◌||◌, IsTrue, replicate}
-use Rattle.gw_outside.specs.Disk.{Torn, written}
+use Rattle.gw_outside.specs.Disk.{Torn}
 use Rattle.gw_fakes.specs.Disks.{is_left, marked}
-use Rattle.gw_fakes.specs.DiskLaws.{left-within}
 
 -- the marks of a write, place by place
 abbrev pub mark : ℕ → ℕ → List Bool → List Bool
@@ -28,7 +27,7 @@ mark_is (suc at) n (p ∷ pending) le = let e : suc at + n ≡ suc (at + n) = om
 pub marked_is : (at n : ℕ) (pending : List Bool) → at ≤ length pending → marked at n pending ≡ mark at n pending
 marked_is at n pending le = let e : length (replicate n true) ≡ n = length-replicate n true in rw e (sym (mark_is at n pending le))
 
-length-mark : (at n : ℕ) (pending : List Bool) → at ≤ length pending → length (mark at n pending) ≡ max (length pending) (at + n)
+pub length-mark : (at n : ℕ) (pending : List Bool) → at ≤ length pending → length (mark at n pending) ≡ max (length pending) (at + n)
 length-mark zero zero pending le = omega arith
 length-mark zero (suc n) [] le = let rest = length-mark zero n [] (omega arith) in omega (arith, rest)
 length-mark zero (suc n) (p ∷ pending) le = let rest = length-mark zero n pending (omega arith) in omega (arith, rest)

@@ -1,5 +1,5 @@
 -- A disk in memory: what it holds, what a stop may leave of it, and what each call does (this project's profile).
-use Rattle.std.specs.Prelude.{◌≡◌, ℕ, Bool, true, false, ◌+◌, ◌-◌, ◌^◌, ◌≤◌, ◌==◌, ◌&&◌, ◌||◌, nat_lt, nat_le, not, List, [], ◌∷◌, ◌++◌, length, take, drop, replicate, Option, None, Some, IsTrue, if◌then◌else◌}
+use Rattle.std.specs.Prelude.{ℕ, Bool, true, false, ◌+◌, ◌-◌, ◌^◌, ◌≤◌, ◌==◌, ◌&&◌, ◌||◌, nat_lt, nat_le, not, List, [], ◌∷◌, ◌++◌, length, take, drop, replicate, Option, None, Some, IsTrue, if◌then◌else◌}
 use Rattle.gw_outside.specs.Disk.{written}
 use Rattle.gw_fakes.specs.InMemory.{fails_next, one_more}
 use Rattle.gw_fakes.specs.declared.meter.Meter.{Meter}
@@ -23,6 +23,10 @@ is_left (byte ∷ synced) [] image = false
 is_left (byte ∷ synced) (is_pending ∷ pending) [] = false
 is_left (byte ∷ synced) (is_pending ∷ pending) (b ∷ image) = (is_pending || (b == byte)) && is_left synced pending image
 
+-- a disk that holds nothing
+abbrev pub empty_disk : ℕ → List ℕ → DiskState
+empty_disk room fail = record { content = []; synced = []; pending = []; room = room; meter = record { fail = fail; calls = 0; faults = 0; fuse = None } }
+
 -- n bytes from a place on have a pending write
 abbrev pub marked : ℕ → ℕ → List Bool → List Bool
 marked at n pending = written at (replicate n true) pending
@@ -35,6 +39,10 @@ none_pending n = replicate n false
 abbrev pub is_blown : Option ℕ → Bool
 is_blown None = false
 is_blown (Some left) = left == 0
+
+-- so many more calls pass
+abbrev pub fused : ℕ → DiskState → DiskState
+fused calls d = record d { meter = record d.meter { fuse = Some calls } }
 
 -- what is left of a fuse after a call
 abbrev pub burnt : Option ℕ → Option ℕ
@@ -63,14 +71,18 @@ after_sync d =
     then record d { meter = failed d.meter }
     else record d { synced = d.content; pending = none_pending (length d.content); meter = counted d.meter }
 
+-- the range of a write is pending, and its bytes stand or do not
+abbrev pub placed : DiskState → ℕ → List ℕ → Bool → DiskState
+placed d at bytes stands = record d { content = if stands then written at bytes d.content else d.content; pending = marked at (length bytes) d.pending }
+
 -- The disk after a write. Past the fuse and past the room it changes nothing; one that is to fail leaves its range pending.
 abbrev pub after_write : DiskState → ℕ → List ℕ → DiskState
 after_write d at bytes =
     if is_blown d.meter.fuse || nat_lt d.room (at + length bytes)
     then record d { meter = failed d.meter }
     else if fails_next d.meter.fail d.meter.calls
-    then record d { pending = marked at (length bytes) d.pending; meter = failed d.meter }
-    else record d { content = written at bytes d.content; pending = marked at (length bytes) d.pending; meter = counted d.meter }
+    then record (placed d at bytes false) { meter = failed d.meter }
+    else record (placed d at bytes true) { meter = counted d.meter }
 
 -- a write of n bytes at a place fails
 abbrev pub refuses_write : DiskState → ℕ → ℕ → Bool
@@ -82,15 +94,15 @@ spoiled (byte ∷ bytes) (is_pending ∷ pending) = (if is_pending then 165 else
 spoiled bytes pending = bytes
 
 -- What a stop leaves by each pick: the synced content, what a read gave, or 0xA5 in each byte that has a pending write.
-abbrev pub image_of : Pick → DiskState → List ℕ
-image_of Old d = d.synced
-image_of Kept d = d.content
-image_of Noise d = spoiled d.synced d.pending ++ replicate (length d.pending - length d.synced) 165
+abbrev pub image_of : Pick → List ℕ → List ℕ → List Bool → List ℕ
+image_of Old content synced pending = synced
+image_of Kept content synced pending = content
+image_of Noise content synced pending = spoiled synced pending ++ replicate (length pending - length synced) 165
 
 -- the disk after a stop: all of it as the pick says, with no fuse
 abbrev pub stopped : Pick → DiskState → DiskState
 stopped pick d =
-    let image = image_of pick d in
+    let image = image_of pick d.content d.synced d.pending in
     record d { content = image; synced = image; pending = none_pending (length image); meter = record d.meter { fuse = None } }
 
 -- no write is pending in this part

@@ -1,6 +1,7 @@
 //! Counts the calls of one device in memory, and says which of them fail.
 
-ghost use Rattle.std.specs.Prelude.{◌≡◌, None, Some, is_ok, not, min, ◌+◌, ◌-◌, ◌^◌};
+ghost use Rattle.std.specs.Prelude.{◌≡◌, None, Some, is_ok, not, min, ◌+◌, ◌-◌, ◌^◌, ◌≤◌};
+ghost use Rattle.gw_outside.specs.Faults.{HasCause};
 ghost use Rattle.gw_fakes.specs.InMemory.{fails_next, one_more};
 
 use crate::calls::Calls;
@@ -21,6 +22,18 @@ pub(crate) struct Meter {
 
 impl Meter {
     ghost use Rattle.gw_fakes.specs.Disks.{counted, failed, is_blown, met, refuses_call};
+
+    /// No call was made yet, and none ends them.
+    pub(crate) fn new(fail: Calls) -> Meter
+        ensures fresh { result ≡ record { fail = fail; calls = 0; faults = 0; fuse = None } }
+    {
+        Meter {
+            fail,
+            calls: 0,
+            faults: 0,
+            fuse: None,
+        }
+    }
 
     /// Whether no call passes any more.
     pub(crate) fn is_blown(&self) -> bool
@@ -48,6 +61,7 @@ impl Meter {
     /// Counts a fault.
     pub(crate) fn fault(&mut self) -> Failed
         ensures after { self.new ≡ record self.old { faults = one_more self.old.faults } }
+        ensures grown { self.old.faults ≤ self.new.faults }
     {
         self.faults = self.faults.saturating_add(1);
         Failed
@@ -57,6 +71,7 @@ impl Meter {
     pub(crate) fn meet(&mut self) -> Result<(), Failed>
         ensures fails { is_ok result ≡ not (refuses_call self.old) }
         ensures after { self.new ≡ met self.old }
+        ensures cause { HasCause self.old.faults self.new.faults result }
     {
         let blown = self.is_blown();
         let fails = self.count();
