@@ -1,5 +1,5 @@
 -- The records of a journal and their bytes (this project's journal format, version 1). All numbers are little-endian.
-use Rattle.std.specs.Prelude.{◌≡◌, ℕ, ◌+◌, ◌<◌, ◌≤◌, ◌^◌, Bool, true, false, List, [], ◌∷◌, ◌++◌, length, Option, Some, None, ⊤}
+use Rattle.std.specs.Prelude.{◌≡◌, ℕ, ◌<◌, ◌≤◌, ◌^◌, Bool, true, false, List, [], ◌∷◌, ◌++◌, length, Option, Some, None, ⊤}
 use Rattle.std.specs.Int.{w16, w32, w64, to_le_bytes}
 use Rattle.jr_record.specs.declared.record.Record.{Record}
 use Rattle.jr_record.specs.declared.record.Record.TheVariants.{Entry, Apply, Skip, Negotiated, PeerFinished, Finish}
@@ -60,3 +60,8 @@ is_control Finish = true
 abbrev pub BeginsWith : List ℕ → Option Record → Type 0
 BeginsWith bytes (Some r) = IsRecord r × (behind : List ℕ) × (spelled r ++ behind ≡ bytes)
 BeginsWith bytes None = (r : Record) (behind : List ℕ) → IsRecord r → spelled r ++ behind ≡ bytes → ⊥
+
+-- the record of a kind with this body; none where there is none
+abbrev pub IsBody : ℕ → List ℕ → Option Record → Type 0
+IsBody kind body (Some r) = IsRecord r × (kind_of r ≡ kind) × (body_of r ≡ body)
+IsBody kind body None = (r : Record) → IsRecord r → kind_of r ≡ kind → body_of r ≡ body → ⊥

@@ -4,10 +4,16 @@
 
 mod faults;
 mod journal;
+mod laws;
 mod limits;
+mod reading;
 mod record;
+mod writing;
 
 pub use faults::{AppendFault, FetchFault, FormatFault, OpenFault};
 pub use journal::Journal;
+pub use laws::{one_record, one_verdict};
 pub use limits::Limits;
+pub use reading::read_record;
 pub use record::Record;
+pub use writing::{record_size, write_record};
