@@ -1,9 +1,12 @@
 //! Why a call on a journal did not do what it was asked for.
 
 ghost use Rattle.jr_record.specs.declared.faults.AppendFault.TheVariants as append;
+ghost use Rattle.jr_record.specs.declared.faults.FetchFault.TheVariants as fetch;
+ghost use Rattle.jr_record.specs.declared.faults.OpenFault.TheVariants as open_fault;
+ghost use Rattle.jr_record.specs.declared.faults.FormatFault.TheVariants as format_fault;
 
 use gw_outside::Failed;
-use std::alloc::AllocError;
+use std::alloc::{AllocError, AllocFailed};
 use thiserror::Error;
 
 /// Why nothing was appended.
@@ -70,6 +73,16 @@ impl From<AllocError> for AppendFault {
     }
 }
 
+impl<T: Drop> From<AllocFailed<T>> for AppendFault {
+    ghost use Rattle.std.specs.Prelude.{◌≡◌};
+
+    ghost from_gives = { λ _ fault. fault ≡ append.Memory };
+
+    fn from(_: AllocFailed<T>) -> AppendFault {
+        AppendFault::Memory
+    }
+}
+
 impl From<Failed> for AppendFault {
     ghost use Rattle.std.specs.Prelude.{◌≡◌};
 
@@ -77,5 +90,55 @@ impl From<Failed> for AppendFault {
 
     fn from(_: Failed) -> AppendFault {
         AppendFault::Fault
+    }
+}
+
+impl From<AllocError> for OpenFault {
+    ghost use Rattle.std.specs.Prelude.{◌≡◌};
+
+    ghost from_gives = { λ _ fault. fault ≡ open_fault.Memory };
+
+    fn from(_: AllocError) -> OpenFault {
+        OpenFault::Memory
+    }
+}
+
+impl<T: Drop> From<AllocFailed<T>> for OpenFault {
+    ghost use Rattle.std.specs.Prelude.{◌≡◌};
+
+    ghost from_gives = { λ _ fault. fault ≡ open_fault.Memory };
+
+    fn from(_: AllocFailed<T>) -> OpenFault {
+        OpenFault::Memory
+    }
+}
+
+impl From<Failed> for OpenFault {
+    ghost use Rattle.std.specs.Prelude.{◌≡◌};
+
+    ghost from_gives = { λ _ fault. fault ≡ open_fault.Fault };
+
+    fn from(_: Failed) -> OpenFault {
+        OpenFault::Fault
+    }
+}
+
+impl From<AllocError> for FetchFault {
+    ghost use Rattle.std.specs.Prelude.{◌≡◌};
+
+    ghost from_gives = { λ _ fault. fault ≡ fetch.Memory };
+
+    fn from(_: AllocError) -> FetchFault {
+        FetchFault::Memory
+    }
+}
+
+impl From<Failed> for FormatFault {
+    ghost use Rattle.std.specs.Prelude.{◌≡◌};
+
+    ghost from_gives = { λ _ fault. fault ≡ format_fault.Fault };
+
+    fn from(_: Failed) -> FormatFault {
+        FormatFault::Fault
     }
 }

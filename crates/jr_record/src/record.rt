@@ -1,6 +1,10 @@
 //! A record of a journal.
 
+ghost use Rattle.std.specs.Prelude.{◌≡◌, IfOk};
+ghost use Rattle.jr_record.specs.Records.{is_control as exempt};
+
 use gw_outside::Bytes;
+use std::alloc::{AllocError, Global};
 
 /// One record of an outbound or an inbound journal.
 #[derive(Debug, Drop, PartialEq, Eq)]
@@ -17,4 +21,40 @@ pub enum Record {
     PeerFinished { last: u64 },
     /// Nothing more will be sent.
     Finish,
+}
+
+impl Record {
+    /// An equal record of its own.
+    pub fn copy(&self, alloc: Global) -> Result<Record, AllocError>
+        ensures { IfOk result (λ r. r ≡ self.now) }
+    {
+        Ok(match self {
+            Record::Entry { sender, k, payload } => Record::Entry {
+                sender: *sender,
+                k: *k,
+                payload: payload.copy(alloc)?,
+            },
+            Record::Apply { number, payload } => Record::Apply {
+                number: *number,
+                payload: payload.copy(alloc)?,
+            },
+            Record::Skip { from, count } => Record::Skip {
+                from: *from,
+                count: *count,
+            },
+            Record::Negotiated => Record::Negotiated,
+            Record::PeerFinished { last } => Record::PeerFinished { last: *last },
+            Record::Finish => Record::Finish,
+        })
+    }
+
+    /// Whether it is written past the limit of bytes too.
+    pub fn is_control(&self) -> bool
+        ensures { result ≡ exempt self.now }
+    {
+        match self {
+            Record::Entry { .. } | Record::Apply { .. } | Record::Skip { .. } => false,
+            Record::Negotiated | Record::PeerFinished { .. } | Record::Finish => true,
+        }
+    }
 }
