@@ -3,11 +3,10 @@
 ghost use Rattle.std.specs.Prelude.{◌≡◌, ◌<◌, ◌≤◌, ◌-◌, [], ◌++◌, length, min, take, is_ok, not, Some, IfOk, OnOk};
 ghost use Rattle.std.specs.Io.KnownBytes.{ReadConsumes, WriteAppends};
 ghost use Rattle.gw_outside.specs.Faults.{HasCause};
-ghost use Rattle.gw_outside.specs.InMemory.{fails_next, pulled, pushed, refuses};
+ghost use Rattle.gw_fakes.specs.InMemory.{fails_next, pulled, pushed, refuses};
 
-use crate::faults::{Calls, Failed};
-use crate::streams::{Sink, Source};
-use sbe_value::Bytes;
+use crate::calls::Calls;
+use gw_outside::{Bytes, Failed, Sink, Source};
 use std::alloc::{AllocError, Global};
 use std::marker::Model;
 
@@ -24,7 +23,7 @@ pub struct MemSource {
 
 impl Model for MemSource {
     ghost use Rattle.std.specs.Prelude.{◌≤◌, ◌<◌, length, drop};
-    ghost use Rattle.gw_outside.specs.InMemory.{Input};
+    ghost use Rattle.gw_fakes.specs.InMemory.{Input};
 
     ghost Value = { Input };
 
@@ -106,7 +105,7 @@ pub struct MemSink {
 
 impl Model for MemSink {
     ghost use Rattle.std.specs.Prelude.{◌≤◌, length, vec_capacity};
-    ghost use Rattle.gw_outside.specs.InMemory.{Output};
+    ghost use Rattle.gw_fakes.specs.InMemory.{Output};
 
     ghost Value = { Output };
 
@@ -181,55 +180,5 @@ impl Sink for MemSink {
             Ok(()) => Ok(bytes.len()),
             Err(_) => unreachable!(),
         }
-    }
-}
-
-#[cfg(test)]
-mod tests {
-    use super::*;
-    use crate::streams::push_all;
-    use std::test::Fail;
-
-    #[test]
-    fn gives_and_takes_in_pieces(rt: HostRuntime) -> Result<(), Fail> {
-        let alloc = rt.alloc();
-        let bytes = Bytes::from([1, 2, 3, 4, 5].to_vec(alloc)?);
-        let mut source = MemSource::new(bytes, 2, Calls::from([2].to_vec(alloc)?));
-        let mut sink = MemSink::new(alloc, 4, Calls::from([2].to_vec(alloc)?))?;
-        let mut piece = [0; 3];
-        // A pull gives two bytes at most, and the second pull fails.
-        for (given, front) in [
-            (Ok(2), [1, 2]),
-            (Err(Failed), [1, 2]),
-            (Ok(2), [3, 4]),
-            (Ok(1), [5, 4]),
-            (Ok(0), [5, 4]),
-        ] {
-            assert_eq!(rt; source.pull(&mut piece), given);
-            assert_eq!(rt; &piece[..2], front.as_slice());
-        }
-        // The second push fails, and so does one past the room; neither takes anything.
-        assert_eq!(rt; push_all(&mut sink, &[7, 8]), Ok(()));
-        assert_eq!(rt; push_all(&mut sink, &[9]), Err(Failed));
-        assert_eq!(rt; push_all(&mut sink, &[9, 9, 9]), Err(Failed));
-        assert_eq!(rt; push_all(&mut sink, &[9, 10]), Ok(()));
-        assert_eq!(rt; sink.taken(), [7, 8, 9, 10].as_slice());
-        Ok(())
-    }
-
-    #[test]
-    fn never_fails_without_faults(rt: HostRuntime) -> Result<(), Fail> {
-        let alloc = rt.alloc();
-        let text = Bytes::from([1, 2].to_vec(alloc)?);
-        assert_eq!(rt; text.len(), 2);
-        assert_eq!(rt; text.as_slice(), [1, 2].as_slice());
-        let mut source = MemSource::without_faults(alloc, Bytes::from(Vec::from(text)), 9);
-        let mut sink = MemSink::without_faults(alloc, 2)?;
-        let mut piece = [0; 4];
-        assert_eq!(rt; source.pull(&mut piece), Ok(2));
-        assert_eq!(rt; sink.push(&piece[..2]), Ok(2));
-        assert_eq!(rt; sink.push(&[]), Ok(0));
-        assert_eq!(rt; sink.taken(), [1, 2].as_slice());
-        Ok(())
     }
 }
