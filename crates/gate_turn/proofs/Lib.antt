@@ -2,3 +2,4 @@ pub mod Puts
 pub mod Histories
 pub mod Layers
 pub mod Moves
+pub mod Ends

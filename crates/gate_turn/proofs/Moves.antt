@@ -76,7 +76,7 @@ module _ {T : Type 0} (tells : T → Account) (opening : Account) where
   }
 
   -- nothing is added to the history by a pass whose mark stays as it was
-  grown_same : (s : St) (r : Rule s) (id : ℕ) (p q : Part) → get_elem? s.views id ≡ some (p ∷ []) → q.ended ≡ p.ended → Grown (put r.part p.number q) opening r.made r.log
+  pub grown_same : (s : St) (r : Rule s) (id : ℕ) (p q : Part) → get_elem? s.views id ≡ some (p ∷ []) → q.ended ≡ p.ended → Grown (put r.part p.number q) opening r.made r.log
   grown_same s r id p q at same = let sits = mine s r id p at in
       grown_put r.part opening r.made p.number r.log r.log q r.grown sits.inside (goes_nowhere p.number r.log r.log refl) (λ k h. (r.each k h).ended)
       (same ∙ (ap (λ (x : Part). x.ended) (sym sits.is) ∙ never (r.part p.number).ended r.log.finished))
@@ -86,7 +86,7 @@ module _ {T : Type 0} (tells : T → Account) (opening : Account) where
       never false true = refl
       never false false = refl
 
-  same_ticket : (s : St) (r : Rule s) (id : ℕ) (p q : Part) → get_elem? s.views id ≡ some (p ∷ []) → q.ticket ≡ p.ticket → Queued (put r.part p.number q) r.made r.next r.now
+  pub same_ticket : (s : St) (r : Rule s) (id : ℕ) (p q : Part) → get_elem? s.views id ≡ some (p ∷ []) → q.ticket ≡ p.ticket → Queued (put r.part p.number q) r.made r.next r.now
   same_ticket s r id p q at same = let sits = mine s r id p at in queued_same r.part p.number q r.made r.next r.now (same ∙ ap (λ (x : Part). x.ticket) (sym sits.is)) r.queued
 
   pub draws : (slots id : ℕ) (me : Mine T) → me.0 ≡ part_of me.0 ∷ [] → (part_of me.0).ticket ≡ None → (part_of me.0).held ≡ None

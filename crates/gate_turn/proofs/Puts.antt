@@ -46,7 +46,7 @@ pub tickets_few : (part : ℕ → Part) (n : ℕ) → tickets part n ≤ n
 tickets_few part zero = omega arith
 tickets_few part (suc n) = omega (arith, tickets_few part n, waiting_small (part (suc n)).ticket)
 
-tickets_alike : (part part' : ℕ → Part) (n : ℕ) → ((m : ℕ) → m ≤ n → (part' m).ticket ≡ (part m).ticket) → tickets part' n ≡ tickets part n
+pub tickets_alike : (part part' : ℕ → Part) (n : ℕ) → ((m : ℕ) → m ≤ n → (part' m).ticket ≡ (part m).ticket) → tickets part' n ≡ tickets part n
 tickets_alike part part' zero same = refl
 tickets_alike part part' (suc n) same =
     let a : waiting (part' (suc n)).ticket ≡ waiting (part (suc n)).ticket = ap waiting (same (suc n) (omega arith)) in

@@ -1,10 +1,11 @@
 -- What each kind of step on the lock's words tells its pass: of the step, the pass's view and slots before, the number found
 -- and its view and slots after. The loads and the add on the word `ticket` are step 0, on `serving` step 1, on `count` step 2.
-use Rattle.std.specs.Prelude.{◌≡◌, ◌≢◌, ℕ, ◌+◌, ◌%◌, ◌^◌, ◌≤◌, true, List, [], ◌∷◌, ◌++◌, length, Option, Some, None}
+use Rattle.std.specs.Prelude.{◌≡◌, ◌≢◌, ◌⊎◌, ℕ, ◌+◌, ◌%◌, ◌^◌, ◌≤◌, true, List, [], ◌∷◌, ◌++◌, length, Option, Some, None}
+use Rattle.std.specs.List.{AllByRecursion}
 use Rattle.atomic_table.specs.Table.{Me, Step}
 use Rattle.session_model.specs.Journal.{Entry, History, BeginsHistory, entries_of}
 use Rattle.gate_turn.specs.Views.{Account, Part, View, part_of, with_one_more, one_more, drawn, got, counted, gave, looked_at}
-use Rattle.gate_turn.specs.Rule.{Sound}
+use Rattle.gate_turn.specs.Rule.{In, Sound}
 
 -- what a pass that knows p finds where it gets the turn with a value that says this of itself
 pub record Found (p : Part) (a : Account) : Type 0 where
@@ -41,6 +42,18 @@ pub record Returns (p : Part) (a : Account) : Type 0 where
   pub adds : Adds p.number p.seen a.history
   pub faults : p.faults ≤ a.faults
   pub sound : Sound p.opening a
+
+-- What is known where all passes are back, of which number n knows `known n`: each fits the value; the value's history begins
+-- with the opening one; each entry behind that is one of a pass; and it has the mark exactly where the opening one has it or a
+-- pass added it, which one pass at most did
+pub record Closed (known : ℕ → Part) (made : ℕ) (opening now : Account) : Type 0 where
+  pub found : (n : ℕ) → In made n → Found (known n) now
+  pub opened : (n : ℕ) → In made n → (known n).opening ≡ opening
+  pub more : List Entry
+  pub behind : now.history.made ≡ opening.history.made ++ more
+  pub authors : AllByRecursion (λ (e : Entry). In made e.sender) more
+  pub marked : now.history.finished ≡ true → (opening.history.finished ≡ true) ⊎ ((n : ℕ) × In made n × ((known n).ended ≡ true))
+  pub once : (m n : ℕ) → In made m → In made n → (known m).ended ≡ true → (known n).ended ≡ true → m ≡ n
 
 -- the first pass is split: it counts one more, and the new one begins
 abbrev pub split_left : View → View
