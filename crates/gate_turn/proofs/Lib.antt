@@ -3,3 +3,4 @@ pub mod Histories
 pub mod Layers
 pub mod Moves
 pub mod Ends
+pub mod Placed

@@ -5,6 +5,7 @@
 mod lock;
 mod logged;
 mod pass;
+mod passes;
 
 mod plays;
 mod rule;
@@ -12,4 +13,5 @@ mod rule;
 pub use lock::{Held, TurnLock};
 pub use logged::Logged;
 pub use pass::Pass;
+pub use passes::Passes;
 
