@@ -6,7 +6,7 @@ use mathlib.Core.Option.{some, some-injective, some-ne-none}
 use native.Mathlib.Decide.{ℕ_discrete}
 use lib.ListN.{get_elem?}
 use Rattle.atomic_table.proofs.Lists.{at_set, set_here, set_else}
-use Rattle.gate_turn.specs.Views.{Part, View}
+use Rattle.gate_turn.specs.Views.{Part, View, part_of}
 use Rattle.gate_turn.specs.Rule.{In, waiting, tickets, Stands, Seated, Queued}
 
 -- the function with q at n
@@ -173,3 +173,7 @@ queued_leaves part n q made next now inside served gone r = record {
           (λ _ f. absurd (none-some t (sym gone ∙ f)))
           (λ l _ hl f. r.apart j l t hj hl e f) k i) m h;
 }
+
+-- a view of one part
+pub one_view : (v : View) (q : Part) → v ≡ q ∷ [] → v ≡ part_of v ∷ []
+one_view v q e = e ∙ ap (λ u. part_of u ∷ []) (sym e)

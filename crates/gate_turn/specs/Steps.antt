@@ -43,6 +43,12 @@ pub record Returns (p : Part) (a : Account) : Type 0 where
   pub faults : p.faults ≤ a.faults
   pub sound : Sound p.opening a
 
+-- a pass that knew p got the turn with a value that says this of itself, and knows q
+pub record Entered (p q : Part) (a : Account) : Type 0 where
+  pub ticket : ℕ
+  pub found : Found p a
+  pub after : q ≡ got a (drawn ticket p)
+
 -- What is known where all passes are back, of which number n knows `known n`: each fits the value; the value's history begins
 -- with the opening one; each entry behind that is one of a pass; and it has the mark exactly where the opening one has it or a
 -- pass added it, which one pass at most did
