@@ -40,9 +40,9 @@ begins tells value stored count whole = let a = tells value in record {
   seated = record {
     here = λ i k v p e f. ⊎_elim
         (λ (t : (i ≡ 0) × (new_part 1 1 a ∷ [] ≡ v)).
-            let alone = only_part (new_part 1 1 a) p k (subst (λ u. get_elem? u k ≡ some p) (sym t.1) f) in
-            let number : p.number ≡ 1 = ap (λ (y : Part). y.number) (sym alone.1) in
-            record { inside = record { from_one = omega arith; up_to = omega arith }; is = alone.1; sits = sym t.0; lies = sym alone.0 })
+        let alone = only_part (new_part 1 1 a) p k (subst (λ u. get_elem? u k ≡ some p) (sym t.1) f) in
+        let number : p.number ≡ 1 = ap (λ (y : Part). y.number) (sym alone.1) in
+        record { inside = record { from_one = omega arith; up_to = omega arith }; is = alone.1; sits = sym t.0; lies = sym alone.0 })
         (λ (t : (i ≢ 0) × (get_elem? {A = View} [] i ≡ some v)). absurd (some-ne-none v (sym t.1)))
         (first_view i v e);
     present = λ n h. (new_part 1 1 a ∷ [], refl, refl);
@@ -112,22 +112,22 @@ module _ {T : Type 0} (tells : T → Account) (opened : Account) where
   seated_split part seat place made views new s number = record {
     here = λ i k v x e f. ⊎_elim
         (λ old. let it = s.here i k v x old f in
-            let other : x.number ≢ made + 1 = λ n. omega (arith, it.inside.up_to) in
-            record {
-              inside = record { from_one = it.inside.from_one; up_to = omega (arith, it.inside.up_to) };
-              is = put_else part (made + 1) new x.number other ∙ it.is;
-              sits = put_else seat (made + 1) (length views) x.number other ∙ it.sits;
-              lies = put_else place (made + 1) 0 x.number other ∙ it.lies;
-            })
+        let other : x.number ≢ made + 1 = λ n. omega (arith, it.inside.up_to) in
+        record {
+          inside = record { from_one = it.inside.from_one; up_to = omega (arith, it.inside.up_to) };
+          is = put_else part (made + 1) new x.number other ∙ it.is;
+          sits = put_else seat (made + 1) (length views) x.number other ∙ it.sits;
+          lies = put_else place (made + 1) 0 x.number other ∙ it.lies;
+        })
         (λ (t : (i ≡ length views) × (new ∷ [] ≡ v)).
-            let alone = only_part new x k (subst (λ u. get_elem? u k ≡ some x) (sym t.1) f) in
-            let same : x.number ≡ made + 1 = ap (λ (y : Part). y.number) (sym alone.1) ∙ number in
-            record {
-              inside = record { from_one = omega arith; up_to = omega arith };
-              is = put_here part (made + 1) new x.number same ∙ alone.1;
-              sits = put_here seat (made + 1) (length views) x.number same ∙ sym t.0;
-              lies = put_here place (made + 1) 0 x.number same ∙ sym alone.0;
-            })
+        let alone = only_part new x k (subst (λ u. get_elem? u k ≡ some x) (sym t.1) f) in
+        let same : x.number ≡ made + 1 = ap (λ (y : Part). y.number) (sym alone.1) ∙ number in
+        record {
+          inside = record { from_one = omega arith; up_to = omega arith };
+          is = put_here part (made + 1) new x.number same ∙ alone.1;
+          sits = put_here seat (made + 1) (length views) x.number same ∙ sym t.0;
+          lies = put_here place (made + 1) 0 x.number same ∙ sym alone.0;
+        })
         (at_snoc_place views (new ∷ []) v i e);
     present = λ n h. dite (ℕ_discrete n (made + 1))
         (λ e. (
@@ -146,20 +146,22 @@ module _ {T : Type 0} (tells : T → Account) (opened : Account) where
   queued_split part made next now new idle q = record {
     count =
         let a : tickets (put part (made + 1) new) (suc made) ≡ tickets part made =
-            (let b : waiting (put part (made + 1) new (suc made)).ticket ≡ 0 = ap (λ (x : Part). waiting x.ticket) (put_here part (made + 1) new (suc made) (sym (add-one made))) ∙ ap waiting idle in
-            let c = tickets_alike part (put part (made + 1) new) made (λ m l. ap (λ (x : Part). x.ticket) (put_else part (made + 1) new m (λ e. omega arith))) in
-            omega arith) in
+        (let b : waiting (put part (made + 1) new (suc made)).ticket ≡ 0 = ap (λ (x : Part). waiting x.ticket) (put_here part (made + 1) new (suc made) (sym (add-one made))) ∙ ap waiting idle in
+        let c = tickets_alike part (put part (made + 1) new) made (λ m l. ap (λ (x : Part). x.ticket) (put_else part (made + 1) new m (λ e. omega arith))) in
+        omega arith) in
         ap (λ k. k + now) (ap (tickets (put part (made + 1) new)) (add-one made) ∙ a) ∙ q.count;
     waits = λ n t. put_each part (made + 1) new (λ k x. In (made + 1) k → x.ticket ≡ Some t → (now ≤ t) × (t < next))
         (λ _ e. absurd (none-some t (sym idle ∙ e))) (λ k ne h e. q.waits k t (older k ne h) e) n;
-    taken = λ t a b. let it = q.taken t a b in
-        (it.0, record { from_one = it.1.from_one; up_to = omega (arith, it.1.up_to) },
-          ap (λ (x : Part). x.ticket) (put_else part (made + 1) new it.0 (λ e. omega (arith, it.1.up_to))) ∙ it.2);
+    taken = λ t a b. let it = q.taken t a b in (
+      it.0,
+      record { from_one = it.1.from_one; up_to = omega (arith, it.1.up_to) },
+      ap (λ (x : Part). x.ticket) (put_else part (made + 1) new it.0 (λ e. omega (arith, it.1.up_to))) ∙ it.2,
+    );
     apart = λ m k t h i. put_each part (made + 1) new (λ j x. In (made + 1) j → x.ticket ≡ Some t → (put part (made + 1) new k).ticket ≡ Some t → j ≡ k)
         (λ _ e. absurd (none-some t (sym idle ∙ e)))
         (λ j nj hj e. put_each part (made + 1) new (λ l x. In (made + 1) l → x.ticket ≡ Some t → j ≡ l)
-            (λ _ f. absurd (none-some t (sym idle ∙ f)))
-            (λ l nl hl f. q.apart j l t (older j nj hj) (older l nl hl) e f) k i) m h;
+        (λ _ f. absurd (none-some t (sym idle ∙ f)))
+        (λ l nl hl f. q.apart j l t (older j nj hj) (older l nl hl) e f) k i) m h;
   }
     where
       older : (k : ℕ) → k ≢ made + 1 → In (made + 1) k → In made k
@@ -186,8 +188,8 @@ module _ {T : Type 0} (tells : T → Account) (opened : Account) where
       once = λ m k h i. put_each part (made + 1) new (λ j x. In (made + 1) j → x.ended ≡ true → (put part (made + 1) new k).ended ≡ true → j ≡ k)
           (λ _ e. absurd (true≢false (sym e ∙ idle)))
           (λ j nj hj e. put_each part (made + 1) new (λ l x. In (made + 1) l → x.ended ≡ true → j ≡ l)
-              (λ _ f. absurd (true≢false (sym f ∙ idle)))
-              (λ l nl hl f. g.once j l (older j nj hj) (older l nl hl) e f) k i) m h;
+          (λ _ f. absurd (true≢false (sym f ∙ idle)))
+          (λ l nl hl f. g.once j l (older j nj hj) (older l nl hl) e f) k i) m h;
     }
 
     turn_split : new.held ≡ None → Home tells part opened made log top homes ⊎ Out tells part made log top now homes
@@ -261,8 +263,8 @@ module _ {T : Type 0} (tells : T → Account) (opened : Account) where
         each = λ n. put_each part1 (r.made + 1) new (λ k x. In (r.made + 1) k → Fits opened r.log r.top k x)
             (λ _. fits_new r.log r.top r.made part1 p count f grown1)
             (λ k ne h. put_each r.part p.number q (λ j x. In r.made j → Fits opened r.log r.top j x)
-                (λ _. refits opened r.log r.top p.number p q f refl refl refl refl refl (le_refl p.looked) f.looked (le_refl p.faults) f.faults)
-                (λ j _ i. r.each j i) k (older part1 r.made r.log r.top r.now new s.homes k ne h)) n;
+            (λ _. refits opened r.log r.top p.number p q f refl refl refl refl refl (le_refl p.looked) f.looked (le_refl p.faults) f.faults)
+            (λ j _ i. r.each j i) k (older part1 r.made r.log r.top r.now new s.homes k ne h)) n;
         grown = grown_split part1 r.made r.log r.top r.now new s.homes refl grown1;
         turn = turn_split part1 r.made r.log r.top r.now new s.homes refl
             (turn_put tells r.part opened r.made r.log r.top r.now p.number s.homes q (ap (λ (x : Part). x.held) (sym is)) (ap (λ (x : Part). x.faults) (sym is)) (λ _. ap (λ (x : Part). x.ticket) (sym is)) r.turn);
@@ -300,19 +302,23 @@ module _ {T : Type 0} (tells : T → Account) (opened : Account) where
     here = λ i k u x e f. ⊎_elim
         (λ (t : (i ≡ other) × ([] ≡ u)). absurd (some-ne-none x (sym (subst (λ y. get_elem? y k ≡ some x) (sym t.1) f))))
         (λ (t : (i ≢ other) × (get_elem? (set views id (v ++ w)) i ≡ some u)). ⊎_elim
-            (λ (z : (i ≡ id) × (v ++ w ≡ u)). ⊎_elim
-                (λ g. let it = s.here id k v x at g in
-                    let ne : seat x.number ≢ other = λ o. apart (sym o ∙ it.sits) in
-                    record { inside = it.inside; is = it.is; sits = seat_kept seat place id other 0 x.number ne ∙ (it.sits ∙ sym z.0); lies = place_kept seat place other (length v) x.number ne ∙ it.lies })
-                (λ g. let it = s.here other g.0 w x there g.2 in
-                    record { inside = it.inside; is = it.is; sits = seat_of_other seat place id other 0 x.number it.sits ∙ sym z.0;
-                      lies = place_of_other seat place other (length v) x.number it.sits ∙ (ap (λ j. length v + j) it.lies ∙ sym g.1) })
-                (at_append v w k x (subst (λ y. get_elem? y k ≡ some x) (sym z.1) f)))
-            (λ (z : (i ≢ id) × (get_elem? views i ≡ some u)).
-                let it = s.here i k u x z.1 f in
-                let ne : seat x.number ≢ other = λ o. t.0 (sym it.sits ∙ o) in
-                record { inside = it.inside; is = it.is; sits = seat_kept seat place id other 0 x.number ne ∙ it.sits; lies = place_kept seat place other (length v) x.number ne ∙ it.lies })
-            (at_set views id i (v ++ w) u t.1))
+        (λ (z : (i ≡ id) × (v ++ w ≡ u)). ⊎_elim
+        (λ g. let it = s.here id k v x at g in
+        let ne : seat x.number ≢ other = λ o. apart (sym o ∙ it.sits) in
+        record { inside = it.inside; is = it.is; sits = seat_kept seat place id other 0 x.number ne ∙ (it.sits ∙ sym z.0); lies = place_kept seat place other (length v) x.number ne ∙ it.lies })
+        (λ g. let it = s.here other g.0 w x there g.2 in
+        record {
+          inside = it.inside;
+          is = it.is;
+          sits = seat_of_other seat place id other 0 x.number it.sits ∙ sym z.0;
+          lies = place_of_other seat place other (length v) x.number it.sits ∙ (ap (λ j. length v + j) it.lies ∙ sym g.1);
+        })
+        (at_append v w k x (subst (λ y. get_elem? y k ≡ some x) (sym z.1) f)))
+        (λ (z : (i ≢ id) × (get_elem? views i ≡ some u)).
+        let it = s.here i k u x z.1 f in
+        let ne : seat x.number ≢ other = λ o. t.0 (sym it.sits ∙ o) in
+        record { inside = it.inside; is = it.is; sits = seat_kept seat place id other 0 x.number ne ∙ it.sits; lies = place_kept seat place other (length v) x.number ne ∙ it.lies })
+        (at_set views id i (v ++ w) u t.1))
         (at_set (set views id (v ++ w)) other i [] u e);
     present = λ n h. let it = s.present n h in dite (ℕ_discrete (seat n) other)
         (λ o. (
@@ -322,17 +328,17 @@ module _ {T : Type 0} (tells : T → Account) (opened : Account) where
               ∙ at_beyond v w (place n) (part n) (subst (λ y. get_elem? y (place n) ≡ some (part n)) (some-injective it.0 w (sym it.1 ∙ (ap (get_elem? views) o ∙ there))) it.2),
         ))
         (λ no. dite (ℕ_discrete (seat n) id)
-            (λ yes. (
-              v ++ w,
-              ap (get_elem? both) (seat_kept seat place id other 0 n no ∙ yes) ∙ joined,
-              ap (get_elem? (v ++ w)) (place_kept seat place other (length v) n no)
-                  ∙ at_longer v w (place n) (part n) (subst (λ y. get_elem? y (place n) ≡ some (part n)) (some-injective it.0 v (sym it.1 ∙ (ap (get_elem? views) yes ∙ at))) it.2),
-            ))
-            (λ ne. (
-              it.0,
-              ap (get_elem? both) (seat_kept seat place id other 0 n no) ∙ (set_else (set views id (v ++ w)) other (seat n) [] no ∙ (set_else views id (seat n) (v ++ w) ne ∙ it.1)),
-              ap (get_elem? it.0) (place_kept seat place other (length v) n no) ∙ it.2,
-            )));
+        (λ yes. (
+          v ++ w,
+          ap (get_elem? both) (seat_kept seat place id other 0 n no ∙ yes) ∙ joined,
+          ap (get_elem? (v ++ w)) (place_kept seat place other (length v) n no)
+              ∙ at_longer v w (place n) (part n) (subst (λ y. get_elem? y (place n) ≡ some (part n)) (some-injective it.0 v (sym it.1 ∙ (ap (get_elem? views) yes ∙ at))) it.2),
+        ))
+        (λ ne. (
+          it.0,
+          ap (get_elem? both) (seat_kept seat place id other 0 n no) ∙ (set_else (set views id (v ++ w)) other (seat n) [] no ∙ (set_else views id (seat n) (v ++ w) ne ∙ it.1)),
+          ap (get_elem? it.0) (place_kept seat place other (length v) n no) ∙ it.2,
+        )));
   }
     where
       both : List View
@@ -383,8 +389,8 @@ module _ {T : Type 0} (tells : T → Account) (opened : Account) where
     pub all_home : Home tells r.part opened r.made r.log r.top s.homes
     all_home = ⊎_elim (λ h. h)
         (λ (o : Out tells r.part r.made r.log r.top r.now s.homes).
-            let i = same_in o.holder o.inside in
-            absurd (none-some r.log (sym (free o.holder i) ∙ (ap (λ (p : Part). p.held) (sym (part_is o.holder i)) ∙ o.held)))) r.turn
+        let i = same_in o.holder o.inside in
+        absurd (none-some r.log (sym (free o.holder i) ∙ (ap (λ (p : Part). p.held) (sym (part_is o.holder i)) ∙ o.held)))) r.turn
 
     pub closes : Closed known made opened (tells all_home.value)
     closes = let h = all_home in let g = r.grown in

@@ -4,3 +4,4 @@ pub mod Layers
 pub mod Moves
 pub mod Ends
 pub mod Placed
+pub mod Making

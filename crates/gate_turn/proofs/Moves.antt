@@ -133,8 +133,8 @@ module _ {T : Type 0} (tells : T → Account) (opening : Account) where
   at_home : (s : St) (r : Rule s) (n : ℕ) → In r.made n → (r.part n).held ≡ None → (r.part n).ticket ≡ Some r.now → Home tells r.part opening r.made r.log r.top s.homes
   at_home s r n i held ticket = ⊎_elim (λ h. h)
       (λ (o : Out tells r.part r.made r.log r.top r.now s.homes).
-          let e : n ≡ o.holder = r.queued.apart n o.holder r.now i o.inside ticket o.ticket in
-          absurd (none-some r.log (sym held ∙ (ap (λ k. (r.part k).held) e ∙ o.held)))) r.turn
+      let e : n ≡ o.holder = r.queued.apart n o.holder r.now i o.inside ticket o.ticket in
+      absurd (none-some r.log (sym held ∙ (ap (λ k. (r.part k).held) e ∙ o.held)))) r.turn
 
   -- its ticket is the one that is served, where both have one remainder
   served_is : (s : St) (r : Rule s) (n t : ℕ) → In r.made n → (r.part n).ticket ≡ Some t → r.now % 2 ^ 64 ≡ t % 2 ^ 64 → r.now ≡ t
@@ -302,8 +302,17 @@ module _ {T : Type 0} (tells : T → Account) (opening : Account) where
           goes_on = goes_nowhere p.number r.log r.log refl;
           higher = omega arith;
           queued = queued_leaves r.part p.number q r.made r.next r.now sits.inside served refl r.queued;
-          fits = refits opening r.log a.faults p.number p q (record { number = f.number; opened = f.opened; seen = f.seen; looked_from = f.looked_from; looked = f.looked; mine = f.mine;
-            ended = f.ended; faults_from = f.faults_from; faults = faults }) refl refl refl refl refl (le_refl p.looked) f.looked faults (le_refl a.faults);
+          fits = refits opening r.log a.faults p.number p q (record {
+            number = f.number;
+            opened = f.opened;
+            seen = f.seen;
+            looked_from = f.looked_from;
+            looked = f.looked;
+            mine = f.mine;
+            ended = f.ended;
+            faults_from = f.faults_from;
+            faults = faults;
+          }) refl refl refl refl refl (le_refl p.looked) f.looked faults (le_refl a.faults);
           grown = grown_same s r id p q at refl;
           turn = inl (turn_ends tells r.part opening r.made r.log r.top r.now p.number s.homes (put_back s.homes me.1) q value o.0.0 o.0.1 refl
               (ap (put_back s.homes) slot ∙ ap (λ hs. set hs 0 (some (Some value))) o.0.0.home) (sym o.1) (subst (λ x. Sound x a) f.opened sound));

@@ -57,14 +57,14 @@ pub tickets_put : (part : ℕ → Part) (n : ℕ) (q : Part) (made : ℕ) → In
 tickets_put part n q zero h = absurd (omega (arith, h.from_one, h.up_to))
 tickets_put part n q (suc k) h = dite (ℕ_discrete (suc k) n)
     (λ e.
-        let a : waiting (put part n q (suc k)).ticket ≡ waiting q.ticket = ap (λ (x : Part). waiting x.ticket) (put_here part n q (suc k) e) in
-        let b : waiting (part (suc k)).ticket ≡ waiting (part n).ticket = ap (λ x. waiting (part x).ticket) e in
-        let c = tickets_alike part (put part n q) k (λ m l. ap (λ (x : Part). x.ticket) (put_else part n q m (λ f. omega arith))) in
-        omega arith)
+    let a : waiting (put part n q (suc k)).ticket ≡ waiting q.ticket = ap (λ (x : Part). waiting x.ticket) (put_here part n q (suc k) e) in
+    let b : waiting (part (suc k)).ticket ≡ waiting (part n).ticket = ap (λ x. waiting (part x).ticket) e in
+    let c = tickets_alike part (put part n q) k (λ m l. ap (λ (x : Part). x.ticket) (put_else part n q m (λ f. omega arith))) in
+    omega arith)
     (λ ne.
-        let a : waiting (put part n q (suc k)).ticket ≡ waiting (part (suc k)).ticket = ap (λ (x : Part). waiting x.ticket) (put_else part n q (suc k) ne) in
-        let c = tickets_put part n q k (record { from_one = h.from_one; up_to = omega (arith, h.up_to) }) in
-        omega arith)
+    let a : waiting (put part n q (suc k)).ticket ≡ waiting (part (suc k)).ticket = ap (λ (x : Part). waiting x.ticket) (put_else part n q (suc k) ne) in
+    let c = tickets_put part n q k (record { from_one = h.from_one; up_to = omega (arith, h.up_to) }) in
+    omega arith)
 
 -- The seats stay where they are
 pub seated_put : (part : ℕ → Part) (seat place : ℕ → ℕ) (made : ℕ) (views : List View) (id : ℕ) (p q : Part)
@@ -73,22 +73,22 @@ pub seated_put : (part : ℕ → Part) (seat place : ℕ → ℕ) (made : ℕ) (
 seated_put part seat place made views id p q s at same numbers = record {
   here = λ i k v x e f. ⊎_elim
       (λ (t : (i ≡ id) × (q ∷ [] ≡ v)).
-          let alone = only_part q x k (subst (λ u. get_elem? u k ≡ some x) (sym t.1) f) in
-          let number : x.number ≡ p.number = ap (λ (y : Part). y.number) (sym alone.1) ∙ same in
-          record {
-            inside = subst (In made) (sym number) mine.inside;
-            is = put_here part p.number q x.number number ∙ alone.1;
-            sits = ap seat number ∙ (mine.sits ∙ sym t.0);
-            lies = ap place number ∙ (mine.lies ∙ sym alone.0);
-          })
+      let alone = only_part q x k (subst (λ u. get_elem? u k ≡ some x) (sym t.1) f) in
+      let number : x.number ≡ p.number = ap (λ (y : Part). y.number) (sym alone.1) ∙ same in
+      record {
+        inside = subst (In made) (sym number) mine.inside;
+        is = put_here part p.number q x.number number ∙ alone.1;
+        sits = ap seat number ∙ (mine.sits ∙ sym t.0);
+        lies = ap place number ∙ (mine.lies ∙ sym alone.0);
+      })
       (λ (t : (i ≢ id) × (get_elem? views i ≡ some v)).
-          let other = s.here i k v x t.1 f in
-          record {
-            inside = other.inside;
-            is = put_else part p.number q x.number (λ n. t.0 (sym other.sits ∙ (ap seat n ∙ mine.sits))) ∙ other.is;
-            sits = other.sits;
-            lies = other.lies;
-          })
+      let other = s.here i k v x t.1 f in
+      record {
+        inside = other.inside;
+        is = put_else part p.number q x.number (λ n. t.0 (sym other.sits ∙ (ap seat n ∙ mine.sits))) ∙ other.is;
+        sits = other.sits;
+        lies = other.lies;
+      })
       (at_set views id i (q ∷ []) v e);
   present = λ m h. dite (ℕ_discrete m p.number)
       (λ e. (
@@ -100,7 +100,7 @@ seated_put part seat place made views id p q s at same numbers = record {
         there.0,
         set_else views id (seat m) (q ∷ [])
             (λ j. ne (sym (numbers m h) ∙ ap (λ (y : Part). y.number) (sym (only_part p (part m) (place m)
-                (subst (λ u. get_elem? u (place m) ≡ some (part m)) (some-injective there.0 (p ∷ []) (sym there.1 ∙ (ap (get_elem? views) j ∙ at))) there.2)).1)))
+            (subst (λ u. get_elem? u (place m) ≡ some (part m)) (some-injective there.0 (p ∷ []) (sym there.1 ∙ (ap (get_elem? views) j ∙ at))) there.2)).1)))
             ∙ there.1,
         there.2 ∙ ap some (sym (put_else part p.number q m ne)),
       ));
@@ -140,13 +140,13 @@ queued_draws part n q made next now inside none_before drew r = record {
   taken = λ t a b. dite (ℕ_discrete t next)
       (λ e. (n, inside, ap (λ (x : Part). x.ticket) (put_here part n q n refl) ∙ (drew ∙ ap Some (sym e))))
       (λ ne. let it = r.taken t a (omega arith) in
-          (it.0, it.1, ap (λ (x : Part). x.ticket) (put_else part n q it.0 (λ e. none-some t (sym none_before ∙ (ap (λ k. (part k).ticket) (sym e) ∙ it.2)))) ∙ it.2));
+      (it.0, it.1, ap (λ (x : Part). x.ticket) (put_else part n q it.0 (λ e. none-some t (sym none_before ∙ (ap (λ k. (part k).ticket) (sym e) ∙ it.2)))) ∙ it.2));
   apart = λ m k t h i. put_each part n q (λ j x. In made j → x.ticket ≡ Some t → (put part n q k).ticket ≡ Some t → j ≡ k)
       (λ _ e. put_each part n q (λ j x. In made j → x.ticket ≡ Some t → n ≡ j) (λ _ _. refl)
-          (λ j _ hj f. absurd (omega (arith, (r.waits j t hj f).1, same_Some next t (sym drew ∙ e)))) k i)
+      (λ j _ hj f. absurd (omega (arith, (r.waits j t hj f).1, same_Some next t (sym drew ∙ e)))) k i)
       (λ j _ hj e. put_each part n q (λ l x. In made l → x.ticket ≡ Some t → j ≡ l)
-          (λ _ f. absurd (omega (arith, (r.waits j t hj e).1, same_Some next t (sym drew ∙ f))))
-          (λ l _ hl f. r.apart j l t hj hl e f) k i) m h;
+      (λ _ f. absurd (omega (arith, (r.waits j t hj e).1, same_Some next t (sym drew ∙ f))))
+      (λ l _ hl f. r.apart j l t hj hl e f) k i) m h;
 }
 
 -- the one that is served is given up
@@ -162,16 +162,19 @@ queued_leaves part n q made next now inside served gone r = record {
   waits = λ m t. put_each part n q (λ k x. In made k → x.ticket ≡ Some t → (now + 1 ≤ t) × (t < next))
       (λ _ e. absurd (none-some t (sym gone ∙ e)))
       (λ k ne h e. let w = r.waits k t h e in
-          let other : t ≢ now = λ f. ne (r.apart k n now h inside (e ∙ ap Some f) served) in
-          (omega (arith, w.0), w.1)) m;
-  taken = λ t a b. let it = r.taken t (omega arith) b in
-      (it.0, it.1, ap (λ (x : Part). x.ticket) (put_else part n q it.0
-          (λ e. let f : now ≡ t = same_Some now t (sym served ∙ (ap (λ k. (part k).ticket) (sym e) ∙ it.2)) in absurd (omega arith))) ∙ it.2);
+      let other : t ≢ now = λ f. ne (r.apart k n now h inside (e ∙ ap Some f) served) in
+      (omega (arith, w.0), w.1)) m;
+  taken = λ t a b. let it = r.taken t (omega arith) b in (
+    it.0,
+    it.1,
+    ap (λ (x : Part). x.ticket) (put_else part n q it.0
+        (λ e. let f : now ≡ t = same_Some now t (sym served ∙ (ap (λ k. (part k).ticket) (sym e) ∙ it.2)) in absurd (omega arith))) ∙ it.2,
+  );
   apart = λ m k t h i. put_each part n q (λ j x. In made j → x.ticket ≡ Some t → (put part n q k).ticket ≡ Some t → j ≡ k)
       (λ _ e. absurd (none-some t (sym gone ∙ e)))
       (λ j _ hj e. put_each part n q (λ l x. In made l → x.ticket ≡ Some t → j ≡ l)
-          (λ _ f. absurd (none-some t (sym gone ∙ f)))
-          (λ l _ hl f. r.apart j l t hj hl e f) k i) m h;
+      (λ _ f. absurd (none-some t (sym gone ∙ f)))
+      (λ l _ hl f. r.apart j l t hj hl e f) k i) m h;
 }
 
 -- a view of one part

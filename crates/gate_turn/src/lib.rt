@@ -4,14 +4,14 @@
 
 mod lock;
 mod logged;
+mod makes;
 mod pass;
 mod passes;
-
 mod plays;
 mod rule;
+mod turns;
 
 pub use lock::{Held, TurnLock};
 pub use logged::Logged;
 pub use pass::Pass;
 pub use passes::Passes;
-

@@ -4,24 +4,24 @@ ghost use Rattle.std.specs.Prelude.{◌≡◌};
 use crate::logged::Logged;
 use crate::pass::Pass;
 use crate::passes::Passes;
-use crate::plays::{Draws, GivesOn, Looks, MakesOne, Publishes, TakesIn, Waits};
+use crate::plays::Looks;
 use crate::rule::{Turning, View};
-use atomic_table::{Refused, Seat, Table};
+use atomic_table::Table;
 use std::alloc::Global;
 use std::snapshot::Snapshot;
 use std::sync::Wait;
 
 /// The word that has the next ticket, modulo 2^64.
-const TICKET: usize = 0;
+pub(crate) const TICKET: usize = 0;
 
 /// The word that has the ticket that is served, modulo 2^64.
-const SERVING: usize = 1;
+pub(crate) const SERVING: usize = 1;
 
 /// The word that has the number of entries.
-const COUNT: usize = 2;
+pub(crate) const COUNT: usize = 2;
 
 /// The one slot, which has the value while no pass has the turn.
-const SLOT: usize = 0;
+pub(crate) const SLOT: usize = 0;
 
 /// The value, with whoever has the turn. He may change it, and gives it back by `TurnLock::leave` with the same pass.
 pub struct Held<T> {
@@ -30,7 +30,7 @@ pub struct Held<T> {
 
 /// A value at which callers take turns, by tickets.
 pub struct TurnLock<T: Logged> {
-    table: Table<Option<T>, View, Snapshot<T>, Turning<T>, Global>,
+    pub(crate) table: Table<Option<T>, View, Snapshot<T>, Turning<T>, Global>,
     ghost shape: { (table.shared.table_id.words ≡ 3) × (table.shared.table_id.slots ≡ 1) },
 }
 
@@ -41,6 +41,23 @@ impl<T: Logged> TurnLock<T> {
     ghost use Rattle.gate_turn.specs.Places.{known};
     ghost use Rattle.gate_turn.specs.Listed.{known_at};
     ghost use Rattle.gate_turn.specs.Calls.{IsFree, HasTurn, IsPassOf, opened_with, MadeWith, AllBack};
+
+    /// Makes a lock round a value that is not broken, with 1 to 18 passes.
+    ///
+    /// # Errors
+    ///
+    /// The value comes back where memory runs out.
+    pub fn new(alloc: Global, value: T, passes: u16) -> Result<(TurnLock<T>, Passes<T>), T>
+        requires count { (1 ≤ passes) × (passes ≤ 18) }
+        requires whole { (T.tells value).broken ≢ true }
+        ensures opened { IfOk result (λ r. opened_with r.0 ≡ value) }
+        ensures made { IfOk result (λ r. MadeWith r.0 r.1 passes (T.tells value)) }
+        ensures refused { IfErr result (λ v. v ≡ value) }
+    {
+        let (lock, first) = Self::open(alloc, value)?;
+        let passes = lock.make_passes(first, passes);
+        Ok((lock, passes))
+    }
 
     /// Waits for the turn of the pass, and takes the value out.
     pub fn enter<R: Wait>(&self, pass: &mut Pass<T>, rt: &R) -> Held<T>
@@ -79,112 +96,18 @@ impl<T: Logged> TurnLock<T> {
         self.table.shared.load::<Looks>(&mut pass.seat, COUNT)
     }
 
-    /// The lock with its first pass alone.
-    fn open(alloc: Global, value: T) -> Result<(TurnLock<T>, Seat<Option<T>, View>), T>
-        requires whole { (T.tells value).broken ≢ true }
-        ensures opened { IfOk result (λ r. opened_with r.0 ≡ value) }
-        ensures seat { IfOk result (λ r. (r.1.table_id ≡ r.0.table.shared.table_id) × (r.1.me ≡ (new_part 1 1 (T.tells value) ∷ [], []))) }
-        ensures refused { IfErr result (λ v. v ≡ value) }
+    /// Takes the value out for good, once all passes are back.
+    pub fn close(self, passes: Passes<T>) -> T
+        requires back { AllBack self passes }
+        ensures closed { Closed (known_at passes) (known_at passes 1).made (T.tells (opened_with self)) (T.tells result) }
     {
-        let key = Snapshot::of(&value);
-        let count = value.length();
-        let slots = Self::one_slot(alloc, value)?;
-        match Table::new(alloc, &[0, 0, count], slots, &key) {
-            Ok((table, seat)) => Ok((TurnLock { table }, seat)),
-            Err(Refused { slots }) => Err(Self::out_of_slot(slots)),
-        }
-    }
-
-    /// A list of the one slot.
-    fn one_slot(alloc: Global, value: T) -> Result<Vec<Option<T>>, T>
-        ensures made { IfOk result (λ v. v.items ≡ Some value ∷ []) }
-        ensures refused { IfErr result (λ v. v ≡ value) }
-    {
-        let mut slots = match Vec::with_capacity(alloc, 1) {
-            Ok(slots) => slots,
-            Err(_) => return Err(value),
-        };
-        match slots.push(Some(value)) {
-            Ok(()) => Ok(slots),
-            Err(failed) => {
-                slots.destroy_empty();
-                let Some(value) = failed.value else {
-                    unreachable!()
-                };
-                Err(value)
-            }
-        }
-    }
-
-    /// The value of the one slot.
-    fn out_of_slot(mut slots: Vec<Option<T>>) -> T
-        requires full { (value : T) × (slots.items ≡ Some value ∷ []) }
-        ensures value { slots.items ≡ Some result ∷ [] }
-    {
-        let Some(Some(value)) = slots.pop() else {
+        let keeper = self.join_passes(passes);
+        let TurnLock { table } = self;
+        let mut closed = table.close_with(keeper);
+        let Some(value) = closed.take(SLOT) else {
             unreachable!()
         };
-        slots.destroy_empty();
+        closed.free();
         value
-    }
-
-    /// Draws a ticket, waits until it is served, and takes the value out of the slot.
-    fn wait_turn<R: Wait>(&self, seat: &mut Seat<Option<T>, View>, rt: &R) -> T
-        requires own { seat.old.table_id ≡ self.now.table.shared.table_id }
-        requires one { seat.old.me.0 ≡ part_of seat.old.me.0 ∷ [] }
-        requires slot { seat.old.me.1 ≡ [] }
-        requires ticket { (part_of seat.old.me.0).ticket ≡ None }
-        requires held { (part_of seat.old.me.0).held ≡ None }
-        ensures own { seat.new.table_id ≡ seat.old.table_id }
-        ensures slot { seat.new.me.1 ≡ (0, None) ∷ [] }
-        ensures one { seat.new.me.0 ≡ part_of seat.new.me.0 ∷ [] }
-        ensures entered { Entered (part_of seat.old.me.0) (part_of seat.new.me.0) (T.tells result) }
-    {
-        let ticket = self.table.shared.fetch_add::<Draws>(seat, TICKET, 1);
-        for _ in rt.forever() {
-            let serving = self.table.shared.load::<Waits>(seat, SERVING);
-            if serving == ticket {
-                return self.take_out(seat);
-            }
-            // At most 17 turns come before this one, so the low half of the word tells each change.
-            self.table
-                .shared
-                .park(rt, SERVING, (serving % (1 << 32)) as u32);
-        }
-        unreachable!()
-    }
-
-    /// Takes the value out of the slot, which the seat holds.
-    fn take_out(&self, seat: &mut Seat<Option<T>, View>) -> T
-        requires own { seat.old.table_id ≡ self.now.table.shared.table_id }
-        requires slot { (value : T) × (seat.old.me.1 ≡ (0, Some value) ∷ []) }
-        ensures own { seat.new.table_id ≡ seat.old.table_id }
-        ensures value { seat.old.me.1 ≡ (0, Some result) ∷ [] }
-        ensures view { seat.new.me.0 ≡ seat.old.me.0 }
-        ensures slot { seat.new.me.1 ≡ (0, None) ∷ [] }
-    {
-        let Some(value) = self.table.shared.exchange(seat, SLOT, None) else {
-            unreachable!()
-        };
-        value
-    }
-
-    /// Puts the value into the slot, publishes its number of entries, and lets the next ticket be served.
-    fn give_on(&self, seat: &mut Seat<Option<T>, View>, value: T)
-        requires own { seat.old.table_id ≡ self.now.table.shared.table_id }
-        requires one { seat.old.me.0 ≡ part_of seat.old.me.0 ∷ [] }
-        requires slot { seat.old.me.1 ≡ (0, None) ∷ [] }
-        requires held { (part_of seat.old.me.0).held ≡ Some (part_of seat.old.me.0).seen }
-        requires returns { Returns (part_of seat.old.me.0) (T.tells value) }
-        ensures own { seat.new.table_id ≡ seat.old.table_id }
-        ensures slot { seat.new.me.1 ≡ [] }
-        ensures left { seat.new.me.0 ≡ left (T.tells value) (part_of seat.old.me.0) ∷ [] }
-    {
-        let count = value.length();
-        let before = self.table.shared.exchange(seat, SLOT, Some(value));
-        let None = before else { unreachable!() };
-        self.table.shared.store::<Publishes>(seat, COUNT, count);
-        self.table.shared.fetch_add::<GivesOn>(seat, SERVING, 1);
-        self.table.shared.wake_all(SERVING);
     }
 }

@@ -27,6 +27,14 @@ impl<T> Pass<T> {
         Pass { number, seat }
     }
 
+    /// Its seat.
+    pub(crate) fn into_seat(self) -> Seat<Option<T>, View>
+        ensures seat { result ≡ self.seat }
+    {
+        let Pass { number: _, seat } = self;
+        seat
+    }
+
     /// Its number: that of its sender, from 1 on, or one past the senders.
     pub fn number(&self) -> u16
         ensures exact { result ≡ (part_of self.now.seat.me.0).number }

@@ -15,5 +15,5 @@ invariant_of-self g c = record {
 pub returns-clause-number : goal.returns-clause-number
 returns-clause-number g c = if_some c.take.result (λ p. p.number ≡ c.args.number)
     (λ p e.
-        let at : c.from.result ≡ c.args.number = c.from.ensures in
-        c.args.self.now.in_place c.args.number p (at_place c.args.self.now.places c.args.number (c.from.result - 1) _ _ (omega (arith, c.if-number-lt1.false)) (omega (arith, c.if-number-gt18.false)) (sym c.take.ensures.value ∙ e)))
+    let at : c.from.result ≡ c.args.number = c.from.ensures in
+    c.args.self.now.in_place c.args.number p (at_place c.args.self.now.places c.args.number (c.from.result - 1) _ _ (omega (arith, c.if-number-lt1.false)) (omega (arith, c.if-number-gt18.false)) (sym c.take.ensures.value ∙ e)))
