@@ -2,7 +2,7 @@
 use Rattle.std.proofs.Common.{◌≡◌, ◌≢◌, ◌⊎◌, ℕ, zero, suc, ◌+◌, ◌<◌, ◌≤◌, List, [], ◌∷◌, ◌++◌, length, Option, Some, None, inl, inr, refl, sym, ap, ◌∙◌, subst, arith, le_refl, eqb, cond, eq-eqb, ne_eqb}
 use Rattle.std.proofs.lemmas.Option.{none-some, same_Some}
 use mathlib.Core.Logic.{dite}
-use mathlib.Core.Option.{some}
+use mathlib.Core.Option.{some, some-injective}
 use native.Mathlib.Decide.{ℕ_discrete}
 use lib.ListN.{get_elem?}
 use Rattle.atomic_table.proofs.Lists.{at_longer}
@@ -10,16 +10,16 @@ use Rattle.gate_turn.specs.Views.{Account, Part, View, new_part, part_of}
 use Rattle.gate_turn.specs.Rule.{In}
 use Rattle.gate_turn.specs.Places.{known}
 use Rattle.gate_turn.specs.Listed.{pass_at, known_if, known_at}
-use Rattle.gate_turn.specs.Calls.{IsFree, IsPassOf, HasBack, made_part, MadeWith, AllBack}
+use Rattle.gate_turn.specs.Calls.{IsFree, IsPassOf, HasBack, made_part, MadeWith, AllBack, opened_with}
 use Rattle.gate_turn.specs.declared.pass.Pass.{Pass}
 use Rattle.gate_turn.specs.declared.passes.Passes.{Passes}
 use Rattle.gate_turn.specs.declared.lock.TurnLock.{TurnLock}
-use Rattle.atomic_table.specs.Table.{Splits}
+use Rattle.atomic_table.specs.Table.{Splits, Final, Seen}
 use Rattle.atomic_table.specs.declared.shared.Seat.{Seat}
 use Rattle.gate_turn.specs.Rule.{Turns}
-use Rattle.gate_turn.specs.Steps.{Mine, split_left, split_right}
+use Rattle.gate_turn.specs.Steps.{Mine, Closed, split_left, split_right}
 use Rattle.gate_turn.proofs.Puts.{one_view}
-use Rattle.gate_turn.proofs.Ends.{at_beyond, splits}
+use Rattle.gate_turn.proofs.Ends.{at_beyond, splits, all_home, closes}
 
 -- the view of the first pass and that of the new one, after a split where so many were made
 pub left_of : (v w : View) (made more : ℕ) (a : Account) → w ≡ split_left v → v ≡ new_part 1 made a ∷ [] → more ≡ made + 1 → w ≡ new_part 1 more a ∷ []
@@ -133,3 +133,27 @@ module _ {T : Type 0} (all : Passes T) where
         (λ ne. j.joined n q (omega arith) e);
     kept = λ n h. same n (omega arith) ∙ j.kept n (omega arith);
   }
+
+-- every pass that was made stands in the view, where all were joined
+pub all_joined : {T : Type 0} (lock : TurnLock T) (all list : Passes T) (view : View) (number : ℕ) → AllBack lock all → Joining all list view number → 19 ≤ number
+    → (n : ℕ) → In (known_at all 1).made n → (k : ℕ) × (get_elem? view k ≡ some (known_at all n))
+all_joined {T} lock all list view number back j far n h =
+    let b = back.each n h in
+    let it = j.joined n b.pass (omega (arith, h.up_to, back.few)) b.there in
+    (it.0, it.1 ∙ ap (λ (o : Option (Pass T)). some (known_if o)) (sym b.there))
+
+-- What is known of the value that comes out of the slot, where all passes were joined into one seat
+pub comes_out : {T : Type 0} (tells : T → Account) (lock : TurnLock T) (all : Passes T) (id : ℕ) (view : View) (words : List ℕ) (slots : List (Option T)) (out : Option T)
+    → AllBack lock all → ((n : ℕ) → In (known_at all 1).made n → (k : ℕ) × (get_elem? view k ≡ some (known_at all n)))
+    → Final (Seen (Turns tells (tells (opened_with lock))) id view) words slots → get_elem? slots 0 ≡ some out
+    → (value : T) × (out ≡ Some value) × Closed (known_at all) (known_at all 1).made (tells (opened_with lock)) (tells value)
+comes_out {T} tells lock all id view words slots out back joined final taken =
+    let made = (known_at all 1).made in
+    let numbers : (n : ℕ) → In made n → (known_at all n).number ≡ n = λ n h. let b = back.each n h in
+        ap (λ (o : Option (Pass T)). (known_if o).number) b.there ∙ (b.pass.numbered ∙ all.in_place n b.pass b.there) in
+    let free : (n : ℕ) → In made n → (known_at all n).held ≡ None = λ n h. let b = back.each n h in ap (λ (o : Option (Pass T)). (known_if o).held) b.there ∙ b.free.held in
+    let home = all_home tells (tells (opened_with lock)) final.0 final.1.0 id view final.1.1 made (known_at all) back.some_made numbers refl free joined in (
+      home.value,
+      some-injective out (Some home.value) (sym taken ∙ final.4 0 (Some home.value) (ap (λ hs. get_elem? hs 0) home.home)),
+      closes tells (tells (opened_with lock)) final.0 final.1.0 id view final.1.1 made (known_at all) back.some_made numbers refl free joined,
+    )
