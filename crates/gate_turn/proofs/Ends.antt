@@ -1,6 +1,6 @@
 -- The rule where the lock is made, where passes are made and joined, and where the lock is closed.
-use Rattle.std.proofs.Common.{◌≡◌, ◌≢◌, ◌⊎◌, ℕ, zero, suc, ◌+◌, ◌%◌, ◌^◌, ◌<◌, ◌≤◌, eqb, cond, eq-eqb, ne_eqb, Bool, true, false, true≢false, List, [], ◌∷◌, ◌++◌, map, length, get_or, set, Option, Some, None, inl, inr, ⊎_elim, refl, sym, ap, ◌∙◌, subst, arith, le_refl, add-one, append-nil, length-set}
-use Rattle.std.proofs.lemmas.Option.{none-some, same_Some}
+use Rattle.std.proofs.Common.{◌≡◌, ◌≢◌, ◌⊎◌, ℕ, zero, suc, ◌+◌, ◌<◌, ◌≤◌, eqb, cond, eq-eqb, ne_eqb, true, false, true≢false, List, [], ◌∷◌, ◌++◌, length, set, Option, Some, None, inl, inr, ⊎_elim, refl, sym, ap, ◌∙◌, subst, arith, le_refl, add-one, append-nil}
+use Rattle.std.proofs.lemmas.Option.{none-some}
 use Rattle.std.specs.List.{AllByRecursion}
 use mathlib.Core.Logic.{dite}
 use mathlib.Core.Option.{none, some, some-injective, some-ne-none}
@@ -11,12 +11,12 @@ use Rattle.atomic_table.proofs.Lists.{at_set, set_here, set_else, at_longer, at_
 use Rattle.session_model.specs.Journal.{Entry, History, BeginsHistory, entries_of}
 use Rattle.session_model.proofs.Lists.{all_weaker}
 use Rattle.gate_turn.specs.Views.{Account, Part, View, part_of, new_part, with_one_more, one_more}
-use Rattle.gate_turn.specs.Rule.{In, waiting, tickets, Stands, Seated, Queued, Fits, Grown, Sound, Home, Out, Turns}
-use Rattle.gate_turn.proofs.Puts.{put, put_here, put_else, put_each, within, only_part, tickets_alike, seated_put, queued_same}
+use Rattle.gate_turn.specs.Rule.{In, waiting, tickets, Seated, Queued, Fits, Grown, Sound, Home, Out, Turns}
+use Rattle.gate_turn.proofs.Puts.{put, put_here, put_else, put_each, within, only_part, tickets_alike, seated_put}
 use Rattle.gate_turn.proofs.Histories.{begins_self, none_beyond, entries_of-append}
 use Rattle.gate_turn.proofs.Layers.{refits, turn_put}
 use Rattle.gate_turn.specs.Steps.{Found, Closed, split_left, split_right}
-use Rattle.gate_turn.proofs.Moves.{mine, fits_mine, grown_same, same_ticket, finds}
+use Rattle.gate_turn.proofs.Moves.{mine, fits_mine, grown_same, same_ticket}
 
 one_of : (n : ℕ) → In 1 n → n ≡ 1
 one_of n h = omega (arith, h.from_one, h.up_to)

@@ -1,12 +1,12 @@
 -- Beginnings of histories, and what one pass may add to one.
-use Rattle.std.proofs.Common.{◌≡◌, ◌≢◌, ◌⊎◌, ℕ, zero, suc, ◌+◌, ◌<◌, ◌≤◌, eqb, cond, Bool, true, false, not, ◌&&◌, ◌||◌, true≢false, List, [], ◌∷◌, ◌++◌, length, drop, inl, inr, ⊎_elim, refl, sym, ap, ◌∙◌, subst, arith, append-nil, eq-eqb, ne_eqb}
+use Rattle.std.proofs.Common.{◌≡◌, ◌≢◌, ◌⊎◌, ℕ, ◌<◌, ◌≤◌, eqb, cond, Bool, true, false, not, ◌&&◌, ◌||◌, true≢false, List, [], ◌∷◌, ◌++◌, length, drop, inl, inr, refl, sym, ap, ◌∙◌, subst, arith, append-nil, eq-eqb, ne_eqb}
 use Rattle.std.proofs.lemmas.List.Elements.{filter-append}
 use Rattle.std.specs.List.{AllByRecursion}
 use Rattle.session_model.specs.Journal.{Entry, History, BeginsHistory, entries_of}
-use Rattle.session_model.proofs.Lists.{prefix_self, prefix_trans, prefix_of_append, prefix_equal, prefix_length, drop_length}
+use Rattle.session_model.proofs.Lists.{prefix_self, prefix_trans, prefix_equal, prefix_length, drop_length}
 use Rattle.gate_turn.specs.Views.{marks_newly}
 use Rattle.gate_turn.specs.Rule.{In}
-use Rattle.gate_turn.specs.Steps.{AddsEntry, AddsMark, Adds, adds_nothing, adds_entry, adds_mark}
+use Rattle.gate_turn.specs.Steps.{Adds, adds_nothing, adds_entry, adds_mark}
 
 pub begins_self : (h : History) → BeginsHistory h h
 begins_self h = record { made = prefix_self h.made; alone = λ _. refl }

@@ -1,13 +1,12 @@
 -- What stays true of the parts, the history and the turn where one pass's part changes.
-use Rattle.std.proofs.Common.{◌≡◌, ◌≢◌, ◌⊎◌, ℕ, ◌+◌, ◌<◌, ◌≤◌, Bool, true, ◌||◌, List, [], ◌∷◌, ◌++◌, length, drop, Option, Some, None, inl, inr, ⊎_elim, refl, sym, ap, ◌∙◌, subst, arith, le_refl, append_assoc, append-nil}
-use Rattle.std.proofs.lemmas.Option.{none-some, same_Some}
-use Rattle.std.specs.List.{AllByRecursion}
+use Rattle.std.proofs.Common.{◌≡◌, ◌≢◌, ◌⊎◌, ℕ, ◌≤◌, true, ◌||◌, List, [], ◌∷◌, ◌++◌, length, drop, Option, Some, None, inl, inr, ⊎_elim, refl, sym, ap, ◌∙◌, subst, arith, le_refl, append_assoc, append-nil}
+use Rattle.std.proofs.lemmas.Option.{none-some}
 use mathlib.Core.Logic.{dite}
 use mathlib.Core.Option.{none, some}
 use native.Mathlib.Decide.{ℕ_discrete}
-use Rattle.session_model.specs.Journal.{Entry, History, BeginsHistory, entries_of}
+use Rattle.session_model.specs.Journal.{Entry, History, BeginsHistory}
 use Rattle.session_model.proofs.Lists.{all_append}
-use Rattle.gate_turn.specs.Views.{Account, Part, View, marks_newly, counted}
+use Rattle.gate_turn.specs.Views.{Account, Part, marks_newly, counted}
 use Rattle.gate_turn.specs.Rule.{In, Fits, Grown, Sound, Home, Out}
 use Rattle.gate_turn.proofs.Puts.{put, put_here, put_else, put_each}
 use Rattle.gate_turn.proofs.Histories.{begins_on, begins_length, or_cases, or_left, or_right, newly_marked, marked_or_newly, Goes, goes_others, goes_own, all_in}

@@ -1,6 +1,6 @@
 -- The list of passes while they are made, and the seat that they are joined into.
-use Rattle.std.proofs.Common.{◌≡◌, ◌≢◌, ◌⊎◌, ℕ, zero, suc, ◌+◌, ◌<◌, ◌≤◌, List, [], ◌∷◌, ◌++◌, length, Option, Some, None, inl, inr, refl, sym, ap, ◌∙◌, subst, arith, le_refl, eqb, cond, eq-eqb, ne_eqb}
-use Rattle.std.proofs.lemmas.Option.{none-some, same_Some}
+use Rattle.std.proofs.Common.{◌≡◌, ◌≢◌, ℕ, ◌+◌, ◌<◌, ◌≤◌, List, [], ◌∷◌, ◌++◌, length, Option, Some, None, refl, sym, ap, ◌∙◌, subst, arith, le_refl, cond, eq-eqb, ne_eqb}
+use Rattle.std.proofs.lemmas.Option.{none-some}
 use mathlib.Core.Logic.{dite}
 use mathlib.Core.Option.{some, some-injective}
 use native.Mathlib.Decide.{ℕ_discrete}
@@ -10,7 +10,7 @@ use Rattle.gate_turn.specs.Views.{Account, Part, View, new_part, part_of}
 use Rattle.gate_turn.specs.Rule.{In}
 use Rattle.gate_turn.specs.Places.{known}
 use Rattle.gate_turn.specs.Listed.{pass_at, known_if, known_at}
-use Rattle.gate_turn.specs.Calls.{IsFree, IsPassOf, HasBack, made_part, MadeWith, AllBack, opened_with}
+use Rattle.gate_turn.specs.Calls.{IsFree, IsPassOf, HasBack, MadeWith, AllBack, opened_with}
 use Rattle.gate_turn.specs.declared.pass.Pass.{Pass}
 use Rattle.gate_turn.specs.declared.passes.Passes.{Passes}
 use Rattle.gate_turn.specs.declared.lock.TurnLock.{TurnLock}
@@ -150,7 +150,7 @@ pub comes_out : {T : Type 0} (tells : T → Account) (lock : TurnLock T) (all : 
 comes_out {T} tells lock all id view words slots out back joined final taken =
     let made = (known_at all 1).made in
     let numbers : (n : ℕ) → In made n → (known_at all n).number ≡ n = λ n h. let b = back.each n h in
-        ap (λ (o : Option (Pass T)). (known_if o).number) b.there ∙ (b.pass.numbered ∙ all.in_place n b.pass b.there) in
+    ap (λ (o : Option (Pass T)). (known_if o).number) b.there ∙ (b.pass.numbered ∙ all.in_place n b.pass b.there) in
     let free : (n : ℕ) → In made n → (known_at all n).held ≡ None = λ n h. let b = back.each n h in ap (λ (o : Option (Pass T)). (known_if o).held) b.there ∙ b.free.held in
     let home = all_home tells (tells (opened_with lock)) final.0 final.1.0 id view final.1.1 made (known_at all) back.some_made numbers refl free joined in (
       home.value,

@@ -1,18 +1,18 @@
 -- Each kind of step on the lock's words keeps the rule.
-use Rattle.std.proofs.Common.{◌≡◌, ◌≢◌, ◌⊎◌, ℕ, zero, suc, ◌+◌, ◌%◌, ◌^◌, ◌<◌, ◌≤◌, Bool, true, false, not, ◌&&◌, ◌||◌, List, [], ◌∷◌, ◌++◌, length, get_or, set, drop, Option, Some, None, inl, inr, ⊎_elim, refl, sym, ap, ◌∙◌, subst, arith, le_refl}
+use Rattle.std.proofs.Common.{◌≡◌, ◌⊎◌, ℕ, ◌+◌, ◌%◌, ◌^◌, ◌≤◌, Bool, true, false, not, ◌&&◌, ◌||◌, List, [], ◌∷◌, length, get_or, set, Option, Some, None, inl, inr, ⊎_elim, refl, sym, ap, ◌∙◌, subst, arith, le_refl}
 use Rattle.std.proofs.lemmas.Option.{none-some, same_Some}
 use mathlib.Core.Logic.{dite}
 use mathlib.Core.Option.{none, some}
 use native.Mathlib.Decide.{ℕ_discrete}
 use lib.ListN.{get_elem?}
-use Rattle.atomic_table.specs.Table.{State, Me, Step, step, keeps, takes, gives, put_back, rest, stepped, Allows}
+use Rattle.atomic_table.specs.Table.{State, step, keeps, takes, gives, put_back, rest, stepped, Allows}
 use Rattle.atomic_table.proofs.Lists.{set_again, one_turn}
-use Rattle.session_model.specs.Journal.{Entry, History, BeginsHistory, entries_of}
+use Rattle.session_model.specs.Journal.{History, BeginsHistory, entries_of}
 use Rattle.gate_turn.specs.Views.{Account, Part, View, marks_newly, part_of, drawn, got, counted, gave, looked_at}
-use Rattle.gate_turn.specs.Rule.{In, tickets, Stands, Seated, Queued, Fits, Grown, Sound, Home, Out, Turns}
+use Rattle.gate_turn.specs.Rule.{In, Stands, Queued, Fits, Grown, Sound, Home, Out, Turns}
 use Rattle.gate_turn.specs.Steps.{Found, Returns, Mine, Drew, LookedAt, Gets, Served, Published, GaveOn}
 use Rattle.gate_turn.proofs.Puts.{put, seated_put, tickets_few, queued_same, queued_draws, queued_leaves, put_each}
-use Rattle.gate_turn.proofs.Histories.{begins_self, begins_length, or_left, Goes, goes, goes_nowhere}
+use Rattle.gate_turn.proofs.Histories.{begins_self, Goes, goes, goes_nowhere}
 use Rattle.gate_turn.proofs.Layers.{refits, fits_others, fits_counted, grown_put, turn_put, holder_is, turn_begins, turn_goes_on, turn_ends}
 
 counts_on : (n : ℕ) → (n % 2 ^ 64 + 1) % 2 ^ 64 ≡ (n + 1) % 2 ^ 64

@@ -1,5 +1,5 @@
 -- What the calls of a turn lock ask of a pass, and tell of it.
-use Rattle.std.specs.Prelude.{◌≡◌, ℕ, ◌==◌, if◌then◌else◌, ◌≤◌, List, [], ◌∷◌, Option, Some, None}
+use Rattle.std.specs.Prelude.{◌≡◌, ℕ, ◌==◌, if◌then◌else◌, ◌≤◌, [], ◌∷◌, Some, None}
 use Rattle.gate_turn.specs.Views.{Account, Part, new_part}
 use Rattle.gate_turn.specs.Rule.{In}
 use Rattle.gate_turn.specs.Places.{known}

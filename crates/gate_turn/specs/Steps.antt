@@ -1,6 +1,6 @@
 -- What each kind of step on the lock's words tells its pass: of the step, the pass's view and slots before, the number found
 -- and its view and slots after. The loads and the add on the word `ticket` are step 0, on `serving` step 1, on `count` step 2.
-use Rattle.std.specs.Prelude.{◌≡◌, ◌≢◌, ◌⊎◌, ℕ, ◌+◌, ◌%◌, ◌^◌, ◌≤◌, true, List, [], ◌∷◌, ◌++◌, length, Option, Some, None}
+use Rattle.std.specs.Prelude.{◌≡◌, ◌≢◌, ◌⊎◌, ℕ, ◌%◌, ◌^◌, ◌≤◌, true, List, [], ◌∷◌, ◌++◌, length, Option, Some}
 use Rattle.std.specs.List.{AllByRecursion}
 use Rattle.atomic_table.specs.Table.{Me, Step}
 use Rattle.session_model.specs.Journal.{Entry, History, BeginsHistory, entries_of}

@@ -1,5 +1,5 @@
 -- What a locked value says of itself, and what a pass of its lock knows. Locks whose turns are tickets are this project's profile.
-use Rattle.std.specs.Prelude.{ℕ, ◌+◌, Bool, true, false, not, ◌&&◌, ◌||◌, List, [], ◌∷◌, ◌++◌, length, drop, Option, Some, None}
+use Rattle.std.specs.Prelude.{ℕ, ◌+◌, Bool, false, not, ◌&&◌, ◌||◌, List, [], ◌∷◌, ◌++◌, length, drop, Option, Some, None}
 use Rattle.session_model.specs.Journal.{Entry, History, entries_of}
 
 -- the two numbers that bound a locked value: entries, and bytes

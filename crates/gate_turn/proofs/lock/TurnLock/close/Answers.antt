@@ -1,6 +1,5 @@
-use Rattle.std.proofs.Common.{◌≡◌, sym, ◌∙◌, subst}
+use Rattle.std.proofs.Common.{sym, ◌∙◌, subst}
 use Rattle.std.proofs.lemmas.Option.{none-some, same_Some}
-use Rattle.gate_turn.specs.Views.{Account}
 use Rattle.gate_turn.specs.Steps.{Closed}
 use Rattle.gate_turn.specs.Listed.{known_at}
 use Rattle.gate_turn.specs.Calls.{opened_with}

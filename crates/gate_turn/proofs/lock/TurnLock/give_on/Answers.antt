@@ -1,6 +1,6 @@
-use Rattle.std.proofs.Common.{rules, ◌≡◌, ◌≤◌, [], ◌∷◌, Some, refl, sym, ap, ◌∙◌, subst}
+use Rattle.std.proofs.Common.{rules, ◌≡◌, ◌≤◌, [], ◌∷◌, Some, sym, ap, ◌∙◌, subst}
 use Rattle.atomic_table.specs.Table.{rest}
-use Rattle.gate_turn.specs.Views.{Part, View, Account, part_of, counted, gave}
+use Rattle.gate_turn.specs.Views.{View, Account, part_of, counted, gave}
 use Rattle.gate_turn.specs.Rule.{Sound}
 use Rattle.gate_turn.specs.Steps.{Returns}
 use Rattle.gate_turn.proofs.Puts.{one_view}

@@ -1,4 +1,4 @@
-use Rattle.std.proofs.Common.{◌≡◌, ◌-◌, ◌≤◌, [], ◌∷◌}
+use Rattle.std.proofs.Common.{◌≡◌, ◌-◌, [], ◌∷◌}
 use Rattle.gate_turn.specs.Views.{new_part}
 use Rattle.gate_turn.specs.Calls.{opened_with}
 use Rattle.gate_turn.proofs.Making.{Making}

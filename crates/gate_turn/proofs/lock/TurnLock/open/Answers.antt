@@ -1,4 +1,4 @@
-use Rattle.std.proofs.Common.{rules, ◌≡◌, ℕ, List, [], ◌∷◌, Option, Some, sym, ap, ◌∙◌, subst}
+use Rattle.std.proofs.Common.{List, [], ◌∷◌, Option, sym, subst}
 use Rattle.atomic_table.specs.Table.{opening}
 use Rattle.gate_turn.specs.Views.{View, new_part}
 use Rattle.gate_turn.specs.Rule.{Turns}

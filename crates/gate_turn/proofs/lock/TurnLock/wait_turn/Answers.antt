@@ -1,5 +1,5 @@
-use Rattle.std.proofs.Common.{rules, ◌≡◌, ℕ, [], ◌∷◌, Some, None, refl, sym, ap, ◌∙◌, subst}
-use Rattle.gate_turn.specs.Views.{Part, View, part_of}
+use Rattle.std.proofs.Common.{rules, ap, ◌∙◌}
+use Rattle.gate_turn.specs.Views.{View, part_of}
 use Rattle.gate_turn.proofs.Puts.{one_view}
 use Rattle.gate_turn.proofs.Moves.{draws, serves}
 use Rattle.gate_turn.proofs.lock.TurnLock.wait_turn.Goals as goal

@@ -1,6 +1,5 @@
-use Rattle.std.proofs.Common.{rules, ◌≡◌, ℕ, ◌+◌, ◌-◌, ◌<◌, length, Option, Some, None, refl, sym, ap, ◌∙◌, subst, arith}
-use Rattle.std.proofs.lemmas.Option.{none-some, same_Some}
-use Rattle.gate_turn.specs.Places.{InPlace}
+use Rattle.std.proofs.Common.{rules, ◌≡◌, ◌-◌, length, Some, sym, ap, ◌∙◌, arith}
+use Rattle.std.proofs.lemmas.Option.{same_Some}
 use Rattle.gate_turn.proofs.Placed.{set_in_place}
 use Rattle.gate_turn.proofs.passes.Passes.give.Goals as goal
 

@@ -1,6 +1,5 @@
-use Rattle.std.proofs.Common.{rules, ◌≡◌, ℕ, ◌+◌, ◌-◌, ◌<◌, length, Option, Some, None, refl, sym, ap, ◌∙◌, subst, arith}
-use Rattle.std.proofs.lemmas.Option.{none-some, same_Some}
-use Rattle.gate_turn.specs.Places.{InPlace}
+use Rattle.std.proofs.Common.{rules, ◌≡◌, ◌-◌, length, sym, ◌∙◌, arith}
+use Rattle.std.proofs.lemmas.Option.{none-some}
 use Rattle.gate_turn.proofs.Placed.{set_in_place, if_some, at_place}
 use Rattle.gate_turn.proofs.passes.Passes.take.Goals as goal
 
