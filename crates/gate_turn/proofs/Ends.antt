@@ -16,7 +16,7 @@ use Rattle.gate_turn.proofs.Puts.{put, put_here, put_else, put_each, within, onl
 use Rattle.gate_turn.proofs.Histories.{begins_self, none_beyond, entries_of-append}
 use Rattle.gate_turn.proofs.Layers.{refits, turn_put}
 use Rattle.gate_turn.specs.Steps.{Found, Closed, split_left, split_right}
-use Rattle.gate_turn.proofs.Moves.{mine, fits_mine, grown_same, same_ticket}
+use Rattle.gate_turn.proofs.Moves.{mine, fits_mine, grown_same, same_ticket, found_in}
 
 one_of : (n : ℕ) → In 1 n → n ≡ 1
 one_of n h = omega (arith, h.from_one, h.up_to)
@@ -392,28 +392,20 @@ module _ {T : Type 0} (tells : T → Account) (opened : Account) where
         let i = same_in o.holder o.inside in
         absurd (none-some r.log (sym (free o.holder i) ∙ (ap (λ (p : Part). p.held) (sym (part_is o.holder i)) ∙ o.held)))) r.turn
 
+    fits : (n : ℕ) → In made n → Fits opened r.log r.top n (known n)
+    fits n i = subst (Fits opened r.log r.top n) (part_is n i) (r.each n (same_back n i))
+
     pub closes : Closed known made opened (tells all_home.value)
     closes = let h = all_home in let g = r.grown in
         let now : History = (tells h.value).history in
         let log : r.log ≡ now = sym h.history in
         record {
-          found = λ n i. let f = subst (Fits opened r.log r.top n) (part_is n i) (r.each n (same_back n i)) in found_in (known n) n h f;
-          opened = λ n i. (subst (Fits opened r.log r.top n) (part_is n i) (r.each n (same_back n i))).opened;
+          found = λ n i. found_in tells opened s r n (known n) (fits n i) h;
+          opened = λ n i. (fits n i).opened;
           more = g.more;
           behind = ap (λ (l : History). l.made) (sym log) ∙ g.behind;
           authors = subst (λ m. AllByRecursion (λ (e : Entry). In m e.sender) g.more) all_made g.authors;
           marked = λ e. ⊎_elim (λ a. inl a) (λ a. let i = same_in a.0 a.1 in inr (a.0, i, ap (λ (p : Part). p.ended) (sym (part_is a.0 i)) ∙ a.2))
               (g.marked (ap (λ (l : History). l.finished) log ∙ e));
           once = λ m n i j e f. g.once m n (same_back m i) (same_back n j) (ap (λ (p : Part). p.ended) (part_is m i) ∙ e) (ap (λ (p : Part). p.ended) (part_is n j) ∙ f);
-        }
-      where
-        found_in : (p : Part) (n : ℕ) (h : Home tells r.part opened r.made r.log r.top s.homes) → Fits opened r.log r.top n p → Found p (tells h.value)
-        found_in p n h f = record {
-          seen = subst (BeginsHistory p.seen) (sym h.history) f.seen;
-          looked = subst (λ (l : History). p.looked ≤ length l.made) (sym h.history) f.looked;
-          mine = subst (λ (l : History). p.mine ≡ entries_of l.made p.number) (sym h.history) (f.mine ∙ ap (entries_of r.log.made) (sym f.number));
-          ended = λ e. ap (λ (l : History). l.finished) h.history ∙ f.ended e;
-          faults = subst (λ k. p.faults ≤ k) (sym h.faults) f.faults;
-          begins = subst (λ (o : Account). BeginsHistory o.history (tells h.value).history) (sym f.opened) (subst (BeginsHistory opened.history) (sym h.history) r.grown.begins);
-          sound = subst (λ o. Sound o (tells h.value)) (sym f.opened) h.sound;
         }

@@ -141,13 +141,14 @@ module _ {T : Type 0} (tells : T → Account) (opening : Account) where
   served_is s r n t i ticket same = let w = r.queued.waits n t i ticket in
       one_turn r.now t (2 ^ 64) w.0 (omega (arith, r.queued.count, tickets_few r.part r.made, r.few, w.1)) same
 
-  pub finds : (s : St) (r : Rule s) (id : ℕ) (p : Part) → get_elem? s.views id ≡ some (p ∷ []) → (h : Home tells r.part opening r.made r.log r.top s.homes) → Found p (tells h.value)
-  finds s r id p at h = let f = fits_mine s r id p at in
+  -- what a part that fits finds in the value at home
+  pub found_in : (s : St) (r : Rule s) (n : ℕ) (p : Part) → Fits opening r.log r.top n p → (h : Home tells r.part opening r.made r.log r.top s.homes) → Found p (tells h.value)
+  found_in s r n p f h =
       let log : r.log ≡ (tells h.value).history = sym h.history in
       record {
         seen = subst (BeginsHistory p.seen) log f.seen;
         looked = subst (λ (l : History). p.looked ≤ length l.made) log f.looked;
-        mine = subst (λ (l : History). p.mine ≡ entries_of l.made p.number) log f.mine;
+        mine = subst (λ (l : History). p.mine ≡ entries_of l.made p.number) log (f.mine ∙ ap (entries_of r.log.made) (sym f.number));
         ended = λ e. ap (λ (l : History). l.finished) (sym log) ∙ f.ended e;
         faults = subst (λ k. p.faults ≤ k) (sym h.faults) f.faults;
         begins = subst (λ (o : Account). BeginsHistory o.history (tells h.value).history) (sym f.opened) (subst (BeginsHistory opening.history) log r.grown.begins);
@@ -199,7 +200,7 @@ module _ {T : Type 0} (tells : T → Account) (opening : Account) where
           turn = inr (turn_begins tells r.part opening r.made r.log r.top r.now p.number s.homes (set s.homes 0 none) q sits.inside
               (ap Some h.history) mine_is h.faults (ap (λ hs. set hs 0 none) h.home) h);
         }),
-        record { value = h.value; found = finds s r id p at h; view = refl; slot = ap (λ c. (0, Some h.value) ∷ c) no_slot },
+        record { value = h.value; found = found_in s r p.number p f h; view = refl; slot = ap (λ c. (0, Some h.value) ∷ c) no_slot },
       )
 
   pub serves : (slots id : ℕ) (me : Mine T) (t : ℕ) → me.0 ≡ part_of me.0 ∷ [] → me.1 ≡ [] → (part_of me.0).ticket ≡ Some t → (part_of me.0).held ≡ None

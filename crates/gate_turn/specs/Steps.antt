@@ -1,5 +1,6 @@
--- What each kind of step on the lock's words tells its pass: of the step, the pass's view and slots before, the number found
--- and its view and slots after. The loads and the add on the word `ticket` are step 0, on `serving` step 1, on `count` step 2.
+-- What a pass finds where it gets the turn, what it may give back, and what is known once all are back; and what each kind of
+-- step on the lock's words tells: of the step, the pass's view and slots before, the number found (at a store, the number
+-- stored), and the view and slots after.
 use Rattle.std.specs.Prelude.{◌≡◌, ◌≢◌, ◌⊎◌, ℕ, ◌%◌, ◌^◌, ◌≤◌, true, List, [], ◌∷◌, ◌++◌, length, Option, Some}
 use Rattle.std.specs.List.{AllByRecursion}
 use Rattle.atomic_table.specs.Table.{Me, Step}
