@@ -20,6 +20,36 @@ const FIVE: Event<'static> = Event::Message(&[5]);
 
 const NO_NUMBER: Event<'static> = Event::Announce(Announcer::InFlow, None);
 
+/// One entry of each of two senders.
+const JOURNAL: [Entry<'static>; 2] = [
+    Entry {
+        sender: 1,
+        own_number: 1,
+        payload: &[1],
+    },
+    Entry {
+        sender: 2,
+        own_number: 1,
+        payload: &[2],
+    },
+];
+
+/// What is numbered behind announcements of 3, of none and of 9.
+const NUMBERS: [Numbered<'static>; 3] = [
+    Numbered {
+        number: 3,
+        payload: &[2],
+    },
+    Numbered {
+        number: 4,
+        payload: &[3],
+    },
+    Numbered {
+        number: 9,
+        payload: &[5],
+    },
+];
+
 /// What a handshake announces.
 fn opens(number: u64) -> Event<'static> {
     Event::Announce(Announcer::Handshake, Some(number))
@@ -102,30 +132,18 @@ fn grows_over_connections(rt: HostRuntime) -> Result<(), Fail> {
 
 #[test]
 fn judges_connections(rt: HostRuntime) -> Result<(), Fail> {
-    let journal = [
-        Entry {
-            sender: 1,
-            own_number: 1,
-            payload: &[1],
-        },
-        Entry {
-            sender: 2,
-            own_number: 1,
-            payload: &[2],
-        },
-    ];
     assert!(rt; !never_back(5, &[opens(3)]), "goes back");
     assert!(rt; !never_back(5, &[NO_NUMBER]), "has no number");
-    assert!(rt; is_true(&journal, &[opens(3), announce(1), ONE, TWO, announce(3)]));
+    assert!(rt; is_true(&JOURNAL, &[opens(3), announce(1), ONE, TWO, announce(3)]));
     assert!(rt;
-        !is_true(&journal, &[announce(1152921504606846976)]),
+        !is_true(&JOURNAL, &[announce(1152921504606846976)]),
         "is above the journal"
     );
     assert!(rt;
-        !is_true(&journal, &[opens(3), TWO]),
+        !is_true(&JOURNAL, &[opens(3), TWO]),
         "is sent again under the live number"
     );
-    assert!(rt; !is_true(&journal, &[opens(1), TWO]), "is another entry");
+    assert!(rt; !is_true(&JOURNAL, &[opens(1), TWO]), "is another entry");
 
     let messages = numbering(
         rt.alloc(),
@@ -140,22 +158,8 @@ fn judges_connections(rt: HostRuntime) -> Result<(), Fail> {
             FIVE,
         ],
     )?;
-    let numbers = [
-        Numbered {
-            number: 3,
-            payload: &[2],
-        },
-        Numbered {
-            number: 4,
-            payload: &[3],
-        },
-        Numbered {
-            number: 9,
-            payload: &[5],
-        },
-    ];
     assert!(rt;
-        messages.as_slice() == numbers.as_slice(),
+        messages.as_slice() == NUMBERS.as_slice(),
         "numbers behind announcements"
     );
     Ok(())
