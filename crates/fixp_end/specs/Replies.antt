@@ -5,7 +5,7 @@ use Rattle.std.specs.Str.{bytes_eq}
 use Rattle.fixp_msgs.specs.declared.flow.Flow.{Flow}
 use Rattle.fixp_msgs.specs.declared.flow.Flow.TheVariants as flows
 use Rattle.fixp_msgs.specs.Flow.{flow_code}
-use Rattle.fixp_msgs.specs.Message.{Message, negotiate, negotiation_response, establish, establishment_ack, sequence, unsequenced_heartbeat, terminate}
+use Rattle.fixp_msgs.specs.Message.{Message, negotiate, negotiation_response, negotiation_reject, establish, establishment_ack, establishment_reject, sequence, unsequenced_heartbeat, retransmit_request, retransmission, retransmit_reject, applied, not_applied, finished_sending, finished_receiving, terminate}
 use Rattle.fixp_end.specs.declared.config.Role.{Role}
 use Rattle.fixp_end.specs.declared.config.Role.TheVariants.{Acceptor}
 use Rattle.fixp_end.specs.declared.config.EndConfig.{EndConfig}
@@ -18,7 +18,7 @@ use Rattle.fixp_end.specs.declared.ending.Ending.{Ending}
 use Rattle.fixp_end.specs.declared.ending.Ending.TheVariants as endings
 use Rattle.fixp_end.specs.declared.config.Facts.{Facts}
 use Rattle.fixp_end.specs.Phases.{is_idle, is_established}
-use Rattle.fixp_end.specs.Hearing.{Said, application, session, wrong_order, too_short, unread}
+use Rattle.fixp_end.specs.Hearing.{Said, application, session, wrong_order, too_short, unknown}
 
 -- what an end does at an event: the act of its caller, the messages written, the facts from then on, and
 -- the connection's ending, if this is it
@@ -100,10 +100,19 @@ rows_of cfg most f (session unsequenced_heartbeat) at = record { applies = is_id
 rows_of cfg most f (session (terminate id code reason)) at =
     record { applies = bytes_eq id cfg.session; outcome = ends cfg f 1 (endings.PeerTerminated code) } ∷ []
 rows_of cfg most f (session (negotiation_response id timestamp flow credentials)) at = []
+rows_of cfg most f (session (negotiation_reject id timestamp code reason)) at = []
 rows_of cfg most f (session (establishment_ack id timestamp keepalive next)) at = []
+rows_of cfg most f (session (establishment_reject id timestamp code reason)) at = []
+rows_of cfg most f (session (retransmit_request id timestamp first count)) at = []
+rows_of cfg most f (session (retransmission id next timestamp count)) at = []
+rows_of cfg most f (session (retransmit_reject id timestamp code reason)) at = []
+rows_of cfg most f (session (applied first count)) at = []
+rows_of cfg most f (session (not_applied first count)) at = []
+rows_of cfg most f (session (finished_sending id last)) at = []
+rows_of cfg most f (session (finished_receiving id)) at = []
 rows_of cfg most f wrong_order at = record { applies = true; outcome = breaks cfg f (BadFrame at) } ∷ []
 rows_of cfg most f too_short at = record { applies = true; outcome = breaks cfg f (BadFrame at) } ∷ []
-rows_of cfg most f (unread template) at = []
+rows_of cfg most f (unknown template) at = []
 
 -- the configuration whose rows are built: an acceptor that reads an unsequenced flow and sends none
 abbrev pub is_server_of : Role → Flow → Flow → Bool

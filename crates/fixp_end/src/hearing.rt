@@ -4,7 +4,7 @@ ghost use Rattle.std.specs.Prelude.{◌≤◌, length};
 ghost use Rattle.fixp_end.specs.Hearing.{Says, said_by};
 
 use fixp_msgs::{FrameKind, MsgFault, SessionMsg, kind, read};
-use sofh_frame::Order;
+use sbe_prim::Order;
 
 /// What the message of a frame says.
 #[derive(Clone, Copy, Debug)]
@@ -17,8 +17,8 @@ pub enum Heard<'a> {
     WrongOrder,
     /// It is a session message whose block or data do not stand whole in it.
     TooShort,
-    /// It is a session message with a template that is not read yet.
-    Unread(u16),
+    /// It is a session message with a template that none has.
+    Unknown(u16),
 }
 
 /// What the frame's message says. `message` begins with its SBE header of 8 bytes.
@@ -32,7 +32,7 @@ pub fn hear(order: Order, message: &[u8]) -> Heard<'_>
         FrameKind::Session => match read(message) {
             Ok(said) => Heard::Session(said),
             Err(MsgFault::Short) => Heard::TooShort,
-            Err(MsgFault::NotBuilt { id }) => Heard::Unread(id),
+            Err(MsgFault::BadTemplate { id }) => Heard::Unknown(id),
         },
     }
 }

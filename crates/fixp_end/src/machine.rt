@@ -15,7 +15,7 @@ use crate::output::Output;
 use crate::phase::Phase;
 use crate::replies::{Reply, Say, reply_to, reply_to_bad_frame};
 use fixp_msgs::{EstablishmentAck, NegotiationResponse, SessionMsg, Terminate, write};
-use sofh_frame::Order;
+use sbe_prim::Order;
 use std::alloc::{AllocError, Global};
 use std::marker::Model;
 

@@ -206,9 +206,17 @@ fn on_session(cfg: &EndConfig, facts: Facts, m: &SessionMsg<'_>) -> Reply
         SessionMsg::Sequence(_) => on_sequence(facts),
         SessionMsg::UnsequencedHeartbeat(_) => on_heartbeat(facts),
         SessionMsg::Terminate(m) => on_terminate(cfg, facts, m),
-        SessionMsg::NegotiationResponse(_) | SessionMsg::EstablishmentAck(_) => Reply::not_built(
-            facts,
-        ),
+        SessionMsg::NegotiationResponse(_)
+        | SessionMsg::NegotiationReject(_)
+        | SessionMsg::EstablishmentAck(_)
+        | SessionMsg::EstablishmentReject(_)
+        | SessionMsg::RetransmitRequest(_)
+        | SessionMsg::Retransmission(_)
+        | SessionMsg::RetransmitReject(_)
+        | SessionMsg::Applied(_)
+        | SessionMsg::NotApplied(_)
+        | SessionMsg::FinishedSending(_)
+        | SessionMsg::FinishedReceiving(_) => Reply::not_built(facts),
     }
 }
 
@@ -224,7 +232,7 @@ pub fn reply_to(cfg: &EndConfig, most: u64, facts: Facts, heard: &Heard<'_>, at:
         Heard::Application => on_application(most, facts),
         Heard::Session(m) => on_session(cfg, facts, m),
         Heard::WrongOrder | Heard::TooShort => Reply::breaks(facts, Violation::BadFrame { at }),
-        Heard::Unread(_) => Reply::not_built(facts),
+        Heard::Unknown(_) => Reply::not_built(facts),
     }
 }
 

@@ -1,3 +1,4 @@
 pub mod Rows
 pub mod Written
 pub mod Sizes
+pub mod Found

@@ -1,5 +1,5 @@
 -- The bytes of a legal message: their number, and that they spell the message.
-use Rattle.std.proofs.Common.{◌≡◌, ℕ, ◌+◌, ◌<◌, ◌≤◌, ◌^◌, List, [], ◌∷◌, ◌++◌, Option, Some, None, IfSome, unwrap_or, length, lit<, take, drop, refl, sym, ap, ◌∙◌, subst, arith, append_assoc, length-append}
+use Rattle.std.proofs.Common.{◌≡◌, ℕ, ◌+◌, ◌<◌, ◌≤◌, List, [], ◌∷◌, ◌++◌, Option, Some, None, IfSome, unwrap_or, length, take, drop, refl, sym, ap, ◌∙◌, subst, arith, append_assoc, length-append}
 use Rattle.std.proofs.Math.Seq.{drop-append_seam, take-append_seam}
 use Rattle.std.proofs.lemmas.List.{append-nil}
 use Rattle.std.proofs.lemmas.List.Sums.{sum_by-cons}
@@ -10,9 +10,10 @@ use Rattle.std.specs.Int.{w16, w64, from_le_bytes, to_le_bytes}
 use Rattle.std.specs.List.{flat_map, AllByRecursion}
 use Rattle.fixp_msgs.specs.Header.{block_length_in}
 use Rattle.fixp_msgs.specs.Message.{Message}
-use Rattle.fixp_msgs.specs.Table.{Field, row_of, size_of, block_of, null}
+use Rattle.fixp_msgs.specs.Table.{Field, row_of, size_of, block_size, null}
 use Rattle.fixp_msgs.specs.Grammar.{Spells, IsBlock, Holds, HoldsAll, HasDatum, unless_null}
 use Rattle.fixp_msgs.specs.Canonical.{field_bytes, with_datum, header_bytes, message_bytes, FitsField, IsLegal}
+use Rattle.fixp_msgs.proofs.Rows.{bounds}
 
 length-field_bytes : (f : Field) → FitsField f → length (field_bytes f) ≡ size_of f
 length-field_bytes (Field.identifier id) fits = fits
@@ -69,20 +70,6 @@ has_datum (Some datum) after short =
       value = subst (λ n. datum ≡ take n (datum ++ after)) (sym size) (sym (take-append_seam datum after));
     }
 
--- the header's numbers are small
-record IsSmall (m : Message) : Type 0 where
-  block : block_of m < 2 ^ 16
-  template : (row_of m).template < 2 ^ 16
-
-is_small : (m : Message) → IsSmall m
-is_small (Message.negotiate _ _ _ _) = record { block = lit< tt; template = lit< tt }
-is_small (Message.negotiation_response _ _ _ _) = record { block = lit< tt; template = lit< tt }
-is_small (Message.establish _ _ _ _ _) = record { block = lit< tt; template = lit< tt }
-is_small (Message.establishment_ack _ _ _ _) = record { block = lit< tt; template = lit< tt }
-is_small (Message.sequence _) = record { block = lit< tt; template = lit< tt }
-is_small Message.unsequenced_heartbeat = record { block = lit< tt; template = lit< tt }
-is_small (Message.terminate _ _ _) = record { block = lit< tt; template = lit< tt }
-
 -- the datum stands behind what was before it
 with_datum-append : (bytes : List ℕ) (datum : Option (List ℕ)) (after : List ℕ) → with_datum bytes datum ++ after ≡ bytes ++ (with_datum [] datum ++ after)
 with_datum-append bytes None after = refl
@@ -100,25 +87,28 @@ is_block bytes block behind size rest all stated here =
 
 pub written_spells : (m : Message) (after : List ℕ) → IsLegal m → Spells (message_bytes m ++ after) m
 written_spells m after legal =
-    let small = is_small m in
-    let size : from_le_bytes w16 (to_le_bytes w16 (block_of m)) ≡ block_of m = from_le_bytes-to_le_bytes_2 (block_of m) small.block in
-    let block : List ℕ = flat_map field_bytes (row_of m).fields in
-    let behind : List ℕ = with_datum [] (row_of m).datum ++ after in
-    let whole : message_bytes m ++ after ≡ header_bytes m ++ (block ++ behind) = with_datum-append (header_bytes m ++ block) (row_of m).datum after in
+    let r = row_of m in
+    let small = bounds m in
+    let size : from_le_bytes w16 (to_le_bytes w16 (block_size r)) ≡ block_size r = from_le_bytes-to_le_bytes_2 (block_size r) (omega (arith, small.block)) in
+    let block : List ℕ = flat_map field_bytes r.fields in
+    let behind : List ℕ = with_datum [] r.datum ++ after in
+    let whole : message_bytes m ++ after ≡ header_bytes r ++ (block ++ behind) = with_datum-append (header_bytes r ++ block) r.datum after in
     let P : List ℕ → Type 0 = λ bytes. Spells bytes m in
     subst P (sym whole) (record {
-      template = from_le_bytes-to_le_bytes_2 (row_of m).template small.template;
+      template = from_le_bytes-to_le_bytes_2 r.template (omega (arith, small.template));
       schema = refl;
-      block = block;
-      behind = behind;
-      stands = is_block (header_bytes m ++ (block ++ behind)) block behind (block_of m) refl (omega (arith, length-append block behind)) size (length-fields (row_of m).fields legal.fields);
-      fields = holds_all (row_of m).fields [] legal.fields;
-      datum = has_datum (row_of m).datum after legal.datum;
+      body = record {
+        block = block;
+        behind = behind;
+        stands = is_block (header_bytes r ++ (block ++ behind)) block behind (block_size r) refl (omega (arith, length-append block behind)) size (length-fields r.fields legal.fields);
+        fields = holds_all r.fields [] legal.fields;
+        datum = has_datum r.datum after legal.datum;
+      };
     })
 
 -- parts that were put one after another, as one list
-pub joined : (head id t k o : List ℕ) {x₀ x₁ x₂ x₃ x₄ : List ℕ} → x₀ ≡ head → x₁ ≡ x₀ ++ id → x₂ ≡ x₁ ++ t → x₃ ≡ x₂ ++ k → x₄ ≡ x₃ ++ o → x₄ ≡ head ++ (id ++ (t ++ (k ++ o)))
-joined head id t k o a b c d e = rw (e, d, c, b, a) (simp append_assoc)
+pub joined : (head id t k o : List ℕ) {x₀ x₁ x₂ : List ℕ} → x₀ ≡ head ++ (id ++ t) → x₁ ≡ x₀ ++ k → x₂ ≡ x₁ ++ o → x₂ ≡ head ++ (id ++ (t ++ (k ++ o)))
+joined head id t k o a b c = rw (c, b, a) (simp append_assoc)
 
 -- the same with nothing behind it
 pub message_spells : (m : Message) → IsLegal m → Spells (message_bytes m) m

@@ -5,7 +5,7 @@ use Rattle.std.specs.Int.{w8, w16, w32, w64, to_le_bytes, to_be_bytes}
 use Rattle.std.specs.List.{flat_map, AllByRecursion}
 use Rattle.fixp_msgs.specs.Header.{session_schema}
 use Rattle.fixp_msgs.specs.Message.{Message}
-use Rattle.fixp_msgs.specs.Table.{Field, row_of, block_of, null}
+use Rattle.fixp_msgs.specs.Table.{Field, Row, row_of, block_size, null}
 
 abbrev pub field_bytes : Field → List ℕ
 field_bytes (Field.identifier id) = id
@@ -20,28 +20,37 @@ with_datum bytes None = bytes
 with_datum bytes (Some datum) = bytes ++ to_le_bytes w16 (length datum) ++ datum
 
 -- the header: the block's length, the template id, the schema id and version 0
-abbrev pub header_bytes : Message → List ℕ
-header_bytes m = to_le_bytes w16 (block_of m) ++ to_le_bytes w16 (row_of m).template ++ to_le_bytes w16 session_schema ++ to_le_bytes w16 0
+abbrev pub header_bytes : Row → List ℕ
+header_bytes r = to_le_bytes w16 (block_size r) ++ to_le_bytes w16 r.template ++ to_le_bytes w16 session_schema ++ to_le_bytes w16 0
 
-abbrev pub message_bytes : Message → List ℕ
-message_bytes m = with_datum (header_bytes m ++ flat_map field_bytes (row_of m).fields) (row_of m).datum
+abbrev pub row_bytes : Row → List ℕ
+row_bytes r = with_datum (header_bytes r ++ flat_map field_bytes r.fields) r.datum
 
 -- the framing header (Simple Open Framing Header 1.0): the length of the whole frame, itself counted,
 -- and the encoding type of little-endian SBE 1.0
 abbrev pub framing_bytes : ℕ → List ℕ
 framing_bytes size = to_be_bytes w32 size ++ to_be_bytes w16 0xEB50
 
+abbrev pub row_frame : Row → List ℕ
+row_frame r = framing_bytes (6 + length (row_bytes r)) ++ row_bytes r
+
+abbrev pub message_bytes : Message → List ℕ
+message_bytes m = row_bytes (row_of m)
+
 abbrev pub frame_bytes : Message → List ℕ
-frame_bytes m = framing_bytes (6 + length (message_bytes m)) ++ message_bytes m
+frame_bytes m = row_frame (row_of m)
 
 -- a datum has at most 2,048 bytes (this project's profile), and a number that is there is not the null value
 abbrev pub IsWritableField : Field → Type 0
 IsWritableField (Field.optional n) = n ≢ Some null
 IsWritableField _ = Unit {0}
 
-pub record IsWritable (m : Message) : Type 0 where
-  pub numbers : AllByRecursion IsWritableField (row_of m).fields
-  pub datum : IfSome (row_of m).datum (λ datum. length datum ≤ 2048)
+pub record IsWritableRow (r : Row) : Type 0 where
+  pub numbers : AllByRecursion IsWritableField r.fields
+  pub datum : IfSome r.datum (λ datum. length datum ≤ 2048)
+
+abbrev pub IsWritable : Message → Type 0
+IsWritable m = IsWritableRow (row_of m)
 
 -- a writable message whose identifier has 16 bytes and whose numbers fit their widths
 abbrev pub FitsField : Field → Type 0
@@ -51,6 +60,9 @@ FitsField (Field.u32 n) = n < 2 ^ 32
 FitsField (Field.u64 n) = n < 2 ^ 64
 FitsField (Field.optional n) = IfSome n (λ k. k < null)
 
-pub record IsLegal (m : Message) : Type 0 where
-  pub fields : AllByRecursion FitsField (row_of m).fields
-  pub datum : IfSome (row_of m).datum (λ datum. length datum ≤ 2048)
+pub record IsLegalRow (r : Row) : Type 0 where
+  pub fields : AllByRecursion FitsField r.fields
+  pub datum : IfSome r.datum (λ datum. length datum ≤ 2048)
+
+abbrev pub IsLegal : Message → Type 0
+IsLegal m = IsLegalRow (row_of m)

@@ -1,10 +1,10 @@
 -- Which bytes spell which session message (SBE 1.0: "Message structure", "Field encoding",
 -- "Variable-length data"). The bytes begin with the header; every number is little-endian.
-use Rattle.std.specs.Prelude.{◌≡◌, ℕ, ◌+◌, ◌≤◌, ◌==◌, List, [], ◌∷◌, Option, Some, None, length, take, drop, if◌then◌else◌}
+use Rattle.std.specs.Prelude.{◌≡◌, ℕ, ◌+◌, ◌≤◌, ◌==◌, List, [], ◌∷◌, Option, Some, None, length, take, drop, sum_by, if◌then◌else◌}
 use Rattle.std.specs.Int.{w8, w16, w32, w64, from_le_bytes}
 use Rattle.fixp_msgs.specs.Header.{block_length_in, template_in, schema_in, session_schema}
 use Rattle.fixp_msgs.specs.Message.{Message}
-use Rattle.fixp_msgs.specs.Table.{Field, row_of, size_of, block_of, null}
+use Rattle.fixp_msgs.specs.Table.{Field, row_of, size_of, null}
 
 -- a number that may be missing: the null value says that it is
 abbrev pub unless_null : ℕ → Option ℕ
@@ -40,14 +40,18 @@ abbrev pub HasDatum : List ℕ → Option (List ℕ) → Type 0
 HasDatum behind None = Unit {0}
 HasDatum behind (Some datum) = BeginsWithDatum behind datum
 
--- The bytes spell the message: the header names its template and the session's schema, the stated
--- block is whole and holds its fields, and its datum stands behind the block. A block may be longer
--- than its fields, bytes may follow the last element, and the version may be any.
+-- behind the header the stated block is whole and holds these fields, and this datum stands behind the block
+pub record HasBody (bytes : List ℕ) (values : List Field) (variable : Option (List ℕ)) : Type 0 where
+  pub block : List ℕ
+  pub behind : List ℕ
+  pub stands : IsBlock bytes (sum_by size_of values) block behind
+  pub fields : HoldsAll block 0 values
+  pub datum : HasDatum behind variable
+
+-- The bytes spell the message: the header names its template and the session's schema, and the body has
+-- its fields and its datum. A block may be longer than its fields, bytes may follow the last element, and
+-- the version may be any.
 pub record Spells (bytes : List ℕ) (m : Message) : Type 0 where
   pub template : template_in bytes ≡ (row_of m).template
   pub schema : schema_in bytes ≡ session_schema
-  pub block : List ℕ
-  pub behind : List ℕ
-  pub stands : IsBlock bytes (block_of m) block behind
-  pub fields : HoldsAll block 0 (row_of m).fields
-  pub datum : HasDatum behind (row_of m).datum
+  pub body : HasBody bytes (row_of m).fields (row_of m).datum

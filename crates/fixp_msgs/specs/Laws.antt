@@ -1,16 +1,21 @@
 -- The laws of the session messages.
-use Rattle.std.specs.Prelude.{◌≡◌, ℕ, ◌≤◌, List, ◌++◌, length, drop}
+use Rattle.std.specs.Prelude.{◌≡◌, ◌↔◌, ℕ, ◌≤◌, List, ◌++◌, length, drop, Some}
 use Rattle.std.specs.Int.{w16, w32, from_be_bytes}
 use Rattle.sbe_prim.specs.declared.Order.TheVariants.{Little}
 use Rattle.fixp_msgs.specs.declared.frames.FrameKind.TheVariants.{Session}
 use Rattle.fixp_msgs.specs.Header.{kind_of}
 use Rattle.fixp_msgs.specs.Message.{Message}
 use Rattle.fixp_msgs.specs.Grammar.{Spells}
+use Rattle.fixp_msgs.specs.Spelled.{message_in}
 use Rattle.fixp_msgs.specs.Canonical.{message_bytes, frame_bytes, IsLegal}
 
 -- at most one message is spelled by given bytes
 abbrev pub AtMostOneMessage : Type 0
 AtMostOneMessage = (bytes : List ℕ) (a b : Message) → Spells bytes a → Spells bytes b → a ≡ b
+
+-- the message that is spelled is the one that is found, and none is found where none is spelled
+abbrev pub SpelledIsFound : Type 0
+SpelledIsFound = (bytes : List ℕ) (m : Message) → Spells bytes m ↔ (message_in bytes ≡ Some m)
 
 -- what is written is spelled, whatever follows it
 abbrev pub WrittenIsSpelled : Type 0

@@ -3,6 +3,9 @@ pub mod Header
 pub mod Message
 pub mod Table
 pub mod Grammar
+pub mod Spelled
 pub mod Reading
 pub mod Canonical
 pub mod Laws
+pub mod Numbering
+pub mod Counting

@@ -20,37 +20,42 @@ size_of (u32 _) = 4
 size_of (u64 _) = 8
 size_of (optional _) = 8
 
--- a row of the table: the template id, the fields of the block in order without gaps, and the
--- variable data behind the block, if the message has any
+-- a row of the table with a message's values: the template id, the fields of the block in order without gaps,
+-- and the variable data behind the block, if the message has any
 pub record Row : Type 0 where
   pub template : ℕ
   pub fields : List Field
   pub datum : Option (List ℕ)
 
 abbrev pub row_of : Message → Row
-row_of (Message.negotiate session timestamp flow credentials) =
-    record { template = 1; fields = identifier session ∷ u64 timestamp ∷ u8 flow ∷ []; datum = Some credentials }
-row_of (Message.negotiation_response session timestamp flow credentials) =
-    record { template = 2; fields = identifier session ∷ u64 timestamp ∷ u8 flow ∷ []; datum = Some credentials }
-row_of (Message.establish session timestamp keepalive next credentials) =
-    record { template = 4; fields = identifier session ∷ u64 timestamp ∷ u32 keepalive ∷ optional next ∷ []; datum = Some credentials }
-row_of (Message.establishment_ack session timestamp keepalive next) =
-    record { template = 5; fields = identifier session ∷ u64 timestamp ∷ u32 keepalive ∷ optional next ∷ []; datum = None }
-row_of (Message.sequence next) =
-    record { template = 7; fields = u64 next ∷ []; datum = None }
-row_of Message.unsequenced_heartbeat =
-    record { template = 8; fields = []; datum = None }
-row_of (Message.terminate session code reason) =
-    record { template = 16; fields = identifier session ∷ u8 code ∷ []; datum = Some reason }
+row_of (Message.negotiate session timestamp flow credentials) = record { template = 1; fields = identifier session ∷ u64 timestamp ∷ u8 flow ∷ []; datum = Some credentials }
+row_of (Message.negotiation_response session timestamp flow credentials) = record { template = 2; fields = identifier session ∷ u64 timestamp ∷ u8 flow ∷ []; datum = Some credentials }
+row_of (Message.negotiation_reject session timestamp code reason) = record { template = 3; fields = identifier session ∷ u64 timestamp ∷ u8 code ∷ []; datum = Some reason }
+row_of (Message.establish session timestamp keepalive next credentials) = record { template = 4; fields = identifier session ∷ u64 timestamp ∷ u32 keepalive ∷ optional next ∷ []; datum = Some credentials }
+row_of (Message.establishment_ack session timestamp keepalive next) = record { template = 5; fields = identifier session ∷ u64 timestamp ∷ u32 keepalive ∷ optional next ∷ []; datum = None }
+row_of (Message.establishment_reject session timestamp code reason) = record { template = 6; fields = identifier session ∷ u64 timestamp ∷ u8 code ∷ []; datum = Some reason }
+row_of (Message.sequence next) = record { template = 7; fields = u64 next ∷ []; datum = None }
+row_of Message.unsequenced_heartbeat = record { template = 8; fields = []; datum = None }
+row_of (Message.retransmit_request session timestamp first count) = record { template = 9; fields = identifier session ∷ u64 timestamp ∷ u64 first ∷ u32 count ∷ []; datum = None }
+row_of (Message.retransmission session next timestamp count) = record { template = 10; fields = identifier session ∷ u64 next ∷ u64 timestamp ∷ u32 count ∷ []; datum = None }
+row_of (Message.retransmit_reject session timestamp code reason) = record { template = 11; fields = identifier session ∷ u64 timestamp ∷ u8 code ∷ []; datum = Some reason }
+row_of (Message.applied first count) = record { template = 12; fields = u64 first ∷ u32 count ∷ []; datum = None }
+row_of (Message.not_applied first count) = record { template = 13; fields = u64 first ∷ u32 count ∷ []; datum = None }
+row_of (Message.finished_sending session last) = record { template = 14; fields = identifier session ∷ optional last ∷ []; datum = None }
+row_of (Message.finished_receiving session) = record { template = 15; fields = identifier session ∷ []; datum = None }
+row_of (Message.terminate session code reason) = record { template = 16; fields = identifier session ∷ u8 code ∷ []; datum = Some reason }
 
--- the length of a message's block: its fields' bytes
-abbrev pub block_of : Message → ℕ
-block_of m = sum_by size_of (row_of m).fields
+-- the length of a row's block: its fields' bytes
+abbrev pub block_size : Row → ℕ
+block_size r = sum_by size_of r.fields
 
 -- the number that stands for a missing one (SBE 1.0, "Null values": the greatest of the type)
 abbrev pub null : ℕ
 null = 2 ^ 64 - 1
 
--- the templates that are read and written today
-abbrev pub is_built : ℕ → Bool
-is_built id = list_any (nat_eq id) (1 ∷ 2 ∷ 4 ∷ 5 ∷ 7 ∷ 8 ∷ 16 ∷ [])
+-- the templates of the table
+abbrev pub templates : List ℕ
+templates = 1 ∷ 2 ∷ 3 ∷ 4 ∷ 5 ∷ 6 ∷ 7 ∷ 8 ∷ 9 ∷ 10 ∷ 11 ∷ 12 ∷ 13 ∷ 14 ∷ 15 ∷ 16 ∷ []
+
+abbrev pub is_template : ℕ → Bool
+is_template id = list_any (nat_eq id) templates

@@ -1,21 +1,24 @@
 //! Session messages of the FIX Performance Session Layer: their fields, how they are
-//! told from application messages, and their bytes, read and written.
-//! It stands on the byte order of `sbe_prim`.
+//! told from application messages, their bytes, read and written, and the numbers that they imply.
+//! It stands on the frames of `sofh_frame` and the numbering of `session_model`.
 #![tactic(auto)]
 
 mod flow;
 mod frames;
 mod laws;
 mod messages;
+mod numbering;
 mod reading;
 mod writing;
 
 pub use flow::Flow;
 pub use frames::{FrameKind, kind};
-pub use laws::{one_message, written_is_spelled, written_is_whole};
+pub use laws::{one_message, spelled_is_found, written_is_spelled, written_is_whole};
 pub use messages::{
-    Establish, EstablishmentAck, Negotiate, NegotiationResponse, Sequence, SessionMsg, Terminate,
-    UnsequencedHeartbeat,
+    Applied, Establish, EstablishmentAck, EstablishmentReject, FinishedReceiving, FinishedSending,
+    Negotiate, NegotiationReject, NegotiationResponse, NotApplied, Retransmission,
+    RetransmitReject, RetransmitRequest, Sequence, SessionMsg, Terminate, UnsequencedHeartbeat,
 };
+pub use numbering::{Counter, Range};
 pub use reading::{MsgFault, read};
 pub use writing::{size, write};

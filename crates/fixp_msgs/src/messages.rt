@@ -38,6 +38,25 @@ impl NegotiationResponse<'_> {
     pub(crate) const BLOCK: u16 = 25;
 }
 
+/// The server refuses a Negotiate.
+#[derive(Clone, Copy, Debug, PartialEq, Eq)]
+pub struct NegotiationReject<'a> {
+    /// The 16 bytes of the refused request's UUID.
+    pub session_id: [u8; 16],
+    /// The timestamp of the Negotiate that is answered, in nanoseconds.
+    pub request_timestamp: u64,
+    /// Why, as read: 1 unspecified, 2 credentials, 3 flow type not supported, 4 duplicate id.
+    pub code: u8,
+    /// Free bytes, at most 2,048 of them when written.
+    pub reason: &'a [u8],
+}
+
+impl NegotiationReject<'_> {
+    pub(crate) const TEMPLATE: u16 = 3;
+
+    pub(crate) const BLOCK: u16 = 25;
+}
+
 /// The client binds a negotiated session to a connection.
 #[derive(Clone, Copy, Debug, PartialEq, Eq)]
 pub struct Establish<'a> {
@@ -78,6 +97,26 @@ impl EstablishmentAck {
     pub(crate) const BLOCK: u16 = 36;
 }
 
+/// The server refuses an Establish.
+#[derive(Clone, Copy, Debug, PartialEq, Eq)]
+pub struct EstablishmentReject<'a> {
+    /// The 16 bytes of the refused request's UUID.
+    pub session_id: [u8; 16],
+    /// The timestamp of the Establish that is answered, in nanoseconds.
+    pub request_timestamp: u64,
+    /// Why, as read: 1 unspecified, 2 unnegotiated, 3 already established, 4 session blocked,
+    /// 5 keepalive interval, 6 credentials.
+    pub code: u8,
+    /// Free bytes, at most 2,048 of them when written.
+    pub reason: &'a [u8],
+}
+
+impl EstablishmentReject<'_> {
+    pub(crate) const TEMPLATE: u16 = 6;
+
+    pub(crate) const BLOCK: u16 = 25;
+}
+
 /// The number of the sender's next application message; the heartbeat of a numbered flow.
 #[derive(Clone, Copy, Debug, PartialEq, Eq)]
 pub struct Sequence {
@@ -101,6 +140,121 @@ impl UnsequencedHeartbeat {
     pub(crate) const BLOCK: u16 = 0;
 }
 
+/// The receiver asks for messages that it missed.
+#[derive(Clone, Copy, Debug, PartialEq, Eq)]
+pub struct RetransmitRequest {
+    /// The 16 bytes of the session's UUID.
+    pub session_id: [u8; 16],
+    /// Nanoseconds.
+    pub timestamp: u64,
+    /// The first number that is asked for.
+    pub from_seq: u64,
+    /// How many numbers are asked for.
+    pub count: u32,
+}
+
+impl RetransmitRequest {
+    pub(crate) const TEMPLATE: u16 = 9;
+
+    pub(crate) const BLOCK: u16 = 36;
+}
+
+/// The sender announces messages that are sent again.
+#[derive(Clone, Copy, Debug, PartialEq, Eq)]
+pub struct Retransmission {
+    /// The 16 bytes of the session's UUID.
+    pub session_id: [u8; 16],
+    /// The number of the first of them.
+    pub next_seq: u64,
+    /// The timestamp of the RetransmitRequest that is answered, in nanoseconds.
+    pub request_timestamp: u64,
+    /// How many messages are sent again.
+    pub count: u32,
+}
+
+impl Retransmission {
+    pub(crate) const TEMPLATE: u16 = 10;
+
+    pub(crate) const BLOCK: u16 = 36;
+}
+
+/// The sender refuses a RetransmitRequest.
+#[derive(Clone, Copy, Debug, PartialEq, Eq)]
+pub struct RetransmitReject<'a> {
+    /// The 16 bytes of the refused request's UUID.
+    pub session_id: [u8; 16],
+    /// The timestamp of the RetransmitRequest that is answered, in nanoseconds.
+    pub request_timestamp: u64,
+    /// Why, as read: 1 out of range, 2 invalid session, 3 request limit exceeded.
+    pub code: u8,
+    /// Free bytes, at most 2,048 of them when written.
+    pub reason: &'a [u8],
+}
+
+impl RetransmitReject<'_> {
+    pub(crate) const TEMPLATE: u16 = 11;
+
+    pub(crate) const BLOCK: u16 = 25;
+}
+
+/// The receiver of an idempotent flow applied these numbers.
+#[derive(Clone, Copy, Debug, PartialEq, Eq)]
+pub struct Applied {
+    /// The first number.
+    pub from_seq: u64,
+    /// How many numbers.
+    pub count: u32,
+}
+
+impl Applied {
+    pub(crate) const TEMPLATE: u16 = 12;
+
+    pub(crate) const BLOCK: u16 = 12;
+}
+
+/// The receiver of an idempotent flow did not apply these numbers, and will not.
+#[derive(Clone, Copy, Debug, PartialEq, Eq)]
+pub struct NotApplied {
+    /// The first number.
+    pub from_seq: u64,
+    /// How many numbers.
+    pub count: u32,
+}
+
+impl NotApplied {
+    pub(crate) const TEMPLATE: u16 = 13;
+
+    pub(crate) const BLOCK: u16 = 12;
+}
+
+/// The sender's flow has ended.
+#[derive(Clone, Copy, Debug, PartialEq, Eq)]
+pub struct FinishedSending {
+    /// The 16 bytes of the session's UUID.
+    pub session_id: [u8; 16],
+    /// The number of its last application message; none on a flow without numbers.
+    pub last_seq: Option<u64>,
+}
+
+impl FinishedSending {
+    pub(crate) const TEMPLATE: u16 = 14;
+
+    pub(crate) const BLOCK: u16 = 24;
+}
+
+/// The receiver has all of the peer's flow.
+#[derive(Clone, Copy, Debug, PartialEq, Eq)]
+pub struct FinishedReceiving {
+    /// The 16 bytes of the session's UUID.
+    pub session_id: [u8; 16],
+}
+
+impl FinishedReceiving {
+    pub(crate) const TEMPLATE: u16 = 15;
+
+    pub(crate) const BLOCK: u16 = 16;
+}
+
 /// The end of the session's connection.
 #[derive(Clone, Copy, Debug, PartialEq, Eq)]
 pub struct Terminate<'a> {
@@ -119,14 +273,23 @@ impl Terminate<'_> {
     pub(crate) const BLOCK: u16 = 17;
 }
 
-/// A session message that is read and written today.
+/// A session message.
 #[derive(Clone, Copy, Debug, PartialEq, Eq)]
 pub enum SessionMsg<'a> {
     Negotiate(Negotiate<'a>),
     NegotiationResponse(NegotiationResponse<'a>),
+    NegotiationReject(NegotiationReject<'a>),
     Establish(Establish<'a>),
     EstablishmentAck(EstablishmentAck),
+    EstablishmentReject(EstablishmentReject<'a>),
     Sequence(Sequence),
     UnsequencedHeartbeat(UnsequencedHeartbeat),
+    RetransmitRequest(RetransmitRequest),
+    Retransmission(Retransmission),
+    RetransmitReject(RetransmitReject<'a>),
+    Applied(Applied),
+    NotApplied(NotApplied),
+    FinishedSending(FinishedSending),
+    FinishedReceiving(FinishedReceiving),
     Terminate(Terminate<'a>),
 }

@@ -1,28 +1,29 @@
-//! Reading a session message from the bytes behind a frame's encoding type.
+//! Reading a session message from the bytes behind a frame's encoding type. One function reads each template.
 
-ghost use Rattle.std.specs.Prelude.{◌≡◌, ℕ, ◌+◌, ◌≤◌, ◌↔◌, List, length, drop, take, true, false, IfOk, IsOkAnd, IfErr, IsErrOf, IfSome, IfNone};
+ghost use Rattle.std.specs.Prelude.{◌≡◌, ℕ, ◌+◌, ◌≤◌, ◌↔◌, List, [], ◌∷◌, length, drop, take, true, false, Some, IfOk, IsOkAnd, IfErr, IsErrOf, IfSome, IfNone};
 ghost use Rattle.std.specs.Int.{w16, w32, w64, from_le_bytes};
 ghost use Rattle.sbe_prim.specs.declared.Order.TheVariants.{Little};
 ghost use Rattle.fixp_msgs.specs.declared.frames.FrameKind.TheVariants.{Session};
 ghost use Rattle.fixp_msgs.specs.declared.reading.MsgFault.TheVariants as faults;
 ghost use Rattle.fixp_msgs.specs.Header.{kind_of, schema_in, template_in, block_length_in};
 ghost use Rattle.fixp_msgs.specs.Message.{Message, message_of};
-ghost use Rattle.fixp_msgs.specs.Table.{is_built};
-ghost use Rattle.fixp_msgs.specs.Grammar.{Spells, IsBlock, BeginsWithDatum, unless_null};
-ghost use Rattle.fixp_msgs.specs.Reading.{Answers, HasCause, Lacks};
+ghost use Rattle.fixp_msgs.specs.Table.{Field, is_template};
+ghost use Rattle.fixp_msgs.specs.Grammar.{Spells, IsBlock, BeginsWithDatum, HasBody, unless_null};
+ghost use Rattle.fixp_msgs.specs.Reading.{Answers, HasCause, Lacks, Finds};
 
 use crate::messages::{
-    Establish, EstablishmentAck, Negotiate, NegotiationResponse, Sequence, SessionMsg, Terminate,
-    UnsequencedHeartbeat,
+    Applied, Establish, EstablishmentAck, EstablishmentReject, FinishedReceiving, FinishedSending,
+    Negotiate, NegotiationReject, NegotiationResponse, NotApplied, Retransmission,
+    RetransmitReject, RetransmitRequest, Sequence, SessionMsg, Terminate, UnsequencedHeartbeat,
 };
 use thiserror::Error;
 
 /// Why no session message was read.
 #[derive(Clone, Copy, Debug, PartialEq, Eq, Error)]
 pub enum MsgFault {
-    /// The template is none of those that are read today.
-    #[error("session message {id} is not built")]
-    NotBuilt { id: u16 },
+    /// The template is none of the session's, which are 1 to 16.
+    #[error("no session message has template {id}")]
+    BadTemplate { id: u16 },
     /// The block or the data of the template do not stand whole in the bytes.
     #[error("session message too short")]
     Short,
@@ -38,13 +39,14 @@ pub fn read<'a>(message: &'a [u8]) -> Result<SessionMsg<'a>, MsgFault>
     ensures only { (m : Message) → Spells message.now m → IsOkAnd result (λ r. message_of r ≡ m) }
     // A fault has its cause, and comes wherever it has.
     ensures cause { IfErr result (HasCause message.now) }
-    ensures not_built { is_built (template_in message.now) ≡ false → IsErrOf result (faults.NotBuilt (template_in message.now)) }
+    ensures bad_template { is_template (template_in message.now) ≡ false → IsErrOf result (faults.BadTemplate (template_in message.now)) }
     ensures short { HasCause message.now faults.Short → IsErrOf result faults.Short }
 {
     by_template(message)
 }
 
-fn by_template<'a>(message: &'a [u8]) -> Result<SessionMsg<'a>, MsgFault>
+/// The same, as one fact.
+pub(crate) fn by_template<'a>(message: &'a [u8]) -> Result<SessionMsg<'a>, MsgFault>
     requires header { 8 ≤ length message.now }
     requires session { schema_in message.now ≡ 0xF011 }
     ensures { Answers message.now result }
@@ -52,12 +54,21 @@ fn by_template<'a>(message: &'a [u8]) -> Result<SessionMsg<'a>, MsgFault>
     match u16_at(message, 2) {
         Negotiate::TEMPLATE => negotiate(message).ok_or(MsgFault::Short),
         NegotiationResponse::TEMPLATE => negotiation_response(message).ok_or(MsgFault::Short),
+        NegotiationReject::TEMPLATE => negotiation_reject(message).ok_or(MsgFault::Short),
         Establish::TEMPLATE => establish(message).ok_or(MsgFault::Short),
         EstablishmentAck::TEMPLATE => establishment_ack(message).ok_or(MsgFault::Short),
+        EstablishmentReject::TEMPLATE => establishment_reject(message).ok_or(MsgFault::Short),
         Sequence::TEMPLATE => sequence(message).ok_or(MsgFault::Short),
         UnsequencedHeartbeat::TEMPLATE => unsequenced_heartbeat(message).ok_or(MsgFault::Short),
+        RetransmitRequest::TEMPLATE => retransmit_request(message).ok_or(MsgFault::Short),
+        Retransmission::TEMPLATE => retransmission(message).ok_or(MsgFault::Short),
+        RetransmitReject::TEMPLATE => retransmit_reject(message).ok_or(MsgFault::Short),
+        Applied::TEMPLATE => applied(message).ok_or(MsgFault::Short),
+        NotApplied::TEMPLATE => not_applied(message).ok_or(MsgFault::Short),
+        FinishedSending::TEMPLATE => finished_sending(message).ok_or(MsgFault::Short),
+        FinishedReceiving::TEMPLATE => finished_receiving(message).ok_or(MsgFault::Short),
         Terminate::TEMPLATE => terminate(message).ok_or(MsgFault::Short),
-        id => Err(MsgFault::NotBuilt { id }),
+        id => Err(MsgFault::BadTemplate { id }),
     }
 }
 
@@ -153,44 +164,71 @@ fn parts_and_datum(message: &[u8], needed: usize) -> Option<(&[u8], &[u8])>
     }
 }
 
-fn negotiate<'a>(message: &'a [u8]) -> Option<SessionMsg<'a>>
-    requires header { 8 ≤ length message.now }
-    requires session { schema_in message.now ≡ 0xF011 }
-    requires template { template_in message.now ≡ Negotiate.TEMPLATE }
-    ensures found { IfSome result (λ m. Spells message.now (message_of m)) }
-    ensures none { IfNone result (Lacks message.now Negotiate.BLOCK true) }
+/// What the answers to requests have in common with Negotiate.
+#[derive(Clone, Copy)]
+struct Dated<'a> {
+    session_id: [u8; 16],
+    timestamp: u64,
+    code: u8,
+    datum: &'a [u8],
+}
+
+fn dated_parts<'a>(message: &'a [u8]) -> Option<Dated<'a>>
+    requires { 8 ≤ length message.now }
+    ensures found { IfSome result (λ d. HasBody message.now (Field.identifier d.session_id ∷ Field.u64 d.timestamp ∷ Field.u8 d.code ∷ []) (Some d.datum.now)) }
+    ensures none { IfNone result (Lacks message.now 25 true) }
 {
-    let (block, credentials) = parts_and_datum(message, Negotiate::BLOCK as usize)?;
-    Some(SessionMsg::Negotiate(Negotiate {
+    let (block, datum) = parts_and_datum(message, 25)?;
+    Some(Dated {
         session_id: identifier(block),
         timestamp: u64_at(block, 16),
-        client_flow: block[24],
-        credentials,
+        code: block[24],
+        datum,
+    })
+}
+
+fn negotiate<'a>(message: &'a [u8]) -> Option<SessionMsg<'a>>
+    requires { 8 ≤ length message.now }
+    ensures { Finds message.now Negotiate.TEMPLATE Negotiate.BLOCK true result }
+{
+    let dated = dated_parts(message)?;
+    Some(SessionMsg::Negotiate(Negotiate {
+        session_id: dated.session_id,
+        timestamp: dated.timestamp,
+        client_flow: dated.code,
+        credentials: dated.datum,
     }))
 }
 
 fn negotiation_response<'a>(message: &'a [u8]) -> Option<SessionMsg<'a>>
-    requires header { 8 ≤ length message.now }
-    requires session { schema_in message.now ≡ 0xF011 }
-    requires template { template_in message.now ≡ NegotiationResponse.TEMPLATE }
-    ensures found { IfSome result (λ m. Spells message.now (message_of m)) }
-    ensures none { IfNone result (Lacks message.now NegotiationResponse.BLOCK true) }
+    requires { 8 ≤ length message.now }
+    ensures { Finds message.now NegotiationResponse.TEMPLATE NegotiationResponse.BLOCK true result }
 {
-    let (block, credentials) = parts_and_datum(message, NegotiationResponse::BLOCK as usize)?;
+    let dated = dated_parts(message)?;
     Some(SessionMsg::NegotiationResponse(NegotiationResponse {
-        session_id: identifier(block),
-        request_timestamp: u64_at(block, 16),
-        server_flow: block[24],
-        credentials,
+        session_id: dated.session_id,
+        request_timestamp: dated.timestamp,
+        server_flow: dated.code,
+        credentials: dated.datum,
+    }))
+}
+
+fn negotiation_reject<'a>(message: &'a [u8]) -> Option<SessionMsg<'a>>
+    requires { 8 ≤ length message.now }
+    ensures { Finds message.now NegotiationReject.TEMPLATE NegotiationReject.BLOCK true result }
+{
+    let dated = dated_parts(message)?;
+    Some(SessionMsg::NegotiationReject(NegotiationReject {
+        session_id: dated.session_id,
+        request_timestamp: dated.timestamp,
+        code: dated.code,
+        reason: dated.datum,
     }))
 }
 
 fn establish<'a>(message: &'a [u8]) -> Option<SessionMsg<'a>>
-    requires header { 8 ≤ length message.now }
-    requires session { schema_in message.now ≡ 0xF011 }
-    requires template { template_in message.now ≡ Establish.TEMPLATE }
-    ensures found { IfSome result (λ m. Spells message.now (message_of m)) }
-    ensures none { IfNone result (Lacks message.now Establish.BLOCK true) }
+    requires { 8 ≤ length message.now }
+    ensures { Finds message.now Establish.TEMPLATE Establish.BLOCK true result }
 {
     let (block, credentials) = parts_and_datum(message, Establish::BLOCK as usize)?;
     Some(SessionMsg::Establish(Establish {
@@ -203,11 +241,8 @@ fn establish<'a>(message: &'a [u8]) -> Option<SessionMsg<'a>>
 }
 
 fn establishment_ack<'a>(message: &'a [u8]) -> Option<SessionMsg<'a>>
-    requires header { 8 ≤ length message.now }
-    requires session { schema_in message.now ≡ 0xF011 }
-    requires template { template_in message.now ≡ EstablishmentAck.TEMPLATE }
-    ensures found { IfSome result (λ m. Spells message.now (message_of m)) }
-    ensures none { IfNone result (Lacks message.now EstablishmentAck.BLOCK false) }
+    requires { 8 ≤ length message.now }
+    ensures { Finds message.now EstablishmentAck.TEMPLATE EstablishmentAck.BLOCK false result }
 {
     let (block, _) = parts(message, EstablishmentAck::BLOCK as usize)?;
     Some(SessionMsg::EstablishmentAck(EstablishmentAck {
@@ -218,12 +253,22 @@ fn establishment_ack<'a>(message: &'a [u8]) -> Option<SessionMsg<'a>>
     }))
 }
 
+fn establishment_reject<'a>(message: &'a [u8]) -> Option<SessionMsg<'a>>
+    requires { 8 ≤ length message.now }
+    ensures { Finds message.now EstablishmentReject.TEMPLATE EstablishmentReject.BLOCK true result }
+{
+    let dated = dated_parts(message)?;
+    Some(SessionMsg::EstablishmentReject(EstablishmentReject {
+        session_id: dated.session_id,
+        request_timestamp: dated.timestamp,
+        code: dated.code,
+        reason: dated.datum,
+    }))
+}
+
 fn sequence<'a>(message: &'a [u8]) -> Option<SessionMsg<'a>>
-    requires header { 8 ≤ length message.now }
-    requires session { schema_in message.now ≡ 0xF011 }
-    requires template { template_in message.now ≡ Sequence.TEMPLATE }
-    ensures found { IfSome result (λ m. Spells message.now (message_of m)) }
-    ensures none { IfNone result (Lacks message.now Sequence.BLOCK false) }
+    requires { 8 ≤ length message.now }
+    ensures { Finds message.now Sequence.TEMPLATE Sequence.BLOCK false result }
 {
     let (block, _) = parts(message, Sequence::BLOCK as usize)?;
     Some(SessionMsg::Sequence(Sequence {
@@ -232,22 +277,98 @@ fn sequence<'a>(message: &'a [u8]) -> Option<SessionMsg<'a>>
 }
 
 fn unsequenced_heartbeat<'a>(message: &'a [u8]) -> Option<SessionMsg<'a>>
-    requires header { 8 ≤ length message.now }
-    requires session { schema_in message.now ≡ 0xF011 }
-    requires template { template_in message.now ≡ UnsequencedHeartbeat.TEMPLATE }
-    ensures found { IfSome result (λ m. Spells message.now (message_of m)) }
-    ensures none { IfNone result (Lacks message.now UnsequencedHeartbeat.BLOCK false) }
+    requires { 8 ≤ length message.now }
+    ensures { Finds message.now UnsequencedHeartbeat.TEMPLATE UnsequencedHeartbeat.BLOCK false result }
 {
     let (_, _) = parts(message, UnsequencedHeartbeat::BLOCK as usize)?;
     Some(SessionMsg::UnsequencedHeartbeat(UnsequencedHeartbeat))
 }
 
+fn retransmit_request<'a>(message: &'a [u8]) -> Option<SessionMsg<'a>>
+    requires { 8 ≤ length message.now }
+    ensures { Finds message.now RetransmitRequest.TEMPLATE RetransmitRequest.BLOCK false result }
+{
+    let (block, _) = parts(message, RetransmitRequest::BLOCK as usize)?;
+    Some(SessionMsg::RetransmitRequest(RetransmitRequest {
+        session_id: identifier(block),
+        timestamp: u64_at(block, 16),
+        from_seq: u64_at(block, 24),
+        count: u32_at(block, 32),
+    }))
+}
+
+fn retransmission<'a>(message: &'a [u8]) -> Option<SessionMsg<'a>>
+    requires { 8 ≤ length message.now }
+    ensures { Finds message.now Retransmission.TEMPLATE Retransmission.BLOCK false result }
+{
+    let (block, _) = parts(message, Retransmission::BLOCK as usize)?;
+    Some(SessionMsg::Retransmission(Retransmission {
+        session_id: identifier(block),
+        next_seq: u64_at(block, 16),
+        request_timestamp: u64_at(block, 24),
+        count: u32_at(block, 32),
+    }))
+}
+
+fn retransmit_reject<'a>(message: &'a [u8]) -> Option<SessionMsg<'a>>
+    requires { 8 ≤ length message.now }
+    ensures { Finds message.now RetransmitReject.TEMPLATE RetransmitReject.BLOCK true result }
+{
+    let dated = dated_parts(message)?;
+    Some(SessionMsg::RetransmitReject(RetransmitReject {
+        session_id: dated.session_id,
+        request_timestamp: dated.timestamp,
+        code: dated.code,
+        reason: dated.datum,
+    }))
+}
+
+fn applied<'a>(message: &'a [u8]) -> Option<SessionMsg<'a>>
+    requires { 8 ≤ length message.now }
+    ensures { Finds message.now Applied.TEMPLATE Applied.BLOCK false result }
+{
+    let (block, _) = parts(message, Applied::BLOCK as usize)?;
+    Some(SessionMsg::Applied(Applied {
+        from_seq: u64_at(block, 0),
+        count: u32_at(block, 8),
+    }))
+}
+
+fn not_applied<'a>(message: &'a [u8]) -> Option<SessionMsg<'a>>
+    requires { 8 ≤ length message.now }
+    ensures { Finds message.now NotApplied.TEMPLATE NotApplied.BLOCK false result }
+{
+    let (block, _) = parts(message, NotApplied::BLOCK as usize)?;
+    Some(SessionMsg::NotApplied(NotApplied {
+        from_seq: u64_at(block, 0),
+        count: u32_at(block, 8),
+    }))
+}
+
+fn finished_sending<'a>(message: &'a [u8]) -> Option<SessionMsg<'a>>
+    requires { 8 ≤ length message.now }
+    ensures { Finds message.now FinishedSending.TEMPLATE FinishedSending.BLOCK false result }
+{
+    let (block, _) = parts(message, FinishedSending::BLOCK as usize)?;
+    Some(SessionMsg::FinishedSending(FinishedSending {
+        session_id: identifier(block),
+        last_seq: optional_at(block, 16),
+    }))
+}
+
+fn finished_receiving<'a>(message: &'a [u8]) -> Option<SessionMsg<'a>>
+    requires { 8 ≤ length message.now }
+    ensures { Finds message.now FinishedReceiving.TEMPLATE FinishedReceiving.BLOCK false result }
+{
+    let (block, _) = parts(message, FinishedReceiving::BLOCK as usize)?;
+    Some(SessionMsg::FinishedReceiving(FinishedReceiving {
+        session_id: identifier(block),
+    }))
+}
+
 fn terminate<'a>(message: &'a [u8]) -> Option<SessionMsg<'a>>
-    requires header { 8 ≤ length message.now }
-    requires session { schema_in message.now ≡ 0xF011 }
-    requires template { template_in message.now ≡ Terminate.TEMPLATE }
-    ensures found { IfSome result (λ m. Spells message.now (message_of m)) }
-    ensures none { IfNone result (Lacks message.now Terminate.BLOCK true) }
+    requires { 8 ≤ length message.now }
+    ensures { Finds message.now Terminate.TEMPLATE Terminate.BLOCK true result }
 {
     let (block, reason) = parts_and_datum(message, Terminate::BLOCK as usize)?;
     Some(SessionMsg::Terminate(Terminate {

@@ -5,13 +5,14 @@ ghost use Rattle.std.specs.Int.{w16, w64, to_le_bytes};
 ghost use Rattle.fixp_msgs.specs.declared.messages.SessionMsg.TheVariants as variants;
 ghost use Rattle.fixp_msgs.specs.Header.{session_schema};
 ghost use Rattle.fixp_msgs.specs.Message.{message_of};
-ghost use Rattle.fixp_msgs.specs.Table.{Field};
-ghost use Rattle.fixp_msgs.specs.Canonical.{field_bytes, with_datum, framing_bytes, message_bytes, frame_bytes, IsWritable, IsLegal};
+ghost use Rattle.fixp_msgs.specs.Table.{Field, Row, row_of};
+ghost use Rattle.fixp_msgs.specs.Canonical.{field_bytes, with_datum, framing_bytes, row_frame, frame_bytes, IsWritable, IsWritableRow, IsLegal, IsLegalRow};
 
 use crate::frames::SESSION_SCHEMA;
 use crate::messages::{
-    Establish, EstablishmentAck, Negotiate, NegotiationResponse, Sequence, SessionMsg, Terminate,
-    UnsequencedHeartbeat,
+    Applied, Establish, EstablishmentAck, EstablishmentReject, FinishedReceiving, FinishedSending,
+    Negotiate, NegotiationReject, NegotiationResponse, NotApplied, Retransmission,
+    RetransmitReject, RetransmitRequest, Sequence, SessionMsg, Terminate, UnsequencedHeartbeat,
 };
 
 /// The encoding type of little-endian SBE 1.0 (Simple Open Framing Header 1.0).
@@ -27,21 +28,33 @@ pub fn size(msg: &SessionMsg<'_>) -> usize
     ensures most { IsWritable (message_of msg.now) → result ≤ 2100 }
 {
     match msg {
-        SessionMsg::Negotiate(m) => {
-            session_frame(&m.session_id, Negotiate::BLOCK) + datum_size(m.credentials)
-        }
-        SessionMsg::NegotiationResponse(m) => {
-            session_frame(&m.session_id, NegotiationResponse::BLOCK) + datum_size(m.credentials)
-        }
-        SessionMsg::Establish(m) => {
-            session_frame(&m.session_id, Establish::BLOCK) + datum_size(m.credentials)
-        }
+        SessionMsg::Negotiate(m) => session_frame(&m.session_id, Negotiate::BLOCK)
+            + datum_size(m.credentials),
+        SessionMsg::NegotiationResponse(m) => session_frame(
+            &m.session_id,
+            NegotiationResponse::BLOCK,
+        ) + datum_size(m.credentials),
+        SessionMsg::NegotiationReject(m) => session_frame(&m.session_id, NegotiationReject::BLOCK)
+            + datum_size(m.reason),
+        SessionMsg::Establish(m) => session_frame(&m.session_id, Establish::BLOCK)
+            + datum_size(m.credentials),
         SessionMsg::EstablishmentAck(m) => session_frame(&m.session_id, EstablishmentAck::BLOCK),
+        SessionMsg::EstablishmentReject(m) => session_frame(
+            &m.session_id,
+            EstablishmentReject::BLOCK,
+        ) + datum_size(m.reason),
         SessionMsg::Sequence(_) => HEADERS + Sequence::BLOCK as usize,
         SessionMsg::UnsequencedHeartbeat(_) => HEADERS,
-        SessionMsg::Terminate(m) => {
-            session_frame(&m.session_id, Terminate::BLOCK) + datum_size(m.reason)
-        }
+        SessionMsg::RetransmitRequest(m) => session_frame(&m.session_id, RetransmitRequest::BLOCK),
+        SessionMsg::Retransmission(m) => session_frame(&m.session_id, Retransmission::BLOCK),
+        SessionMsg::RetransmitReject(m) => session_frame(&m.session_id, RetransmitReject::BLOCK)
+            + datum_size(m.reason),
+        SessionMsg::Applied(_) => HEADERS + Applied::BLOCK as usize,
+        SessionMsg::NotApplied(_) => HEADERS + NotApplied::BLOCK as usize,
+        SessionMsg::FinishedSending(m) => session_frame(&m.session_id, FinishedSending::BLOCK),
+        SessionMsg::FinishedReceiving(m) => session_frame(&m.session_id, FinishedReceiving::BLOCK),
+        SessionMsg::Terminate(m) => session_frame(&m.session_id, Terminate::BLOCK)
+            + datum_size(m.reason),
     }
 }
 
@@ -76,18 +89,22 @@ pub fn write(msg: &SessionMsg<'_>, out: &mut [u8]) -> usize
 {
     let frame = size(msg);
     match *msg {
-        SessionMsg::Negotiate(m) => put_negotiate(out, frame, m),
-        SessionMsg::NegotiationResponse(m) => put_negotiation_response(out, frame, m),
-        SessionMsg::Establish(m) => put_establish(out, frame, m),
-        SessionMsg::EstablishmentAck(m) => put_establishment_ack(out, frame, m),
-        SessionMsg::Sequence(m) => put_sequence(out, frame, m),
-        SessionMsg::UnsequencedHeartbeat(_) => put_headers(
-            out,
-            frame,
-            UnsequencedHeartbeat::BLOCK,
-            UnsequencedHeartbeat::TEMPLATE,
-        ),
-        SessionMsg::Terminate(m) => put_terminate(out, frame, m),
+        SessionMsg::Negotiate(m) => m.put(out, frame),
+        SessionMsg::NegotiationResponse(m) => m.put(out, frame),
+        SessionMsg::NegotiationReject(m) => m.put(out, frame),
+        SessionMsg::Establish(m) => m.put(out, frame),
+        SessionMsg::EstablishmentAck(m) => m.put(out, frame),
+        SessionMsg::EstablishmentReject(m) => m.put(out, frame),
+        SessionMsg::Sequence(m) => m.put(out, frame),
+        SessionMsg::UnsequencedHeartbeat(m) => m.put(out, frame),
+        SessionMsg::RetransmitRequest(m) => m.put(out, frame),
+        SessionMsg::Retransmission(m) => m.put(out, frame),
+        SessionMsg::RetransmitReject(m) => m.put(out, frame),
+        SessionMsg::Applied(m) => m.put(out, frame),
+        SessionMsg::NotApplied(m) => m.put(out, frame),
+        SessionMsg::FinishedSending(m) => m.put(out, frame),
+        SessionMsg::FinishedReceiving(m) => m.put(out, frame),
+        SessionMsg::Terminate(m) => m.put(out, frame),
     }
 }
 
@@ -139,105 +156,275 @@ fn put_headers(out: &mut [u8], frame: usize, block: u16, template: u16) -> usize
     put(out, at, &[0, 0])
 }
 
-fn put_negotiate(out: &mut [u8], frame: usize, m: Negotiate<'_>) -> usize
-    requires writable { IsWritable (message_of (variants.Negotiate m)) }
-    requires size { frame ≡ length (frame_bytes (message_of (variants.Negotiate m))) }
-    requires room { frame ≤ length out.old }
-    ensures size { result ≡ frame }
-    ensures frame { take result out.new ≡ frame_bytes (message_of (variants.Negotiate m.entry)) }
-    ensures behind { drop result out.new ≡ drop result out.old }
-    ensures legal { IsLegal (message_of (variants.Negotiate m.entry)) }
+/// Puts the headers, the session's identifier and the number behind it, with which many blocks begin.
+fn put_named(
+    out: &mut [u8],
+    frame: usize,
+    block: u16,
+    template: u16,
+    session_id: &[u8; 16],
+    number: u64,
+) -> usize
+    requires size { frame < 2 ^ 32 }
+    requires room { 38 ≤ length out.old }
+    ensures end { result ≡ 38 }
+    ensures front { take result out.new ≡ framing_bytes frame ++ ((to_le_bytes w16 block ++ to_le_bytes w16 template ++ to_le_bytes w16 session_schema ++ to_le_bytes w16 0)
+        ++ (session_id.now ++ to_le_bytes w64 number)) }
+    ensures back { (n : ℕ) → result ≤ n → drop n out.new ≡ drop n out.old }
 {
-    let at = put_headers(out, frame, Negotiate::BLOCK, Negotiate::TEMPLATE);
-    let at = put(out, at, &m.session_id);
-    let at = put(out, at, &m.timestamp.to_le_bytes());
-    let at = put(out, at, &[m.client_flow]);
-    put_datum(out, at, m.credentials)
+    let at = put_headers(out, frame, block, template);
+    let at = put(out, at, session_id);
+    put(out, at, &number.to_le_bytes())
 }
 
-fn put_negotiation_response(out: &mut [u8], frame: usize, m: NegotiationResponse<'_>) -> usize
-    requires writable { IsWritable (message_of (variants.NegotiationResponse m)) }
-    requires size { frame ≡ length (frame_bytes (message_of (variants.NegotiationResponse m))) }
-    requires room { frame ≤ length out.old }
-    ensures size { result ≡ frame }
-    ensures frame { take result out.new ≡ frame_bytes (message_of (variants.NegotiationResponse m.entry)) }
-    ensures behind { drop result out.new ≡ drop result out.old }
-    ensures legal { IsLegal (message_of (variants.NegotiationResponse m.entry)) }
-{
-    let at = put_headers(
-        out,
-        frame,
-        NegotiationResponse::BLOCK,
-        NegotiationResponse::TEMPLATE,
-    );
-    let at = put(out, at, &m.session_id);
-    let at = put(out, at, &m.request_timestamp.to_le_bytes());
-    let at = put(out, at, &[m.server_flow]);
-    put_datum(out, at, m.credentials)
+/// A message that is written by a row of the table.
+trait Written {
+    /// Its row, with its values.
+    ghost row: { Self → Row };
+
+    /// Puts the frame of this size at the front.
+    fn put(self, out: &mut [u8], frame: usize) -> usize
+        requires writable { IsWritableRow (row self) }
+        requires size { frame ≡ length (row_frame (row self)) }
+        requires room { frame ≤ length out.old }
+        ensures size { result ≡ frame }
+        ensures frame { take result out.new ≡ row_frame (row self) }
+        ensures behind { drop result out.new ≡ drop result out.old }
+        ensures legal { IsLegalRow (row self) };
 }
 
-fn put_establish(out: &mut [u8], frame: usize, m: Establish<'_>) -> usize
-    requires writable { IsWritable (message_of (variants.Establish m)) }
-    requires size { frame ≡ length (frame_bytes (message_of (variants.Establish m))) }
-    requires room { frame ≤ length out.old }
-    ensures size { result ≡ frame }
-    ensures frame { take result out.new ≡ frame_bytes (message_of (variants.Establish m.entry)) }
-    ensures behind { drop result out.new ≡ drop result out.old }
-    ensures legal { IsLegal (message_of (variants.Establish m.entry)) }
-{
-    let at = put_headers(out, frame, Establish::BLOCK, Establish::TEMPLATE);
-    let at = put(out, at, &m.session_id);
-    let at = put(out, at, &m.timestamp.to_le_bytes());
-    let at = put(out, at, &m.keepalive.to_le_bytes());
-    let at = put(out, at, &optional_bytes(m.next_seq));
-    put_datum(out, at, m.credentials)
+impl Written for Negotiate<'_> {
+    ghost row = { λ m. row_of (message_of (variants.Negotiate m)) };
+
+    fn put(self, out: &mut [u8], frame: usize) -> usize {
+        let at = put_named(
+            out,
+            frame,
+            Negotiate::BLOCK,
+            Negotiate::TEMPLATE,
+            &self.session_id,
+            self.timestamp,
+        );
+        let at = put(out, at, &[self.client_flow]);
+        put_datum(out, at, self.credentials)
+    }
 }
 
-fn put_establishment_ack(out: &mut [u8], frame: usize, m: EstablishmentAck) -> usize
-    requires writable { IsWritable (message_of (variants.EstablishmentAck m)) }
-    requires size { frame ≡ length (frame_bytes (message_of (variants.EstablishmentAck m))) }
-    requires room { frame ≤ length out.old }
-    ensures size { result ≡ frame }
-    ensures frame { take result out.new ≡ frame_bytes (message_of (variants.EstablishmentAck m)) }
-    ensures behind { drop result out.new ≡ drop result out.old }
-    ensures legal { IsLegal (message_of (variants.EstablishmentAck m)) }
-{
-    let at = put_headers(
-        out,
-        frame,
-        EstablishmentAck::BLOCK,
-        EstablishmentAck::TEMPLATE,
-    );
-    let at = put(out, at, &m.session_id);
-    let at = put(out, at, &m.request_timestamp.to_le_bytes());
-    let at = put(out, at, &m.keepalive.to_le_bytes());
-    put(out, at, &optional_bytes(m.next_seq))
+impl Written for NegotiationResponse<'_> {
+    ghost row = { λ m. row_of (message_of (variants.NegotiationResponse m)) };
+
+    fn put(self, out: &mut [u8], frame: usize) -> usize {
+        let at = put_named(
+            out,
+            frame,
+            NegotiationResponse::BLOCK,
+            NegotiationResponse::TEMPLATE,
+            &self.session_id,
+            self.request_timestamp,
+        );
+        let at = put(out, at, &[self.server_flow]);
+        put_datum(out, at, self.credentials)
+    }
 }
 
-fn put_sequence(out: &mut [u8], frame: usize, m: Sequence) -> usize
-    requires writable { IsWritable (message_of (variants.Sequence m)) }
-    requires size { frame ≡ length (frame_bytes (message_of (variants.Sequence m))) }
-    requires room { frame ≤ length out.old }
-    ensures size { result ≡ frame }
-    ensures frame { take result out.new ≡ frame_bytes (message_of (variants.Sequence m)) }
-    ensures behind { drop result out.new ≡ drop result out.old }
-    ensures legal { IsLegal (message_of (variants.Sequence m)) }
-{
-    let at = put_headers(out, frame, Sequence::BLOCK, Sequence::TEMPLATE);
-    put(out, at, &m.next_seq.to_le_bytes())
+impl Written for NegotiationReject<'_> {
+    ghost row = { λ m. row_of (message_of (variants.NegotiationReject m)) };
+
+    fn put(self, out: &mut [u8], frame: usize) -> usize {
+        let at = put_named(
+            out,
+            frame,
+            NegotiationReject::BLOCK,
+            NegotiationReject::TEMPLATE,
+            &self.session_id,
+            self.request_timestamp,
+        );
+        let at = put(out, at, &[self.code]);
+        put_datum(out, at, self.reason)
+    }
 }
 
-fn put_terminate(out: &mut [u8], frame: usize, m: Terminate<'_>) -> usize
-    requires writable { IsWritable (message_of (variants.Terminate m)) }
-    requires size { frame ≡ length (frame_bytes (message_of (variants.Terminate m))) }
-    requires room { frame ≤ length out.old }
-    ensures size { result ≡ frame }
-    ensures frame { take result out.new ≡ frame_bytes (message_of (variants.Terminate m.entry)) }
-    ensures behind { drop result out.new ≡ drop result out.old }
-    ensures legal { IsLegal (message_of (variants.Terminate m.entry)) }
-{
-    let at = put_headers(out, frame, Terminate::BLOCK, Terminate::TEMPLATE);
-    let at = put(out, at, &m.session_id);
-    let at = put(out, at, &[m.code]);
-    put_datum(out, at, m.reason)
+impl Written for Establish<'_> {
+    ghost row = { λ m. row_of (message_of (variants.Establish m)) };
+
+    fn put(self, out: &mut [u8], frame: usize) -> usize {
+        let at = put_named(
+            out,
+            frame,
+            Establish::BLOCK,
+            Establish::TEMPLATE,
+            &self.session_id,
+            self.timestamp,
+        );
+        let at = put(out, at, &self.keepalive.to_le_bytes());
+        let at = put(out, at, &optional_bytes(self.next_seq));
+        put_datum(out, at, self.credentials)
+    }
+}
+
+impl Written for EstablishmentAck {
+    ghost row = { λ m. row_of (message_of (variants.EstablishmentAck m)) };
+
+    fn put(self, out: &mut [u8], frame: usize) -> usize {
+        let at = put_named(
+            out,
+            frame,
+            EstablishmentAck::BLOCK,
+            EstablishmentAck::TEMPLATE,
+            &self.session_id,
+            self.request_timestamp,
+        );
+        let at = put(out, at, &self.keepalive.to_le_bytes());
+        put(out, at, &optional_bytes(self.next_seq))
+    }
+}
+
+impl Written for EstablishmentReject<'_> {
+    ghost row = { λ m. row_of (message_of (variants.EstablishmentReject m)) };
+
+    fn put(self, out: &mut [u8], frame: usize) -> usize {
+        let at = put_named(
+            out,
+            frame,
+            EstablishmentReject::BLOCK,
+            EstablishmentReject::TEMPLATE,
+            &self.session_id,
+            self.request_timestamp,
+        );
+        let at = put(out, at, &[self.code]);
+        put_datum(out, at, self.reason)
+    }
+}
+
+impl Written for Sequence {
+    ghost row = { λ m. row_of (message_of (variants.Sequence m)) };
+
+    fn put(self, out: &mut [u8], frame: usize) -> usize {
+        let at = put_headers(out, frame, Sequence::BLOCK, Sequence::TEMPLATE);
+        put(out, at, &self.next_seq.to_le_bytes())
+    }
+}
+
+impl Written for UnsequencedHeartbeat {
+    ghost row = { λ m. row_of (message_of (variants.UnsequencedHeartbeat m)) };
+
+    fn put(self, out: &mut [u8], frame: usize) -> usize {
+        put_headers(
+            out,
+            frame,
+            UnsequencedHeartbeat::BLOCK,
+            UnsequencedHeartbeat::TEMPLATE,
+        )
+    }
+}
+
+impl Written for RetransmitRequest {
+    ghost row = { λ m. row_of (message_of (variants.RetransmitRequest m)) };
+
+    fn put(self, out: &mut [u8], frame: usize) -> usize {
+        let at = put_named(
+            out,
+            frame,
+            RetransmitRequest::BLOCK,
+            RetransmitRequest::TEMPLATE,
+            &self.session_id,
+            self.timestamp,
+        );
+        let at = put(out, at, &self.from_seq.to_le_bytes());
+        put(out, at, &self.count.to_le_bytes())
+    }
+}
+
+impl Written for Retransmission {
+    ghost row = { λ m. row_of (message_of (variants.Retransmission m)) };
+
+    fn put(self, out: &mut [u8], frame: usize) -> usize {
+        let at = put_named(
+            out,
+            frame,
+            Retransmission::BLOCK,
+            Retransmission::TEMPLATE,
+            &self.session_id,
+            self.next_seq,
+        );
+        let at = put(out, at, &self.request_timestamp.to_le_bytes());
+        put(out, at, &self.count.to_le_bytes())
+    }
+}
+
+impl Written for RetransmitReject<'_> {
+    ghost row = { λ m. row_of (message_of (variants.RetransmitReject m)) };
+
+    fn put(self, out: &mut [u8], frame: usize) -> usize {
+        let at = put_named(
+            out,
+            frame,
+            RetransmitReject::BLOCK,
+            RetransmitReject::TEMPLATE,
+            &self.session_id,
+            self.request_timestamp,
+        );
+        let at = put(out, at, &[self.code]);
+        put_datum(out, at, self.reason)
+    }
+}
+
+impl Written for Applied {
+    ghost row = { λ m. row_of (message_of (variants.Applied m)) };
+
+    fn put(self, out: &mut [u8], frame: usize) -> usize {
+        let at = put_headers(out, frame, Applied::BLOCK, Applied::TEMPLATE);
+        let at = put(out, at, &self.from_seq.to_le_bytes());
+        put(out, at, &self.count.to_le_bytes())
+    }
+}
+
+impl Written for NotApplied {
+    ghost row = { λ m. row_of (message_of (variants.NotApplied m)) };
+
+    fn put(self, out: &mut [u8], frame: usize) -> usize {
+        let at = put_headers(out, frame, NotApplied::BLOCK, NotApplied::TEMPLATE);
+        let at = put(out, at, &self.from_seq.to_le_bytes());
+        put(out, at, &self.count.to_le_bytes())
+    }
+}
+
+impl Written for FinishedSending {
+    ghost row = { λ m. row_of (message_of (variants.FinishedSending m)) };
+
+    fn put(self, out: &mut [u8], frame: usize) -> usize {
+        let at = put_headers(
+            out,
+            frame,
+            FinishedSending::BLOCK,
+            FinishedSending::TEMPLATE,
+        );
+        let at = put(out, at, &self.session_id);
+        put(out, at, &optional_bytes(self.last_seq))
+    }
+}
+
+impl Written for FinishedReceiving {
+    ghost row = { λ m. row_of (message_of (variants.FinishedReceiving m)) };
+
+    fn put(self, out: &mut [u8], frame: usize) -> usize {
+        let at = put_headers(
+            out,
+            frame,
+            FinishedReceiving::BLOCK,
+            FinishedReceiving::TEMPLATE,
+        );
+        put(out, at, &self.session_id)
+    }
+}
+
+impl Written for Terminate<'_> {
+    ghost row = { λ m. row_of (message_of (variants.Terminate m)) };
+
+    fn put(self, out: &mut [u8], frame: usize) -> usize {
+        let at = put_headers(out, frame, Terminate::BLOCK, Terminate::TEMPLATE);
+        let at = put(out, at, &self.session_id);
+        let at = put(out, at, &[self.code]);
+        put_datum(out, at, self.reason)
+    }
 }

@@ -5,17 +5,22 @@ ghost use Rattle.fixp_msgs.specs.Message.{message_of};
 ghost use Rattle.fixp_msgs.specs.Canonical.{IsWritable};
 
 use crate::vectors::{
-    ESTABLISH, ESTABLISHMENT_ACK, HEARTBEAT, ID, NEGOTIATE, NEGOTIATION_RESPONSE, SEQUENCE,
-    TERMINATE,
+    APPLICATION, APPLIED, ESTABLISH, ESTABLISHMENT_ACK, ESTABLISHMENT_REJECT, FINISHED_RECEIVING,
+    FINISHED_SENDING, FINISHED_WITHOUT_NUMBER, GREATEST_SEQUENCE, HEARTBEAT, ID, NEGOTIATE,
+    NEGOTIATION_REJECT, NEGOTIATION_RESPONSE, NEXT_APPLICATION, NOT_APPLIED, RETRANSMISSION,
+    RETRANSMIT_REJECT, RETRANSMIT_REQUEST, SEQUENCE, TERMINATE,
 };
 use fixp_msgs::{
-    Establish, EstablishmentAck, Flow, FrameKind, MsgFault, Negotiate, NegotiationResponse,
-    Sequence, SessionMsg, Terminate, UnsequencedHeartbeat, kind, read, size, write,
+    Applied, Counter, Establish, EstablishmentAck, EstablishmentReject, FinishedReceiving,
+    FinishedSending, Flow, FrameKind, MsgFault, Negotiate, NegotiationReject, NegotiationResponse,
+    NotApplied, Retransmission, RetransmitReject, RetransmitRequest, Sequence, SessionMsg,
+    Terminate, UnsequencedHeartbeat, kind, read, size, write,
 };
 use sbe_prim::Order;
 use std::process::Abort;
 
-/// The frame holds the message, and the message is written as the frame, with nothing touched behind it.
+/// The frame holds the message, whose last byte is needed, and the message is written as the frame, with nothing
+/// touched behind it.
 fn both_ways(rt: &impl Abort, frame: &[u8], msg: SessionMsg<'_>)
     requires { IsWritable (message_of msg) }
 {
@@ -23,6 +28,11 @@ fn both_ways(rt: &impl Abort, frame: &[u8], msg: SessionMsg<'_>)
     let (_, message) = frame.split_at(6);
     assert!(rt; kind(Order::Little, message) == FrameKind::Session);
     assert_eq!(rt; read(message), Ok(msg));
+    if message.len() > 8 {
+        let (short, _) = message.split_at(message.len() - 1);
+        assert!(rt; kind(Order::Little, short) == FrameKind::Session);
+        assert_eq!(rt; read(short), Err(MsgFault::Short));
+    }
     let mut out = [0xA5; 2100];
     assert_eq!(rt; size(&msg), frame.len());
     let written = write(&msg, &mut out);
@@ -32,7 +42,7 @@ fn both_ways(rt: &impl Abort, frame: &[u8], msg: SessionMsg<'_>)
 }
 
 #[test]
-fn messages_both_ways(rt: HostRuntime) {
+fn handshakes_both_ways(rt: HostRuntime) {
     let m = Negotiate {
         session_id: ID,
         timestamp: 1,
@@ -51,6 +61,13 @@ fn messages_both_ways(rt: HostRuntime) {
         &NEGOTIATION_RESPONSE,
         SessionMsg::NegotiationResponse(m),
     );
+    let m = NegotiationReject {
+        session_id: ID,
+        request_timestamp: 1,
+        code: 2,
+        reason: b"no",
+    };
+    both_ways(&rt, &NEGOTIATION_REJECT, SessionMsg::NegotiationReject(m));
     let m = Establish {
         session_id: ID,
         timestamp: 2,
@@ -66,16 +83,77 @@ fn messages_both_ways(rt: HostRuntime) {
         next_seq: None,
     };
     both_ways(&rt, &ESTABLISHMENT_ACK, SessionMsg::EstablishmentAck(m));
+    let m = EstablishmentReject {
+        session_id: ID,
+        request_timestamp: 2,
+        code: 5,
+        reason: &[],
+    };
     both_ways(
         &rt,
-        &SEQUENCE,
-        SessionMsg::Sequence(Sequence { next_seq: 5 }),
+        &ESTABLISHMENT_REJECT,
+        SessionMsg::EstablishmentReject(m),
     );
+}
+
+#[test]
+fn others_both_ways(rt: HostRuntime) {
+    let m = Sequence { next_seq: 5 };
+    both_ways(&rt, &SEQUENCE, SessionMsg::Sequence(m));
+    let m = Sequence { next_seq: u64::MAX };
+    both_ways(&rt, &GREATEST_SEQUENCE, SessionMsg::Sequence(m));
     both_ways(
         &rt,
         &HEARTBEAT,
         SessionMsg::UnsequencedHeartbeat(UnsequencedHeartbeat),
     );
+    let m = RetransmitRequest {
+        session_id: ID,
+        timestamp: 5_000_000,
+        from_seq: 4,
+        count: 2,
+    };
+    both_ways(&rt, &RETRANSMIT_REQUEST, SessionMsg::RetransmitRequest(m));
+    let m = Retransmission {
+        session_id: ID,
+        next_seq: 4,
+        request_timestamp: 5_000_000,
+        count: 2,
+    };
+    both_ways(&rt, &RETRANSMISSION, SessionMsg::Retransmission(m));
+    let m = RetransmitReject {
+        session_id: ID,
+        request_timestamp: 5_000_000,
+        code: 3,
+        reason: &[],
+    };
+    both_ways(&rt, &RETRANSMIT_REJECT, SessionMsg::RetransmitReject(m));
+    let m = Applied {
+        from_seq: 1,
+        count: 3,
+    };
+    both_ways(&rt, &APPLIED, SessionMsg::Applied(m));
+    let m = NotApplied {
+        from_seq: 2,
+        count: 2,
+    };
+    both_ways(&rt, &NOT_APPLIED, SessionMsg::NotApplied(m));
+    let m = FinishedSending {
+        session_id: ID,
+        last_seq: Some(7),
+    };
+    both_ways(&rt, &FINISHED_SENDING, SessionMsg::FinishedSending(m));
+    let m = FinishedSending {
+        session_id: ID,
+        last_seq: None,
+    };
+    both_ways(
+        &rt,
+        &FINISHED_WITHOUT_NUMBER,
+        SessionMsg::FinishedSending(m),
+    );
+    let m = FinishedReceiving { session_id: ID };
+    both_ways(&rt, &FINISHED_RECEIVING, SessionMsg::FinishedReceiving(m));
     let m = Terminate {
         session_id: ID,
         code: 1,
@@ -100,11 +178,18 @@ fn answers_to_messages(rt: HostRuntime) {
             b"\x11\0\x10\0\x11\xF0\0\00123456789abcdef\x01\x01\0",
             Err(MsgFault::Short),
         ),
-        // The template is none that is read.
-        (b"\0\0\x03\0\x11\xF0\0\0", Err(MsgFault::NotBuilt { id: 3 })),
+        // No message has the template.
+        (
+            b"\0\0\0\0\x11\xF0\0\0",
+            Err(MsgFault::BadTemplate { id: 0 }),
+        ),
+        (
+            b"\0\0\x11\0\x11\xF0\0\0",
+            Err(MsgFault::BadTemplate { id: 17 }),
+        ),
         (
             b"\0\0\0\x01\x11\xF0\0\0",
-            Err(MsgFault::NotBuilt { id: 256 }),
+            Err(MsgFault::BadTemplate { id: 256 }),
         ),
         // A later version, a longer block, and bytes behind the last element.
         (
@@ -130,5 +215,38 @@ fn answers_to_messages(rt: HostRuntime) {
         (Order::Little, b"\0\0\x07\0\x64\0\x01\0", FrameKind::App),
     ] {
         assert_eq!(rt; kind(order, message), wanted, "{message:?}");
+    }
+}
+
+/// The implied number of each application message, over one connection.
+#[test]
+fn implied_numbers(rt: HostRuntime) {
+    let mut counter = Counter::new();
+    for (event, frame, number) in [
+        ("before any announcement", APPLICATION.as_slice(), None),
+        ("announcement", &SEQUENCE, None),
+        ("the announced number", &APPLICATION, Some(5)),
+        ("a session message takes none", &HEARTBEAT, None),
+        ("the next number", &NEXT_APPLICATION, Some(6)),
+        ("messages sent again", &RETRANSMISSION, None),
+        ("the first of them", &APPLICATION, Some(4)),
+        ("the second", &NEXT_APPLICATION, Some(5)),
+        ("announcement after them", &SEQUENCE, None),
+        ("another one at once", &GREATEST_SEQUENCE, None),
+        ("the greatest number", &APPLICATION, Some(u64::MAX)),
+        ("past it", &NEXT_APPLICATION, None),
+        ("announcement after it", &SEQUENCE, None),
+        (
+            "a message that lacks its last byte",
+            &GREATEST_SEQUENCE[..21],
+            None,
+        ),
+        ("still the number announced", &APPLICATION, Some(5)),
+        ("null", &ESTABLISH, None),
+        ("after null", &APPLICATION, None),
+    ] {
+        assert!(rt; frame.len() >= 14);
+        let found = counter.see(Order::Little, &frame[6..]);
+        assert_eq!(rt; found, number, "{event}");
     }
 }

@@ -6,7 +6,7 @@ returns-in-Err-Short c =
     let cause = rw c.in-Err-Short.field-0-is at c.in-Err-Short.ensures.cause in
     (sym c.in-Session.ensures, cause.0, cause.1)
 
-pub returns-in-Err-NotBuilt : goal.returns-in-Err-NotBuilt
-returns-in-Err-NotBuilt c =
-    let cause = rw c.in-Err-NotBuilt.field-0-is at c.in-Err-NotBuilt.ensures.cause in
+pub returns-in-Err-BadTemplate : goal.returns-in-Err-BadTemplate
+returns-in-Err-BadTemplate c =
+    let cause = rw c.in-Err-BadTemplate.field-0-is at c.in-Err-BadTemplate.ensures.cause in
     (sym c.in-Session.ensures, cause.0, cause.1)
