@@ -52,9 +52,6 @@ module _ (s : Schema) where
 -- ---- offsets
 
 module _ (types : List TypeDef) where
-
-
-
   abbrev misplaced : ℕ → FieldDef → Bool
   misplaced end f = stands_below f.offset end || nat_lt 16384 (end_of_field types end f)
 
