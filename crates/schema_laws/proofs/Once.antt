@@ -4,7 +4,7 @@ use Rattle.sbe_schema.specs.declared.fault.Part.{Part}
 use Rattle.sbe_schema.specs.declared.schema.Schema.{Schema}
 use Rattle.sbe_schema.specs.declared.messages.MessageDef.{MessageDef}
 use Rattle.schema_laws.specs.Standing.{WalkRepeatsNone}
-use Rattle.schema_laws.specs.Order.{order_of, IsAhead, LiesIn, Forks, ComesBefore, WalkGoesInOrder}
+use Rattle.schema_laws.specs.Order.{order_of, IsAhead, ComesBefore, WalkGoesInOrder}
 use Rattle.schema_laws.proofs.Below.{Below, all_append, kind_below, block_below}
 use Rattle.std.specs.List.{AllByRecursion}
 use Rattle.std.specs.Int.{int_max}
@@ -198,7 +198,7 @@ no_longer : (p : List Spot) (x : Spot) (r : List Spot) → p ≡ p ++ x ∷ r �
 no_longer [] x r e = cc
 no_longer (y ∷ p) x r e = let inner : p ≡ p ++ x ∷ r = cc in no_longer p x r inner
 
-first_spot : Spot → List Spot → Spot
+abbrev first_spot : Spot → List Spot → Spot
 first_spot other [] = other
 first_spot other (x ∷ xs) = x
 
