@@ -1,5 +1,5 @@
 -- The configuration of a session as a TOML table: its keys in the order in which they are visited (this project's profile).
-use Rattle.std.specs.Prelude.{ℕ, ◌*◌, ◌^◌, ◌==◌, ◌≤◌, Bool, true, false, not, ◌&&◌, ◌||◌, nat_le, if◌then◌else◌, is_some, Option, Some, None, List, [], ◌∷◌, length, Result, Ok, Err, codes}
+use Rattle.std.specs.Prelude.{ℕ, ◌^◌, ◌==◌, ◌≤◌, Bool, true, false, not, ◌&&◌, ◌||◌, nat_le, if◌then◌else◌, is_some, List, [], ◌∷◌, length, Result, Ok, Err, codes}
 use Rattle.sbe_value.specs.declared.path.Step.TheVariants.{Key}
 use Rattle.uuid.specs.Text.{parsed}
 use Rattle.hex.specs.Hex.{decode_of}
