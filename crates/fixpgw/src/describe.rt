@@ -1,7 +1,7 @@
 //! What is wrong with CONFIG, in words for people.
 
 use sbe_schema::SchemaKind;
-use sbe_value::Path;
+use sbe_value::{Path, text_of_path};
 use schema_toml::ConfigFault;
 use std::alloc::{AllocError, Global};
 use toml_walk::TomlFault;
@@ -85,8 +85,8 @@ fn line(
     meaning: &str,
 ) -> Result<String, AllocError> {
     let place = match path {
-        Some(path) => path.text(alloc)?,
-        None => Path::new(alloc).text(alloc)?,
+        Some(path) => text_of_path(alloc, path)?,
+        None => text_of_path(alloc, &Path::new(alloc))?,
     };
     match std::str::from_utf8(place.as_slice()) {
         Ok(place) if !place.is_empty() => format!(in alloc; "config: {place}: {name}: {meaning}"),

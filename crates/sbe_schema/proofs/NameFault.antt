@@ -3,13 +3,14 @@ use Rattle.std.proofs.Common.{◌≡◌, ℕ, refl, sym, ap, ◌∙◌, Bool, �
 use Rattle.std.specs.List.{list_any}
 use Rattle.std.specs.FinSet as set
 use Rattle.sbe_schema.specs.declared.fault.SchemaKind.TheVariants.{DuplicateName}
-use Rattle.sbe_schema.specs.declared.schema.Schema.{Schema}
-use Rattle.sbe_schema.specs.declared.types.TypeDef.{TypeDef}
-use Rattle.sbe_schema.specs.declared.types.TypeKind.{TypeKind}
-use Rattle.sbe_schema.specs.declared.types.TypeKind.TheVariants.{Number, Enum, Set, Composite}
-use Rattle.sbe_schema.specs.declared.messages.FieldDef.{FieldDef}
-use Rattle.sbe_schema.specs.Groups.{GroupHead}
-use Rattle.sbe_schema.specs.Names.{Names, Numbers, same_name, primitive_named}
+use Rattle.schema_types.specs.declared.schema.Schema.{Schema}
+use Rattle.schema_types.specs.declared.types.TypeDef.{TypeDef}
+use Rattle.schema_types.specs.declared.types.TypeKind.{TypeKind}
+use Rattle.schema_types.specs.declared.types.TypeKind.TheVariants.{Number, Enum, Set, Composite}
+use Rattle.schema_types.specs.declared.messages.FieldDef.{FieldDef}
+use Rattle.schema_types.specs.Groups.{GroupHead}
+use Rattle.sbe_prim.specs.Names.{primitive_named}
+use Rattle.sbe_schema.specs.Names.{Names, Numbers, same_name}
 use Rattle.sbe_schema.specs.Places.{Table}
 use Rattle.sbe_schema.specs.Walk.{walk, names_of_fields}
 use Rattle.sbe_schema.specs.Checked.{breaks, occurs}

@@ -1,9 +1,9 @@
 -- The blocks of a schema: the root block of each message, and the block of an entry of each group at every depth (SBE 1.0, "Repeating groups").
 use Rattle.std.specs.Prelude.{ℕ, suc, ℤ, Option, List, [], ◌∷◌, ◌++◌, map}
-use Rattle.sbe_schema.specs.declared.messages.MessageDef.{MessageDef}
-use Rattle.sbe_schema.specs.declared.messages.FieldDef.{FieldDef}
-use Rattle.sbe_schema.specs.declared.messages.DataDef.{DataDef}
-use Rattle.sbe_schema.specs.Groups.{GroupHead, GroupTree, no_groups, group}
+use Rattle.schema_types.specs.declared.messages.MessageDef.{MessageDef}
+use Rattle.schema_types.specs.declared.messages.FieldDef.{FieldDef}
+use Rattle.schema_types.specs.declared.messages.DataDef.{DataDef}
+use Rattle.schema_types.specs.Groups.{GroupHead, GroupTree, no_groups, group}
 
 -- A block: how many groups it lies in, since when it is there, the bytes that are stated, its fields, the groups right in it, its data
 pub record Block : Type 0 where

@@ -3,18 +3,19 @@ use Rattle.std.specs.Prelude.{ℕ, zero, suc, ◌+◌, ◌*◌, ℤ, pos, int_lt
 use Rattle.std.specs.List.{list_any}
 use Rattle.std.specs.Ordering.{int_eq}
 use Rattle.sbe_prim.specs.Primitives.{size_of, least_of, greatest_of, lies_within}
-use Rattle.sbe_schema.specs.declared.schema.Schema.{Schema}
+use Rattle.schema_types.specs.declared.schema.Schema.{Schema}
 use Rattle.sbe_schema.specs.declared.fault.SchemaKind.{SchemaKind}
 use Rattle.sbe_schema.specs.declared.fault.SchemaKind.TheVariants.{DuplicateName, DuplicateId, UnknownType, BadOffset, ShortLength, BadEnum, BadSet, BadDimension, BadData, IllegalExtension, OverLimit, Memory}
-use Rattle.sbe_schema.specs.declared.types.TypeDef.{TypeDef}
-use Rattle.sbe_schema.specs.declared.types.TypeKind.{TypeKind}
-use Rattle.sbe_schema.specs.declared.types.TypeKind.TheVariants.{Number, Enum, Set, Composite}
-use Rattle.sbe_schema.specs.declared.types.MemberDef.{MemberDef}
-use Rattle.sbe_schema.specs.declared.messages.MessageDef.{MessageDef}
-use Rattle.sbe_schema.specs.declared.messages.FieldDef.{FieldDef}
-use Rattle.sbe_schema.specs.declared.messages.DataDef.{DataDef}
-use Rattle.sbe_schema.specs.Groups.{GroupHead}
-use Rattle.sbe_schema.specs.Names.{same_name, primitive_named}
+use Rattle.schema_types.specs.declared.types.TypeDef.{TypeDef}
+use Rattle.schema_types.specs.declared.types.TypeKind.{TypeKind}
+use Rattle.schema_types.specs.declared.types.TypeKind.TheVariants.{Number, Enum, Set, Composite}
+use Rattle.schema_types.specs.declared.types.MemberDef.{MemberDef}
+use Rattle.schema_types.specs.declared.messages.MessageDef.{MessageDef}
+use Rattle.schema_types.specs.declared.messages.FieldDef.{FieldDef}
+use Rattle.schema_types.specs.declared.messages.DataDef.{DataDef}
+use Rattle.schema_types.specs.Groups.{GroupHead}
+use Rattle.sbe_prim.specs.Names.{primitive_named}
+use Rattle.sbe_schema.specs.Names.{same_name}
 use Rattle.sbe_schema.specs.Meanings.{meaning_of}
 use Rattle.sbe_schema.specs.Identity.{is_unknown, is_composite}
 use Rattle.sbe_schema.specs.Kinds.{is_bad_enum_kind, is_bad_set_kind, is_dimension, is_uint32}

@@ -1,6 +1,6 @@
 -- What is found of the session's schema by computing it.
 use Rattle.std.proofs.Common.{refl}
-use Rattle.sbe_schema.specs.Names.{primitive_named}
+use Rattle.sbe_prim.specs.Names.{primitive_named}
 use Rattle.sbe_schema.specs.Checked.{is_checked}
 use Rattle.session_schema.specs.Laws.{SessionIsChecked, SessionBlocks}
 

@@ -3,15 +3,15 @@ use Rattle.std.specs.Prelude.{ℕ, ◌-◌, ◌^◌, ℤ, pos, Option, Some, Non
 use Rattle.sbe_prim.specs.declared.Order.TheVariants.{Little}
 use Rattle.sbe_prim.specs.declared.Primitive.{Primitive}
 use Rattle.sbe_prim.specs.declared.Primitive.TheVariants.{UInt8, UInt16, UInt32, UInt64}
-use Rattle.sbe_schema.specs.declared.schema.Schema.{Schema}
-use Rattle.sbe_schema.specs.declared.types.TypeDef.{TypeDef}
-use Rattle.sbe_schema.specs.declared.types.TypeKind.TheVariants.{Number}
-use Rattle.sbe_schema.specs.declared.types.Presence.{Presence}
-use Rattle.sbe_schema.specs.declared.types.Presence.TheVariants.{Required, Optional}
-use Rattle.sbe_schema.specs.declared.messages.MessageDef.{MessageDef}
-use Rattle.sbe_schema.specs.declared.messages.FieldDef.{FieldDef}
-use Rattle.sbe_schema.specs.declared.messages.DataDef.{DataDef}
-use Rattle.sbe_schema.specs.Groups.{no_groups}
+use Rattle.schema_types.specs.declared.schema.Schema.{Schema}
+use Rattle.schema_types.specs.declared.types.TypeDef.{TypeDef}
+use Rattle.schema_types.specs.declared.types.TypeKind.TheVariants.{Number}
+use Rattle.schema_types.specs.declared.types.Presence.{Presence}
+use Rattle.schema_types.specs.declared.types.Presence.TheVariants.{Required, Optional}
+use Rattle.schema_types.specs.declared.messages.MessageDef.{MessageDef}
+use Rattle.schema_types.specs.declared.messages.FieldDef.{FieldDef}
+use Rattle.schema_types.specs.declared.messages.DataDef.{DataDef}
+use Rattle.schema_types.specs.Groups.{no_groups}
 
 -- ---- types: numbers of which each may be written, the bytes of a session id, and a number that may be missing
 
