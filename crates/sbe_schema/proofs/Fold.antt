@@ -1,5 +1,5 @@
 -- The walk that keeps the best fault so far ends with the least fault at its first place.
-use Rattle.std.proofs.Common.{◌≡◌, ℕ, suc, ◌≤◌, ◌∙◌, sym, ap, refl, Bool, true, false, not, ◌&&◌, Option, Some, None, IsTrue, is_none, nat_lt, List, [], ◌∷◌, ◌++◌, if◌then◌else◌, arith, le_refl, lit≤}
+use Rattle.std.proofs.Common.{◌≡◌, ℕ, suc, ◌≤◌, ◌∙◌, sym, ap, refl, Bool, true, false, inr, Option, Some, None, IsTrue, is_none, nat_lt, List, [], ◌∷◌, ◌++◌, if◌then◌else◌, arith, le_refl, lit≤}
 use Rattle.std.proofs.lemmas.Bool.{false≢true}
 use Rattle.std.proofs.lemmas.Bool.Decides.{nat_tests}
 use Rattle.sbe_value.specs.declared.path.Step.{Step}
@@ -11,7 +11,9 @@ use Rattle.sbe_schema.specs.Names.{Names, Numbers}
 use Rattle.sbe_schema.specs.Places.{Place, Table, whole, path_of}
 use Rattle.std.specs.FinSet as set
 use Rattle.sbe_schema.specs.Walk.{walk, walk_types, walk_messages}
-use Rattle.sbe_schema.specs.Checked.{breaks, occurs, rules_in_order, first_place, fault, at_first, least_of_rules, fault_of, keeps, all_keep, is_checked, FaultTells}
+use Rattle.std.specs.Option.{option_map}
+use Rattle.sbe_schema.specs.Checked.{rules_in_order, is_checked, least_fault, breaks, occurs, first_place, fault, at_first, least_of_rules, fault_of, FaultTells, KindTells, IsLeast}
+use Rattle.sbe_schema.proofs.Found.{none_of, kind_of}
 use Rattle.sbe_schema.specs.Search.{rank, first_broken, rule_of, found_at, better, folded}
 
 -- rules in rising order from a rank on, and a fault that is at least of a rank
@@ -101,34 +103,23 @@ folded_append s best (x ∷ xs) ys =
 
 -- ---- a schema is checked exactly where no fault is found
 
-keeps_none : (s : Schema) (kinds : List SchemaKind) (p : Place) → keeps s kinds p ≡ is_none (first_broken s kinds p.names p.numbers p.table)
-keeps_none s [] p = refl
-keeps_none s (k ∷ ks) p =
-    elim (occurs s k p) as (λ b. (not b && keeps s ks p) ≡ is_none (if b then Some k else first_broken s ks p.names p.numbers p.table)) [ true ↦ refl | false ↦ keeps_none s ks p ]
-
-both_none : (o : Option SchemaKind) (spots : List Spot) (l : Option SchemaFault) → (is_none o && is_none l) ≡ is_none (better (found_at o spots) l)
-both_none None spots l = refl
-both_none (Some k) spots None = refl
-both_none (Some k) spots (Some f) =
-    elim (nat_lt (rank f.kind) (rank k)) as (λ b. false ≡ is_none (if b then Some f else Some (fault k (path_of spots)))) [ true ↦ refl | false ↦ refl ]
-
-all_none : (s : Schema) (ps : List Place) → all_keep s ps ≡ is_none (least_of_rules s rules_in_order ps)
-all_none s [] = refl
-all_none s (p ∷ ps) =
-    (λ i. keeps_none s rules_in_order p i && all_none s ps i)
-    ∙ both_none (first_broken s rules_in_order p.names p.numbers p.table) p.spots _
-    ∙ ap is_none (sym (least-cons s rules_in_order 0 in_order p ps))
-
 none_is : {A : Type 0} (o : Option A) → is_none o ≡ true → o ≡ None
 none_is None e = refl
 none_is (Some x) e = absurd (false≢true e)
 
 pub tells : (s : Schema) → FaultTells s
 unfolding is_checked fault_of
-tells s = (λ t. none_is _ (sym (all_none s (walk s)) ∙ t), λ e. all_none s (walk s) ∙ ap is_none e)
+tells s = (λ t. none_is _ (none_of s rules_in_order ∙ t), λ e. sym (none_of s rules_in_order) ∙ ap is_none e)
 
 pub checked_by_none : (s : Schema) → fault_of s ≡ None → IsTrue (is_checked s)
 checked_by_none s = (tells s).1
+
+pub kind_tells : (s : Schema) → KindTells s
+unfolding fault_of least_fault
+kind_tells s = kind_of s rules_in_order
+
+pub least_by_fault : (s : Schema) (found : SchemaFault) → fault_of s ≡ Some found → IsLeast s found
+least_by_fault s found e = inr (sym (kind_tells s) ∙ ap (option_map (λ found. found.kind)) e)
 
 -- the walk from its first place on
 pub found_by_walk : (s : Schema) (best end : Option SchemaFault) → best ≡ found_at (rule_of s set.empty set.empty whole) [] → end ≡ folded s (folded s best (walk_types s.types set.empty 0 s.types)) (walk_messages s.types set.empty set.empty 0 s.messages) → end ≡ fault_of s

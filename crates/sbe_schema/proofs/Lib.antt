@@ -1,4 +1,13 @@
 pub mod KeySets
+pub mod Along
+pub mod Parts
+pub mod Sizes
+pub mod Twice
+pub mod NameFault
+pub mod IdFault
+pub mod TypeFaults
+pub mod SinceFaults
+pub mod Found
 pub mod Fold
 pub mod Steps
 pub mod Trees

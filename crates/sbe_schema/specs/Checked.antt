@@ -1,5 +1,7 @@
--- A checked schema: no table of the walk breaks any of the rules. Else the least rule that is broken, at the first place that breaks it.
+-- A checked schema: none of the eleven faults occurs. Else the least that occurs, at the first table of the walk that breaks its rule.
 use Rattle.std.specs.Prelude.{◌≡◌, ◌⊎◌, IsTrue, Bool, true, false, not, ◌&&◌, if◌then◌else◌, Option, Some, None, List, [], ◌∷◌}
+use Rattle.std.specs.Option.{option_map}
+use Rattle.std.specs.List.{list_any}
 use Rattle.sbe_value.specs.declared.path.Step.{Step}
 use Rattle.sbe_schema.specs.declared.fault.SchemaKind.{SchemaKind}
 use Rattle.sbe_schema.specs.declared.fault.SchemaKind.TheVariants.{DuplicateName, DuplicateId, UnknownType, BadOffset, ShortLength, BadEnum, BadSet, BadDimension, BadData, IllegalExtension, OverLimit, Memory}
@@ -13,6 +15,30 @@ use Rattle.sbe_schema.specs.Layout.{is_bad_offset, is_short_length}
 use Rattle.sbe_schema.specs.Kinds.{is_bad_enum, is_bad_set, is_bad_dimension, is_bad_data}
 use Rattle.sbe_schema.specs.Versions.{is_illegal_extension}
 use Rattle.sbe_schema.specs.Limits.{is_over_limit}
+use Rattle.sbe_schema.specs.Faults.{has_fault}
+
+-- the rules, the least first
+abbrev pub rules_in_order : List SchemaKind
+rules_in_order =
+    DuplicateName ∷ DuplicateId ∷ UnknownType ∷ BadOffset ∷ ShortLength ∷ BadEnum ∷ BadSet ∷ BadDimension ∷ BadData ∷ IllegalExtension ∷ OverLimit ∷ []
+
+abbrev pub has_none_of : Schema → List SchemaKind → Bool
+has_none_of s [] = true
+has_none_of s (kind ∷ kinds) = not (has_fault s kind) && has_none_of s kinds
+
+-- a checked schema: none of the eleven faults occurs
+unfoldable pub is_checked : Schema → Bool
+is_checked s = has_none_of s rules_in_order
+
+abbrev pub least_in : Schema → List SchemaKind → Option SchemaKind
+least_in s [] = None
+least_in s (kind ∷ kinds) = if has_fault s kind then Some kind else least_in s kinds
+
+-- the least fault that occurs
+unfoldable pub least_fault : Schema → Option SchemaKind
+least_fault s = least_in s rules_in_order
+
+-- ---- the walk
 
 -- a table breaks a rule, where these names and numbers stand before it
 abbrev pub breaks : Schema → SchemaKind → Names → Numbers → Table → Bool
@@ -32,11 +58,6 @@ breaks schema Memory names numbers table = false
 -- the table at a place breaks a rule
 abbrev pub occurs : Schema → SchemaKind → Place → Bool
 occurs schema kind p = breaks schema kind p.names p.numbers p.table
-
--- the rules, the least first
-abbrev pub rules_in_order : List SchemaKind
-rules_in_order =
-    DuplicateName ∷ DuplicateId ∷ UnknownType ∷ BadOffset ∷ ShortLength ∷ BadEnum ∷ BadSet ∷ BadDimension ∷ BadData ∷ IllegalExtension ∷ OverLimit ∷ []
 
 -- the first place that breaks a rule
 abbrev pub first_place : Schema → SchemaKind → List Place → Option (List Step)
@@ -59,23 +80,21 @@ least_of_rules schema (kind ∷ kinds) places = at_first kind (first_place schem
 unfoldable pub fault_of : Schema → Option SchemaFault
 fault_of schema = least_of_rules schema rules_in_order (walk schema)
 
--- a table breaks none of some rules
-abbrev pub keeps : Schema → List SchemaKind → Place → Bool
-keeps schema [] p = true
-keeps schema (kind ∷ kinds) p = not (occurs schema kind p) && keeps schema kinds p
-
-abbrev pub all_keep : Schema → List Place → Bool
-all_keep schema [] = true
-all_keep schema (p ∷ ps) = keeps schema rules_in_order p && all_keep schema ps
-
--- no table of the walk breaks any rule
-unfoldable pub is_checked : Schema → Bool
-is_checked schema = all_keep schema (walk schema)
-
 -- what a refusal says: want of memory with the empty path, or the least fault at its first place
 abbrev pub Explains : Schema → SchemaFault → Type 0
 Explains schema found = ((found.kind ≡ Memory) × (found.path ≡ [])) ⊎ (fault_of schema ≡ Some found)
 
--- a schema is checked exactly where no fault is found
+-- what a refusal says of the schema's own lists: a fault other than want of memory is the least that occurs
+abbrev pub IsLeast : Schema → SchemaFault → Type 0
+IsLeast schema found = (found.kind ≡ Memory) ⊎ (least_fault schema ≡ Some found.kind)
+
+-- the walk finds a fault at some table exactly where the fault occurs
+abbrev pub WalkFinds : Schema → Type 0
+WalkFinds schema = (kind : SchemaKind) → list_any (occurs schema kind) (walk schema) ≡ has_fault schema kind
+
+-- the walk finds none exactly where the schema is checked, and else the least that occurs
 abbrev pub FaultTells : Schema → Type 0
 FaultTells schema = (IsTrue (is_checked schema) → fault_of schema ≡ None) × (fault_of schema ≡ None → IsTrue (is_checked schema))
+
+abbrev pub KindTells : Schema → Type 0
+KindTells schema = option_map (λ found. found.kind) (fault_of schema) ≡ least_fault schema

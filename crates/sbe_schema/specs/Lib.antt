@@ -8,6 +8,9 @@ pub mod Layout
 pub mod Kinds
 pub mod Versions
 pub mod Limits
+pub mod Sums
+pub mod Blocks
+pub mod Faults
 pub mod Checked
 pub mod Search
 pub mod Indexed

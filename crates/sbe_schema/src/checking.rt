@@ -1,9 +1,9 @@
 //! The check of a schema: one walk over its tables, which keeps the least fault
 //! found so far and its place.
 
-ghost use Rattle.std.specs.Prelude.{◌≡◌, None, IfOk, OnOk, IfErr, []};
+ghost use Rattle.std.specs.Prelude.{◌≡◌, None, IfOk, OnOk, IfErr, IsTrue, []};
 ghost use Rattle.sbe_schema.specs.Search.{found_at};
-ghost use Rattle.sbe_schema.specs.Checked.{fault_of, Explains, FaultTells};
+ghost use Rattle.sbe_schema.specs.Checked.{is_checked, fault_of, Explains, IsLeast, WalkFinds, FaultTells, KindTells};
 
 use crate::index::Index;
 use crate::rules::rule_of_whole;
@@ -21,8 +21,10 @@ use std::alloc::{AllocError, Global};
 #[tactic(auto, using(crate::proofs::Fold::checked_by_none))]
 pub fn check(alloc: Global, schema: Schema) -> Result<Checked, (Schema, SchemaFault)>
     ensures same { IfOk result (λ checked. checked.schema ≡ schema) }
+    ensures checked { OnOk result (IsTrue (is_checked schema)) }
     ensures sound { OnOk result (fault_of schema ≡ None) }
     ensures cause { IfErr result (λ refused. Explains schema refused.1) }
+    ensures least { IfErr result (λ refused. IsLeast schema refused.1) }
     ensures back { IfErr result (λ refused. refused.0 ≡ schema) }
 {
     match find_fault(alloc, &schema) {
@@ -69,7 +71,10 @@ fn fault_of_whole(alloc: Global, rule: Option<SchemaKind>) -> Option<SchemaFault
     }
 }
 
-/// The law that a schema is checked exactly where the walk finds no fault.
+/// The law that the walk finds each fault exactly where it occurs: so it finds none exactly in a checked schema,
+/// and else the least that occurs.
 pub fn fault_tells(schema: &Schema)
-    ensures { FaultTells schema.now }
+    ensures each { WalkFinds schema.now }
+    ensures none { FaultTells schema.now }
+    ensures least { KindTells schema.now }
 {}

@@ -1,9 +1,10 @@
--- No path is twice in the walk.
-use Rattle.std.proofs.Common.{◌≡◌, ℕ, suc, ◌+◌, ◌≤◌, ℤ, pos, List, [], ◌∷◌, ◌++◌, refl, sym, ap, subst, ◌∙◌, arith, append_assoc}
+-- The walk goes in order, so no path is in it twice.
+use Rattle.std.proofs.Common.{◌≡◌, ℕ, suc, ◌+◌, ◌≤◌, ◌<◌, inl, inr, lit≤, ℤ, pos, List, [], ◌∷◌, ◌++◌, refl, sym, ap, subst, ◌∙◌, arith, append_assoc}
 use Rattle.sbe_schema.specs.declared.fault.Part.{Part}
 use Rattle.schema_types.specs.declared.schema.Schema.{Schema}
 use Rattle.schema_types.specs.declared.messages.MessageDef.{MessageDef}
 use Rattle.schema_laws.specs.Standing.{WalkRepeatsNone}
+use Rattle.schema_laws.specs.Order.{order_of, IsAhead, ComesBefore, WalkGoesInOrder}
 use Rattle.schema_laws.proofs.Below.{Below, all_append, kind_below, block_below}
 use Rattle.std.specs.List.{AllByRecursion}
 use Rattle.std.specs.Int.{int_max}
@@ -26,77 +27,69 @@ use Rattle.sbe_schema.specs.Offsets.{member_end, field_end}
 use Rattle.sbe_schema.specs.Places.{Place, Table, type_table, value_table, bit_table, member_table, message_table, field_table, group_table, data_table}
 use Rattle.sbe_schema.specs.Walk.{spot, walk_values, walk_bits, walk_members, walk_kind, walk_types, walk_fields, walk_groups, walk_data, walk_block, walk_messages, root_of, walk, place, names_of_fields, names_of_groups, ids_of_fields, ids_of_groups, ids_of_data, entry_of}
 
-abbrev Apart : List Place → Place → Type 0
-Apart ps p = AllByRecursion (λ q. p.spots ≡ q.spots → ⊥) ps
+abbrev Ahead : List Place → Place → Type 0
+Ahead ps p = AllByRecursion (λ q. ComesBefore p.spots q.spots) ps
 
-abbrev Distinct : List Place → Type 0
-Distinct [] = Unit {0}
-Distinct (p ∷ ps) = Apart ps p × Distinct ps
+abbrev Ordered : List Place → Type 0
+Ordered [] = Unit {0}
+Ordered (p ∷ ps) = Ahead ps p × Ordered ps
 
 -- a path goes on from the base by a number of a list, that number or a later one
 abbrev From : List Spot → Part → ℕ → Place → Type 0
 From base part at p = (j : ℕ) × (r : List Spot) × (at ≤ j) × (p.spots ≡ base ++ spot part j ∷ r)
 
 abbrev Both : List Spot → Part → ℕ → List Place → Type 0
-Both base part at ps = AllByRecursion (From base part at) ps × Distinct ps
-
-cancel : (base xs ys : List Spot) → base ++ xs ≡ base ++ ys → xs ≡ ys
-cancel [] xs ys e = e
-cancel (b ∷ base) xs ys e = let inner : base ++ xs ≡ base ++ ys = cc in cancel base xs ys inner
-
-abbrev first_at : List Spot → ℕ
-first_at [] = 0
-first_at (x ∷ xs) = x.at
-
-abbrev first_part : List Spot → Part
-first_part [] = Types
-first_part (x ∷ xs) = x.part
+Both base part at ps = AllByRecursion (From base part at) ps × Ordered ps
 
 all_weaker : (P Q : Place → Type 0) → ((p : Place) → P p → Q p) → (ps : List Place) → AllByRecursion P ps → AllByRecursion Q ps
 all_weaker P Q f [] a = tt
 all_weaker P Q f (p ∷ ps) a = (f p a.0, all_weaker P Q f ps a.1)
 
-cross : (P Q : Place → Type 0) → ((p q : Place) → P p → Q q → p.spots ≡ q.spots → ⊥) → (ps qs : List Place) → AllByRecursion P ps → AllByRecursion Q qs → AllByRecursion (Apart qs) ps
-cross P Q clash [] qs a b = tt
-cross P Q clash (p ∷ ps) qs a b = (all_weaker Q (λ q. p.spots ≡ q.spots → ⊥) (λ q y. clash p q a.0 y) qs b, cross P Q clash ps qs a.1 b)
+cross : (P Q : Place → Type 0) → ((p q : Place) → P p → Q q → ComesBefore p.spots q.spots) → (ps qs : List Place) → AllByRecursion P ps → AllByRecursion Q qs → AllByRecursion (Ahead qs) ps
+cross P Q rise [] qs a b = tt
+cross P Q rise (p ∷ ps) qs a b = (all_weaker Q (λ q. ComesBefore p.spots q.spots) (λ q y. rise p q a.0 y) qs b, cross P Q rise ps qs a.1 b)
 
-distinct_append : (ps qs : List Place) → Distinct ps → Distinct qs → AllByRecursion (Apart qs) ps → Distinct (ps ++ qs)
-distinct_append [] qs a b c = b
-distinct_append (p ∷ ps) qs a b c = (all_append (λ q. p.spots ≡ q.spots → ⊥) ps qs a.0 c.0, distinct_append ps qs a.1 b c.1)
+ordered_append : (ps qs : List Place) → Ordered ps → Ordered qs → AllByRecursion (Ahead qs) ps → Ordered (ps ++ qs)
+ordered_append [] qs a b c = b
+ordered_append (p ∷ ps) qs a b c = (all_append (λ q. ComesBefore p.spots q.spots) ps qs a.0 c.0, ordered_append ps qs a.1 b c.1)
 
--- two numbers of one list, and two lists, lead to different paths
-numbers_clash : (base : List Spot) (part : Part) (i j : ℕ) (r t : List Spot) → suc i ≤ j → base ++ spot part i ∷ r ≡ base ++ spot part j ∷ t → ⊥
-numbers_clash base part i j r t h e = let same : i ≡ j = ap first_at (cancel base (spot part i ∷ r) (spot part j ∷ t) e) in absurd (omega arith)
+-- paths that are equal to others in order are so
+moved : (p q r t : List Spot) → p ≡ r → q ≡ t → ComesBefore r t → ComesBefore p q
+moved p q r t e f h = subst (λ l. ComesBefore l q) (sym e) (subst (λ l. ComesBefore r l) (sym f) h)
 
-parts_clash : (base : List Spot) (a b : Part) (i j : ℕ) (r t : List Spot) → (a ≡ b → ⊥) → base ++ spot a i ∷ r ≡ base ++ spot b j ∷ t → ⊥
-parts_clash base a b i j r t differ e = differ (ap first_part (cancel base (spot a i ∷ r) (spot b j ∷ t) e))
+-- two numbers of one list, two lists, and what lies in a table
+numbers_rise : (base : List Spot) (part : Part) (i j : ℕ) (r t : List Spot) → suc i ≤ j → ComesBefore (base ++ spot part i ∷ r) (base ++ spot part j ∷ t)
+numbers_rise base part i j r t h = inr (record { base = base; one = spot part i; other = spot part j; rest = r; others = t; first = refl; second = refl; ahead = inr (refl, omega arith) })
 
-deeper_clash : (base : List Spot) (x y : Spot) (r : List Spot) → base ++ x ∷ [] ≡ base ++ x ∷ y ∷ r → ⊥
-deeper_clash base x y r e = let same : x ∷ [] ≡ x ∷ y ∷ r = cancel base (x ∷ []) (x ∷ y ∷ r) e in cc
+parts_rise : (base : List Spot) (a b : Part) (i j : ℕ) (r t : List Spot) → order_of a < order_of b → ComesBefore (base ++ spot a i ∷ r) (base ++ spot b j ∷ t)
+parts_rise base a b i j r t h = inr (record { base = base; one = spot a i; other = spot b j; rest = r; others = t; first = refl; second = refl; ahead = inl h })
 
-from_clash : (base : List Spot) (a b : Part) → (a ≡ b → ⊥) → (p q : Place) → From base a 0 p → From base b 0 q → p.spots ≡ q.spots → ⊥
-from_clash base a b differ p q x y e = parts_clash base a b x.0 y.0 x.1 y.1 differ (sym x.3 ∙ (e ∙ y.3))
+deeper_follows : (base : List Spot) (x y : Spot) (r : List Spot) → ComesBefore (base ++ x ∷ []) (base ++ x ∷ y ∷ r)
+deeper_follows base x y r = inl (record { next = y; rest = r; goes_on = sym (append_assoc base (x ∷ []) (y ∷ r)) })
+
+from_rise : (base : List Spot) (a b : Part) → order_of a < order_of b → (p q : Place) → From base a 0 p → From base b 0 q → ComesBefore p.spots q.spots
+from_rise base a b rise p q x y = moved p.spots q.spots _ _ x.3 y.3 (parts_rise base a b x.0 y.0 x.1 y.1 rise)
 
 later : (base : List Spot) (part : Part) (at : ℕ) (ps : List Place) → AllByRecursion (From base part (at + 1)) ps → AllByRecursion (From base part at) ps
 later base part at ps a = all_weaker (From base part (at + 1)) (From base part at) (λ p x. let h : at + 1 ≤ x.0 = x.2 in (x.0, x.1, omega arith, x.3)) ps a
 
 -- one place, what lies below it, and what comes behind
 step : (base : List Spot) (part : Part) (at : ℕ) (names : Names) (ids : Numbers) (table : Table) (inside rest : List Place)
-    → AllByRecursion (Below (base ++ spot part at ∷ [])) inside → Distinct inside → Both base part (at + 1) rest → Both base part at (place base part at names ids table ∷ (inside ++ rest))
+    → AllByRecursion (Below (base ++ spot part at ∷ [])) inside → Ordered inside → Both base part (at + 1) rest → Both base part at (place base part at names ids table ∷ (inside ++ rest))
 step base part at names ids table inside rest below one two =
     let head : Place = place base part at names ids table in
     let inner : AllByRecursion (λ q. (y : Spot) × (r : List Spot) × (q.spots ≡ base ++ spot part at ∷ y ∷ r)) inside
     = all_weaker (Below (base ++ spot part at ∷ [])) (λ q. (y : Spot) × (r : List Spot) × (q.spots ≡ base ++ spot part at ∷ y ∷ r)) (λ q x. (x.0, x.1, x.2 ∙ append_assoc base (spot part at ∷ []) (x.0 ∷ x.1))) inside below in
     let inner_from : AllByRecursion (From base part at) inside
     = all_weaker (λ q. (y : Spot) × (r : List Spot) × (q.spots ≡ base ++ spot part at ∷ y ∷ r)) (From base part at) (λ q x. (at, x.0 ∷ x.1, omega arith, x.2)) inside inner in
-    let head_inside : Apart inside head
-    = all_weaker (λ q. (y : Spot) × (r : List Spot) × (q.spots ≡ base ++ spot part at ∷ y ∷ r)) (λ q. head.spots ≡ q.spots → ⊥) (λ q x e. deeper_clash base (spot part at) x.0 x.1 (e ∙ x.2)) inside inner in
-    let head_rest : Apart rest head
-    = all_weaker (From base part (at + 1)) (λ q. head.spots ≡ q.spots → ⊥) (λ q x e. let h : at + 1 ≤ x.0 = x.2 in numbers_clash base part at x.0 [] x.1 (omega arith) (e ∙ x.3)) rest two.0 in
-    let between : AllByRecursion (Apart rest) inside
-    = cross (λ q. (y : Spot) × (r : List Spot) × (q.spots ≡ base ++ spot part at ∷ y ∷ r)) (From base part (at + 1)) (λ p q x z e. let h : at + 1 ≤ z.0 = z.2 in numbers_clash base part at z.0 (x.0 ∷ x.1) z.1 (omega arith) (sym x.2 ∙ (e ∙ z.3))) inside rest inner two.0 in (
+    let head_inside : Ahead inside head
+    = all_weaker (λ q. (y : Spot) × (r : List Spot) × (q.spots ≡ base ++ spot part at ∷ y ∷ r)) (λ q. ComesBefore head.spots q.spots) (λ q x. moved head.spots q.spots _ _ refl x.2 (deeper_follows base (spot part at) x.0 x.1)) inside inner in
+    let head_rest : Ahead rest head
+    = all_weaker (From base part (at + 1)) (λ q. ComesBefore head.spots q.spots) (λ q x. let h : at + 1 ≤ x.0 = x.2 in moved head.spots q.spots _ _ refl x.3 (numbers_rise base part at x.0 [] x.1 (omega arith))) rest two.0 in
+    let between : AllByRecursion (Ahead rest) inside
+    = cross (λ q. (y : Spot) × (r : List Spot) × (q.spots ≡ base ++ spot part at ∷ y ∷ r)) (From base part (at + 1)) (λ p q x z. let h : at + 1 ≤ z.0 = z.2 in moved p.spots q.spots _ _ x.2 z.3 (numbers_rise base part at z.0 (x.0 ∷ x.1) z.1 (omega arith))) inside rest inner two.0 in (
       ((at, [], omega arith, refl), all_append (From base part at) inside rest inner_from (later base part at rest two.0)),
-      (all_append (λ q. head.spots ≡ q.spots → ⊥) inside rest head_inside head_rest, distinct_append inside rest one two.1 between),
+      (all_append (λ q. ComesBefore head.spots q.spots) inside rest head_inside head_rest, ordered_append inside rest one two.1 between),
     )
 
 values_once : (base : List Spot) (prim : Primitive) (names : Names) (numbers : Numbers) (at : ℕ) (vs : List ValueDef) → Both base Values at (walk_values base prim names numbers at vs)
@@ -111,7 +104,7 @@ members_once : (types : List TypeDef) (base : List Spot) (names : Names) (end at
 members_once types base names end at [] = (tt, tt)
 members_once types base names end at (m ∷ ms) = step base Members at names set.empty (member_table end m) [] _ tt tt (members_once types base (set.insert names m.name) (member_end types end m) (at + 1) ms)
 
-kind_once : (types : List TypeDef) (base : List Spot) (kind : TypeKind) → Distinct (walk_kind types base kind)
+kind_once : (types : List TypeDef) (base : List Spot) (kind : TypeKind) → Ordered (walk_kind types base kind)
 kind_once types base (Number prim length null low high) = tt
 kind_once types base (Enum prim values) = (values_once base prim set.empty set.empty 0 values).1
 kind_once types base (Set prim bits) = (bits_once base prim set.empty set.empty 0 bits).1
@@ -131,16 +124,16 @@ data_once : (base : List Spot) (holder : Holder) (names : Names) (ids : Numbers)
 data_once base holder names ids floor at [] = (tt, tt)
 data_once base holder names ids floor at (d ∷ ds) = step base Data at names ids (data_table holder floor d) [] _ tt tt (data_once base holder (set.insert names d.name) (set.insert ids (pos d.id)) (int_max floor d.since) (at + 1) ds)
 
-three_once : (base : List Spot) (fs gs ds : List Place) → Both base Fields 0 fs → Both base Groups 0 gs → Both base Data 0 ds → Distinct (fs ++ (gs ++ ds))
+three_once : (base : List Spot) (fs gs ds : List Place) → Both base Fields 0 fs → Both base Groups 0 gs → Both base Data 0 ds → Ordered (fs ++ (gs ++ ds))
 three_once base fs gs ds f g d =
-    let fields_groups = cross (From base Fields 0) (From base Groups 0) (from_clash base Fields Groups (λ e. cc)) fs gs f.0 g.0 in
-    let fields_data = cross (From base Fields 0) (From base Data 0) (from_clash base Fields Data (λ e. cc)) fs ds f.0 d.0 in
-    let groups_data = cross (From base Groups 0) (From base Data 0) (from_clash base Groups Data (λ e. cc)) gs ds g.0 d.0 in
-    distinct_append fs (gs ++ ds) f.1 (distinct_append gs ds g.1 d.1 groups_data) (apart_append fs gs ds fields_groups fields_data)
+    let fields_groups = cross (From base Fields 0) (From base Groups 0) (from_rise base Fields Groups (lit≤ tt)) fs gs f.0 g.0 in
+    let fields_data = cross (From base Fields 0) (From base Data 0) (from_rise base Fields Data (lit≤ tt)) fs ds f.0 d.0 in
+    let groups_data = cross (From base Groups 0) (From base Data 0) (from_rise base Groups Data (lit≤ tt)) gs ds g.0 d.0 in
+    ordered_append fs (gs ++ ds) f.1 (ordered_append gs ds g.1 d.1 groups_data) (ahead_append fs gs ds fields_groups fields_data)
   where
-    apart_append : (ps qs rs : List Place) → AllByRecursion (Apart qs) ps → AllByRecursion (Apart rs) ps → AllByRecursion (Apart (qs ++ rs)) ps
-    apart_append [] qs rs a b = tt
-    apart_append (p ∷ ps) qs rs a b = (all_append (λ q. p.spots ≡ q.spots → ⊥) qs rs a.0 b.0, apart_append ps qs rs a.1 b.1)
+    ahead_append : (ps qs rs : List Place) → AllByRecursion (Ahead qs) ps → AllByRecursion (Ahead rs) ps → AllByRecursion (Ahead (qs ++ rs)) ps
+    ahead_append [] qs rs a b = tt
+    ahead_append (p ∷ ps) qs rs a b = (all_append (λ q. ComesBefore p.spots q.spots) qs rs a.0 b.0, ahead_append ps qs rs a.1 b.1)
 
 groups_once : (types : List TypeDef) (base : List Spot) (holder : Holder) (names : Names) (ids : Numbers) (floor : ℤ) (at : ℕ) (tree : GroupTree) → Both base Groups at (walk_groups types base holder names ids floor at tree)
 groups_once types base holder names ids floor at no_groups = (tt, tt)
@@ -170,27 +163,54 @@ messages_once types names ids at (m ∷ ms) =
 
 -- ---- the whole walk
 
-no_path : (part : Part) (p : Place) → From [] part 0 p → [] ≡ p.spots → ⊥
-no_path part p x e = let same : [] ≡ spot part x.0 ∷ x.1 = e ∙ x.3 in cc
+no_path : (part : Part) (p : Place) → From [] part 0 p → ComesBefore [] p.spots
+no_path part p x = inl (record { next = spot part x.0; rest = x.1; goes_on = x.3 })
 
-walk_once : (schema : Schema) → Distinct (walk schema)
+walk_once : (schema : Schema) → Ordered (walk schema)
 unfolding walk
 walk_once schema =
     let types = types_once schema.types set.empty 0 schema.types in
     let messages = messages_once schema.types set.empty set.empty 0 schema.messages in
     let first = walk_types schema.types set.empty 0 schema.types in
     let second = walk_messages schema.types set.empty set.empty 0 schema.messages in
-    let away = cross (From [] Types 0) (From [] Messages 0) (from_clash [] Types Messages (λ e. cc)) first second types.0 messages.0 in
-    let top = all_append (λ q. [] ≡ q.spots → ⊥) first second (all_weaker (From [] Types 0) (λ q. [] ≡ q.spots → ⊥) (no_path Types) first types.0) (all_weaker (From [] Messages 0) (λ q. [] ≡ q.spots → ⊥) (no_path Messages) second messages.0) in
-    (top, distinct_append first second types.1 messages.1 away)
+    let away = cross (From [] Types 0) (From [] Messages 0) (from_rise [] Types Messages (lit≤ tt)) first second types.0 messages.0 in
+    let top = all_append (λ q. ComesBefore [] q.spots) first second (all_weaker (From [] Types 0) (λ q. ComesBefore [] q.spots) (no_path Types) first types.0) (all_weaker (From [] Messages 0) (λ q. ComesBefore [] q.spots) (no_path Messages) second messages.0) in
+    (top, ordered_append first second types.1 messages.1 away)
 
-apart_at : (between : List Place) (p : Place) (after : List Place) (q : Place) → Apart (between ++ p ∷ after) q → q.spots ≡ p.spots → ⊥
-apart_at [] p after q a = a.0
-apart_at (x ∷ between) p after q a = apart_at between p after q a.1
+ahead_at : (between : List Place) (p : Place) (after : List Place) (q : Place) → Ahead (between ++ p ∷ after) q → ComesBefore q.spots p.spots
+ahead_at [] p after q a = a.0
+ahead_at (x ∷ between) p after q a = ahead_at between p after q a.1
 
-distinct_at : (before : List Place) (q : Place) (between : List Place) (p : Place) (after : List Place) → Distinct (before ++ q ∷ (between ++ p ∷ after)) → q.spots ≡ p.spots → ⊥
-distinct_at [] q between p after d = apart_at between p after q d.0
-distinct_at (x ∷ before) q between p after d = distinct_at before q between p after d.1
+ordered_at : (before : List Place) (q : Place) (between : List Place) (p : Place) (after : List Place) → Ordered (before ++ q ∷ (between ++ p ∷ after)) → ComesBefore q.spots p.spots
+ordered_at [] q between p after d = ahead_at between p after q d.0
+ordered_at (x ∷ before) q between p after d = ordered_at before q between p after d.1
+
+pub walk_goes_in_order : WalkGoesInOrder
+walk_goes_in_order schema before q between p after split = ordered_at before q between p after (subst Ordered split (walk_once schema))
+
+-- ---- no path comes before itself
+
+cancel : (base xs ys : List Spot) → base ++ xs ≡ base ++ ys → xs ≡ ys
+cancel [] xs ys e = e
+cancel (b ∷ base) xs ys e = let inner : base ++ xs ≡ base ++ ys = cc in cancel base xs ys inner
+
+no_longer : (p : List Spot) (x : Spot) (r : List Spot) → p ≡ p ++ x ∷ r → ⊥
+no_longer [] x r e = cc
+no_longer (y ∷ p) x r e = let inner : p ≡ p ++ x ∷ r = cc in no_longer p x r inner
+
+abbrev first_spot : Spot → List Spot → Spot
+first_spot other [] = other
+first_spot other (x ∷ xs) = x
+
+not_ahead : (x y : Spot) → IsAhead x y → x ≡ y → ⊥
+not_ahead x y a e = elim a [ inl h ↦ let same : order_of x.part ≡ order_of y.part = ap (λ s. order_of s.part) e in absurd (omega arith) | inr h ↦ let same : x.at ≡ y.at = ap (λ s. s.at) e in let less : x.at < y.at = h.1 in absurd (omega arith) ]
+
+not_itself : (p q : List Spot) → ComesBefore p q → p ≡ q → ⊥
+not_itself p q h e =
+    elim h [
+      | inl l ↦ no_longer p l.next l.rest (e ∙ l.goes_on)
+      | inr f ↦ not_ahead f.one f.other f.ahead (ap (first_spot f.one) (cancel f.base (f.one ∷ f.rest) (f.other ∷ f.others) (sym f.first ∙ (e ∙ f.second))))
+    ]
 
 pub walk_repeats_none : WalkRepeatsNone
-walk_repeats_none schema before q between p after split = distinct_at before q between p after (subst Distinct split (walk_once schema))
+walk_repeats_none schema before q between p after split same = not_itself q.spots p.spots (walk_goes_in_order schema before q between p after split) same

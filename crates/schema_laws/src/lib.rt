@@ -6,6 +6,7 @@
 ghost use Rattle.schema_laws.specs.Pairs.{NamesAreToldApart, IdsAreToldApart, ValuesAreToldApart, BitsAreToldApart};
 ghost use Rattle.schema_laws.specs.Kept.{CheckedNamesDiffer, CheckedTypesAreNoPrimitives, CheckedIdsDiffer, CheckedNumbersDiffer};
 ghost use Rattle.schema_laws.specs.Standing.{WalkTellsTruly, WalkLeavesNoneOut, WalkRepeatsNone};
+ghost use Rattle.schema_laws.specs.Order.{WalkGoesInOrder};
 
 /// A table breaks the rule of names exactly where a table before it, in the same list or block, has the same name,
 /// or where it is a type that is named as a primitive.
@@ -64,4 +65,10 @@ pub fn walk_leaves_none_out()
 /// No path is twice in the walk.
 pub fn walk_repeats_none()
     ensures law { WalkRepeatsNone }
+{}
+
+/// Each place of the walk comes before all those behind it: types before messages, a table before what lies in it, and
+/// all that lies in it before what stands behind it.
+pub fn walk_goes_in_order()
+    ensures law { WalkGoesInOrder }
 {}

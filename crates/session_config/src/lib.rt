@@ -2,7 +2,11 @@
 //! It stands on the walk over keys, `uuid` and `hex`.
 #![tactic(auto)]
 
+mod configuration;
+mod laws;
 mod readers;
 mod settings;
 
+pub use configuration::{Configuration, Link, Role, Trade, read_configuration};
+pub use laws::{configurations_keep_the_role, unknown_key_is_least};
 pub use settings::{Settings, read_settings};

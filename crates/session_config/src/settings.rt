@@ -1,21 +1,16 @@
-//! The settings of `answer`: the acceptor's session over recorded bytes.
+//! The settings of `answer`: what the acceptor over recorded bytes takes of its
+//! configuration.
 
-ghost use Rattle.std.specs.Prelude.{◌≡◌, ◌≤◌, ◌<◌, codes, [], length, IfOk, Err};
-ghost use Rattle.toml_walk.specs.Keys.{defaulted};
-ghost use Rattle.toml.specs.View.{view};
+ghost use Rattle.std.specs.Prelude.{◌≡◌, ◌<◌, length, IfOk, Err};
 ghost use Rattle.toml_walk.specs.Reading.{Reads};
 ghost use Rattle.schema_toml.specs.Faults.{Tells, text_limit};
-ghost use Rattle.session_config.specs.Settings.{IsInRange, credentials_of, demanded, is_none, is_unsequenced, link_of, settings_of, settings_of_document, settings_of_text, trade_of};
+ghost use Rattle.session_config.specs.Settings.{IsInRange, settings_of_document, settings_of_text};
 
-use crate::readers::{Credentials, Flows, Sessions};
-use fixp_msgs::Flow;
+use crate::configuration::{Configuration, Link, Role, read_keys};
 use sbe_value::Bytes;
 use schema_toml::{ConfigFault, TEXT_LIMIT};
 use std::alloc::Global;
-use toml::Value;
-use toml_walk::{
-    TomlFault, defaulted, natural_at, natural_or, only, out_of_range, read_document, required,
-};
+use toml_walk::TomlFault;
 
 /// What a configuration says of the session.
 #[derive(Debug, Drop)]
@@ -28,107 +23,22 @@ pub struct Settings {
     pub credentials: Bytes,
 }
 
-/// Checks a condition on the value at a key.
-fn demanded(alloc: Global, key: &str, holds: bool) -> Result<bool, TomlFault>
-    ensures { Reads result (demanded key.now holds) }
-{
-    if holds {
-        Ok(true)
-    } else {
-        Err(out_of_range(alloc, key))
-    }
-}
-
-fn is_unsequenced(flow: Flow) -> bool
-    ensures { result ≡ is_unsequenced flow }
-{
-    matches!(flow, Flow::Unsequenced)
-}
-
-fn is_none(flow: Flow) -> bool
-    ensures { result ≡ is_none flow }
-{
-    matches!(flow, Flow::None)
-}
-
-/// The credentials, none where the key is absent.
-#[tactic(auto, using(crate::proofs::Readings::credentials_le))]
-fn read_credentials(alloc: Global, keys: &Value) -> Result<Bytes, TomlFault>
-    ensures value { Reads result (defaulted (codes "credentials") [] credentials_of (view keys.now)) }
-    ensures short { IfOk result (λ bytes. length bytes ≤ 2048) }
-{
-    defaulted::<Credentials>(alloc, (), keys, "credentials", Bytes::new(alloc))
-}
-
-/// The keys of the session itself.
-fn read_link(alloc: Global, keys: &Value) -> Result<Settings, TomlFault>
-    ensures value { Reads result (link_of (view keys.now)) }
-    ensures range { IfOk result IsInRange }
-{
-    let session = required::<Sessions>(alloc, (), keys, "session")?;
-    let keepalive = natural_at(alloc, keys, "keepalive", 100, 60000)?;
-    let client = required::<Flows>(alloc, (), keys, "client_flow")?;
-    demanded(alloc, "client_flow", is_unsequenced(client))?;
-    let server = required::<Flows>(alloc, (), keys, "server_flow")?;
-    demanded(alloc, "server_flow", is_none(server))?;
-    let credentials = read_credentials(alloc, keys)?;
-    Ok(Settings {
-        session,
-        keepalive: keepalive as u32,
-        credentials,
-    })
-}
-
-/// The keys of senders, desks and orders.
-fn read_trade(alloc: Global, keys: &Value) -> Result<bool, TomlFault>
-    ensures { Reads result (trade_of (view keys.now)) }
-{
-    let senders = natural_or(alloc, keys, "senders", 0, 16, 1)?;
-    demanded(alloc, "senders", senders == 0)?;
-    let desks = natural_or(alloc, keys, "desks", 0, 16, 0)?;
-    demanded(alloc, "desks", desks == 0)?;
-    natural_or(alloc, keys, "order_version", 1, 2, 1)?;
-    natural_or(
-        alloc,
-        keys,
-        "reference",
-        1,
-        1_000_000_000_000_000,
-        1_000_000,
-    )?;
-    Ok(true)
-}
-
-fn read_table(alloc: Global, keys: &Value) -> Result<Settings, TomlFault>
-    ensures value { Reads result (settings_of (view keys.now)) }
-    ensures range { IfOk result IsInRange }
-{
-    let settings = read_link(alloc, keys)?;
-    read_trade(alloc, keys)?;
-    only(
-        alloc,
-        keys,
-        &[
-            "session",
-            "keepalive",
-            "client_flow",
-            "server_flow",
-            "credentials",
-            "senders",
-            "desks",
-            "order_version",
-            "reference",
-        ],
-    )?;
-    Ok(settings)
-}
-
-fn read_keys(alloc: Global, text: &[u8]) -> Result<Settings, TomlFault>
+fn read_answer(alloc: Global, text: &[u8]) -> Result<Settings, TomlFault>
     ensures value { Reads result (settings_of_document text.now) }
     ensures range { IfOk result IsInRange }
 {
-    let keys = read_document(alloc, text)?;
-    read_table(alloc, &keys)
+    let Configuration { link, .. } = read_keys(alloc, Role::Answer, text)?;
+    let Link {
+        session,
+        keepalive,
+        credentials,
+        ..
+    } = link;
+    Ok(Settings {
+        session,
+        keepalive,
+        credentials,
+    })
 }
 
 /// What a text configures for `answer`.
@@ -144,7 +54,7 @@ pub fn read_settings(alloc: Global, text: &[u8]) -> Result<Settings, ConfigFault
     if text.len() > TEXT_LIMIT {
         return Err(ConfigFault::TooLong);
     }
-    match read_keys(alloc, text) {
+    match read_answer(alloc, text) {
         Ok(settings) => Ok(settings),
         Err(fault) => Err(ConfigFault::Toml(fault)),
     }

@@ -1,5 +1,8 @@
-use Rattle.sbe_schema.proofs.Fold.{tells}
+use Rattle.sbe_schema.proofs.Found.{walk_finds}
+use Rattle.sbe_schema.proofs.Fold.{tells, kind_tells}
 use Rattle.sbe_schema.proofs.checking.fault_tells.Goals as goal
 
 pub returns : goal.returns
-returns c = tells c.args.schema.now
+returns c =
+    let s = c.args.schema.now in
+    record { each = walk_finds s; none = tells s; least = kind_tells s }

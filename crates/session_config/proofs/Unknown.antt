@@ -1,0 +1,60 @@
+-- The unknown key that is told is the least of them.
+use Rattle.std.proofs.Common.{◌≡◌, ℕ, inl, inr, true, false, ◌&&◌, if◌then◌else◌, Option, Some, None, List, [], ◌∷◌, Err, refl, sym, ap, subst, ◌∙◌}
+use Rattle.std.proofs.lemmas.Bool.{false≢true, and_parts}
+use Rattle.std.specs.Ordering.{nat_cmp, is_lt}
+use Rattle.std.specs.declared.cmp.Ordering.{Ordering}
+use Rattle.std.specs.declared.cmp.Ordering.TheVariants.{Less, Equal, Greater}
+use Rattle.std.specs.Cmp.Lexicographic.{slice_cmp, nat_list_cmp_total}
+use Rattle.sbe_value.specs.declared.path.Step.TheVariants.{Key}
+use Rattle.toml.specs.Data.{Members, no_members, member, is_before, is_sorted, members_are_sorted}
+use Rattle.toml_walk.specs.declared.fault.TomlFault.TheVariants.{UnknownKey}
+use Rattle.toml_walk.specs.Keys.{is_among, unknown_member, unless_unknown}
+use Rattle.session_config.specs.Laws.{HasKey, IsAtMost, UnknownKeyIsLeast}
+
+lt_is : (r : Ordering) → is_lt r ≡ true → r ≡ Less
+lt_is Less e = refl
+lt_is Equal e = absurd (false≢true e)
+lt_is Greater e = absurd (false≢true e)
+
+-- a key before the first of ascending keys is before each of them
+before_all : (k : List ℕ) (ms : Members) → is_before k ms ≡ true → members_are_sorted ms ≡ true → (other : List ℕ) → HasKey ms other → slice_cmp nat_cmp k other ≡ Less
+before_all k no_members b s other h = absurd h
+before_all k (member l d ms) b s other h =
+    let first : slice_cmp nat_cmp k l ≡ Less = lt_is (slice_cmp nat_cmp k l) b in
+    let parts = and_parts (is_before l ms && is_sorted d) (members_are_sorted ms) s in
+    let here = and_parts (is_before l ms) (is_sorted d) parts.0 in
+    elim h [
+      | inl e ↦ subst (λ o. slice_cmp nat_cmp k o ≡ Less) e first
+      | inr more ↦ nat_list_cmp_total.trans k l other first (before_all l ms here.0 parts.1 other more)
+    ]
+
+abbrev Least : List (List ℕ) → Members → List ℕ → Type 0
+Least known keys key = HasKey keys key × (is_among key known ≡ false) × ((other : List ℕ) → HasKey keys other → is_among other known ≡ false → IsAtMost key other)
+
+least : (known : List (List ℕ)) (keys : Members) → members_are_sorted keys ≡ true → (key : List ℕ) → unknown_member known keys ≡ Some key → Least known keys key
+least known no_members s key e = absurd cc
+least known (member k d ms) s key e =
+    let parts = and_parts (is_before k ms && is_sorted d) (members_are_sorted ms) s in
+    let here = and_parts (is_before k ms) (is_sorted d) parts.0 in
+    elim (is_among k known) as (λ b. is_among k known ≡ b → (if b then unknown_member known ms else Some k) ≡ Some key → Least known (member k d ms) key) [
+      | true ↦ λ among told. let rest = least known ms parts.1 key told in (
+        inr rest.0,
+        rest.1,
+        λ other h unknown. elim h [
+          | inl same ↦ absurd (false≢true (sym unknown ∙ (ap (λ o. is_among o known) (sym same) ∙ among)))
+          | inr more ↦ rest.2 other more unknown
+        ],
+      )
+      | false ↦ λ among told. let same : k ≡ key = cc in subst (Least known (member k d ms)) same (
+        inl refl,
+        among,
+        λ other h unknown. elim h [ inl is ↦ inl is | inr more ↦ inr (before_all k ms here.0 parts.1 other more) ],
+      )
+    ] refl e
+
+told_of : (o : Option (List ℕ)) (key : List ℕ) → unless_unknown o ≡ Err (UnknownKey (Key key ∷ [])) → o ≡ Some key
+told_of None key e = absurd cc
+told_of (Some k) key e = cc
+
+pub unknown_key_is_least : UnknownKeyIsLeast
+unknown_key_is_least known keys s key e = least known keys s key (told_of (unknown_member known keys) key e)

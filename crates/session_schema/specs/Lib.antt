@@ -1,0 +1,2 @@
+pub mod SessionSchema
+pub mod Laws
