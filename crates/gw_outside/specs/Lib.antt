@@ -1,2 +1,2 @@
+pub mod Disk
 pub mod Faults
-pub mod InMemory

@@ -14,7 +14,8 @@ pub trait Source {
     /// How many calls have failed; it never falls.
     ghost faults: { Self → ℕ };
 
-    /// Gives the next bytes into the front of `into`, and how many; 0 is the end of the input.
+    /// Gives the next bytes into the front of `into`, and how many; 0 is the end of the input. Nothing is claimed of
+    /// what `into` has behind them, or at an error.
     ///
     /// # Errors
     /// `Failed` where the device failed: nothing was given.

@@ -1,0 +1,35 @@
+//! A file as a disk: it is read, written and synced, and kept to one process.
+
+use gw_outside::{Disk, Failed};
+use gw_real::{DiskReason, FileDisk};
+use std::test::Fail;
+
+/// The length through the trait.
+fn length<D: Disk>(disk: &mut D) -> Result<u64, Failed> {
+    disk.length()
+}
+
+/// The bytes read at a place, and a sync behind it, through the trait.
+fn read_and_synced<D: Disk>(disk: &mut D, at: u64, into: &mut [u8]) -> Result<usize, Failed> {
+    let count = disk.read_at(at, into)?;
+    disk.sync()?;
+    Ok(count)
+}
+
+#[test]
+fn keeps_a_file_to_itself(rt: HostRuntime) -> Result<(), Fail> {
+    let mut missing = FileDisk::open(&rt, "no-such-outbox");
+    assert_eq!(rt; length(&mut missing), Err(Failed));
+    assert!(rt; matches!(missing.reason(), Some(DiskReason::System(_))));
+    let mut disk = FileDisk::open_or_make(&rt, "outbox");
+    assert_eq!(rt; disk.write_at(0, &[1, 2, 3]), Ok(()));
+    let mut piece = [0; 4];
+    assert_eq!(rt; read_and_synced(&mut disk, 1, &mut piece), Ok(2));
+    assert_eq!(rt; &piece[..2], [2, 3].as_slice());
+    assert_eq!(rt; length(&mut disk), Ok(3));
+    assert!(rt; disk.reason().is_none());
+    let mut second = FileDisk::open(&rt, "outbox");
+    assert_eq!(rt; length(&mut second), Err(Failed));
+    assert!(rt; matches!(second.reason(), Some(DiskReason::Locked)));
+    Ok(())
+}

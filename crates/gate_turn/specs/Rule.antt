@@ -1,0 +1,113 @@
+-- The rule of the turn lock: what holds of its words, of the value where it is at home, and of all views, between any two steps.
+-- The words are the next ticket and the ticket that is served, both modulo 2^64, and the number of entries. The slot has the value.
+use Rattle.std.specs.Prelude.{◌≡◌, ◌≢◌, ◌⊎◌, ℕ, zero, suc, ◌+◌, ◌%◌, ◌^◌, ◌<◌, ◌≤◌, true, List, [], ◌∷◌, ◌++◌, length, Option, Some, None}
+use Rattle.std.specs.List.{AllByRecursion}
+use mathlib.Core.Option.{none, some}
+use lib.ListN.{get_elem?}
+use Rattle.atomic_table.specs.Table.{State}
+use Rattle.session_model.specs.Journal.{Entry, History, BeginsHistory, entries_of}
+use Rattle.gate_turn.specs.Views.{Account, Part, View}
+
+-- n is the number of a pass, where so many were made
+pub record In (made n : ℕ) : Type 0 where
+  pub from_one : 1 ≤ n
+  pub up_to : n ≤ made
+
+-- 1 with a ticket, and 0 without
+abbrev pub waiting : Option ℕ → ℕ
+waiting None = 0
+waiting (Some _) = 1
+
+-- how many of the passes up to n have a ticket
+abbrev pub tickets : (ℕ → Part) → ℕ → ℕ
+tickets part zero = 0
+tickets part (suc n) = waiting (part (suc n)).ticket + tickets part n
+
+-- the part p stands in the view of the seat i, at the place k: it is that of its number, which stands nowhere else
+pub record Stands (part : ℕ → Part) (seat place : ℕ → ℕ) (made i k : ℕ) (p : Part) : Type 0 where
+  pub inside : In made p.number
+  pub is : part p.number ≡ p
+  pub sits : seat p.number ≡ i
+  pub lies : place p.number ≡ k
+
+-- the numbers in the views are those from 1 to `made`, each once
+pub record Seated (part : ℕ → Part) (seat place : ℕ → ℕ) (made : ℕ) (views : List View) : Type 0 where
+  pub here : (i k : ℕ) (v : View) (p : Part) → get_elem? views i ≡ some v → get_elem? v k ≡ some p → Stands part seat place made i k p
+  pub present : (n : ℕ) → In made n → (v : View) × (get_elem? views (seat n) ≡ some v) × (get_elem? v (place n) ≡ some (part n))
+
+-- the tickets of the passes are the numbers from `now` to `next - 1`, each once
+pub record Queued (part : ℕ → Part) (made next now : ℕ) : Type 0 where
+  pub count : tickets part made + now ≡ next
+  pub waits : (n t : ℕ) → In made n → (part n).ticket ≡ Some t → (now ≤ t) × (t < next)
+  pub taken : (t : ℕ) → now ≤ t → t < next → (n : ℕ) × In made n × ((part n).ticket ≡ Some t)
+  pub apart : (m n t : ℕ) → In made m → In made n → (part m).ticket ≡ Some t → (part n).ticket ≡ Some t → m ≡ n
+
+-- what the pass of number n knows fits the history, and the count of faults of the value that was at home last
+pub record Fits (opening : Account) (log : History) (top n : ℕ) (p : Part) : Type 0 where
+  pub number : p.number ≡ n
+  pub opened : p.opening ≡ opening
+  pub seen : BeginsHistory p.seen log
+  pub looked_from : length p.seen.made ≤ p.looked
+  pub looked : p.looked ≤ length log.made
+  pub mine : p.mine ≡ entries_of log.made n
+  pub ended : p.ended ≡ true → log.finished ≡ true
+  pub faults_from : opening.faults ≤ p.faults
+  pub faults : p.faults ≤ top
+
+-- the history begins with the opening one; each entry behind that is a pass's; and it has the mark only where the opening one
+-- has it or a pass added it, which one pass at most did
+pub record Grown (part : ℕ → Part) (opening : Account) (made : ℕ) (log : History) : Type 0 where
+  pub begins : BeginsHistory opening.history log
+  pub more : List Entry
+  pub behind : log.made ≡ opening.history.made ++ more
+  pub authors : AllByRecursion (λ (e : Entry). In made e.sender) more
+  pub marked : log.finished ≡ true → (opening.history.finished ≡ true) ⊎ ((n : ℕ) × In made n × ((part n).ended ≡ true))
+  pub once : (m n : ℕ) → In made m → In made n → (part m).ended ≡ true → (part n).ended ≡ true → m ≡ n
+
+-- a value that may be at home: it has the opening's limits, a count of faults not below the opening's, and is broken only
+-- where its count is above that
+pub record Sound (opening now : Account) : Type 0 where
+  pub limits : now.limits ≡ opening.limits
+  pub faults : opening.faults ≤ now.faults
+  pub broken : now.broken ≡ true → opening.faults < now.faults
+
+module _ {T : Type 0} (tells : T → Account) where
+  -- no pass has the turn, and the value is at home
+  pub record Home (part : ℕ → Part) (opening : Account) (made : ℕ) (log : History) (top : ℕ) (homes : List (mathlib.Core.Option.Option (Option T))) : Type 0 where
+    pub value : T
+    pub home : homes ≡ some (Some value) ∷ []
+    pub history : (tells value).history ≡ log
+    pub faults : (tells value).faults ≡ top
+    pub sound : Sound opening (tells value)
+    pub free : (n : ℕ) → In made n → (part n).held ≡ None
+
+  -- one pass has the turn, by the ticket that is served, and the value is out with it
+  pub record Out (part : ℕ → Part) (made : ℕ) (log : History) (top now : ℕ) (homes : List (mathlib.Core.Option.Option (Option T))) : Type 0 where
+    pub holder : ℕ
+    pub inside : In made holder
+    pub held : (part holder).held ≡ Some log
+    pub ticket : (part holder).ticket ≡ Some now
+    pub faults : (part holder).faults ≡ top
+    pub home : homes ≡ none ∷ []
+    pub alone : (n : ℕ) → In made n → n ≢ holder → (part n).held ≡ None
+
+  -- The rule. `next` and `now` count the tickets drawn and served. `log` is the history held, or that of the value at home;
+  -- `top` the holder's count of faults, or that of the value at home
+  pub record Turns (opening : Account) (s : State (Option T) View) : Type 0 where
+    pub part : ℕ → Part
+    pub seat : ℕ → ℕ
+    pub place : ℕ → ℕ
+    pub made : ℕ
+    pub log : History
+    pub top : ℕ
+    pub next : ℕ
+    pub now : ℕ
+    pub words : s.words ≡ (next % 2 ^ 64) ∷ (now % 2 ^ 64) ∷ length log.made ∷ []
+    pub some_made : 1 ≤ made
+    pub few : made ≤ 18
+    pub first : (part 1).made ≡ made
+    pub seated : Seated part seat place made s.views
+    pub queued : Queued part made next now
+    pub each : (n : ℕ) → In made n → Fits opening log top n (part n)
+    pub grown : Grown part opening made log
+    pub turn : Home part opening made log top s.homes ⊎ Out part made log top now s.homes

@@ -1,0 +1,73 @@
+//! How a pass gets the turn and gives it on: the steps on the lock's words, for the seat that the pass has.
+use crate::lock::{COUNT, SERVING, SLOT, TICKET, TurnLock};
+use crate::logged::Logged;
+use crate::plays::{Draws, GivesOn, Publishes, Waits};
+use crate::rule::View;
+use atomic_table::Seat;
+use std::sync::Wait;
+
+impl<T: Logged> TurnLock<T> {
+    ghost use Rattle.std.specs.Prelude.{◌≡◌, [], ◌∷◌, Some, None};
+    ghost use Rattle.gate_turn.specs.Views.{part_of, left};
+    ghost use Rattle.gate_turn.specs.Steps.{Entered, Returns};
+
+    /// Draws a ticket, waits until it is served, and takes the value out of the slot.
+    pub(crate) fn wait_turn<R: Wait>(&self, seat: &mut Seat<Option<T>, View>, rt: &R) -> T
+        requires own { seat.old.table_id ≡ self.now.table.shared.table_id }
+        requires one { seat.old.me.0 ≡ part_of seat.old.me.0 ∷ [] }
+        requires slot { seat.old.me.1 ≡ [] }
+        requires ticket { (part_of seat.old.me.0).ticket ≡ None }
+        requires held { (part_of seat.old.me.0).held ≡ None }
+        ensures own { seat.new.table_id ≡ seat.old.table_id }
+        ensures slot { seat.new.me.1 ≡ (0, None) ∷ [] }
+        ensures one { seat.new.me.0 ≡ part_of seat.new.me.0 ∷ [] }
+        ensures entered { Entered (part_of seat.old.me.0) (part_of seat.new.me.0) (T.tells result) }
+    {
+        let ticket = self.table.shared.fetch_add::<Draws>(seat, TICKET, 1);
+        for _ in rt.forever() {
+            let serving = self.table.shared.load::<Waits>(seat, SERVING);
+            if serving == ticket {
+                return self.take_out(seat);
+            }
+            // At most 17 turns come before this one, so the low half of the word tells each change.
+            self.table
+                .shared
+                .park(rt, SERVING, (serving % (1 << 32)) as u32);
+        }
+        unreachable!()
+    }
+
+    /// Takes the value out of the slot, which the seat holds.
+    fn take_out(&self, seat: &mut Seat<Option<T>, View>) -> T
+        requires own { seat.old.table_id ≡ self.now.table.shared.table_id }
+        requires slot { (value : T) × (seat.old.me.1 ≡ (0, Some value) ∷ []) }
+        ensures own { seat.new.table_id ≡ seat.old.table_id }
+        ensures value { seat.old.me.1 ≡ (0, Some result) ∷ [] }
+        ensures view { seat.new.me.0 ≡ seat.old.me.0 }
+        ensures slot { seat.new.me.1 ≡ (0, None) ∷ [] }
+    {
+        let Some(value) = self.table.shared.exchange(seat, SLOT, None) else {
+            unreachable!()
+        };
+        value
+    }
+
+    /// Puts the value into the slot, publishes its number of entries, and lets the next ticket be served.
+    pub(crate) fn give_on(&self, seat: &mut Seat<Option<T>, View>, value: T)
+        requires own { seat.old.table_id ≡ self.now.table.shared.table_id }
+        requires one { seat.old.me.0 ≡ part_of seat.old.me.0 ∷ [] }
+        requires slot { seat.old.me.1 ≡ (0, None) ∷ [] }
+        requires held { (part_of seat.old.me.0).held ≡ Some (part_of seat.old.me.0).seen }
+        requires returns { Returns (part_of seat.old.me.0) (T.tells value) }
+        ensures own { seat.new.table_id ≡ seat.old.table_id }
+        ensures slot { seat.new.me.1 ≡ [] }
+        ensures left { seat.new.me.0 ≡ left (T.tells value) (part_of seat.old.me.0) ∷ [] }
+    {
+        let count = value.length();
+        let before = self.table.shared.exchange(seat, SLOT, Some(value));
+        let None = before else { unreachable!() };
+        self.table.shared.store::<Publishes>(seat, COUNT, count);
+        self.table.shared.fetch_add::<GivesOn>(seat, SERVING, 1);
+        self.table.shared.wake_all(SERVING);
+    }
+}

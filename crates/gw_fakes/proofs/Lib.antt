@@ -1,0 +1,3 @@
+mod Settling
+mod Sound
+mod Tearing

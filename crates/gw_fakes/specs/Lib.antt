@@ -1,0 +1,4 @@
+pub mod DiskLaws
+pub mod Disks
+pub mod InMemory
+pub mod MemDisks

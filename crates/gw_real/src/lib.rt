@@ -1,0 +1,6 @@
+//! The devices of the operating system. They tell nothing of their content.
+#![tactic(auto)]
+
+mod disk;
+
+pub use disk::{DiskReason, FileDisk};

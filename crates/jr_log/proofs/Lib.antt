@@ -1,0 +1,4 @@
+mod Appends
+mod Fronts
+mod Headers
+mod Writes

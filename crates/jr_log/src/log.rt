@@ -1,0 +1,141 @@
+//! The journal and its records in memory.
+
+ghost use Rattle.std.specs.Prelude.{◌≡◌, ◌⊎◌, ◌≤◌, ◌<◌, ◌+◌, ◌^◌, Bool, false, true, ℕ, List, [], ◌∷◌, ◌++◌, length, Err, IfOk, IfErr, OnOk, OnErr};
+ghost use Rattle.std.specs.List.{AllByRecursion};
+ghost use Rattle.std.specs.Option.{ForSome};
+ghost use Rattle.gw_outside.specs.Faults.{HasRisen};
+ghost use Rattle.jr_record.specs.Records.{IsRecord};
+ghost use Rattle.jr_record.specs.Images.{journal_size, IsJournal};
+ghost use Rattle.jr_log.specs.Behind.{front_of, AllClosed, legal_prop};
+
+use crate::behind::{gated, write_behind};
+use crate::faults::AddFault;
+use gw_outside::Disk;
+use jr_record::{AppendFault, FetchFault, Journal, Limits, Record, one_verdict, record_size};
+use std::alloc::Global;
+
+/// A journal on one disk, which keeps its records in memory.
+#[derive(Drop)]
+pub struct LogJournal<D: Disk> {
+    alloc: Global,
+    disk: D,
+    limits: Limits,
+    records: Vec<Record>,
+    size: u64,
+    broken: bool,
+    ghost legal: { AllByRecursion IsRecord records.items } by { legal_prop records.items },
+    ghost sized: { journal_size records.items ≡ size },
+    ghost small: { size ≤ 2 ^ 41 },
+    ghost settled: { broken ≡ false → AllClosed (front_of records.items) (D.may_leave disk) },
+}
+
+impl<D: Disk> LogJournal<D> {
+    ghost use Rattle.jr_log.specs.Log.{disk_of};
+    ghost use Rattle.jr_log.specs.Adding.{OnFailure, OnMemory};
+
+    /// Gives the disk back.
+    pub fn close(self) -> D
+        ensures { result ≡ disk_of self }
+    {
+        self.disk
+    }
+
+    /// Adds records behind the others, all or none.
+    ///
+    /// # Errors
+    /// `Memory`, which changes nothing. `Fault` where a call of the disk failed: the journal is broken from then on.
+    fn add(&mut self, batch: Vec<Record>) -> Result<(), AddFault>
+        requires open { self.old.broken ≡ false }
+        requires some { 0 < length batch.items }
+        requires legal { AllByRecursion IsRecord batch.items }
+        ensures ok { OnOk result (self.new.records.items ≡ self.old.records.items ++ batch.items) }
+        ensures ok_open { OnOk result (self.new.broken ≡ false) }
+        ensures err { OnErr result (self.new.records.items ≡ self.old.records.items) }
+        ensures err_size { OnErr result (self.new.size ≡ self.old.size) }
+        ensures memory { OnMemory result (self.new.broken ≡ false) }
+        ensures memory_disk { OnMemory result (self.new.disk ≡ self.old.disk) }
+        ensures fault { OnFailure result (self.new.broken ≡ true) }
+        ensures cause { OnFailure result (HasRisen (D.faults self.old.disk) (D.faults self.new.disk)) }
+        ensures images { OnFailure result ((image : List ℕ) → D.may_leave self.new.disk image → IsJournal image self.old.records.items ⊎ IsJournal image (self.old.records.items ++ batch.items)) }
+        ensures limits { self.new.limits ≡ self.old.limits }
+        ensures never_falls { D.faults self.old.disk ≤ D.faults self.new.disk }
+    {
+        let mut batch = batch;
+        self.records.reserve(batch.len())?;
+        let bytes = gated(self.alloc, batch.as_slice())?;
+        // Broken until each call of the disk has done its part.
+        self.broken = true;
+        write_behind(&mut self.disk, self.size - 1, bytes.as_slice())?;
+        match self.records.append(&mut batch) {
+            Ok(()) => {}
+            Err(_) => unreachable!(),
+        }
+        self.size += bytes.len() as u64 - 1;
+        self.broken = false;
+        Ok(())
+    }
+}
+
+impl<D: Disk> Journal for LogJournal<D> {
+    ghost use Rattle.std.specs.Prelude.{length};
+    ghost use Rattle.std.proofs.Common.{◌∙◌, ap, subst, sym};
+    ghost use Rattle.std.specs.List.{AllByRecursion};
+    ghost use Rattle.jr_record.specs.Records.{IsRecord};
+    ghost use Rattle.jr_record.specs.Images.{journal_size};
+    ghost use Rattle.jr_log.specs.Behind.{few_records};
+    ghost use Rattle.jr_log.specs.Log.{StandsFor, MayLeave};
+
+    ghost stands = { StandsFor };
+
+    ghost leaves = { MayLeave };
+
+    ghost faults = { λ j. D.faults j.disk };
+
+    ghost limits = { λ j. j.limits };
+
+    ghost is_broken = { λ j. j.broken };
+
+    ghost count = { λ j. length j.records.items };
+
+    ghost size = { λ j. j.size };
+
+    fn append(&mut self, r: &Record) -> Result<(), AppendFault> {
+        // An image holds one list at most.
+        one_verdict();
+        if self.broken {
+            return Err(AppendFault::Broken);
+        }
+        if !r.is_control() && self.size + record_size(r) > self.limits.bytes {
+            return Err(AppendFault::Full { bytes: self.size });
+        }
+        let mut batch = Vec::with_capacity(self.alloc, 1)?;
+        batch.push(r.copy(self.alloc)?)?;
+        self.add(batch)?;
+        Ok(())
+    }
+
+    fn read(&mut self, i: u64) -> Result<Record, FetchFault> {
+        if self.broken {
+            return Err(FetchFault::Broken);
+        }
+        Ok(self.records[i as usize].copy(self.alloc)?)
+    }
+
+    fn len(&self) -> u64 {
+        self.records.len() as u64
+    }
+
+    fn bytes(&self) -> u64 {
+        self.size
+    }
+
+    fn broken(&self) -> bool {
+        self.broken
+    }
+
+    ghost counted = { λ j h is. (sym (ap length is), sym (ap journal_size is) ∙ j.sized) };
+
+    ghost legal = { λ j h is. subst (AllByRecursion IsRecord) is j.legal };
+
+    ghost few = { λ j. few_records j.records.items j.size j.sized j.small };
+}

@@ -1,0 +1,4 @@
+pub mod Journals
+pub mod Images
+pub mod Laws
+pub mod Records

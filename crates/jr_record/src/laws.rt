@@ -1,0 +1,13 @@
+//! The laws of records and of the images that hold them, each on a function without a body.
+
+ghost use Rattle.jr_record.specs.Laws.{AtMostOneRecord, AtMostOneVerdict};
+
+/// At most one record is spelled at the front of given bytes.
+pub fn one_record()
+    ensures { AtMostOneRecord }
+{}
+
+/// An image holds at most one list of records, or is damaged at one place, or is not formatted.
+pub fn one_verdict()
+    ensures { AtMostOneVerdict }
+{}

@@ -1,0 +1,19 @@
+-- What a value keeps where it takes an entry, and what a pass then knows.
+use Rattle.std.specs.Prelude.{◌≡◌, ℕ, ◌≤◌, ◌<◌, true, [], ◌∷◌, ◌++◌, length}
+use Rattle.session_model.specs.Journal.{Entry, BeginsHistory}
+use Rattle.gate_turn.specs.Views.{Account, Part}
+
+-- the limits stay, the count of faults does not fall, and what is broken now was so before, or has failed since
+pub record StaysSound (before after : Account) : Type 0 where
+  pub limits : after.limits ≡ before.limits
+  pub faults : before.faults ≤ after.faults
+  pub broken : after.broken ≡ true → before.broken ≢ true → before.faults < after.faults
+
+-- the pass that knew p has added one entry of its own, as the n-th of all, behind all that it had seen
+pub record Sent (p q : Part) (n : ℕ) : Type 0 where
+  pub entry : Entry
+  pub author : entry.sender ≡ p.number
+  pub seen : BeginsHistory p.seen q.seen
+  pub count : length q.seen.made ≡ n
+  pub last : (before : List Entry) × (q.seen.made ≡ before ++ entry ∷ [])
+  pub mine : q.mine ≡ p.mine ++ entry ∷ []
