@@ -1,4 +1,9 @@
 pub mod NameMaps
 pub mod Rows
-pub mod Templates
+pub mod Lacking
+pub mod Places
 pub mod Composites
+pub mod Kept
+pub mod Fits
+pub mod Within
+pub mod Legality

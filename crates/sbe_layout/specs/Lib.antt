@@ -4,3 +4,5 @@ pub mod Falls
 pub mod Plans
 pub mod Parts
 pub mod Context
+pub mod Legal
+pub mod Templates

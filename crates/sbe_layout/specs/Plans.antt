@@ -23,6 +23,8 @@ use Rattle.sbe_layout.specs.declared.items.DataPlan.{DataPlan}
 use Rattle.sbe_layout.specs.declared.blocks.BlockPlan.{BlockPlan}
 use Rattle.sbe_layout.specs.declared.plan.MessagePlan.{MessagePlan}
 use Rattle.sbe_layout.specs.declared.plan.Plan.{Plan}
+use Rattle.sbe_layout.specs.declared.listings.Listing.{Listing}
+use Rattle.sbe_layout.specs.declared.listings.Listing.TheVariants.{Nothing, Values, Bits}
 use Rattle.sbe_layout.specs.declared.resolve.Resolved.{Resolved}
 use Rattle.sbe_layout.specs.declared.resolve.Resolved.TheVariants.{Simple, Members}
 use Rattle.sbe_layout.specs.Trees.{PlanHead, PlanTree, no_plans, plan}
@@ -56,6 +58,18 @@ members_of (Some t) = members_of_kind t.kind
     members_of_kind (kinds.Number prim length null low high) = []
     members_of_kind (kinds.Enum prim values) = []
     members_of_kind (kinds.Set prim bits) = []
+
+-- ---- what the types list: the values of an enum, and the named bits of a set
+
+abbrev pub listing_of : TypeKind → Listing
+listing_of (kinds.Number prim length null low high) = Nothing
+listing_of (kinds.Enum prim values) = Values values
+listing_of (kinds.Set prim bits) = Bits bits
+listing_of (kinds.Composite members) = Nothing
+
+abbrev pub listings_of : List TypeDef → List Listing
+listings_of [] = []
+listings_of (t ∷ ts) = listing_of t.kind ∷ listings_of ts
 
 -- ---- items
 
@@ -160,6 +174,7 @@ plan_of schema = record {
   id = schema.id;
   version = schema.version;
   order = schema.order;
+  listings = listings_of schema.types;
   messages = message_plans schema.types schema.messages;
 }
 

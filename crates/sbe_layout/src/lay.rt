@@ -7,37 +7,59 @@ ghost use Rattle.sbe_layout.specs.Trees.{plan};
 ghost use Rattle.sbe_layout.specs.Context.{Knows};
 ghost use Rattle.sbe_layout.specs.Plans.{plan_of, message_plan, block_plan, groups_plan, group_head, items_of_fields, items_of_field, marks_of, data_of};
 ghost use Rattle.sbe_layout.specs.Parts.{items_of_parts};
+ghost use Rattle.sbe_layout.specs.Legal.{LegalPlan};
 
 use crate::blocks::{BlockPlan, GroupPlan, GroupPlans};
 use crate::items::{DataPlan, DataPlans, ItemPlan, ItemPlans, Mark, Marks};
+use crate::listings::listings_of;
+use crate::messages::MessagePlans;
 use crate::parts::Part;
-use crate::plan::{MessagePlan, MessagePlans, Plan};
+use crate::plan::{MessagePlan, Plan};
 use crate::resolve::{Resolved, Types};
-use sbe_schema::{Checked, DataDef, FieldDef, GroupDef, MessageDef, Presence, offset_of, plus};
+use sbe_schema::{
+    Checked, DataDef, FieldDef, GroupDef, MessageDef, Presence, Schema, offset_of, plus,
+};
 use sbe_value::Bytes;
 use std::alloc::{AllocError, Global};
 
 /// Lays out the messages of a checked schema: offsets, sizes, since marks and block lengths.
+#[tactic(auto, using(crate::proofs::Legality::legal_plan))]
 pub fn lay_out(alloc: Global, schema: &Checked) -> Result<Plan, AllocError>
-    ensures { IfOk result (λ plan. plan ≡ plan_of schema.now.schema) }
+    ensures plan { IfOk result (λ plan. plan ≡ plan_of schema.now.schema) }
+    ensures legal { IfOk result LegalPlan }
 {
-    let schema = &schema.schema;
+    let plan = lay_out_all(alloc, &schema.schema)?;
+    Ok(plan)
+}
+
+fn lay_out_all(alloc: Global, schema: &Schema) -> Result<Plan, AllocError>
+    ensures { IfOk result (λ plan. plan ≡ plan_of schema.now) }
+{
     let types = Types::new(alloc, schema)?;
     let mut messages = Vec::new(alloc);
     for m in schema.messages.as_slice() {
-        messages.push(message_plan(alloc, &types, m)?)?;
+        messages.push(lay_out_message(alloc, &types, m)?)?;
     }
+    let listings = listings_of(alloc, schema.types.as_slice())?;
+    let messages = MessagePlans::new(alloc, messages)?;
     Ok(Plan {
         id: schema.id,
         version: schema.version,
         order: schema.order,
-        messages: MessagePlans::from(messages),
+        listings,
+        messages,
     })
 }
 
-fn message_plan(alloc: Global, types: &Types<'_>, m: &MessageDef) -> Result<MessagePlan, AllocError>
-    requires { Knows types.now }
-    ensures { IfOk result (λ plan. plan ≡ message_plan types.now.index.schema.now.types m.now) }
+/// Lays out one message by the types of its schema, as `lay_out` does each of them. So a schema can be laid out
+/// with no more memory than its greatest message takes.
+pub fn lay_out_message(
+    alloc: Global,
+    types: &Types<'_>,
+    m: &MessageDef,
+) -> Result<MessagePlan, AllocError>
+    requires known { Knows types.now }
+    ensures plan { IfOk result (λ plan. plan ≡ message_plan types.now.index.schema.now.types m.now) }
 {
     let name = m.name.copy(alloc)?;
     let root = block_plan(

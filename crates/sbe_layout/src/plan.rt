@@ -1,11 +1,11 @@
 //! The plan of a schema's messages.
 
 ghost use Rattle.std.specs.Prelude.{◌≡◌, ◌↔◌, Some, IfSome, IsNone};
-ghost use Rattle.std.specs.Option.{option_copied};
 ghost use Rattle.sbe_layout.specs.Plans.{message_of, HasTemplate};
 
 use crate::blocks::BlockPlan;
-use lists::List;
+use crate::listings::Listings;
+use crate::messages::MessagePlans;
 use sbe_prim::Order;
 use sbe_value::Bytes;
 
@@ -31,30 +31,18 @@ pub struct Plan {
     pub version: u16,
     /// The byte order of all its numbers.
     pub order: Order,
+    /// What each of its types lists, in schema order: an item names its enum or set by place.
+    pub listings: Listings,
     /// Its messages.
     pub messages: MessagePlans,
 }
 
 impl Plan {
-    /// The message of a template; none where the schema lacks the template.
+    /// The message of a template; none where the schema lacks the template. It takes no walk over the messages.
     pub fn message(&self, template: u16) -> Option<&MessagePlan>
         ensures found { IfSome result (λ m. Some m.now ≡ message_of template self.now.messages) }
         ensures lacking { IsNone result ↔ ¬ HasTemplate template self.now.messages }
     {
-        first_of(self.messages.as_slice(), template)
+        self.messages.find(template)
     }
 }
-
-fn first_of(messages: &[MessagePlan], template: u16) -> Option<&MessagePlan>
-    ensures { option_copied result ≡ message_of template messages.now }
-{
-    for m in messages {
-        if m.template == template {
-            return Some(m);
-        }
-    }
-    None
-}
-
-/// The messages of a schema, in schema order.
-pub type MessagePlans = List<MessagePlan>;

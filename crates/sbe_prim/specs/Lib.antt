@@ -1,3 +1,4 @@
 pub mod Primitives
 pub mod Numbers
 pub mod Names
+pub mod Ranges

@@ -7,9 +7,11 @@ ghost use Rattle.std.specs.Prelude.{◌≡◌, ◌↔◌, IsTrue};
 ghost use Rattle.sbe_prim.specs.Primitives.{size_of, null_of, least_of, greatest_of, is_integer, holds};
 
 mod number;
+mod ranges;
 mod word;
 
 pub use number::{read, reads_back, write, writes_back};
+pub use ranges::{default_greatest, default_least};
 pub use word::{find_primitive, primitive_name};
 
 /// A primitive type (SBE 1.0, primitive encodings).

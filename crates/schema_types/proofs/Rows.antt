@@ -1,5 +1,5 @@
 -- Lists of groups, element by element.
-use Rattle.std.proofs.Common.{◌≡◌, ◌≢◌, ℕ, suc, ◌+◌, ◌<◌, Bool, true, false, ◌&&◌, List, [], ◌∷◌, length, drop, get_or, refl, sym, ap, ◌∙◌, arith, add-one, drop-cons}
+use Rattle.std.proofs.Common.{◌≡◌, ◌≢◌, ℕ, suc, ◌+◌, ◌<◌, Bool, true, false, ◌&&◌, List, [], ◌∷◌, length, drop, get_or, refl, sym, ap, arith, add-one, drop-cons}
 use Rattle.schema_types.specs.declared.groups.GroupDef.{GroupDef}
 use Rattle.schema_types.specs.Views.{groups_of}
 use Rattle.schema_types.specs.TreeEqual.{tree_eq, group_eq}

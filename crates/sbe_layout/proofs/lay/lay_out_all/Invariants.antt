@@ -1,6 +1,6 @@
 use Rattle.std.proofs.Common.{◌≡◌, ◌++◌, drop}
 use Rattle.sbe_layout.specs.Plans.{message_plans}
-use Rattle.sbe_layout.proofs.lay.lay_out.Given as goal
+use Rattle.sbe_layout.proofs.lay.lay_out_all.Given as goal
 
 -- what is made, followed by what is left, is all
 abbrev pub invariant-loop-m : goal.invariant-loop-m

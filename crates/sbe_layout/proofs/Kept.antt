@@ -1,0 +1,127 @@
+-- What the tables of a checked schema keep, list by list.
+use Rattle.std.proofs.Common.{◌≡◌, ℕ, ◌+◌, ℤ, pos, refl, ap, ◌∙◌, true, false, not, ◌&&◌, ◌||◌, nat_lt, List, [], ◌∷◌, ◌++◌}
+use Rattle.std.specs.Prelude.{⊤}
+use Rattle.std.proofs.lemmas.Bool.{and_parts, or_parts, not-true}
+use Rattle.std.specs.List.{AllByRecursion}
+use Rattle.schema_types.specs.declared.schema.Schema.{Schema}
+use Rattle.schema_types.specs.declared.types.TypeDef.{TypeDef}
+use Rattle.schema_types.specs.declared.types.TypeKind.{TypeKind}
+use Rattle.schema_types.specs.declared.types.TypeKind.TheVariants.{Number, Enum, Set, Composite}
+use Rattle.schema_types.specs.declared.types.MemberDef.{MemberDef}
+use Rattle.schema_types.specs.declared.messages.FieldDef.{FieldDef}
+use Rattle.schema_types.specs.declared.messages.DataDef.{DataDef}
+use Rattle.sbe_schema.specs.declared.fault.SchemaKind.{SchemaKind}
+use Rattle.sbe_schema.specs.declared.fault.Spot.{Spot}
+use Rattle.sbe_schema.specs.declared.holder.Holder.{Holder}
+use Rattle.sbe_schema.specs.Names.{Names, Numbers}
+use Rattle.sbe_schema.specs.Places.{Place, type_table, member_table, field_table, data_table}
+use Rattle.sbe_schema.specs.Offsets.{member_end, field_end}
+use Rattle.sbe_schema.specs.Layout.{is_below}
+use Rattle.sbe_schema.specs.Kinds.{is_dimension, is_uint32, is_bad_enum_kind, is_bad_set_kind}
+use Rattle.sbe_schema.specs.Limits.{is_large_kind}
+use Rattle.std.specs.Int.{int_max}
+use Rattle.std.specs.FinSet as set
+use Rattle.sbe_schema.specs.declared.fault.Part.TheVariants.{Types, Members, Fields, Data}
+use Rattle.sbe_schema.specs.Walk.{spot, place, walk_members, walk_kind, walk_type, walk_types, walk_fields, walk_data}
+use Rattle.sbe_schema.specs.Checked.{occurs, keeps, all_keep, rules_in_order}
+
+-- a table breaks none of some rules
+abbrev pub KeepsAll : Schema → List SchemaKind → Place → Type 0
+KeepsAll s kinds p = AllByRecursion (λ kind. occurs s kind p ≡ false) kinds
+
+keeps_each : (s : Schema) (kinds : List SchemaKind) (p : Place) → keeps s kinds p ≡ true → KeepsAll s kinds p
+keeps_each s [] p e = tt
+keeps_each s (k ∷ ks) p e =
+    let h = and_parts (not (occurs s k p)) (keeps s ks p) e in
+    (not-true (occurs s k p) h.0, keeps_each s ks p h.1)
+
+-- the first of some tables, and the others
+pub kept_first : (s : Schema) (p : Place) (ps : List Place) → all_keep s (p ∷ ps) ≡ true → KeepsAll s rules_in_order p × (all_keep s ps ≡ true)
+kept_first s p ps e =
+    let h = and_parts (keeps s rules_in_order p) (all_keep s ps) e in
+    (keeps_each s rules_in_order p h.0, h.1)
+
+pub kept_parts : (s : Schema) (xs ys : List Place) → all_keep s (xs ++ ys) ≡ true → (all_keep s xs ≡ true) × (all_keep s ys ≡ true)
+kept_parts s [] ys e = (refl, e)
+kept_parts s (p ∷ xs) ys e =
+    let h = and_parts (keeps s rules_in_order p) (all_keep s (xs ++ ys)) e in
+    let r = kept_parts s xs ys h.1 in
+    (ap (λ b. b && all_keep s xs) h.0 ∙ r.0, r.1)
+
+-- ---- fields and data
+
+-- no field begins below the end of the field before it, nor ends past 16,384
+abbrev pub FieldsFit : List TypeDef → ℕ → List FieldDef → Type 0
+FieldsFit types end [] = ⊤
+FieldsFit types end (f ∷ fs) =
+    (is_below f.offset end ≡ false) × ((nat_lt 16384 (field_end types end f) ≡ false) × FieldsFit types (field_end types end f) fs)
+
+pub fields_fit : (s : Schema) (base : List Spot) (names : Names) (ids : Numbers) (floor : ℤ) (end at : ℕ) (fs : List FieldDef) → all_keep s (walk_fields s.types base names ids floor end at fs) ≡ true → FieldsFit s.types end fs
+fields_fit s base names ids floor end at [] e = tt
+fields_fit s base names ids floor end at (f ∷ fs) e =
+    let next = walk_fields s.types base (set.insert names f.name) (set.insert ids (pos f.id)) (int_max floor f.since) (field_end s.types end f) (at + 1) fs in
+    let h = kept_first s (place base Fields at names ids (field_table floor end f)) next e in
+    let here = or_parts (is_below f.offset end) (nat_lt 16384 (field_end s.types end f)) h.0.1.1.1.0 in
+    (here.0, (here.1, fields_fit s base (set.insert names f.name) (set.insert ids (pos f.id)) (int_max floor f.since) (field_end s.types end f) (at + 1) fs h.1))
+
+abbrev pub DataFit : List DataDef → Type 0
+DataFit ds = AllByRecursion (λ d. not (is_dimension d.length || is_uint32 d.length) ≡ false) ds
+
+pub data_fit : (s : Schema) (base : List Spot) (holder : Holder) (names : Names) (ids : Numbers) (floor : ℤ) (at : ℕ) (ds : List DataDef) → all_keep s (walk_data base holder names ids floor at ds) ≡ true → DataFit ds
+data_fit s base holder names ids floor at [] e = tt
+data_fit s base holder names ids floor at (d ∷ ds) e =
+    let next = walk_data base holder (set.insert names d.name) (set.insert ids (pos d.id)) (int_max floor d.since) (at + 1) ds in
+    let h = kept_first s (place base Data at names ids (data_table holder floor d)) next e in
+    (h.0.1.1.1.1.1.1.1.1.0, data_fit s base holder (set.insert names d.name) (set.insert ids (pos d.id)) (int_max floor d.since) (at + 1) ds h.1)
+
+-- ---- types
+
+-- no member begins below the end of the member before it
+abbrev pub MembersFit : List TypeDef → ℕ → List MemberDef → Type 0
+MembersFit types end [] = ⊤
+MembersFit types end (m ∷ ms) = (is_below m.offset end ≡ false) × MembersFit types (member_end types end m) ms
+
+members_fit : (s : Schema) (base : List Spot) (names : Names) (end at : ℕ) (ms : List MemberDef) → all_keep s (walk_members s.types base names end at ms) ≡ true → MembersFit s.types end ms
+members_fit s base names end at [] e = tt
+members_fit s base names end at (m ∷ ms) e =
+    let next = walk_members s.types base (set.insert names m.name) (member_end s.types end m) (at + 1) ms in
+    let h = kept_first s (place base Members at names set.empty (member_table end m)) next e in
+    (h.0.1.1.1.0, members_fit s base (set.insert names m.name) (member_end s.types end m) (at + 1) ms h.1)
+
+abbrev pub MembersOfFit : List TypeDef → TypeKind → Type 0
+MembersOfFit types (Composite members) = MembersFit types 0 members
+MembersOfFit types (Number prim length null low high) = ⊤
+MembersOfFit types (Enum prim values) = ⊤
+MembersOfFit types (Set prim bits) = ⊤
+
+pub record KindFits (types : List TypeDef) (kind : TypeKind) : Type 0 where
+  pub enum : is_bad_enum_kind kind ≡ false
+  pub set : is_bad_set_kind kind ≡ false
+  pub limit : is_large_kind kind ≡ false
+  pub members : MembersOfFit types kind
+
+members_of_fit : (s : Schema) (base : List Spot) (kind : TypeKind) → all_keep s (walk_kind s.types base kind) ≡ true → MembersOfFit s.types kind
+members_of_fit s base (Composite members) e = members_fit s base set.empty 0 0 members e
+members_of_fit s base (Number prim length null low high) e = tt
+members_of_fit s base (Enum prim values) e = tt
+members_of_fit s base (Set prim bits) e = tt
+
+type_fits : (s : Schema) (names : Names) (at : ℕ) (t : TypeDef) → all_keep s (walk_type s.types names at t) ≡ true → KindFits s.types t.kind
+type_fits s names at t e =
+    let inner = spot Types at ∷ [] in
+    let h = kept_first s (place [] Types at names set.empty (type_table t)) (walk_kind s.types inner t.kind) e in
+    record {
+      enum = h.0.1.1.1.1.1.0;
+      set = h.0.1.1.1.1.1.1.0;
+      limit = h.0.1.1.1.1.1.1.1.1.1.1.0;
+      members = members_of_fit s inner t.kind h.1;
+    }
+
+abbrev pub TypesFit : List TypeDef → List TypeDef → Type 0
+TypesFit types ts = AllByRecursion (λ t. KindFits types t.kind) ts
+
+pub types_fit : (s : Schema) (names : Names) (at : ℕ) (ts : List TypeDef) → all_keep s (walk_types s.types names at ts) ≡ true → TypesFit s.types ts
+types_fit s names at [] e = tt
+types_fit s names at (t ∷ ts) e =
+    let h = kept_parts s (walk_type s.types names at t) (walk_types s.types (set.insert names t.name) (at + 1) ts) e in
+    (type_fits s names at t h.0, types_fit s (set.insert names t.name) (at + 1) ts h.1)

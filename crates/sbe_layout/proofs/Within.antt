@@ -1,0 +1,138 @@
+-- Items and fields end within their block, and no sum is cut off.
+use Rattle.std.proofs.Common.{◌≡◌, ℕ, ◌+◌, ◌-◌, ◌^◌, ◌≤◌, ℤ, pos, negsuc, refl, ap, ◌∙◌, false, Option, Some, None, List, [], ◌∷◌, ◌++◌, slice_get, arith}
+use Rattle.std.specs.List.{AllByRecursion}
+use Rattle.std.proofs.lemmas.Bool.{ltb-false, true≢false}
+use Rattle.schema_types.specs.declared.types.TypeDef.{TypeDef}
+use Rattle.schema_types.specs.declared.types.MemberDef.{MemberDef}
+use Rattle.schema_types.specs.declared.types.Presence.{Presence}
+use Rattle.schema_types.specs.declared.types.Presence.TheVariants.{Required, Optional, Constant}
+use Rattle.schema_types.specs.declared.messages.FieldDef.{FieldDef}
+use Rattle.sbe_schema.specs.Meanings.{meaning_of}
+use Rattle.sbe_schema.specs.Offsets.{plus, simple_size, taken, offset_of, member_end, members_end, type_size, field_end, fields_end}
+use Rattle.sbe_schema.specs.Layout.{is_below}
+use Rattle.sbe_schema.specs.Limits.{is_above}
+use Rattle.sbe_layout.specs.declared.items.ItemPlan.{ItemPlan}
+use Rattle.sbe_layout.specs.declared.resolve.Resolved.{Resolved}
+use Rattle.sbe_layout.specs.declared.resolve.Resolved.TheVariants.{Simple, Members}
+use Rattle.sbe_layout.specs.Plans.{resolved, members_of, unless_constant, items_of_member, items_of_members, items_by, items_of_field, items_of_fields, marks_of}
+use Rattle.sbe_layout.specs.Legal.{IsLegalItem, EndsWithin}
+use Rattle.sbe_layout.proofs.Kept.{FieldsFit, MembersFit, TypesFit}
+use Rattle.sbe_layout.proofs.Fits.{Fits, fits}
+
+-- the greatest number of a sum
+abbrev top : ℕ
+top = 2 ^ 128 - 1
+
+-- ---- sums
+
+plus_top : (a b : ℕ) → plus a b ≤ top
+plus_top a b = omega arith
+
+plus_grows : (end a b : ℕ) → end ≤ top → end ≤ a → end ≤ plus a b
+plus_grows end a b low over = omega arith
+
+plus_whole : (a b : ℕ) → plus a b ≤ 16384 → a + b ≡ plus a b
+plus_whole a b small = omega arith
+
+plus_first : (a b : ℕ) → plus a b ≤ 16384 → a ≤ plus a b
+plus_first a b small = omega arith
+
+-- what does not begin below an end begins at it or behind it
+pub begins_behind : (stated : Option ℤ) (end : ℕ) → is_below stated end ≡ false → end ≤ offset_of end stated
+begins_behind None end e = omega arith
+begins_behind (Some (pos n)) end e = ltb-false n end e
+begins_behind (Some (negsuc n)) end e = absurd (true≢false e)
+
+pub is_at_most : (stated : Option ℤ) (limit end : ℕ) → is_above stated limit ≡ false → end ≤ limit → offset_of end stated ≤ limit
+is_at_most None limit end e low = low
+is_at_most (Some (pos n)) limit end e low = ltb-false limit n e
+is_at_most (Some (negsuc n)) limit end e low = omega arith
+
+all_append : {X : Type 0} (P : X → Type 0) (xs ys : List X) → AllByRecursion P xs → AllByRecursion P ys → AllByRecursion P (xs ++ ys)
+all_append P [] ys a b = b
+all_append P (x ∷ xs) ys a b = (a.0, all_append P xs ys a.1 b)
+
+-- what is no constant takes its bytes
+by_presence : (P : ItemPlan → Type 0) (presence : Presence) (size : ℕ) (items : List ItemPlan) → (taken presence size ≡ size → AllByRecursion P items) → AllByRecursion P (unless_constant presence items)
+by_presence P Required size items h = h refl
+by_presence P Optional size items h = h refl
+by_presence P Constant size items h = tt
+
+-- ---- members
+
+members_grow : (types : List TypeDef) (end : ℕ) (ms : List MemberDef) → end ≤ top → MembersFit types end ms → end ≤ members_end types end ms
+members_grow types end [] low h = omega arith
+members_grow types end (m ∷ ms) low h =
+    let size = taken m.presence (simple_size (meaning_of types m.type_name)) in
+    let here : end ≤ member_end types end m = plus_grows end (offset_of end m.offset) size low (begins_behind m.offset end h.0) in
+    let rest : member_end types end m ≤ members_end types (member_end types end m) ms = members_grow types (member_end types end m) ms (plus_top (offset_of end m.offset) size) h.1 in
+    omega arith
+
+member_items : (types : List TypeDef) (block : ℕ) (name : List ℕ) (since : ℤ) (start end : ℕ) (m : MemberDef) (r : Option Resolved) → Fits types (type_size types m.type_name) (simple_size (meaning_of types m.type_name)) r → start + member_end types end m ≤ block → block ≤ 16384
+    → AllByRecursion (IsLegalItem block) (items_of_member types name since (plus start (offset_of end m.offset)) m r)
+member_items types block name since start end m None k within small = tt
+member_items types block name since start end m (Some (Members at)) k within small = tt
+member_items types block name since start end m (Some (Simple kind)) k within small =
+    by_presence (IsLegalItem block) m.presence (simple_size (meaning_of types m.type_name)) _ (λ whole.
+    let off = offset_of end m.offset in
+    let size = type_size types m.type_name in
+    let ends : member_end types end m ≡ plus off size = ap (plus off) (whole ∙ k.1.0) in
+    let sum : off + size ≡ plus off size = plus_whole off size (omega (arith, ends)) in
+    (record { within = omega (arith, ends, sum); sized = k.0; kind = k.1.1 }, tt))
+
+members_items : (types : List TypeDef) (block : ℕ) (name : List ℕ) (since : ℤ) (start end : ℕ) (ms : List MemberDef) → TypesFit types types → end ≤ top → MembersFit types end ms → start + members_end types end ms ≤ block → block ≤ 16384
+    → AllByRecursion (IsLegalItem block) (items_of_members types name since start end ms)
+members_items types block name since start end [] k low h within small = tt
+members_items types block name since start end (m ∷ ms) k low h within small =
+    let size = taken m.presence (simple_size (meaning_of types m.type_name)) in
+    let next : member_end types end m ≤ top = plus_top (offset_of end m.offset) size in
+    let grows : member_end types end m ≤ members_end types (member_end types end m) ms = members_grow types (member_end types end m) ms next h.1 in
+    all_append (IsLegalItem block) (items_of_member types name since (plus start (offset_of end m.offset)) m (resolved types m.type_name)) _ (member_items types block name since start end m (resolved types m.type_name) (fits types m.type_name k) (omega arith) small) (members_items types block name since start (member_end types end m) ms k next h.1 within small)
+
+-- ---- fields
+
+field_items : (types : List TypeDef) (block end : ℕ) (f : FieldDef) (r : Option Resolved) → TypesFit types types → Fits types (type_size types f.type_name) (simple_size (meaning_of types f.type_name)) r → taken f.presence (type_size types f.type_name) ≡ type_size types f.type_name → field_end types end f ≤ block → block ≤ 16384
+    → AllByRecursion (IsLegalItem block) (items_by types end f r)
+field_items types block end f None k fit whole within small = tt
+field_items types block end f (Some (Simple kind)) k fit whole within small =
+    let off = offset_of end f.offset in
+    let size = type_size types f.type_name in
+    let ends : field_end types end f ≡ plus off size = ap (plus off) whole in
+    let sum : off + size ≡ plus off size = plus_whole off size (omega (arith, ends)) in
+    (record { within = omega (arith, ends, sum); sized = fit.0; kind = fit.1.1 }, tt)
+field_items types block end f (Some (Members at)) k fit whole within small =
+    let off = offset_of end f.offset in
+    let size = type_size types f.type_name in
+    let ends : field_end types end f ≡ plus off size = ap (plus off) whole in
+    let sum : off + size ≡ plus off size = plus_whole off size (omega (arith, ends)) in
+    let last : size ≡ members_end types 0 (members_of (slice_get types at)) = fit.0 in
+    members_items types block f.name f.since off 0 (members_of (slice_get types at)) k (omega arith) fit.1 (omega (arith, ends, sum, last)) small
+
+fields_grow : (types : List TypeDef) (end : ℕ) (fs : List FieldDef) → end ≤ 16384 → FieldsFit types end fs → (end ≤ fields_end types end fs) × (fields_end types end fs ≤ 16384)
+fields_grow types end [] low h = (omega arith, low)
+fields_grow types end (f ∷ fs) low h =
+    let size = taken f.presence (type_size types f.type_name) in
+    let small : field_end types end f ≤ 16384 = ltb-false 16384 (field_end types end f) h.1.0 in
+    let here : end ≤ field_end types end f = plus_grows end (offset_of end f.offset) size (omega arith) (begins_behind f.offset end h.0) in
+    let rest = fields_grow types (field_end types end f) fs small h.1.1 in
+    (omega (arith, rest.0), rest.1)
+
+pub fields_small : (types : List TypeDef) (fs : List FieldDef) → FieldsFit types 0 fs → fields_end types 0 fs ≤ 16384
+fields_small types fs h = (fields_grow types 0 fs (omega arith) h).1
+
+pub fields_items : (types : List TypeDef) (block end : ℕ) (fs : List FieldDef) → TypesFit types types → end ≤ 16384 → FieldsFit types end fs → fields_end types end fs ≤ block → block ≤ 16384
+    → AllByRecursion (IsLegalItem block) (items_of_fields types end fs)
+fields_items types block end [] k low h within small = tt
+fields_items types block end (f ∷ fs) k low h within small =
+    let next : field_end types end f ≤ 16384 = ltb-false 16384 (field_end types end f) h.1.0 in
+    let grows = fields_grow types (field_end types end f) fs next h.1.1 in
+    let ends : field_end types end f ≤ block = omega (arith, grows.0) in
+    all_append (IsLegalItem block) (items_of_field types end f) _ (by_presence (IsLegalItem block) f.presence (type_size types f.type_name) _ (λ whole. field_items types block end f (resolved types f.type_name) k (fits types f.type_name k) whole ends small)) (fields_items types block (field_end types end f) fs k next h.1.1 within small)
+
+pub fields_marks : (types : List TypeDef) (block end : ℕ) (fs : List FieldDef) → end ≤ 16384 → FieldsFit types end fs → fields_end types end fs ≤ block
+    → AllByRecursion (EndsWithin block) (marks_of types end fs)
+fields_marks types block end [] low h within = tt
+fields_marks types block end (f ∷ fs) low h within =
+    let next : field_end types end f ≤ 16384 = ltb-false 16384 (field_end types end f) h.1.0 in
+    let grows = fields_grow types (field_end types end f) fs next h.1.1 in
+    (omega (arith, grows.0), fields_marks types block (field_end types end f) fs next h.1.1 within)
