@@ -1,13 +1,12 @@
 -- Both passes of a lock, taken out of the list, used and given back: all are back.
-use Rattle.std.proofs.Common.{◌≡◌, ◌≢◌, ℕ, ◌≤◌, Option, Some, None, refl, sym, ap, ◌∙◌, subst, arith, le_refl}
+use Rattle.std.proofs.Common.{◌≡◌, ◌≢◌, ℕ, Option, Some, None, sym, ap, ◌∙◌, subst, arith, le_refl}
 use Rattle.std.proofs.lemmas.Option.{none-some, same_Some}
 use mathlib.Core.Logic.{dite}
 use native.Mathlib.Decide.{ℕ_discrete}
 use Rattle.gate_turn.specs.Views.{Account, Part}
-use Rattle.gate_turn.specs.Rule.{In}
 use Rattle.gate_turn.specs.Places.{known}
 use Rattle.gate_turn.specs.Listed.{pass_at, known_if, known_at}
-use Rattle.gate_turn.specs.Calls.{IsFree, IsPassOf, HasBack, MadeWith, AllBack}
+use Rattle.gate_turn.specs.Calls.{IsFree, IsPassOf, MadeWith, AllBack}
 use Rattle.gate_turn.specs.declared.pass.Pass.{Pass}
 use Rattle.gate_turn.specs.declared.passes.Passes.{Passes}
 use Rattle.gate_turn.specs.declared.lock.TurnLock.{TurnLock}

@@ -1,4 +1,4 @@
-use Rattle.std.proofs.Common.{◌≡◌, sym, ap, ◌∙◌, arith, le_refl}
+use Rattle.std.proofs.Common.{ap, ◌∙◌, arith, le_refl}
 use Rattle.turns_at_once.specs.Told.{told_by}
 use Rattle.gate_turn.specs.Listed.{pass_at}
 use Rattle.gate_turn.specs.Calls.{opened_with}

@@ -1,4 +1,4 @@
-use Rattle.std.proofs.Common.{◌≡◌, sym, ◌∙◌, subst}
+use Rattle.std.proofs.Common.{sym, ◌∙◌, subst}
 use Rattle.std.proofs.lemmas.Option.{none-some, same_Some}
 use Rattle.gate_turn.specs.Calls.{IsFree, IsPassOf}
 use Rattle.gate_turn.specs.declared.pass.Pass.{Pass}
