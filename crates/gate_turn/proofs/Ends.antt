@@ -8,14 +8,14 @@ use native.Mathlib.Decide.{ℕ_discrete}
 use lib.ListN.{get_elem?}
 use Rattle.atomic_table.specs.Table.{State, Splits, Joins, opening}
 use Rattle.atomic_table.proofs.Lists.{at_set, set_here, set_else, at_longer, at_last}
-use Rattle.session_model.specs.Journal.{Entry, History, BeginsHistory, entries_of}
+use Rattle.session_model.specs.Journal.{Entry, History, entries_of}
 use Rattle.session_model.proofs.Lists.{all_weaker}
 use Rattle.gate_turn.specs.Views.{Account, Part, View, part_of, new_part, with_one_more, one_more}
-use Rattle.gate_turn.specs.Rule.{In, waiting, tickets, Seated, Queued, Fits, Grown, Sound, Home, Out, Turns}
+use Rattle.gate_turn.specs.Rule.{In, waiting, tickets, Seated, Queued, Fits, Grown, Home, Out, Turns}
 use Rattle.gate_turn.proofs.Puts.{put, put_here, put_else, put_each, within, only_part, tickets_alike, seated_put}
 use Rattle.gate_turn.proofs.Histories.{begins_self, none_beyond, entries_of-append}
 use Rattle.gate_turn.proofs.Layers.{refits, turn_put}
-use Rattle.gate_turn.specs.Steps.{Found, Closed, split_left, split_right}
+use Rattle.gate_turn.specs.Steps.{Closed, split_left, split_right}
 use Rattle.gate_turn.proofs.Moves.{mine, fits_mine, grown_same, same_ticket, found_in}
 
 one_of : (n : ℕ) → In 1 n → n ≡ 1

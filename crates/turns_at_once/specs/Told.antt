@@ -1,5 +1,5 @@
 -- What a book says of itself.
-use Rattle.std.specs.Prelude.{ℕ, false, List, [], map}
+use Rattle.std.specs.Prelude.{ℕ, ◌^◌, false, [], map}
 use Rattle.session_model.specs.Journal.{Entry}
 use Rattle.gate_turn.specs.Views.{Account}
 use Rattle.turns_at_once.specs.declared.book.Book.{Book}

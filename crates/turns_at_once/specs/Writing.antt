@@ -1,5 +1,5 @@
 -- What a value keeps where it takes an entry, and what a pass then knows.
-use Rattle.std.specs.Prelude.{◌≡◌, ℕ, ◌≤◌, ◌<◌, true, [], ◌∷◌, ◌++◌, length}
+use Rattle.std.specs.Prelude.{◌≡◌, ◌≢◌, ℕ, ◌≤◌, ◌<◌, true, List, [], ◌∷◌, ◌++◌, length}
 use Rattle.session_model.specs.Journal.{Entry, BeginsHistory}
 use Rattle.gate_turn.specs.Views.{Account, Part}
 

@@ -1,12 +1,12 @@
 //! One entry of a pass, under the lock.
-use crate::book::Writes;
-use gate_turn::{Held, Pass, TurnLock};
-use std::sync::Wait;
-
 ghost use Rattle.std.specs.Prelude.{◌≡◌, ◌+◌, IfSome, IfNone};
 ghost use Rattle.gate_turn.specs.Places.{known};
 ghost use Rattle.gate_turn.specs.Calls.{IsFree, IsPassOf};
 ghost use Rattle.turns_at_once.specs.Writing.{Sent};
+
+use crate::book::Writes;
+use gate_turn::{Held, Pass, TurnLock};
+use std::sync::Wait;
 
 /// Adds one entry of the pass to the value, and answers the number of entries. None comes where the value refused it.
 pub fn submit<T: Writes, R: Wait>(lock: &TurnLock<T>, pass: &mut Pass<T>, rt: &R) -> Option<u64>

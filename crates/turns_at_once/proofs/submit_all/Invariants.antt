@@ -1,0 +1,11 @@
+use Rattle.std.proofs.Common.{◌≡◌}
+use Rattle.gate_turn.specs.Places.{known}
+use Rattle.gate_turn.specs.Calls.{IsFree, IsPassOf}
+use Rattle.turns_at_once.proofs.submit_all.Given as goal
+
+abbrev pub invariant-loop : goal.invariant-loop
+invariant-loop g l = record {
+  own : IsPassOf l.lock l.pass;
+  free : IsFree l.pass;
+  kept : ((known l.pass).number ≡ (known l.fn.pass).number) × ((known l.pass).made ≡ (known l.fn.pass).made);
+}
