@@ -7,6 +7,7 @@ ghost use Rattle.toml_walk.specs.Reading.{Reads};
 ghost use Rattle.schema_toml.specs.Faults.{Tells, text_limit};
 ghost use Rattle.session_config.specs.Settings.{IsInRange, credentials_of, demanded, is_none, is_unsequenced, link_of, settings_of, settings_of_document, settings_of_text, trade_of};
 
+use crate::limits::{DESKS, KEEPALIVE, ORDER_VERSION, REFERENCE, SENDERS};
 use crate::readers::{Credentials, Flows, Sessions};
 use fixp_msgs::Flow;
 use sbe_value::Bytes;
@@ -66,7 +67,13 @@ fn read_link(alloc: Global, keys: &Value) -> Result<Settings, TomlFault>
     ensures range { IfOk result IsInRange }
 {
     let session = required::<Sessions>(alloc, (), keys, "session")?;
-    let keepalive = natural_at(alloc, keys, "keepalive", 100, 60000)?;
+    let keepalive = natural_at(
+        alloc,
+        keys,
+        "keepalive",
+        KEEPALIVE.least,
+        KEEPALIVE.greatest,
+    )?;
     let client = required::<Flows>(alloc, (), keys, "client_flow")?;
     demanded(alloc, "client_flow", is_unsequenced(client))?;
     let server = required::<Flows>(alloc, (), keys, "server_flow")?;
@@ -83,17 +90,24 @@ fn read_link(alloc: Global, keys: &Value) -> Result<Settings, TomlFault>
 fn read_trade(alloc: Global, keys: &Value) -> Result<bool, TomlFault>
     ensures { Reads result (trade_of (view keys.now)) }
 {
-    let senders = natural_or(alloc, keys, "senders", 0, 16, 1)?;
+    let senders = natural_or(alloc, keys, "senders", SENDERS.least, SENDERS.greatest, 1)?;
     demanded(alloc, "senders", senders == 0)?;
-    let desks = natural_or(alloc, keys, "desks", 0, 16, 0)?;
+    let desks = natural_or(alloc, keys, "desks", DESKS.least, DESKS.greatest, 0)?;
     demanded(alloc, "desks", desks == 0)?;
-    natural_or(alloc, keys, "order_version", 1, 2, 1)?;
+    natural_or(
+        alloc,
+        keys,
+        "order_version",
+        ORDER_VERSION.least,
+        ORDER_VERSION.greatest,
+        1,
+    )?;
     natural_or(
         alloc,
         keys,
         "reference",
-        1,
-        1_000_000_000_000_000,
+        REFERENCE.least,
+        REFERENCE.greatest,
         1_000_000,
     )?;
     Ok(true)
