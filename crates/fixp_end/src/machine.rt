@@ -271,6 +271,3 @@ impl End {
         self.undone = None;
     }
 }
-
-#[cfg(test)]
-mod tests;

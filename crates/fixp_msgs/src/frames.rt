@@ -3,7 +3,7 @@
 ghost use Rattle.std.specs.Prelude.{◌≡◌, ◌≤◌, length};
 ghost use Rattle.fixp_msgs.specs.Header.{kind_of};
 
-use sofh_frame::Order;
+use sbe_prim::Order;
 
 /// The schema id of every session message (this project's profile).
 pub(crate) const SESSION_SCHEMA: u16 = 0xF011;

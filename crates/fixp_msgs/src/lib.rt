@@ -1,6 +1,6 @@
 //! Session messages of the FIX Performance Session Layer: their fields, how they are
 //! told from application messages, and their bytes, read and written.
-//! It stands on the byte order of `sbe_prim`, which `sofh_frame` gives again.
+//! It stands on the byte order of `sbe_prim`.
 #![tactic(auto)]
 
 mod flow;
@@ -19,6 +19,3 @@ pub use messages::{
 };
 pub use reading::{MsgFault, read};
 pub use writing::{size, write};
-
-#[cfg(test)]
-mod tests;

@@ -36,7 +36,7 @@ fn write_message(message: &MessagePlan, lines: &mut Lines) -> Result<(), AllocEr
     lines.extend_from_slice(message.name.as_slice())?;
     write_number(u128::from(message.template), lines)?;
     write_number(message.root.block_length, lines)?;
-    lines.end_line()
+    lines.push(b'\n')
 }
 
 // Writes a number behind a space.
@@ -64,7 +64,7 @@ fn write_item(before: &[u8], item: &ItemPlan, lines: &mut Lines) -> Result<(), A
     lines.extend_from_slice(item.name.as_slice())?;
     write_number(item.offset, lines)?;
     write_number(item.size, lines)?;
-    lines.end_line()
+    lines.push(b'\n')
 }
 
 fn write_data(before: &[u8], vars: &[DataPlan], lines: &mut Lines) -> Result<(), AllocError>
@@ -82,7 +82,7 @@ fn write_datum(before: &[u8], datum: &DataPlan, lines: &mut Lines) -> Result<(),
     lines.extend_from_slice(before)?;
     lines.extend_from_slice(datum.name.as_slice())?;
     lines.extend_from_slice(b" data")?;
-    lines.end_line()
+    lines.push(b'\n')
 }
 
 // Writes the line of each group, followed by what its entries hold.
@@ -110,7 +110,7 @@ fn write_head(before: &[u8], g: &GroupPlan, lines: &mut Lines) -> Result<(), All
     lines.extend_from_slice(g.name.as_slice())?;
     lines.extend_from_slice(b" group")?;
     write_number(g.block.block_length, lines)?;
-    lines.end_line()
+    lines.push(b'\n')
 }
 
 // Writes what the entries of a group hold.

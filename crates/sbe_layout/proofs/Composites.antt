@@ -1,9 +1,9 @@
 -- The items of the members of a field are those of the parts of its composite.
 use Rattle.std.proofs.Common.{◌≡◌, ℕ, zero, suc, ◌<◌, ◌≤◌, ℤ, ◌∙◌, ap, subst, refl, Option, Some, None, List, [], ◌∷◌, ◌++◌, length, get_or, slice_get, arith}
-use Rattle.sbe_schema.specs.declared.types.TypeDef.{TypeDef}
-use Rattle.sbe_schema.specs.declared.types.MemberDef.{MemberDef}
-use Rattle.sbe_schema.specs.declared.types.Presence.{Presence}
-use Rattle.sbe_schema.specs.declared.types.Presence.TheVariants.{Required, Optional, Constant}
+use Rattle.schema_types.specs.declared.types.TypeDef.{TypeDef}
+use Rattle.schema_types.specs.declared.types.MemberDef.{MemberDef}
+use Rattle.schema_types.specs.declared.types.Presence.{Presence}
+use Rattle.schema_types.specs.declared.types.Presence.TheVariants.{Required, Optional, Constant}
 use Rattle.sbe_schema.specs.Offsets.{plus, offset_of, member_end}
 use Rattle.sbe_layout.specs.declared.parts.Part.{Part}
 use Rattle.sbe_layout.specs.declared.resolve.Resolved.{Resolved}

@@ -3,7 +3,7 @@ use Rattle.std.proofs.Common.{◌≡◌, ℕ, suc, ◌+◌, ◌-◌, ◌<◌, �
 use Rattle.std.specs.Ordering.{nat_cmp}
 use Rattle.std.specs.Cmp.Lexicographic.{slice_cmp, texts_ties}
 use Rattle.std.specs.BTreeMap.{BTreeMap, get, is_at}
-use Rattle.sbe_schema.specs.declared.types.TypeDef.{TypeDef}
+use Rattle.schema_types.specs.declared.types.TypeDef.{TypeDef}
 use Rattle.sbe_layout.specs.declared.resolve.Resolved.{Resolved}
 use Rattle.sbe_layout.specs.Plans.{resolved_kind, resolved_among}
 use Rattle.sbe_layout.specs.Context.{Resolves}

@@ -1,9 +1,9 @@
 -- Lists of group plans, one behind another, and the weight of a schema's groups.
 use Rattle.std.proofs.Common.{◌≡◌, ℕ, zero, suc, ◌+◌, ◌<◌, ◌≤◌, ◌∙◌, sym, ap, refl, List, [], ◌∷◌, ◌++◌, length, drop, get_or, arith, add-one, drop-cons}
-use Rattle.sbe_schema.specs.declared.types.TypeDef.{TypeDef}
-use Rattle.sbe_schema.specs.declared.groups.GroupDef.{GroupDef}
-use Rattle.sbe_schema.specs.Groups.{weight_of}
-use Rattle.sbe_schema.specs.Views.{groups_of, head_of as schema_head_of}
+use Rattle.schema_types.specs.declared.types.TypeDef.{TypeDef}
+use Rattle.schema_types.specs.declared.groups.GroupDef.{GroupDef}
+use Rattle.schema_types.specs.Groups.{weight_of}
+use Rattle.schema_types.specs.Views.{groups_of, head_of as schema_head_of}
 use Rattle.sbe_layout.specs.declared.blocks.GroupPlan.{GroupPlan}
 use Rattle.sbe_layout.specs.Trees.{PlanTree, no_plans, plan}
 use Rattle.sbe_layout.specs.Views.{head_of, plans_of}

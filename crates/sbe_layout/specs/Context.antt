@@ -3,8 +3,8 @@ use Rattle.std.specs.Prelude.{◌≡◌, ℕ, Option, List}
 use Rattle.std.specs.Ordering.{nat_cmp}
 use Rattle.std.specs.Cmp.Lexicographic.{slice_cmp}
 use Rattle.std.specs.BTreeMap.{BTreeMap, get}
-use Rattle.sbe_schema.specs.declared.types.TypeDef.{TypeDef}
-use Rattle.sbe_schema.specs.Names.{primitive_named}
+use Rattle.schema_types.specs.declared.types.TypeDef.{TypeDef}
+use Rattle.sbe_prim.specs.Names.{primitive_named}
 use Rattle.sbe_schema.specs.Indexed.{Indexes}
 use Rattle.sbe_layout.specs.declared.resolve.Resolved.{Resolved}
 use Rattle.sbe_layout.specs.declared.resolve.Types.{Types}

@@ -1,9 +1,9 @@
 -- The parts of a composite: what its members give to each field of that type (SBE 1.0, "Composite data types").
 use Rattle.std.specs.Prelude.{ℕ, ℤ, Option, Some, None, List, [], ◌∷◌, ◌++◌}
-use Rattle.sbe_schema.specs.declared.types.TypeDef.{TypeDef}
-use Rattle.sbe_schema.specs.declared.types.MemberDef.{MemberDef}
-use Rattle.sbe_schema.specs.declared.types.Presence.{Presence}
-use Rattle.sbe_schema.specs.declared.types.Presence.TheVariants.{Required, Optional, Constant}
+use Rattle.schema_types.specs.declared.types.TypeDef.{TypeDef}
+use Rattle.schema_types.specs.declared.types.MemberDef.{MemberDef}
+use Rattle.schema_types.specs.declared.types.Presence.{Presence}
+use Rattle.schema_types.specs.declared.types.Presence.TheVariants.{Required, Optional, Constant}
 use Rattle.sbe_schema.specs.Offsets.{plus, offset_of, member_end, type_size}
 use Rattle.sbe_layout.specs.declared.items.ItemPlan.{ItemPlan}
 use Rattle.sbe_layout.specs.declared.parts.Part.{Part}

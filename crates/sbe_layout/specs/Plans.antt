@@ -1,18 +1,19 @@
 -- The plan of a schema: what stands where in its messages (SBE 1.0, "Field offsets", "Composite data types", "Block length").
 use Rattle.std.specs.Prelude.{◌≡◌, ◌⊎◌, ℕ, ◌+◌, ◌==◌, ℤ, if◌then◌else◌, Option, Some, None, List, [], ◌∷◌, ◌++◌, slice_get}
 use Rattle.sbe_prim.specs.declared.Primitive.{Primitive}
-use Rattle.sbe_schema.specs.declared.schema.Schema.{Schema}
-use Rattle.sbe_schema.specs.declared.types.TypeDef.{TypeDef}
-use Rattle.sbe_schema.specs.declared.types.TypeKind.{TypeKind}
-use Rattle.sbe_schema.specs.declared.types.TypeKind.TheVariants as kinds
-use Rattle.sbe_schema.specs.declared.types.MemberDef.{MemberDef}
-use Rattle.sbe_schema.specs.declared.types.Presence.{Presence}
-use Rattle.sbe_schema.specs.declared.types.Presence.TheVariants.{Required, Optional, Constant}
-use Rattle.sbe_schema.specs.declared.messages.FieldDef.{FieldDef}
-use Rattle.sbe_schema.specs.declared.messages.DataDef.{DataDef}
-use Rattle.sbe_schema.specs.declared.messages.MessageDef.{MessageDef}
-use Rattle.sbe_schema.specs.Groups.{GroupHead, GroupTree, no_groups, group}
-use Rattle.sbe_schema.specs.Names.{same_name, primitive_named}
+use Rattle.schema_types.specs.declared.schema.Schema.{Schema}
+use Rattle.schema_types.specs.declared.types.TypeDef.{TypeDef}
+use Rattle.schema_types.specs.declared.types.TypeKind.{TypeKind}
+use Rattle.schema_types.specs.declared.types.TypeKind.TheVariants as kinds
+use Rattle.schema_types.specs.declared.types.MemberDef.{MemberDef}
+use Rattle.schema_types.specs.declared.types.Presence.{Presence}
+use Rattle.schema_types.specs.declared.types.Presence.TheVariants.{Required, Optional, Constant}
+use Rattle.schema_types.specs.declared.messages.FieldDef.{FieldDef}
+use Rattle.schema_types.specs.declared.messages.DataDef.{DataDef}
+use Rattle.schema_types.specs.declared.messages.MessageDef.{MessageDef}
+use Rattle.schema_types.specs.Groups.{GroupHead, GroupTree, no_groups, group}
+use Rattle.sbe_schema.specs.Names.{same_name}
+use Rattle.sbe_prim.specs.Names.{primitive_named}
 use Rattle.sbe_schema.specs.Offsets.{plus, offset_of, member_end, field_end, type_size, block_length_of}
 use Rattle.sbe_layout.specs.declared.items.ItemKind.{ItemKind}
 use Rattle.sbe_layout.specs.declared.items.ItemKind.TheVariants.{Number, Enum, Set}

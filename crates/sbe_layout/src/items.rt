@@ -1,11 +1,9 @@
 //! What a plan says of the fields and the data of a block.
 
-ghost use Rattle.std.specs.Prelude.{◌≡◌};
-
+use lists::List;
 use sbe_prim::Primitive;
 use sbe_schema::Presence;
 use sbe_value::Bytes;
-use std::marker::Model;
 
 /// The type of an item, as far as messages depend on it.
 #[derive(Debug, Clone, Copy, PartialEq, Eq)]
@@ -77,124 +75,10 @@ pub struct DataPlan {
 }
 
 /// The items of a block, in schema order.
-#[derive(Debug, Drop)]
-pub struct ItemPlans {
-    inner: Vec<ItemPlan>,
-}
-
-impl Model for ItemPlans {
-    ghost use Rattle.std.specs.Prelude.{List};
-    ghost use Rattle.sbe_layout.specs.declared.items.ItemPlan.{ItemPlan};
-
-    ghost Value = { List ItemPlan };
-
-    ghost view = { λ l. l.inner.items };
-}
-
-impl From<Vec<ItemPlan>> for ItemPlans {
-    ghost from_gives = { λ v l. l ≡ v.items };
-
-    fn from(inner: Vec<ItemPlan>) -> ItemPlans {
-        ItemPlans { inner }
-    }
-}
-
-impl From<ItemPlans> for Vec<ItemPlan> {
-    ghost from_gives = { λ l v. v.items ≡ l };
-
-    fn from(list: ItemPlans) -> Vec<ItemPlan> {
-        let ItemPlans { inner } = list;
-        inner
-    }
-}
-
-impl ItemPlans {
-    /// The items of a block, as a slice.
-    pub fn as_slice(&self) -> &[ItemPlan]
-        ensures { result.now ≡ self.now }
-    {
-        self.inner.as_slice()
-    }
-}
+pub type ItemPlans = List<ItemPlan>;
 
 /// The ends of the fields of a block, in schema order.
-#[derive(Debug, Drop)]
-pub struct Marks {
-    inner: Vec<Mark>,
-}
-
-impl Model for Marks {
-    ghost use Rattle.std.specs.Prelude.{List};
-    ghost use Rattle.sbe_layout.specs.declared.items.Mark.{Mark};
-
-    ghost Value = { List Mark };
-
-    ghost view = { λ l. l.inner.items };
-}
-
-impl From<Vec<Mark>> for Marks {
-    ghost from_gives = { λ v l. l ≡ v.items };
-
-    fn from(inner: Vec<Mark>) -> Marks {
-        Marks { inner }
-    }
-}
-
-impl From<Marks> for Vec<Mark> {
-    ghost from_gives = { λ l v. v.items ≡ l };
-
-    fn from(list: Marks) -> Vec<Mark> {
-        let Marks { inner } = list;
-        inner
-    }
-}
-
-impl Marks {
-    /// The ends of the fields of a block, as a slice.
-    pub fn as_slice(&self) -> &[Mark]
-        ensures { result.now ≡ self.now }
-    {
-        self.inner.as_slice()
-    }
-}
+pub type Marks = List<Mark>;
 
 /// The variable-length data of a block, in schema order.
-#[derive(Debug, Drop)]
-pub struct DataPlans {
-    inner: Vec<DataPlan>,
-}
-
-impl Model for DataPlans {
-    ghost use Rattle.std.specs.Prelude.{List};
-    ghost use Rattle.sbe_layout.specs.declared.items.DataPlan.{DataPlan};
-
-    ghost Value = { List DataPlan };
-
-    ghost view = { λ l. l.inner.items };
-}
-
-impl From<Vec<DataPlan>> for DataPlans {
-    ghost from_gives = { λ v l. l ≡ v.items };
-
-    fn from(inner: Vec<DataPlan>) -> DataPlans {
-        DataPlans { inner }
-    }
-}
-
-impl From<DataPlans> for Vec<DataPlan> {
-    ghost from_gives = { λ l v. v.items ≡ l };
-
-    fn from(list: DataPlans) -> Vec<DataPlan> {
-        let DataPlans { inner } = list;
-        inner
-    }
-}
-
-impl DataPlans {
-    /// The variable-length data of a block, as a slice.
-    pub fn as_slice(&self) -> &[DataPlan]
-        ensures { result.now ≡ self.now }
-    {
-        self.inner.as_slice()
-    }
-}
+pub type DataPlans = List<DataPlan>;

@@ -1,7 +1,7 @@
 //! Laying out the messages of a checked schema.
 
 ghost use Rattle.std.specs.Prelude.{◌≡◌, ◌++◌, ◌∷◌, IfOk, OnOk};
-ghost use Rattle.sbe_schema.specs.Views.{groups_of, head_of as schema_head_of};
+ghost use Rattle.schema_types.specs.Views.{groups_of, head_of as schema_head_of};
 ghost use Rattle.sbe_layout.specs.Views.{plans_of, head_of};
 ghost use Rattle.sbe_layout.specs.Trees.{plan};
 ghost use Rattle.sbe_layout.specs.Context.{Knows};

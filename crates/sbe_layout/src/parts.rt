@@ -1,12 +1,10 @@
 //! What a composite gives to each field of its type: one part for each of its
 //! members that is an item. It is resolved once, however many fields there are.
 
-ghost use Rattle.std.specs.Prelude.{◌≡◌};
-
 use crate::items::ItemKind;
+use lists::List;
 use sbe_schema::Presence;
 use sbe_value::Bytes;
-use std::marker::Model;
 
 /// A member of a composite that is an item of each field of that type.
 #[derive(Debug, Drop)]
@@ -24,33 +22,4 @@ pub struct Part {
 }
 
 /// The parts of a type, in the order of its members; only a composite has any.
-#[derive(Debug, Drop)]
-pub struct Parts {
-    inner: Vec<Part>,
-}
-
-impl Model for Parts {
-    ghost use Rattle.std.specs.Prelude.{List};
-    ghost use Rattle.sbe_layout.specs.declared.parts.Part.{Part};
-
-    ghost Value = { List Part };
-
-    ghost view = { λ l. l.inner.items };
-}
-
-impl From<Vec<Part>> for Parts {
-    ghost from_gives = { λ v l. l ≡ v.items };
-
-    fn from(inner: Vec<Part>) -> Parts {
-        Parts { inner }
-    }
-}
-
-impl Parts {
-    /// The parts of a type, as a slice.
-    pub fn as_slice(&self) -> &[Part]
-        ensures { result.now ≡ self.now }
-    {
-        self.inner.as_slice()
-    }
-}
+pub type Parts = List<Part>;

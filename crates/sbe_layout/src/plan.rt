@@ -5,9 +5,9 @@ ghost use Rattle.std.specs.Option.{option_copied};
 ghost use Rattle.sbe_layout.specs.Plans.{message_of, HasTemplate};
 
 use crate::blocks::BlockPlan;
+use lists::List;
 use sbe_prim::Order;
 use sbe_value::Bytes;
-use std::marker::Model;
 
 /// A message.
 #[derive(Debug, Drop)]
@@ -57,46 +57,4 @@ fn first_of(messages: &[MessagePlan], template: u16) -> Option<&MessagePlan>
 }
 
 /// The messages of a schema, in schema order.
-#[derive(Debug, Drop)]
-pub struct MessagePlans {
-    inner: Vec<MessagePlan>,
-}
-
-impl Model for MessagePlans {
-    ghost use Rattle.std.specs.Prelude.{List};
-    ghost use Rattle.sbe_layout.specs.declared.plan.MessagePlan.{MessagePlan};
-    ghost use Rattle.std.specs.Coded.{coded_list};
-    ghost use Rattle.sbe_layout.specs.contracts.plan.MessagePlan as row;
-
-    ghost Value = { List MessagePlan };
-
-    ghost coded = { coded_list row.the_row.coded };
-
-    ghost view = { λ l. l.inner.items };
-}
-
-impl From<Vec<MessagePlan>> for MessagePlans {
-    ghost from_gives = { λ v l. l ≡ v.items };
-
-    fn from(inner: Vec<MessagePlan>) -> MessagePlans {
-        MessagePlans { inner }
-    }
-}
-
-impl From<MessagePlans> for Vec<MessagePlan> {
-    ghost from_gives = { λ l v. v.items ≡ l };
-
-    fn from(list: MessagePlans) -> Vec<MessagePlan> {
-        let MessagePlans { inner } = list;
-        inner
-    }
-}
-
-impl MessagePlans {
-    /// The messages of a schema, as a slice.
-    pub fn as_slice(&self) -> &[MessagePlan]
-        ensures { result.now ≡ self.now }
-    {
-        self.inner.as_slice()
-    }
-}
+pub type MessagePlans = List<MessagePlan>;

@@ -8,9 +8,8 @@ ghost use Rattle.sbe_layout.specs.Context.{Resolves, Knows, resolved_in};
 
 use crate::items::ItemKind;
 use crate::parts::{Part, Parts};
-use sbe_schema::{
-    Index, MemberDef, Presence, Schema, TypeDef, TypeKind, find_primitive, offset_of,
-};
+use sbe_prim::find_primitive;
+use sbe_schema::{Index, MemberDef, Presence, Schema, TypeDef, TypeKind, offset_of};
 use sbe_value::Bytes;
 use std::alloc::{AllocError, Global};
 use std::collections::BTreeMap;

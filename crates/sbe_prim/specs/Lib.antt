@@ -1,2 +1,3 @@
 pub mod Primitives
 pub mod Numbers
+pub mod Names

@@ -1,4 +1,4 @@
-//! The primitive types of Simple Binary Encoding 1.0: their sizes, ranges and
+//! The primitive types of Simple Binary Encoding 1.0: their names, sizes, ranges and
 //! null values, and the numbers that their bytes spell in either byte order.
 //! It stands on nothing but std.
 #![tactic(auto)]
@@ -7,8 +7,10 @@ ghost use Rattle.std.specs.Prelude.{◌≡◌, ◌↔◌, IsTrue};
 ghost use Rattle.sbe_prim.specs.Primitives.{size_of, null_of, least_of, greatest_of, is_integer, holds};
 
 mod number;
+mod word;
 
 pub use number::{read, reads_back, write, writes_back};
+pub use word::{find_primitive, primitive_name};
 
 /// A primitive type (SBE 1.0, primitive encodings).
 #[derive(Debug, Clone, Copy, PartialEq, Eq)]
@@ -112,43 +114,4 @@ pub fn can_hold(p: Primitive, value: i128) -> bool
     ensures { IsTrue result ↔ IsTrue (holds p value) }
 {
     !is_integral(p) || (least(p) <= value && value <= greatest(p))
-}
-
-#[cfg(test)]
-mod tests {
-    use super::*;
-
-    #[test]
-    fn table_of_primitives(rt: HostRuntime) {
-        let rows = [
-            (Primitive::Char, 1, 0, 0, 255),
-            (Primitive::Int16, 2, -32768, -32768, 32767),
-            (Primitive::UInt32, 4, 4294967295, 0, 4294967295),
-            (Primitive::Double, 8, 0, 0, 0),
-        ];
-        for (p, bytes, none, low, high) in rows {
-            assert_eq!(rt; size(p), bytes);
-            assert_eq!(rt; null(p), none);
-            assert_eq!(rt; least(p), low);
-            assert_eq!(rt; greatest(p), high);
-        }
-        assert!(rt; is_integral(Primitive::Char) && !is_integral(Primitive::Float));
-        assert!(rt; can_hold(Primitive::Int8, -128) && !can_hold(Primitive::Int8, 128));
-    }
-
-    #[test]
-    fn both_byte_orders(rt: HostRuntime) {
-        assert_eq!(rt; read(Primitive::Int16, Order::Big, &[0xff, 0xfe]), -2);
-        assert_eq!(rt;
-            read(Primitive::UInt32, Order::Little, &[1, 2, 3, 4]),
-            67305985
-        );
-        let mut out = [0u8; 4];
-        write(Primitive::Int32, Order::Big, -2, &mut out);
-        assert_eq!(rt; out, [255, 255, 255, 254]);
-        write(Primitive::UInt32, Order::Little, 258, &mut out);
-        assert_eq!(rt; out, [2, 1, 0, 0]);
-        reads_back(Primitive::UInt32, Order::Little, 258);
-        writes_back(Primitive::UInt32, Order::Little, &out);
-    }
 }

@@ -6,7 +6,7 @@ use Rattle.sbe_value.specs.declared.path.Step.{Step}
 use Rattle.sbe_schema.specs.declared.fault.Spot.{Spot}
 use Rattle.sbe_schema.specs.declared.fault.SchemaFault.{SchemaFault}
 use Rattle.sbe_schema.specs.declared.fault.SchemaKind.{SchemaKind}
-use Rattle.sbe_schema.specs.declared.schema.Schema.{Schema}
+use Rattle.schema_types.specs.declared.schema.Schema.{Schema}
 use Rattle.sbe_schema.specs.Names.{Names, Numbers}
 use Rattle.sbe_schema.specs.Places.{Place, Table, whole, path_of}
 use Rattle.std.specs.FinSet as set

@@ -5,12 +5,12 @@ use Rattle.std.specs.FinSet as set
 use Rattle.sbe_schema.specs.declared.fault.Spot.{Spot}
 use Rattle.sbe_schema.specs.declared.fault.SchemaFault.{SchemaFault}
 use Rattle.sbe_schema.specs.declared.holder.Holder.{Holder}
-use Rattle.sbe_schema.specs.declared.schema.Schema.{Schema}
-use Rattle.sbe_schema.specs.declared.groups.GroupDef.{GroupDef}
-use Rattle.sbe_schema.specs.declared.messages.MessageDef.{MessageDef}
-use Rattle.sbe_schema.specs.declared.types.TypeDef.{TypeDef}
+use Rattle.schema_types.specs.declared.schema.Schema.{Schema}
+use Rattle.schema_types.specs.declared.groups.GroupDef.{GroupDef}
+use Rattle.schema_types.specs.declared.messages.MessageDef.{MessageDef}
+use Rattle.schema_types.specs.declared.types.TypeDef.{TypeDef}
 use Rattle.sbe_schema.specs.Names.{Names, Numbers}
-use Rattle.sbe_schema.specs.Views.{head_of, groups_of}
+use Rattle.schema_types.specs.Views.{head_of, groups_of}
 use Rattle.sbe_schema.specs.Walk.{walk_groups, walk_group, walk_type, walk_types, walk_message, walk_messages, ids_of_block}
 use Rattle.sbe_schema.specs.Search.{folded}
 use Rattle.sbe_schema.proofs.Fold.{folded_append}

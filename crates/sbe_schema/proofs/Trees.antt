@@ -1,8 +1,8 @@
 -- The groups of an entry weigh less than the list that their group stands in.
 use Rattle.std.proofs.Common.{◌≡◌, ℕ, zero, suc, ◌<◌, ap, List, [], ◌∷◌, length, get_or, arith}
-use Rattle.sbe_schema.specs.declared.groups.GroupDef.{GroupDef}
-use Rattle.sbe_schema.specs.Groups.{weight_of}
-use Rattle.sbe_schema.specs.Views.{groups_of}
+use Rattle.schema_types.specs.declared.groups.GroupDef.{GroupDef}
+use Rattle.schema_types.specs.Groups.{weight_of}
+use Rattle.schema_types.specs.Views.{groups_of}
 
 pub weight_at : (gs : List GroupDef) (i : ℕ) (g : GroupDef) → i < length gs → g ≡ get_or gs i g → weight_of g.groups < weight_of (groups_of gs)
 weight_at [] i g h e = absurd (omega arith)

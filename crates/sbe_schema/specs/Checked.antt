@@ -4,7 +4,7 @@ use Rattle.sbe_value.specs.declared.path.Step.{Step}
 use Rattle.sbe_schema.specs.declared.fault.SchemaKind.{SchemaKind}
 use Rattle.sbe_schema.specs.declared.fault.SchemaKind.TheVariants.{DuplicateName, DuplicateId, UnknownType, BadOffset, ShortLength, BadEnum, BadSet, BadDimension, BadData, IllegalExtension, OverLimit, Memory}
 use Rattle.sbe_schema.specs.declared.fault.SchemaFault.{SchemaFault}
-use Rattle.sbe_schema.specs.declared.schema.Schema.{Schema}
+use Rattle.schema_types.specs.declared.schema.Schema.{Schema}
 use Rattle.sbe_schema.specs.Names.{Names, Numbers}
 use Rattle.sbe_schema.specs.Places.{Place, Table, path_of}
 use Rattle.sbe_schema.specs.Walk.{walk}

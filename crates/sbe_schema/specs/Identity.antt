@@ -2,9 +2,10 @@
 use Rattle.std.specs.Prelude.{pos, Bool, true, false, ◌||◌, is_some, List}
 use Rattle.sbe_schema.specs.declared.meaning.Meaning as meaning
 use Rattle.sbe_schema.specs.declared.meaning.Meaning.TheVariants as means
-use Rattle.sbe_schema.specs.declared.types.TypeDef.{TypeDef}
+use Rattle.schema_types.specs.declared.types.TypeDef.{TypeDef}
 use Rattle.std.specs.FinSet as set
-use Rattle.sbe_schema.specs.Names.{Names, Numbers, primitive_named}
+use Rattle.sbe_schema.specs.Names.{Names, Numbers}
+use Rattle.sbe_prim.specs.Names.{primitive_named}
 use Rattle.sbe_schema.specs.Meanings.{meaning_of}
 use Rattle.sbe_schema.specs.Places.{Table, whole, type_table, value_table, bit_table, member_table, message_table, field_table, group_table, data_table}
 

@@ -7,10 +7,10 @@ use Rattle.std.specs.BTreeMap.{BTreeMap, get}
 use Rattle.sbe_schema.specs.declared.meaning.Meaning as meaning
 use Rattle.sbe_schema.specs.declared.meaning.Meaning.TheVariants as means
 use Rattle.sbe_schema.specs.declared.index.Index.{Index}
-use Rattle.sbe_schema.specs.declared.types.TypeDef.{TypeDef}
-use Rattle.sbe_schema.specs.declared.types.TypeKind.{TypeKind}
+use Rattle.schema_types.specs.declared.types.TypeDef.{TypeDef}
+use Rattle.schema_types.specs.declared.types.TypeKind.{TypeKind}
 use Rattle.sbe_prim.specs.declared.Primitive.{Primitive}
-use Rattle.sbe_schema.specs.Names.{primitive_named}
+use Rattle.sbe_prim.specs.Names.{primitive_named}
 use Rattle.sbe_schema.specs.Meanings.{type_named, meaning_of_kind}
 use Rattle.sbe_schema.specs.Offsets.{size_of_kind}
 

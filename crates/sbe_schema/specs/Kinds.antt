@@ -3,13 +3,13 @@ use Rattle.std.specs.Prelude.{◌*◌, pos, int_lt, nat_lt, Bool, true, false, n
 use Rattle.sbe_prim.specs.declared.Primitive.{Primitive}
 use Rattle.sbe_prim.specs.declared.Primitive.TheVariants.{Char, UInt8, UInt16, UInt32, UInt64}
 use Rattle.sbe_prim.specs.Primitives.{size_of, least_of, greatest_of, lies_within}
-use Rattle.sbe_schema.specs.declared.types.TypeDef.{TypeDef}
-use Rattle.sbe_schema.specs.declared.types.TypeKind.{TypeKind}
-use Rattle.sbe_schema.specs.declared.types.TypeKind.TheVariants.{Number, Enum, Set, Composite}
-use Rattle.sbe_schema.specs.declared.types.ValueDef.{ValueDef}
+use Rattle.schema_types.specs.declared.types.TypeDef.{TypeDef}
+use Rattle.schema_types.specs.declared.types.TypeKind.{TypeKind}
+use Rattle.schema_types.specs.declared.types.TypeKind.TheVariants.{Number, Enum, Set, Composite}
+use Rattle.schema_types.specs.declared.types.ValueDef.{ValueDef}
 use Rattle.std.specs.FinSet as set
 use Rattle.sbe_schema.specs.Names.{Numbers}
-use Rattle.sbe_schema.specs.Groups.{GroupHead}
+use Rattle.schema_types.specs.Groups.{GroupHead}
 use Rattle.sbe_schema.specs.Offsets.{block_length_of}
 use Rattle.sbe_schema.specs.Places.{Table, type_table, value_table, bit_table, group_table, data_table}
 

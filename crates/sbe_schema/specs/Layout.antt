@@ -1,6 +1,6 @@
 -- Offsets and block lengths that are refused (SBE 1.0, "Field offsets", "Block length").
 use Rattle.std.specs.Prelude.{ℕ, ℤ, pos, int_lt, nat_lt, Bool, false, ◌||◌, Option, Some, None, List}
-use Rattle.sbe_schema.specs.declared.types.TypeDef.{TypeDef}
+use Rattle.schema_types.specs.declared.types.TypeDef.{TypeDef}
 use Rattle.sbe_schema.specs.Offsets.{field_end, fields_end}
 use Rattle.sbe_schema.specs.Places.{Table, member_table, message_table, field_table, group_table}
 

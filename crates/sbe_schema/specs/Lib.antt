@@ -1,6 +1,3 @@
-pub mod Groups
-pub mod Views
-pub mod Falls
 pub mod Names
 pub mod Meanings
 pub mod Offsets

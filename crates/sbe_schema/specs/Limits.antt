@@ -4,16 +4,16 @@ use Rattle.sbe_prim.specs.declared.Primitive.{Primitive}
 use Rattle.sbe_prim.specs.Primitives.{holds}
 use Rattle.sbe_schema.specs.declared.meaning.Meaning as meaning
 use Rattle.sbe_schema.specs.declared.meaning.Meaning.TheVariants as means
-use Rattle.sbe_schema.specs.declared.schema.Schema.{Schema}
-use Rattle.sbe_schema.specs.declared.types.TypeDef.{TypeDef}
-use Rattle.sbe_schema.specs.declared.types.TypeKind.{TypeKind}
-use Rattle.sbe_schema.specs.declared.types.TypeKind.TheVariants.{Number, Enum, Set, Composite}
-use Rattle.sbe_schema.specs.declared.types.Presence.{Presence}
-use Rattle.sbe_schema.specs.declared.types.Presence.TheVariants.{Required, Optional, Constant as Fixed}
-use Rattle.sbe_schema.specs.declared.types.Constant.{Constant}
-use Rattle.sbe_schema.specs.declared.types.Constant.TheVariants.{Num, Text}
-use Rattle.sbe_schema.specs.declared.messages.MessageDef.{MessageDef}
-use Rattle.sbe_schema.specs.Groups.{GroupTree, no_groups, group}
+use Rattle.schema_types.specs.declared.schema.Schema.{Schema}
+use Rattle.schema_types.specs.declared.types.TypeDef.{TypeDef}
+use Rattle.schema_types.specs.declared.types.TypeKind.{TypeKind}
+use Rattle.schema_types.specs.declared.types.TypeKind.TheVariants.{Number, Enum, Set, Composite}
+use Rattle.schema_types.specs.declared.types.Presence.{Presence}
+use Rattle.schema_types.specs.declared.types.Presence.TheVariants.{Required, Optional, Constant as Fixed}
+use Rattle.schema_types.specs.declared.types.Constant.{Constant}
+use Rattle.schema_types.specs.declared.types.Constant.TheVariants.{Num, Text}
+use Rattle.schema_types.specs.declared.messages.MessageDef.{MessageDef}
+use Rattle.schema_types.specs.Groups.{GroupTree, no_groups, group}
 use Rattle.sbe_schema.specs.Meanings.{meaning_of}
 use Rattle.sbe_schema.specs.Offsets.{plus, block_length_of}
 use Rattle.sbe_schema.specs.Kinds.{is_char, is_uint8}

@@ -4,10 +4,11 @@ use Rattle.std.specs.Option.{option_map}
 use Rattle.sbe_prim.specs.declared.Primitive.{Primitive}
 use Rattle.sbe_schema.specs.declared.meaning.Meaning as meaning
 use Rattle.sbe_schema.specs.declared.meaning.Meaning.TheVariants as means
-use Rattle.sbe_schema.specs.declared.types.TypeDef.{TypeDef}
-use Rattle.sbe_schema.specs.declared.types.TypeKind.{TypeKind}
-use Rattle.sbe_schema.specs.declared.types.TypeKind.TheVariants.{Number, Enum, Set, Composite}
-use Rattle.sbe_schema.specs.Names.{same_name, primitive_named}
+use Rattle.schema_types.specs.declared.types.TypeDef.{TypeDef}
+use Rattle.schema_types.specs.declared.types.TypeKind.{TypeKind}
+use Rattle.schema_types.specs.declared.types.TypeKind.TheVariants.{Number, Enum, Set, Composite}
+use Rattle.sbe_schema.specs.Names.{same_name}
+use Rattle.sbe_prim.specs.Names.{primitive_named}
 
 abbrev pub type_named : List ℕ → List TypeDef → Option TypeKind
 type_named name [] = None

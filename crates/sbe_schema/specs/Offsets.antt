@@ -5,14 +5,14 @@ use Rattle.sbe_prim.specs.declared.Primitive.{Primitive}
 use Rattle.sbe_prim.specs.Primitives.{size_of}
 use Rattle.sbe_schema.specs.declared.meaning.Meaning as meaning
 use Rattle.sbe_schema.specs.declared.meaning.Meaning.TheVariants as means
-use Rattle.sbe_schema.specs.declared.types.TypeDef.{TypeDef}
-use Rattle.sbe_schema.specs.declared.types.TypeKind.{TypeKind}
-use Rattle.sbe_schema.specs.declared.types.TypeKind.TheVariants.{Number, Enum, Set, Composite}
-use Rattle.sbe_schema.specs.declared.types.MemberDef.{MemberDef}
-use Rattle.sbe_schema.specs.declared.types.Presence.{Presence}
-use Rattle.sbe_schema.specs.declared.types.Presence.TheVariants.{Required, Optional, Constant}
-use Rattle.sbe_schema.specs.declared.messages.FieldDef.{FieldDef}
-use Rattle.sbe_schema.specs.Names.{primitive_named}
+use Rattle.schema_types.specs.declared.types.TypeDef.{TypeDef}
+use Rattle.schema_types.specs.declared.types.TypeKind.{TypeKind}
+use Rattle.schema_types.specs.declared.types.TypeKind.TheVariants.{Number, Enum, Set, Composite}
+use Rattle.schema_types.specs.declared.types.MemberDef.{MemberDef}
+use Rattle.schema_types.specs.declared.types.Presence.{Presence}
+use Rattle.schema_types.specs.declared.types.Presence.TheVariants.{Required, Optional, Constant}
+use Rattle.schema_types.specs.declared.messages.FieldDef.{FieldDef}
+use Rattle.sbe_prim.specs.Names.{primitive_named}
 use Rattle.sbe_schema.specs.Meanings.{type_named, meaning_of}
 
 -- a sum that ends at the greatest number of 128 bits, which lies above every stated offset and every limit

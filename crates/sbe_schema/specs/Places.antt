@@ -7,14 +7,14 @@ use Rattle.sbe_schema.specs.declared.fault.Spot.{Spot}
 use Rattle.sbe_schema.specs.declared.fault.Part.{Part}
 use Rattle.sbe_schema.specs.declared.fault.Part.TheVariants.{Types, Values, Bits, Members, Messages, Fields, Groups, Data}
 use Rattle.sbe_schema.specs.declared.holder.Holder.{Holder}
-use Rattle.sbe_schema.specs.declared.types.TypeDef.{TypeDef}
-use Rattle.sbe_schema.specs.declared.types.ValueDef.{ValueDef}
-use Rattle.sbe_schema.specs.declared.types.BitDef.{BitDef}
-use Rattle.sbe_schema.specs.declared.types.MemberDef.{MemberDef}
-use Rattle.sbe_schema.specs.declared.messages.MessageDef.{MessageDef}
-use Rattle.sbe_schema.specs.declared.messages.FieldDef.{FieldDef}
-use Rattle.sbe_schema.specs.declared.messages.DataDef.{DataDef}
-use Rattle.sbe_schema.specs.Groups.{GroupHead}
+use Rattle.schema_types.specs.declared.types.TypeDef.{TypeDef}
+use Rattle.schema_types.specs.declared.types.ValueDef.{ValueDef}
+use Rattle.schema_types.specs.declared.types.BitDef.{BitDef}
+use Rattle.schema_types.specs.declared.types.MemberDef.{MemberDef}
+use Rattle.schema_types.specs.declared.messages.MessageDef.{MessageDef}
+use Rattle.schema_types.specs.declared.messages.FieldDef.{FieldDef}
+use Rattle.schema_types.specs.declared.messages.DataDef.{DataDef}
+use Rattle.schema_types.specs.Groups.{GroupHead}
 use Rattle.sbe_schema.specs.Names.{Names, Numbers}
 
 -- what stands at a place. A value and a bit come with the primitive of their type, a member and a field with the end of what stands before it.

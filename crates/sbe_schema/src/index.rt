@@ -1,30 +1,15 @@
 //! The types of a schema by their names: what each name stands for, and how many bytes it takes.
 
 ghost use Rattle.std.specs.Prelude.{◌≡◌, Some, None, IfOk, OnOk, ◌-◌, ◌^◌, min, pos};
-ghost use Rattle.sbe_schema.specs.Names.{primitive_named, first_named, word_of};
 ghost use Rattle.sbe_schema.specs.Meanings.{meaning_of, meaning_of_kind};
 ghost use Rattle.sbe_schema.specs.Offsets.{plus, simple_size, taken, offset_of, member_end, members_end, size_of_kind, type_size, field_end, fields_end, block_length_of};
 ghost use Rattle.sbe_schema.specs.Indexed.{Indexes, Holds, meaning_in};
 
 use crate::{FieldDef, Meaning, MemberDef, Presence, Schema, TypeDef, TypeKind};
-use sbe_prim::{Primitive, size};
+use sbe_prim::{find_primitive, size};
 use sbe_value::Bytes;
 use std::alloc::{AllocError, Global};
 use std::collections::BTreeMap;
-
-const PRIMITIVES: [Primitive; 11] = [
-    Primitive::Char,
-    Primitive::Int8,
-    Primitive::Int16,
-    Primitive::Int32,
-    Primitive::Int64,
-    Primitive::UInt8,
-    Primitive::UInt16,
-    Primitive::UInt32,
-    Primitive::UInt64,
-    Primitive::Float,
-    Primitive::Double,
-];
 
 /// The types of a schema by their names.
 #[derive(Drop)]
@@ -244,42 +229,4 @@ pub fn offset_of(end: u128, stated: Option<i128>) -> u128
         Some(z) if z < 0 => 0,
         Some(z) => z as u128,
     }
-}
-
-/// The word by which a schema names a primitive.
-pub fn primitive_name(p: Primitive) -> &'static [u8]
-    ensures { result.now ≡ word_of p }
-{
-    match p {
-        Primitive::Char => b"char",
-        Primitive::Int8 => b"int8",
-        Primitive::Int16 => b"int16",
-        Primitive::Int32 => b"int32",
-        Primitive::Int64 => b"int64",
-        Primitive::UInt8 => b"uint8",
-        Primitive::UInt16 => b"uint16",
-        Primitive::UInt32 => b"uint32",
-        Primitive::UInt64 => b"uint64",
-        Primitive::Float => b"float",
-        Primitive::Double => b"double",
-    }
-}
-
-/// The primitive of a name, if it is one's.
-#[tactic(auto, unfolding(crate::specs::Names::primitive_named))]
-pub fn find_primitive(name: &[u8]) -> Option<Primitive>
-    ensures { result ≡ primitive_named name.now }
-{
-    find_among(&PRIMITIVES, name)
-}
-
-fn find_among(primitives: &[Primitive], name: &[u8]) -> Option<Primitive>
-    ensures { result ≡ first_named name.now primitives.now }
-{
-    for p in primitives {
-        if primitive_name(*p) == name {
-            return Some(*p);
-        }
-    }
-    None
 }

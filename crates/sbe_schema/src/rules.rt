@@ -5,7 +5,7 @@ ghost use Rattle.std.specs.FinSet as set;
 ghost use Rattle.sbe_schema.specs.Indexed.{Indexes};
 ghost use Rattle.sbe_schema.specs.Places.{whole, type_table, value_table, bit_table, member_table, message_table, field_table, group_table, data_table};
 ghost use Rattle.sbe_schema.specs.Search.{rule_of};
-ghost use Rattle.sbe_schema.specs.Views.{head_of, groups_of};
+ghost use Rattle.schema_types.specs.Views.{head_of, groups_of};
 ghost use Rattle.sbe_schema.specs.Limits.{count_of_groups, blocks_of_groups, is_large_message};
 ghost use Rattle.sbe_schema.specs.Kinds.{is_unfit_dimension};
 
@@ -14,13 +14,13 @@ use crate::conditions::{
     is_large_kind, is_lower, is_not_with_group, is_out_of_turn,
 };
 use crate::holder::Holder;
-use crate::index::{Index, find_primitive, plus};
+use crate::index::{Index, plus};
 use crate::sets::{NameSet, NumberSet};
 use crate::{
     BitDef, DataDef, FieldDef, GroupDef, Meaning, MemberDef, MessageDef, Schema, SchemaKind,
     TypeDef, ValueDef,
 };
-use sbe_prim::{Primitive, greatest, least, size};
+use sbe_prim::{Primitive, find_primitive, greatest, least, size};
 
 // The greatest end of a field, length of a block, and length of all blocks of a message, in bytes.
 const MOST_BYTES: u16 = 16_384;

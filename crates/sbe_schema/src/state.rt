@@ -64,7 +64,8 @@ fn rank(kind: SchemaKind) -> u8
     }
 }
 
-fn path_to(alloc: Global, trail: &[Spot], spot: Spot) -> Result<Path, AllocError>
+/// The path to a table, by the way to what holds it and its place there.
+pub fn path_to(alloc: Global, trail: &[Spot], spot: Spot) -> Result<Path, AllocError>
     ensures { IfOk result (λ path. path ≡ path_of (trail.now ++ spot ∷ [])) }
 {
     let mut path = Path::new(alloc);

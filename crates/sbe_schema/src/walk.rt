@@ -4,7 +4,7 @@ ghost use Rattle.std.specs.Prelude.{◌≡◌, [], pos, OnOk};
 ghost use Rattle.std.specs.FinSet as set;
 ghost use Rattle.sbe_schema.specs.Indexed.{Indexes};
 ghost use Rattle.sbe_schema.specs.Search.{folded};
-ghost use Rattle.sbe_schema.specs.Views.{head_of, groups_of};
+ghost use Rattle.schema_types.specs.Views.{head_of, groups_of};
 ghost use Rattle.sbe_schema.specs.Walk.{walk_values, walk_bits, walk_members, walk_kind, walk_type, walk_types, walk_fields, walk_data, walk_groups, walk_group, walk_block, walk_message, walk_messages, names_of_fields, names_of_groups, ids_of_fields, ids_of_data, ids_of_groups, ids_of_block, lowest_since, lower};
 
 use crate::fault::{Part, Spot};

@@ -1,10 +1,10 @@
--- The tests of equality are true exactly of equal values, and so they are symmetric and transitive.
-use Rattle.std.specs.Prelude.{◌≡◌, ℕ, Bool, true, false, List, refl, nat_eq}
-use Rattle.std.proofs.Common.{◌∙◌, sym, ap, subst, Decides}
+-- The tests of equality are true exactly of equal values.
+use Rattle.std.specs.Prelude.{◌≡◌, ℕ, true, List, refl, nat_eq}
+use Rattle.std.proofs.Common.{ap, Decides}
 use Rattle.std.proofs.lemmas.Bool.{false≢true}
 use Rattle.std.proofs.lemmas.Bool.Decides.{Decides-eqb, Decides-int_eq}
-use Rattle.std.specs.Cmp.{IsPartialEquivalence}
 use Rattle.std.specs.Cmp.Lexicographic.{pointwise, pointwise_decides}
+use Rattle.lists.specs.Exact.{exact}
 use Rattle.sbe_value.specs.declared.item.Item.{Item}
 use Rattle.sbe_value.specs.declared.item.Item.TheVariants.{Num, Null, Text, Raw, Absent as NoItem}
 use Rattle.sbe_value.specs.declared.datum.Datum.{Datum}
@@ -12,22 +12,6 @@ use Rattle.sbe_value.specs.declared.datum.Datum.TheVariants.{Present, Absent as 
 use Rattle.sbe_value.specs.declared.path.Step.{Step}
 use Rattle.sbe_value.specs.declared.path.Step.TheVariants.{Key, At}
 use Rattle.sbe_value.specs.Equal.{item_eq, datum_eq, step_eq}
-
--- two truth values are equal where each makes the other true
-both_ways : (a b : Bool) → (a ≡ true → b ≡ true) → (b ≡ true → a ≡ true) → a ≡ b
-both_ways true b f g = sym (f refl)
-both_ways false true f g = g refl
-both_ways false false f g = refl
-
-pub partial_equivalence : {A : Type 0} (same : A → A → Bool) → ((x y : A) → Decides (same x y) (x ≡ y)) → IsPartialEquivalence same
-partial_equivalence same h = record {
-  symm = λ x y. both_ways (same x y) (same y x) (λ t. (h y x).1 (sym ((h x y).0 t))) (λ t. (h x y).1 (sym ((h y x).0 t)));
-  trans = λ x y z s t. (h x z).1 ((h x y).0 s ∙ (h y z).0 t);
-}
-
--- a test is exact where it is true of each value and itself, and only of equal ones
-pub exact : {A : Type 0} (same : A → A → Bool) → ((x : A) → same x x ≡ true) → ((x y : A) → same x y ≡ true → x ≡ y) → (x y : A) → Decides (same x y) (x ≡ y)
-exact {A} same itself only x y = let P : A → Type 0 = λ z. same x z ≡ true in (only x y, λ p. subst P p (itself x))
 
 pub bytes_exact : (x y : List ℕ) → Decides (pointwise nat_eq x y) (x ≡ y)
 bytes_exact = pointwise_decides Decides-eqb

@@ -12,8 +12,8 @@ use Rattle.sbe_value.specs.declared.tree.Block.{Block}
 use Rattle.sbe_value.specs.declared.message.Message.{Message}
 use Rattle.sbe_value.specs.Trees.{GroupList, BlockList, no_groups, absent, entries, no_blocks, block}
 use Rattle.sbe_value.specs.Equal.{item_eq, datum_eq, groups_eq, blocks_eq, group_eq, block_eq, message_eq}
-use Rattle.sbe_value.specs.Laws.{exact, item_exact, datum_exact}
-pub use Rattle.sbe_value.specs.Laws.{partial_equivalence}
+use Rattle.lists.specs.Exact.{exact}
+use Rattle.sbe_value.specs.Laws.{item_exact, datum_exact}
 
 -- two tests are both true exactly where their conjunction is
 both : (a b : Bool) → a ≡ true → b ≡ true → (a && b) ≡ true

@@ -4,6 +4,7 @@ ghost use Rattle.std.specs.Prelude.{◌≡◌, ◌↔◌, IsTrue, IfOk};
 ghost use Rattle.sbe_value.specs.Equal.{message_eq};
 
 use crate::Block;
+use lists::Element;
 use std::alloc::{AllocError, Global};
 
 /// A message: the id of its template, and its root block (SBE 1.0, message structure).
@@ -18,7 +19,8 @@ pub struct Message {
 impl PartialEq for Message {
     ghost use Rattle.std.specs.Prelude.{◌≡◌, ◌↔◌, IsTrue};
     ghost use Rattle.sbe_value.specs.Equal.{message_eq};
-    ghost use Rattle.sbe_value.specs.TreeLaws.{partial_equivalence, message_exact};
+    ghost use Rattle.lists.specs.Exact.{partial_equivalence};
+    ghost use Rattle.sbe_value.specs.TreeLaws.{message_exact};
 
     ghost eq = { message_eq };
 
@@ -32,15 +34,16 @@ impl PartialEq for Message {
     }
 }
 
-impl Message {
-    /// An equal message of its own.
-    pub fn copy(&self, alloc: Global) -> Result<Message, AllocError>
-        ensures { IfOk result (λ m. m ≡ self.now) }
-    {
+impl Element for Message {
+    ghost use Rattle.sbe_value.specs.TreeLaws.{message_exact};
+
+    fn copy(&self, alloc: Global) -> Result<Message, AllocError> {
         let root = self.root.copy(alloc)?;
         Ok(Message {
             template: self.template,
             root,
         })
     }
+
+    ghost exact = { message_exact };
 }

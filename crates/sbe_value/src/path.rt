@@ -1,13 +1,12 @@
 //! How a place in a schema or a message is named for people.
 
-ghost use Rattle.std.specs.Prelude.{◌≡◌, ◌↔◌, [], ◌∷◌, ◌++◌, length, IsTrue, IfOk, OnOk, OnErr};
-ghost use Rattle.std.specs.Cmp.Lexicographic.{pointwise};
+ghost use Rattle.std.specs.Prelude.{◌≡◌, ◌↔◌, ◌++◌, IsTrue, IfOk, OnOk};
 ghost use Rattle.sbe_value.specs.Equal.{step_eq};
 ghost use Rattle.sbe_value.specs.PathText.{step_text, path_text};
 
 use crate::Bytes;
+use lists::{Element, List};
 use std::alloc::{AllocError, Global};
-use std::marker::Model;
 
 /// One step on the way to a place.
 #[derive(Debug, Drop)]
@@ -21,7 +20,8 @@ pub enum Step {
 impl PartialEq for Step {
     ghost use Rattle.std.specs.Prelude.{◌≡◌, ◌↔◌, IsTrue};
     ghost use Rattle.sbe_value.specs.Equal.{step_eq};
-    ghost use Rattle.sbe_value.specs.Laws.{partial_equivalence, step_exact};
+    ghost use Rattle.lists.specs.Exact.{partial_equivalence};
+    ghost use Rattle.sbe_value.specs.Laws.{step_exact};
 
     ghost eq = { step_eq };
 
@@ -39,137 +39,39 @@ impl PartialEq for Step {
     }
 }
 
-impl Step {
-    /// An equal step of its own.
-    pub fn copy(&self, alloc: Global) -> Result<Step, AllocError>
-        ensures { IfOk result (λ s. s ≡ self.now) }
-    {
+impl Element for Step {
+    ghost use Rattle.sbe_value.specs.Laws.{step_exact};
+
+    fn copy(&self, alloc: Global) -> Result<Step, AllocError> {
         match self {
             Step::Key(key) => Ok(Step::Key(key.copy(alloc)?)),
             Step::At(place) => Ok(Step::At(*place)),
         }
     }
+
+    ghost exact = { step_exact };
 }
 
 /// The steps from the outermost thing to a place; without steps it is the whole.
-#[derive(Debug, Drop)]
-pub struct Path {
-    inner: Vec<Step>,
+pub type Path = List<Step>;
+
+/// The path as people read it: keys joined by dots, and `[i]` for a place in a list.
+pub fn text_of_path(alloc: Global, path: &Path) -> Result<Bytes, AllocError>
+    ensures { IfOk result (λ b. b ≡ path_text path.now) }
+{
+    let mut text = Bytes::new(alloc);
+    let mut rest = path.as_slice();
+    if let [Step::Key(key), others @ ..] = rest {
+        text.extend_from_slice(key.as_slice())?;
+        rest = others;
+    }
+    for step in rest {
+        write_step(alloc, step, &mut text)?;
+    }
+    Ok(text)
 }
 
-impl Model for Path {
-    ghost use Rattle.std.specs.Prelude.{List};
-    ghost use Rattle.sbe_value.specs.declared.path.Step.{Step};
-
-    ghost Value = { List Step };
-
-    ghost view = { λ l. l.inner.items };
-}
-
-impl From<Vec<Step>> for Path {
-    ghost from_gives = { λ v l. l ≡ v.items };
-
-    fn from(inner: Vec<Step>) -> Path {
-        Path { inner }
-    }
-}
-
-impl From<Path> for Vec<Step> {
-    ghost from_gives = { λ l v. v.items ≡ l };
-
-    fn from(list: Path) -> Vec<Step> {
-        let Path { inner } = list;
-        inner
-    }
-}
-
-impl PartialEq for Path {
-    ghost use Rattle.std.specs.Prelude.{◌≡◌, ◌↔◌, IsTrue};
-    ghost use Rattle.std.specs.Cmp.Lexicographic.{pointwise, lists_per};
-    ghost use Rattle.sbe_value.specs.Equal.{step_eq};
-    ghost use Rattle.sbe_value.specs.Laws.{partial_equivalence, step_exact};
-
-    ghost eq = { pointwise step_eq };
-
-    ghost laws = { lists_per (partial_equivalence step_eq step_exact) };
-
-    fn eq(&self, other: &Path) -> bool
-        ensures exact { IsTrue result ↔ (self.now ≡ other.now) }
-        ensures computed { result ≡ pointwise step_eq self.now other.now }
-    {
-        self.inner.as_slice() == other.inner.as_slice()
-    }
-}
-
-impl Path {
-    /// The path of the whole; it takes no memory until a step is added.
-    pub fn new(alloc: Global) -> Path
-        ensures { result ≡ [] }
-    {
-        Path {
-            inner: Vec::new(alloc),
-        }
-    }
-
-    /// The number of steps.
-    pub fn len(&self) -> usize
-        ensures { result ≡ length self.now }
-    {
-        self.inner.len()
-    }
-
-    /// Whether there are none.
-    pub fn is_empty(&self) -> bool
-        ensures { IsTrue result ↔ (self.now ≡ []) }
-    {
-        self.inner.is_empty()
-    }
-
-    /// The steps in order.
-    pub fn as_slice(&self) -> &[Step]
-        ensures { result.now ≡ self.now }
-    {
-        self.inner.as_slice()
-    }
-
-    /// Goes one step further; an error changes nothing.
-    pub fn push(&mut self, step: Step) -> Result<(), AllocError>
-        ensures ok { OnOk result (self.new ≡ self.old ++ step ∷ []) }
-        ensures err { OnErr result (self.new ≡ self.old) }
-    {
-        self.inner.push(step)?;
-        Ok(())
-    }
-
-    /// The path as people read it: keys joined by dots, and `[i]` for a place in a list.
-    pub fn text(&self, alloc: Global) -> Result<Bytes, AllocError>
-        ensures { IfOk result (λ b. b ≡ path_text self.now) }
-    {
-        let mut text = Bytes::new(alloc);
-        let mut rest = self.inner.as_slice();
-        if let [Step::Key(key), others @ ..] = rest {
-            text.extend_from_slice(key.as_slice())?;
-            rest = others;
-        }
-        for step in rest {
-            write_step(alloc, step, &mut text)?;
-        }
-        Ok(text)
-    }
-
-    /// An equal path of its own.
-    pub fn copy(&self, alloc: Global) -> Result<Path, AllocError>
-        ensures { IfOk result (λ l. l ≡ self.now) }
-    {
-        let mut inner = Vec::with_capacity(alloc, self.inner.len())?;
-        for step in self.inner.as_slice() {
-            inner.push(step.copy(alloc)?)?;
-        }
-        Ok(Path { inner })
-    }
-}
-
-// Writes a step behind others.
+// Writes a step behind others: a dot and the key, or the place in brackets.
 fn write_step(alloc: Global, step: &Step, text: &mut Bytes) -> Result<(), AllocError>
     ensures { OnOk result (text.new ≡ text.old ++ step_text step.now) }
 {

@@ -237,7 +237,8 @@ impl Block {
 impl PartialEq for Group {
     ghost use Rattle.std.specs.Prelude.{◌≡◌, ◌↔◌, IsTrue};
     ghost use Rattle.sbe_value.specs.Equal.{group_eq};
-    ghost use Rattle.sbe_value.specs.TreeLaws.{partial_equivalence, group_exact};
+    ghost use Rattle.lists.specs.Exact.{partial_equivalence};
+    ghost use Rattle.sbe_value.specs.TreeLaws.{group_exact};
 
     ghost eq = { group_eq };
 
@@ -259,7 +260,8 @@ impl PartialEq for Group {
 impl PartialEq for Groups {
     ghost use Rattle.std.specs.Prelude.{◌≡◌, ◌↔◌, IsTrue};
     ghost use Rattle.sbe_value.specs.Equal.{groups_eq};
-    ghost use Rattle.sbe_value.specs.TreeLaws.{partial_equivalence, groups_exact};
+    ghost use Rattle.lists.specs.Exact.{partial_equivalence};
+    ghost use Rattle.sbe_value.specs.TreeLaws.{groups_exact};
 
     ghost eq = { groups_eq };
 
@@ -293,7 +295,8 @@ fn are_same_groups(a: &[Group], b: &[Group]) -> bool
 impl PartialEq for Block {
     ghost use Rattle.std.specs.Prelude.{◌≡◌, ◌↔◌, IsTrue};
     ghost use Rattle.sbe_value.specs.Equal.{block_eq};
-    ghost use Rattle.sbe_value.specs.TreeLaws.{partial_equivalence, block_exact};
+    ghost use Rattle.lists.specs.Exact.{partial_equivalence};
+    ghost use Rattle.sbe_value.specs.TreeLaws.{block_exact};
 
     ghost eq = { block_eq };
 
@@ -311,7 +314,8 @@ impl PartialEq for Block {
 impl PartialEq for Blocks {
     ghost use Rattle.std.specs.Prelude.{◌≡◌, ◌↔◌, IsTrue};
     ghost use Rattle.sbe_value.specs.Equal.{blocks_eq};
-    ghost use Rattle.sbe_value.specs.TreeLaws.{partial_equivalence, blocks_exact};
+    ghost use Rattle.lists.specs.Exact.{partial_equivalence};
+    ghost use Rattle.sbe_value.specs.TreeLaws.{blocks_exact};
 
     ghost eq = { blocks_eq };
 

@@ -6,7 +6,8 @@ use Rattle.std.specs.Ordering.{nat_cmp, is_eq}
 use Rattle.std.specs.Cmp.{Equal-is, tied_itself}
 use Rattle.std.specs.Cmp.Lexicographic.{slice_cmp, nat_list_cmp_total}
 use Rattle.std.specs.FinSet as set
-use Rattle.sbe_schema.specs.Names.{Names, primitive_named}
+use Rattle.sbe_schema.specs.Names.{Names}
+use Rattle.sbe_prim.specs.Names.{primitive_named}
 use Rattle.sbe_schema.specs.Places.{Place, Table, whole, type_table, value_table, bit_table, member_table, message_table, field_table, group_table, data_table}
 use Rattle.sbe_schema.specs.Identity.{is_duplicate_name}
 use Rattle.schema_laws.specs.Pairs.{name_of, AreSiblings, HaveOneName, IsNamedAsPrimitive, NamesAreToldApart}

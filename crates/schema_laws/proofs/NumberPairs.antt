@@ -6,7 +6,7 @@ use Rattle.std.specs.Prelude.{nat_lt}
 use Rattle.std.specs.Cmp.{Equal-is, tied_itself, int_cmp_total}
 use Rattle.std.specs.FinSet as set
 use Rattle.sbe_prim.specs.Primitives.{size_of, least_of, greatest_of, lies_within}
-use Rattle.sbe_schema.specs.declared.schema.Schema.{Schema}
+use Rattle.schema_types.specs.declared.schema.Schema.{Schema}
 use Rattle.sbe_schema.specs.Names.{Numbers}
 use Rattle.sbe_schema.specs.Places.{Place, Table}
 use Rattle.sbe_schema.specs.Kinds.{is_bad_enum, is_bad_set}

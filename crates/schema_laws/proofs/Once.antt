@@ -1,8 +1,8 @@
 -- No path is twice in the walk.
 use Rattle.std.proofs.Common.{◌≡◌, ℕ, suc, ◌+◌, ◌≤◌, ℤ, pos, List, [], ◌∷◌, ◌++◌, refl, sym, ap, subst, ◌∙◌, arith, append_assoc}
 use Rattle.sbe_schema.specs.declared.fault.Part.{Part}
-use Rattle.sbe_schema.specs.declared.schema.Schema.{Schema}
-use Rattle.sbe_schema.specs.declared.messages.MessageDef.{MessageDef}
+use Rattle.schema_types.specs.declared.schema.Schema.{Schema}
+use Rattle.schema_types.specs.declared.messages.MessageDef.{MessageDef}
 use Rattle.schema_laws.specs.Standing.{WalkRepeatsNone}
 use Rattle.schema_laws.proofs.Below.{Below, all_append, kind_below, block_below}
 use Rattle.std.specs.List.{AllByRecursion}
@@ -12,15 +12,15 @@ use Rattle.sbe_prim.specs.declared.Primitive.{Primitive}
 use Rattle.sbe_schema.specs.declared.fault.Spot.{Spot}
 use Rattle.sbe_schema.specs.declared.fault.Part.TheVariants.{Types, Values, Bits, Members, Messages, Fields, Groups, Data}
 use Rattle.sbe_schema.specs.declared.holder.Holder.{Holder}
-use Rattle.sbe_schema.specs.declared.types.TypeDef.{TypeDef}
-use Rattle.sbe_schema.specs.declared.types.TypeKind.{TypeKind}
-use Rattle.sbe_schema.specs.declared.types.TypeKind.TheVariants.{Number, Enum, Set, Composite}
-use Rattle.sbe_schema.specs.declared.types.ValueDef.{ValueDef}
-use Rattle.sbe_schema.specs.declared.types.BitDef.{BitDef}
-use Rattle.sbe_schema.specs.declared.types.MemberDef.{MemberDef}
-use Rattle.sbe_schema.specs.declared.messages.FieldDef.{FieldDef}
-use Rattle.sbe_schema.specs.declared.messages.DataDef.{DataDef}
-use Rattle.sbe_schema.specs.Groups.{GroupTree, no_groups, group}
+use Rattle.schema_types.specs.declared.types.TypeDef.{TypeDef}
+use Rattle.schema_types.specs.declared.types.TypeKind.{TypeKind}
+use Rattle.schema_types.specs.declared.types.TypeKind.TheVariants.{Number, Enum, Set, Composite}
+use Rattle.schema_types.specs.declared.types.ValueDef.{ValueDef}
+use Rattle.schema_types.specs.declared.types.BitDef.{BitDef}
+use Rattle.schema_types.specs.declared.types.MemberDef.{MemberDef}
+use Rattle.schema_types.specs.declared.messages.FieldDef.{FieldDef}
+use Rattle.schema_types.specs.declared.messages.DataDef.{DataDef}
+use Rattle.schema_types.specs.Groups.{GroupTree, no_groups, group}
 use Rattle.sbe_schema.specs.Names.{Names, Numbers}
 use Rattle.sbe_schema.specs.Offsets.{member_end, field_end}
 use Rattle.sbe_schema.specs.Places.{Place, Table, type_table, value_table, bit_table, member_table, message_table, field_table, group_table, data_table}

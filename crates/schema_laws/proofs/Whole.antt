@@ -1,8 +1,8 @@
 -- Each path at which a table stands is a place of the walk.
 use Rattle.std.proofs.Common.{◌≡◌, ℕ, zero, suc, ◌+◌, ℤ, pos, Some, option_map, List, [], ◌∷◌, ◌++◌, refl, ap, ◌∙◌, arith, append_assoc}
 use Rattle.sbe_schema.specs.declared.fault.Part.{Part}
-use Rattle.sbe_schema.specs.declared.schema.Schema.{Schema}
-use Rattle.sbe_schema.specs.declared.messages.MessageDef.{MessageDef}
+use Rattle.schema_types.specs.declared.schema.Schema.{Schema}
+use Rattle.schema_types.specs.declared.messages.MessageDef.{MessageDef}
 use Rattle.schema_laws.specs.Standing.{Item, the_value, the_bit, the_member, the_field, the_data, in_kind, below_type, in_block, in_groups, below_message, and_then, in_schema, WalkLeavesNoneOut}
 use Rattle.std.specs.List.{slice_get, Contains}
 use Rattle.std.proofs.lemmas.List.Elements.{Contains-append_left, Contains-append_right}
@@ -12,15 +12,15 @@ use Rattle.sbe_prim.specs.declared.Primitive.{Primitive}
 use Rattle.sbe_schema.specs.declared.fault.Spot.{Spot}
 use Rattle.sbe_schema.specs.declared.fault.Part.TheVariants.{Types, Values, Bits, Members, Messages, Fields, Groups, Data}
 use Rattle.sbe_schema.specs.declared.holder.Holder.{Holder}
-use Rattle.sbe_schema.specs.declared.types.TypeDef.{TypeDef}
-use Rattle.sbe_schema.specs.declared.types.TypeKind.{TypeKind}
-use Rattle.sbe_schema.specs.declared.types.TypeKind.TheVariants.{Enum, Set, Composite}
-use Rattle.sbe_schema.specs.declared.types.ValueDef.{ValueDef}
-use Rattle.sbe_schema.specs.declared.types.BitDef.{BitDef}
-use Rattle.sbe_schema.specs.declared.types.MemberDef.{MemberDef}
-use Rattle.sbe_schema.specs.declared.messages.FieldDef.{FieldDef}
-use Rattle.sbe_schema.specs.declared.messages.DataDef.{DataDef}
-use Rattle.sbe_schema.specs.Groups.{GroupTree, no_groups, group}
+use Rattle.schema_types.specs.declared.types.TypeDef.{TypeDef}
+use Rattle.schema_types.specs.declared.types.TypeKind.{TypeKind}
+use Rattle.schema_types.specs.declared.types.TypeKind.TheVariants.{Enum, Set, Composite}
+use Rattle.schema_types.specs.declared.types.ValueDef.{ValueDef}
+use Rattle.schema_types.specs.declared.types.BitDef.{BitDef}
+use Rattle.schema_types.specs.declared.types.MemberDef.{MemberDef}
+use Rattle.schema_types.specs.declared.messages.FieldDef.{FieldDef}
+use Rattle.schema_types.specs.declared.messages.DataDef.{DataDef}
+use Rattle.schema_types.specs.Groups.{GroupTree, no_groups, group}
 use Rattle.sbe_schema.specs.Names.{Names, Numbers}
 use Rattle.sbe_schema.specs.Offsets.{member_end, field_end}
 use Rattle.sbe_schema.specs.Places.{Place}

@@ -1,6 +1,6 @@
 -- What the tables of a checked schema are: told apart, each from every other that it is to be told apart from.
 use Rattle.std.specs.Prelude.{◌≡◌, ◌⊎◌, IsTrue, List, ◌∷◌, ◌++◌}
-use Rattle.sbe_schema.specs.declared.schema.Schema.{Schema}
+use Rattle.schema_types.specs.declared.schema.Schema.{Schema}
 use Rattle.sbe_schema.specs.Places.{Place}
 use Rattle.sbe_schema.specs.Walk.{walk}
 use Rattle.sbe_schema.specs.Checked.{is_checked}

@@ -3,13 +3,13 @@ use Rattle.std.specs.Prelude.{◌≡◌, ℕ, ℤ, pos, ◌*◌, ◌≤◌, fals
 use Rattle.std.specs.List.{Contains}
 use Rattle.sbe_prim.specs.declared.Primitive.{Primitive}
 use Rattle.sbe_prim.specs.Primitives.{size_of, least_of, greatest_of, lies_within}
-use Rattle.sbe_schema.specs.declared.types.ValueDef.{ValueDef}
-use Rattle.sbe_schema.specs.declared.types.BitDef.{BitDef}
+use Rattle.schema_types.specs.declared.types.ValueDef.{ValueDef}
+use Rattle.schema_types.specs.declared.types.BitDef.{BitDef}
 use Rattle.sbe_schema.specs.declared.fault.Spot.{Spot}
 use Rattle.sbe_schema.specs.declared.fault.Part.{Part}
 use Rattle.sbe_schema.specs.declared.fault.Part.TheVariants.{Types, Values, Bits, Members, Messages, Fields, Groups, Data}
-use Rattle.sbe_schema.specs.declared.schema.Schema.{Schema}
-use Rattle.sbe_schema.specs.Names.{primitive_named}
+use Rattle.schema_types.specs.declared.schema.Schema.{Schema}
+use Rattle.sbe_prim.specs.Names.{primitive_named}
 use Rattle.sbe_schema.specs.Places.{Table, Place, whole, type_table, value_table, bit_table, member_table, message_table, field_table, group_table, data_table}
 use Rattle.sbe_schema.specs.Walk.{walk}
 use Rattle.sbe_schema.specs.Identity.{is_duplicate_name, is_duplicate_id}

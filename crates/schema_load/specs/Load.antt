@@ -1,6 +1,6 @@
 -- The plan of the messages of the schema that a configuration text spells, or why there is none (this project's profile).
 use Rattle.std.specs.Prelude.{ℕ, Option, Some, None, List, Result, Ok, Err}
-use Rattle.sbe_schema.specs.declared.schema.Schema.{Schema}
+use Rattle.schema_types.specs.declared.schema.Schema.{Schema}
 use Rattle.sbe_schema.specs.declared.fault.SchemaFault.{SchemaFault}
 use Rattle.sbe_schema.specs.Checked.{fault_of}
 use Rattle.sbe_layout.specs.declared.plan.Plan.{Plan}

@@ -6,6 +6,3 @@ mod loading;
 
 pub use loading::load;
 pub use schema_toml::TEXT_LIMIT;
-
-#[cfg(test)]
-mod tests;

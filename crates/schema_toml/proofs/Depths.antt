@@ -3,21 +3,21 @@ use Rattle.std.proofs.Common.{◌≡◌, ℕ, ◌+◌, ◌*◌, ◌-◌, ◌≤�
 use Rattle.std.specs.Fmt.{decimal}
 use Rattle.sbe_prim.specs.declared.Order.{Order}
 use Rattle.sbe_prim.specs.declared.Order.TheVariants.{Little, Big}
-use Rattle.sbe_schema.specs.Groups.{GroupHead, GroupTree, no_groups, group}
-use Rattle.sbe_schema.specs.declared.messages.DataDef.{DataDef}
-use Rattle.sbe_schema.specs.declared.messages.FieldDef.{FieldDef}
-use Rattle.sbe_schema.specs.declared.messages.MessageDef.{MessageDef}
-use Rattle.sbe_schema.specs.declared.schema.Schema.{Schema}
-use Rattle.sbe_schema.specs.declared.types.BitDef.{BitDef}
-use Rattle.sbe_schema.specs.declared.types.Constant.{Constant}
-use Rattle.sbe_schema.specs.declared.types.Constant.TheVariants.{Num, Text}
-use Rattle.sbe_schema.specs.declared.types.MemberDef.{MemberDef}
-use Rattle.sbe_schema.specs.declared.types.Presence.{Presence}
-use Rattle.sbe_schema.specs.declared.types.Presence.TheVariants.{Required, Optional, Constant as Always}
-use Rattle.sbe_schema.specs.declared.types.TypeDef.{TypeDef}
-use Rattle.sbe_schema.specs.declared.types.TypeKind.{TypeKind}
-use Rattle.sbe_schema.specs.declared.types.TypeKind.TheVariants.{Number, Enum, Set, Composite}
-use Rattle.sbe_schema.specs.declared.types.ValueDef.{ValueDef}
+use Rattle.schema_types.specs.Groups.{GroupHead, GroupTree, no_groups, group}
+use Rattle.schema_types.specs.declared.messages.DataDef.{DataDef}
+use Rattle.schema_types.specs.declared.messages.FieldDef.{FieldDef}
+use Rattle.schema_types.specs.declared.messages.MessageDef.{MessageDef}
+use Rattle.schema_types.specs.declared.schema.Schema.{Schema}
+use Rattle.schema_types.specs.declared.types.BitDef.{BitDef}
+use Rattle.schema_types.specs.declared.types.Constant.{Constant}
+use Rattle.schema_types.specs.declared.types.Constant.TheVariants.{Num, Text}
+use Rattle.schema_types.specs.declared.types.MemberDef.{MemberDef}
+use Rattle.schema_types.specs.declared.types.Presence.{Presence}
+use Rattle.schema_types.specs.declared.types.Presence.TheVariants.{Required, Optional, Constant as Always}
+use Rattle.schema_types.specs.declared.types.TypeDef.{TypeDef}
+use Rattle.schema_types.specs.declared.types.TypeKind.{TypeKind}
+use Rattle.schema_types.specs.declared.types.TypeKind.TheVariants.{Number, Enum, Set, Composite}
+use Rattle.schema_types.specs.declared.types.ValueDef.{ValueDef}
 use Rattle.toml.specs.Data.{Data, string, integer, no_members, depth, items_depth, members_depth}
 use Rattle.toml.specs.View.{items_of}
 use Rattle.schema_toml.specs.Levels.{levels_of_groups, levels_of_messages, levels_of_schema}

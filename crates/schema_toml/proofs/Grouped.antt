@@ -4,8 +4,8 @@ use Rattle.std.proofs.lemmas.List.{drop_more}
 use Rattle.toml.specs.Data.{array}
 use Rattle.toml.specs.View.{view, items_of}
 use Rattle.toml.specs.declared.value.Value.{Value}
-use Rattle.sbe_schema.specs.declared.groups.GroupDef.{GroupDef}
-use Rattle.sbe_schema.specs.Views.{head_of, groups_of}
+use Rattle.schema_types.specs.declared.groups.GroupDef.{GroupDef}
+use Rattle.schema_types.specs.Views.{head_of, groups_of}
 use Rattle.schema_toml.specs.Written.{group_data, groups_list}
 
 map_view_push : (vs : List Value) (v : Value) → map view (vs ++ v ∷ []) ≡ map view vs ++ view v ∷ []

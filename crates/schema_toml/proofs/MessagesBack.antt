@@ -3,11 +3,11 @@ use Rattle.std.proofs.Common.{◌≡◌, ℕ, ◌+◌, Bool, true, false, cond, 
 use Rattle.sbe_value.specs.declared.path.Step.{Step}
 use Rattle.sbe_value.specs.declared.path.Step.TheVariants.{Key, At}
 use Rattle.sbe_prim.specs.declared.Primitive.TheVariants.{UInt16}
-use Rattle.sbe_schema.specs.Groups.{GroupTree, no_groups, group}
-use Rattle.sbe_schema.specs.declared.types.Presence.TheVariants.{Required}
-use Rattle.sbe_schema.specs.declared.messages.FieldDef.{FieldDef}
-use Rattle.sbe_schema.specs.declared.messages.DataDef.{DataDef}
-use Rattle.sbe_schema.specs.declared.messages.MessageDef.{MessageDef}
+use Rattle.schema_types.specs.Groups.{GroupTree, no_groups, group}
+use Rattle.schema_types.specs.declared.types.Presence.TheVariants.{Required}
+use Rattle.schema_types.specs.declared.messages.FieldDef.{FieldDef}
+use Rattle.schema_types.specs.declared.messages.DataDef.{DataDef}
+use Rattle.schema_types.specs.declared.messages.MessageDef.{MessageDef}
 use Rattle.toml.specs.Data.{Data, string, integer, float, boolean, datetime, array, table, Items, no_items, item, Members, no_members, member, same_key}
 use Rattle.toml.specs.View.{items_of}
 use Rattle.toml_walk.specs.Reading.{Read, ◌>>=◌, under}

@@ -7,9 +7,9 @@ use Rattle.std.specs.Cmp.Lexicographic.{slice_cmp}
 use Rattle.std.specs.Ordering.{match_ordering}
 use Rattle.sbe_value.specs.declared.path.Step.TheVariants.{Key, At}
 use Rattle.sbe_value.specs.declared.path.Step.{Step}
-use Rattle.sbe_schema.specs.declared.groups.GroupDef.{GroupDef}
-use Rattle.sbe_schema.specs.Groups.{GroupTree, no_groups, group}
-use Rattle.sbe_schema.specs.Views.{head_of, groups_of as tree_of}
+use Rattle.schema_types.specs.declared.groups.GroupDef.{GroupDef}
+use Rattle.schema_types.specs.Groups.{GroupTree, no_groups, group}
+use Rattle.schema_types.specs.Views.{head_of, groups_of as tree_of}
 use Rattle.toml.specs.Data.{Data, string, integer, float, boolean, datetime, array, table, Items, no_items, item, Members, no_members, member, get, get_member, as_array, depth, items_depth, members_depth}
 use Rattle.toml.specs.View.{view, items_view}
 use Rattle.toml.specs.declared.value.Value.{Value}

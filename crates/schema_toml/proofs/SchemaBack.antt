@@ -1,7 +1,7 @@
 -- Schemas: what is written of a schema that a text spells is read as it.
 use Rattle.std.proofs.Common.{◌≡◌, ℕ, true, cond, List, [], ◌∷◌, Option, Some, None, Ok, codes, refl, subst}
 use Rattle.sbe_prim.specs.declared.Order.TheVariants.{Little}
-use Rattle.sbe_schema.specs.declared.schema.Schema.{Schema}
+use Rattle.schema_types.specs.declared.schema.Schema.{Schema}
 use Rattle.std.specs.Str.{is_utf8}
 use Rattle.toml.specs.Data.{table, Members}
 use Rattle.toml.specs.Parse.{parse_document}

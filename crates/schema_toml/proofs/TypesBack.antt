@@ -1,12 +1,12 @@
 -- Types: what is written of a type that was read is read as it.
 use Rattle.std.proofs.Common.{◌≡◌, ℕ, List, [], ◌∷◌, Ok, codes, refl, subst}
-use Rattle.sbe_schema.specs.declared.types.TypeDef.{TypeDef}
-use Rattle.sbe_schema.specs.declared.types.TypeKind.{TypeKind}
-use Rattle.sbe_schema.specs.declared.types.TypeKind.TheVariants.{Number, Enum, Set, Composite}
-use Rattle.sbe_schema.specs.declared.types.ValueDef.{ValueDef}
-use Rattle.sbe_schema.specs.declared.types.BitDef.{BitDef}
-use Rattle.sbe_schema.specs.declared.types.MemberDef.{MemberDef}
-use Rattle.sbe_schema.specs.declared.types.Presence.TheVariants.{Required}
+use Rattle.schema_types.specs.declared.types.TypeDef.{TypeDef}
+use Rattle.schema_types.specs.declared.types.TypeKind.{TypeKind}
+use Rattle.schema_types.specs.declared.types.TypeKind.TheVariants.{Number, Enum, Set, Composite}
+use Rattle.schema_types.specs.declared.types.ValueDef.{ValueDef}
+use Rattle.schema_types.specs.declared.types.BitDef.{BitDef}
+use Rattle.schema_types.specs.declared.types.MemberDef.{MemberDef}
+use Rattle.schema_types.specs.declared.types.Presence.TheVariants.{Required}
 use Rattle.toml.specs.Data.{Data, string, table, Members}
 use Rattle.toml_walk.specs.Keys.{list_of}
 use Rattle.toml_walk.specs.Values.{name_of, number_of, natural_of}

@@ -13,11 +13,11 @@ use Rattle.sbe_prim.specs.declared.Order.{Order}
 use Rattle.sbe_prim.specs.declared.Order.TheVariants.{Little, Big}
 use Rattle.sbe_prim.specs.declared.Primitive.{Primitive}
 use Rattle.sbe_prim.specs.declared.Primitive.TheVariants.{Char, Int8, Int16, Int32, Int64, UInt8, UInt16, UInt32, UInt64, Float, Double}
-use Rattle.sbe_schema.specs.Names.{primitive_named}
-use Rattle.sbe_schema.specs.declared.types.Constant.{Constant}
-use Rattle.sbe_schema.specs.declared.types.Constant.TheVariants.{Num, Text}
-use Rattle.sbe_schema.specs.declared.types.Presence.{Presence}
-use Rattle.sbe_schema.specs.declared.types.Presence.TheVariants.{Required, Optional, Constant as Always}
+use Rattle.sbe_prim.specs.Names.{primitive_named}
+use Rattle.schema_types.specs.declared.types.Constant.{Constant}
+use Rattle.schema_types.specs.declared.types.Constant.TheVariants.{Num, Text}
+use Rattle.schema_types.specs.declared.types.Presence.{Presence}
+use Rattle.schema_types.specs.declared.types.Presence.TheVariants.{Required, Optional, Constant as Always}
 use Rattle.toml.specs.Data.{Data, string, integer, float, boolean, datetime, array, table}
 use Rattle.toml_walk.specs.declared.fault.TomlFault.TheVariants.{Range}
 use Rattle.toml_walk.specs.Values.{are_digits, between, held, is_name, name_of, natural_of, number_by, number_of, wide_number}

@@ -1,8 +1,8 @@
 -- How deep the groups of a schema nest.
 use Rattle.std.specs.Prelude.{ℕ, ◌+◌, max, List, [], ◌∷◌}
-use Rattle.sbe_schema.specs.Groups.{GroupTree, no_groups, group}
-use Rattle.sbe_schema.specs.declared.messages.MessageDef.{MessageDef}
-use Rattle.sbe_schema.specs.declared.schema.Schema.{Schema}
+use Rattle.schema_types.specs.Groups.{GroupTree, no_groups, group}
+use Rattle.schema_types.specs.declared.messages.MessageDef.{MessageDef}
+use Rattle.schema_types.specs.declared.schema.Schema.{Schema}
 
 -- no group is no level, and a group stands one level above the groups of its entries
 abbrev pub levels_of_groups : GroupTree → ℕ

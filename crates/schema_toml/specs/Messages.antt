@@ -4,13 +4,13 @@ use Rattle.toml.specs.Data.{Data, array, table, Items, no_items, item, Members, 
 use Rattle.sbe_value.specs.declared.path.Step.TheVariants.{Key, At}
 use Rattle.sbe_prim.specs.declared.Primitive.{Primitive}
 use Rattle.sbe_prim.specs.declared.Primitive.TheVariants.{UInt16}
-use Rattle.sbe_schema.specs.declared.types.Presence.TheVariants.{Required}
-use Rattle.sbe_schema.specs.declared.messages.FieldDef.{FieldDef}
-use Rattle.sbe_schema.specs.declared.messages.DataDef.{DataDef}
-use Rattle.sbe_schema.specs.declared.messages.MessageDef.{MessageDef}
-use Rattle.sbe_schema.specs.declared.groups.GroupDef.{GroupDef}
-use Rattle.sbe_schema.specs.Views.{head_of}
-use Rattle.sbe_schema.specs.Groups.{GroupHead, GroupTree, no_groups, group}
+use Rattle.schema_types.specs.declared.types.Presence.TheVariants.{Required}
+use Rattle.schema_types.specs.declared.messages.FieldDef.{FieldDef}
+use Rattle.schema_types.specs.declared.messages.DataDef.{DataDef}
+use Rattle.schema_types.specs.declared.messages.MessageDef.{MessageDef}
+use Rattle.schema_types.specs.declared.groups.GroupDef.{GroupDef}
+use Rattle.schema_types.specs.Views.{head_of}
+use Rattle.schema_types.specs.Groups.{GroupHead, GroupTree, no_groups, group}
 use Rattle.toml_walk.specs.declared.fault.TomlFault.{TomlFault}
 use Rattle.toml_walk.specs.declared.fault.TomlFault.TheVariants.{WrongKind}
 use Rattle.toml_walk.specs.Reading.{Read, ◌>>=◌, under, is_memory}

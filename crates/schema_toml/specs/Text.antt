@@ -2,7 +2,7 @@
 use Rattle.std.specs.Prelude.{ℕ, List, [], ◌∷◌, Ok, codes}
 use Rattle.toml.specs.Data.{Data}
 use Rattle.sbe_prim.specs.declared.Order.TheVariants.{Little}
-use Rattle.sbe_schema.specs.declared.schema.Schema.{Schema}
+use Rattle.schema_types.specs.declared.schema.Schema.{Schema}
 use Rattle.toml_walk.specs.Reading.{Read, ◌>>=◌}
 use Rattle.toml_walk.specs.Documents.{document_of}
 use Rattle.toml_walk.specs.Keys.{required, defaulted, list_of, only}

@@ -4,11 +4,11 @@ use Rattle.toml.specs.Data.{Data, string, integer}
 use Rattle.sbe_prim.specs.declared.Order.{Order}
 use Rattle.sbe_prim.specs.declared.Order.TheVariants.{Little, Big}
 use Rattle.sbe_prim.specs.declared.Primitive.{Primitive}
-use Rattle.sbe_schema.specs.Names.{primitive_named}
-use Rattle.sbe_schema.specs.declared.types.Presence.{Presence}
-use Rattle.sbe_schema.specs.declared.types.Presence.TheVariants.{Required, Optional, Constant as Always}
-use Rattle.sbe_schema.specs.declared.types.Constant.{Constant}
-use Rattle.sbe_schema.specs.declared.types.Constant.TheVariants.{Num, Text}
+use Rattle.sbe_prim.specs.Names.{primitive_named}
+use Rattle.schema_types.specs.declared.types.Presence.{Presence}
+use Rattle.schema_types.specs.declared.types.Presence.TheVariants.{Required, Optional, Constant as Always}
+use Rattle.schema_types.specs.declared.types.Constant.{Constant}
+use Rattle.schema_types.specs.declared.types.Constant.TheVariants.{Num, Text}
 use Rattle.toml_walk.specs.declared.fault.TomlFault.TheVariants.{WrongKind}
 use Rattle.toml_walk.specs.Reading.{Read, ◌>>=◌}
 use Rattle.toml_walk.specs.Values.{text_of, wide_number, held, word_in, listed}

@@ -2,7 +2,7 @@
 
 ghost use Rattle.std.specs.Prelude.{◌≡◌, codes};
 ghost use Rattle.sbe_value.specs.declared.path.Step.TheVariants.{At};
-ghost use Rattle.sbe_schema.specs.Groups.{no_groups};
+ghost use Rattle.schema_types.specs.Groups.{no_groups};
 ghost use Rattle.toml.specs.View.{view, items_view};
 ghost use Rattle.toml_walk.specs.Reading.{Reads, under};
 ghost use Rattle.toml_walk.specs.Keys.{defaulted};

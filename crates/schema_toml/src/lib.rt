@@ -14,6 +14,3 @@ pub use fault::{ConfigFault, TEXT_LIMIT};
 pub use print::print_schema;
 pub use text::read_schema;
 pub use toml_walk::TomlFault;
-
-#[cfg(test)]
-mod tests;

@@ -2,8 +2,8 @@
 
 ghost use Rattle.std.specs.Prelude.{◌≡◌};
 
-use sbe_prim::{Order, Primitive};
-use sbe_schema::{Constant, Presence, find_primitive};
+use sbe_prim::{Order, Primitive, find_primitive};
+use sbe_schema::{Constant, Presence};
 use sbe_value::{Bytes, Path};
 use std::alloc::Global;
 use toml::Value;

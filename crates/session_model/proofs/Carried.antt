@@ -1,15 +1,15 @@
 -- What one end accepts of what the other wrote.
-use Rattle.std.proofs.Common.{◌≡◌, ℕ, ◌+◌, ◌-◌, List, [], ◌∷◌, ◌++◌, map, flat_map, length, Option, Some, None, option_map, refl, sym, ap, subst, ◌∙◌, arith, append_assoc}
+use Rattle.std.proofs.Common.{◌≡◌, ℕ, ◌-◌, List, [], ◌∷◌, ◌++◌, flat_map, length, None, refl, sym, ap, subst, ◌∙◌, arith, append_assoc}
 use Rattle.std.specs.List.{AllByRecursion, AllZip}
 use mathlib.Core.List.{IsPrefix}
-use Rattle.session_model.specs.Journal.{Entry, IsEntry}
-use Rattle.session_model.specs.Inbox.{Numbered}
-use Rattle.session_model.specs.Events.{Event, announce, message, with_number, numbered, messages, TrueOfJournal, Rising}
-use Rattle.session_model.specs.Lives.{Connection, BeginsAnew, TakenFrom, rest_lost, taken, passed_over, Linked, left_alone, right_alone, paired, first_events}
+use Rattle.session_model.specs.Journal.{Entry}
+use Rattle.session_model.specs.Events.{Event, announce, message, messages, TrueOfJournal, Rising, IsHandshake, HandshakeFirst, BeginsWithHandshake}
+use Rattle.session_model.specs.Lives.{Connection, accepted_of, written_of, TakenFrom, rest_lost, taken, rejected, Linked, left_alone, right_alone, paired, first_events}
 use Rattle.session_model.specs.Guarantee.{CarriedFrom, unread, nothing, carried}
 use Rattle.session_model.specs.Guarantee
-use Rattle.session_model.proofs.Lists.{prefix_take, all_first, all_second, all_append}
-use Rattle.session_model.proofs.Truth.{true_second, rising_lower}
+use Rattle.session_model.proofs.Lists.{prefix_take}
+use Rattle.session_model.proofs.Truth.{rising_lower}
+use Rattle.session_model.proofs.Handshakes.{taken_is_true}
 
 -- each list is a beginning of the one at its place
 abbrev pub Fronts : List (List Event) → List (List Event) → Type 0
@@ -29,50 +29,20 @@ prefix_of_nothing : (p : List Event) → IsPrefix p [] → p ≡ []
 prefix_of_nothing [] b = refl
 prefix_of_nothing (e ∷ p) b = absurd (cc (b.1))
 
-anew_front : (x : Event) (p c : List Event) → IsPrefix (x ∷ p) c → BeginsAnew c → BeginsAnew (x ∷ p)
-anew_front x p [] b a = absurd (cc (b.1))
-anew_front (announce n) p (y ∷ c) b a = tt
-anew_front (message q) p (announce n ∷ c) b a = absurd (cc (b.1))
-anew_front (message q) p (message r ∷ c) b a = absurd a
-
 -- of what was taken, a beginning was taken
 pub taken_front : (w c p : List Event) → TakenFrom w c → IsPrefix p c → TakenFrom w p
 taken_front w c [] t b = rest_lost
 taken_front w c (x ∷ p) rest_lost b = absurd (cc (b.1))
 taken_front w c (x ∷ p) (taken {e = e} {written = w'} {accepted = c'} t) b =
     subst (λ y. TakenFrom (e ∷ w') (y ∷ p)) (cc (b.1)) (taken {e = e} (taken_front w' c' p t (b.0, cc (b.1))))
-taken_front w c (x ∷ p) (passed_over {n = n} {written = w'} {accepted = c'} t anew) b =
-    passed_over {n = n} (taken_front w' c' (x ∷ p) t b) (anew_front x p c' b anew)
-
--- what begins anew is numbered by itself
-anew_true : (h : List Entry) (c d : Option ℕ) (a : List Event) → BeginsAnew a → TrueOfJournal h c a → TrueOfJournal h d a
-anew_true h c d [] anew t = record { entries = tt; announced = tt }
-anew_true h c d (announce n ∷ a) anew t = record { entries = t.entries; announced = t.announced }
-anew_true h c d (message p ∷ a) anew t = absurd anew
-
--- what is taken of what is true is true
-pub taken_true : (h : List Entry) (c : Option ℕ) (w a : List Event) → TakenFrom w a → TrueOfJournal h c w → TrueOfJournal h c a
-taken_true h c w a rest_lost t = record { entries = tt; announced = tt }
-taken_true h c w a (taken {e = announce None} {written = w'} {accepted = a'} k) t =
-    let r = taken_true h None w' a' k (record { entries = t.entries; announced = t.announced }) in
-    record { entries = r.entries; announced = r.announced }
-taken_true h c w a (taken {e = announce (Some n)} {written = w'} {accepted = a'} k) t =
-    let r = taken_true h (Some n) w' a' k (record { entries = t.entries; announced = t.announced.1 }) in
-    record { entries = r.entries; announced = (t.announced.0, r.announced) }
-taken_true h c w a (taken {e = message p} {written = w'} {accepted = a'} k) t =
-    let P : Numbered → Type 0 = λ m. IsEntry h m.number m.payload in
-    let d = option_map (λ n. n + 1) c in
-    let r = taken_true h d w' a' k (record { entries = all_second P (with_number c p) (numbered d w') t.entries; announced = t.announced }) in
-    record { entries = all_append P (with_number c p) (numbered d a') (all_first P (with_number c p) (numbered d w') t.entries) r.entries; announced = r.announced }
-taken_true h c w a (passed_over {n = n} {written = w'} {accepted = a'} k anew) t =
-    anew_true h n c a' anew (taken_true h n w' a' k (true_second h c (announce n ∷ []) w' t))
+taken_front w c (x ∷ p) (rejected {n = n} {written = w'} {accepted = c'} t) b = rejected {n = n} (taken_front w' c' (x ∷ p) t b)
 
 pub taken_messages : (w a : List Event) → TakenFrom w a → IsPrefix (messages a) (messages w)
 taken_messages w a (rest_lost {written = w'}) = (messages w', refl)
-taken_messages w a (taken {e = announce n} {written = w'} {accepted = a'} k) = taken_messages w' a' k
+taken_messages w a (taken {e = announce _ n} {written = w'} {accepted = a'} k) = taken_messages w' a' k
 taken_messages w a (taken {e = message p} {written = w'} {accepted = a'} k) =
     let r = taken_messages w' a' k in (r.0, ap (λ ps. p ∷ ps) r.1)
-taken_messages w a (passed_over {written = w'} {accepted = a'} k anew) = taken_messages w' a' k
+taken_messages w a (rejected {written = w'} {accepted = a'} k) = taken_messages w' a' k
 
 -- of what was carried, beginnings were carried
 pub carried_fronts : (ws cs ps : List (List Event)) → CarriedFrom ws cs → Fronts ps cs → CarriedFrom ws ps
@@ -86,13 +56,26 @@ carried_fronts ws cs [] (carried t k) f = absurd f
 carried_fronts ws cs (p ∷ ps) (carried {w = w} {c = c} {written = ws'} {carried = cs'} t k) f =
     carried (taken_front w c p t f.0) (carried_fronts ws' cs' ps k f.1)
 
+-- a beginning of what begins with the handshake does too
+begins_front : (p c : List Event) → IsPrefix p c → BeginsWithHandshake c → BeginsWithHandshake p
+begins_front [] c b h = tt
+begins_front (x ∷ p) [] b h = absurd (cc (b.1))
+begins_front (x ∷ p) (y ∷ c) b h = subst IsHandshake (cc (sym b.1)) h
+
+pub fronts_begin : (ps cs : List (List Event)) → Fronts ps cs → AllByRecursion BeginsWithHandshake cs → AllByRecursion BeginsWithHandshake ps
+fronts_begin [] cs f all = tt
+fronts_begin (p ∷ ps) [] f all = absurd f
+fronts_begin (p ∷ ps) (c ∷ cs) f all = (begins_front p c f.0 all.0, fronts_begin ps cs f.1 all.1)
+
 -- what was carried of connections that are true is true
-pub carried_true : (h : List Entry) (ws cs : List (List Event)) → CarriedFrom ws cs
-    → AllByRecursion (TrueOfJournal h None) ws → AllByRecursion (TrueOfJournal h None) cs
-carried_true h ws cs Guarantee.CarriedFrom.no_more all = tt
-carried_true h ws cs (unread {written = ws'} {carried = cs'} k) all = carried_true h ws' cs' k all.1
-carried_true h ws cs (nothing {written = ws'} {carried = cs'} k) all = (record { entries = tt; announced = tt }, carried_true h ws' cs' k all)
-carried_true h ws cs (carried {w = w} {c = c} {written = ws'} {carried = cs'} t k) all = (taken_true h None w c t all.0, carried_true h ws' cs' k all.1)
+pub carried_true : (h : List Entry) (ws cs : List (List Event)) → CarriedFrom ws cs → AllByRecursion HandshakeFirst ws
+    → AllByRecursion BeginsWithHandshake cs → AllByRecursion (TrueOfJournal h None) ws → AllByRecursion (TrueOfJournal h None) cs
+carried_true h ws cs Guarantee.CarriedFrom.no_more first begins all = tt
+carried_true h ws cs (unread {written = ws'} {carried = cs'} k) first begins all = carried_true h ws' cs' k first.1 begins all.1
+carried_true h ws cs (nothing {written = ws'} {carried = cs'} k) first begins all =
+    (record { entries = tt; announced = tt }, carried_true h ws' cs' k first begins.1 all)
+carried_true h ws cs (carried {w = w} {c = c} {written = ws'} {carried = cs'} t k) first begins all =
+    ((taken_is_true h w c t first.0 begins.0 all.0).0, carried_true h ws' cs' k first.1 begins.1 all.1)
 
 rising_second : (h : List Entry) (n : ℕ) (first second : List (List ℕ)) → Rising h n (first ++ second) → Rising h n second
 rising_second h n [] second r = r
@@ -117,12 +100,6 @@ carried_rising h ws cs (carried {w = w} {c = c} {written = ws'} {carried = cs'} 
     (subst (λ ps. Rising h n ps) whole r)
 
 -- of linked connections, each end carried from the other
-abbrev pub written_of : List Connection → List (List Event)
-written_of cs = map (λ (c : Connection). c.written) cs
-
-abbrev pub accepted_of : List Connection → List (List Event)
-accepted_of cs = map (λ (c : Connection). c.accepted) cs
-
 pub linked_carries : (as' bs : List Connection) → Linked as' bs → CarriedFrom (written_of as') (accepted_of bs)
 linked_carries as' bs Linked.no_more = Guarantee.CarriedFrom.no_more
 linked_carries as' bs (left_alone {a = a} {as' = xs} {bs = ys} e k) = unread {w = a.written} (linked_carries xs ys k)

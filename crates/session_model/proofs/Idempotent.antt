@@ -32,11 +32,11 @@ one_more n m steps own jumped e = omega (arith, e, times-append n (m ∷ []) own
 
 settles : (next : ℕ) (c : Option ℕ) (es : List Event) → 1 ≤ unwrap_or c next → NeverBack next c es → Settled next c es
 settles next c [] pos back = record { steps = 0; reached = omega arith; greatest = omega arith; each = λ n. refl }
-settles next c (announce None ∷ es) pos back = absurd back
-settles next c (announce (Some a) ∷ es) pos back =
+settles next c (announce _ None ∷ es) pos back = absurd back
+settles next c (announce w (Some a) ∷ es) pos back =
     let r = unwrap_or c next in
     let rest = settles next (Some a) es (omega (arith, back.0)) back.1 in
-    let own : numbers_in (jumps next c (announce (Some a) ∷ es)) ≡ counts_from r (a - r) ++ numbers_in (jumps next (Some a) es) =
+    let own : numbers_in (jumps next c (announce w (Some a) ∷ es)) ≡ counts_from r (a - r) ++ numbers_in (jumps next (Some a) es) =
     numbers_in-append (jump r (Some a)) (jumps next (Some a) es) ∙ ap (λ ns. ns ++ numbers_in (jumps next (Some a) es)) (jump-numbers r a back.0) in
     let there : r + (a - r) ≡ a = omega (arith, back.0) in
     record {
@@ -108,10 +108,10 @@ ascending_counts n (suc k) ns a = (omega arith, ascending_counts (n + 1) k ns (a
 
 jumps_ascend : (next : ℕ) (c : Option ℕ) (es : List Event) → NeverBack next c es → Ascending (unwrap_or c next) (numbers_in (jumps next c es))
 jumps_ascend next c [] back = tt
-jumps_ascend next c (announce None ∷ es) back = absurd back
-jumps_ascend next c (announce (Some a) ∷ es) back =
+jumps_ascend next c (announce _ None ∷ es) back = absurd back
+jumps_ascend next c (announce w (Some a) ∷ es) back =
     let r = unwrap_or c next in
-    let own : numbers_in (jumps next c (announce (Some a) ∷ es)) ≡ counts_from r (a - r) ++ numbers_in (jumps next (Some a) es) =
+    let own : numbers_in (jumps next c (announce w (Some a) ∷ es)) ≡ counts_from r (a - r) ++ numbers_in (jumps next (Some a) es) =
     numbers_in-append (jump r (Some a)) (jumps next (Some a) es) ∙ ap (λ ns. ns ++ numbers_in (jumps next (Some a) es)) (jump-numbers r a back.0) in
     let there : a ≡ r + (a - r) = omega (arith, back.0) in
     subst (λ ns. Ascending r ns) (sym own)
@@ -161,41 +161,41 @@ idempotent_keeps_once h c es before after t g kept =
 -- what is never back from a number is never back from an equal one
 pub back_same : (next other : ℕ) (c : Option ℕ) (es : List Event) → unwrap_or c next ≡ unwrap_or c other → NeverBack next c es → NeverBack other c es
 back_same next other c [] e back = tt
-back_same next other c (announce None ∷ es) e back = absurd back
-back_same next other c (announce (Some a) ∷ es) e back = (omega (arith, back.0), back_same next other (Some a) es refl back.1)
+back_same next other c (announce _ None ∷ es) e back = absurd back
+back_same next other c (announce _ (Some a) ∷ es) e back = (omega (arith, back.0), back_same next other (Some a) es refl back.1)
 back_same next other None (message p ∷ es) e back = back_same next other None es e back
 back_same next other (Some m) (message p ∷ es) e back = back_same next other (Some (m + 1)) es refl back
 
 jumps_same : (next other : ℕ) (c : Option ℕ) (es : List Event) → unwrap_or c next ≡ unwrap_or c other → NeverBack next c es → jumps next c es ≡ jumps other c es
 jumps_same next other c [] e back = refl
-jumps_same next other c (announce None ∷ es) e back = absurd back
-jumps_same next other c (announce (Some a) ∷ es) e back =
+jumps_same next other c (announce _ None ∷ es) e back = absurd back
+jumps_same next other c (announce _ (Some a) ∷ es) e back =
     ap (λ k. jump k (Some a) ++ jumps next (Some a) es) e ∙ ap (λ rs. jump (unwrap_or c other) (Some a) ++ rs) (jumps_same next other (Some a) es refl back.1)
 jumps_same next other None (message p ∷ es) e back = jumps_same next other None es e back
 jumps_same next other (Some m) (message p ∷ es) e back = jumps_same next other (Some (m + 1)) es refl back
 
 pub back-append : (next : ℕ) (c : Option ℕ) (first second : List Event) → NeverBack next c first → NeverBack next (standing c first) second → NeverBack next c (first ++ second)
 back-append next c [] second b d = d
-back-append next c (announce None ∷ first) second b d = absurd b
-back-append next c (announce (Some a) ∷ first) second b d = (b.0, back-append next (Some a) first second b.1 d)
+back-append next c (announce _ None ∷ first) second b d = absurd b
+back-append next c (announce _ (Some a) ∷ first) second b d = (b.0, back-append next (Some a) first second b.1 d)
 back-append next c (message p ∷ first) second b d = back-append next (option_map (λ n. n + 1) c) first second b d
 
 -- the two parts of what is never back
 pub back_first : (next : ℕ) (c : Option ℕ) (first second : List Event) → NeverBack next c (first ++ second) → NeverBack next c first
 back_first next c [] second b = tt
-back_first next c (announce None ∷ first) second b = absurd b
-back_first next c (announce (Some a) ∷ first) second b = (b.0, back_first next (Some a) first second b.1)
+back_first next c (announce _ None ∷ first) second b = absurd b
+back_first next c (announce _ (Some a) ∷ first) second b = (b.0, back_first next (Some a) first second b.1)
 back_first next c (message p ∷ first) second b = back_first next (option_map (λ n. n + 1) c) first second b
 
 pub back_second : (next : ℕ) (c : Option ℕ) (first second : List Event) → NeverBack next c (first ++ second) → NeverBack next (standing c first) second
 back_second next c [] second b = b
-back_second next c (announce None ∷ first) second b = absurd b
-back_second next c (announce (Some a) ∷ first) second b = back_second next (Some a) first second b.1
+back_second next c (announce _ None ∷ first) second b = absurd b
+back_second next c (announce _ (Some a) ∷ first) second b = back_second next (Some a) first second b.1
 back_second next c (message p ∷ first) second b = back_second next (option_map (λ n. n + 1) c) first second b
 
 jumps-append : (next : ℕ) (c : Option ℕ) (first second : List Event) → jumps next c (first ++ second) ≡ jumps next c first ++ jumps next (standing c first) second
 jumps-append next c [] second = refl
-jumps-append next c (announce n ∷ first) second =
+jumps-append next c (announce _ n ∷ first) second =
     ap (λ rs. jump (unwrap_or c next) n ++ rs) (jumps-append next n first second) ∙ sym (append_assoc (jump (unwrap_or c next) n) _ _)
 jumps-append next c (message p ∷ first) second = jumps-append next (option_map (λ n. n + 1) c) first second
 

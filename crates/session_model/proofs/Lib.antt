@@ -9,9 +9,13 @@ pub mod Idempotent
 pub mod Unsequenced
 pub mod Through
 pub mod Planned
+pub mod Handshakes
 pub mod Carried
 pub mod Chains
+pub mod Kept
+pub mod Finishes
 pub mod Guarantees
+pub mod InTime
 pub mod Steps
 pub mod Growing
 pub mod Images

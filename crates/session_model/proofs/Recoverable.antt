@@ -89,7 +89,18 @@ counted_behind before after added e none consecutive counted whole =
       ap (λ i. skips i) e ∙ (skips-append before added ∙ (ap (λ rs. rs ++ skips added) whole ∙ none)),
     )
 
-in_order_goes_on : (p q : List Numbered) (before between after : List InboxRecord) → GrownInOrder p before between → GrownInOrder q between after → GrownInOrder (p ++ q) before after
+-- who holds nothing applies of what it carries now
+pub in_order_held : (p q : List Numbered) (before after : List InboxRecord) → GrownInOrder [] q before after → GrownInOrder p q before after
+in_order_held p q before after g = record {
+  added = g.added;
+  behind = g.behind;
+  none_skipped = g.none_skipped;
+  consecutive = g.consecutive;
+  from_carried = all_weaker (λ m. Contains q m) (λ m. Contains (p ++ q) m) (λ m. Contains-append_right p q m) (applied g.added) g.from_carried;
+  reaches = g.reaches;
+}
+
+in_order_goes_on : (p q : List Numbered) (before between after : List InboxRecord) → GrownInOrder [] p before between → GrownInOrder p q between after → GrownInOrder [] (p ++ q) before after
 in_order_goes_on p q before between after g f =
     let n = next_number before in
     let a = length (applied g.added) in
@@ -110,23 +121,25 @@ in_order_goes_on p q before between after g f =
       from_carried = subst (AllByRecursion (λ m. Contains (p ++ q) m)) (sym both)
           (all_append (λ m. Contains (p ++ q) m) (applied g.added) (applied f.added)
           (all_weaker (λ m. Contains p m) (λ m. Contains (p ++ q) m) (λ m. Contains-append_left p q m) (applied g.added) g.from_carried)
-          (all_weaker (λ m. Contains q m) (λ m. Contains (p ++ q) m) (λ m. Contains-append_right p q m) (applied f.added) f.from_carried));
+          f.from_carried);
       reaches = omega (arith, reach-append n p q, reach, second, len, g.reaches);
     }
 
 pub recoverable_goes_on : (c : Option ℕ) (first second : List Event) (before between after : List InboxRecord)
-    → GrownRecoverable c first before between → GrownRecoverable (standing c first) second between after → GrownRecoverable c (first ++ second) before after
+    → GrownRecoverable c first before between → GrownInOrder (numbered c first) (numbered (standing c first) second) between after
+    → GrownRecoverable c (first ++ second) before after
 recoverable_goes_on c first second before between after g f =
-    subst (λ ms. GrownInOrder ms before after) (sym (numbered-append c first second))
+    subst (λ ms. GrownInOrder [] ms before after) (sym (numbered-append c first second))
     (in_order_goes_on (numbered c first) (numbered (standing c first) second) before between after g f)
 
-in_order_nothing : (before after : List InboxRecord) → after ≡ before → GrownInOrder [] before after
+in_order_nothing : (before after : List InboxRecord) → after ≡ before → GrownInOrder [] [] before after
 in_order_nothing before after e = record { added = []; behind = e ∙ sym (append-nil before); none_skipped = refl; consecutive = refl; from_carried = tt; reaches = omega arith }
 
 pub recoverable_connections : RecoverableConnections
 recoverable_connections [] before after g = in_order_nothing before after g
 recoverable_connections (es ∷ later) before after g =
-    in_order_goes_on (numbered None es) (flat_map (numbered None) later) before g.0 after g.1 (recoverable_connections later g.0 after g.2)
+    in_order_goes_on (numbered None es) (flat_map (numbered None) later) before g.0 after g.1
+    (in_order_held (numbered None es) (flat_map (numbered None) later) g.0 after (recoverable_connections later g.0 after g.2))
 
 pub recoverable_counts : RecoverableCounts
 recoverable_counts carried inbox through =

@@ -3,12 +3,12 @@ use Rattle.std.proofs.Common.{◌≡◌, List, [], ◌∷◌, ◌++◌, None, re
 use Rattle.std.specs.List.{AllByRecursion}
 use mathlib.Core.List.{IsPrefix}
 use Rattle.session_model.specs.Inbox.{Numbered, InboxRecord, applied, skips, payloads_of}
-use Rattle.session_model.specs.Events.{Event}
+use Rattle.session_model.specs.Events.{Event, standing, numbered}
 use Rattle.session_model.specs.Growth.{Flow, recoverable, idempotent, unsequenced, no_flow, Grown, GrownByNone, GrownThrough}
-use Rattle.session_model.specs.Laws.{GrowthGoesOn, ConnectionsGoOn, NoEventsGrowNothing}
+use Rattle.session_model.specs.Laws.{GrowthGoesOn, HeldGoesOn, NothingHeld, ConnectionsGoOn, NoEventsGrowNothing}
 use Rattle.session_model.proofs.Lists.{prefix_trans, prefix_equal}
 use Rattle.session_model.proofs.Inboxes.{applied-append, skips-append}
-use Rattle.session_model.proofs.Recoverable.{recoverable_goes_on}
+use Rattle.session_model.proofs.Recoverable.{recoverable_goes_on, in_order_held}
 use Rattle.session_model.proofs.Idempotent.{idempotent_goes_on}
 use Rattle.session_model.proofs.Unsequenced.{unsequenced_goes_on}
 
@@ -29,11 +29,20 @@ none_goes_on before between after g f = record {
   none_applied = applied-append g.added f.added ∙ (ap (λ ms. ms ++ applied f.added) g.none_applied ∙ f.none_applied);
 }
 
+pub held_goes_on : HeldGoesOn
+held_goes_on recoverable c first second before between after g f = recoverable_goes_on c first second before between after g f
+held_goes_on idempotent c first second before between after g f = idempotent_goes_on c first second before between after g f
+held_goes_on unsequenced c first second before between after g f = unsequenced_goes_on first second before between after g f
+held_goes_on no_flow c first second before between after g f = none_goes_on before between after g f
+
+pub nothing_held : NothingHeld
+nothing_held recoverable c first second between after g = in_order_held (numbered c first) (numbered (standing c first) second) between after g
+nothing_held idempotent c first second between after g = g
+nothing_held unsequenced c first second between after g = g
+nothing_held no_flow c first second between after g = g
+
 pub growth_goes_on : GrowthGoesOn
-growth_goes_on recoverable c first second before between after g f = recoverable_goes_on c first second before between after g f
-growth_goes_on idempotent c first second before between after g f = idempotent_goes_on c first second before between after g f
-growth_goes_on unsequenced c first second before between after g f = unsequenced_goes_on first second before between after g f
-growth_goes_on no_flow c first second before between after g f = none_goes_on before between after g f
+growth_goes_on flow c first second before between after g f = held_goes_on flow c first second before between after g (nothing_held flow c first second between after f)
 
 through_joined : (flow : Flow) (first second : List (List Event)) (before between after : List InboxRecord)
     → GrownThrough flow first before between → GrownThrough flow second between after → GrownThrough flow (first ++ second) before after

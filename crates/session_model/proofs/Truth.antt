@@ -63,8 +63,8 @@ rising_goes_on h longer n (p ∷ first) second begins le r s =
 pub standing_within : (h : List Entry) (next : ℕ) (c : Option ℕ) (es : List Event) → TrueOfJournal h c es
     → next ≤ length h + 1 → unwrap_or c next ≤ length h + 1 → unwrap_or (standing c es) next ≤ length h + 1
 standing_within h next c [] t low le = le
-standing_within h next c (announce None ∷ es) t low le = standing_within h next None es (record { entries = t.entries; announced = t.announced }) low low
-standing_within h next c (announce (Some n) ∷ es) t low le =
+standing_within h next c (announce _ None ∷ es) t low le = standing_within h next None es (record { entries = t.entries; announced = t.announced }) low low
+standing_within h next c (announce _ (Some n) ∷ es) t low le =
     standing_within h next (Some n) es (record { entries = t.entries; announced = t.announced.1 }) low t.announced.0.1
 standing_within h next None (message p ∷ es) t low le = standing_within h next None es (record { entries = t.entries; announced = t.announced }) low low
 standing_within h next (Some n) (message p ∷ es) t low le =
@@ -95,7 +95,7 @@ entries_from h m (suc k) (p ∷ ps) e =
     )
 
 pub announced_entries_are_true : AnnouncedEntriesAreTrue
-announced_entries_are_true h c n k low high =
+announced_entries_are_true h c who n k low high =
     let m = n - 1 in
     let ps = take k (drop m (payloads h)) in
     let P : Numbered → Type 0 = λ e. IsEntry h e.number e.payload in

@@ -12,18 +12,19 @@ chain n [] = []
 chain n (m ∷ ms) = if m.number == n then m ∷ chain (n + 1) ms else chain n ms
 
 -- Recoverable (FIXP 1.1, recoverable flow type: exactly once, in order). Nothing is skipped; what is applied has consecutive
--- numbers from the next one on; each was carried; and at least as many are applied as the chain has
-pub record GrownInOrder (carried : List Numbered) (before after : List InboxRecord) : Type 0 where
+-- numbers from the next one on; each was carried, now or earlier; and at least as many are applied as the chain of what is
+-- carried now has. So a message that came too early may be held, and applied once its turn has come
+pub record GrownInOrder (earlier carried : List Numbered) (before after : List InboxRecord) : Type 0 where
   pub added : List InboxRecord
   pub behind : after ≡ before ++ added
   pub none_skipped : skips added ≡ []
   pub consecutive : numbers_of (applied added) ≡ counts_from (next_number before) (length (applied added))
-  pub from_carried : AllByRecursion (λ m. Contains carried m) (applied added)
+  pub from_carried : AllByRecursion (λ m. Contains (earlier ++ carried) m) (applied added)
   pub reaches : length (chain (next_number before) carried) ≤ length (applied added)
 
--- over events of one connection, where c stood announced before them
+-- over events of one connection, where c stood announced before them and nothing was held
 abbrev pub GrownRecoverable : Option ℕ → List Event → List InboxRecord → List InboxRecord → Type 0
-GrownRecoverable c es before after = GrownInOrder (numbered c es) before after
+GrownRecoverable c es before after = GrownInOrder [] (numbered c es) before after
 
 -- the range from a number reached up to one announced beyond it
 abbrev pub jump : ℕ → Option ℕ → List Range
@@ -33,14 +34,14 @@ jump from (Some n) = if nat_lt from n then record { first = from; count = n - fr
 -- the jumps of the announcements: the number reached is what stands announced, and next before the first announcement
 abbrev pub jumps : ℕ → Option ℕ → List Event → List Range
 jumps next c [] = []
-jumps next c (announce n ∷ es) = jump (unwrap_or c next) n ++ jumps next n es
+jumps next c (announce _ n ∷ es) = jump (unwrap_or c next) n ++ jumps next n es
 jumps next c (message _ ∷ es) = jumps next (option_map (λ n. n + 1) c) es
 
 -- each announcement has a number, and none goes back behind the number reached
 abbrev pub NeverBack : ℕ → Option ℕ → List Event → Type 0
 NeverBack next c [] = ⊤
-NeverBack next c (announce None ∷ es) = ⊥
-NeverBack next c (announce (Some n) ∷ es) = (unwrap_or c next ≤ n) × NeverBack next (Some n) es
+NeverBack next c (announce _ None ∷ es) = ⊥
+NeverBack next c (announce _ (Some n) ∷ es) = (unwrap_or c next ≤ n) × NeverBack next (Some n) es
 NeverBack next c (message _ ∷ es) = NeverBack next (option_map (λ n. n + 1) c) es
 
 -- Idempotent (FIXP 1.1, idempotent flow type: at most once, and the sender learns which were not applied). Every numbered
@@ -78,6 +79,14 @@ Grown recoverable c es before after = GrownRecoverable c es before after
 Grown idempotent c es before after = GrownIdempotent c es before after
 Grown unsequenced c es before after = GrownUnsequenced es before after
 Grown no_flow c es before after = GrownByNone before after
+
+-- growth over a later part of one connection, where c stood announced before its earlier part: what that part carried may
+-- have been held, and be applied now. Only a recoverable flow holds messages
+abbrev pub GrownLater : Flow → Option ℕ → List Event → List Event → List InboxRecord → List InboxRecord → Type 0
+GrownLater recoverable c earlier es before after = GrownInOrder (numbered c earlier) (numbered (standing c earlier) es) before after
+GrownLater idempotent c earlier es before after = GrownIdempotent (standing c earlier) es before after
+GrownLater unsequenced c earlier es before after = GrownUnsequenced es before after
+GrownLater no_flow c earlier es before after = GrownByNone before after
 
 -- growth over several connections, one after another; each begins with no announcement
 abbrev pub GrownThrough : Flow → List (List Event) → List InboxRecord → List InboxRecord → Type 0

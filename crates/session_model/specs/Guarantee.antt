@@ -1,13 +1,13 @@
 -- The session guarantee: what two ends that keep their contracts hold of each other, over any number of lives and connections.
-use Rattle.std.specs.Prelude.{◌≡◌, ℕ, List, [], ◌∷◌, ◌++◌, map}
+use Rattle.std.specs.Prelude.{◌≡◌, ℕ, List, [], ◌∷◌, ◌++◌, Contains, true}
 use Rattle.std.specs.List.{AllByRecursion}
 use mathlib.Core.List.{IsPrefix}
-use Rattle.session_model.specs.Journal.{OutboxRecord, entries, InOrder}
-use Rattle.session_model.specs.Inbox.{InboxRecord, applied, skips, payloads_of}
+use Rattle.session_model.specs.Journal.{OutboxRecord, entries, InOrder, is_finished}
+use Rattle.session_model.specs.Inbox.{Range, InboxRecord, applied, skips, payloads_of}
 use Rattle.session_model.specs.Events.{Event}
 use Rattle.session_model.specs.Growth.{Flow, recoverable, idempotent, unsequenced, no_flow, GrownThrough, AppliesPrefix, SettlesOnce, DeliversRising}
-use Rattle.session_model.specs.Plans.{GoesOn, sent_by}
-use Rattle.session_model.specs.Lives.{Connection, Life, KeepsContract, Chained, connections_of, TakenFrom, Linked}
+use Rattle.session_model.specs.Plans.{GoesOn, SendersDone, sent_by}
+use Rattle.session_model.specs.Lives.{Connection, Life, accepted_of, written_of, KeepsContract, Chained, connections_of, TakenFrom, Linked}
 
 -- A session between two ends, a and b. Both began on empty journals; a stop now may leave these outboxes and inboxes
 pub record Session (flow_a flow_b : Flow) (plan_a plan_b : ℕ → List (List ℕ) → List (List ℕ)) (a b : List Life)
@@ -42,10 +42,11 @@ pub data CarriedFrom : List (List Event) → List (List Event) → Type 0 where
   carried : {w c : List Event} {written carried : List (List Event)} → TakenFrom w c → CarriedFrom written carried → CarriedFrom (w ∷ written) (c ∷ carried)
 
 -- the inbox is the empty one grown over what the peer's connections carried, and over nothing else: each message applied
--- and each number missing comes of one of them
-pub record GrownFromPeer (flow : Flow) (peer : List Life) (inbox : List InboxRecord) : Type 0 where
+-- and each number missing comes of one of them. Where no record was refused, that is all that was accepted
+pub record GrownFromPeer (flow : Flow) (peer lives : List Life) (inbox : List InboxRecord) : Type 0 where
   pub processed : List (List Event)
-  pub from_peer : CarriedFrom (map (λ (c : Connection). c.written) (connections_of peer)) processed
+  pub from_peer : CarriedFrom (written_of (connections_of peer)) processed
+  pub all : AllByRecursion (λ (life : Life). life.served.refused_inbox ≡ []) lives → processed ≡ accepted_of (connections_of lives)
   pub grown : GrownThrough flow processed [] inbox
 
 -- A recoverable inbox is a prefix of its peer's journal
@@ -53,7 +54,7 @@ abbrev pub RecoverableGuarantee : Type 0
 RecoverableGuarantee = (flow_b : Flow) (plan_a plan_b : ℕ → List (List ℕ) → List (List ℕ)) (a b : List Life)
     (outbox_a outbox_b : List OutboxRecord) (inbox_a inbox_b : List InboxRecord)
     → Session recoverable flow_b plan_a plan_b a b outbox_a outbox_b inbox_a inbox_b
-    → AppliesPrefix (entries outbox_a) inbox_b × GrownFromPeer recoverable a inbox_b
+    → AppliesPrefix (entries outbox_a) inbox_b × GrownFromPeer recoverable a b inbox_b
 
 -- An idempotent inbox holds every number below its next exactly once, as applied or as not applied; the missing numbers are
 -- the jumps of the connections that it processed
@@ -61,14 +62,14 @@ abbrev pub IdempotentGuarantee : Type 0
 IdempotentGuarantee = (flow_b : Flow) (plan_a plan_b : ℕ → List (List ℕ) → List (List ℕ)) (a b : List Life)
     (outbox_a outbox_b : List OutboxRecord) (inbox_a inbox_b : List InboxRecord)
     → Session idempotent flow_b plan_a plan_b a b outbox_a outbox_b inbox_a inbox_b
-    → SettlesOnce (entries outbox_a) inbox_b × GrownFromPeer idempotent a inbox_b
+    → SettlesOnce (entries outbox_a) inbox_b × GrownFromPeer idempotent a b inbox_b
 
 -- An unsequenced flow delivers only what was sent, in order and nothing twice
 abbrev pub UnsequencedGuarantee : Type 0
 UnsequencedGuarantee = (flow_b : Flow) (plan_a plan_b : ℕ → List (List ℕ) → List (List ℕ)) (a b : List Life)
     (outbox_a outbox_b : List OutboxRecord) (inbox_a inbox_b : List InboxRecord)
     → Session unsequenced flow_b plan_a plan_b a b outbox_a outbox_b inbox_a inbox_b
-    → DeliversRising (entries outbox_a) inbox_b × GrownFromPeer unsequenced a inbox_b
+    → DeliversRising (entries outbox_a) inbox_b × GrownFromPeer unsequenced a b inbox_b
 
 -- Where there is no flow nothing is delivered
 abbrev pub NoFlowGuarantee : Type 0
@@ -78,14 +79,21 @@ NoFlowGuarantee = (flow_b : Flow) (plan_a plan_b : ℕ → List (List ℕ) → L
     → (applied inbox_b ≡ []) × (skips inbox_b ≡ [])
 
 -- what an outbox holds of its own end's senders: each sender's entries count 1, 2, 3; all that any life closed on stands
--- there at its number; and each sender has sent a beginning of its plan
+-- there at its number; each sender has sent a beginning of its plan, and all of it where the outbox has its finish
 pub record HoldsSenders (plan : ℕ → List (List ℕ) → List (List ℕ)) (lives : List Life) (outbox : List OutboxRecord) (inbox : List InboxRecord) : Type 0 where
   pub in_order : InOrder (entries outbox)
   pub acknowledged : AllByRecursion (λ (life : Life). IsPrefix (entries life.closing_outbox) (entries outbox)) lives
   pub planned : (s : ℕ) → IsPrefix (sent_by (entries outbox) s) (plan s (payloads_of (applied inbox)))
+  pub finished : is_finished outbox ≡ true → SendersDone plan [] (entries outbox) [] inbox
 
 -- The journal holds each sender's accepted messages once, in order. This needs one end alone
 abbrev pub SendersGuarantee : Type 0
 SendersGuarantee = (own peer : Flow) (plan : ℕ → List (List ℕ) → List (List ℕ)) (lives : List Life) (outbox : List OutboxRecord) (inbox : List InboxRecord)
     → GoesOn plan → Chained [] [] lives outbox inbox → AllByRecursion (KeepsContract own peer plan) lives
     → HoldsSenders plan lives outbox inbox
+
+-- Whatever was reported as not applied is a skip record of the inbox. This too needs one end alone
+abbrev pub ReportsGuarantee : Type 0
+ReportsGuarantee = (own peer : Flow) (plan : ℕ → List (List ℕ) → List (List ℕ)) (lives : List Life) (outbox : List OutboxRecord) (inbox : List InboxRecord)
+    → Chained [] [] lives outbox inbox → AllByRecursion (KeepsContract own peer plan) lives
+    → AllByRecursion (λ (c : Connection). AllByRecursion (λ (r : Range). Contains (skips inbox) r) c.reported) (connections_of lives)

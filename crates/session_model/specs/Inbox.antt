@@ -1,6 +1,6 @@
 -- An inbound journal: what was applied of the peer's flow, and what was told to be missing.
 -- FIXP 1.1, idempotent flow type, with Applied and NotApplied; that both stand in one journal is this project's profile.
-use Rattle.std.specs.Prelude.{◌≡◌, ℕ, ◌+◌, max, ◌==◌, List, [], ◌∷◌, ◌++◌, map, flat_map, count_by, ◌≤◌, ⊤}
+use Rattle.std.specs.Prelude.{◌≡◌, Bool, true, false, ℕ, ◌+◌, max, ◌==◌, List, [], ◌∷◌, ◌++◌, map, flat_map, count_by, ◌≤◌, ⊤}
 use Rattle.session_model.specs.Journal.{counts_from}
 
 -- a message with its number
@@ -36,6 +36,14 @@ skips (apply _ ∷ records) = skips records
 skips (skip r ∷ records) = r ∷ skips records
 skips (negotiated ∷ records) = skips records
 skips (peer_finished _ ∷ records) = skips records
+
+-- whether the peer finished
+abbrev pub has_peer_finished : List InboxRecord → Bool
+has_peer_finished [] = false
+has_peer_finished (apply _ ∷ records) = has_peer_finished records
+has_peer_finished (skip _ ∷ records) = has_peer_finished records
+has_peer_finished (negotiated ∷ records) = has_peer_finished records
+has_peer_finished (peer_finished _ ∷ records) = true
 
 -- the numbers of a range, and of some messages
 abbrev pub numbers_in : List Range → List ℕ

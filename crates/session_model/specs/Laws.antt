@@ -1,18 +1,19 @@
 -- The laws of the definitions, each a statement that a public function of the crate carries.
+use Rattle.std.specs.List.{AllByRecursion}
 use Rattle.std.specs.Prelude.{◌≡◌, ℕ, ◌+◌, ◌-◌, ◌<◌, ◌≤◌, List, [], ◌∷◌, ◌++◌, map, flat_map, length, take, drop, Option, Some, None, option_map, unwrap_or, false, ◌↔◌}
 use mathlib.Core.List.{IsPrefix}
-use Rattle.session_model.specs.Journal.{Entry, OutboxRecord, History, BeginsHistory, history_of, is_finished, payloads, counts_from}
+use Rattle.session_model.specs.Journal.{Entry, OutboxRecord, entries, History, BeginsHistory, history_of, is_finished, payloads, counts_from}
 use Rattle.session_model.specs.Inbox.{InboxRecord, applied, skips, missing, settled, next_number, numbers_of, payloads_of, times, SameNumbers, Ascending}
-use Rattle.session_model.specs.Events.{Event, announce, message, with_number, standing, numbered, messages, TrueOfJournal, Rising}
-use Rattle.session_model.specs.Growth.{Flow, recoverable, idempotent, unsequenced, GrownInOrder, GrownRecoverable, GrownIdempotent, GrownUnsequenced, Grown, GrownThrough, jumps_through, AppliesPrefix, SettlesOnce, DeliversRising}
+use Rattle.session_model.specs.Events.{Announcer, Event, announce, handshake, message, with_number, standing, numbered, messages, TrueOfJournal, Rising, IsHandshake, HandshakeFirst, BeginsWithHandshake}
+use Rattle.session_model.specs.Growth.{Flow, recoverable, idempotent, unsequenced, GrownInOrder, GrownRecoverable, GrownIdempotent, GrownUnsequenced, Grown, GrownLater, GrownThrough, jumps_through, AppliesPrefix, SettlesOnce, DeliversRising}
 use Rattle.session_model.specs.Plans.{Continues, Completes}
-use Rattle.session_model.specs.Lives.{Life, Chained}
+use Rattle.session_model.specs.Lives.{Served, Life, served_on, written_of, Writes, KeepsConnections, KeepsOutbox, KeepsContract, Chained, TakenFrom}
 
 -- Numbering looks back: behind an announcement and so many messages stands its number and as many more, whatever came before;
 -- where none has a number, nothing stands announced
 abbrev pub NumberingLooksBack : Type 0
-NumberingLooksBack = (c n : Option ℕ) (earlier : List Event) (since : List (List ℕ))
-    → standing c (earlier ++ announce n ∷ map message since) ≡ option_map (λ k. k + length since) n
+NumberingLooksBack = (c n : Option ℕ) (who : Announcer) (earlier : List Event) (since : List (List ℕ))
+    → standing c (earlier ++ announce who n ∷ map message since) ≡ option_map (λ k. k + length since) n
 
 -- a message has the number that stands behind the events before it
 abbrev pub MessageTakesStanding : Type 0
@@ -30,6 +31,23 @@ abbrev pub TrueSplits : Type 0
 TrueSplits = (h : List Entry) (c : Option ℕ) (first second : List Event)
     → TrueOfJournal h c (first ++ second) ↔ (TrueOfJournal h c first × TrueOfJournal h (standing c first) second)
 
+-- what a connection wrote in two parts has the handshake first exactly where both parts have it, and an announcement of the
+-- handshake in the second is the same as each event of the first
+abbrev pub HandshakeSplits : Type 0
+HandshakeSplits = (first second : List Event)
+    → HandshakeFirst (first ++ second)
+    ↔ (HandshakeFirst first × HandshakeFirst second × AllByRecursion (λ (e : Event). AllByRecursion (λ (later : Event). IsHandshake later → later ≡ e) second) first)
+
+-- where the handshake comes first, none of its announcements stands behind a message
+abbrev pub HandshakeBeforeMessages : Type 0
+HandshakeBeforeMessages = (before after : List Event) (n : Option ℕ) → HandshakeFirst (before ++ announce handshake n ∷ after) → messages before ≡ []
+
+-- what an end accepts from the handshake on is true of the journal of which all that was written is true, whichever
+-- announcements of the handshake it rejected; and the handshake comes first in it too
+abbrev pub TakenIsTrue : Type 0
+TakenIsTrue = (h : List Entry) (written accepted : List Event) → TakenFrom written accepted → HandshakeFirst written → BeginsWithHandshake accepted
+    → TrueOfJournal h None written → TrueOfJournal h None accepted × HandshakeFirst accepted
+
 -- what is true of a journal stays true of it as it grows
 abbrev pub TrueStaysTrue : Type 0
 TrueStaysTrue = (h longer : List Entry) (c : Option ℕ) (es : List Event) → IsPrefix h longer → TrueOfJournal h c es → TrueOfJournal longer c es
@@ -45,13 +63,23 @@ RisingGoesOn = (h longer : List Entry) (n : ℕ) (first second : List (List ℕ)
 -- What a sender may write: an announcement of a number, and behind it the journal's entries from that number on, live or as a
 -- retransmission
 abbrev pub AnnouncedEntriesAreTrue : Type 0
-AnnouncedEntriesAreTrue = (h : List Entry) (c : Option ℕ) (n k : ℕ) → 1 ≤ n → n ≤ length h + 1
-    → TrueOfJournal h c (announce (Some n) ∷ map message (take k (drop (n - 1) (payloads h))))
+AnnouncedEntriesAreTrue = (h : List Entry) (c : Option ℕ) (who : Announcer) (n k : ℕ) → 1 ≤ n → n ≤ length h + 1
+    → TrueOfJournal h c (announce who (Some n) ∷ map message (take k (drop (n - 1) (payloads h))))
 
 -- growth over two parts of one connection is growth over the whole: the second part from what stands behind the first
 abbrev pub GrowthGoesOn : Type 0
 GrowthGoesOn = (flow : Flow) (c : Option ℕ) (first second : List Event) (before between after : List InboxRecord)
     → Grown flow c first before between → Grown flow (standing c first) second between after → Grown flow c (first ++ second) before after
+
+-- the same where the second part may also apply what the first part carried and the inbox did not apply then
+abbrev pub HeldGoesOn : Type 0
+HeldGoesOn = (flow : Flow) (c : Option ℕ) (first second : List Event) (before between after : List InboxRecord)
+    → Grown flow c first before between → GrownLater flow c first second between after → Grown flow c (first ++ second) before after
+
+-- who holds nothing grows by each part alone
+abbrev pub NothingHeld : Type 0
+NothingHeld = (flow : Flow) (c : Option ℕ) (first second : List Event) (between after : List InboxRecord)
+    → Grown flow (standing c first) second between after → GrownLater flow c first second between after
 
 -- growth over some connections and then over others is growth over all of them, and the other way round
 abbrev pub ConnectionsGoOn : Type 0
@@ -62,7 +90,7 @@ ConnectionsGoOn = (flow : Flow) (first second : List (List Event)) (before after
 -- growth over several connections, said at once. Each connection is numbered by itself
 abbrev pub RecoverableConnections : Type 0
 RecoverableConnections = (carried : List (List Event)) (before after : List InboxRecord)
-    → GrownThrough recoverable carried before after → GrownInOrder (flat_map (numbered None) carried) before after
+    → GrownThrough recoverable carried before after → GrownInOrder [] (flat_map (numbered None) carried) before after
 
 abbrev pub IdempotentConnections : Type 0
 IdempotentConnections = (carried : List (List Event)) (before after : List InboxRecord)
@@ -113,6 +141,26 @@ PlanGoesOn = (plan before after : List (List ℕ)) → IsPrefix before plan → 
 
 abbrev pub PlanCompletes : Type 0
 PlanCompletes = (plan before after : List (List ℕ)) → IsPrefix before plan → Completes plan before after → after ≡ plan
+
+-- What was kept on the connections as far as the outbox was seen is kept of any longer outbox. So the two parts of the
+-- contract are the contract, once the outbox is closed that a pass had seen a beginning of
+abbrev pub SeenStaysKept : Type 0
+SeenStaysKept = (own peer : Flow) (opened seen longer : List Entry) (life : Served) → IsPrefix seen longer
+    → KeepsConnections own peer opened seen life → KeepsConnections own peer opened longer life
+
+-- what is kept on some connections of a life, none of whose records was refused, and on those behind them is kept on all;
+-- but what was written on all of them has to be said of all, since on an unsequenced flow it rises from one to the next
+abbrev pub ServingGoesOn : Type 0
+ServingGoesOn = (own peer : Flow) (opened seen : List Entry) (first second : Served)
+    → first.refused_inbox ≡ [] → second.opening_inbox ≡ first.closing_inbox
+    → KeepsConnections own peer opened seen first → KeepsConnections own peer opened seen second
+    → Writes own opened seen (written_of (first.connections ++ second.connections))
+    → KeepsConnections own peer opened seen (served_on first second)
+
+abbrev pub ContractJoins : Type 0
+ContractJoins = (own peer : Flow) (plan : ℕ → List (List ℕ) → List (List ℕ)) (life : Life) (seen : List Entry)
+    → IsPrefix seen (entries life.closing_outbox) → KeepsConnections own peer (entries life.opening_outbox) seen life.served
+    → KeepsOutbox plan life → KeepsContract own peer plan life
 
 -- beginnings of histories compose
 abbrev pub HistoriesGoOn : Type 0

@@ -6,5 +6,6 @@ pub mod Plans
 pub mod Lives
 pub mod Laws
 pub mod Guarantee
+pub mod Moments
 pub mod Views
 pub mod Samples

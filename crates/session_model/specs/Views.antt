@@ -4,6 +4,8 @@ use Rattle.session_model.specs.Journal
 use Rattle.session_model.specs.Inbox
 use Rattle.session_model.specs.Events
 use Rattle.session_model.specs.Growth
+use Rattle.session_model.specs.declared.event.Announcer.{Announcer}
+use Rattle.session_model.specs.declared.event.Announcer.TheVariants.{Handshake, InFlow}
 use Rattle.session_model.specs.declared.event.Event.{Event}
 use Rattle.session_model.specs.declared.event.Event.TheVariants.{Announce, Message}
 use Rattle.session_model.specs.declared.event.Entry.{Entry}
@@ -14,8 +16,12 @@ use Rattle.session_model.specs.declared.event.Record.TheVariants.{Apply, Skip}
 use Rattle.session_model.specs.declared.event.Flow.{Flow}
 use Rattle.session_model.specs.declared.event.Flow.TheVariants.{Recoverable, Idempotent, Unsequenced, NoFlow}
 
+abbrev pub announcer_of : Announcer → Events.Announcer
+announcer_of Handshake = Events.Announcer.handshake
+announcer_of InFlow = Events.Announcer.in_flow
+
 abbrev pub event_of : Event → Events.Event
-event_of (Announce number) = Events.Event.announce number
+event_of (Announce who number) = Events.Event.announce (announcer_of who) number
 event_of (Message payload) = Events.Event.message payload.now
 
 abbrev pub events_of : List Event → List Events.Event

@@ -24,11 +24,20 @@ pub struct Entry<'a> {
     pub payload: &'a [u8],
 }
 
+/// Who announces a number.
+#[derive(Clone, Copy, Debug, PartialEq, Eq)]
+pub enum Announcer {
+    /// Establish or EstablishmentAck.
+    Handshake,
+    /// Sequence or Retransmission.
+    InFlow,
+}
+
 /// An event of a flow on a connection.
 #[derive(Clone, Copy, Debug, PartialEq, Eq)]
 pub enum Event<'a> {
     /// An announcement of the next number, or of none.
-    Announce(Option<u64>),
+    Announce(Announcer, Option<u64>),
     /// An application message, with its payload.
     Message(&'a [u8]),
 }

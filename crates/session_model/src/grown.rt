@@ -119,8 +119,8 @@ fn goes_on(next: u128, standing: Option<u128>, event: Event<'_>) -> bool
     ensures exact { IsTrue result ↔ NeverBack next standing (event_of event.entry ∷ []) }
 {
     match event {
-        Event::Announce(Some(number)) => standing.unwrap_or(next) <= u128::from(number),
-        Event::Announce(None) => false,
+        Event::Announce(_, Some(number)) => standing.unwrap_or(next) <= u128::from(number),
+        Event::Announce(_, None) => false,
         Event::Message(_) => true,
     }
 }
@@ -139,7 +139,7 @@ fn record_for<'a>(
     ensures ends { IfSome result (λ r. end_of r ≤ max (next + 1) (2 ^ 64)) }
 {
     match event {
-        Event::Announce(number) => match (flow, number) {
+        Event::Announce(_, number) => match (flow, number) {
             (Flow::Idempotent, Some(number)) => match skipped(next, u128::from(number)) {
                 Some(range) => Some(Record::Skip(range)),
                 None => None,

@@ -1,7 +1,7 @@
 //! The session guarantee, one function for each flow and one for the senders, with empty bodies.
 //! It rests on the contract of one end over one life, and on the chaining and linking that `Session` names.
 
-ghost use Rattle.session_model.specs.Guarantee.{SessionTurnsRound, SessionBegins, RecoverableGuarantee, IdempotentGuarantee, UnsequencedGuarantee, NoFlowGuarantee, SendersGuarantee};
+ghost use Rattle.session_model.specs.Guarantee.{SessionTurnsRound, SessionBegins, RecoverableGuarantee, IdempotentGuarantee, UnsequencedGuarantee, NoFlowGuarantee, SendersGuarantee, ReportsGuarantee};
 
 /// A session seen from its other end is a session, so that each guarantee holds in both directions.
 pub fn session_turns_round()
@@ -37,4 +37,9 @@ pub fn no_flow_guarantee()
 /// A journal holds each sender's accepted messages once, in order, and what a life closed on at its number.
 pub fn senders_guarantee()
     ensures law { SendersGuarantee }
+{}
+
+/// What was reported as not applied is a skip record of the inbox, and so was not applied and never will be.
+pub fn reports_guarantee()
+    ensures law { ReportsGuarantee }
 {}

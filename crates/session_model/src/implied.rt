@@ -30,7 +30,7 @@ pub fn behind(standing: Option<u128>, event: Event<'_>) -> Option<u128>
     ensures fits { (i : ℕ) → IfSome standing (λ n. n < 2 ^ 64 + i) → IfSome result (λ n. n < 2 ^ 64 + (i + 1)) }
 {
     match event {
-        Event::Announce(number) => number.map(u128::from),
+        Event::Announce(_, number) => number.map(u128::from),
         Event::Message(_) => standing.map(|number| number + 1),
     }
 }

@@ -1,7 +1,7 @@
 //! The laws of the definitions. Each function has an empty body: its clause is a statement about every list.
 //! They rest on nothing but the definitions of `specs/`.
 
-ghost use Rattle.session_model.specs.Laws.{NumberingLooksBack, MessageTakesStanding, NumberingSplits, TrueSplits, TrueStaysTrue, AnnouncedEntriesAreTrue, CountsStandOnce, RisingStaysRising, RisingGoesOn, GrowthGoesOn, ConnectionsGoOn, RecoverableConnections, IdempotentConnections, UnsequencedConnections, NoEventsGrowNothing, RecoverableCounts, IdempotentSettles, RecoverableKeepsPrefix, IdempotentKeepsOnce, UnsequencedKeepsRising, PlanGoesOn, PlanCompletes, HistoriesGoOn, RecordsBeginHistory, ChainedSplits};
+ghost use Rattle.session_model.specs.Laws.{NumberingLooksBack, MessageTakesStanding, NumberingSplits, TrueSplits, TrueStaysTrue, HandshakeSplits, HandshakeBeforeMessages, TakenIsTrue, AnnouncedEntriesAreTrue, CountsStandOnce, RisingStaysRising, RisingGoesOn, GrowthGoesOn, HeldGoesOn, NothingHeld, ConnectionsGoOn, RecoverableConnections, IdempotentConnections, UnsequencedConnections, NoEventsGrowNothing, RecoverableCounts, IdempotentSettles, RecoverableKeepsPrefix, IdempotentKeepsOnce, UnsequencedKeepsRising, PlanGoesOn, PlanCompletes, SeenStaysKept, ServingGoesOn, ContractJoins, HistoriesGoOn, RecordsBeginHistory, ChainedSplits};
 
 /// Behind an announcement and so many messages stands its number and as many more, whatever came before it.
 pub fn numbering_looks_back()
@@ -21,6 +21,22 @@ pub fn numbering_splits()
 /// Events are true of a journal exactly where both parts of them are.
 pub fn true_splits()
     ensures law { TrueSplits }
+{}
+
+/// The handshake comes first in two parts of a connection exactly where it does in both, and the second part announces
+/// nothing else.
+pub fn handshake_splits()
+    ensures law { HandshakeSplits }
+{}
+
+/// Where the handshake comes first, it does not announce behind a message.
+pub fn handshake_before_messages()
+    ensures law { HandshakeBeforeMessages }
+{}
+
+/// What is accepted from the handshake on is true of the journal of which all that was written is.
+pub fn taken_is_true()
+    ensures law { TakenIsTrue }
 {}
 
 /// What is true of a journal stays true of it as it grows.
@@ -46,6 +62,16 @@ pub fn announced_entries_are_true()
 /// Growth over two parts of one connection is growth over the whole, on each flow.
 pub fn growth_goes_on()
     ensures law { GrowthGoesOn }
+{}
+
+/// Growth over two parts of one connection is growth over the whole, also where the second part applies what the first carried.
+pub fn held_goes_on()
+    ensures law { HeldGoesOn }
+{}
+
+/// Who holds nothing grows by each part alone.
+pub fn nothing_held()
+    ensures law { NothingHeld }
 {}
 
 /// Growth over some connections and then over others is growth over all of them.
@@ -106,6 +132,21 @@ pub fn plan_goes_on()
 /// A sender that had sent a beginning of its plan, and completed it, has sent all of it.
 pub fn plan_completes()
     ensures law { PlanCompletes }
+{}
+
+/// What was kept as far as the outbox was seen is kept of a longer one.
+pub fn seen_stays_kept()
+    ensures law { SeenStaysKept }
+{}
+
+/// What is kept on some connections of a life and on those behind them is kept on all.
+pub fn serving_goes_on()
+    ensures law { ServingGoesOn }
+{}
+
+/// Both parts of an end's contract are the contract, once the outbox is closed.
+pub fn contract_joins()
+    ensures law { ContractJoins }
 {}
 
 /// Beginnings of histories compose.

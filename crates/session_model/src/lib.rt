@@ -7,7 +7,6 @@ pub mod grown;
 pub mod guarantee;
 pub mod implied;
 pub mod laws;
+pub mod moments;
 pub mod samples;
-#[cfg(test)]
-mod tests;
 pub mod written;

@@ -28,8 +28,8 @@ fn is_true_event(journal: &[Entry<'_>], standing: Option<u128>, event: Event<'_>
     ensures exact { IsTrue result ↔ TrueOfJournal (journal_of journal.now) standing (event_of event.entry ∷ []) }
 {
     match event {
-        Event::Announce(None) => true,
-        Event::Announce(Some(number)) => 1 <= number
+        Event::Announce(_, None) => true,
+        Event::Announce(_, Some(number)) => 1 <= number
             && u128::from(number) <= journal.len() as u128 + 1,
         Event::Message(payload) => match standing {
             None => true,

@@ -6,8 +6,6 @@ mod buffer;
 mod header;
 mod laws;
 mod pieces;
-#[cfg(test)]
-mod tests;
 
 pub use buffer::{Framer, ROOM};
 pub use header::{FirstFrame, next};

@@ -2,7 +2,7 @@
 
 ghost use Rattle.std.specs.Prelude.{◌≡◌, IfOk, map};
 ghost use Rattle.toml.specs.View.{view};
-ghost use Rattle.sbe_schema.specs.Views.{groups_of, head_of};
+ghost use Rattle.schema_types.specs.Views.{groups_of, head_of};
 ghost use Rattle.schema_toml.specs.Written.{group_data, groups_data, groups_list};
 
 use crate::print::{Written, put, put_list, put_one, put_some};

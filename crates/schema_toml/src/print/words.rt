@@ -5,8 +5,8 @@ ghost use Rattle.toml.specs.View.{view};
 ghost use Rattle.schema_toml.specs.Written.{number_data, text_data};
 
 use crate::print::Written;
-use sbe_prim::{Order, Primitive};
-use sbe_schema::{Constant, Presence, primitive_name};
+use sbe_prim::{Order, Primitive, primitive_name};
+use sbe_schema::{Constant, Presence};
 use sbe_value::Bytes;
 use std::alloc::{AllocError, Global};
 use toml::Value;

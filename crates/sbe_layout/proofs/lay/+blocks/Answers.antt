@@ -1,5 +1,5 @@
 use Rattle.std.proofs.Common.{◌+◌, ◌∙◌, ap, drop, arith}
-use Rattle.sbe_schema.specs.Views.{groups_of}
+use Rattle.schema_types.specs.Views.{groups_of}
 use Rattle.sbe_layout.specs.Views.{plans_of}
 use Rattle.sbe_layout.specs.Plans.{groups_plan}
 use Rattle.sbe_layout.proofs.Rows.{append_plans, plans_step, plans_end, weight_at}

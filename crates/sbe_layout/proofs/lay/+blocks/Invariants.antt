@@ -1,6 +1,6 @@
 use Rattle.std.proofs.Common.{◌≡◌, ◌+◌, ◌*◌, drop}
-use Rattle.sbe_schema.specs.Groups.{weight_of}
-use Rattle.sbe_schema.specs.Views.{groups_of}
+use Rattle.schema_types.specs.Groups.{weight_of}
+use Rattle.schema_types.specs.Views.{groups_of}
 use Rattle.sbe_layout.specs.Views.{plans_of}
 use Rattle.sbe_layout.specs.Plans.{groups_plan}
 use Rattle.sbe_layout.proofs.Rows.{append_plans}

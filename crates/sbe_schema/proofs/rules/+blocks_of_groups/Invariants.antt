@@ -1,6 +1,6 @@
 use Rattle.std.proofs.Common.{◌≡◌, ◌≤◌, length, drop}
-use Rattle.sbe_schema.specs.Groups.{weight_of}
-use Rattle.sbe_schema.specs.Views.{groups_of}
+use Rattle.schema_types.specs.Groups.{weight_of}
+use Rattle.schema_types.specs.Views.{groups_of}
 use Rattle.sbe_schema.specs.Limits.{blocks_of_groups}
 use Rattle.sbe_schema.proofs.rules.+blocks_of_groups.Given as goal
 

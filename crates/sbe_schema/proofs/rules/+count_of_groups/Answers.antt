@@ -1,6 +1,6 @@
 use Rattle.std.proofs.Common.{◌-◌, ◌<◌, ap, arith}
-use Rattle.sbe_schema.specs.Groups.{weight_of}
-use Rattle.sbe_schema.specs.Views.{groups_of}
+use Rattle.schema_types.specs.Groups.{weight_of}
+use Rattle.schema_types.specs.Views.{groups_of}
 use Rattle.sbe_schema.proofs.Trees.{weight_at}
 use Rattle.sbe_schema.proofs.rules.+count_of_groups.Goals as goal
 

@@ -2,7 +2,7 @@ use Rattle.std.proofs.Common.{◌≡◌, ◌+◌, ◌∙◌, sym, ap, ◌∷◌,
 use Rattle.std.proofs.lemmas.Int.{to_z-of_z}
 use Rattle.std.specs.Int.{int_max, w128}
 use Rattle.sbe_schema.specs.Search.{folded}
-use Rattle.sbe_schema.specs.Views.{groups_of}
+use Rattle.schema_types.specs.Views.{groups_of}
 use Rattle.sbe_schema.specs.Walk.{walk_groups, names_of_groups, ids_of_groups}
 use Rattle.sbe_schema.proofs.Steps.{front_at, groups_step}
 use Rattle.sbe_schema.proofs.Trees.{weight_at}

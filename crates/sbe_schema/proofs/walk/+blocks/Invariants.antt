@@ -1,6 +1,6 @@
 use Rattle.std.proofs.Common.{◌≡◌, ◌+◌, ◌*◌, drop}
-use Rattle.sbe_schema.specs.Groups.{weight_of}
-use Rattle.sbe_schema.specs.Views.{groups_of}
+use Rattle.schema_types.specs.Groups.{weight_of}
+use Rattle.schema_types.specs.Views.{groups_of}
 use Rattle.sbe_schema.specs.Search.{folded}
 use Rattle.sbe_schema.specs.Walk.{walk_groups, names_of_groups, ids_of_groups}
 use Rattle.sbe_schema.proofs.walk.+blocks.Given as goal

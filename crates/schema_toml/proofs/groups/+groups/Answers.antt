@@ -1,6 +1,6 @@
 use Rattle.std.proofs.Common.{◌≡◌, ◌∙◌, ◌++◌, ◌+◌, drop, ◌∷◌, [], ap, sym, get_or, Ok, Err, arith, rules, length}
 use Rattle.std.proofs.lemmas.Grind.{common_steps}
-use Rattle.sbe_schema.specs.Views.{head_of}
+use Rattle.schema_types.specs.Views.{head_of}
 use Rattle.schema_toml.specs.Messages.{group_of, groups_from}
 use Rattle.std.proofs.lemmas.List.{length-append}
 use Rattle.sbe_value.specs.declared.path.Step.TheVariants.{At}

@@ -1,6 +1,7 @@
 use Rattle.std.proofs.Common.{[], ◌∷◌, None, get_or, sym, ap, ◌∙◌}
 use Rattle.session_model.specs.Events.{standing}
 use Rattle.session_model.specs.Views.{event_of, journal_of}
+use Rattle.session_model.specs.declared.event.Announcer.TheVariants.{Handshake}
 use Rattle.session_model.specs.declared.event.Event.TheVariants.{Announce}
 use Rattle.session_model.proofs.Steps.{standing_more}
 use Rattle.session_model.proofs.Growing.{true_more, true_here}
@@ -13,7 +14,7 @@ returns-then-not-is_true_event c =
       exact = (
         λ t. absurd (cc t),
         λ all. sym c.if-not-is_true_event.true ∙ c.is_true_event.ensures.exact.1
-            (true_here (journal_of c.args.journal.now) c.loop-event.standing c.args.events.now i (Announce None) c.loop-event-test.true c.loop-event.invariant.stands all),
+            (true_here (journal_of c.args.journal.now) c.loop-event.standing c.args.events.now i (Announce Handshake None) c.loop-event-test.true c.loop-event.invariant.stands all),
       );
     }
 
@@ -23,8 +24,8 @@ loop-event-preserved c =
     let i = c.loop-event.event-index in
     let inv = c.loop-event.invariant in
     record {
-      so_far = true_more (journal_of c.args.journal.now) c.loop-event.standing es i (Announce None) c.loop-event-test.true inv.so_far inv.stands (c.is_true_event.ensures.exact.0 c.if-not-is_true_event.false);
+      so_far = true_more (journal_of c.args.journal.now) c.loop-event.standing es i (Announce Handshake None) c.loop-event-test.true inv.so_far inv.stands (c.is_true_event.ensures.exact.0 c.if-not-is_true_event.false);
       stands = c.behind-standing.ensures.exact
-          ∙ (ap (λ s. standing s (event_of (get_or es i (Announce None)) ∷ [])) inv.stands ∙ sym (standing_more es i (Announce None) c.loop-event-test.true));
+          ∙ (ap (λ s. standing s (event_of (get_or es i (Announce Handshake None)) ∷ [])) inv.stands ∙ sym (standing_more es i (Announce Handshake None) c.loop-event-test.true));
       fits = c.behind-standing.ensures.fits i inv.fits;
     }

@@ -1,6 +1,6 @@
 use Rattle.std.proofs.Common.{◌≡◌, ◌<◌, ◌∷◌, ◌++◌, [], ap, ◌∙◌, arith, length}
-use Rattle.sbe_schema.specs.Groups.{weight_of}
-use Rattle.sbe_schema.specs.Views.{head_of}
+use Rattle.schema_types.specs.Groups.{weight_of}
+use Rattle.schema_types.specs.Views.{head_of}
 use Rattle.toml.specs.Data.{array}
 use Rattle.toml.specs.View.{view, items_of}
 use Rattle.schema_toml.specs.Written.{group_data, groups_list}

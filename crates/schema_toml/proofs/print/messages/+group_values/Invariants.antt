@@ -1,7 +1,7 @@
 use Rattle.std.proofs.Common.{◌≡◌, ◌++◌, drop, map}
 use Rattle.toml.specs.View.{view}
-use Rattle.sbe_schema.specs.Groups.{weight_of}
-use Rattle.sbe_schema.specs.Views.{groups_of}
+use Rattle.schema_types.specs.Groups.{weight_of}
+use Rattle.schema_types.specs.Views.{groups_of}
 use Rattle.schema_toml.specs.Written.{groups_list}
 use Rattle.schema_toml.proofs.print.messages.+group_values.Given as goal
 
