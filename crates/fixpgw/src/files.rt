@@ -1,162 +1,197 @@
-//! The real devices: files and standard output. They tell of their content what the reader or writer behind them
-//! tells, and the operating system's tell nothing.
+//! A run over the files that its words name.
 
-ghost use Rattle.std.specs.Prelude.{◌≡◌, ◌<◌, ◌≤◌, length, None, Some, IfOk, MatchResult};
-ghost use Rattle.std.specs.Io.{ReadsAtMost, WritesAtMost};
-ghost use Rattle.std.specs.Io.KnownBytes.{ReadConsumes, WriteAppends};
-ghost use Rattle.fixpgw.specs.declared.files.Target.TheVariants.{File, Printer, Missing};
+use crate::report::Report;
+use fault_text::{Wanted, config_fault, file_name, malformed_frame};
+use fixp_end::Violation;
+use gateway::{Bad, Outside, Status, run};
+use gw_real::{FileSink, FileSource, Kept, Named, Reason, STANDARD_OUTPUT};
+use schema_toml::TEXT_LIMIT;
+use std::alloc::AllocError;
+use std::io::{self, Printer};
+use std::rt::Files;
+use std::sync::Wait;
 
-use gw_outside::{Failed, Sink, Source};
-use std::io;
-use std::io::{ErrorKind, Read, Write};
+/// How many of the last bytes of INPUT are kept to say what is wrong with a frame: as many as are read at once.
+const KEPT: usize = 32_780;
 
-/// Reads from a file. One that could not be opened fails at its first read.
-#[derive(Drop)]
-pub struct FileSource<F> {
-    file: Option<F>,
-    faults: u64,
+const fn named<'a>(role: &'static str, path: &'a str) -> Named<'a> {
+    Named { role, path }
 }
 
-impl<F> FileSource<F> {
-    /// A source over what opening a file gave.
-    pub fn new(opened: io::Result<F>) -> FileSource<F>
-        ensures file { MatchResult opened (λ file. result.file ≡ Some file) (λ _. result.file ≡ None) }
-        ensures faults { result.faults ≡ 0 }
+/// A file that is written; `-` is standard output, where the command takes that.
+fn sink<'a, R: Files + Print>(
+    rt: &'a R,
+    name: Named<'a>,
+    others: &'a [Named<'a>],
+    may_print: bool,
+) -> FileSink<'a, R, R::File, Printer<'a, R>> {
+    if name.path != "-" {
+        FileSink::new(rt, name, others)
+    } else if may_print {
+        FileSink::printing(rt, io::writer(rt), others)
+    } else {
+        FileSink::failing(rt, name, Reason::NotHere)
+    }
+}
+
+/// A file and why it failed.
+fn device_line<R: AllocGlobal>(
+    rt: &R,
+    name: Named<'_>,
+    reason: Reason<'_>,
+) -> Result<String, AllocError> {
+    let alloc = rt.alloc();
+    let file = match name.role {
+        role if role == STANDARD_OUTPUT.role => String::from_str(alloc, role)?,
+        role => file_name(alloc, role, name.path)?,
+    };
+    match reason {
+        Reason::System(error) => format!(in alloc; "{file}: {error}"),
+        Reason::SameFile(other) => {
+            let other = file_name(alloc, other.role, other.path)?;
+            format!(in alloc; "{file}: this is the same file as {other}")
+        }
+        Reason::NotHere => {
+            format!(in alloc; "{file}: standard output can stand for OUT alone; ./- names a file")
+        }
+    }
+}
+
+/// What is wrong with the input, as far as it was kept.
+fn input_line<R: AllocGlobal>(
+    rt: &R,
+    input: Named<'_>,
+    kept: &Kept,
+    bad: &Bad,
+) -> Result<String, AllocError> {
+    let alloc = rt.alloc();
+    let file = file_name(alloc, input.role, input.path)?;
+    if let Bad::Session {
+        at,
+        violation: Violation::BadFrame { .. },
+    } = bad
     {
-        FileSource {
-            file: opened.ok(),
-            faults: 0,
-        }
-    }
-
-    /// A source for a command that reads none.
-    pub fn unused() -> FileSource<F>
-        ensures file { result.file ≡ None }
-        ensures faults { result.faults ≡ 0 }
-    {
-        FileSource {
-            file: None,
-            faults: 0,
-        }
-    }
-}
-
-/// Reads, and again where a signal came between.
-fn read_some<F: Read>(file: &mut F, into: &mut [u8]) -> io::Result<usize>
-    ensures bound { ReadsAtMost result into.new }
-    ensures bytes { ReadConsumes (F.remaining file.old) (F.remaining file.new) result into.new }
-{
-    for _ in 0..u64::MAX {
-        match file.read(into) {
-            Err(error) if error.kind() == ErrorKind::Interrupted => {}
-            outcome => return outcome,
-        }
-    }
-    Err(io::Error::from(ErrorKind::Interrupted))
-}
-
-impl<F: Read> Source for FileSource<F> {
-    ghost use Rattle.fixpgw.specs.Told.{told_by};
-
-    ghost left = { λ s. told_by F.remaining s.file };
-
-    ghost faults = { λ s. s.faults };
-
-    fn pull(&mut self, into: &mut [u8]) -> Result<usize, Failed> {
-        if let Some(file) = &mut self.file
-            && let Ok(count) = read_some(file, into)
-        {
-            return Ok(count);
-        }
-        self.faults = self.faults.saturating_add(1);
-        Err(Failed)
-    }
-}
-
-/// Where a sink writes.
-#[derive(Drop)]
-enum Target<F, P> {
-    File(F),
-    Printer(P),
-    Missing,
-}
-
-/// Writes to a file or to standard output. A file that could not be made fails at its first write.
-#[derive(Drop)]
-pub struct FileSink<F, P> {
-    target: Target<F, P>,
-    faults: u64,
-}
-
-impl<F, P> FileSink<F, P> {
-    /// A sink over what making a file gave.
-    pub fn new(made: io::Result<F>) -> FileSink<F, P>
-        ensures target { MatchResult made (λ file. result.target ≡ File file) (λ _. result.target ≡ Missing) }
-        ensures faults { result.faults ≡ 0 }
-    {
-        let target = match made {
-            Ok(file) => Target::File(file),
-            Err(_) => Target::Missing,
+        let bytes = kept.from_place(*at);
+        return match malformed_frame(alloc, bytes)? {
+            Some(why) => format!(in alloc; "{file}: malformed frame at byte {at}: {why}"),
+            None => format!(in alloc; "{file}: malformed frame at byte {at}"),
         };
-        FileSink { target, faults: 0 }
     }
-
-    /// A sink for a command that writes none.
-    pub fn unused() -> FileSink<F, P>
-        ensures target { result.target ≡ Missing }
-        ensures faults { result.faults ≡ 0 }
-    {
-        FileSink {
-            target: Target::Missing,
-            faults: 0,
-        }
-    }
-
-    /// A sink over a printer, as standard output.
-    pub fn printing(printer: P) -> FileSink<F, P>
-        ensures target { result.target ≡ Printer printer }
-        ensures faults { result.faults ≡ 0 }
-    {
-        FileSink {
-            target: Target::Printer(printer),
-            faults: 0,
-        }
-    }
+    format!(in alloc; "{file}: {bad}")
 }
 
-/// Writes, and again where a signal came between. Nothing taken of some bytes is a fault.
-fn write_some<W: Write>(writer: &mut W, bytes: &[u8]) -> Result<usize, Failed>
-    ensures count { IfOk result (λ n. n ≤ length bytes.now) }
-    ensures some { 0 < length bytes.now → IfOk result (λ n. 0 < n) }
-    ensures bytes { WriteAppends (W.contents writer.old) (W.contents writer.new) result bytes.now }
-{
-    for _ in 0..u64::MAX {
-        match writer.write(bytes) {
-            Ok(0) if !bytes.is_empty() => return Err(Failed),
-            Ok(count) => return Ok(count),
-            Err(error) if error.kind() == ErrorKind::Interrupted => {}
-            Err(_) => return Err(Failed),
-        }
-    }
-    Err(Failed)
+/// The file of an input, and why it failed.
+fn source_line<R: AllocGlobal>(
+    rt: &R,
+    name: Named<'_>,
+    reason: io::Error,
+) -> Result<Option<String>, AllocError> {
+    Ok(Some(device_line(rt, name, Reason::System(reason))?))
 }
 
-impl<F: Write, P: Write> Sink for FileSink<F, P> {
-    ghost use Rattle.fixpgw.specs.Told.{told_into};
+/// What a run is over.
+#[derive(Clone, Copy)]
+struct Run<'a> {
+    wanted: Wanted,
+    config: Named<'a>,
+    input: Named<'a>,
+    wire: Named<'a>,
+    out: Named<'a>,
+}
 
-    ghost taken = { λ k. told_into F.contents P.contents k.target };
-
-    ghost faults = { λ k. k.faults };
-
-    fn push(&mut self, bytes: &[u8]) -> Result<usize, Failed> {
-        let outcome = match &mut self.target {
-            Target::File(file) => write_some(file, bytes),
-            Target::Printer(printer) => write_some(printer, bytes),
-            Target::Missing => Err(Failed),
+impl<'a> Run<'a> {
+    /// The run of words that are a listed form; a file that they do not name is never used.
+    fn of(words: &'a [String]) -> Option<Run<'a>> {
+        let (wanted, config, input, wire, out) = match words {
+            [_command, config, input, wire, out] => (
+                Wanted::Settings,
+                config.as_str(),
+                input.as_str(),
+                wire.as_str(),
+                out.as_str(),
+            ),
+            [_command, config, out] => (Wanted::Schema, config.as_str(), "", "", out.as_str()),
+            _ => return None,
         };
-        if outcome.is_err() {
-            self.faults = self.faults.saturating_add(1);
-        }
-        outcome
+        Some(Run {
+            wanted,
+            config: named("CONFIG", config),
+            input: named("INPUT", input),
+            wire: named("WIRE", wire),
+            out: named("OUT", out),
+        })
     }
+
+    /// The files that an output must not be the same as.
+    fn others(&self) -> [Named<'a>; 5] {
+        [
+            self.config,
+            self.input,
+            self.wire,
+            self.out,
+            STANDARD_OUTPUT,
+        ]
+    }
+
+    /// What is wrong, in a line; none where the status says all.
+    fn line<R: Files<File = F> + AllocGlobal, F, P>(
+        &self,
+        rt: &R,
+        status: &Status,
+        outside: &Outside<FileSource<'_, R, F>, FileSink<'_, R, F, P>>,
+    ) -> Result<Option<String>, AllocError> {
+        match status {
+            Status::Config(fault) => {
+                let alloc = rt.alloc();
+                let file = file_name(alloc, self.config.role, self.config.path)?;
+                let what = config_fault(alloc, self.wanted, fault, outside.config.kept().bytes())?;
+                Ok(Some(format!(in alloc; "{file}: {what}")?))
+            }
+            Status::InputFault => match (outside.config.reason(), outside.input.reason()) {
+                (Some(reason), _) => source_line(rt, self.config, reason),
+                (None, Some(reason)) => source_line(rt, self.input, reason),
+                (None, None) => Ok(None),
+            },
+            Status::OutputFault => match (outside.out.reason(), outside.wire.reason()) {
+                (Some(reason), _) => Ok(Some(device_line(rt, outside.out.name(), reason)?)),
+                (None, Some(reason)) => Ok(Some(device_line(rt, self.wire, reason)?)),
+                (None, None) => Ok(None),
+            },
+            Status::Message(bad) => Ok(Some(input_line(
+                rt,
+                self.input,
+                outside.input.kept(),
+                bad,
+            )?)),
+            Status::Done | Status::Words | Status::Memory => Ok(None),
+        }
+    }
+}
+
+/// Runs the command over the files that its words name. They are closed when it returns, before anything is printed:
+/// where standard output is closed, a file may stand in its place.
+pub fn run_over_files<R: Wait + Files + Print + AllocGlobal>(rt: &R, words: &[String]) -> Report {
+    let Some(files) = Run::of(words) else {
+        return Report::bare(Status::Words);
+    };
+    let alloc = rt.alloc();
+    let others = files.others();
+    let outside = Outside {
+        config: FileSource::new(rt, alloc, files.config.path, TEXT_LIMIT + 1),
+        input: FileSource::new(rt, alloc, files.input.path, KEPT),
+        wire: sink(rt, files.wire, &others, false),
+        out: sink(rt, files.out, &others, true),
+    };
+    let (status, outside) = run(rt, alloc, words, outside);
+    let line = match files.line(rt, &status, &outside) {
+        Ok(line) => line,
+        Err(_) => None,
+    };
+    let Outside {
+        config: _,
+        input: _,
+        wire: _,
+        out: _,
+    } = outside;
+    Report { status, line }
 }

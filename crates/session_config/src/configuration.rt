@@ -8,6 +8,7 @@ ghost use Rattle.toml_walk.specs.Reading.{Reads};
 ghost use Rattle.schema_toml.specs.Faults.{Tells, text_limit};
 ghost use Rattle.session_config.specs.Settings.{IsLinkInRange, IsTradeInRange, allows_client, allows_desks, allows_senders, allows_server, configuration_of, configuration_of_document, configuration_of_text, credentials_of, demanded, is_none, is_unsequenced, link_of, own_flow, trade_of};
 
+use crate::limits::{DESKS, KEEPALIVE, ORDER_VERSION, REFERENCE, SENDERS};
 use crate::readers::{Credentials, Flows, Sessions};
 use fixp_msgs::Flow;
 use sbe_value::Bytes;
@@ -152,7 +153,13 @@ fn read_link(alloc: Global, role: Role, keys: &Value) -> Result<Link, TomlFault>
     ensures range { IfOk result IsLinkInRange }
 {
     let session = required::<Sessions>(alloc, (), keys, "session")?;
-    let keepalive = natural_at(alloc, keys, "keepalive", 100, 60000)?;
+    let keepalive = natural_at(
+        alloc,
+        keys,
+        "keepalive",
+        KEEPALIVE.least,
+        KEEPALIVE.greatest,
+    )?;
     let client = required::<Flows>(alloc, (), keys, "client_flow")?;
     demanded(alloc, "client_flow", allows_client(role, client))?;
     let server = required::<Flows>(alloc, (), keys, "server_flow")?;
@@ -179,18 +186,25 @@ fn read_trade(
     ensures range { IfOk result IsTradeInRange }
 {
     let given = keys.get("senders").is_some();
-    let senders = natural_or(alloc, keys, "senders", 0, 16, 1)?;
+    let senders = natural_or(alloc, keys, "senders", SENDERS.least, SENDERS.greatest, 1)?;
     let own = own_flow(role, client, server);
     demanded(alloc, "senders", allows_senders(own, senders))?;
-    let desks = natural_or(alloc, keys, "desks", 0, 16, 0)?;
+    let desks = natural_or(alloc, keys, "desks", DESKS.least, DESKS.greatest, 0)?;
     demanded(alloc, "desks", allows_desks(role, server, given, desks))?;
-    let order_version = natural_or(alloc, keys, "order_version", 1, 2, 1)?;
+    let order_version = natural_or(
+        alloc,
+        keys,
+        "order_version",
+        ORDER_VERSION.least,
+        ORDER_VERSION.greatest,
+        1,
+    )?;
     let reference = natural_or(
         alloc,
         keys,
         "reference",
-        1,
-        1_000_000_000_000_000,
+        REFERENCE.least,
+        REFERENCE.greatest,
         1_000_000,
     )?;
     Ok(Trade {

@@ -4,9 +4,11 @@
 
 mod configuration;
 mod laws;
+mod limits;
 mod readers;
 mod settings;
 
 pub use configuration::{Configuration, Link, Role, Trade, read_configuration};
 pub use laws::{configurations_keep_the_role, unknown_key_is_least};
+pub use limits::{DESKS, FLOW_WORDS, KEEPALIVE, ORDER_VERSION, REFERENCE, Range, SENDERS};
 pub use settings::{Settings, read_settings};

@@ -1,6 +1,0 @@
--- A failed read gives nothing.
-use Rattle.std.specs.Io.KnownBytes.{Keeps}
-use Rattle.fixpgw.proofs.files.read_some.Given as goal
-
-abbrev pub invariant-loop : goal.invariant-loop
-invariant-loop g l = Keeps (g.F.Read.remaining l.fn.file) (g.F.Read.remaining l.file)

@@ -1,5 +1,0 @@
-use Rattle.fixpgw.proofs.Completing.{answer_completes}
-use Rattle.fixpgw.proofs.laws.answer_completes.Goals as goal
-
-pub returns : goal.returns
-returns c = answer_completes

@@ -1,0 +1,91 @@
+//! What the commands are, for people.
+
+use crate::report::Report;
+use fault_text::quoted;
+use gateway::Status;
+use std::alloc::AllocError;
+
+pub const VERSION: &str = "fixpgw 0.1.0";
+
+const USAGE: &str =
+    "fixpgw: an order gateway for sessions of the FIX Performance Session Layer (FIXP) 1.1
+
+  fixpgw answer CONFIG INPUT WIRE OUT   answers the recorded client in INPUT: replies to WIRE, messages to OUT
+  fixpgw check CONFIG OUT               checks the schema in CONFIG, and prints its layout to OUT
+  fixpgw COMMAND --help                 what a command takes and does
+  fixpgw --help                         this text
+  fixpgw --version                      the name and the version
+
+OUT may be -, which is standard output. The last line on standard output is `status N NAME`, and N is the
+exit status: 0 done, 1 words, 2 config, 3 input-fault, 4 output-fault, 12 message, 14 memory.";
+
+const ANSWER: &str = "usage: fixpgw answer CONFIG INPUT WIRE OUT
+
+The acceptor's session over the recorded bytes of a client.
+
+  CONFIG   the configuration of the session, as TOML (read)
+  INPUT    the bytes that the client sent (read)
+  WIRE     the acceptor's replies (written)
+  OUT      a line `deliver N HEX` for each message applied (written); - is standard output";
+
+const CHECK: &str = "usage: fixpgw check CONFIG OUT
+
+Checks a schema, and prints where everything stands in its messages.
+
+  CONFIG   the schema, as TOML (read)
+  OUT      the layout of its messages (written); - is standard output";
+
+/// The usage of a command, if there is such a command.
+fn usage_of(command: &str) -> Option<&'static str> {
+    match command {
+        "answer" => Some(ANSWER),
+        "check" => Some(CHECK),
+        _ => None,
+    }
+}
+
+fn is_help(word: &str) -> bool {
+    matches!(word, "--help" | "-h")
+}
+
+/// The text that words ask for which are no command to run, if they ask for one.
+pub fn asked(words: &[String]) -> Option<&'static str> {
+    let (command, rest) = words.split_first()?;
+    if is_help(command.as_str()) {
+        return Some(USAGE);
+    }
+    if rest.is_empty() && command.as_str() == "--version" {
+        return Some(VERSION);
+    }
+    for word in rest {
+        if is_help(word.as_str()) {
+            return usage_of(command.as_str());
+        }
+    }
+    None
+}
+
+/// What is wrong with words that are no listed form.
+fn line_of<R: AllocGlobal>(rt: &R, words: &[String]) -> Result<String, AllocError> {
+    let Some(command) = words.first() else {
+        return format!(in rt.alloc(); "no command is given\n\n{USAGE}");
+    };
+    let count = words.len();
+    match usage_of(command.as_str()) {
+        Some(usage) => {
+            format!(in rt.alloc(); "these {count} words are no form of this command\n\n{usage}")
+        }
+        None => {
+            let name = quoted(rt.alloc(), command.as_str())?;
+            format!(in rt.alloc(); "there is no command {name}; fixpgw --help lists them")
+        }
+    }
+}
+
+/// The report of words that are no listed form.
+pub fn usage_fault<R: AllocGlobal>(rt: &R, words: &[String]) -> Report {
+    Report {
+        status: Status::Words,
+        line: line_of(rt, words).ok(),
+    }
+}

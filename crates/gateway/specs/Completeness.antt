@@ -1,0 +1,49 @@
+-- What is left for a run over told inputs in which no device failed: its work was done, or memory ran out.
+use Rattle.std.specs.Prelude.{◌≡◌, ◌⊎◌, ℕ, List, Option, Ok}
+use Rattle.std.specs.Io.KnownBytes.{Appends}
+use Rattle.gw_outside.specs.Faults.{HasRisen}
+use Rattle.sbe_layout.specs.declared.plan.Plan.{Plan}
+use Rattle.layout_text.specs.Lines.{lines_of_messages}
+use Rattle.session_config.specs.declared.settings.Settings.{Settings}
+use Rattle.session_config.specs.Settings.{settings_of_text}
+use Rattle.schema_load.specs.Load.{plan_of_text}
+use Rattle.gateway.specs.declared.words.Command.TheVariants as commands
+use Rattle.gateway.specs.declared.status.Status.{Status}
+use Rattle.gateway.specs.declared.status.Status.TheVariants.{Done, Memory}
+use Rattle.gateway.specs.Answer.{Answer, IsAnswer, acceptor_of}
+use Rattle.gateway.specs.Causes.{Counts, IsCaused}
+use Rattle.gateway.specs.Layouts.{GaveLayout}
+use Rattle.gateway.specs.Promise.{Content}
+use Rattle.gateway.specs.Run.{JudgesBy, GaveBy}
+
+-- no count of faults rose
+pub record NoneRose (before after : Counts) : Type 0 where
+  pub config : HasRisen before.config after.config → ⊥
+  pub input : HasRisen before.input after.input → ⊥
+  pub wire : HasRisen before.wire after.wire → ⊥
+  pub out : HasRisen before.out after.out → ⊥
+
+-- all lines of a layout were printed
+pub record Printed (plan : Plan) (before after : Option (List ℕ)) (status : Status) : Type 0 where
+  pub status_is : status ≡ Done
+  pub out : Appends before after (lines_of_messages plan.messages)
+
+-- whatever a run of `check` keeps to, by its clauses: over a schema without a fault it printed all, or memory ran out
+abbrev pub CheckCompletes : Type 0
+CheckCompletes = (text : List ℕ) (plan : Plan) (before after : Option (List ℕ)) (old new : Counts) (status : Status)
+    → plan_of_text text ≡ Ok plan
+    → JudgesBy commands.Check text status → GaveLayout (plan_of_text text) before after status → IsCaused old new status → NoneRose old new
+    → (status ≡ Memory) ⊎ Printed plan before after status
+
+-- the whole answer was given, with its status
+pub record Answered (answer : Answer) (before after : Content) (status : Status) : Type 0 where
+  pub status_is : status ≡ answer.status
+  pub wire : Appends before.wire after.wire answer.wire
+  pub out : Appends before.out after.out answer.out
+
+-- the same of `answer`: over a configuration and an input it gave the answer to that input, or memory ran out
+abbrev pub AnswerCompletes : Type 0
+AnswerCompletes = (text input : List ℕ) (settings : Settings) (answer : Answer) (before after : Content) (old new : Counts) (status : Status)
+    → settings_of_text text ≡ Ok settings → IsAnswer (acceptor_of settings) input answer
+    → JudgesBy commands.Answer text status → GaveBy (settings_of_text text) input before after status → IsCaused old new status → NoneRose old new
+    → (status ≡ Memory) ⊎ Answered answer before after status

@@ -1,0 +1,26 @@
+//! The words of the command line.
+
+ghost use Rattle.std.specs.Prelude.{◌≡◌};
+ghost use Rattle.gateway.specs.Words.{bytes_of, command_of};
+
+/// A command.
+#[derive(Clone, Copy, Debug, PartialEq, Eq)]
+pub enum Command {
+    /// `answer CONFIG INPUT WIRE OUT`
+    Answer,
+    /// `check CONFIG OUT`
+    Check,
+}
+
+/// The command of a listed form of words.
+pub fn command_of(words: &[String]) -> Option<Command>
+    ensures { result ≡ command_of (bytes_of words.now) }
+{
+    match words {
+        [command, _config, _input, _wire, _out] if command.as_str() == "answer" => {
+            Some(Command::Answer)
+        }
+        [command, _config, _out] if command.as_str() == "check" => Some(Command::Check),
+        _ => None,
+    }
+}
