@@ -18,19 +18,16 @@ const fn named<'a>(role: &'static str, path: &'a str) -> Named<'a> {
     Named { role, path }
 }
 
-/// A file that is written; `-` is standard output, where the command takes that.
-fn sink<'a, R: Files + Print>(
+/// What OUT names: `-` is standard output.
+fn out_sink<'a, R: Files + Print>(
     rt: &'a R,
     name: Named<'a>,
     others: &'a [Named<'a>],
-    may_print: bool,
 ) -> FileSink<'a, R, R::File, Printer<'a, R>> {
-    if name.path != "-" {
-        FileSink::new(rt, name, others)
-    } else if may_print {
+    if name.path == "-" {
         FileSink::printing(rt, io::writer(rt), others)
     } else {
-        FileSink::failing(rt, name, Reason::NotHere)
+        FileSink::new(rt, name, others)
     }
 }
 
@@ -179,8 +176,8 @@ pub fn run_over_files<R: Wait + Files + Print + AllocGlobal>(rt: &R, words: &[St
     let outside = Outside {
         config: FileSource::new(rt, alloc, files.config.path, TEXT_LIMIT + 1),
         input: FileSource::new(rt, alloc, files.input.path, KEPT),
-        wire: sink(rt, files.wire, &others, false),
-        out: sink(rt, files.out, &others, true),
+        wire: FileSink::new(rt, files.wire, &others),
+        out: out_sink(rt, files.out, &others),
     };
     let (status, outside) = run(rt, alloc, words, outside);
     let line = match files.line(rt, &status, &outside) {
