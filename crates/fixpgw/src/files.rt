@@ -18,22 +18,6 @@ const fn named<'a>(role: &'static str, path: &'a str) -> Named<'a> {
     Named { role, path }
 }
 
-/// A file that is written; `-` is standard output, where the command takes that.
-fn sink<'a, R: Files + Print>(
-    rt: &'a R,
-    name: Named<'a>,
-    others: &'a [Named<'a>],
-    may_print: bool,
-) -> FileSink<'a, R, R::File, Printer<'a, R>> {
-    if name.path != "-" {
-        FileSink::new(rt, name, others)
-    } else if may_print {
-        FileSink::printing(rt, io::writer(rt), others)
-    } else {
-        FileSink::failing(rt, name, Reason::NotHere)
-    }
-}
-
 /// A file and why it failed.
 fn device_line<R: AllocGlobal>(
     rt: &R,
@@ -168,19 +152,21 @@ impl<'a> Run<'a> {
     }
 }
 
-/// Runs the command over the files that its words name. They are closed when it returns, before anything is printed:
-/// where standard output is closed, a file may stand in its place.
-pub fn run_over_files<R: Wait + Files + Print + AllocGlobal>(rt: &R, words: &[String]) -> Report {
-    let Some(files) = Run::of(words) else {
-        return Report::bare(Status::Words);
-    };
+/// Runs the command, with this device for OUT. The files are closed when it returns, before anything is printed: where
+/// standard output is closed, a file may stand in its place.
+fn run_with<'a, R: Wait + Files + Print + AllocGlobal>(
+    rt: &'a R,
+    words: &[String],
+    files: Run<'a>,
+    others: &'a [Named<'a>],
+    out: FileSink<'a, R, R::File, Printer<'a, R>>,
+) -> Report {
     let alloc = rt.alloc();
-    let others = files.others();
     let outside = Outside {
         config: FileSource::new(rt, alloc, files.config.path, TEXT_LIMIT + 1),
         input: FileSource::new(rt, alloc, files.input.path, KEPT),
-        wire: sink(rt, files.wire, &others, false),
-        out: sink(rt, files.out, &others, true),
+        wire: FileSink::new(rt, files.wire, others),
+        out,
     };
     let (status, outside) = run(rt, alloc, words, outside);
     let line = match files.line(rt, &status, &outside) {
@@ -194,4 +180,18 @@ pub fn run_over_files<R: Wait + Files + Print + AllocGlobal>(rt: &R, words: &[St
         out: _,
     } = outside;
     Report { status, line }
+}
+
+/// Runs the command over the files that its words name; `-` as OUT is standard output.
+pub fn run_over_files<R: Wait + Files + Print + AllocGlobal>(rt: &R, words: &[String]) -> Report {
+    let Some(files) = Run::of(words) else {
+        return Report::bare(Status::Words);
+    };
+    let others = files.others();
+    if files.out.path == "-" {
+        let out = FileSink::printing(rt, io::writer(rt), &others);
+        return run_with(rt, words, files, &others, out);
+    }
+    let out = FileSink::new(rt, files.out, &others);
+    run_with(rt, words, files, &others, out)
 }

@@ -2,7 +2,7 @@
 
 ghost use Rattle.std.specs.Prelude.{◌≡◌, ◌<◌, ◌≤◌, length, IfOk};
 ghost use Rattle.std.specs.Io.KnownBytes.{Keeps, WriteAppends};
-ghost use Rattle.gw_real.specs.declared.sink.Target.TheVariants.{Unopened, Unused, Failing};
+ghost use Rattle.gw_real.specs.declared.sink.Target.TheVariants.{Unopened, Unused};
 ghost use Rattle.gw_real.specs.Told.{told_into};
 
 use crate::named::{Named, Reason, STANDARD_OUTPUT, leads_to};
@@ -89,21 +89,6 @@ impl<'a, R, F, P> FileSink<'a, R, F, P> {
         }
     }
 
-    /// A sink of which every call fails, for this reason.
-    pub fn failing(rt: &'a R, name: Named<'a>, reason: Reason<'a>) -> FileSink<'a, R, F, P>
-        ensures target { result.target ≡ Failing reason.entry }
-        ensures faults { result.faults ≡ 0 }
-    {
-        FileSink {
-            rt,
-            name,
-            others: &[],
-            target: Target::Failing(reason),
-            reason: None,
-            faults: 0,
-        }
-    }
-
     /// The file that it writes to.
     pub fn name(&self) -> Named<'a> {
         self.name
@@ -135,12 +120,15 @@ fn same_file<'a, R: Files>(
     None
 }
 
-/// Opens a file that is written, sees that it is none of the others, and empties it.
+/// Opens a file that is written, sees that it is none of the others, and empties it. `-` names no file.
 fn emptied<'a, R: Files>(
     rt: &R,
     name: Named<'a>,
     others: &'a [Named<'a>],
 ) -> Result<R::File, Reason<'a>> {
+    if name.path == "-" {
+        return Err(Reason::NotHere);
+    }
     let file = OpenOptions::new()
         .write(true)
         .create(true)
