@@ -1,0 +1,2 @@
+pub mod ElementsRead
+pub mod MessagesRead

@@ -1,0 +1,4 @@
+pub mod Parts
+pub mod Values
+pub mod Spelling
+pub mod Reading
