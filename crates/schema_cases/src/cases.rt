@@ -32,7 +32,10 @@ pub fn run<R: Files + Print + AllocGlobal>(rt: &R, text: &str) -> io::Result<()>
         }
         match line.split_once(": ") {
             Some(("before", before)) => frame = Frame { before, behind: "" },
-            Some(("behind", behind)) => frame = Frame { before: frame.before, behind },
+            Some(("behind", behind)) => frame = Frame {
+                before: frame.before,
+                behind,
+            },
             Some(("sample", file)) => print_sample(rt, file)?,
             Some((kind, rest)) => print_case(rt, frame, kind, rest)?,
             None => rt.println(line)?,

@@ -13,7 +13,13 @@ pub fn primitive_line(alloc: Global, name: &str) -> Result<String, AllocError> {
     };
     let word = str::from_utf8(primitive_name(p)).unwrap_or("?");
     let integer = if is_integral(p) { "integer" } else { "raw" };
-    format!(in alloc; "{word} {} {} {} {} {integer}", size(p), null(p), least(p), greatest(p))
+    format!(in alloc;
+        "{word} {} {} {} {} {integer}",
+        size(p),
+        null(p),
+        least(p),
+        greatest(p)
+    )
 }
 
 /// Whether a primitive holds a number: `NAME NUMBER`.
@@ -29,7 +35,11 @@ pub fn holds_line(alloc: Global, rest: &str) -> Result<String, AllocError> {
 pub fn number_line(alloc: Global, rest: &str) -> Result<String, AllocError> {
     let (name, others) = rest.split_once(" ").unwrap_or(("", rest));
     let (order, digits) = others.split_once(" ").unwrap_or(("", others));
-    let order = if order == "big" { Order::Big } else { Order::Little };
+    let order = if order == "big" {
+        Order::Big
+    } else {
+        Order::Little
+    };
     match (find_primitive(name.as_bytes()), hex::decode(alloc, digits)) {
         (Some(p), Ok(bytes)) => spelled(alloc, rest, p, order, bytes.as_slice()),
         _ => format!(in alloc; "no case: {rest}"),

@@ -3,8 +3,7 @@
 
 use crate::told::fault_text;
 use layout_text::message_lines;
-use lists::are_equal;
-use lists::Element;
+use lists::{Element, are_equal};
 use sbe_layout::{BlockPlan, MessagePlan, Plan};
 use schema_load::load;
 use schema_toml::{print_schema, read_schema};
