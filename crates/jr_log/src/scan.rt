@@ -12,7 +12,7 @@ ghost use Rattle.jr_log.specs.Opening.{Refuses, IsFront, Takes, Stops, IsRead};
 
 use crate::behind::GATE;
 use gw_outside::Disk;
-use jr_record::{OpenFault, Record, read_record, record_size};
+use jr_record::{OpenFault, Record, read_record, record_bounds, record_size};
 use std::alloc::{AllocError, Global};
 
 /// The bytes that are read at a time.
@@ -76,8 +76,10 @@ fn take_records<'a>(
     ensures takes { IfOk result (λ p. Takes held.now records.old.items records.new.items p.0.now) }
     ensures stops { IfOk result (λ p. Stops p.0.now more p.1) }
 {
+    // A record that begins in this many bytes ends in them.
+    record_bounds();
     let mut rest = held;
-    while !more || rest.len() >= LONGEST {
+    'taking: while !more || rest.len() >= LONGEST {
         match read_front(alloc, rest)? {
             Front::Closed => return Ok((rest, Stop::Closed)),
             Front::Damaged => return Ok((rest, Stop::Damaged)),
