@@ -1,15 +1,19 @@
 -- Reading on: what was taken, and what is left.
 use Rattle.std.proofs.Common.{◌≡◌, ◌≢◌, inl, inr, ◌⊎◌, ℕ, zero, suc, ◌+◌, ◌-◌, ◌<◌, ◌≤◌, ◌^◌, min, Bool, true, false, List, [], ◌∷◌, ◌++◌, Option, Some, None, length, take, drop, refl, sym, ◌∙◌, ap, subst, arith, append_assoc, length-append, take-append-drop}
-use Rattle.std.proofs.lemmas.List.{append-nil, take_at, drop_at, drop_all, drop-drop, length-take, length-drop, append_cancel_left}
+use Rattle.std.proofs.lemmas.List.{append-nil, take_at, drop_at, drop_all, drop-drop, length-take, length-drop, take-take}
 use Rattle.std.proofs.lemmas.Grind.{flat_map-append}
 use Rattle.std.specs.List.{AllByRecursion}
 use Rattle.std.specs.Option.{ForSome}
+use Rattle.std.specs.Prelude.{IfSome, nat_eq}
 use Rattle.gw_outside.specs.Disk.{ReadsAt}
 use Rattle.jr_record.specs.declared.record.Record.{Record}
 use Rattle.jr_record.specs.Records.{IsRecord, spelled}
 use Rattle.jr_record.specs.Laws.{SizesAreBounded}
 use Rattle.jr_record.specs.Images.{header, gated, Breaks, NoneSpelled, IsJournal, IsDamaged, journal_size}
-use Rattle.jr_log.specs.Opening.{IsClosed, Takes, Stops, IsRead}
+use Rattle.jr_record.specs.declared.faults.OpenFault.{OpenFault}
+use Rattle.jr_record.specs.declared.faults.OpenFault.TheVariants.{Memory, Fault, NotFormatted, Damaged}
+use Rattle.std.proofs.lemmas.Bool.Decides.{nat_tests}
+use Rattle.jr_log.specs.Opening.{Refuses, LacksHeader, IsClosed, Takes, Stops, IsRead}
 use Rattle.jr_log.proofs.Fronts.{gated-append, legal-append}
 
 -- one record more was taken
@@ -116,3 +120,42 @@ damaged_journal told records rest at place more is read breaks content told_is =
   place = omega (arith, is, read.place);
   breaks = breaks (drop at content) (λ off. read.ended off content told_is);
 }
+
+-- what was read of a content that is told
+pub told_reads : (told : Option (List ℕ)) (at : ℕ) (piece : List ℕ) (count : ℕ) → IfSome told (λ content. ReadsAt content at piece count) → ForSome told (λ content. ReadsAt content at piece count)
+told_reads None at piece count reads content is = absurd (cc (is))
+told_reads (Some other) at piece count reads content is = let same : other ≡ content = cc in subst (λ (xs : List ℕ). ReadsAt xs at piece count) same reads
+
+-- after the first piece
+pub begin_read : (told : Option (List ℕ)) (piece held : List ℕ) (count : ℕ) → ForSome told (λ content. ReadsAt content 0 piece count)
+    → length piece ≡ 65536 → count ≤ 65536 → take count piece ≡ header ++ held → IsRead told [] held count (nat_eq count 65536)
+begin_read told piece held count reads whole within is =
+    let size : length (take count piece) ≡ count = length-take count piece ∙ omega arith in
+    record {
+      legal = tt;
+      place = omega (arith, size, ap length is, length-append header held);
+      bound = omega arith;
+      short = λ on. omega arith;
+      content = λ content told_is.
+          sym (take-append-drop count content) ∙ ap (λ (xs : List ℕ). xs ++ drop count content) (sym (reads content told_is).front ∙ is);
+      ended = λ off content told_is.
+          let short : count < 65536 = grind (arith, nat_tests) in
+          drop_all count content (omega (arith, (reads content told_is).count));
+    }
+
+-- where the first piece lacks the header, so does the content
+pub lacks_header : (told : Option (List ℕ)) (piece : List ℕ) (count : ℕ) (fault : OpenFault) → ForSome told (λ content. ReadsAt content 0 piece count)
+    → length piece ≡ 65536 → LacksHeader (take count piece) fault → ForSome told (Refuses fault)
+lacks_header told piece count Memory reads whole lacks content is = tt
+lacks_header told piece count Fault reads whole lacks content is = tt
+lacks_header told piece count (Damaged at) reads whole lacks content is = absurd lacks
+lacks_header told piece count NotFormatted reads whole lacks content is = λ formatted.
+    let piece_is = reads content is in
+    let long : 16 ≤ count = omega (arith, ap length formatted, length-take 16 content, piece_is.count) in
+    lacks (ap (λ (xs : List ℕ). take 16 xs) piece_is.front ∙ take-take 16 count content long ∙ formatted)
+
+pub no_fault : (first : List ℕ) (fault : OpenFault) → LacksHeader first fault → fault ≡ Fault → ⊥
+no_fault first Memory lacks is = cc
+no_fault first Fault lacks is = lacks
+no_fault first NotFormatted lacks is = cc
+no_fault first (Damaged at) lacks is = lacks

@@ -9,7 +9,7 @@ invariant-pieces g l = record {
   told : g.D.Disk.told l.disk ≡ g.D.Disk.told l.fn.disk;
   images : LeavesSame (g.D.Disk.may_leave l.fn.disk) (g.D.Disk.may_leave l.disk);
   faults : g.D.Disk.faults l.fn.disk ≤ g.D.Disk.faults l.disk;
-  piece : length l.piece.items ≡ 65536;
+  piece : length l.piece ≡ 65536;
 }
 
 abbrev pub decreases-pieces : goal.decreases-pieces
