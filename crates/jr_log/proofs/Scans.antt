@@ -1,7 +1,6 @@
 -- Reading on: what was taken, and what is left.
-use Rattle.std.proofs.Common.{◌≡◌, ◌≢◌, inl, inr, ◌⊎◌, ℕ, zero, suc, ◌+◌, ◌-◌, ◌<◌, ◌≤◌, ◌^◌, min, Bool, true, false, List, [], ◌∷◌, ◌++◌, Option, Some, None, length, take, drop, refl, sym, ◌∙◌, ap, subst, arith, append_assoc, length-append, take-append-drop}
-use Rattle.std.proofs.lemmas.List.{append-nil, take_at, drop_at, drop_all, drop-drop, length-take, length-drop, take-take}
-use Rattle.std.proofs.lemmas.Grind.{flat_map-append}
+use Rattle.std.proofs.Common.{◌≡◌, inl, inr, ◌⊎◌, ℕ, ◌+◌, ◌-◌, ◌<◌, ◌≤◌, ◌^◌, Bool, true, false, List, [], ◌∷◌, ◌++◌, Option, Some, None, length, take, drop, refl, sym, ◌∙◌, ap, subst, arith, append_assoc, length-append, take-append-drop}
+use Rattle.std.proofs.lemmas.List.{append-nil, drop_all, drop-drop, length-take, take-take}
 use Rattle.std.specs.List.{AllByRecursion}
 use Rattle.std.specs.Option.{ForSome}
 use Rattle.std.specs.Prelude.{IfSome, nat_eq}
@@ -9,11 +8,11 @@ use Rattle.gw_outside.specs.Disk.{ReadsAt}
 use Rattle.jr_record.specs.declared.record.Record.{Record}
 use Rattle.jr_record.specs.Records.{IsRecord, spelled}
 use Rattle.jr_record.specs.Laws.{SizesAreBounded}
-use Rattle.jr_record.specs.Images.{header, gated, Breaks, NoneSpelled, IsJournal, IsDamaged, journal_size}
+use Rattle.jr_record.specs.Images.{header, gated, Breaks, IsJournal, IsDamaged}
 use Rattle.jr_record.specs.declared.faults.OpenFault.{OpenFault}
 use Rattle.jr_record.specs.declared.faults.OpenFault.TheVariants.{Memory, Fault, NotFormatted, Damaged}
 use Rattle.std.proofs.lemmas.Bool.Decides.{nat_tests}
-use Rattle.jr_log.specs.Opening.{Refuses, LacksHeader, IsClosed, Takes, Stops, IsRead}
+use Rattle.jr_log.specs.Opening.{Refuses, LacksHeader, IsClosed, Takes, IsRead}
 use Rattle.jr_log.proofs.Fronts.{gated-append, legal-append}
 
 -- one record more was taken

@@ -1,4 +1,4 @@
-use Rattle.std.proofs.Common.{◌≡◌, ℕ, List, ◌++◌, take, drop, sym, ◌∙◌, ap, take-append-drop, rules}
+use Rattle.std.proofs.Common.{◌≡◌, ℕ, List, ◌++◌, drop, sym, ◌∙◌, ap, take-append-drop, rules}
 use Rattle.jr_record.specs.Images.{header}
 use Rattle.jr_log.proofs.scan.behind_header.Goals as goal
 

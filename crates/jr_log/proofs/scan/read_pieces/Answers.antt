@@ -1,8 +1,8 @@
-use Rattle.std.proofs.Common.{◌≡◌, ◌≤◌, ℕ, [], List, Option, sym, ◌∙◌, ap, subst, arith, length, rules}
+use Rattle.std.proofs.Common.{◌≡◌, ◌≤◌, ℕ, [], List, Option, sym, subst, arith, length, rules}
 use Rattle.std.specs.Prelude.{nat_eq}
 use Rattle.std.proofs.lemmas.Result.{err_from_is_err_and}
 use Rattle.jr_log.specs.Opening.{IsRead}
-use Rattle.jr_log.proofs.Scans.{begin_read, lacks_header, no_fault, told_reads}
+use Rattle.jr_log.proofs.Scans.{begin_read, lacks_header, told_reads}
 use Rattle.jr_log.proofs.scan.read_pieces.Goals as goal
 
 pub scan-requires-clause-content : goal.scan-requires-clause-content

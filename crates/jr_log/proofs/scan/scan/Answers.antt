@@ -1,8 +1,6 @@
-use Rattle.std.proofs.Common.{◌≡◌, ◌⊎◌, inl, inr, ◌+◌, ◌≤◌, ◌<◌, ◌^◌, ◌++◌, ℕ, List, Bool, true, false, Option, Some, length, take, refl, sym, ◌∙◌, ap, subst, arith, rules}
+use Rattle.std.proofs.Common.{◌≡◌, ◌⊎◌, inl, inr, ◌+◌, ◌≤◌, ◌<◌, ◌^◌, ◌++◌, ℕ, List, Bool, true, false, Option, length, take, refl, sym, ◌∙◌, ap, subst, arith, rules}
 use Rattle.std.proofs.lemmas.Bool.Decides.{nat_tests}
 use Rattle.std.specs.Prelude.{nat_lt, nat_eq}
-use Rattle.std.specs.Option.{ForSome}
-use Rattle.gw_outside.specs.Disk.{ReadsAt}
 use Rattle.jr_log.specs.Opening.{Takes, Stops, IsRead}
 use Rattle.jr_log.proofs.Scans.{read_taken, read_piece, closed_journal, damaged_journal, told_reads}
 use Rattle.jr_log.proofs.scan.scan.Goals as goal
