@@ -1,15 +1,12 @@
 -- What an append of a record to a journal answers and leaves.
-use Rattle.std.proofs.Common.{◌≡◌, ◌⊎◌, ⊎_elim, List, [], ◌∷◌, ◌++◌, Option, Result, Ok, Err, ℕ, false, refl, sym, ◌∙◌, ap, subst}
+use Rattle.std.proofs.Common.{◌≡◌, ◌⊎◌, ⊎_elim, List, [], ◌++◌, Err, ℕ, false, refl, sym, ◌∙◌, ap, subst}
 use Rattle.std.proofs.lemmas.List.{append-nil}
-use Rattle.std.specs.Prelude.{IsSomeAnd}
-use Rattle.session_model.specs.Lives.{IsImage}
 use Rattle.gw_outside.specs.declared.disk.Disk.{Ghosts}
 use Rattle.jr_record.specs.declared.record.Record.{Record}
 use Rattle.jr_record.specs.Images.{IsJournal, Leaves}
 use Rattle.jr_record.specs.Journals.{Holds, Unchanged, OnRefused, OnFault}
 use Rattle.jr_record.specs.Laws.{AtMostOneVerdict}
 use Rattle.jr_log.specs.Adding.{told_as, OnMemory, OnFailure}
-use Rattle.jr_log.specs.Behind.{front_of, AllClosed}
 use Rattle.jr_log.specs.Log.{StandsFor, MayLeave}
 use Rattle.jr_log.specs.declared.faults.AddFault.{AddFault}
 use Rattle.jr_log.specs.declared.faults.AddFault.TheVariants.{Memory, Fault}

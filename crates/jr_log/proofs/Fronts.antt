@@ -1,13 +1,13 @@
 -- The records in front of the closed byte are those that an image holds.
-use Rattle.std.proofs.Common.{◌≡◌, ◌≢◌, inl, inr, ◌⊎◌, ℕ, zero, suc, ◌+◌, ◌<◌, ◌≤◌, List, [], ◌∷◌, ◌++◌, Option, Some, None, length, take, drop, get_or, refl, sym, ◌∙◌, ap, subst, arith, append_assoc, length-append, take-append-drop}
-use Rattle.std.proofs.lemmas.List.{take_at, drop_more, get_or_at, append-nil}
+use Rattle.std.proofs.Common.{◌≡◌, ℕ, ◌+◌, ◌<◌, ◌≤◌, List, [], ◌∷◌, ◌++◌, Option, Some, None, length, take, drop, get_or, refl, sym, ◌∙◌, ap, arith, append_assoc, length-append, take-append-drop}
+use Rattle.std.proofs.lemmas.List.{take_at, drop_more, get_or_at}
 use Rattle.std.proofs.lemmas.Grind.{flat_map-append}
 use Rattle.std.specs.Prelude.{IsSomeAnd}
 use Rattle.std.specs.List.{AllByRecursion}
 use Rattle.session_model.specs.Lives.{IsImage}
 use Rattle.jr_record.specs.declared.record.Record.{Record}
 use Rattle.jr_record.specs.Records.{IsRecord, spelled}
-use Rattle.jr_record.specs.Images.{header, gated, IsJournal, Leaves, journal_size, record_size}
+use Rattle.jr_record.specs.Images.{header, gated, IsJournal, Leaves, journal_size}
 use Rattle.jr_record.specs.Laws.{AtMostOneVerdict}
 use Rattle.jr_log.specs.Behind.{front_of, IsClosedBehind, GoesOn}
 use mathlib.Core.List.{IsPrefix}

@@ -1,4 +1,5 @@
 mod Appends
 mod Fronts
 mod Headers
+mod Scans
 mod Writes

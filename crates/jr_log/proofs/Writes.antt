@@ -1,8 +1,8 @@
 -- What the two writes behind the records of a journal leave.
-use Rattle.std.proofs.Common.{◌≡◌, ◌≢◌, inl, inr, ◌⊎◌, ℕ, ◌+◌, ◌<◌, ◌≤◌, List, [], ◌∷◌, ◌++◌, Option, Some, None, length, take, drop, get_or, refl, sym, ◌∙◌, ap, subst, arith, append_assoc, length-append, take-append-drop}
+use Rattle.std.proofs.Common.{◌≡◌, inl, inr, ◌⊎◌, ℕ, ◌+◌, ◌<◌, ◌≤◌, List, [], ◌∷◌, ◌++◌, Option, Some, None, length, take, drop, get_or, refl, sym, ◌∙◌, ap, subst, arith, append_assoc, length-append, take-append-drop}
 use Rattle.std.proofs.lemmas.Bool.{cases_eq}
-use Rattle.std.proofs.lemmas.List.{take_at, drop_at, drop_more, take_more, take-take, get_or-take, get_or_at, length-take, length-drop}
-use Rattle.std.specs.Option.{option_map, ForSome}
+use Rattle.std.proofs.lemmas.List.{take_at, drop_at, drop_more, take_more, take-take, get_or-take}
+use Rattle.std.specs.Option.{option_map}
 use Rattle.gw_outside.specs.Disk.{written, Torn, Follows, IsAllLeft}
 use Rattle.jr_log.specs.Behind.{IsClosedBehind, GoesOn, AllClosed}
 

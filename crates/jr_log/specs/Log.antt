@@ -1,5 +1,5 @@
 -- What a journal on one disk is seen as.
-use Rattle.std.specs.Prelude.{◌≡◌, List, Option}
+use Rattle.std.specs.Prelude.{◌≡◌, Bool, List, Option}
 use Rattle.gw_outside.specs.declared.disk.Disk.{Ghosts}
 use Rattle.jr_record.specs.declared.record.Record.{Record}
 use Rattle.jr_record.specs.declared.limits.Limits.{Limits}
@@ -15,6 +15,10 @@ disk_of j = j.disk
 
 abbrev pub limits_of : {D : Type 0} {G : Ghosts D} → LogJournal D G → Limits
 limits_of j = j.limits
+
+-- whether a call of its disk has failed
+abbrev pub broken_of : {D : Type 0} {G : Ghosts D} → LogJournal D G → Bool
+broken_of j = j.broken
 
 -- it stands for the records that it keeps
 abbrev pub StandsFor : {D : Type 0} {G : Ghosts D} → LogJournal D G → List Record → Type 0

@@ -1,5 +1,5 @@
 -- What opening a journal finds in the content that its disk tells.
-use Rattle.std.specs.Prelude.{◌≡◌, ◌≢◌, ℕ, ◌+◌, ◌<◌, ◌≤◌, ◌^◌, Bool, true, false, List, [], ◌∷◌, ◌++◌, length, drop, Option, ⊤}
+use Rattle.std.specs.Prelude.{◌≡◌, ◌≢◌, ℕ, ◌+◌, ◌<◌, ◌≤◌, ◌^◌, Bool, true, false, List, [], ◌∷◌, ◌++◌, length, take, drop, Option, ⊤}
 use Rattle.std.specs.Option.{ForSome}
 use Rattle.std.specs.List.{AllByRecursion}
 use Rattle.jr_record.specs.declared.record.Record.{Record}
@@ -18,6 +18,13 @@ Refuses Memory content = ⊤
 Refuses Fault content = ⊤
 Refuses NotFormatted content = IsNotFormatted content
 Refuses (Damaged at) content = IsDamaged content at
+
+-- what a refusal says of the first piece
+abbrev pub LacksHeader : List ℕ → OpenFault → Type 0
+LacksHeader first Memory = ⊤
+LacksHeader first Fault = ⊥
+LacksHeader first NotFormatted = take 16 first ≢ header
+LacksHeader first (Damaged at) = ⊥
 
 -- the closed byte stands at the front
 pub record IsClosed (bytes : List ℕ) : Type 0 where

@@ -10,8 +10,11 @@ ghost use Rattle.jr_log.specs.Behind.{front_of, AllClosed, legal_prop};
 
 use crate::behind::{gated, write_behind};
 use crate::faults::AddFault;
+use crate::scan::read_journal;
 use gw_outside::Disk;
-use jr_record::{AppendFault, FetchFault, Journal, Limits, Record, one_verdict, record_size};
+use jr_record::{
+    AppendFault, FetchFault, Journal, Limits, OpenFault, Record, one_verdict, record_size,
+};
 use std::alloc::Global;
 
 /// A journal on one disk, which keeps its records in memory.
@@ -30,8 +33,45 @@ pub struct LogJournal<D: Disk> {
 }
 
 impl<D: Disk> LogJournal<D> {
-    ghost use Rattle.jr_log.specs.Log.{disk_of};
+    ghost use Rattle.jr_record.specs.Journals.{Holds};
+    ghost use Rattle.jr_record.specs.declared.faults.OpenFault.TheVariants.{Fault};
+    ghost use Rattle.jr_log.specs.Opening.{Refuses};
+    ghost use Rattle.jr_log.specs.Log.{StandsFor, MayLeave, broken_of, disk_of, limits_of, records_of};
     ghost use Rattle.jr_log.specs.Adding.{OnFailure, OnMemory};
+
+    /// Syncs the disk and opens the journal that it holds.
+    ///
+    /// # Errors
+    /// The disk comes back with each. `Memory`; `Fault` where a call of the disk failed; `NotFormatted` where the first 16
+    /// bytes are not the header; `Damaged` at the first place where a gate or the closed byte is awaited and the disk
+    /// ends, or a gate stands with no record behind it. A content is one of these at most, or a journal's.
+    pub fn open(alloc: Global, disk: D, limits: Limits) -> Result<LogJournal<D>, (D, OpenFault)>
+        ensures list { IfOk result (λ j. ForSome (D.told disk) (λ content. IsJournal content (records_of j))) }
+        ensures holds { IfOk result (λ j. Holds StandsFor MayLeave j (records_of j) []) }
+        ensures limits { IfOk result (λ j. limits_of j ≡ limits) }
+        ensures not_broken { IfOk result (λ j. broken_of j ≡ false) }
+        ensures content { IfOk result (λ j. D.told (disk_of j) ≡ D.told disk) }
+        ensures never_falls { IfOk result (λ j. D.faults disk ≤ D.faults (disk_of j)) }
+        ensures refused { IfErr result (λ e. ForSome (D.told disk) (Refuses e.1)) }
+        ensures cause { IfErr result (λ e. e.1 ≡ Fault → HasRisen (D.faults disk) (D.faults e.0)) }
+        ensures returned { IfErr result (λ e. (D.told e.0 ≡ D.told disk) × (D.faults disk ≤ D.faults e.0)) }
+        ensures returned_images { IfErr result (λ e. (image : List ℕ) → D.may_leave e.0 image → D.may_leave disk image) }
+    {
+        // An image holds one list at most.
+        one_verdict();
+        let mut disk = disk;
+        match read_journal(alloc, &mut disk) {
+            Ok(found) => Ok(LogJournal {
+                alloc,
+                disk,
+                limits,
+                records: found.records,
+                size: found.size,
+                broken: false,
+            }),
+            Err(fault) => Err((disk, fault)),
+        }
+    }
 
     /// Gives the disk back.
     pub fn close(self) -> D

@@ -1,18 +1,18 @@
 //! Reading the records of a journal, once from front to back.
 
-ghost use Rattle.std.specs.Prelude.{◌≡◌, ◌≢◌, ℕ, ◌+◌, ◌<◌, ◌≤◌, ◌^◌, List, [], ◌∷◌, ◌++◌, length, nat_eq, IfOk, IfErr, OnOk, OnErr};
+ghost use Rattle.std.specs.Prelude.{◌≡◌, ◌≢◌, ℕ, ◌+◌, ◌<◌, ◌≤◌, ◌^◌, List, [], ◌∷◌, ◌++◌, length, take, nat_eq, IfOk, IfErr, OnOk, OnErr};
 ghost use Rattle.std.specs.Option.{ForSome};
 ghost use Rattle.std.specs.List.{AllByRecursion};
 ghost use Rattle.gw_outside.specs.Disk.{IsAllLeft, LeavesSame};
 ghost use Rattle.gw_outside.specs.Faults.{HasRisen};
 ghost use Rattle.jr_record.specs.Records.{IsRecord};
-ghost use Rattle.jr_record.specs.Images.{IsJournal, journal_size};
+ghost use Rattle.jr_record.specs.Images.{IsJournal, header, journal_size};
 ghost use Rattle.jr_record.specs.declared.faults.OpenFault.TheVariants.{Fault};
-ghost use Rattle.jr_log.specs.Opening.{Refuses, IsFront, Takes, Stops, IsRead};
+ghost use Rattle.jr_log.specs.Opening.{Refuses, LacksHeader, IsFront, Takes, Stops, IsRead};
 
 use crate::behind::GATE;
 use gw_outside::Disk;
-use jr_record::{OpenFault, Record, read_record, record_size};
+use jr_record::{OpenFault, Record, read_record, record_bounds, record_size};
 use std::alloc::{AllocError, Global};
 
 /// The bytes that are read at a time.
@@ -76,8 +76,10 @@ fn take_records<'a>(
     ensures takes { IfOk result (λ p. Takes held.now records.old.items records.new.items p.0.now) }
     ensures stops { IfOk result (λ p. Stops p.0.now more p.1) }
 {
+    // A record that begins in this many bytes ends in them.
+    record_bounds();
     let mut rest = held;
-    while !more || rest.len() >= LONGEST {
+    'taking: while !more || rest.len() >= LONGEST {
         match read_front(alloc, rest)? {
             Front::Closed => return Ok((rest, Stop::Closed)),
             Front::Damaged => return Ok((rest, Stop::Damaged)),
@@ -108,14 +110,47 @@ pub fn read_journal<D: Disk>(alloc: Global, disk: &mut D) -> Result<Found, OpenF
     ensures never_falls { D.faults disk.old ≤ D.faults disk.new }
 {
     disk.sync()?;
-    let mut piece = vec![in alloc; 0; PIECE]?;
-    let read = disk.read_at(0, piece.as_mut_slice())?;
-    let (first, _) = piece.as_slice().split_at(read);
+    let mut piece = new_piece(alloc)?;
+    read_pieces(alloc, disk, piece.as_mut_slice())
+}
+
+/// Reads the journal that the disk holds, in pieces of the length of `piece`.
+fn read_pieces<D: Disk>(alloc: Global, disk: &mut D, piece: &mut [u8]) -> Result<Found, OpenFault>
+    requires piece { length piece.old ≡ 65536 }
+    ensures list { IfOk result (λ found. ForSome (D.told disk.old) (λ content. IsJournal content found.records.items)) }
+    ensures legal { IfOk result (λ found. AllByRecursion IsRecord found.records.items) }
+    ensures size { IfOk result (λ found. found.size ≡ journal_size found.records.items) }
+    ensures bound { IfOk result (λ found. found.size ≤ 2 ^ 41) }
+    ensures refused { IfErr result (λ fault. ForSome (D.told disk.old) (Refuses fault)) }
+    ensures cause { IfErr result (λ fault. fault ≡ Fault → HasRisen (D.faults disk.old) (D.faults disk.new)) }
+    ensures content { D.told disk.new ≡ D.told disk.old }
+    ensures images { LeavesSame (D.may_leave disk.old) (D.may_leave disk.new) }
+    ensures never_falls { D.faults disk.old ≤ D.faults disk.new }
+{
+    let read = disk.read_at(0, piece)?;
+    let held = behind_header(alloc, piece, read)?;
+    scan(alloc, disk, piece, held, read)
+}
+
+/// Room for a piece.
+fn new_piece(alloc: Global) -> Result<Vec<u8>, AllocError>
+    ensures size { IfOk result (λ piece. length piece.items ≡ 65536) }
+{
+    vec![in alloc; 0; PIECE]
+}
+
+/// What stands behind the header in the first `read` bytes of the first piece.
+///
+/// # Errors
+/// `NotFormatted` where the header does not stand there; `Memory`.
+fn behind_header(alloc: Global, piece: &[u8], read: usize) -> Result<Vec<u8>, OpenFault>
+    requires within { read ≤ length piece.now }
+    ensures ok { IfOk result (λ held. take read piece.now ≡ header ++ held.items) }
+    ensures err { IfErr result (LacksHeader (take read piece.now)) }
+{
+    let (first, _) = piece.split_at(read);
     match first.split_first_chunk::<16>() {
-        Some((front, behind)) if *front == HEADER => {
-            let held = behind.to_vec(alloc)?;
-            scan(alloc, disk, &mut piece, held, read)
-        }
+        Some((front, behind)) if *front == HEADER => Ok(behind.to_vec(alloc)?),
         _ => Err(OpenFault::NotFormatted),
     }
 }
@@ -124,11 +159,11 @@ pub fn read_journal<D: Disk>(alloc: Global, disk: &mut D) -> Result<Found, OpenF
 fn scan<D: Disk>(
     alloc: Global,
     disk: &mut D,
-    piece: &mut Vec<u8>,
+    piece: &mut [u8],
     held: Vec<u8>,
     read: usize,
 ) -> Result<Found, OpenFault>
-    requires piece { length piece.old.items ≡ 65536 }
+    requires piece { length piece.old ≡ 65536 }
     requires content { IsRead (D.told disk.old) [] held.items read (nat_eq read 65536) }
     ensures list { IfOk result (λ found. ForSome (D.told disk.old) (λ content. IsJournal content found.records.items)) }
     ensures legal { IfOk result (λ found. AllByRecursion IsRecord found.records.items) }
@@ -158,8 +193,8 @@ fn scan<D: Disk>(
             Stop::Short => {}
         }
         let mut next = rest.to_vec(alloc)?;
-        let count = disk.read_at(at, piece.as_mut_slice())?;
-        let (bytes, _) = piece.as_slice().split_at(count);
+        let count = disk.read_at(at, piece)?;
+        let (bytes, _) = piece.split_at(count);
         next.extend_from_slice(bytes)?;
         held = next;
         at += count as u64;

@@ -12,7 +12,7 @@ mod writing;
 
 pub use faults::{AppendFault, FetchFault, FormatFault, OpenFault};
 pub use journal::Journal;
-pub use laws::{one_record, one_verdict};
+pub use laws::{one_record, one_verdict, record_bounds};
 pub use limits::Limits;
 pub use reading::read_record;
 pub use record::Record;

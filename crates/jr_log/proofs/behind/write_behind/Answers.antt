@@ -1,4 +1,4 @@
-use Rattle.std.proofs.Common.{sym, ◌∙◌}
+use Rattle.std.proofs.Common.{◌∙◌}
 use Rattle.std.proofs.lemmas.Result.{err_from_is_err_and}
 use Rattle.jr_log.proofs.Writes.{with_gate, gate_left, gate_stands}
 use Rattle.jr_log.proofs.behind.write_behind.Goals as goal

@@ -1,9 +1,9 @@
-use Rattle.std.proofs.Common.{◌≡◌, ◌⊎◌, ⊎_elim, inl, inr, ℕ, List, [], ◌∷◌, ◌++◌, ◌+◌, ◌-◌, length, ap, sym, ◌∙◌, subst, arith, length-append, rules}
+use Rattle.std.proofs.Common.{◌≡◌, ⊎_elim, inl, inr, List, [], ◌∷◌, ◌++◌, ◌+◌, ◌-◌, length, ap, sym, ◌∙◌, subst, arith, length-append}
 use Rattle.std.specs.List.{AllByRecursion}
 use Rattle.std.proofs.lemmas.Result.{err_from_is_err_and}
 use Rattle.jr_record.specs.declared.record.Record.{Record}
 use Rattle.jr_record.specs.Records.{IsRecord, spelled}
-use Rattle.jr_record.specs.Images.{gated, IsJournal, journal_size}
+use Rattle.jr_record.specs.Images.{gated, journal_size}
 use Rattle.jr_log.specs.Behind.{front_of, IsClosedBehind}
 use Rattle.jr_log.proofs.Fronts.{first_gate, length-front_of, journal_size-append, legal-append, closed_holds, goes_on_holds, holds_closed}
 use Rattle.jr_log.proofs.log.LogJournal.add.Goals as goal
