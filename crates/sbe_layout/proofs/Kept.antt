@@ -1,8 +1,8 @@
 -- What the tables of a checked schema keep, list by list.
 use Rattle.std.proofs.Common.{◌≡◌, ℕ, ◌+◌, ℤ, pos, refl, ap, ◌∙◌, true, false, not, ◌&&◌, ◌||◌, nat_lt, List, [], ◌∷◌, ◌++◌}
-use Rattle.std.specs.Prelude.{⊤}
+use Rattle.std.specs.Prelude.{⊤, Bool, IsTrue}
 use Rattle.std.proofs.lemmas.Bool.{and_parts, or_parts, not-true}
-use Rattle.std.specs.List.{AllByRecursion}
+use Rattle.std.specs.List.{AllByRecursion, list_any}
 use Rattle.schema_types.specs.declared.schema.Schema.{Schema}
 use Rattle.schema_types.specs.declared.types.TypeDef.{TypeDef}
 use Rattle.schema_types.specs.declared.types.TypeKind.{TypeKind}
@@ -23,7 +23,47 @@ use Rattle.std.specs.Int.{int_max}
 use Rattle.std.specs.FinSet as set
 use Rattle.sbe_schema.specs.declared.fault.Part.TheVariants.{Types, Members, Fields, Data}
 use Rattle.sbe_schema.specs.Walk.{spot, place, walk_members, walk_kind, walk_type, walk_types, walk_fields, walk_data}
-use Rattle.sbe_schema.specs.Checked.{occurs, keeps, all_keep, rules_in_order}
+use Rattle.sbe_schema.specs.Walk.{walk}
+use Rattle.sbe_schema.specs.Faults.{has_fault}
+use Rattle.sbe_schema.specs.Checked.{occurs, rules_in_order, has_none_of, is_checked}
+use Rattle.sbe_schema.proofs.Found.{walk_finds}
+
+-- a place keeps some rules, and all of some places keep all
+abbrev pub keeps : Schema → List SchemaKind → Place → Bool
+keeps s [] p = true
+keeps s (kind ∷ kinds) p = not (occurs s kind p) && keeps s kinds p
+
+abbrev pub all_keep : Schema → List Place → Bool
+all_keep s [] = true
+all_keep s (p ∷ ps) = keeps s rules_in_order p && all_keep s ps
+
+-- no place breaks any of some rules
+abbrev BreakNone : Schema → List SchemaKind → List Place → Type 0
+BreakNone s kinds ps = AllByRecursion (λ kind. list_any (occurs s kind) ps ≡ false) kinds
+
+no_fault : (s : Schema) (kinds : List SchemaKind) → has_none_of s kinds ≡ true → BreakNone s kinds (walk s)
+no_fault s [] e = tt
+no_fault s (k ∷ ks) e =
+    let h = and_parts (not (has_fault s k)) (has_none_of s ks) e in
+    (walk_finds s k ∙ not-true (has_fault s k) h.0, no_fault s ks h.1)
+
+first_keeps : (s : Schema) (kinds : List SchemaKind) (p : Place) (ps : List Place) → BreakNone s kinds (p ∷ ps) → (keeps s kinds p ≡ true) × BreakNone s kinds ps
+first_keeps s [] p ps h = (refl, tt)
+first_keeps s (k ∷ ks) p ps h =
+    let both = or_parts (occurs s k p) (list_any (occurs s k) ps) h.0 in
+    let more = first_keeps s ks p ps h.1 in
+    (ap (λ b. not b && keeps s ks p) both.0 ∙ more.0, (both.1, more.1))
+
+each_keeps : (s : Schema) (ps : List Place) → BreakNone s rules_in_order ps → all_keep s ps ≡ true
+each_keeps s [] h = refl
+each_keeps s (p ∷ ps) h =
+    let first = first_keeps s rules_in_order p ps h in
+    ap (λ b. b && all_keep s ps) first.0 ∙ each_keeps s ps first.1
+
+-- the tables of a checked schema keep all rules
+pub checked_keep : (s : Schema) → IsTrue (is_checked s) → all_keep s (walk s) ≡ true
+unfolding is_checked
+checked_keep s checked = each_keeps s (walk s) (no_fault s rules_in_order checked)
 
 -- a table breaks none of some rules
 abbrev pub KeepsAll : Schema → List SchemaKind → Place → Type 0

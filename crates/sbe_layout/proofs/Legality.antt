@@ -26,11 +26,11 @@ use Rattle.std.specs.Int.{int_max}
 use Rattle.sbe_schema.specs.declared.fault.Part.TheVariants.{Messages, Groups}
 use Rattle.sbe_schema.specs.Places.{whole, message_table, group_table}
 use Rattle.sbe_schema.specs.Walk.{spot, place, walk, walk_types, walk_messages, walk_message, walk_block, walk_groups, walk_fields, walk_data, entry_of, root_of, names_of_fields, names_of_groups, ids_of_fields, ids_of_groups, ids_of_data}
-use Rattle.sbe_schema.specs.Checked.{all_keep, is_checked}
+use Rattle.sbe_schema.specs.Checked.{is_checked}
 use Rattle.sbe_layout.specs.declared.plan.Plan.{Plan}
 use Rattle.sbe_layout.specs.Plans.{plan_of, message_plans, groups_plan, items_of_fields, marks_of, data_of}
 use Rattle.sbe_layout.specs.Legal.{IsLegalDatum, IsLegalBlock, AreLegalGroups, IsLegalMessage, AreOfOthers, HaveOwnTemplates, LegalPlan}
-use Rattle.sbe_layout.proofs.Kept.{kept_first, kept_parts, FieldsFit, fields_fit, DataFit, data_fit, TypesFit, types_fit}
+use Rattle.sbe_layout.proofs.Kept.{all_keep, checked_keep, kept_first, kept_parts, FieldsFit, fields_fit, DataFit, data_fit, TypesFit, types_fit}
 use Rattle.sbe_layout.proofs.Within.{begins_behind, is_at_most, fields_small, fields_items, fields_marks}
 
 data_legal : (ds : List DataDef) → DataFit ds → AllByRecursion IsLegalDatum (data_of ds)
@@ -128,9 +128,9 @@ templates_differ s names ids at (m ∷ ms) e =
     (others s (set.insert names m.name) (set.insert ids (pos m.id)) (at + 1) ms m.id (set.contains-insert int_cmp_total ids (pos m.id) (pos m.id) ∙ or_left (eq_by_cmp int_cmp (pos m.id) (pos m.id)) (set.contains ids (pos m.id)) (same_id m.id)) split.1, templates_differ s (set.insert names m.name) (set.insert ids (pos m.id)) (at + 1) ms split.1)
 
 pub legal : (s : Schema) → IsTrue (is_checked s) → LegalPlan (plan_of s)
-unfolding is_checked walk
+unfolding walk
 legal s checked =
-    let tables = kept_first s (record { spots = []; names = set.empty; numbers = set.empty; table = whole }) (walk_types s.types set.empty 0 s.types ++ walk_messages s.types set.empty set.empty 0 s.messages) checked in
+    let tables = kept_first s (record { spots = []; names = set.empty; numbers = set.empty; table = whole }) (walk_types s.types set.empty 0 s.types ++ walk_messages s.types set.empty set.empty 0 s.messages) (checked_keep s checked) in
     let split = kept_parts s (walk_types s.types set.empty 0 s.types) (walk_messages s.types set.empty set.empty 0 s.messages) tables.1 in
     let types = types_fit s set.empty 0 s.types split.0 in
     record {
