@@ -1,5 +1,5 @@
 -- The reading of a message in the decoder's steps is the grammar's.
-use Rattle.std.proofs.Common.{◌≡◌, ℕ, ◌==◌, Bool, true, false, if◌then◌else◌, Option, Some, None, Result, Ok, Err, List, length, refl, ap, sym, ◌∙◌}
+use Rattle.std.proofs.Common.{◌≡◌, ℕ, ◌==◌, Bool, true, false, if◌then◌else◌, Option, Some, None, Result, Ok, Err, List, length, refl, ap, sym, subst, ◌∙◌, ◌↔◌, IfOk}
 use Rattle.sbe_value.specs.declared.message.Message.{Message}
 use Rattle.sbe_value.specs.declared.item.Item.{Item}
 use Rattle.sbe_value.specs.declared.datum.Datum.{Datum}
@@ -13,6 +13,10 @@ use Rattle.sbe_grammar.specs.declared.fault.DecodeFault.{DecodeFault}
 use Rattle.sbe_grammar.specs.declared.fault.DecodeFault.TheVariants.{OtherSchema}
 use Rattle.sbe_grammar.specs.Values.{items_in}
 use Rattle.sbe_grammar.specs.Reading.{Read, next, alone, read_bytes, read_whole, read_block, read_groups, read_data, read_body, read_by, read_headed, header_in, message_in, Entry, Header}
+use Rattle.sbe_grammar.specs.Spelling.{Spells}
+use Rattle.sbe_decode.specs.declared.error.DecodeError.{DecodeError}
+use Rattle.sbe_decode.specs.declared.error.DecodeError.TheVariants.{Fault}
+use Rattle.sbe_decode.specs.Answers.{Answers}
 use Rattle.sbe_decode.specs.Walks.{along, behind, laid, layout_by, layout_found, message_by, read_header, read_parts, read_message}
 use Rattle.sbe_decode.specs.Views.{message_told, IsSeen}
 
@@ -27,9 +31,9 @@ with_groups items tail read = next read (λ groups rest. with_data items groups 
 abbrev parts : (List ℕ → Read GroupList) → (List ℕ → Read (List Datum)) → Read (List Item) → Read Entry
 parts groups tail read = next read (λ items after. with_groups items tail (groups after))
 
-body_data : (template : ℕ) (items : List Item) (groups : GroupList) (read : Read (List Datum)) → next read (λ vars rest. Ok (message_by template (record { items = items; groups = groups; vars = vars }), rest)) ≡ along (message_by template) (with_data items groups read)
-body_data template items groups (Ok x) = refl
-body_data template items groups (Err f) = refl
+body_data : (template : ℕ) (items : List Item) (gs : GroupList) (read : Read (List Datum)) → next read (λ vars rest. Ok (message_by template (record { items = items; groups = gs; vars = vars }), rest)) ≡ along (message_by template) (with_data items gs read)
+body_data template items gs (Ok x) = refl
+body_data template items gs (Err f) = refl
 
 body_groups : (template : ℕ) (items : List Item) (tail : List ℕ → Read (List Datum)) (read : Read GroupList) → next read (λ groups behind. next (tail behind) (λ vars rest. Ok (message_by template (record { items = items; groups = groups; vars = vars }), rest))) ≡ along (message_by template) (with_groups items tail read)
 body_groups template items tail (Ok x) = body_data template items x.0 (tail x.1)
@@ -141,3 +145,21 @@ is_seen schema bytes h left layout block after rest end b e g d =
     let vs = behind_ok (read_data schema.order h.version (length bytes) layout.root.vars rest) end d in
     let root : Entry = record { items = items; groups = gs.0; vars = vs.0 } in
     seen_by schema bytes (message_by h.template root) h.template h.version layout block (by_root schema bytes h left layout (Ok (root, end)) b (ap (from_block schema (length bytes) h layout) e ∙ ap (with_groups items tail) gs.1 ∙ ap (with_data items gs.0) vs.1)) refl refl
+
+-- ---- what decoding answers
+
+-- what is told by the decoder's steps is told by the grammar
+pub told_so : (schema : Plan) (bytes : List ℕ) (answer : Result Message DecodeError) → Answers answer (read_message schema bytes) → Answers answer (message_in schema bytes)
+told_so schema bytes answer h = subst (Answers answer) (message_is schema bytes) h
+
+-- what is answered is spelled, where reading and spelling agree
+pub spelled_so : (schema : Plan) (bytes : List ℕ) → ((m : Message) → (message_in schema bytes ≡ Ok m) ↔ Spells schema bytes m) → (answer : Result Message DecodeError) → Answers answer (message_in schema bytes) → IfOk answer (Spells schema bytes)
+spelled_so schema bytes law (Ok m) told = (law m).0 told
+spelled_so schema bytes law (Err e) told = tt
+
+-- and bytes with a fault spell nothing
+pub unspelled_so : (schema : Plan) (bytes : List ℕ) → ((m : Message) → (message_in schema bytes ≡ Ok m) ↔ Spells schema bytes m) → (answer : Result Message DecodeError) → Answers answer (message_in schema bytes) → (f : DecodeFault) → answer ≡ Err (Fault f) → (m : Message) → Spells schema bytes m → ⊥
+unspelled_so schema bytes law answer told f e m s =
+    let fault : message_in schema bytes ≡ Err f = subst (λ a. Answers a (message_in schema bytes)) e told in
+    let read : message_in schema bytes ≡ Ok m = (law m).1 s in
+    cc
