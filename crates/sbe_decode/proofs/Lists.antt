@@ -1,5 +1,5 @@
 -- The groups, the entries and the data that are read so far, and those that are left.
-use Rattle.std.proofs.Common.{◌≡◌, ℕ, zero, suc, ◌+◌, ◌-◌, ◌<◌, ◌≤◌, Ok, Err, List, [], ◌∷◌, ◌++◌, length, drop, get_or, refl, ap, sym, ◌∙◌, arith, add-one, drop-cons, append_assoc, append-nil}
+use Rattle.std.proofs.Common.{◌≡◌, ℕ, zero, suc, ◌+◌, ◌-◌, ◌<◌, ◌≤◌, Ok, Err, List, [], ◌∷◌, ◌++◌, length, drop, get_or, refl, ap, sym, ◌∙◌, arith, add-one, drop-cons, append_assoc}
 use Rattle.std.proofs.Math.ListN.{drop_of_length-le}
 use Rattle.sbe_prim.specs.declared.Order.{Order}
 use Rattle.sbe_value.specs.declared.datum.Datum.{Datum}
@@ -10,15 +10,14 @@ use Rattle.sbe_value.specs.Trees.{GroupList, BlockList, no_groups, absent, entri
 use Rattle.sbe_value.specs.Views.{groups_of, blocks_of}
 use Rattle.sbe_layout.specs.declared.items.DataPlan.{DataPlan}
 use Rattle.sbe_layout.specs.declared.blocks.GroupPlan.{GroupPlan}
-use Rattle.sbe_layout.specs.declared.blocks.BlockPlan.{BlockPlan}
-use Rattle.sbe_layout.specs.Trees.{PlanHead, PlanTree, no_plans, plan, weight_of}
+use Rattle.sbe_layout.specs.Trees.{weight_of}
 use Rattle.sbe_layout.specs.Views.{head_of, plans_of}
 use Rattle.sbe_grammar.specs.declared.fault.DecodeFault.{DecodeFault}
-use Rattle.sbe_grammar.specs.Reading.{Read, next, Entry, read_datum, read_if_in, read_data, read_group, read_groups, group_before, repeated}
+use Rattle.sbe_grammar.specs.Reading.{Read, Entry, read_datum, read_if_in, read_data, read_group, read_groups, group_before, repeated}
 use Rattle.sbe_decode.specs.declared.error.DecodeError.{DecodeError}
 use Rattle.sbe_decode.specs.Answers.{Fails}
 use Rattle.sbe_decode.specs.Walks.{along, behind, entry_of}
-use Rattle.sbe_decode.proofs.Steps.{along_same, along_step, along_fails, behind_step, behind_fails}
+use Rattle.sbe_decode.proofs.Steps.{along_step, along_fails, behind_step, behind_fails}
 
 -- the element at a place, and those behind it
 at : {A : Type 0} (xs : List A) (i : ℕ) (x : A) → i < length xs → x ≡ get_or xs i x → drop i xs ≡ x ∷ drop (i + 1) xs
@@ -38,34 +37,11 @@ one_datum order version total d left = read_if_in version d (read_datum order to
 abbrev pub data_before : List Datum → Read (List Datum) → Read (List Datum)
 data_before made read = along (λ vs. made ++ vs) read
 
-pub data_start : (r : Read (List Datum)) → data_before [] r ≡ r
-data_start r = along_same (λ vs. vs) (λ vs. refl) r
-
 pub data_step : (order : Order) (version total : ℕ) (made : List Datum) (v : Datum) (ds : List DataPlan) (i : ℕ) (d : DataPlan) (left after : List ℕ) (whole : Read (List Datum)) → i < length ds → d ≡ get_or ds i d → one_datum order version total d left ≡ Ok (v, after) → data_before made (read_data order version total (drop i ds) left) ≡ whole → data_before (made ++ v ∷ []) (read_data order version total (drop (i + 1) ds) after) ≡ whole
 data_step order version total made v ds i d left after whole h is e inv =
     along_step (λ vs. made ++ vs) (λ vs. (made ++ v ∷ []) ++ vs) (λ x xs. x ∷ xs) (read_data order version total (drop (i + 1) ds)) (one_datum order version total d left) v after e (λ xs. sym (append_assoc made (v ∷ []) xs))
     ∙ ap (λ z. data_before made (read_data order version total z left)) (sym (at ds i d h is))
     ∙ inv
-
-pub data_fails : (order : Order) (version total : ℕ) (made : List Datum) (ds : List DataPlan) (i : ℕ) (d : DataPlan) (left : List ℕ) (e : DecodeError) (whole : Read (List Datum)) → i < length ds → d ≡ get_or ds i d → Fails e (one_datum order version total d left) → data_before made (read_data order version total (drop i ds) left) ≡ whole → Fails e whole
-data_fails order version total made ds i d left e whole h is f inv =
-    along_fails (λ vs. made ++ vs) (one_datum order version total d left) _ e whole (ap (λ z. data_before made (read_data order version total z left)) (sym (at ds i d h is)) ∙ inv) f
-
-pub data_end : (order : Order) (version total : ℕ) (made : List Datum) (ds : List DataPlan) (i : ℕ) (left : List ℕ) (whole : Read (List Datum)) → length ds ≤ i → data_before made (read_data order version total (drop i ds) left) ≡ whole → whole ≡ Ok (made, left)
-data_end order version total made ds i left whole h inv =
-    sym inv ∙ ap (λ z. data_before made (read_data order version total z left)) (none_left ds i h) ∙ ap (λ z. Ok (z, left)) (append-nil made)
-
-pub data_walked : (order : Order) (version total : ℕ) (ds : List DataPlan) (i : ℕ) (d : DataPlan) (left after : List ℕ) → i < length ds → d ≡ get_or ds i d → behind (one_datum order version total d left) ≡ Ok after → behind (read_data order version total (drop (i + 1) ds) after) ≡ behind (read_data order version total (drop i ds) left)
-data_walked order version total ds i d left after h is e =
-    sym (behind_step (λ x xs. x ∷ xs) (read_data order version total (drop (i + 1) ds)) (one_datum order version total d left) after e)
-    ∙ ap (λ z. behind (read_data order version total z left)) (sym (at ds i d h is))
-
-pub data_walk_fails : (order : Order) (version total : ℕ) (ds : List DataPlan) (i : ℕ) (d : DataPlan) (left : List ℕ) (f : DecodeFault) → i < length ds → d ≡ get_or ds i d → behind (one_datum order version total d left) ≡ Err f → behind (read_data order version total (drop i ds) left) ≡ Err f
-data_walk_fails order version total ds i d left f h is e =
-    ap (λ z. behind (read_data order version total z left)) (at ds i d h is) ∙ behind_fails (one_datum order version total d left) _ f e
-
-pub data_walk_end : (order : Order) (version total : ℕ) (ds : List DataPlan) (i : ℕ) (left : List ℕ) → length ds ≤ i → behind (read_data order version total (drop i ds) left) ≡ Ok left
-data_walk_end order version total ds i left h = ap (λ z. behind (read_data order version total z left)) (none_left ds i h)
 
 -- ---- groups
 
@@ -94,9 +70,6 @@ groups_push (Entries bs ∷ gs) g hs = ap (entries bs) (groups_push gs g hs)
 abbrev pub groups_before : List Group → Read GroupList → Read GroupList
 groups_before made read = along (append_groups (groups_of made)) read
 
-pub groups_start : (r : Read GroupList) → groups_before [] r ≡ r
-groups_start r = along_same (λ gs. gs) (λ gs. refl) r
-
 pub groups_step : (order : Order) (version total : ℕ) (made : List Group) (g : Group) (ps : List GroupPlan) (i : ℕ) (p : GroupPlan) (left after : List ℕ) (whole : Read GroupList) → i < length ps → p ≡ get_or ps i p → one_group order version total p left ≡ Ok (g, after) → groups_before made (read_groups order version total (plans_of (drop i ps)) left) ≡ whole → groups_before (made ++ g ∷ []) (read_groups order version total (plans_of (drop (i + 1) ps)) after) ≡ whole
 groups_step order version total made g ps i p left after whole h is e inv =
     along_step (append_groups (groups_of made)) (append_groups (groups_of (made ++ g ∷ []))) group_before (read_groups order version total (plans_of (drop (i + 1) ps))) (one_group order version total p left) g after e (groups_push made g)
@@ -119,9 +92,6 @@ groups_walked order version total ps i p left after h is e =
 pub groups_walk_fails : (order : Order) (version total : ℕ) (ps : List GroupPlan) (i : ℕ) (p : GroupPlan) (left : List ℕ) (f : DecodeFault) → i < length ps → p ≡ get_or ps i p → behind (one_group order version total p left) ≡ Err f → behind (read_groups order version total (plans_of (drop i ps)) left) ≡ Err f
 groups_walk_fails order version total ps i p left f h is e =
     ap (λ z. behind (read_groups order version total (plans_of z) left)) (at ps i p h is) ∙ behind_fails (one_group order version total p left) _ f e
-
-pub groups_walk_end : (order : Order) (version total : ℕ) (ps : List GroupPlan) (i : ℕ) (left : List ℕ) → length ps ≤ i → behind (read_groups order version total (plans_of (drop i ps)) left) ≡ Ok left
-groups_walk_end order version total ps i left h = ap (λ z. behind (read_groups order version total (plans_of z) left)) (none_left ps i h)
 
 -- a group's entries weigh less than the list that the group stands in
 weight_within : (ps : List GroupPlan) (i : ℕ) (p : GroupPlan) (rest : List GroupPlan) → drop i ps ≡ p ∷ rest → weight_of p.block.groups < weight_of (plans_of ps)
@@ -151,9 +121,6 @@ blocks_push (c ∷ bs) b cs = ap (block c.items c.groups c.vars) (blocks_push bs
 abbrev pub entries_before : List Block → Read BlockList → Read BlockList
 entries_before made read = along (append_blocks (blocks_of made)) read
 
-pub entries_start : (r : Read BlockList) → entries_before [] r ≡ r
-entries_start r = along_same (λ bs. bs) (λ bs. refl) r
-
 one_more : (count i : ℕ) → i < count → count - i ≡ suc (count - (i + 1))
 one_more count i h = omega arith
 
@@ -180,6 +147,3 @@ entries_walked read count i left after h e =
 pub entries_walk_fails : (read : List ℕ → Read Entry) (count i : ℕ) (left : List ℕ) (f : DecodeFault) → i < count → behind (read left) ≡ Err f → behind (repeated (count - i) read left) ≡ Err f
 entries_walk_fails read count i left f h e =
     ap (λ n. behind (repeated n read left)) (one_more count i h) ∙ behind_fails (read left) _ f e
-
-pub entries_walk_end : (read : List ℕ → Read Entry) (count i : ℕ) (left : List ℕ) → count ≤ i → behind (repeated (count - i) read left) ≡ Ok left
-entries_walk_end read count i left h = let none : count - i ≡ 0 = omega arith in ap (λ n. behind (repeated n read left)) none

@@ -7,11 +7,6 @@ use Rattle.sbe_decode.specs.declared.error.DecodeError.TheVariants.{Fault, Memor
 use Rattle.sbe_decode.specs.Answers.{Fails}
 use Rattle.sbe_decode.specs.Walks.{along, behind}
 
--- what is read, unchanged
-pub along_same : {A : Type 0} (f : A → A) → ((x : A) → f x ≡ x) → (r : Read A) → along f r ≡ r
-along_same f same (Ok x) = ap (λ y. Ok (y, x.1)) (same x.0)
-along_same f same (Err e) = refl
-
 along_twice : {A : Type 0} (f g h : A → A) → ((x : A) → f (h x) ≡ g x) → (r : Read A) → along g r ≡ along f (next r (λ x rest. Ok (h x, rest)))
 along_twice f g h same (Ok x) = ap (λ y. Ok (y, x.1)) (sym (same x.0))
 along_twice f g h same (Err e) = refl
