@@ -32,7 +32,8 @@ pub fn read_dimension<'a>(
     plan: &GroupPlan,
     left: &'a [u8],
 ) -> Result<(Dimension, &'a [u8]), DecodeFault>
-    ensures { Tells (λ x. (dimension_of x.0, x.1.now)) result (read_dimension reading.order reading.total (head_of plan.now) left.now) }
+    ensures { Tells (λ x. (dimension_of x.0, x.1.now)) result
+        (read_dimension reading.order reading.total (head_of plan.now) left.now) }
 {
     let size_bytes = size(plan.block_prim);
     let count_bytes = size(plan.count_prim);
@@ -55,7 +56,8 @@ fn read_groups<'a>(
     plans: &[GroupPlan],
     left: &'a [u8],
 ) -> Result<(Vec<Group>, &'a [u8]), DecodeError>
-    ensures { Gives (λ x. (groups_of x.0.items, x.1.now)) result (read_groups reading.order reading.version reading.total (plans_of plans.now) left.now) }
+    ensures { Gives (λ x. (groups_of x.0.items, x.1.now)) result
+        (read_groups reading.order reading.version reading.total (plans_of plans.now) left.now) }
 {
     let mut groups = Vec::with_capacity(alloc, plans.len())?;
     let mut left = left;
@@ -75,7 +77,9 @@ fn read_group<'a>(
     plan: &GroupPlan,
     left: &'a [u8],
 ) -> Result<(Group, &'a [u8]), DecodeError>
-    ensures { Gives (λ x. (x.0, x.1.now)) result (read_group reading.order reading.version reading.total (head_of plan.now) (read_groups reading.order reading.version reading.total plan.now.block.groups) left.now) }
+    ensures { Gives (λ x. (x.0, x.1.now)) result
+        (read_group reading.order reading.version reading.total (head_of plan.now)
+        (read_groups reading.order reading.version reading.total plan.now.block.groups) left.now) }
 {
     if !is_in(reading.version, plan.since) {
         return Ok((Group::Absent, left));
@@ -95,7 +99,9 @@ fn read_entries<'a>(
     dimension: Dimension,
     left: &'a [u8],
 ) -> Result<(Vec<Block>, &'a [u8]), DecodeError>
-    ensures { Gives (λ x. (blocks_of x.0.items, x.1.now)) result (repeated dimension.count (read_parts reading.order reading.version reading.total dimension.size plan.now) left.now) }
+    ensures { Gives (λ x. (blocks_of x.0.items, x.1.now)) result
+        (repeated dimension.count
+        (read_parts reading.order reading.version reading.total dimension.size plan.now) left.now) }
 {
     let mut entries = Vec::with_capacity(alloc, dimension.count as usize)?;
     let mut left = left;
@@ -116,7 +122,8 @@ pub fn read_block<'a>(
     size: u64,
     left: &'a [u8],
 ) -> Result<(Block, &'a [u8]), DecodeError>
-    ensures { Gives (λ x. (entry_of x.0, x.1.now)) result (read_parts reading.order reading.version reading.total size plan.now left.now) }
+    ensures { Gives (λ x. (entry_of x.0, x.1.now)) result
+        (read_parts reading.order reading.version reading.total size plan.now left.now) }
 {
     let (block, left) = read_whole(reading, size, plan.marks.as_slice(), left)?;
     let items = items_in(alloc, reading, block, plan.items.as_slice())?;

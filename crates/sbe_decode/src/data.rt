@@ -20,7 +20,8 @@ fn datum_bytes<'a>(
     plan: &DataPlan,
     left: &'a [u8],
 ) -> Result<(&'a [u8], &'a [u8]), DecodeFault>
-    ensures { Tells (λ x. (Present x.0.now, x.1.now)) result (read_datum reading.order reading.total plan.now left.now) }
+    ensures { Tells (λ x. (Present x.0.now, x.1.now)) result
+        (read_datum reading.order reading.total plan.now left.now) }
 {
     let (length, after) = read_bytes(reading.total, size(plan.length) as u64, left)?;
     let count = unsigned(reading.order, plan.length, length);
@@ -34,7 +35,8 @@ fn datum<'a>(
     plan: &DataPlan,
     left: &'a [u8],
 ) -> Result<(Datum, &'a [u8]), DecodeError>
-    ensures { Gives (λ x. (x.0, x.1.now)) result (read_if_in reading.version plan.now (read_datum reading.order reading.total plan.now left.now) left.now) }
+    ensures { Gives (λ x. (x.0, x.1.now)) result
+        (read_if_in reading.version plan.now (read_datum reading.order reading.total plan.now left.now) left.now) }
 {
     if !is_in(reading.version, plan.since) {
         return Ok((Datum::Absent, left));
@@ -50,7 +52,8 @@ pub fn read_data<'a>(
     plans: &[DataPlan],
     left: &'a [u8],
 ) -> Result<(Vec<Datum>, &'a [u8]), DecodeError>
-    ensures { Gives (λ x. (x.0.items, x.1.now)) result (read_data reading.order reading.version reading.total plans.now left.now) }
+    ensures { Gives (λ x. (x.0.items, x.1.now)) result
+        (read_data reading.order reading.version reading.total plans.now left.now) }
 {
     let mut data = Vec::with_capacity(alloc, plans.len())?;
     let mut left = left;
@@ -68,7 +71,9 @@ fn skip_datum<'a>(
     plan: &DataPlan,
     left: &'a [u8],
 ) -> Result<&'a [u8], DecodeFault>
-    ensures { Tells (λ rest. rest.now) result (behind (read_if_in reading.version plan.now (read_datum reading.order reading.total plan.now left.now) left.now)) }
+    ensures { Tells (λ rest. rest.now) result
+        (behind (read_if_in reading.version plan.now
+        (read_datum reading.order reading.total plan.now left.now) left.now)) }
 {
     if !is_in(reading.version, plan.since) {
         return Ok(left);
@@ -83,7 +88,8 @@ pub fn skip_data<'a>(
     plans: &[DataPlan],
     left: &'a [u8],
 ) -> Result<&'a [u8], DecodeFault>
-    ensures { Tells (λ rest. rest.now) result (behind (read_data reading.order reading.version reading.total plans.now left.now)) }
+    ensures { Tells (λ rest. rest.now) result
+        (behind (read_data reading.order reading.version reading.total plans.now left.now)) }
 {
     let mut left = left;
     for plan in plans {

@@ -43,6 +43,7 @@ pub fn read_header(order: Order, message: &[u8]) -> Result<(Header, &[u8]), Deco
     ))
 }
 
+// The number of two bytes.
 fn number(order: Order, bytes: &[u8]) -> u16
     requires { length bytes.now ≡ 2 }
     ensures { result ≡ unsigned order UInt16 bytes.now }

@@ -32,7 +32,8 @@ pub fn read_whole<'a>(
     marks: &[Mark],
     left: &'a [u8],
 ) -> Result<(&'a [u8], &'a [u8]), DecodeFault>
-    ensures { Tells (λ x. (x.0.now, x.1.now)) result (read_whole reading.version reading.total size marks.now left.now) }
+    ensures { Tells (λ x. (x.0.now, x.1.now)) result
+        (read_whole reading.version reading.total size marks.now left.now) }
 {
     let needed = needed_by(reading.version, marks);
     if (size as u128) < needed {

@@ -20,7 +20,8 @@ pub fn skip_groups<'a>(
     plans: &[GroupPlan],
     left: &'a [u8],
 ) -> Result<&'a [u8], DecodeFault>
-    ensures { Tells (λ rest. rest.now) result (behind (read_groups reading.order reading.version reading.total (plans_of plans.now) left.now)) }
+    ensures { Tells (λ rest. rest.now) result
+        (behind (read_groups reading.order reading.version reading.total (plans_of plans.now) left.now)) }
 {
     let mut left = left;
     for plan in plans {
@@ -29,13 +30,16 @@ pub fn skip_groups<'a>(
     Ok(left)
 }
 
+// The bytes behind a group, which takes none where the message's version does not have it.
 #[cycle(skips)]
 fn skip_group<'a>(
     reading: Reading,
     plan: &GroupPlan,
     left: &'a [u8],
 ) -> Result<&'a [u8], DecodeFault>
-    ensures { Tells (λ rest. rest.now) result (behind (read_group reading.order reading.version reading.total (head_of plan.now) (read_groups reading.order reading.version reading.total plan.now.block.groups) left.now)) }
+    ensures { Tells (λ rest. rest.now) result
+        (behind (read_group reading.order reading.version reading.total (head_of plan.now)
+        (read_groups reading.order reading.version reading.total plan.now.block.groups) left.now)) }
 {
     if !is_in(reading.version, plan.since) {
         return Ok(left);
@@ -44,6 +48,7 @@ fn skip_group<'a>(
     skip_entries(reading, &plan.block, dimension, after)
 }
 
+// The bytes behind the entries of a group.
 #[cycle(skips)]
 fn skip_entries<'a>(
     reading: Reading,
@@ -51,7 +56,9 @@ fn skip_entries<'a>(
     dimension: Dimension,
     left: &'a [u8],
 ) -> Result<&'a [u8], DecodeFault>
-    ensures { Tells (λ rest. rest.now) result (behind (repeated dimension.count (read_parts reading.order reading.version reading.total dimension.size plan.now) left.now)) }
+    ensures { Tells (λ rest. rest.now) result
+        (behind (repeated dimension.count
+        (read_parts reading.order reading.version reading.total dimension.size plan.now) left.now)) }
 {
     let mut left = left;
     for _ in 0..dimension.count {
@@ -60,6 +67,7 @@ fn skip_entries<'a>(
     Ok(left)
 }
 
+// The bytes behind an entry: its block, its groups and its data.
 #[cycle(skips)]
 fn skip_block<'a>(
     reading: Reading,
@@ -67,7 +75,8 @@ fn skip_block<'a>(
     size: u64,
     left: &'a [u8],
 ) -> Result<&'a [u8], DecodeFault>
-    ensures { Tells (λ rest. rest.now) result (behind (read_parts reading.order reading.version reading.total size plan.now left.now)) }
+    ensures { Tells (λ rest. rest.now) result
+        (behind (read_parts reading.order reading.version reading.total size plan.now left.now)) }
 {
     let (_, left) = read_whole(reading, size, plan.marks.as_slice(), left)?;
     let left = skip_groups(reading, plan.groups.as_slice(), left)?;
