@@ -1,1 +1,5 @@
+pub mod Feeds
+pub mod Made
+pub mod Numerals
+pub mod Steps
 pub mod Weights

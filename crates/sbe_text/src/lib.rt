@@ -3,7 +3,14 @@
 //! `sbe_layout` and the values of `sbe_value`.
 #![tactic(auto)]
 
+mod error;
+mod line;
+mod parse;
+mod path;
 mod print;
+mod token;
 mod values;
 
+pub use error::TextError;
+pub use parse::parse_message;
 pub use print::print_message;

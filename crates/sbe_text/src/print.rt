@@ -8,6 +8,7 @@ ghost use Rattle.sbe_layout.specs.Views.{head_of, plans_of};
 ghost use Rattle.sbe_grammar.specs.Fits.{Fits};
 ghost use Rattle.sbe_text.specs.Written.{value_text, datum_text, element_line, before_in, lines_of_items, lines_of_data, lines_of_groups, lines_of_entries, message_line, lines_of_message};
 
+use crate::path::names_begin;
 use crate::values::{write_datum, write_value};
 use itoa::Buffer;
 use sbe_layout::{BlockPlan, DataPlan, GroupPlan, ItemPlan, Plan};
@@ -170,7 +171,7 @@ fn write_entries(
 {
     write_count(blocks.len(), lines)?;
     for (at, block) in blocks.as_slice().iter().enumerate() {
-        let inner = names_begin(alloc, before, g, at)?;
+        let inner = names_begin(alloc, before, g, at as u128)?;
         write_block(alloc, inner.as_slice(), &g.block, block, lines)?;
     }
     Ok(())
@@ -182,22 +183,4 @@ fn write_count(count: usize, lines: &mut Lines) -> Result<(), AllocError>
     let mut digits = Buffer::new();
     lines.extend_from_slice(digits.format(count).as_bytes())?;
     lines.push(b'\n')
-}
-
-// What stands before the names in the entry at a place.
-fn names_begin(
-    alloc: Global,
-    before: &[u8],
-    g: &GroupPlan,
-    at: usize,
-) -> Result<Bytes, AllocError>
-    ensures { IfOk result (λ inner. inner ≡ before_in before.now (head_of g.now) at) }
-{
-    let mut digits = Buffer::new();
-    let mut inner = Bytes::from_slice(alloc, before)?;
-    inner.extend_from_slice(g.name.as_slice())?;
-    inner.push(b'[')?;
-    inner.extend_from_slice(digits.format(at).as_bytes())?;
-    inner.extend_from_slice(b"].")?;
-    Ok(inner)
 }

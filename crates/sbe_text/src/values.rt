@@ -48,7 +48,8 @@ fn write_text(text: &[u8], lines: &mut Lines) -> Result<(), AllocError>
     lines.push(b'"')
 }
 
-fn are_plain(text: &[u8]) -> bool
+/// Whether all bytes may stand between quotes.
+pub fn are_plain(text: &[u8]) -> bool
     ensures { result ≡ are_plain text.now }
 {
     for byte in text {

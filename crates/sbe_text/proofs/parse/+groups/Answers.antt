@@ -1,0 +1,25 @@
+use Rattle.std.proofs.Common.{arith}
+use Rattle.std.proofs.lemmas.Result.{err_from_is_err_and}
+use Rattle.sbe_layout.specs.Views.{head_of}
+use Rattle.sbe_text.specs.Lines.{lines_in}
+use Rattle.sbe_text.specs.Reading.{read_groups, entry_at}
+use Rattle.sbe_text.proofs.Made.{groups_step, groups_fail, groups_end, entries_step, entries_fail, entries_end}
+use Rattle.sbe_text.proofs.Weights.{weight_at}
+use Rattle.sbe_text.proofs.parse.+groups.Goals as goal
+
+pub read_groups-read_group-requires : goal.read_groups-read_group-requires
+read_groups-read_group-requires t c =
+    (omega (arith, c.decreases, weight_at c.args.plans.now c.loop-plan.plan-index c.plan-item.result c.loop-plan-test.true c.plan-item.is), tt)
+
+pub read_groups-returns-in_err-group : goal.read_groups-returns-in_err-group
+read_groups-returns-in_err-group t c =
+    let p = err_from_is_err_and c.from_residual-in_err-group.result c.from_residual-in_err-group.ensures.1 in
+    rw (p.1, p.2) (groups_fail c.args.before.now c.loop-plan.groups.items c.args.plans.now c.loop-plan.plan-index c.plan-item.result (lines_in c.loop-plan.left.now) c.in_err-group.field-0.0 _ c.loop-plan-test.true c.plan-item.is c.in_err-group.ensures c.loop-plan.invariant)
+
+pub read_groups-loop-plan-preserved : goal.read_groups-loop-plan-preserved
+read_groups-loop-plan-preserved t c =
+    rw c.in_ok-push.ensures.items (groups_step c.args.before.now c.loop-plan.groups.items c.in_ok-group.group c.args.plans.now c.loop-plan.plan-index c.plan-item.result (lines_in c.loop-plan.left.now) (lines_in c.in_ok-group.rest.now) _ c.loop-plan-test.true c.plan-item.is c.in_ok-group.ensures c.loop-plan.invariant)
+
+pub read_groups-returns : goal.read_groups-returns
+read_groups-returns t c =
+    groups_end c.args.before.now c.loop-plan.groups.items c.args.plans.now c.loop-plan.plan-index (lines_in c.loop-plan.left.now) _ c.loop-plan-test.false c.loop-plan.invariant
