@@ -1,4 +1,5 @@
 pub mod Feeds
+pub mod Fitting
 pub mod Made
 pub mod Numerals
 pub mod Steps

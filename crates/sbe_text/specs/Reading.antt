@@ -11,6 +11,7 @@ use Rattle.sbe_layout.specs.declared.items.ItemPlan.{ItemPlan}
 use Rattle.sbe_layout.specs.declared.items.DataPlan.{DataPlan}
 use Rattle.sbe_layout.specs.declared.plan.MessagePlan.{MessagePlan}
 use Rattle.sbe_layout.specs.declared.plan.Plan.{Plan}
+use Rattle.sbe_layout.specs.Plans.{message_of}
 use Rattle.sbe_layout.specs.Trees.{PlanHead, PlanTree, no_plans, plan}
 use Rattle.sbe_grammar.specs.Fits.{form_of}
 use Rattle.sbe_grammar.specs.Reading.{Entry, group_before}
@@ -74,8 +75,10 @@ abbrev pub named : List MessagePlan → List ℕ → Option MessagePlan
 named [] name = None
 named (m ∷ ms) name = if bytes_eq m.name name then Some m else named ms name
 
+-- the layout of the template that the line of a message names
 abbrev pub layout_on : List MessagePlan → List ℕ → Option MessagePlan
-layout_on messages line = also (behind (codes "message ") line) (named messages)
+layout_on messages line =
+    also (also (behind (codes "message ") line) (named messages)) (λ m. message_of m.template messages)
 
 abbrev pub message_with : ℕ → Entry → Message
 message_with template e = record { template = template; root = record { items = e.items; groups = e.groups; vars = e.vars } }

@@ -5,6 +5,7 @@ ghost use Rattle.std.specs.Prelude.{◌≡◌, ◌+◌, ◌-◌, [], length, IfO
 ghost use Rattle.std.specs.Option.{option_copied};
 ghost use Rattle.sbe_value.specs.Views.{groups_of, blocks_of};
 ghost use Rattle.sbe_layout.specs.Views.{head_of, plans_of};
+ghost use Rattle.sbe_grammar.specs.Fits.{Fits};
 ghost use Rattle.sbe_text.specs.Answers.{Gives, Tells, Numbers, entry_of};
 ghost use Rattle.sbe_text.specs.Lines.{lines_in, read_line, read_each};
 ghost use Rattle.sbe_text.specs.Tokens.{value_on, is_line};
@@ -14,7 +15,7 @@ use crate::error::{Refusal, TextError};
 use crate::line::{count_lines, first_line, refused};
 use crate::path::names_begin;
 use crate::token::{Count, behind, datum, entry_count, value, value_on};
-use sbe_layout::{BlockPlan, DataPlan, GroupPlan, ItemPlan, MessagePlan, Plan};
+use sbe_layout::{BlockPlan, DataPlan, GroupPlan, ItemPlan, MessagePlan, MessagePlans, Plan};
 use sbe_value::{Block, Blocks, Bytes, Datum, Datums, Group, Groups, Item, Items, Message};
 use std::alloc::{AllocError, Global};
 
@@ -25,7 +26,15 @@ use std::alloc::{AllocError, Global};
 /// # Errors
 /// `Line` with the number of the first line that is not as it has to be, and `Memory`.
 pub fn parse_message(alloc: Global, plan: &Plan, lines: &[u8]) -> Result<Message, TextError>
+    // The message, or the number of the line, is the one that the definition tells.
     ensures told { Tells result (message_of_text plan.now lines.now) }
+    ensures fits { IfOk result (Fits plan.now) }
+{
+    parse(alloc, plan, lines)
+}
+
+fn parse(alloc: Global, plan: &Plan, lines: &[u8]) -> Result<Message, TextError>
+    ensures { Tells result (message_of_text plan.now lines.now) }
 {
     match read_whole(alloc, plan, lines) {
         Ok(message) => Ok(message),
@@ -63,7 +72,7 @@ fn read_message<'a>(
 ) -> Result<(Message, &'a [u8]), Refusal>
     ensures { Gives (λ x. (x.0, lines_in x.1.now)) result (read_message plan.now.messages (lines_in left.now)) }
 {
-    let (layout, rest) = read_layout(plan.messages.as_slice(), left)?;
+    let (layout, rest) = read_layout(&plan.messages, left)?;
     let (root, rest) = read_block(alloc, b"", &layout.root, rest)?;
     let rest = read_end(rest)?;
     Ok((
@@ -77,7 +86,7 @@ fn read_message<'a>(
 
 // The layout that the line of a message names.
 fn read_layout<'p, 'a>(
-    messages: &'p [MessagePlan],
+    messages: &'p MessagePlans,
     left: &'a [u8],
 ) -> Result<(&'p MessagePlan, &'a [u8]), Refusal>
     ensures { Gives (λ x. (x.0.now, lines_in x.1.now)) result (read_line (layout_on messages.now) (lines_in left.now)) }
@@ -91,10 +100,13 @@ fn read_layout<'p, 'a>(
     }
 }
 
-fn layout_on<'p>(messages: &'p [MessagePlan], line: &[u8]) -> Option<&'p MessagePlan>
+// The layout of the template that the line of a message names.
+fn layout_on<'p>(messages: &'p MessagePlans, line: &[u8]) -> Option<&'p MessagePlan>
     ensures { option_copied result ≡ layout_on messages.now line.now }
 {
-    named(messages, behind(b"message ", line)?)
+    let name = behind(b"message ", line)?;
+    let message = named(messages.as_slice(), name)?;
+    messages.find(message.template)
 }
 
 // The first message of a name.
