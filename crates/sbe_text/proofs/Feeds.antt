@@ -91,6 +91,6 @@ lines_within (x ∷ xs) =
     let rest = lines_within xs in
     let first = length-in_first x (lines_in xs) in
     elim (x == 10) as (λ t. length (if t then [] ∷ lines_in xs else (if x == 13 && begins_with 10 xs then lines_in xs else in_first x (lines_in xs))) ≤ length (x ∷ xs)) [
-      true ↦ omega arith
-    | false ↦ elim (x == 13 && begins_with 10 xs) as (λ t. length (if t then lines_in xs else in_first x (lines_in xs)) ≤ length (x ∷ xs)) [ true ↦ omega arith | false ↦ omega arith ]
+      | true ↦ omega arith
+      | false ↦ elim (x == 13 && begins_with 10 xs) as (λ t. length (if t then lines_in xs else in_first x (lines_in xs)) ≤ length (x ∷ xs)) [ true ↦ omega arith | false ↦ omega arith ]
     ]

@@ -65,16 +65,16 @@ at_most_fits : (size : ℕ) (bytes kept : List ℕ) → at_most size bytes ≡ S
 at_most_fits size bytes kept =
     let P : Bool → Type 0 = λ t. nat_le (length bytes) size ≡ t → (if t then Some bytes else None) ≡ Some kept → nat_le (length kept) size ≡ true in
     elim (nat_le (length bytes) size) as P [
-      true ↦ λ h e. let same : bytes ≡ kept = cc in rw (← same) h
-    | false ↦ λ h e. absurd (cc)
+      | true ↦ λ h e. let same : bytes ≡ kept = cc in rw (← same) h
+      | false ↦ λ h e. absurd (cc)
     ] refl
 
 exactly_fits : (size : ℕ) (bytes kept : List ℕ) → exactly size bytes ≡ Some kept → (length kept == size) ≡ true
 exactly_fits size bytes kept =
     let P : Bool → Type 0 = λ t. (length bytes == size) ≡ t → (if t then Some bytes else None) ≡ Some kept → (length kept == size) ≡ true in
     elim (length bytes == size) as P [
-      true ↦ λ h e. let same : bytes ≡ kept = cc in rw (← same) h
-    | false ↦ λ h e. absurd (cc)
+      | true ↦ λ h e. let same : bytes ≡ kept = cc in rw (← same) h
+      | false ↦ λ h e. absurd (cc)
     ] refl
 
 absent_fits : (f : Form) → has_form f Absent ≡ true
@@ -97,8 +97,8 @@ present_fits (raw size) line i e =
 value_fits : (f : Form) (line : List ℕ) (i : Item) → value_of f line ≡ Some i → has_form f i ≡ true
 value_fits f line i =
     elim (bytes_eq line (codes "absent")) as (λ t. (if t then Some Absent else present_of f line) ≡ Some i → has_form f i ≡ true) [
-      true ↦ λ e. let same : Absent ≡ i = cc in rw (← same) (absent_fits f)
-    | false ↦ λ e. present_fits f line i e
+      | true ↦ λ e. let same : Absent ≡ i = cc in rw (← same) (absent_fits f)
+      | false ↦ λ e. present_fits f line i e
     ]
 
 item_fits : (before : List ℕ) (p : ItemPlan) (ls rest : List (List ℕ)) (i : Item) → read_item before p ls ≡ Ok (i, rest) → has_form (form_of p) i ≡ true
@@ -112,17 +112,17 @@ items_fit before [] ls rest is e =
     let same : [] ≡ is = told [] is ls rest (Ok ([], ls)) refl e in rw (← same) refl
 items_fit before (p ∷ ps) ls rest is e =
     next_ok (read_item before p ls) _ (is, rest) _ e (λ i after h k.
-      next_ok (read_each (read_item before) ps after) _ (is, rest) _ k (λ more end m n.
-        let same : i ∷ more ≡ is = told (i ∷ more) is end rest (Ok (i ∷ more, end)) refl n in
-        rw (← same) (both (has_form (form_of p) i) (fit_items more ps) (item_fits before p ls after i h) (items_fit before ps after end more m))))
+    next_ok (read_each (read_item before) ps after) _ (is, rest) _ k (λ more end m n.
+    let same : i ∷ more ≡ is = told (i ∷ more) is end rest (Ok (i ∷ more, end)) refl n in
+    rw (← same) (both (has_form (form_of p) i) (fit_items more ps) (item_fits before p ls after i h) (items_fit before ps after end more m))))
 
 data_fit : (before : List ℕ) (ds : List DataPlan) (ls rest : List (List ℕ)) (vs : List Datum) → read_each (read_datum before) ds ls ≡ Ok (vs, rest) → length vs ≡ length ds
 data_fit before [] ls rest vs e =
     let same : [] ≡ vs = told [] vs ls rest (Ok ([], ls)) refl e in rw (← same) refl
 data_fit before (d ∷ ds) ls rest vs e =
     next_ok (read_datum before d ls) _ (vs, rest) _ e (λ v after h k.
-      next_ok (read_each (read_datum before) ds after) _ (vs, rest) _ k (λ more end m n.
-        let same : v ∷ more ≡ vs = told (v ∷ more) vs end rest (Ok (v ∷ more, end)) refl n in rw (← same) (ap suc (data_fit before ds after end more m))))
+    next_ok (read_each (read_datum before) ds after) _ (vs, rest) _ k (λ more end m n.
+    let same : v ∷ more ≡ vs = told (v ∷ more) vs end rest (Ok (v ∷ more, end)) refl n in rw (← same) (ap suc (data_fit before ds after end more m))))
 
 count_fits : (vs : List Datum) (ds : List DataPlan) → length vs ≡ length ds → fit_data vs ds ≡ true
 count_fits vs ds e = eq-eqb (length vs) (length ds) e
@@ -131,20 +131,20 @@ count_fits vs ds e = eq-eqb (length vs) (length ds) e
 entry_fits : (before : List ℕ) (g : PlanHead) (inner : PlanTree) → ((path : List ℕ) (ls rest : List (List ℕ)) (gs : GroupList) → read_groups path inner ls ≡ Ok (gs, rest) → fit_groups gs inner ≡ true) → (at : ℕ) (ls rest : List (List ℕ)) (e : Entry) → entry_at before g (λ path. read_groups path inner) at ls ≡ Ok (e, rest) → (more : BlockList) → fit_entries more g inner ≡ true → fit_entries (block e.items e.groups e.vars more) g inner ≡ true
 entry_fits before g inner fit at ls rest e h more k =
     next_ok (read_each (read_item (before_in before g at)) g.items ls) _ (e, rest) _ h (λ items after h1 k1.
-      next_ok (read_groups (before_in before g at) inner after) _ (e, rest) _ k1 (λ groups behind h2 k2.
-        next_ok (read_each (read_datum (before_in before g at)) g.vars behind) _ (e, rest) _ k2 (λ vars end h3 k3.
-          let same : record { items = items; groups = groups; vars = vars } ≡ e = told (record { items = items; groups = groups; vars = vars }) e end rest (Ok (record { items = items; groups = groups; vars = vars }, end)) refl k3 in
-          let P : Entry → Type 0 = λ x. fit_entries (block x.items x.groups x.vars more) g inner ≡ true in
-          subst P same (both _ _ (items_fit (before_in before g at) g.items ls after items h1) (both _ _ (fit (before_in before g at) after behind groups h2) (both _ _ (count_fits vars g.vars (data_fit (before_in before g at) g.vars behind end vars h3)) k))))))
+    next_ok (read_groups (before_in before g at) inner after) _ (e, rest) _ k1 (λ groups behind h2 k2.
+    next_ok (read_each (read_datum (before_in before g at)) g.vars behind) _ (e, rest) _ k2 (λ vars end h3 k3.
+    let same : record { items = items; groups = groups; vars = vars } ≡ e = told (record { items = items; groups = groups; vars = vars }) e end rest (Ok (record { items = items; groups = groups; vars = vars }, end)) refl k3 in
+    let P : Entry → Type 0 = λ x. fit_entries (block x.items x.groups x.vars more) g inner ≡ true in
+    subst P same (both _ _ (items_fit (before_in before g at) g.items ls after items h1) (both _ _ (fit (before_in before g at) after behind groups h2) (both _ _ (count_fits vars g.vars (data_fit (before_in before g at) g.vars behind end vars h3)) k))))))
 
 entries_fit : (before : List ℕ) (g : PlanHead) (inner : PlanTree) → ((path : List ℕ) (ls rest : List (List ℕ)) (gs : GroupList) → read_groups path inner ls ≡ Ok (gs, rest) → fit_groups gs inner ≡ true) → (n at : ℕ) (ls rest : List (List ℕ)) (bs : BlockList) → repeated n at (entry_at before g (λ path. read_groups path inner)) ls ≡ Ok (bs, rest) → fit_entries bs g inner ≡ true
 entries_fit before g inner fit zero at ls rest bs h =
     let same : no_blocks ≡ bs = told no_blocks bs ls rest (Ok (no_blocks, ls)) refl h in rw (← same) refl
 entries_fit before g inner fit (suc n) at ls rest bs h =
     next_ok (entry_at before g (λ path. read_groups path inner) at ls) _ (bs, rest) _ h (λ e after h1 k1.
-      next_ok (repeated n (at + 1) (entry_at before g (λ path. read_groups path inner)) after) _ (bs, rest) _ k1 (λ more end h2 k2.
-        let same : block e.items e.groups e.vars more ≡ bs = told (block e.items e.groups e.vars more) bs end rest (Ok (block e.items e.groups e.vars more, end)) refl k2 in
-        rw (← same) (entry_fits before g inner fit at ls after e h1 more (entries_fit before g inner fit n (at + 1) after end more h2))))
+    next_ok (repeated n (at + 1) (entry_at before g (λ path. read_groups path inner)) after) _ (bs, rest) _ k1 (λ more end h2 k2.
+    let same : block e.items e.groups e.vars more ≡ bs = told (block e.items e.groups e.vars more) bs end rest (Ok (block e.items e.groups e.vars more, end)) refl k2 in
+    rw (← same) (entry_fits before g inner fit at ls after e h1 more (entries_fit before g inner fit n (at + 1) after end more h2))))
 
 -- a group in front of others that fit
 abbrev GroupFits : Group → PlanHead → PlanTree → Type 0
@@ -161,19 +161,19 @@ counted_fits before g inner fit count.Absent ls rest x h =
     subst P (told group.Absent x ls rest (Ok (group.Absent, ls)) refl h) tt
 counted_fits before g inner fit (count.Entries n) ls rest x h =
     next_ok (repeated n 0 (entry_at before g (λ path. read_groups path inner)) ls) _ (x, rest) _ h (λ bs end h1 k1.
-      let P : Group → Type 0 = λ y. GroupFits y g inner in
-      subst P (told (group.Entries bs) x end rest (Ok (group.Entries bs, end)) refl k1) (entries_fit before g inner fit n 0 ls end bs h1))
+    let P : Group → Type 0 = λ y. GroupFits y g inner in
+    subst P (told (group.Entries bs) x end rest (Ok (group.Entries bs, end)) refl k1) (entries_fit before g inner fit n 0 ls end bs h1))
 
 groups_fit : (ps : PlanTree) (before : List ℕ) (ls rest : List (List ℕ)) (gs : GroupList) → read_groups before ps ls ≡ Ok (gs, rest) → fit_groups gs ps ≡ true
 groups_fit no_plans before ls rest gs h =
     let same : no_groups ≡ gs = told no_groups gs ls rest (Ok (no_groups, ls)) refl h in rw (← same) refl
 groups_fit (plan g inner more) before ls rest gs h =
     next_ok (read_group before g (λ path. read_groups path inner) ls) _ (gs, rest) _ h (λ x behind h1 k1.
-      next_ok (read_groups before more behind) _ (gs, rest) _ k1 (λ hs end h2 k2.
-        let same : group_before x hs ≡ gs = told (group_before x hs) gs end rest (Ok (group_before x hs, end)) refl k2 in
-        let first : GroupFits x g inner =
-            next_ok (read_element before g.name count_of ls) _ (x, behind) _ h1 (λ t after _ k. counted_fits before g inner (groups_fit inner) t after behind x k) in
-        rw (← same) (front_fits x g inner more hs first (groups_fit more before behind end hs h2))))
+    next_ok (read_groups before more behind) _ (gs, rest) _ k1 (λ hs end h2 k2.
+    let same : group_before x hs ≡ gs = told (group_before x hs) gs end rest (Ok (group_before x hs, end)) refl k2 in
+    let first : GroupFits x g inner =
+    next_ok (read_element before g.name count_of ls) _ (x, behind) _ h1 (λ t after _ k. counted_fits before g inner (groups_fit inner) t after behind x k) in
+    rw (← same) (front_fits x g inner more hs first (groups_fit more before behind end hs h2))))
 
 -- ---- messages
 
@@ -182,37 +182,37 @@ layout_found t [] l e = absurd (cc)
 layout_found t (m ∷ ms) l e =
     let P : Bool → Type 0 = λ b. (m.template == t) ≡ b → (if b then Some m else message_of t ms) ≡ Some l → l.template ≡ t in
     elim (m.template == t) as P [
-      true ↦ λ h e. let same : m ≡ l = cc in ap (λ (n : MessagePlan). n.template) (sym same) ∙ (Decides-eqb m.template t).0 h
-    | false ↦ λ h e. layout_found t ms l e
+      | true ↦ λ h e. let same : m ≡ l = cc in ap (λ (n : MessagePlan). n.template) (sym same) ∙ (Decides-eqb m.template t).0 h
+      | false ↦ λ h e. layout_found t ms l e
     ] refl e
 
 layout_has_template : (ms : List MessagePlan) (line : List ℕ) (l : MessagePlan) → layout_on ms line ≡ Some l → Some l ≡ message_of l.template ms
 layout_has_template ms line l e =
     also_some (also (behind (codes "message ") line) (named ms)) (λ m. message_of m.template ms) l _ e (λ m _ k.
-      let P : ℕ → Type 0 = λ n. Some l ≡ message_of n ms in subst P (sym (layout_found m.template ms l k)) (sym k))
+    let P : ℕ → Type 0 = λ n. Some l ≡ message_of n ms in subst P (sym (layout_found m.template ms l k)) (sym k))
 
 body_fits : (schema : Plan) (l : MessagePlan) (ls rest : List (List ℕ)) (m : Message) → Some l ≡ message_of l.template schema.messages → read_body l ls ≡ Ok (m, rest) → Fits schema m
 body_fits schema l ls rest m found h =
     next_ok (read_elements [] l.root.items (read_groups [] l.root.groups) l.root.vars ls) _ (m, rest) _ h (λ e after h1 k1.
-      next_ok (read_line (is_line (codes "end")) after) _ (m, rest) _ k1 (λ _ end _ k2.
-        let same : message_with l.template e ≡ m = told (message_with l.template e) m end rest (Ok (message_with l.template e, end)) refl k2 in
-        let P : Message → Type 0 = λ n. Fits schema n in
-        subst P same (record { layout = l; found = found; fits = elements_fit l ls after e h1 })))
+    next_ok (read_line (is_line (codes "end")) after) _ (m, rest) _ k1 (λ _ end _ k2.
+    let same : message_with l.template e ≡ m = told (message_with l.template e) m end rest (Ok (message_with l.template e, end)) refl k2 in
+    let P : Message → Type 0 = λ n. Fits schema n in
+    subst P same (record { layout = l; found = found; fits = elements_fit l ls after e h1 })))
   where
     elements_fit : (l : MessagePlan) (ls rest : List (List ℕ)) (e : Entry) → read_elements [] l.root.items (read_groups [] l.root.groups) l.root.vars ls ≡ Ok (e, rest) → fits_layout (message_with l.template e) l ≡ true
     elements_fit l ls rest e h =
         next_ok (read_each (read_item []) l.root.items ls) _ (e, rest) _ h (λ items after h1 k1.
-          next_ok (read_groups [] l.root.groups after) _ (e, rest) _ k1 (λ groups behind h2 k2.
-            next_ok (read_each (read_datum []) l.root.vars behind) _ (e, rest) _ k2 (λ vars end h3 k3.
-              let same : record { items = items; groups = groups; vars = vars } ≡ e = told (record { items = items; groups = groups; vars = vars }) e end rest (Ok (record { items = items; groups = groups; vars = vars }, end)) refl k3 in
-              let P : Entry → Type 0 = λ x. fits_layout (message_with l.template x) l ≡ true in
-              subst P same (both _ _ (items_fit [] l.root.items ls after items h1) (both _ _ (groups_fit l.root.groups [] after behind groups h2) (count_fits vars l.root.vars (data_fit [] l.root.vars behind end vars h3)))))))
+        next_ok (read_groups [] l.root.groups after) _ (e, rest) _ k1 (λ groups behind h2 k2.
+        next_ok (read_each (read_datum []) l.root.vars behind) _ (e, rest) _ k2 (λ vars end h3 k3.
+        let same : record { items = items; groups = groups; vars = vars } ≡ e = told (record { items = items; groups = groups; vars = vars }) e end rest (Ok (record { items = items; groups = groups; vars = vars }, end)) refl k3 in
+        let P : Entry → Type 0 = λ x. fits_layout (message_with l.template x) l ≡ true in
+        subst P same (both _ _ (items_fit [] l.root.items ls after items h1) (both _ _ (groups_fit l.root.groups [] after behind groups h2) (count_fits vars l.root.vars (data_fit [] l.root.vars behind end vars h3)))))))
 
 message_fits : (schema : Plan) (ls rest : List (List ℕ)) (m : Message) → read_message schema.messages ls ≡ Ok (m, rest) → Fits schema m
 message_fits schema [] rest m h = absurd (cc)
 message_fits schema (line ∷ ls) rest m h =
     next_ok (taken (length (line ∷ ls)) (layout_on schema.messages line) ls) _ (m, rest) _ h (λ l after h1 k1.
-      body_fits schema l after rest m (layout_has_template schema.messages line l (taken_ok (length (line ∷ ls)) (layout_on schema.messages line) ls l after h1)) k1)
+    body_fits schema l after rest m (layout_has_template schema.messages line l (taken_ok (length (line ∷ ls)) (layout_on schema.messages line) ls l after h1)) k1)
 
 abbrev read_as : {A : Type 0} → A → List (List ℕ) → Read A
 read_as y rest = Ok (y, rest)

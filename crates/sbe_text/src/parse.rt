@@ -132,11 +132,7 @@ fn read_end(left: &[u8]) -> Result<&[u8], Refusal>
 }
 
 // The value on the line of an element.
-fn element<'a>(
-    before: &[u8],
-    name: &Bytes,
-    left: &'a [u8],
-) -> Result<(&'a [u8], &'a [u8]), Refusal>
+fn element<'a>(before: &[u8], name: &Bytes, left: &'a [u8]) -> Result<(&'a [u8], &'a [u8]), Refusal>
     ensures { Gives (λ x. (x.0.now, lines_in x.1.now)) result (read_line (value_on before.now name.now) (lines_in left.now)) }
 {
     let Some((line, rest)) = first_line(left) else {

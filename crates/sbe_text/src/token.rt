@@ -41,11 +41,7 @@ fn is_absent(text: &[u8]) -> bool
 }
 
 /// The value of an item; none where the text is no value of the item's form.
-pub fn value(
-    alloc: Global,
-    plan: &ItemPlan,
-    text: &[u8],
-) -> Result<Option<Item>, AllocError>
+pub fn value(alloc: Global, plan: &ItemPlan, text: &[u8]) -> Result<Option<Item>, AllocError>
     ensures { IfOk result (λ v. v ≡ value_of (form_of plan.now) text.now) }
 {
     if is_absent(text) {
