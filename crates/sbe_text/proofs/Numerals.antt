@@ -1,0 +1,51 @@
+-- Decimal digits, one after another.
+use Rattle.std.proofs.Common.{◌≡◌, ℕ, zero, suc, ◌+◌, ◌-◌, ◌*◌, ◌<◌, ◌≤◌, ◌==◌, Bool, true, false, ◌&&◌, List, [], ◌∷◌, length, drop, get_or, refl, ap, sym, ◌∙◌, arith, add-one}
+use Rattle.std.specs.Prelude.{nat_le, Some, None, if◌then◌else◌, ◌^◌}
+use Rattle.std.proofs.lemmas.Bool.Decides.{nat_tests}
+use Rattle.std.proofs.lemmas.Str.{digit_value_digit}
+use Rattle.std.specs.Char.{digit_value}
+use Rattle.std.specs.Str.Parse.{digits_value_after}
+use Rattle.sbe_text.specs.Tokens.{is_digit, are_digits}
+
+-- digits behind a number make it no smaller
+pub digits_grow : (n : ℕ) (ds : List ℕ) → n ≤ digits_value_after 10 n ds
+digits_grow n [] = omega arith
+digits_grow n (c ∷ cs) = let rest = digits_grow (n * 10 + digit_value c) cs in omega arith
+
+value_of_digit : (c : ℕ) → is_digit c ≡ true → digit_value c ≡ c - 48
+value_of_digit c h = grind (arith, nat_tests)
+
+digit_first : (c : ℕ) (cs : List ℕ) → are_digits (c ∷ cs) ≡ true → is_digit c ≡ true
+digit_first c cs h = grind (arith, nat_tests)
+
+digits_rest : (c : ℕ) (cs : List ℕ) → are_digits (c ∷ cs) ≡ true → are_digits cs ≡ true
+digits_rest c cs h = grind (arith, nat_tests)
+
+pub digits_next : (ds : List ℕ) (i n : ℕ) → i < length ds → are_digits (drop i ds) ≡ true → digits_value_after 10 n (drop i ds) ≡ digits_value_after 10 (n * 10 + (get_or ds i 0 - 48)) (drop (i + 1) ds)
+digits_next ds i n p h = rw add-one (next ds i n p h)
+  where
+    next : (ds : List ℕ) (i n : ℕ) → i < length ds → are_digits (drop i ds) ≡ true → digits_value_after 10 n (drop i ds) ≡ digits_value_after 10 (n * 10 + (get_or ds i 0 - 48)) (drop (suc i) ds)
+    next [] i n p h = absurd (omega arith)
+    next (d ∷ ds) zero n p h = ap (λ v. digits_value_after 10 (n * 10 + v) ds) (value_of_digit d (digit_first d ds h))
+    next (d ∷ ds) (suc i) n p h = next ds i n (omega arith) h
+
+pub digits_left : (ds : List ℕ) (i : ℕ) → i < length ds → are_digits (drop i ds) ≡ true → are_digits (drop (i + 1) ds) ≡ true
+digits_left ds i p h = rw add-one (left ds i p h)
+  where
+    left : (ds : List ℕ) (i : ℕ) → i < length ds → are_digits (drop i ds) ≡ true → are_digits (drop (suc i) ds) ≡ true
+    left [] i p h = absurd (omega arith)
+    left (d ∷ ds) zero p h = digits_rest d ds h
+    left (d ∷ ds) (suc i) p h = left ds i (omega arith) h
+
+pub digits_done : (ds : List ℕ) (i n : ℕ) → length ds ≤ i → digits_value_after 10 n (drop i ds) ≡ n
+digits_done [] zero n p = refl
+digits_done [] (suc i) n p = refl
+digits_done (d ∷ ds) zero n p = absurd (omega arith)
+digits_done (d ∷ ds) (suc i) n p = digits_done ds i n (omega arith)
+
+within : (n most : ℕ) → n ≤ most → nat_le n most ≡ true
+within n most p = grind (arith, nat_tests)
+
+-- a number that is held is the one that the digits make
+pub held_number : (m n most : ℕ) → m ≡ n → n ≤ most → Some n ≡ (if nat_le m most then Some m else None)
+held_number m n most e p = rw e (rw (within n most p) refl)

@@ -1,0 +1,16 @@
+//! Messages of Simple Binary Encoding 1.0 as lines of text, for people and for
+//! tools, and back (this project's profile). It stands on the plans of
+//! `sbe_layout` and the values of `sbe_value`.
+#![tactic(auto)]
+
+mod error;
+mod line;
+mod parse;
+mod path;
+mod print;
+mod token;
+mod values;
+
+pub use error::TextError;
+pub use parse::parse_message;
+pub use print::print_message;

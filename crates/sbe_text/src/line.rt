@@ -1,0 +1,58 @@
+//! The lines of a text, one after another.
+
+ghost use Rattle.std.specs.Prelude.{◌≡◌, [], ◌∷◌, length, MatchOption};
+ghost use Rattle.sbe_text.specs.declared.error.Refusal.TheVariants.{Left};
+ghost use Rattle.sbe_text.specs.Lines.{lines_in, unreturned};
+
+use crate::error::Refusal;
+
+/// The first line of a text, without what ends it, and the text behind it; none where the text is empty.
+#[tactic(auto, using(crate::proofs::Feeds::first_at, crate::proofs::Feeds::no_more_feeds, crate::proofs::Feeds::rest_is_line))]
+pub fn first_line(text: &[u8]) -> Option<(&[u8], &[u8])>
+    ensures { MatchOption result (lines_in text.now ≡ []) (λ r. lines_in text.now ≡ r.0.now ∷ lines_in r.1.now) }
+{
+    for (at, byte) in text.iter().enumerate() {
+        if *byte == b'\n' {
+            let (line, rest) = text.split_at(at);
+            let (_, behind) = rest.split_at(1);
+            return Some((without_return(line), behind));
+        }
+    }
+    if text.is_empty() {
+        None
+    } else {
+        Some((text, &[]))
+    }
+}
+
+// A line without the carriage return at its end.
+#[tactic(auto, using(crate::proofs::Feeds::unreturned_last))]
+fn without_return(line: &[u8]) -> &[u8]
+    ensures { result.now ≡ unreturned line.now }
+{
+    let Some((last, front)) = line.split_last() else {
+        return line;
+    };
+    if *last == b'\r' { front } else { line }
+}
+
+/// How many lines a text has.
+#[tactic(auto, using(crate::proofs::Feeds::lines_within))]
+pub fn count_lines(text: &[u8]) -> u64
+    ensures { result ≡ length (lines_in text.now) }
+{
+    let mut count = 0u64;
+    let mut left = text;
+    while let Some((_, rest)) = first_line(left) {
+        count += 1;
+        left = rest;
+    }
+    count
+}
+
+/// That the first line of a text is refused.
+pub fn refused(text: &[u8]) -> Refusal
+    ensures { result ≡ Left (length (lines_in text.now)) }
+{
+    Refusal::Left(count_lines(text))
+}

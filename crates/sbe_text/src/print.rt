@@ -1,0 +1,186 @@
+//! The lines of a message. All are written into one text. What stands before
+//! the names of an entry, its path and a dot, is made once an entry.
+
+ghost use Rattle.std.specs.Prelude.{◌≡◌, [], ◌∷◌, ◌++◌, codes, decimal, IfOk, OnOk};
+ghost use Rattle.sbe_value.specs.Trees.{count_of_blocks};
+ghost use Rattle.sbe_value.specs.Views.{groups_of};
+ghost use Rattle.sbe_layout.specs.Views.{head_of, plans_of};
+ghost use Rattle.sbe_grammar.specs.Fits.{Fits};
+ghost use Rattle.sbe_text.specs.Written.{value_text, datum_text, element_line, before_in, lines_of_items, lines_of_data, lines_of_groups, lines_of_entries, message_line, lines_of_message};
+
+use crate::path::names_begin;
+use crate::values::{write_datum, write_value};
+use itoa::Buffer;
+use sbe_layout::{BlockPlan, DataPlan, GroupPlan, ItemPlan, Plan};
+use sbe_value::{Block, Blocks, Bytes, Datum, Group, Item, Lines, Message};
+use std::alloc::{AllocError, Global};
+
+/// The lines of a message (this project's profile): `message NAME`, then its
+/// items, its groups and its data in schema order, each as `PATH = VALUE`, then
+/// `end`. A group's line has the number of its entries, and their elements
+/// follow it, their paths behind `group[i].`, i from 0. The message needs to fit
+/// the plan.
+pub fn print_message(alloc: Global, plan: &Plan, message: &Message) -> Result<Lines, AllocError>
+    requires fits { Fits plan.now message.now }
+    ensures lines { IfOk result (λ lines. lines ≡ lines_of_message plan.now message.now) }
+{
+    let mut lines = Lines::new(alloc);
+    let Some(layout) = plan.messages.find(message.template) else {
+        unreachable!()
+    };
+    write_name(layout.name.as_slice(), &mut lines)?;
+    write_block(alloc, b"", &layout.root, &message.root, &mut lines)?;
+    lines.extend_from_slice(b"end\n")?;
+    Ok(lines)
+}
+
+// Writes the line of a message itself.
+fn write_name(name: &[u8], lines: &mut Lines) -> Result<(), AllocError>
+    ensures { OnOk result (lines.new ≡ lines.old ++ message_line name.now) }
+{
+    lines.extend_from_slice(b"message ")?;
+    lines.extend_from_slice(name)?;
+    lines.push(b'\n')
+}
+
+// Writes the lines of the elements of a block.
+#[cycle(blocks)]
+fn write_block(
+    alloc: Global,
+    before: &[u8],
+    plan: &BlockPlan,
+    block: &Block,
+    lines: &mut Lines,
+) -> Result<(), AllocError>
+    ensures { OnOk result (lines.new ≡ lines.old
+        ++ lines_of_items before.now block.now.items plan.now.items
+        ++ lines_of_groups before.now block.now.groups plan.now.groups
+        ++ lines_of_data before.now block.now.vars plan.now.vars) }
+{
+    write_items(before, plan.items.as_slice(), block.items.as_slice(), lines)?;
+    write_groups(
+        alloc,
+        before,
+        plan.groups.as_slice(),
+        block.groups.as_slice(),
+        lines,
+    )?;
+    write_data(before, plan.vars.as_slice(), block.vars.as_slice(), lines)
+}
+
+fn write_items(
+    before: &[u8],
+    plans: &[ItemPlan],
+    items: &[Item],
+    lines: &mut Lines,
+) -> Result<(), AllocError>
+    ensures { OnOk result (lines.new ≡ lines.old ++ lines_of_items before.now items.now plans.now) }
+{
+    let mut left = items;
+    for plan in plans {
+        let [item, others @ ..] = left else {
+            return Ok(());
+        };
+        write_item(before, plan, item, lines)?;
+        left = others;
+    }
+    Ok(())
+}
+
+fn write_item(
+    before: &[u8],
+    plan: &ItemPlan,
+    item: &Item,
+    lines: &mut Lines,
+) -> Result<(), AllocError>
+    ensures { OnOk result (lines.new ≡ lines.old ++ element_line before.now plan.now.name (value_text item.now)) }
+{
+    write_path(before, &plan.name, lines)?;
+    write_value(item, lines)?;
+    lines.push(b'\n')
+}
+
+// Writes the path of an element, and what stands before its value.
+fn write_path(before: &[u8], name: &Bytes, lines: &mut Lines) -> Result<(), AllocError>
+    ensures { OnOk result (lines.new ≡ lines.old ++ before.now ++ name.now ++ codes " = ") }
+{
+    lines.extend_from_slice(before)?;
+    lines.extend_from_slice(name.as_slice())?;
+    lines.extend_from_slice(b" = ")
+}
+
+fn write_data(
+    before: &[u8],
+    plans: &[DataPlan],
+    vars: &[Datum],
+    lines: &mut Lines,
+) -> Result<(), AllocError>
+    ensures { OnOk result (lines.new ≡ lines.old ++ lines_of_data before.now vars.now plans.now) }
+{
+    let mut left = vars;
+    for plan in plans {
+        let [datum, others @ ..] = left else {
+            return Ok(());
+        };
+        write_path(before, &plan.name, lines)?;
+        write_datum(datum, lines)?;
+        lines.push(b'\n')?;
+        left = others;
+    }
+    Ok(())
+}
+
+// Writes the line of each group, followed by those of its entries.
+#[cycle(blocks)]
+fn write_groups(
+    alloc: Global,
+    before: &[u8],
+    plans: &[GroupPlan],
+    groups: &[Group],
+    lines: &mut Lines,
+) -> Result<(), AllocError>
+    ensures { OnOk result (lines.new ≡ lines.old ++ lines_of_groups before.now (groups_of groups.now) (plans_of plans.now)) }
+{
+    let mut left = groups;
+    for g in plans {
+        let [group, others @ ..] = left else {
+            return Ok(());
+        };
+        write_path(before, &g.name, lines)?;
+        match group {
+            Group::Absent => lines.extend_from_slice(b"absent\n")?,
+            Group::Entries(blocks) => write_entries(alloc, before, g, blocks, lines)?,
+        }
+        left = others;
+    }
+    Ok(())
+}
+
+// Writes the number of a group's entries behind its path, and the lines of each.
+#[cycle(blocks)]
+fn write_entries(
+    alloc: Global,
+    before: &[u8],
+    g: &GroupPlan,
+    blocks: &Blocks,
+    lines: &mut Lines,
+) -> Result<(), AllocError>
+    ensures { OnOk result (lines.new ≡ lines.old
+        ++ decimal (count_of_blocks blocks.now) ++ 10 ∷ []
+        ++ lines_of_entries before.now 0 blocks.now (head_of g.now) g.now.block.groups) }
+{
+    write_count(blocks.len(), lines)?;
+    for (at, block) in blocks.as_slice().iter().enumerate() {
+        let inner = names_begin(alloc, before, g, at as u128)?;
+        write_block(alloc, inner.as_slice(), &g.block, block, lines)?;
+    }
+    Ok(())
+}
+
+fn write_count(count: usize, lines: &mut Lines) -> Result<(), AllocError>
+    ensures { OnOk result (lines.new ≡ lines.old ++ decimal count ++ 10 ∷ []) }
+{
+    let mut digits = Buffer::new();
+    lines.extend_from_slice(digits.format(count).as_bytes())?;
+    lines.push(b'\n')
+}

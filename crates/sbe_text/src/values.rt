@@ -1,0 +1,81 @@
+//! The texts of values: what stands behind the `=` of a line.
+
+ghost use Rattle.std.specs.Prelude.{◌≡◌, ◌<◌, ◌++◌, OnOk, slice_index, codes};
+ghost use Rattle.hex.specs.Hex.{lower_digits, encode_lower};
+ghost use Rattle.sbe_text.specs.Written.{is_plain, are_plain, raw_text, value_text, datum_text};
+
+use itoa::Buffer;
+use sbe_value::{Datum, Item, Lines};
+use std::alloc::AllocError;
+
+const DIGITS: [u8; 16] = *b"0123456789abcdef";
+
+/// Writes the text of an item's value.
+pub fn write_value(item: &Item, lines: &mut Lines) -> Result<(), AllocError>
+    ensures { OnOk result (lines.new ≡ lines.old ++ value_text item.now) }
+{
+    match item {
+        Item::Num(number) => {
+            let mut digits = Buffer::new();
+            lines.extend_from_slice(digits.format(*number).as_bytes())
+        }
+        Item::Null => lines.extend_from_slice(b"null"),
+        Item::Absent => lines.extend_from_slice(b"absent"),
+        Item::Text(text) => write_text(text.as_slice(), lines),
+        Item::Raw(bytes) => write_raw(bytes.as_slice(), lines),
+    }
+}
+
+/// Writes the text of a datum.
+pub fn write_datum(datum: &Datum, lines: &mut Lines) -> Result<(), AllocError>
+    ensures { OnOk result (lines.new ≡ lines.old ++ datum_text datum.now) }
+{
+    match datum {
+        Datum::Absent => lines.extend_from_slice(b"absent"),
+        Datum::Present(bytes) => write_raw(bytes.as_slice(), lines),
+    }
+}
+
+// Writes an array of characters between quotes, or as raw bytes where some may not stand there.
+fn write_text(text: &[u8], lines: &mut Lines) -> Result<(), AllocError>
+    ensures { OnOk result (lines.new ≡ lines.old ++ value_text (Item.Text text.now)) }
+{
+    if !are_plain(text) {
+        return write_raw(text, lines);
+    }
+    lines.push(b'"')?;
+    lines.extend_from_slice(text)?;
+    lines.push(b'"')
+}
+
+/// Whether all bytes may stand between quotes.
+pub fn are_plain(text: &[u8]) -> bool
+    ensures { result ≡ are_plain text.now }
+{
+    for byte in text {
+        if !is_plain(*byte) {
+            return false;
+        }
+    }
+    true
+}
+
+// Whether a byte may stand between quotes.
+fn is_plain(byte: u8) -> bool
+    ensures { result ≡ is_plain byte }
+{
+    (0x20..=0x7e).contains(&byte) && byte != b'"' && byte != b'\\'
+}
+
+// Writes bytes in lower-case hexadecimal behind an `x`.
+#[tactic(auto, unfolding(hex::specs::Hex::encode_with))]
+fn write_raw(bytes: &[u8], lines: &mut Lines) -> Result<(), AllocError>
+    ensures { OnOk result (lines.new ≡ lines.old ++ raw_text bytes.now) }
+{
+    lines.push(b'x')?;
+    for byte in bytes {
+        lines.push(DIGITS[usize::from(*byte / 16)])?;
+        lines.push(DIGITS[usize::from(*byte % 16)])?;
+    }
+    Ok(())
+}
