@@ -2,3 +2,5 @@ pub mod Parts
 pub mod Values
 pub mod Spelling
 pub mod Reading
+pub mod Fits
+pub mod Canonical

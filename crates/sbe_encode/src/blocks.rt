@@ -1,0 +1,135 @@
+//! The groups of a block, the entries of a group, and the block of an entry or of a message.
+
+ghost use Rattle.std.specs.Prelude.{◌≡◌, None};
+ghost use Rattle.sbe_value.specs.Views.{groups_of, blocks_of};
+ghost use Rattle.sbe_layout.specs.Views.{head_of, plans_of};
+ghost use Rattle.sbe_grammar.specs.Canonical.{groups_bytes, entries_bytes};
+ghost use Rattle.sbe_encode.specs.Faults.{under, has_counts, entered_fault, groups_fault, entries_fault};
+ghost use Rattle.sbe_encode.specs.Blocks.{parts_bytes, parts_fault, dimension_bytes, group_bytes, group_fault};
+ghost use Rattle.sbe_encode.specs.Writes.{Writes};
+
+use crate::bytes::{Writing, can_count, write_count};
+use crate::data::write_data;
+use crate::fault::{EncodeError, error_under, shape_at, shape_here};
+use crate::items::write_items;
+use sbe_layout::{BlockPlan, GroupPlan};
+use sbe_value::{Block, Group};
+
+// Writes the groups of a block.
+#[cycle(blocks)]
+fn write_groups(
+    writing: Writing<'_>,
+    plans: &[GroupPlan],
+    groups: &[Group],
+    out: &mut Vec<u8>,
+) -> Result<(), EncodeError>
+    ensures { Writes result out.old.items out.new.items (groups_bytes writing.order (plans_of plans.now) (groups_of groups.now)) (groups_fault writing.listings.now (plans_of plans.now) (groups_of groups.now)) }
+{
+    match (plans, groups) {
+        ([plan, plans @ ..], [group, groups @ ..]) => {
+            write_group(writing, plan, group, out)?;
+            write_groups(writing, plans, groups, out)
+        }
+        _ => Ok(()),
+    }
+}
+
+// Writes a group: its dimension and its entries.
+#[cycle(blocks)]
+fn write_group(
+    writing: Writing<'_>,
+    plan: &GroupPlan,
+    group: &Group,
+    out: &mut Vec<u8>,
+) -> Result<(), EncodeError>
+    ensures { Writes result out.old.items out.new.items (group_bytes writing.order (head_of plan.now) plan.now.block.groups group.now) (group_fault writing.listings.now (head_of plan.now) plan.now.block.groups group.now) }
+{
+    match group {
+        Group::Absent => Err(shape_at(writing.alloc, &plan.name)),
+        Group::Entries(entries) => {
+            write_dimension(writing, plan, entries.len(), out)?;
+            write_entries(writing, plan, entries.as_slice(), out)
+        }
+    }
+}
+
+// Writes the entries of a group.
+#[cycle(blocks)]
+fn write_entries(
+    writing: Writing<'_>,
+    plan: &GroupPlan,
+    entries: &[Block],
+    out: &mut Vec<u8>,
+) -> Result<(), EncodeError>
+    ensures { Writes result out.old.items out.new.items (entries_bytes writing.order (head_of plan.now) plan.now.block.groups (blocks_of entries.now)) (entries_fault writing.listings.now (head_of plan.now) plan.now.block.groups 0 (blocks_of entries.now)) }
+{
+    for (at, entry) in entries.iter().enumerate() {
+        write_entry(writing, plan, at as u64, entry, out)?;
+    }
+    Ok(())
+}
+
+// Writes an entry of a group; a fault of it is told under the group's name and the entry's place.
+#[cycle(blocks)]
+fn write_entry(
+    writing: Writing<'_>,
+    plan: &GroupPlan,
+    at: u64,
+    entry: &Block,
+    out: &mut Vec<u8>,
+) -> Result<(), EncodeError>
+    ensures { Writes result out.old.items out.new.items (parts_bytes writing.order plan.now.block entry.now) (under plan.now.name at (parts_fault writing.listings.now plan.now.block entry.now)) }
+{
+    match write_block(writing, &plan.block, entry, out) {
+        Ok(()) => Ok(()),
+        Err(e) => Err(error_under(writing.alloc, &plan.name, at, e)),
+    }
+}
+
+/// Writes a block with its groups and its data.
+#[cycle(blocks)]
+pub fn write_block(
+    writing: Writing<'_>,
+    plan: &BlockPlan,
+    block: &Block,
+    out: &mut Vec<u8>,
+) -> Result<(), EncodeError>
+    ensures { Writes result out.old.items out.new.items (parts_bytes writing.order plan.now block.now) (parts_fault writing.listings.now plan.now block.now) }
+{
+    if !has_counts(plan, block) {
+        return Err(shape_here(writing.alloc));
+    }
+    let start = out.len();
+    let items = block.items.as_slice();
+    write_items(writing, plan.block_length, start, plan.items.as_slice(), items, out)?;
+    write_groups(writing, plan.groups.as_slice(), block.groups.as_slice(), out)?;
+    write_data(writing, plan.vars.as_slice(), block.vars.as_slice(), out)
+}
+
+// Whether a block has as many items, groups and data as its plan.
+fn has_counts(plan: &BlockPlan, block: &Block) -> bool
+    ensures { result ≡ has_counts plan.now.items plan.now.groups plan.now.vars block.now.items block.now.groups block.now.vars }
+{
+    block.items.len() == plan.items.len()
+        && block.groups.len() == plan.groups.as_slice().len()
+        && block.vars.len() == plan.vars.len()
+}
+
+// Writes the dimension of a group of so many entries.
+fn write_dimension(
+    writing: Writing<'_>,
+    plan: &GroupPlan,
+    count: usize,
+    out: &mut Vec<u8>,
+) -> Result<(), EncodeError>
+    ensures { Writes result out.old.items out.new.items (dimension_bytes writing.order (head_of plan.now) count) (entered_fault (head_of plan.now) count None) }
+{
+    let length = plan.block.block_length;
+    let count = count as u128;
+    if !can_count(plan.block_prim, length) || !can_count(plan.count_prim, count) {
+        return Err(shape_at(writing.alloc, &plan.name));
+    }
+    write_count(plan.block_prim, writing.order, length, out)?;
+    write_count(plan.count_prim, writing.order, count, out)?;
+    Ok(())
+}
