@@ -8,27 +8,31 @@ ghost use Rattle.sbe_encode.specs.Faults.{under, has_counts, entered_fault, grou
 ghost use Rattle.sbe_encode.specs.Blocks.{parts_bytes, parts_fault, dimension_bytes, group_bytes, group_fault};
 ghost use Rattle.sbe_encode.specs.Writes.{Writes};
 
-use crate::bytes::{Writing, can_count, write_count};
+use crate::bytes::{can_count, write_count};
 use crate::data::write_data;
 use crate::fault::{EncodeError, error_under, shape_at, shape_here};
-use crate::items::write_items;
-use sbe_layout::{BlockPlan, GroupPlan};
+use crate::items::{Extent, write_items};
+use sbe_layout::{BlockPlan, GroupPlan, Listing};
+use sbe_prim::Order;
 use sbe_value::{Block, Group};
+use std::alloc::Global;
 
 // Writes the groups of a block.
 #[cycle(blocks)]
 fn write_groups(
-    writing: Writing<'_>,
+    alloc: Global,
+    order: Order,
+    listings: &[Listing],
     plans: &[GroupPlan],
     groups: &[Group],
     out: &mut Vec<u8>,
 ) -> Result<(), EncodeError>
-    ensures { Writes result out.old.items out.new.items (groups_bytes writing.order (plans_of plans.now) (groups_of groups.now)) (groups_fault writing.listings.now (plans_of plans.now) (groups_of groups.now)) }
+    ensures { Writes result out.old.items out.new.items (groups_bytes order (plans_of plans.now) (groups_of groups.now)) (groups_fault listings.now (plans_of plans.now) (groups_of groups.now)) }
 {
     match (plans, groups) {
         ([plan, plans @ ..], [group, groups @ ..]) => {
-            write_group(writing, plan, group, out)?;
-            write_groups(writing, plans, groups, out)
+            write_group(alloc, order, listings, plan, group, out)?;
+            write_groups(alloc, order, listings, plans, groups, out)
         }
         _ => Ok(()),
     }
@@ -37,18 +41,20 @@ fn write_groups(
 // Writes a group: its dimension and its entries.
 #[cycle(blocks)]
 fn write_group(
-    writing: Writing<'_>,
+    alloc: Global,
+    order: Order,
+    listings: &[Listing],
     plan: &GroupPlan,
     group: &Group,
     out: &mut Vec<u8>,
 ) -> Result<(), EncodeError>
-    ensures { Writes result out.old.items out.new.items (group_bytes writing.order (head_of plan.now) plan.now.block.groups group.now) (group_fault writing.listings.now (head_of plan.now) plan.now.block.groups group.now) }
+    ensures { Writes result out.old.items out.new.items (group_bytes order (head_of plan.now) plan.now.block.groups group.now) (group_fault listings.now (head_of plan.now) plan.now.block.groups group.now) }
 {
     match group {
-        Group::Absent => Err(shape_at(writing.alloc, &plan.name)),
+        Group::Absent => Err(shape_at(alloc, &plan.name)),
         Group::Entries(entries) => {
-            write_dimension(writing, plan, entries.len(), out)?;
-            write_entries(writing, plan, entries.as_slice(), out)
+            write_dimension(alloc, order, plan, entries.len(), out)?;
+            write_entries(alloc, order, listings, plan, entries.as_slice(), out)
         }
     }
 }
@@ -56,15 +62,17 @@ fn write_group(
 // Writes the entries of a group.
 #[cycle(blocks)]
 fn write_entries(
-    writing: Writing<'_>,
+    alloc: Global,
+    order: Order,
+    listings: &[Listing],
     plan: &GroupPlan,
     entries: &[Block],
     out: &mut Vec<u8>,
 ) -> Result<(), EncodeError>
-    ensures { Writes result out.old.items out.new.items (entries_bytes writing.order (head_of plan.now) plan.now.block.groups (blocks_of entries.now)) (entries_fault writing.listings.now (head_of plan.now) plan.now.block.groups 0 (blocks_of entries.now)) }
+    ensures { Writes result out.old.items out.new.items (entries_bytes order (head_of plan.now) plan.now.block.groups (blocks_of entries.now)) (entries_fault listings.now (head_of plan.now) plan.now.block.groups 0 (blocks_of entries.now)) }
 {
     for (at, entry) in entries.iter().enumerate() {
-        write_entry(writing, plan, at as u64, entry, out)?;
+        write_entry(alloc, order, listings, plan, at as u64, entry, out)?;
     }
     Ok(())
 }
@@ -72,38 +80,45 @@ fn write_entries(
 // Writes an entry of a group; a fault of it is told under the group's name and the entry's place.
 #[cycle(blocks)]
 fn write_entry(
-    writing: Writing<'_>,
+    alloc: Global,
+    order: Order,
+    listings: &[Listing],
     plan: &GroupPlan,
     at: u64,
     entry: &Block,
     out: &mut Vec<u8>,
 ) -> Result<(), EncodeError>
-    ensures { Writes result out.old.items out.new.items (parts_bytes writing.order plan.now.block entry.now) (under plan.now.name at (parts_fault writing.listings.now plan.now.block entry.now)) }
+    ensures { Writes result out.old.items out.new.items (parts_bytes order plan.now.block entry.now) (under plan.now.name at (parts_fault listings.now plan.now.block entry.now)) }
 {
-    match write_block(writing, &plan.block, entry, out) {
+    match write_block(alloc, order, listings, &plan.block, entry, out) {
         Ok(()) => Ok(()),
-        Err(e) => Err(error_under(writing.alloc, &plan.name, at, e)),
+        Err(e) => Err(error_under(alloc, &plan.name, at, e)),
     }
 }
 
 /// Writes a block with its groups and its data.
 #[cycle(blocks)]
 pub fn write_block(
-    writing: Writing<'_>,
+    alloc: Global,
+    order: Order,
+    listings: &[Listing],
     plan: &BlockPlan,
     block: &Block,
     out: &mut Vec<u8>,
 ) -> Result<(), EncodeError>
-    ensures { Writes result out.old.items out.new.items (parts_bytes writing.order plan.now block.now) (parts_fault writing.listings.now plan.now block.now) }
+    ensures { Writes result out.old.items out.new.items (parts_bytes order plan.now block.now) (parts_fault listings.now plan.now block.now) }
 {
     if !has_counts(plan, block) {
-        return Err(shape_here(writing.alloc));
+        return Err(shape_here(alloc));
     }
-    let start = out.len();
+    let extent = Extent {
+        start: out.len(),
+        size: plan.block_length,
+    };
     let items = block.items.as_slice();
-    write_items(writing, plan.block_length, start, plan.items.as_slice(), items, out)?;
-    write_groups(writing, plan.groups.as_slice(), block.groups.as_slice(), out)?;
-    write_data(writing, plan.vars.as_slice(), block.vars.as_slice(), out)
+    write_items(alloc, order, listings, extent, plan.items.as_slice(), items, out)?;
+    write_groups(alloc, order, listings, plan.groups.as_slice(), block.groups.as_slice(), out)?;
+    write_data(alloc, order, plan.vars.as_slice(), block.vars.as_slice(), out)
 }
 
 // Whether a block has as many items, groups and data as its plan.
@@ -117,19 +132,20 @@ fn has_counts(plan: &BlockPlan, block: &Block) -> bool
 
 // Writes the dimension of a group of so many entries.
 fn write_dimension(
-    writing: Writing<'_>,
+    alloc: Global,
+    order: Order,
     plan: &GroupPlan,
     count: usize,
     out: &mut Vec<u8>,
 ) -> Result<(), EncodeError>
-    ensures { Writes result out.old.items out.new.items (dimension_bytes writing.order (head_of plan.now) count) (entered_fault (head_of plan.now) count None) }
+    ensures { Writes result out.old.items out.new.items (dimension_bytes order (head_of plan.now) count) (entered_fault (head_of plan.now) count None) }
 {
     let length = plan.block.block_length;
     let count = count as u128;
     if !can_count(plan.block_prim, length) || !can_count(plan.count_prim, count) {
-        return Err(shape_at(writing.alloc, &plan.name));
+        return Err(shape_at(alloc, &plan.name));
     }
-    write_count(plan.block_prim, writing.order, length, out)?;
-    write_count(plan.count_prim, writing.order, count, out)?;
+    write_count(plan.block_prim, order, length, out)?;
+    write_count(plan.count_prim, order, count, out)?;
     Ok(())
 }

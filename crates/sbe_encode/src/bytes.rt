@@ -4,20 +4,8 @@ ghost use Rattle.std.specs.Prelude.{◌≡◌, ◌++◌, pos, IsTrue, OnOk};
 ghost use Rattle.sbe_prim.specs.Numbers.{bytes_of};
 ghost use Rattle.sbe_grammar.specs.Canonical.{can_write, count_bytes, zeros};
 
-use sbe_layout::Listing;
 use sbe_prim::{Order, Primitive, can_hold, is_integral, size, write};
-use std::alloc::{AllocError, Global};
-
-/// What holds for a whole message.
-#[derive(Debug, Clone, Copy)]
-pub struct Writing<'a> {
-    /// The memory for paths.
-    pub alloc: Global,
-    /// The byte order of the numbers.
-    pub order: Order,
-    /// What the types of the schema list.
-    pub listings: &'a [Listing],
-}
+use std::alloc::AllocError;
 
 /// Whether a primitive writes a number: it is an integer, and holds it.
 pub fn can_write(p: Primitive, value: i128) -> bool

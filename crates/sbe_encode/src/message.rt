@@ -8,7 +8,7 @@ ghost use Rattle.sbe_encode.specs.Faults.{encode_fault, header_fault, layout_fau
 ghost use Rattle.sbe_encode.specs.Writes.{Writes, Makes};
 
 use crate::blocks::write_block;
-use crate::bytes::{Writing, can_count, write_count};
+use crate::bytes::{can_count, write_count};
 use crate::fault::{EncodeError, EncodeFault, shape_here};
 use sbe_layout::{MessagePlan, Plan};
 use sbe_prim::Primitive;
@@ -65,12 +65,8 @@ fn write_message(
     ensures { Writes result out.old.items out.new.items (message_bytes plan.now layout.now message.now) (layout_fault plan.now.listings layout.now message.now) }
 {
     write_header(alloc, plan, layout, message, out)?;
-    let writing = Writing {
-        alloc,
-        order: plan.order,
-        listings: plan.listings.as_slice(),
-    };
-    write_block(writing, &layout.root, &message.root, out)
+    let listings = plan.listings.as_slice();
+    write_block(alloc, plan.order, listings, &layout.root, &message.root, out)
 }
 
 // Writes the header of a message.

@@ -1,10 +1,9 @@
 //! Whether a value lies in the range of its type.
 
-ghost use Rattle.std.specs.Prelude.{◌≡◌, ◌^◌, ◌<◌, pos};
+ghost use Rattle.std.specs.Prelude.{◌≡◌, ◌^◌, ◌<◌, ◌≤◌, pos, slice_get};
 ghost use Rattle.std.specs.List.{list_any, list_all};
 ghost use Rattle.std.specs.Ordering.{int_eq};
-ghost use Rattle.std.specs.Option.{option_copied};
-ghost use Rattle.sbe_grammar.specs.Canonical.{least_by, greatest_by, is_listed, is_set, without_bits, names_all, may_have, in_range, is_admitted, prim_of, null_in};
+ghost use Rattle.sbe_grammar.specs.Canonical.{least_by, greatest_by, is_listed, without_bit, without_bits, names_all, may_have, in_range, is_written, is_ranged, is_admitted, prim_of, null_in};
 ghost use Rattle.sbe_prim.specs.Primitives.{lies_within};
 
 use crate::bytes::can_write;
@@ -17,12 +16,28 @@ use sbe_value::Item;
 pub fn is_admitted(listings: &[Listing], kind: ItemKind, item: &Item) -> bool
     ensures { result ≡ is_admitted listings.now kind item.now }
 {
+    is_written(kind, item) && is_ranged(listings, kind, item)
+}
+
+// Whether the number of an item, or that for no value, can be written.
+fn is_written(kind: ItemKind, item: &Item) -> bool
+    ensures { result ≡ is_written kind item.now }
+{
     match item {
-        Item::Num(z) => can_write(prim_of(kind), *z) && may_have(listings, kind, *z),
+        Item::Num(z) => can_write(prim_of(kind), *z),
         Item::Null => can_write(prim_of(kind), null_in(kind)),
-        Item::Absent => false,
+        Item::Absent | Item::Text(_) | Item::Raw(_) => true,
+    }
+}
+
+// Whether a value lies in the range of its type.
+fn is_ranged(listings: &[Listing], kind: ItemKind, item: &Item) -> bool
+    ensures { result ≡ is_ranged listings.now kind item.now }
+{
+    match item {
+        Item::Num(z) => may_have(listings, kind, *z),
         Item::Text(text) => in_range(kind, text.as_slice()),
-        Item::Raw(_) => true,
+        Item::Null | Item::Absent | Item::Raw(_) => true,
     }
 }
 
@@ -55,8 +70,8 @@ fn may_have(listings: &[Listing], kind: ItemKind, value: i128) -> bool
         ItemKind::Number { prim, min, max, .. } => {
             least_by(prim, min) <= value && value <= greatest_by(prim, max)
         }
-        ItemKind::Enum { at, .. } => is_listed(value, listings.get(at as usize)),
-        ItemKind::Set { at, .. } => names_all(listings.get(at as usize), value),
+        ItemKind::Enum { at, .. } => is_listed(value, listings, at),
+        ItemKind::Set { at, .. } => names_all(listings, at, value),
     }
 }
 
@@ -89,19 +104,19 @@ fn in_range(kind: ItemKind, text: &[u8]) -> bool
 fn all_within(least: i128, greatest: i128, text: &[u8]) -> bool
     ensures { result ≡ list_all (λ byte. lies_within least greatest (pos byte)) text.now }
 {
-    match text {
-        [] => true,
-        [byte, rest @ ..] => {
-            least <= *byte as i128 && *byte as i128 <= greatest && all_within(least, greatest, rest)
+    for byte in text {
+        if (*byte as i128) < least || greatest < *byte as i128 {
+            return false;
         }
     }
+    true
 }
 
-// Whether an enum lists a number.
-fn is_listed(value: i128, listing: Option<&Listing>) -> bool
-    ensures { result ≡ is_listed value (option_copied listing) }
+// Whether an enum at a place among the types lists a number.
+fn is_listed(value: i128, listings: &[Listing], at: u64) -> bool
+    ensures { result ≡ is_listed value (slice_get listings.now at) }
 {
-    match listing {
+    match listings.get(at as usize) {
         Some(Listing::Values(values)) => lists_value(value, values.as_slice()),
         Some(Listing::Nothing) | Some(Listing::Bits(_)) | None => false,
     }
@@ -118,13 +133,15 @@ fn lists_value(value: i128, values: &[ValueDef]) -> bool
     false
 }
 
-// Whether a set names all bits of a number.
-fn names_all(listing: Option<&Listing>, value: i128) -> bool
-    ensures { result ≡ names_all (option_copied listing) value }
+// Whether a set at a place among the types names all bits of a number.
+fn names_all(listings: &[Listing], at: u64, value: i128) -> bool
+    ensures { result ≡ names_all (slice_get listings.now at) value }
 {
-    match listing {
-        Some(Listing::Bits(bits)) if value >= 0 => without_bits(bits.as_slice(), value as u128) == 0,
-        Some(Listing::Nothing) | Some(Listing::Values(_)) | Some(Listing::Bits(_)) | None => false,
+    match listings.get(at as usize) {
+        Some(Listing::Bits(bits)) => {
+            value >= 0 && without_bits(bits.as_slice(), value as u128) == 0
+        }
+        Some(Listing::Nothing) | Some(Listing::Values(_)) | None => false,
     }
 }
 
@@ -135,17 +152,24 @@ fn without_bits(bits: &[BitDef], value: u128) -> u128
 {
     let mut left = value;
     for b in bits {
-        if is_set(left, b.bit) {
-            left -= 1 << b.bit;
-        }
+        left = without_bit(b.bit, left);
     }
     left
 }
 
-// Whether a bit of a number is set.
-fn is_set(value: u128, bit: u8) -> bool
+// What is left of a number when one bit is taken out.
+fn without_bit(bit: u8, value: u128) -> u128
     requires { value < 2 ^ 127 }
-    ensures { result ≡ is_set value bit }
+    ensures left { result ≡ without_bit bit value }
+    ensures less { result ≤ value }
 {
-    bit < 127 && (value >> bit) % 2 == 1
+    if bit >= 127 {
+        return value;
+    }
+    let weight = 1u128 << bit;
+    if value / weight % 2 == 1 {
+        value - weight
+    } else {
+        value
+    }
 }

@@ -127,13 +127,13 @@ is_listed z (Some Nothing) = false
 is_listed z (Some (Values values)) = list_any (λ v. int_eq v.value z) values
 is_listed z (Some (Bits bits)) = false
 
--- what is left of a set's number when its named bits are taken out
-abbrev pub is_set : ℕ → ℕ → Bool
-is_set n bit = n / 2 ^ bit % 2 == 1
+-- what is left of a set's number when a bit is taken out, where it is set, and when the named bits are
+abbrev pub without_bit : ℕ → ℕ → ℕ
+without_bit bit n = if n / 2 ^ bit % 2 == 1 then n - 2 ^ bit else n
 
 abbrev pub without_bits : List BitDef → ℕ → ℕ
 without_bits [] n = n
-without_bits (b ∷ bs) n = without_bits bs (if is_set n b.bit then n - 2 ^ b.bit else n)
+without_bits (b ∷ bs) n = without_bits bs (without_bit b.bit n)
 
 -- a set names all of the number's bits
 abbrev pub names_all : Option Listing → ℤ → Bool
@@ -155,13 +155,25 @@ in_range (Number p count null low high) text = list_all (λ byte. lies_within (l
 in_range (Enum p at) text = true
 in_range (Set p at) text = true
 
+-- the number of an item, or that for no value, can be written
+abbrev pub is_written : ItemKind → Item → Bool
+is_written kind (Num z) = can_write (prim_of kind) z
+is_written kind Null = can_write (prim_of kind) (null_in kind)
+is_written kind Absent = true
+is_written kind (Text text) = true
+is_written kind (Raw bytes) = true
+
+-- a value lies in the range of its type
+abbrev pub is_ranged : List Listing → ItemKind → Item → Bool
+is_ranged listings kind (Num z) = may_have listings kind z
+is_ranged listings kind Null = true
+is_ranged listings kind Absent = true
+is_ranged listings kind (Text text) = in_range kind text
+is_ranged listings kind (Raw bytes) = true
+
 -- the value of an item may be written, where it has the item's form
 abbrev pub is_admitted : List Listing → ItemKind → Item → Bool
-is_admitted listings kind (Num z) = can_write (prim_of kind) z && may_have listings kind z
-is_admitted listings kind Null = can_write (prim_of kind) (null_in kind)
-is_admitted listings kind Absent = false
-is_admitted listings kind (Text text) = in_range kind text
-is_admitted listings kind (Raw bytes) = true
+is_admitted listings kind i = is_written kind i && is_ranged listings kind i
 
 abbrev pub is_absent : Item → Bool
 is_absent Absent = true
