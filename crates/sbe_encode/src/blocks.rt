@@ -1,10 +1,10 @@
 //! The groups of a block, the entries of a group, and the block of an entry or of a message.
 
-ghost use Rattle.std.specs.Prelude.{◌≡◌, None};
+ghost use Rattle.std.specs.Prelude.{◌≡◌, ◌++◌, IsTrue, OnOk};
 ghost use Rattle.sbe_value.specs.Views.{groups_of, blocks_of};
 ghost use Rattle.sbe_layout.specs.Views.{head_of, plans_of};
-ghost use Rattle.sbe_grammar.specs.Canonical.{groups_bytes, entries_bytes};
-ghost use Rattle.sbe_encode.specs.Faults.{under, has_counts, entered_fault, groups_fault, entries_fault};
+ghost use Rattle.sbe_grammar.specs.Canonical.{holds_dimension, groups_bytes, entries_bytes};
+ghost use Rattle.sbe_encode.specs.Faults.{under, has_counts, groups_fault, entries_fault};
 ghost use Rattle.sbe_encode.specs.Blocks.{parts_bytes, parts_fault, dimension_bytes, group_bytes, group_fault};
 ghost use Rattle.sbe_encode.specs.Writes.{Writes};
 
@@ -15,7 +15,7 @@ use crate::items::{Extent, write_items};
 use sbe_layout::{BlockPlan, GroupPlan, Listing};
 use sbe_prim::Order;
 use sbe_value::{Block, Group};
-use std::alloc::Global;
+use std::alloc::{AllocError, Global};
 
 // Writes the groups of a block.
 #[cycle(blocks)]
@@ -53,7 +53,11 @@ fn write_group(
     match group {
         Group::Absent => Err(shape_at(alloc, &plan.name)),
         Group::Entries(entries) => {
-            write_dimension(alloc, order, plan, entries.len(), out)?;
+            let count = entries.len() as u128;
+            if !holds_dimension(plan, count) {
+                return Err(shape_at(alloc, &plan.name));
+            }
+            write_dimension(order, plan, count, out)?;
             write_entries(alloc, order, listings, plan, entries.as_slice(), out)
         }
     }
@@ -122,6 +126,7 @@ pub fn write_block(
 }
 
 // Whether a block has as many items, groups and data as its plan.
+#[tactic(auto, using(crate::proofs::Counts::length_of_plans))]
 fn has_counts(plan: &BlockPlan, block: &Block) -> bool
     ensures { result ≡ has_counts plan.now.items plan.now.groups plan.now.vars block.now.items block.now.groups block.now.vars }
 {
@@ -130,22 +135,23 @@ fn has_counts(plan: &BlockPlan, block: &Block) -> bool
         && block.vars.len() == plan.vars.len()
 }
 
+// Whether the dimension of a group of so many entries can be written.
+fn holds_dimension(plan: &GroupPlan, count: u128) -> bool
+    ensures { result ≡ holds_dimension (head_of plan.now) count }
+{
+    can_count(plan.block_prim, plan.block.block_length) && can_count(plan.count_prim, count)
+}
+
 // Writes the dimension of a group of so many entries.
 fn write_dimension(
-    alloc: Global,
     order: Order,
     plan: &GroupPlan,
-    count: usize,
+    count: u128,
     out: &mut Vec<u8>,
-) -> Result<(), EncodeError>
-    ensures { Writes result out.old.items out.new.items (dimension_bytes order (head_of plan.now) count) (entered_fault (head_of plan.now) count None) }
+) -> Result<(), AllocError>
+    requires { IsTrue (holds_dimension (head_of plan.now) count) }
+    ensures { OnOk result (out.new.items ≡ out.old.items ++ dimension_bytes order (head_of plan.now) count) }
 {
-    let length = plan.block.block_length;
-    let count = count as u128;
-    if !can_count(plan.block_prim, length) || !can_count(plan.count_prim, count) {
-        return Err(shape_at(alloc, &plan.name));
-    }
-    write_count(plan.block_prim, order, length, out)?;
-    write_count(plan.count_prim, order, count, out)?;
-    Ok(())
+    write_count(plan.block_prim, order, plan.block.block_length, out)?;
+    write_count(plan.count_prim, order, count, out)
 }

@@ -50,6 +50,7 @@ pub fn write_data(
             write_datum(alloc, order, plan, datum, out)?;
             write_data(alloc, order, plans, vars, out)
         }
-        _ => Ok(()),
+        ([], _) => Ok(()),
+        ([_plan, _plans @ ..], []) => Ok(()),
     }
 }

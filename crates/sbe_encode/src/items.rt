@@ -86,9 +86,7 @@ pub fn write_items(
             write_item(alloc, order, listings, plan, item, out)?;
             write_items(alloc, order, listings, block, plans, items, out)
         }
-        _ => {
-            write_zeros(block.size.saturating_sub(at), out)?;
-            Ok(())
-        }
+        ([], _) => Ok(write_zeros(block.size.saturating_sub(at), out)?),
+        ([_plan, _plans @ ..], []) => Ok(write_zeros(block.size.saturating_sub(at), out)?),
     }
 }

@@ -158,6 +158,7 @@ fn without_bits(bits: &[BitDef], value: u128) -> u128
 }
 
 // What is left of a number when one bit is taken out.
+#[tactic(auto, using(crate::proofs::Counts::without_high))]
 fn without_bit(bit: u8, value: u128) -> u128
     requires { value < 2 ^ 127 }
     ensures left { result ≡ without_bit bit value }

@@ -20,3 +20,10 @@ decreases-write_entry l = 5 * weight_of l.plan.now.block.groups + 3
 
 abbrev pub decreases-write_block : goal.decreases-write_block
 decreases-write_block l = 5 * weight_of l.plan.now.groups + 2
+
+-- what is written, followed by the entries that are left, is all; so is the first fault
+abbrev pub invariant-write_entries-loop-at : goal.invariant-write_entries-loop-at
+invariant-write_entries-loop-at l = record {
+  written : l.out.items ++ entries_bytes l.order (head_of l.plan) l.plan.block.groups (blocks_of (drop l.at l.entries)) ≡ l.fn.out.items ++ entries_bytes l.order (head_of l.plan) l.plan.block.groups (blocks_of l.entries);
+  told : entries_fault l.listings (head_of l.plan) l.plan.block.groups l.at (blocks_of (drop l.at l.entries)) ≡ entries_fault l.listings (head_of l.plan) l.plan.block.groups 0 (blocks_of l.entries);
+}
