@@ -7,9 +7,11 @@ mod bytes;
 mod data;
 mod fault;
 mod items;
+mod laws;
 mod message;
 mod range;
 mod shape;
 
-pub use message::encode;
 pub use fault::{EncodeError, EncodeFault};
+pub use laws::faultless_where_writable;
+pub use message::encode;

@@ -188,7 +188,7 @@ admits_items listings [] [] = true
 admits_items listings [] (i ∷ is) = false
 admits_items listings (p ∷ ps) [] = false
 admits_items listings (p ∷ ps) (i ∷ is) =
-    (not (is_absent i) && (has_form (form_of p) i && is_admitted listings p.kind i)) && admits_items listings ps is
+    ((not (is_absent i) && has_form (form_of p) i) && is_admitted listings p.kind i) && admits_items listings ps is
 
 -- so many data, each there and of a length that its type holds
 abbrev pub admits_data : List DataPlan → List Datum → Bool
