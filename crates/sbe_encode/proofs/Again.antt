@@ -11,18 +11,24 @@ use Rattle.sbe_prim.specs.declared.Order.TheVariants.{Little, Big}
 use Rattle.sbe_prim.specs.Numbers.{ReadsBack}
 use Rattle.sbe_grammar.specs.Canonical.{can_write}
 
-pub again_u8 : (order : Order) (z : ℤ) → can_write UInt8 z ≡ true → ReadsBack UInt8 order z
-again_u8 Little z h = record { number = grind (arith, ints, nat_tests, common_steps); size = refl }
-again_u8 Big z h = record { number = grind (arith, ints, nat_tests, common_steps); size = refl }
-
-pub again_i8 : (order : Order) (z : ℤ) → can_write Int8 z ≡ true → ReadsBack Int8 order z
-again_i8 Little z h = record { number = grind (arith, ints, nat_tests, common_steps); size = refl }
-again_i8 Big z h = record { number = grind (arith, ints, nat_tests); size = refl }
-
-pub again_u16 : (order : Order) (z : ℤ) → can_write UInt16 z ≡ true → ReadsBack UInt16 order z
-again_u16 Little z h = record { number = grind (arith, ints, nat_tests); size = refl }
-again_u16 Big z h = record { number = grind (arith, ints, nat_tests, common_steps); size = refl }
-
-pub again_i64 : (order : Order) (z : ℤ) → can_write Int64 z ≡ true → ReadsBack Int64 order z
-again_i64 Little z h = record { number = grind (arith, ints, nat_tests); size = refl }
-again_i64 Big z h = record { number = grind (arith, ints, nat_tests, common_steps); size = refl }
+pub again : (p : Primitive) (order : Order) (z : ℤ) → can_write p z ≡ true → ReadsBack p order z
+again Char Little z h = record { number = grind (arith, ints, nat_tests, common_steps); size = refl }
+again Char Big z h = record { number = grind (arith, ints, nat_tests, common_steps); size = refl }
+again Int8 Little z h = record { number = grind (arith, ints, nat_tests, common_steps); size = refl }
+again Int8 Big z h = record { number = grind (arith, ints, nat_tests, common_steps); size = refl }
+again Int16 Little z h = record { number = grind (arith, ints, nat_tests, common_steps); size = refl }
+again Int16 Big z h = record { number = grind (arith, ints, nat_tests, common_steps); size = refl }
+again Int32 Little z h = record { number = grind (arith, ints, nat_tests, common_steps); size = refl }
+again Int32 Big z h = record { number = grind (arith, ints, nat_tests, common_steps); size = refl }
+again Int64 Little z h = record { number = grind (arith, ints, nat_tests, common_steps); size = refl }
+again Int64 Big z h = record { number = grind (arith, ints, nat_tests, common_steps); size = refl }
+again UInt8 Little z h = record { number = grind (arith, ints, nat_tests, common_steps); size = refl }
+again UInt8 Big z h = record { number = grind (arith, ints, nat_tests, common_steps); size = refl }
+again UInt16 Little z h = record { number = grind (arith, ints, nat_tests, common_steps); size = refl }
+again UInt16 Big z h = record { number = grind (arith, ints, nat_tests, common_steps); size = refl }
+again UInt32 Little z h = record { number = grind (arith, ints, nat_tests, common_steps); size = refl }
+again UInt32 Big z h = record { number = grind (arith, ints, nat_tests, common_steps); size = refl }
+again UInt64 Little z h = record { number = grind (arith, ints, nat_tests, common_steps); size = refl }
+again UInt64 Big z h = record { number = grind (arith, ints, nat_tests, common_steps); size = refl }
+again Float order z h = absurd (false≢true h)
+again Double order z h = absurd (false≢true h)

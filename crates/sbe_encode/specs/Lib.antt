@@ -2,3 +2,4 @@ pub mod Faults
 pub mod Blocks
 pub mod Writes
 pub mod Laws
+pub mod ReadsBack

@@ -46,12 +46,15 @@ null_in (Enum p at) = null_of p
 null_in (Set p at) = null_of p
 
 -- a number in the schema's byte order; a text with NUL behind it to the item's size; bytes as they stand
+abbrev pub value_bytes : Order → ItemKind → ℕ → Item → List ℕ
+value_bytes order kind size (Num z) = bytes_of (prim_of kind) order z
+value_bytes order kind size Null = bytes_of (prim_of kind) order (null_in kind)
+value_bytes order kind size Absent = []
+value_bytes order kind size (Text t) = t ++ zeros (size - length t)
+value_bytes order kind size (Raw b) = b
+
 abbrev pub item_bytes : Order → ItemPlan → Item → List ℕ
-item_bytes order p (Num z) = bytes_of (prim_of p.kind) order z
-item_bytes order p Null = bytes_of (prim_of p.kind) order (null_in p.kind)
-item_bytes order p Absent = []
-item_bytes order p (Text t) = t ++ zeros (p.size - length t)
-item_bytes order p (Raw b) = b
+item_bytes order p i = value_bytes order p.kind p.size i
 
 -- a block of so many bytes from the place `at` on: each item stands at its offset, and all else is zero
 abbrev pub block_bytes : Order → ℕ → ℕ → List ItemPlan → List Item → List ℕ
