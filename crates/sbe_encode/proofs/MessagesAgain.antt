@@ -170,7 +170,7 @@ word : (n : ℕ) → n < 2 ^ 16 → can_write UInt16 (pos n) ≡ true
 word n h = grind (arith, ints, nat_tests)
 
 -- the canonical bytes as parts, one behind another
-parts_bytes : Plan → MessagePlan → Message → List ℕ
+abbrev parts_bytes : Plan → MessagePlan → Message → List ℕ
 parts_bytes schema layout m =
     count_bytes schema.order UInt16 layout.root.block_length ++ (count_bytes schema.order UInt16 m.template ++ (count_bytes schema.order UInt16 schema.id ++ (count_bytes schema.order UInt16 schema.version ++ (block_bytes schema.order layout.root.block_length 0 layout.root.items m.root.items ++ (groups_bytes schema.order layout.root.groups m.root.groups ++ (data_bytes schema.order layout.root.vars m.root.vars ++ []))))))
 
@@ -180,3 +180,80 @@ four a b c d e = simp append_assoc
 nothing_behind : (xs : List ℕ) → xs ≡ xs ++ []
 nothing_behind [] = refl
 nothing_behind (x ∷ xs) = ap (λ ys. x ∷ ys) (nothing_behind xs)
+
+bytes_in_parts : (schema : Plan) (m : Message) (layout : MessagePlan) → Some layout ≡ message_of m.template schema.messages → canonical schema m ≡ parts_bytes schema layout m
+bytes_in_parts schema m layout found =
+    let order : Order = schema.order in
+    let texts : List ℕ = data_bytes order layout.root.vars m.root.vars in
+    let behind : List ℕ → List ℕ = λ xs. block_bytes order layout.root.block_length 0 layout.root.items m.root.items ++ (groups_bytes order layout.root.groups m.root.groups ++ xs) in
+    let header : List ℕ → List ℕ = λ xs. count_bytes order UInt16 layout.root.block_length ++ (count_bytes order UInt16 m.template ++ (count_bytes order UInt16 schema.id ++ (count_bytes order UInt16 schema.version ++ xs))) in
+    ap (λ f. canonical_by schema f m) (sym found)
+    ∙ four (count_bytes order UInt16 layout.root.block_length) (count_bytes order UInt16 m.template) (count_bytes order UInt16 schema.id) (count_bytes order UInt16 schema.version) (behind texts)
+    ∙ ap (λ xs. header (behind xs)) (nothing_behind texts)
+
+parts_again : (schema : Plan) (m : Message) (layout : MessagePlan) → Some layout ≡ message_of m.template schema.messages → HasWords schema m → IsLegalMessage layout → IsCurrentMessage schema.version layout → can_write UInt16 (pos layout.root.block_length) ≡ true → admits schema.listings layout m ≡ true → IsPlain layout m → SpellsBy schema layout (parts_bytes schema layout m) m
+parts_again schema m layout found words legal current headed admitted plain =
+    let order : Order = schema.order in
+    let root = layout.root in
+    let ls : List Listing = schema.listings in
+    let version : ℕ = schema.version in
+    let items = and_split (admits_items ls root.items m.root.items) (admits_groups ls root.groups m.root.groups && admits_data root.vars m.root.vars) admitted in
+    let others = and_split (admits_groups ls root.groups m.root.groups) (admits_data root.vars m.root.vars) items.1 in
+    let texts : List ℕ = data_bytes order root.vars m.root.vars in
+    let groups : List ℕ = groups_bytes order root.groups m.root.groups in
+    let body : List ℕ = block_bytes order root.block_length 0 root.items m.root.items in
+    record {
+      size = root.block_length;
+      version = version;
+      found = found;
+      joined = record {
+        front = count_bytes order UInt16 root.block_length;
+        behind = count_bytes order UInt16 m.template ++ (count_bytes order UInt16 schema.id ++ (count_bytes order UInt16 version ++ (body ++ (groups ++ (texts ++ [])))));
+        joined = refl;
+        is_front = count_again order UInt16 root.block_length refl headed;
+        is_behind = record {
+          front = count_bytes order UInt16 m.template;
+          behind = count_bytes order UInt16 schema.id ++ (count_bytes order UInt16 version ++ (body ++ (groups ++ (texts ++ []))));
+          joined = refl;
+          is_front = count_again order UInt16 m.template refl (word m.template words.template);
+          is_behind = record {
+            front = count_bytes order UInt16 schema.id;
+            behind = count_bytes order UInt16 version ++ (body ++ (groups ++ (texts ++ [])));
+            joined = refl;
+            is_front = count_again order UInt16 schema.id refl (word schema.id words.id);
+            is_behind = record {
+              front = count_bytes order UInt16 version;
+              behind = body ++ (groups ++ (texts ++ []));
+              joined = refl;
+              is_front = count_again order UInt16 version refl (word version words.version);
+              is_behind = record {
+                front = body;
+                behind = groups ++ (texts ++ []);
+                joined = refl;
+                is_front = block_again ls order version root.block_length root.marks root.items m.root.items root.vars legal.block current.items items.0 plain.items;
+                is_behind = record {
+                  front = groups;
+                  behind = texts ++ [];
+                  joined = refl;
+                  is_front = groups_again ls order version root.groups m.root.groups legal.groups current.groups others.0 plain.groups;
+                  is_behind = record {
+                    front = texts;
+                    behind = [];
+                    joined = refl;
+                    is_front = data_again order version root.vars m.root.vars legal.block.each_datum current.vars others.1;
+                    is_behind = tt;
+                  };
+                };
+              };
+            };
+          };
+        };
+      };
+    }
+
+pub canonical_reads_back : (schema : Plan) (m : Message) → CanonicalReadsBack schema m
+canonical_reads_back schema m r =
+    let w = r.admitted in
+    let legal = found_all IsLegalMessage m.template schema.messages w.layout r.legal.messages w.found in
+    let current = found_all (IsCurrentMessage schema.version) m.template schema.messages w.layout r.current w.found in
+    (w.layout, subst (λ bytes. SpellsBy schema w.layout bytes m) (sym (bytes_in_parts schema m w.layout w.found)) (parts_again schema m w.layout w.found r.words legal current w.headed w.admitted (r.plain w.layout w.found)))

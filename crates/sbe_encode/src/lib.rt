@@ -13,5 +13,5 @@ mod range;
 mod shape;
 
 pub use fault::{EncodeError, EncodeFault};
-pub use laws::faultless_where_writable;
+pub use laws::{canonical_reads_back, faultless_where_writable};
 pub use message::encode;
