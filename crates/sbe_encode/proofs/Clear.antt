@@ -74,7 +74,6 @@ clear_under name at (Some f) = refl
 one_more : (a b : ℕ) → (1 + a == 1 + b) ≡ (a == b)
 one_more a b = grind (arith, nat_tests)
 
-
 none_more : (n : ℕ) → (1 + n == 0) ≡ false
 none_more n = grind (arith, nat_tests)
 

@@ -196,9 +196,9 @@ placed ls order version size at p i legal next admitted plain =
     let whole : length (item_bytes order p i) ≡ p.size = back.size_is in
     record {
       reads = λ front rest e.
-        let slice : take p.size (drop p.offset (front ++ (zeros (p.offset - at) ++ (item_bytes order p i ++ rest)))) ≡ item_bytes order p i =
-        slice_again front (zeros (p.offset - at)) (item_bytes order p i) rest p.offset p.size (omega (arith, length-replicate {A = ℕ} (p.offset - at) 0, e, low)) (sym whole) in
-        rw next.present (ap (value_by order p.presence p.kind) slice ∙ back.value);
+          let slice : take p.size (drop p.offset (front ++ (zeros (p.offset - at) ++ (item_bytes order p i ++ rest)))) ≡ item_bytes order p i =
+          slice_again front (zeros (p.offset - at)) (item_bytes order p i) rest p.offset p.size (omega (arith, length-replicate {A = ℕ} (p.offset - at) 0, e, low)) (sym whole) in
+          rw next.present (ap (value_by order p.presence p.kind) slice ∙ back.value);
       size_is = whole;
       ends = omega (arith, whole, low);
     }

@@ -80,20 +80,22 @@ data_again order version [] (v ∷ vs) legal present admitted = absurd (false≢
 data_again order version (d ∷ ds) [] legal present admitted = absurd (false≢true admitted)
 data_again order version (d ∷ ds) (datum.Absent ∷ vs) legal present admitted = absurd (false≢true admitted)
 data_again order version (d ∷ ds) (datum.Present text ∷ vs) legal present admitted =
-    let parts = and_split (can_write d.length (pos (length text))) (admits_data ds vs) admitted in
-    (present.0, record {
-      front = count_bytes order d.length (length text);
-      behind = text ++ data_bytes order ds vs;
-      joined = refl;
-      is_front = count_again order d.length (length text) legal.0 parts.0;
-      is_behind = record {
-        front = text;
-        behind = data_bytes order ds vs;
+    let parts = and_split (can_write d.length (pos (length text))) (admits_data ds vs) admitted in (
+      present.0,
+      record {
+        front = count_bytes order d.length (length text);
+        behind = text ++ data_bytes order ds vs;
         joined = refl;
-        is_front = refl;
-        is_behind = data_again order version ds vs legal.1 present.1 parts.1;
-      };
-    })
+        is_front = count_again order d.length (length text) legal.0 parts.0;
+        is_behind = record {
+          front = text;
+          behind = data_bytes order ds vs;
+          joined = refl;
+          is_front = refl;
+          is_behind = data_again order version ds vs legal.1 present.1 parts.1;
+        };
+      },
+    )
 
 -- ---- groups
 
@@ -108,26 +110,31 @@ mutual
       let parts = and_split (holds_dimension head (count_of_blocks bs)) (admits_entries ls head inner bs && admits_groups ls rest gs) admitted in
       let inside = and_split (admits_entries ls head inner bs) (admits_groups ls rest gs) parts.1 in
       let held = and_split (can_write head.block_prim (pos head.block_length)) (can_write head.count_prim (pos (count_of_blocks bs))) parts.0 in
-      let prims = and_split (is_dimension head.block_prim) (is_dimension head.count_prim) legal.0.dimension in
-      (current.0.present, (head.block_length, record {
-        front = count_bytes order head.block_prim head.block_length;
-        behind = count_bytes order head.count_prim (count_of_blocks bs) ++ (entries_bytes order head inner bs ++ groups_bytes order rest gs);
-        joined = refl;
-        is_front = count_again order head.block_prim head.block_length (or_first _ _ prims.0) held.0;
-        is_behind = record {
-          front = count_bytes order head.count_prim (count_of_blocks bs);
-          behind = entries_bytes order head inner bs ++ groups_bytes order rest gs;
-          joined = refl;
-          is_front = count_again order head.count_prim (count_of_blocks bs) (or_first _ _ prims.1) held.1;
-          is_behind = record {
-            front = entries_bytes order head inner bs;
-            behind = groups_bytes order rest gs;
+      let prims = and_split (is_dimension head.block_prim) (is_dimension head.count_prim) legal.0.dimension in (
+        current.0.present,
+        (
+          head.block_length,
+          record {
+            front = count_bytes order head.block_prim head.block_length;
+            behind = count_bytes order head.count_prim (count_of_blocks bs) ++ (entries_bytes order head inner bs ++ groups_bytes order rest gs);
             joined = refl;
-            is_front = entries_again ls order version head inner bs legal.0 legal.1.0 current.0 current.1.0 inside.0 plain.0;
-            is_behind = groups_again ls order version rest gs legal.1.1 current.1.1 inside.1 plain.1;
-          };
-        };
-      }))
+            is_front = count_again order head.block_prim head.block_length (or_first _ _ prims.0) held.0;
+            is_behind = record {
+              front = count_bytes order head.count_prim (count_of_blocks bs);
+              behind = entries_bytes order head inner bs ++ groups_bytes order rest gs;
+              joined = refl;
+              is_front = count_again order head.count_prim (count_of_blocks bs) (or_first _ _ prims.1) held.1;
+              is_behind = record {
+                front = entries_bytes order head inner bs;
+                behind = groups_bytes order rest gs;
+                joined = refl;
+                is_front = entries_again ls order version head inner bs legal.0 legal.1.0 current.0 current.1.0 inside.0 plain.0;
+                is_behind = groups_again ls order version rest gs legal.1.1 current.1.1 inside.1 plain.1;
+              };
+            };
+          },
+        ),
+      )
 
   entries_again : (ls : List Listing) (order : Order) (version : ℕ) (head : PlanHead) (inner : PlanTree) (bs : BlockList) → IsLegalGroup head → AreLegalGroups inner → IsCurrentGroup version head → AreCurrentGroups version inner → admits_entries ls head inner bs ≡ true → ArePlainEntries head inner bs → SpellsEntries order version bs head inner head.block_length (entries_bytes order head inner bs)
   entries_again ls order version head inner no_blocks legal legals current currents admitted plain = refl
@@ -162,8 +169,8 @@ found_all : (P : MessagePlan → Type 0) (template : ℕ) (ms : List MessagePlan
 found_all P template [] x all e = absurd (cc)
 found_all P template (m ∷ ms) x all e =
     elim (m.template == template) as (λ t. Some x ≡ (if t then Some m else message_of template ms) → P x) [
-      true ↦ λ f. let same : m ≡ x = (cc) in subst P same all.0
-    | false ↦ λ f. found_all P template ms x all.1 f
+      | true ↦ λ f. let same : m ≡ x = (cc) in subst P same all.0
+      | false ↦ λ f. found_all P template ms x all.1 f
     ] e
 
 word : (n : ℕ) → n < 2 ^ 16 → can_write UInt16 (pos n) ≡ true

@@ -120,9 +120,30 @@ pub fn write_block(
         size: plan.block_length,
     };
     let items = block.items.as_slice();
-    write_items(alloc, order, listings, extent, plan.items.as_slice(), items, out)?;
-    write_groups(alloc, order, listings, plan.groups.as_slice(), block.groups.as_slice(), out)?;
-    write_data(alloc, order, plan.vars.as_slice(), block.vars.as_slice(), out)
+    write_items(
+        alloc,
+        order,
+        listings,
+        extent,
+        plan.items.as_slice(),
+        items,
+        out,
+    )?;
+    write_groups(
+        alloc,
+        order,
+        listings,
+        plan.groups.as_slice(),
+        block.groups.as_slice(),
+        out,
+    )?;
+    write_data(
+        alloc,
+        order,
+        plan.vars.as_slice(),
+        block.vars.as_slice(),
+        out,
+    )
 }
 
 // Whether a block has as many items, groups and data as its plan.

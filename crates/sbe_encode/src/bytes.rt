@@ -68,14 +68,18 @@ pub fn write_count(
     write_number(p, order, count as i128, out)
 }
 
+const ZEROS: [u8; 64] = [0; 64];
+
 /// Writes zeros.
+#[tactic(auto, using(crate::proofs::Counts::more_zeros, crate::proofs::Counts::last_zeros))]
 pub fn write_zeros(count: u128, out: &mut Vec<u8>) -> Result<(), AllocError>
     ensures { OnOk result (out.new.items ≡ out.old.items ++ zeros count) }
 {
     let mut left = count;
-    while left > 0 {
-        out.push(0)?;
-        left -= 1;
+    while left >= 64 {
+        out.extend_from_slice(&ZEROS)?;
+        left -= 64;
     }
-    Ok(())
+    let (last, _) = ZEROS.split_at(left as usize);
+    out.extend_from_slice(last)
 }

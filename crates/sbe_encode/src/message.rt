@@ -66,7 +66,14 @@ fn write_message(
 {
     write_header(alloc, plan, layout, message, out)?;
     let listings = plan.listings.as_slice();
-    write_block(alloc, plan.order, listings, &layout.root, &message.root, out)
+    write_block(
+        alloc,
+        plan.order,
+        listings,
+        &layout.root,
+        &message.root,
+        out,
+    )
 }
 
 // Writes the header of a message.

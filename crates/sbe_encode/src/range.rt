@@ -46,9 +46,8 @@ pub fn prim_of(kind: ItemKind) -> Primitive
     ensures { result ≡ prim_of kind }
 {
     match kind {
-        ItemKind::Number { prim, .. } | ItemKind::Enum { prim, .. } | ItemKind::Set { prim, .. } => {
-            prim
-        }
+        ItemKind::Number { prim, .. } | ItemKind::Enum { prim, .. } | ItemKind::Set { prim, .. } =>
+            { prim }
     }
 }
 
@@ -57,7 +56,11 @@ pub fn null_in(kind: ItemKind) -> i128
     ensures { result ≡ null_in kind }
 {
     match kind {
-        ItemKind::Number { prim, null: stated, .. } => stated.unwrap_or(null(prim)),
+        ItemKind::Number {
+            prim,
+            null: stated,
+            ..
+        } => stated.unwrap_or(null(prim)),
         ItemKind::Enum { prim, .. } | ItemKind::Set { prim, .. } => null(prim),
     }
 }
