@@ -1,5 +1,5 @@
 -- A message has no fault exactly where all of its elements may be written.
-use Rattle.std.proofs.Common.{◌≡◌, ℕ, suc, ◌+◌, ◌≤◌, ◌<◌, pos, Bool, true, false, not, ◌&&◌, ◌==◌, ◌↔◌, if◌then◌else◌, Option, Some, None, List, [], ◌∷◌, length, refl, sym, ap, ◌∙◌, subst, arith}
+use Rattle.std.proofs.Common.{◌≡◌, ℕ, suc, ◌+◌, ◌≤◌, pos, Bool, true, false, not, ◌&&◌, ◌==◌, if◌then◌else◌, Option, Some, None, List, [], ◌∷◌, length, refl, sym, ap, ◌∙◌, arith}
 use Rattle.std.specs.Prelude.{nat_lt}
 use Rattle.std.proofs.lemmas.Bool.{false≢true, ltb-false}
 use Rattle.std.proofs.lemmas.Bool.Decides.{nat_tests}
@@ -16,10 +16,10 @@ use Rattle.sbe_layout.specs.declared.plan.MessagePlan.{MessagePlan}
 use Rattle.sbe_layout.specs.declared.plan.Plan.{Plan}
 use Rattle.sbe_layout.specs.Trees.{PlanHead, PlanTree, no_plans, plan}
 use Rattle.sbe_layout.specs.Plans.{message_of}
-use Rattle.sbe_grammar.specs.Canonical.{canonical, can_write, holds_dimension, is_admitted, admits_items, admits_data, admits_groups, admits_entries, admits, MayBeWritten}
+use Rattle.sbe_grammar.specs.Canonical.{canonical, can_write, holds_dimension, is_admitted, admits_items, admits_data, admits_groups, admits_entries, admits}
 use Rattle.sbe_encode.specs.declared.fault.EncodeFault.{EncodeFault}
 use Rattle.sbe_encode.specs.declared.fault.EncodeFault.TheVariants.{Shape, TooLong}
-use Rattle.sbe_encode.specs.Faults.{or_else, shape_of, is_shaped, item_fault, items_fault, datum_fault, data_fault, under, count_of_plans, has_counts, first_fault, entered_fault, groups_fault, entries_fault, header_fault, layout_fault, length_fault, fault_by, encode_fault}
+use Rattle.sbe_encode.specs.Faults.{or_else, is_shaped, item_fault, items_fault, datum_fault, data_fault, under, count_of_plans, has_counts, first_fault, entered_fault, groups_fault, entries_fault, header_fault, layout_fault, length_fault, fault_by, encode_fault}
 use Rattle.sbe_encode.specs.Laws.{IsWritable, FaultlessWhereWritable}
 
 -- there is no fault

@@ -1,6 +1,6 @@
 -- The items of a block read back from its canonical bytes.
-use Rattle.std.proofs.Common.{◌≡◌, ◌≢◌, ℕ, zero, suc, ◌+◌, ◌-◌, ◌*◌, ◌<◌, ◌≤◌, max, ℤ, pos, Bool, true, false, not, ◌&&◌, ◌||◌, ◌==◌, if◌then◌else◌, IsTrue, Option, Some, None, List, [], ◌∷◌, ◌++◌, length, take, drop, map, replicate, refl, sym, ap, ◌∙◌, subst, arith, append_assoc, length-append}
-use Rattle.std.specs.Prelude.{nat_lt, nat_le, take_while}
+use Rattle.std.proofs.Common.{◌≡◌, ℕ, zero, suc, ◌+◌, ◌-◌, ◌*◌, ◌≤◌, max, ℤ, Bool, true, false, not, ◌&&◌, ◌==◌, if◌then◌else◌, Option, List, [], ◌∷◌, ◌++◌, length, take, drop, refl, sym, ap, ◌∙◌, subst, arith, append_assoc, length-append}
+use Rattle.std.specs.Prelude.{nat_le}
 use Rattle.std.specs.Ordering.{int_eq}
 use Rattle.std.specs.List.{AllByRecursion, list_all}
 use Rattle.std.proofs.lemmas.Bool.{false≢true}
@@ -11,20 +11,20 @@ use Rattle.sbe_prim.specs.declared.Primitive.{Primitive}
 use Rattle.sbe_prim.specs.declared.Primitive.TheVariants.{Char, Int8, Int16, Int32, Int64, UInt8, UInt16, UInt32, UInt64, Float, Double}
 use Rattle.sbe_prim.specs.declared.Order.{Order}
 use Rattle.sbe_prim.specs.Primitives.{size_of, is_integer}
-use Rattle.sbe_prim.specs.Numbers.{number_of, bytes_of}
+use Rattle.sbe_prim.specs.Numbers.{bytes_of}
 use Rattle.schema_types.specs.declared.types.Presence.{Presence}
 use Rattle.schema_types.specs.declared.types.Presence.TheVariants.{Required, Optional, Constant}
-use Rattle.sbe_schema.specs.Kinds.{is_char, is_uint8}
+use Rattle.sbe_schema.specs.Kinds.{is_char}
 use Rattle.sbe_value.specs.declared.item.Item.{Item}
 use Rattle.sbe_value.specs.declared.item.Item.TheVariants.{Num, Null, Absent, Text, Raw}
 use Rattle.sbe_layout.specs.declared.items.ItemKind.{ItemKind}
 use Rattle.sbe_layout.specs.declared.items.ItemKind.TheVariants.{Number, Enum, Set}
 use Rattle.sbe_layout.specs.declared.items.ItemPlan.{ItemPlan}
 use Rattle.sbe_layout.specs.declared.listings.Listing.{Listing}
-use Rattle.sbe_layout.specs.Legal.{IsLegalItem, is_legal_kind, size_of_item}
-use Rattle.sbe_grammar.specs.Values.{is_in, null_by, number_or_null, of_integer, text_in, array_value, value_by, item_in, items_in}
-use Rattle.sbe_grammar.specs.Fits.{Form, number, text, raw, form_by, form_of, has_form, is_optional}
-use Rattle.sbe_grammar.specs.Canonical.{zeros, value_bytes, prim_of, null_in, item_bytes, block_bytes, can_write, is_written, is_ranged, is_admitted, is_absent, admits_items}
+use Rattle.sbe_layout.specs.Legal.{IsLegalItem, size_of_item}
+use Rattle.sbe_grammar.specs.Values.{null_by, number_or_null, of_integer, text_in, array_value, value_by, item_in, items_in}
+use Rattle.sbe_grammar.specs.Fits.{number, text, raw, form_by, form_of, has_form, is_optional}
+use Rattle.sbe_grammar.specs.Canonical.{zeros, value_bytes, item_bytes, block_bytes, can_write, is_written, is_ranged, is_admitted, is_absent, admits_items}
 use Rattle.sbe_encode.specs.ReadsBack.{IsNext, AreInOrder, is_none, is_plain, ArePlain}
 use Rattle.sbe_encode.proofs.Again.{again}
 

@@ -1,5 +1,5 @@
 -- The canonical bytes of a message spell the message.
-use Rattle.std.proofs.Common.{◌≡◌, ℕ, ◌+◌, ◌-◌, ◌<◌, ◌≤◌, ◌^◌, ℤ, pos, Bool, true, false, ◌&&◌, ◌||◌, ◌==◌, if◌then◌else◌, IsTrue, Option, Some, None, List, [], ◌∷◌, ◌++◌, length, refl, sym, ap, ◌∙◌, subst, arith, append_assoc}
+use Rattle.std.proofs.Common.{◌≡◌, ℕ, ◌<◌, ◌^◌, pos, Bool, true, false, ◌&&◌, ◌||◌, ◌==◌, if◌then◌else◌, Some, List, [], ◌∷◌, ◌++◌, length, refl, sym, ap, ◌∙◌, subst, arith, append_assoc}
 use Rattle.std.specs.List.{AllByRecursion}
 use Rattle.std.proofs.lemmas.Bool.{false≢true}
 use Rattle.std.proofs.lemmas.Bool.Decides.{nat_tests}
@@ -7,8 +7,6 @@ use Rattle.std.proofs.lemmas.Int.{ints}
 use Rattle.sbe_prim.specs.declared.Primitive.{Primitive}
 use Rattle.sbe_prim.specs.declared.Primitive.TheVariants.{Char, Int8, Int16, Int32, Int64, UInt8, UInt16, UInt32, UInt64, Float, Double}
 use Rattle.sbe_prim.specs.declared.Order.{Order}
-use Rattle.sbe_prim.specs.Primitives.{size_of}
-use Rattle.sbe_prim.specs.Numbers.{bytes_of}
 use Rattle.sbe_schema.specs.Kinds.{is_dimension, is_uint32}
 use Rattle.sbe_value.specs.declared.item.Item.{Item}
 use Rattle.sbe_value.specs.declared.datum.Datum.{Datum}
@@ -23,12 +21,11 @@ use Rattle.sbe_layout.specs.declared.plan.MessagePlan.{MessagePlan}
 use Rattle.sbe_layout.specs.declared.plan.Plan.{Plan}
 use Rattle.sbe_layout.specs.Trees.{PlanHead, PlanTree, no_plans, plan}
 use Rattle.sbe_layout.specs.Plans.{message_of}
-use Rattle.sbe_layout.specs.Legal.{IsLegalItem, IsLegalDatum, EndsWithin, IsLegalBlock, IsLegalGroup, AreLegalGroups, IsLegalMessage, LegalPlan}
-use Rattle.sbe_grammar.specs.Values.{is_in}
-use Rattle.sbe_grammar.specs.Parts.{Then, IsNumber, unsigned}
-use Rattle.sbe_grammar.specs.Spelling.{AllWithin, IsBlock, SpellsData, SpellsGroups, SpellsEntries, SpellsBy, Spells}
-use Rattle.sbe_grammar.specs.Canonical.{count_bytes, block_bytes, data_bytes, groups_bytes, entries_bytes, header_bytes, message_bytes, canonical, canonical_by, can_write, holds_dimension, admits_items, admits_data, admits_groups, admits_entries, admits, MayBeWritten}
-use Rattle.sbe_encode.specs.ReadsBack.{AreInOrder, ArePresent, IsCurrentGroup, AreCurrentGroups, IsCurrentMessage, IsCurrent, ArePlain, ArePlainGroups, ArePlainEntries, IsPlain, HasWords, IsReadable, CanonicalReadsBack}
+use Rattle.sbe_layout.specs.Legal.{IsLegalDatum, EndsWithin, IsLegalBlock, IsLegalGroup, AreLegalGroups, IsLegalMessage}
+use Rattle.sbe_grammar.specs.Parts.{IsNumber, unsigned}
+use Rattle.sbe_grammar.specs.Spelling.{AllWithin, IsBlock, SpellsData, SpellsGroups, SpellsEntries, SpellsBy}
+use Rattle.sbe_grammar.specs.Canonical.{count_bytes, block_bytes, data_bytes, groups_bytes, entries_bytes, canonical, canonical_by, can_write, holds_dimension, admits_items, admits_data, admits_groups, admits_entries, admits}
+use Rattle.sbe_encode.specs.ReadsBack.{AreInOrder, ArePresent, IsCurrentGroup, AreCurrentGroups, IsCurrentMessage, ArePlain, ArePlainGroups, ArePlainEntries, IsPlain, HasWords, CanonicalReadsBack}
 use Rattle.sbe_encode.proofs.Again.{again}
 use Rattle.sbe_encode.proofs.ItemsAgain.{and_split, block_size, items_again}
 

@@ -5,11 +5,8 @@ use Rattle.sbe_prim.specs.declared.Primitive.TheVariants.{UInt16}
 use Rattle.sbe_value.specs.declared.item.Item.{Item}
 use Rattle.sbe_value.specs.declared.datum.Datum.{Datum}
 use Rattle.sbe_value.specs.declared.datum.Datum.TheVariants as datum
-use Rattle.sbe_value.specs.declared.path.Step.{Step}
 use Rattle.sbe_value.specs.declared.path.Step.TheVariants.{Key, At}
 use Rattle.sbe_value.specs.declared.message.Message.{Message}
-use Rattle.sbe_value.specs.declared.tree.Group.{Group}
-use Rattle.sbe_value.specs.declared.tree.Group.TheVariants as group
 use Rattle.sbe_value.specs.Trees.{GroupList, BlockList, no_groups, absent, entries, no_blocks, block, count_of_blocks, count_of_groups}
 use Rattle.sbe_layout.specs.declared.items.ItemPlan.{ItemPlan}
 use Rattle.sbe_layout.specs.declared.items.DataPlan.{DataPlan}
