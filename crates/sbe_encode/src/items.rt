@@ -1,0 +1,92 @@
+//! The items of a block, each at its offset.
+
+ghost use Rattle.std.specs.Prelude.{◌≡◌, ◌++◌, ◌-◌, ◌≤◌, length, IsTrue, OnOk};
+ghost use Rattle.sbe_grammar.specs.Canonical.{item_bytes, block_bytes, is_written};
+ghost use Rattle.sbe_encode.specs.Faults.{item_fault, items_fault};
+ghost use Rattle.sbe_encode.specs.Writes.{Writes};
+
+use crate::bytes::{write_number, write_zeros};
+use crate::fault::{EncodeError, range_at, shape_at};
+use crate::range::{is_admitted, null_in, prim_of};
+use crate::shape::is_shaped;
+use sbe_layout::{ItemPlan, Listing};
+use sbe_prim::Order;
+use sbe_value::Item;
+use std::alloc::{AllocError, Global};
+
+// Writes a value that may be written.
+fn write_value(
+    order: Order,
+    plan: &ItemPlan,
+    item: &Item,
+    out: &mut Vec<u8>,
+) -> Result<(), AllocError>
+    requires { IsTrue (is_written plan.now.kind item.now) }
+    ensures { OnOk result (out.new.items ≡ out.old.items ++ item_bytes order plan.now item.now) }
+{
+    match item {
+        Item::Num(z) => write_number(prim_of(plan.kind), order, *z, out),
+        Item::Null => write_number(prim_of(plan.kind), order, null_in(plan.kind), out),
+        Item::Absent => Ok(()),
+        Item::Text(text) => {
+            out.extend_from_slice(text.as_slice())?;
+            write_zeros(plan.size.saturating_sub(text.len() as u128), out)
+        }
+        Item::Raw(bytes) => out.extend_from_slice(bytes.as_slice()),
+    }
+}
+
+// Writes an item.
+fn write_item(
+    alloc: Global,
+    order: Order,
+    listings: &[Listing],
+    plan: &ItemPlan,
+    item: &Item,
+    out: &mut Vec<u8>,
+) -> Result<(), EncodeError>
+    ensures { Writes result out.old.items out.new.items (item_bytes order plan.now item.now) (item_fault listings.now plan.now item.now) }
+{
+    if !is_shaped(plan, item) {
+        return Err(shape_at(alloc, &plan.name));
+    }
+    if !is_admitted(listings, plan.kind, item) {
+        return Err(range_at(alloc, &plan.name));
+    }
+    write_value(order, plan, item, out)?;
+    Ok(())
+}
+
+/// Where a block stands in what is written.
+#[derive(Debug, Clone, Copy)]
+pub struct Extent {
+    /// The place of its first byte.
+    pub start: usize,
+    /// How many bytes it has.
+    pub size: u128,
+}
+
+/// Writes the items of a block, and zeros wherever no item stands.
+pub fn write_items(
+    alloc: Global,
+    order: Order,
+    listings: &[Listing],
+    block: Extent,
+    plans: &[ItemPlan],
+    items: &[Item],
+    out: &mut Vec<u8>,
+) -> Result<(), EncodeError>
+    requires { block.start ≤ length out.old.items }
+    ensures { Writes result out.old.items out.new.items (block_bytes order block.size (length out.old.items - block.start) plans.now items.now) (items_fault listings.now plans.now items.now) }
+{
+    let at = (out.len() - block.start) as u128;
+    match (plans, items) {
+        ([plan, plans @ ..], [item, items @ ..]) => {
+            write_zeros(plan.offset.saturating_sub(at), out)?;
+            write_item(alloc, order, listings, plan, item, out)?;
+            write_items(alloc, order, listings, block, plans, items, out)
+        }
+        ([], _) => Ok(write_zeros(block.size.saturating_sub(at), out)?),
+        ([_plan, _plans @ ..], []) => Ok(write_zeros(block.size.saturating_sub(at), out)?),
+    }
+}
