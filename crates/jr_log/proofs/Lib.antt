@@ -1,4 +1,4 @@
-mod Appends
+pub mod Appends
 mod Fronts
 mod Headers
 mod Scans

@@ -1,0 +1,4 @@
+pub mod Outboxes
+pub mod Tallies
+pub mod Faults
+pub mod Outbox
