@@ -1,5 +1,5 @@
 -- The encoding type and the message of a payload.
-use Rattle.std.proofs.Common.{◌≡◌, ℕ, ◌+◌, ◌<◌, ◌≤◌, ◌^◌, List, [], ◌∷◌, ◌++◌, length, get_or, take, drop, Bool, true, false, ◌==◌, if◌then◌else◌, eqb-true, refl, sym, ap, subst, ◌∙◌, arith, length-append, Some, None, Option}
+use Rattle.std.proofs.Common.{◌≡◌, ℕ, zero, suc, ◌+◌, ◌<◌, ◌≤◌, ◌^◌, List, [], ◌∷◌, ◌++◌, length, get_or, take, drop, Bool, true, false, ◌==◌, if◌then◌else◌, eqb-true, refl, sym, ap, subst, ◌∙◌, arith, length-append, take-append-drop, Fits, w8, Some, None, Option}
 use Rattle.std.proofs.lemmas.Nat.{from_be_bytes-to_be_bytes_2, be_bytes_2}
 use Rattle.std.specs.Int.{w16, from_be_bytes, to_be_bytes}
 use Rattle.sbe_prim.specs.declared.Order.{Order}
@@ -9,32 +9,18 @@ use Rattle.fixp_msgs.specs.declared.frames.FrameKind.TheVariants.{App}
 use Rattle.fixp_msgs.specs.Header.{kind_of}
 use Rattle.fixp_msgs.specs.Payload.{IsApplication}
 
--- bytes of one length at the front of the same bytes
-same_front : (a b x y : List ℕ) → length a ≡ length b → a ++ x ≡ b ++ y → (a ≡ b) × (x ≡ y)
-same_front [] [] x y n e = (refl, e)
-same_front [] (c ∷ b) x y n e = absurd (omega arith)
-same_front (c ∷ a) [] x y n e = absurd (omega arith)
-same_front (c ∷ a) (d ∷ b) x y n e =
-    let head : c ≡ d = cc in
-    let tail : a ++ x ≡ b ++ y = cc in
-    let both = same_front a b x y (omega arith) tail in (cc (head, both.0), both.1)
+-- the number in the first two bytes, and what stands behind them
+each_taken : (n : ℕ) (bytes : List ℕ) → ((k : ℕ) → Fits w8 (get_or bytes k 0)) → (i : ℕ) → get_or (take n bytes) i 0 < 256
+each_taken zero bytes fits i = omega arith
+each_taken (suc n) [] fits i = omega arith
+each_taken (suc n) (b ∷ bytes) fits zero = omega (arith, fits 0)
+each_taken (suc n) (b ∷ bytes) fits (suc i) = each_taken n bytes (λ k. fits (suc k)) i
 
-encoding_small : (order : Order) → encoding_of order < 2 ^ 16
-encoding_small Little = omega arith
-encoding_small Big = omega arith
-
-order_of-encoding_of : (order : Order) → order_of (encoding_of order) ≡ Some order
-order_of-encoding_of Little = refl
-order_of-encoding_of Big = refl
-
--- a payload that begins with this encoding type is that of a frame with this message
-pub same_parts : (encoding : ℕ) (message payload : List ℕ) → encoding < 2 ^ 16 → to_be_bytes w16 encoding ++ message ≡ payload
-    → (a : IsApplication payload) → (order_of encoding ≡ Some a.frame.order) × (message ≡ a.frame.message)
-same_parts encoding message payload small split a =
-    let both = same_front (to_be_bytes w16 encoding) (to_be_bytes w16 (encoding_of a.frame.order)) message a.frame.message refl (split ∙ sym a.spelled) in
-    let number : encoding ≡ encoding_of a.frame.order =
-        sym (from_be_bytes-to_be_bytes_2 encoding small) ∙ ap (from_be_bytes w16) both.0 ∙ from_be_bytes-to_be_bytes_2 (encoding_of a.frame.order) (encoding_small a.frame.order) in
-    (ap order_of number ∙ order_of-encoding_of a.frame.order, both.1)
+pub joined : (bytes front behind : List ℕ) (n : ℕ) → ((k : ℕ) → Fits w8 (get_or bytes k 0)) → length front ≡ 2 → front ≡ take 2 bytes → behind ≡ drop 2 bytes
+    → n ≡ from_be_bytes w16 front → to_be_bytes w16 n ++ behind ≡ bytes
+joined bytes front behind n fits size at_front at_back is =
+    ap (λ (xs : List ℕ). xs ++ behind) (be_bytes_2 front n size (λ i. subst (λ (xs : List ℕ). get_or xs i 0 < 256) (sym at_front) (each_taken 2 bytes fits i)) is ∙ at_front)
+    ∙ ap (λ (xs : List ℕ). take 2 bytes ++ xs) at_back ∙ take-append-drop 2 bytes
 
 -- an encoding type that names an order is that of the order
 pub named : (encoding : ℕ) (order : Order) → order_of encoding ≡ Some order → encoding_of order ≡ encoding
@@ -46,6 +32,12 @@ named encoding order e = by_tests (encoding == 0xEB50) refl (encoding == 0x5BE0)
     by_tests false _ true is r = let same : Big ≡ order = cc in ap encoding_of (sym same) ∙ sym (eqb-true encoding 0x5BE0 is)
     by_tests false _ false _ r = absurd (cc)
 
--- a payload has at least two bytes
-pub two_bytes : (payload : List ℕ) → IsApplication payload → 2 ≤ length payload
-two_bytes payload a = omega (arith, ap length a.spelled, length-append (to_be_bytes w16 (encoding_of a.frame.order)) a.frame.message)
+-- a payload is told by its parts
+pub is_payload : (encoding : ℕ) (order : Order) (message payload : List ℕ) → order_of encoding ≡ Some order → 8 ≤ length message → length message ≤ 16384
+    → App ≡ kind_of order message → to_be_bytes w16 encoding ++ message ≡ payload → IsApplication payload
+is_payload encoding order message payload names least most is split = record {
+  frame = record { order = order; message = message };
+  admissible = record { least = least; most = most };
+  application = sym is;
+  spelled = ap (λ (n : ℕ). to_be_bytes w16 n ++ message) (named encoding order names) ∙ split;
+}

@@ -19,7 +19,13 @@ pub fn is_application(payload: &[u8]) -> bool
     let Some(order) = order_named(encoding) else {
         return false;
     };
-    (8..=16_384).contains(&message.len()) && kind(order, message) == FrameKind::App
+    if message.len() < 8 || message.len() > 16_384 {
+        return false;
+    }
+    match kind(order, message) {
+        FrameKind::App => true,
+        FrameKind::Session | FrameKind::Wrong => false,
+    }
 }
 
 /// The number in the first two bytes, and what stands behind them.

@@ -98,7 +98,7 @@ pub last_number : (es : List Entry) (e : Entry) → InOrder (es ++ e ∷ []) →
 last_number es e in_order =
     let own = entries_of es e.sender in
     let there : map (λ (d : Entry). d.own_number) (own ++ e ∷ []) ≡ counts_from 1 (length (own ++ e ∷ [])) =
-        rw entries_of-same es e at (in_order e.sender) in
+        subst (λ (ds : List Entry). map (λ (d : Entry). d.own_number) ds ≡ counts_from 1 (length ds)) (entries_of-same es e) (in_order e.sender) in
     omega (arith, last_of own e 1 there)
 
 -- entries are told by their records

@@ -36,7 +36,7 @@ pub struct Outbox<J: Journal> {
     tally: Tally,
     ghost limited: { J.limits journal ≡ limits },
     ghost within: { IsWithin tally (J.count journal) },
-    ghost held: { J.is_broken journal ≡ false → ∥ (h : History) × HoldsAs J.stands J.leaves journal tally h [] ∥₁ },
+    ghost held: { J.is_broken journal ≡ false → ∥ ((h : History) × HoldsAs J.stands J.leaves journal tally h []) ∥₁ },
 }
 
 impl<J: Journal> Outbox<J> {

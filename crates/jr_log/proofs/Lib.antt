@@ -1,4 +1,4 @@
-pub mod Appends
+mod Appends
 mod Fronts
 mod Headers
 mod Scans

@@ -125,7 +125,7 @@ impl<D: Disk> Journal for LogJournal<D> {
     ghost use Rattle.jr_log.specs.Behind.{few_records};
     ghost use Rattle.jr_log.specs.Log.{StandsFor, MayLeave};
     ghost use Rattle.jr_record.proofs.Verdicts.{at_most_one_verdict};
-    ghost use Rattle.jr_log.proofs.Appends.{settled};
+    ghost use Rattle.jr_log.specs.Settled.{settled_images};
 
     ghost stands = { StandsFor };
 
@@ -181,5 +181,8 @@ impl<D: Disk> Journal for LogJournal<D> {
 
     ghost few = { λ j. few_records j.records.items j.size j.sized j.small };
 
-    ghost held = { λ j open_is. (j.records.items, settled at_most_one_verdict j open_is j.records.items refl) };
+    ghost held = { λ j open_is. (j.records.items, record {
+        stands_for = refl;
+        images = settled_images at_most_one_verdict (D.may_leave j.disk) j.records.items j.records.items j.legal (j.settled open_is) refl;
+    }) };
 }
