@@ -1,3 +1,4 @@
 pub mod Counting
 pub mod Held
 pub mod Histories
+pub mod Reading

@@ -1,4 +1,5 @@
 pub mod Outboxes
 pub mod Tallies
 pub mod Faults
+pub mod Payloads
 pub mod Outbox

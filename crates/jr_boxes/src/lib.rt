@@ -4,6 +4,7 @@
 #![tactic(auto)]
 
 mod faults;
+mod messages;
 mod outbox;
 mod stable;
 mod tally;

@@ -18,6 +18,7 @@ ghost use Rattle.jr_boxes.specs.declared.faults.SubmitFault.TheVariants as submi
 ghost use Rattle.jr_boxes.specs.declared.faults.CloseFault.TheVariants as closing;
 
 use crate::faults::{BoxFault, CloseFault, SubmitFault};
+use crate::messages::payload_of;
 use crate::stable::Stable;
 use crate::tally::Tally;
 use gw_outside::Bytes;
@@ -187,13 +188,10 @@ impl<J: Journal> Outbox<J> {
         ensures never_falls { faults_of self.old ≤ faults_of self.new }
         ensures limits { limits_of self.new ≡ limits_of self.old }
     {
-        match self.journal.read(number - 1)? {
-            Record::Entry { payload, .. } => Ok(Stable::new(number, payload)),
-            Record::Apply { .. }
-            | Record::Skip { .. }
-            | Record::Negotiated
-            | Record::PeerFinished { .. }
-            | Record::Finish => unreachable!(),
+        let record = self.journal.read(number - 1)?;
+        match payload_of(record) {
+            Some(payload) => Ok(Stable::new(number, payload)),
+            None => unreachable!(),
         }
     }
 
