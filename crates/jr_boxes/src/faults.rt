@@ -1,5 +1,6 @@
 //! Why a call on an outbox or an inbox did not do what it was asked for.
 
+ghost use Rattle.jr_boxes.specs.declared.faults.BoxFault.TheVariants as box_fault;
 ghost use Rattle.jr_boxes.specs.declared.faults.SubmitFault.TheVariants as submit;
 
 use jr_record::FetchFault;
@@ -84,6 +85,16 @@ impl From<AllocError> for SubmitFault {
 
     fn from(_: AllocError) -> SubmitFault {
         SubmitFault::Memory
+    }
+}
+
+impl From<AllocError> for BoxFault {
+    ghost use Rattle.std.specs.Prelude.{◌≡◌};
+
+    ghost from_gives = { λ _ fault. fault ≡ box_fault.Memory };
+
+    fn from(_: AllocError) -> BoxFault {
+        BoxFault::Memory
     }
 }
 

@@ -4,11 +4,14 @@
 #![tactic(auto)]
 
 mod faults;
+mod inbox;
 mod messages;
+mod notes;
 mod outbox;
 mod stable;
 mod tally;
 
 pub use faults::{BoxFault, CloseFault, JournalCause, SubmitFault, Which};
+pub use inbox::Inbox;
 pub use outbox::Outbox;
 pub use stable::Stable;
