@@ -80,6 +80,13 @@ pub some_on : {J : Type 0} (stands : J → List Record → Type 0) (leaves : J �
     → ((i : List InboxRecord) → HoldsAs stands leaves old flow n i [] → HoldsAs stands leaves new flow m (on i) []) → SomeList stands leaves old flow n → SomeList stands leaves new flow m
 some_on stands leaves old new flow n m on go held = ∥∥₁_map held (λ found. (on found.0, go found.0 found.1))
 
+-- answers of an append
+abbrev pub refusal : AppendFault → Result (Unit {0}) AppendFault
+refusal fault = Err fault
+
+abbrev pub success : Unit {0} → Result (Unit {0}) AppendFault
+success done = Ok done
+
 -- a journal that is sound behind an append was so before it
 pub append_sound : (T : Type 0) (old new : Bool) (result : Result T AppendFault) → (old ≡ true → result ≡ Err append.Broken) → new ≡ is_broken_after result → new ≡ false → old ≡ false
 append_sound T old new result broken is sound = by_old (cases_Bool old)
@@ -90,20 +97,44 @@ append_sound T old new result broken is sound = by_old (cases_Bool old)
 
 -- behind a record that was refused, and behind one that was appended
 module _ {J : Type 0} (stands : J → List Record → Type 0) (leaves : J → Option (List Record) → Type 0) (old new : J) (flow : Flow) (n m : Notes) (was is_now : Bool) where
-  pub some_refused : {Q : Type 0} → SameNotes n m → (fault : AppendFault) → OnRefused {T = Unit {0}} (Err fault) (SameJournal stands leaves old new × Q)
-      → (was ≡ true → Err {T = Unit {0}} fault ≡ Err append.Broken) → is_now ≡ is_broken_after {T = Unit {0}} (Err fault)
+  pub some_refused : (Q : Type 0) → SameNotes n m → (fault : AppendFault) → OnRefused {T = Unit {0}} (Err fault) (SameJournal stands leaves old new × Q)
+      → (was ≡ true → refusal fault ≡ refusal append.Broken) → is_now ≡ is_broken_after (refusal fault)
       → (was ≡ false → SomeList stands leaves old flow n) → is_now ≡ false → SomeList stands leaves new flow m
-  some_refused same fault unchanged broken breaks held sound = some_on stands leaves old new flow n m (λ i. i)
+  some_refused Q same fault unchanged broken breaks held sound = some_on stands leaves old new flow n m (λ i. i)
       (λ i. kept_same stands leaves old new (on_refused (Unit {0}) fault unchanged is_now breaks sound).0 flow n m same i [])
-      (held (append_sound (Unit {0}) was is_now (Err fault) broken breaks sound))
+      (held (append_sound (Unit {0}) was is_now (refusal fault) broken breaks sound))
 
   pub some_more : (at : ℕ) (r : InboxRecord) (x : Record) (done : Unit {0}) → x ≡ record_of r → ((records : List Record) → stands old records → length records ≡ at)
       → MayFollow flow n (record_of r) → HasNoted n m at (record_of r) → ((records : List Record) → Holds stands leaves old records [] → Holds stands leaves new (records ++ x ∷ []) [])
-      → (was ≡ true → Ok {E = AppendFault} done ≡ Err append.Broken) → is_now ≡ false
+      → (was ≡ true → success done ≡ refusal append.Broken) → is_now ≡ false
       → (was ≡ false → SomeList stands leaves old flow n) → SomeList stands leaves new flow m
   some_more at r x done is counted may noted appended broken sound held = some_on stands leaves old new flow n m (λ i. i ++ r ∷ [])
       (kept_more stands leaves old new flow n m at r x is counted may noted appended)
-      (held (append_sound (Unit {0}) was is_now (Ok done) broken sound sound))
+      (held (append_sound (Unit {0}) was is_now (success done) broken sound sound))
+
+-- the journal as it was, and notes with more room
+pub unmoved : {J : Type 0} (stands : J → List Record → Type 0) (leaves : J → Option (List Record) → Type 0) (j : J) → SameJournal stands leaves j j
+unmoved stands leaves j = record { records = λ h. (λ is. is, λ is. is); images = λ o. (λ is. is, λ is. is) }
+
+pub some_same : {J : Type 0} (stands : J → List Record → Type 0) (leaves : J → Option (List Record) → Type 0) (j : J) (flow : Flow) (n m : Notes) → SameNotes n m → SomeList stands leaves j flow n → SomeList stands leaves j flow m
+some_same stands leaves j flow n m same held = some_on stands leaves j j flow n m (λ i. i) (λ i. kept_same stands leaves j j (unmoved stands leaves j) flow n m same i []) held
+
+-- a message that was noted behind room for it
+pub noted_behind : (n k m : Notes) (at number : ℕ) (payload : List ℕ) → SameNotes n k → HasNoted k m at (kinds.Apply number payload) → HasNoted n m at (kinds.Apply number payload)
+noted_behind n k m at number payload same noted = record {
+  next_is = noted.next_is;
+  negotiated_is = noted.negotiated_is ∙ same.negotiated_is;
+  peer_last_is = noted.peer_last_is ∙ same.peer_last_is;
+  places_are = noted.places_are ∙ ap (λ (ks : List ℕ). ks ++ at ∷ []) same.places_are;
+}
+
+-- nothing is noted of no records
+pub nothing_noted : (flow : Flow) (n : Notes) → Notices n [] → Noted flow [] n
+nothing_noted flow n is = record { list = []; inbox = record { spelled = refl; fits = λ before after r split. absurd (never_empty before after r split) }; noticed = is }
+  where
+    never_empty : (before after : List InboxRecord) (r : InboxRecord) → [] ≡ before ++ r ∷ after → ⊥
+    never_empty [] after r split = cc
+    never_empty (x ∷ before) after r split = cc
 
 -- the places that are noted
 pub within_same : (n m : Notes) (at more : ℕ) → SameNotes n m → more ≡ at → IsWithin n at → IsWithin m more

@@ -12,7 +12,7 @@ invariant_of-self g c =
       limited = c.append.ensures.limits ∙ old.limited;
       within = λ k here. omega (arith, old.within k here, c.in_err-append.ensures.refused.0);
       held = some_refused g.J.Journal.stands g.J.Journal.leaves old.journal new old.flow old.notes old.notes (g.J.Journal.is_broken old.journal) (g.J.Journal.is_broken new)
-          (same_self old.notes) c.in_err-append.field-0.0 c.in_err-append.ensures.unchanged c.in_err-append.ensures.broken.1 c.in_err-append.ensures.breaks old.held;
+          _ (same_self old.notes) c.in_err-append.field-0.0 c.in_err-append.ensures.unchanged c.in_err-append.ensures.broken.1 c.in_err-append.ensures.breaks old.held;
     }
 
 pub invariant_of-self-3 : goal.invariant_of-self-3
