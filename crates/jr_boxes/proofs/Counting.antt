@@ -1,8 +1,8 @@
 -- What was counted of the records of an outbox, and which record may follow.
-use Rattle.std.proofs.Common.{◌≡◌, ◌≢◌, ◌⊎◌, ℕ, ◌+◌, ◌≤◌, ◌<◌, Bool, true, false, List, [], ◌∷◌, ◌++◌, length, take, slice_get, Some, refl, sym, ap, subst, ◌∙◌, arith, length-append, inl, inr, ⊎_elim}
-use Rattle.std.proofs.lemmas.Bool.{false≢true, cases_Bool, cases_eq}
+use Rattle.std.proofs.Common.{◌≡◌, ◌⊎◌, ℕ, ◌+◌, true, false, List, [], ◌∷◌, ◌++◌, length, refl, sym, ap, subst, ◌∙◌, arith, length-append, inl, inr, ⊎_elim}
+use Rattle.std.proofs.lemmas.Bool.{cases_Bool, cases_eq}
 use Rattle.std.specs.List.{AllByRecursion}
-use Rattle.session_model.specs.Journal.{Entry, History, InOrder, entry, finish, entries_of}
+use Rattle.session_model.specs.Journal.{Entry, History, InOrder, entry, entries_of}
 use Rattle.session_model.proofs.Lists.{all_append, all_second}
 use Rattle.fixp_msgs.specs.Payload.{IsApplication}
 use Rattle.jr_record.specs.declared.record.Record.{Record}
@@ -32,9 +32,9 @@ tallies_entry old new h e sender more t = record {
   all = omega (arith, more.all, t.all, length-append h.made (e ∷ []));
   each = λ s is. ⊎_elim
       (λ same. subst (λ (k : ℕ). count_in new k ≡ length (entries_of (h.made ++ e ∷ []) k)) (sym same)
-          (let there = t.each e.sender sender in
-           let longer : length (entries_of (h.made ++ e ∷ []) e.sender) ≡ length (entries_of h.made e.sender) + 1 = ap length (entries_of-same h.made e) ∙ length-append (entries_of h.made e.sender) (e ∷ []) in
-           omega (arith, more.its, there, longer)))
+      (let there = t.each e.sender sender in
+      let longer : length (entries_of (h.made ++ e ∷ []) e.sender) ≡ length (entries_of h.made e.sender) + 1 = ap length (entries_of-same h.made e) ∙ length-append (entries_of h.made e.sender) (e ∷ []) in
+      omega (arith, more.its, there, longer)))
       (λ other. more.others s is other ∙ t.each s is ∙ ap length (sym (entries_of-other h.made e s (λ f. other (sym f)))))
       (cases_eq s e.sender);
   mark = more.mark ∙ t.mark;
@@ -100,7 +100,7 @@ follows records t r h c is = by_mark (cases_Bool h.finished)
         let sender : IsSender w.last.sender = (all_second (λ (d : Entry). IsSender d.sender) w.before (w.last ∷ []) senders).0 in
         let payload : IsApplication w.last.payload = (all_second (λ (d : Entry). IsApplication d.payload) w.before (w.last ∷ []) payloads).0 in
         let counted : count_in t w.last.sender ≡ length (entries_of w.before w.last.sender) =
-            c.tallied.each w.last.sender sender ∙ ap (λ (es : List Entry). length (entries_of es w.last.sender)) same in
+        c.tallied.each w.last.sender sender ∙ ap (λ (es : List Entry). length (entries_of es w.last.sender)) same in
         subst (MayFollow t) (sym w.is)
         (c.tallied.mark ∙ open_is, sender, last_number w.before w.last order ∙ ap (λ (n : ℕ). n + 1) (sym counted), payload)
 

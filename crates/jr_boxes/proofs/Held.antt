@@ -1,5 +1,5 @@
 -- What a box holds once a record was appended to its journal, or refused.
-use Rattle.std.proofs.Common.{◌≡◌, ◌↔◌, ◌⊎◌, ℕ, zero, suc, ◌+◌, ◌<◌, Bool, true, false, List, [], ◌∷◌, ◌++◌, map, length, slice_get, Option, Some, Result, Err, inl, inr, refl, sym, ap, subst, ◌∙◌, arith, length-append}
+use Rattle.std.proofs.Common.{◌≡◌, ◌⊎◌, ℕ, zero, suc, ◌+◌, ◌<◌, Bool, true, false, List, [], ◌∷◌, ◌++◌, map, length, slice_get, Option, Some, Result, Err, inl, inr, refl, sym, ap, subst, ◌∙◌, arith, length-append}
 use Rattle.std.proofs.Math.Logic.{∥∥₁_map}
 use Rattle.std.proofs.lemmas.Bool.{false≢true, cases_Bool}
 use Rattle.std.specs.Int.{w16, w64, to_le_bytes}
@@ -18,9 +18,9 @@ use Rattle.jr_record.specs.Journals.{Holds, Unchanged as SameJournal, OnRefused,
 use Rattle.jr_boxes.specs.declared.tally.Tally.{Tally}
 use Rattle.jr_boxes.specs.declared.outbox.Outbox.{Outbox}
 use Rattle.jr_boxes.specs.Payloads.{payload_in}
-use Rattle.jr_boxes.specs.Outboxes.{record_of, records_of_history, IsOutbox, with_entry, with_mark}
+use Rattle.jr_boxes.specs.Outboxes.{record_of, records_of_history, with_entry, with_mark}
 use Rattle.jr_boxes.specs.Tallies.{Tallies, CountsEntry, StandsAs, HoldsAs, count_in}
-use Rattle.jr_boxes.specs.Outbox.{StandsFor, Leaves, HoldsBox, SameContent, Unchanged}
+use Rattle.jr_boxes.specs.Outbox.{SameContent}
 use Rattle.jr_boxes.proofs.Histories.{entry_joins, mark_joins}
 use Rattle.jr_boxes.proofs.Counting.{outbox_entry, outbox_mark, tallies_entry, tallies_mark}
 
@@ -116,8 +116,9 @@ module _ {J : Type 0} {G : Ghosts J} where
   pub same_content : (old new : Outbox J G) → SameJournal G.stands G.leaves old.journal new.journal → new.tally ≡ old.tally → G.size new.journal ≡ G.size old.journal → SameContent old new
   same_content old new same tally size = record {
     stands = λ h. (
-        λ held. subst (λ (t : Tally). StandsAs G.stands new.journal t h) (sym tally) (stands_same G.stands G.leaves old.journal new.journal same old.tally h held),
-        λ held. stands_same G.stands G.leaves new.journal old.journal back old.tally h (subst (λ (t : Tally). StandsAs G.stands new.journal t h) tally held));
+      λ held. subst (λ (t : Tally). StandsAs G.stands new.journal t h) (sym tally) (stands_same G.stands G.leaves old.journal new.journal same old.tally h held),
+      λ held. stands_same G.stands G.leaves new.journal old.journal back old.tally h (subst (λ (t : Tally). StandsAs G.stands new.journal t h) tally held),
+    );
     images = same.images;
     front = ap (λ (t : Tally). t.entries) tally;
     mine = λ s. ap (λ (t : Tally). count_in t s) tally;

@@ -1,16 +1,13 @@
 -- A history with one more record, and what the records of a history tell of it.
-use Rattle.std.proofs.Common.{◌≡◌, ◌≢◌, ℕ, zero, suc, ◌+◌, ◌-◌, ◌≤◌, ◌<◌, Bool, true, false, cond, ◌==◌, List, [], ◌∷◌, ◌++◌, map, length, refl, sym, ap, subst, ◌∙◌, arith, eq-eqb, eqb-true, ne_eqb, length-append}
+use Rattle.std.proofs.Common.{◌≡◌, ◌≢◌, ℕ, ◌+◌, Bool, true, false, cond, ◌==◌, List, [], ◌∷◌, ◌++◌, map, length, refl, sym, ap, subst, ◌∙◌, arith, eq-eqb, eqb-true, ne_eqb, length-append}
 use Rattle.std.proofs.lemmas.Bool.{false≢true, eqb-false}
 use Rattle.std.proofs.lemmas.List.{append-nil}
 use Rattle.std.proofs.lemmas.List.Elements.{filter-append}
-use Rattle.std.specs.List.{AllByRecursion}
-use Rattle.session_model.specs.Journal.{Entry, History, InOrder, entry, finish, entries_of, counts_from}
-use Rattle.session_model.proofs.Lists.{all_append, all_second, counts_from-add}
-use Rattle.fixp_msgs.specs.Payload.{IsApplication}
+use Rattle.session_model.specs.Journal.{Entry, History, InOrder, entry, entries_of, counts_from}
+use Rattle.session_model.proofs.Lists.{counts_from-add}
 use Rattle.jr_record.specs.declared.record.Record.{Record}
 use Rattle.jr_record.specs.declared.record.Record.TheVariants as kinds
-use Rattle.jr_record.specs.Records.{IsSender}
-use Rattle.jr_boxes.specs.Outboxes.{record_of, mark_of, records_of_history, IsOutbox, with_entry, with_mark}
+use Rattle.jr_boxes.specs.Outboxes.{record_of, mark_of, records_of_history, with_entry, with_mark}
 
 -- the records of some entries
 abbrev pub records_of : List Entry → List Record
@@ -98,7 +95,7 @@ pub last_number : (es : List Entry) (e : Entry) → InOrder (es ++ e ∷ []) →
 last_number es e in_order =
     let own = entries_of es e.sender in
     let there : map (λ (d : Entry). d.own_number) (own ++ e ∷ []) ≡ counts_from 1 (length (own ++ e ∷ [])) =
-        subst (λ (ds : List Entry). map (λ (d : Entry). d.own_number) ds ≡ counts_from 1 (length ds)) (entries_of-same es e) (in_order e.sender) in
+    subst (λ (ds : List Entry). map (λ (d : Entry). d.own_number) ds ≡ counts_from 1 (length ds)) (entries_of-same es e) (in_order e.sender) in
     omega (arith, last_of own e 1 there)
 
 -- entries are told by their records

@@ -1,15 +1,14 @@
 -- What was noted of the records of an inbox, and which record may follow.
-use Rattle.std.proofs.Common.{◌≡◌, ℕ, zero, suc, ◌+◌, ◌-◌, ◌≤◌, ◌<◌, ◌^◌, max, Bool, true, false, List, [], ◌∷◌, ◌++◌, map, length, slice_get, slice_index, Option, Some, None, refl, sym, ap, subst, ◌∙◌, arith, length-append, append-nil, zero-add}
+use Rattle.std.proofs.Common.{◌≡◌, ℕ, zero, suc, ◌+◌, ◌-◌, ◌≤◌, ◌<◌, max, false, List, [], ◌∷◌, ◌++◌, map, length, slice_get, slice_index, Some, None, refl, sym, ap, subst, ◌∙◌, arith, append-nil, zero-add}
 use Rattle.session_model.specs.Inbox.{Numbered, Range, InboxRecord, apply, skip, negotiated, peer_finished, next_number, past_greatest, settled, applied, payloads_of}
 use Rattle.session_model.specs.Journal.{counts_from}
 use Rattle.session_model.proofs.Inboxes.{next_number-append}
 use Rattle.session_model.proofs.Lists.{past_greatest-counts_from, past_greatest-pos}
 use Rattle.fixp_msgs.specs.declared.flow.Flow.{Flow}
-use Rattle.fixp_msgs.specs.declared.flow.Flow.TheVariants as flows
 use Rattle.jr_record.specs.declared.record.Record.{Record}
 use Rattle.jr_record.specs.declared.record.Record.TheVariants as kinds
 use Rattle.jr_boxes.specs.declared.notes.Notes.{Notes}
-use Rattle.jr_boxes.specs.Inboxes.{record_of, records_of_inbox, has_negotiated, peer_last_in, Fits, IsInbox}
+use Rattle.jr_boxes.specs.Inboxes.{record_of, records_of_inbox, Fits, IsInbox}
 use Rattle.jr_boxes.specs.Notes.{Notices, Noted, MayFollow, HasNoted, IsWithin, places_from}
 use Rattle.jr_boxes.specs.Payloads.{payload_in}
 use Rattle.jr_boxes.proofs.Settling.{inbox_push, inbox_ends, same_records, has_negotiated-push, has_negotiated-other, peer_last_in-push, peer_last_in-other, finished_once, unfinished, places_from-push}
@@ -190,7 +189,7 @@ pub message_at : (i : List InboxRecord) (n : Notes) (k : ℕ) (r : Record) → N
 message_at i n k r is within read =
     let p = placed 0 i k (subst (λ (ks : List ℕ). k < length ks) is.places within) in
     let here : slice_get i (slice_index n.places.items k) ≡ Some (apply p.message) =
-        ap (λ (ks : List ℕ). slice_get i (slice_index ks k)) is.places ∙ ap (λ (q : ℕ). slice_get i q) (from_none (slice_index (places_from 0 i) k)) ∙ p.found in
+    ap (λ (ks : List ℕ). slice_get i (slice_index ks k)) is.places ∙ ap (λ (q : ℕ). slice_get i q) (from_none (slice_index (places_from 0 i) k)) ∙ p.found in
     let spelled : slice_get (records_of_inbox i) (slice_index n.places.items k) ≡ Some (record_of (apply p.message)) = mapped record_of i (slice_index n.places.items k) (apply p.message) here in
     let same : record_of (apply p.message) ≡ r = some_inj (sym spelled ∙ read) in
     record {

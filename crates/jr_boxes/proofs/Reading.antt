@@ -1,7 +1,6 @@
 -- Records that are read one after another, and those before one of them.
-use Rattle.std.proofs.Common.{◌≡◌, ℕ, zero, suc, ◌+◌, ◌<◌, List, [], ◌∷◌, ◌++◌, length, take, slice_get, Some, refl, sym, ap, subst, ◌∙◌, arith, add-one}
+use Rattle.std.proofs.Common.{◌≡◌, ℕ, zero, suc, ◌+◌, List, [], ◌∷◌, ◌++◌, take, slice_get, Some, sym, ap, subst, add-one}
 use Rattle.std.proofs.lemmas.Option.{slice_get_within}
-use Rattle.session_model.specs.Journal.{History}
 use Rattle.jr_record.specs.declared.record.Record.{Record}
 use Rattle.jr_boxes.specs.declared.tally.Tally.{Tally}
 use Rattle.jr_boxes.specs.Outboxes.{IsOutbox, IsWrongAt}

@@ -1,11 +1,9 @@
 -- The lists of an inbox with one more record.
-use Rattle.std.proofs.Common.{◌≡◌, ◌≢◌, ◌⊎◌, ℕ, zero, suc, ◌+◌, ◌-◌, ◌≤◌, ◌<◌, ◌^◌, max, Bool, true, false, List, [], ◌∷◌, ◌++◌, map, length, slice_get, get_or, Option, Some, None, refl, sym, ap, subst, ◌∙◌, arith, append_assoc, length-append, add-zero, inl, inr}
+use Rattle.std.proofs.Common.{◌≡◌, ◌⊎◌, ℕ, suc, ◌+◌, false, List, [], ◌∷◌, ◌++◌, length, None, refl, sym, ap, subst, ◌∙◌, arith, append_assoc, add-zero, inl, inr}
 use Rattle.std.proofs.lemmas.List.{map-append}
-use Rattle.session_model.specs.Inbox.{Numbered, Range, InboxRecord, apply, skip, negotiated, peer_finished, next_number, has_peer_finished, applied}
-use Rattle.session_model.proofs.Inboxes.{next_number-append}
+use Rattle.session_model.specs.Inbox.{Numbered, Range, InboxRecord, apply, skip, negotiated, peer_finished, has_peer_finished}
 use Rattle.fixp_msgs.specs.declared.flow.Flow.{Flow}
 use Rattle.jr_record.specs.declared.record.Record.{Record}
-use Rattle.jr_record.specs.declared.record.Record.TheVariants as kinds
 use Rattle.jr_boxes.specs.Inboxes.{record_of, records_of_inbox, has_negotiated, peer_last_in, Fits, IsInbox}
 use Rattle.jr_boxes.specs.Notes.{places_from}
 

@@ -1,5 +1,5 @@
 -- What an inbox is seen as: for which lists it stands, what a stop may leave of it, and what it tells.
-use Rattle.std.specs.Prelude.{◌≡◌, ◌↔◌, ℕ, ◌+◌, ◌<◌, ◌≤◌, Bool, true, false, List, [], ◌∷◌, length, Option, Some}
+use Rattle.std.specs.Prelude.{◌≡◌, ◌↔◌, ℕ, ◌+◌, ◌<◌, Bool, false, List, [], length, Option}
 use Rattle.session_model.specs.Inbox.{InboxRecord}
 use Rattle.fixp_msgs.specs.declared.flow.Flow.{Flow}
 use Rattle.jr_record.specs.declared.journal.Journal.{Ghosts}

@@ -1,6 +1,6 @@
 -- What an outbox is seen as: for which histories it stands, what a stop may leave of it, and its numbers.
-use Rattle.std.specs.Prelude.{◌≡◌, ◌↔◌, ◌⊎◌, ℕ, ◌+◌, ◌<◌, ◌≤◌, Bool, true, false, List, [], ◌∷◌, map, length, Option}
-use Rattle.session_model.specs.Journal.{Entry, History, OutboxRecord}
+use Rattle.std.specs.Prelude.{◌≡◌, ◌↔◌, ◌⊎◌, ℕ, ◌+◌, ◌<◌, ◌≤◌, Bool, true, false, List, [], Option}
+use Rattle.session_model.specs.Journal.{History, OutboxRecord}
 use Rattle.jr_record.specs.declared.journal.Journal.{Ghosts}
 use Rattle.jr_record.specs.declared.record.Record.{Record}
 use Rattle.jr_record.specs.declared.limits.Limits.{Limits}
@@ -8,7 +8,7 @@ use Rattle.jr_record.specs.Records.{IsSender}
 use Rattle.jr_record.specs.Images.{record_size}
 use Rattle.jr_record.specs.Journals.{Holds}
 use Rattle.jr_boxes.specs.declared.outbox.Outbox.{Outbox}
-use Rattle.jr_boxes.specs.Outboxes.{IsOutbox, records_of_history, record_of}
+use Rattle.jr_boxes.specs.Outboxes.{IsOutbox}
 use Rattle.jr_boxes.specs.Tallies.{StandsAs, HoldsAs, count_in}
 
 module _ {J : Type 0} {G : Ghosts J} where

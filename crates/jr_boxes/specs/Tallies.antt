@@ -1,5 +1,5 @@
 -- What an outbox counts of its records, and what it holds while its journal does.
-use Rattle.std.specs.Prelude.{◌≡◌, ℕ, ◌+◌, ◌-◌, ◌≤◌, Bool, true, false, List, [], map, length, slice_index, Option}
+use Rattle.std.specs.Prelude.{◌≡◌, ℕ, ◌+◌, ◌-◌, ◌≤◌, true, false, List, map, length, slice_index, Option}
 use Rattle.session_model.specs.Journal.{History, OutboxRecord, entries_of}
 use Rattle.fixp_msgs.specs.Payload.{IsApplication}
 use Rattle.jr_record.specs.declared.record.Record.{Record}

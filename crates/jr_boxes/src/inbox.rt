@@ -49,7 +49,12 @@ impl<J: Journal> Inbox<J> {
     /// excludes: a message or a jump that does not begin at the next number, or whose last number is 2^64 - 1 or more, a
     /// jump where the flow is not idempotent, a second mark that the session is negotiated or that the peer finished, an
     /// entry or a Finish. `Memory`; `Fault` where a call of the disk failed.
-    pub fn open(alloc: Global, journal: J, limits: Limits, flow: Flow) -> Result<Inbox<J>, (J, BoxFault)>
+    pub fn open(
+        alloc: Global,
+        journal: J,
+        limits: Limits,
+        flow: Flow,
+    ) -> Result<Inbox<J>, (J, BoxFault)>
         requires sound { J.is_broken journal ≡ false }
         requires limited { J.limits journal ≡ limits }
         ensures opened { IfOk result (λ box. (records : List Record) → J.stands journal records → OpensOn journal box records) }

@@ -1,6 +1,5 @@
-use Rattle.std.proofs.Common.{◌≡◌, ◌+◌, ◌<◌, ℕ, true, false, List, length, refl, sym, ap, subst, ◌∙◌, arith}
+use Rattle.std.proofs.Common.{◌≡◌, ℕ, length, refl, sym, ap, subst, ◌∙◌, arith}
 use Rattle.std.proofs.lemmas.Bool.{false≢true}
-use Rattle.jr_record.specs.declared.record.Record.{Record}
 use Rattle.jr_boxes.specs.Inboxes.{IsWrongAt}
 use Rattle.jr_boxes.proofs.Noting.{within_more}
 use Rattle.jr_boxes.proofs.Kept.{noted_on, nothing_noted, unmoved, wrong_here}
@@ -23,20 +22,22 @@ returns-then-not-branch-clause-wrong g c at is records stands =
     let here : c.loop-at.at ≡ at = cc in
     subst (λ (n : ℕ). IsWrongAt c.args.flow records n) here
     (wrong_here c.args.flow records c.loop-at.at c.loop-at.notes c.in_ok-r.r
-        (c.in_ok-r.ensures.found records ((c.loop-at.invariant.same.records records).0 stands))
-        (c.loop-at.invariant.noted records stands)
-        (λ may. false≢true (sym c.if-not-branch.true ∙ c.in_ok-note.ensures.fits.1 may)))
+    (c.in_ok-r.ensures.found records ((c.loop-at.invariant.same.records records).0 stands))
+    (c.loop-at.invariant.noted records stands)
+    (λ may. false≢true (sym c.if-not-branch.true ∙ c.in_ok-note.ensures.fits.1 may)))
 
 pub loop-at-preserved : goal.loop-at-preserved
 loop-at-preserved g c = record {
   sound = c.in_ok-r.ensures.breaks;
   same = record {
     records = λ h. (
-        λ was. (c.in_ok-r.ensures.unchanged.records h).0 ((c.loop-at.invariant.same.records h).0 was),
-        λ now. (c.loop-at.invariant.same.records h).1 ((c.in_ok-r.ensures.unchanged.records h).1 now));
+      λ was. (c.in_ok-r.ensures.unchanged.records h).0 ((c.loop-at.invariant.same.records h).0 was),
+      λ now. (c.loop-at.invariant.same.records h).1 ((c.in_ok-r.ensures.unchanged.records h).1 now),
+    );
     images = λ o. (
-        λ was. (c.in_ok-r.ensures.unchanged.images o).0 ((c.loop-at.invariant.same.images o).0 was),
-        λ now. (c.loop-at.invariant.same.images o).1 ((c.in_ok-r.ensures.unchanged.images o).1 now));
+      λ was. (c.in_ok-r.ensures.unchanged.images o).0 ((c.loop-at.invariant.same.images o).0 was),
+      λ now. (c.loop-at.invariant.same.images o).1 ((c.in_ok-r.ensures.unchanged.images o).1 now),
+    );
   };
   count = c.in_ok-r.ensures.sizes.0 ∙ c.loop-at.invariant.count;
   size = c.in_ok-r.ensures.sizes.1 ∙ c.loop-at.invariant.size;

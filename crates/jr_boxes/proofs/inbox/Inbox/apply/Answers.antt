@@ -1,7 +1,6 @@
-use Rattle.std.proofs.Common.{◌≡◌, ◌+◌, ◌≤◌, ◌<◌, ◌^◌, List, [], ℕ, Result, Err, false, length, refl, sym, ap, subst, ◌∙◌, arith}
+use Rattle.std.proofs.Common.{◌≡◌, List, ℕ, Result, Err, refl, sym, ap, ◌∙◌, arith}
 use Rattle.std.proofs.lemmas.Result.{err_from_is_err_and}
-use Rattle.session_model.specs.Inbox.{InboxRecord, apply}
-use Rattle.jr_record.specs.declared.record.Record.{Record}
+use Rattle.session_model.specs.Inbox.{apply}
 use Rattle.jr_record.specs.declared.record.Record.TheVariants as kinds
 use Rattle.jr_record.specs.declared.faults.AppendFault.{AppendFault}
 use Rattle.jr_record.specs.declared.faults.AppendFault.TheVariants as append
@@ -12,9 +11,10 @@ use Rattle.jr_boxes.proofs.inbox.Inbox.apply.Goals as goal
 pub returns-then-payload-saturating_sub-clause-full : goal.returns-then-payload-saturating_sub-clause-full
 returns-then-payload-saturating_sub-clause-full g c =
     let size = apply_size c.args.number c.args.payload.now in
-    let full : ℕ → Result (Unit {0}) AppendFault = λ n. Err (append.Full n) in
-    (λ _. record { sound = sym c.if-broken.ensures.value; past = omega (arith, size, c.if-payload-saturating_sub.true, c.saturating_sub.ensures, c.bytes-bytes.ensures.value) },
-     λ _. ap full c.bytes-bytes.ensures.value)
+    let full : ℕ → Result (Unit {0}) AppendFault = λ n. Err (append.Full n) in (
+      λ _. record { sound = sym c.if-broken.ensures.value; past = omega (arith, size, c.if-payload-saturating_sub.true, c.saturating_sub.ensures, c.bytes-bytes.ensures.value) },
+      λ _. ap full c.bytes-bytes.ensures.value,
+    )
 
 pub invariant_of-self : goal.invariant_of-self
 invariant_of-self g c =
@@ -30,9 +30,10 @@ returns-in_err-reserve-clause-full g c =
     let size = apply_size c.args.number c.args.payload.now in
     let p = err_from_is_err_and c.from_residual.result c.from_residual.ensures.1 in
     let is_err = p.1 in
-    let memory = p.2 in
-    (λ full. absurd (cc (full, is_err, memory)),
-     λ past. absurd (omega (arith, size, past.past, c.if-payload-saturating_sub.false, c.saturating_sub.ensures, c.bytes-bytes.ensures.value)))
+    let memory = p.2 in (
+      λ full. absurd (cc (full, is_err, memory)),
+      λ past. absurd (omega (arith, size, past.past, c.if-payload-saturating_sub.false, c.saturating_sub.ensures, c.bytes-bytes.ensures.value)),
+    )
 
 pub invariant_of-self-in-Break-branch-2 : goal.invariant_of-self-in-Break-branch-2
 invariant_of-self-in-Break-branch-2 g c =
@@ -48,9 +49,10 @@ returns-in_err-payload-clause-full g c =
     let size = apply_size c.args.number c.args.payload.now in
     let p = err_from_is_err_and c.from_residual-in_err-payload.result c.from_residual-in_err-payload.ensures.1 in
     let is_err = p.1 in
-    let memory = p.2 in
-    (λ full. absurd (cc (full, is_err, memory)),
-     λ past. absurd (omega (arith, size, past.past, c.if-payload-saturating_sub.false, c.saturating_sub.ensures, c.bytes-bytes.ensures.value)))
+    let memory = p.2 in (
+      λ full. absurd (cc (full, is_err, memory)),
+      λ past. absurd (omega (arith, size, past.past, c.if-payload-saturating_sub.false, c.saturating_sub.ensures, c.bytes-bytes.ensures.value)),
+    )
 
 pub invariant_of-self-in-Break-branch-3 : goal.invariant_of-self-in-Break-branch-3
 invariant_of-self-in-Break-branch-3 g c =
@@ -86,6 +88,6 @@ returns-clause-ok g c =
     let is : kinds.Apply c.args.number c.in_ok-payload.payload ≡ kinds.Apply c.args.number c.args.payload.now = ap (λ (p : List ℕ). kinds.Apply c.args.number p) c.in_ok-payload.ensures in
     let noted = noted_behind old.notes c.reserve.new.self c.push.new.self c.len-at.result c.args.number c.args.payload.now c.reserve.ensures.same c.push.ensures.noted in
     kept_more g.J.Journal.stands g.J.Journal.leaves old.journal new old.flow old.notes c.push.new.self
-        c.len-at.result (apply (record { number = c.args.number; payload = c.args.payload.now })) (kinds.Apply c.args.number c.in_ok-payload.payload) is
-        (λ records stands. (g.met.J.Journal.counted old.journal records stands).0 ∙ sym c.len-at.ensures.value)
-        (c.requires.next, omega (arith, c.requires.most, old.limits.few)) noted c.in_ok-append.ensures.ok
+    c.len-at.result (apply (record { number = c.args.number; payload = c.args.payload.now })) (kinds.Apply c.args.number c.in_ok-payload.payload) is
+    (λ records stands. (g.met.J.Journal.counted old.journal records stands).0 ∙ sym c.len-at.ensures.value)
+    (c.requires.next, omega (arith, c.requires.most, old.limits.few)) noted c.in_ok-append.ensures.ok

@@ -1,4 +1,4 @@
-use Rattle.std.proofs.Common.{◌≡◌, List, ℕ, length, refl, sym, ap, ◌∙◌}
+use Rattle.std.proofs.Common.{List, ℕ, length, ap, ◌∙◌}
 use Rattle.jr_boxes.proofs.Kept.{length-places}
 use Rattle.jr_boxes.proofs.inbox.Inbox.count.Goals as goal
 

@@ -1,4 +1,4 @@
-use Rattle.std.proofs.Common.{◌≡◌, ◌+◌, ◌-◌, ◌≤◌, ◌<◌, List, [], ℕ, Some, false, true, refl, sym, ap, subst, ◌∙◌, arith, length, slice_get, slice_index}
+use Rattle.std.proofs.Common.{◌≡◌, ◌-◌, ◌<◌, [], ℕ, Some, subst, ◌∙◌, arith, length, slice_get, slice_index}
 use Rattle.std.proofs.Math.Logic.{∥∥₁_elim}
 use Rattle.std.proofs.lemmas.List.{get_or_read}
 use Rattle.jr_boxes.specs.Inboxes.{records_of_inbox}
@@ -28,10 +28,10 @@ unreachable-requires g c =
     let place : c.index-place.result.now ≡ slice_index old.notes.places.items (c.args.i - 1) = get_or_read old.notes.places.items _ _ within c.index-place.ensures 0 in
     let sound = read_sound (g.J.Journal.is_broken old.journal) (g.J.Journal.is_broken c.read.new.self) c.read.result c.read.ensures.broken.1 c.read.ensures.breaks c.in_ok-r.ensures.breaks in
     ∥∥₁_elim (old.held sound) (λ x y. absurd x) (λ found.
-        let read = subst (λ (p : ℕ). slice_get (records_of_inbox found.0) p ≡ Some c.in_ok-r.r) place (c.in_ok-r.ensures.found (records_of_inbox found.0) found.1.journal.stands_for) in
-        let at = message_at found.0 old.notes (c.args.i - 1) c.in_ok-r.r found.1.noticed within read in
-        let is = at.is in
-        absurd (cc (is, none, value)))
+    let read = subst (λ (p : ℕ). slice_get (records_of_inbox found.0) p ≡ Some c.in_ok-r.r) place (c.in_ok-r.ensures.found (records_of_inbox found.0) found.1.journal.stands_for) in
+    let at = message_at found.0 old.notes (c.args.i - 1) c.in_ok-r.r found.1.noticed within read in
+    let is = at.is in
+    absurd (cc (is, none, value)))
 
 pub returns-clause-payload : goal.returns-clause-payload
 returns-clause-payload g c list stands =

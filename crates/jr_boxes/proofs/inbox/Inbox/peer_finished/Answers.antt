@@ -1,5 +1,5 @@
-use Rattle.std.proofs.Common.{◌≡◌, ◌+◌, ◌≤◌, ◌<◌, ◌^◌, List, [], ℕ, false, refl, sym, ap, subst, ◌∙◌, arith}
-use Rattle.session_model.specs.Inbox.{InboxRecord, skip, negotiated, peer_finished}
+use Rattle.std.proofs.Common.{refl, ◌∙◌, arith}
+use Rattle.session_model.specs.Inbox.{peer_finished}
 use Rattle.jr_record.specs.declared.record.Record.TheVariants as kinds
 use Rattle.jr_boxes.proofs.Kept.{kept_more, some_more, some_refused, same_self}
 use Rattle.jr_boxes.proofs.inbox.Inbox.peer_finished.Goals as goal
@@ -33,4 +33,4 @@ returns-clause-ok g c =
     let old = c.args.self.now in
     let new = c.append.new.self in
     kept_more g.J.Journal.stands g.J.Journal.leaves old.journal new old.flow old.notes _ (g.J.Journal.count old.journal) (peer_finished c.args.last) (kinds.PeerFinished c.args.last) refl (λ records is. (g.met.J.Journal.counted old.journal records is).0)
-        c.requires.fresh (record { next_is = refl; negotiated_is = refl; peer_last_is = refl; places_are = refl }) c.in_ok-append.ensures.ok
+    c.requires.fresh (record { next_is = refl; negotiated_is = refl; peer_last_is = refl; places_are = refl }) c.in_ok-append.ensures.ok

@@ -1,4 +1,4 @@
-use Rattle.std.proofs.Common.{◌≡◌, ◌+◌, ◌≤◌, [], false, refl, sym, ap, subst, ◌∙◌, arith}
+use Rattle.std.proofs.Common.{[], refl, sym, ◌∙◌, arith}
 use Rattle.jr_boxes.specs.Outboxes.{with_mark}
 use Rattle.jr_boxes.proofs.Held.{held_mark, held_same, on_refused, some_on}
 use Rattle.jr_boxes.proofs.outbox.Outbox.close.Goals as goal

@@ -1,7 +1,7 @@
-use Rattle.std.proofs.Common.{◌≡◌, ◌+◌, ◌-◌, ◌≤◌, ◌<◌, List, [], ℕ, Some, false, true, refl, sym, ap, subst, ◌∙◌, arith, length}
+use Rattle.std.proofs.Common.{◌-◌, ◌<◌, [], ◌∙◌, arith, length}
 use Rattle.std.proofs.Math.Logic.{∥∥₁_elim}
 use Rattle.jr_boxes.specs.Outboxes.{mark_of, records_of_history}
-use Rattle.jr_boxes.proofs.Held.{held_same, read_sound, some_on, EntryAt, entry_at}
+use Rattle.jr_boxes.proofs.Held.{held_same, read_sound, some_on, entry_at}
 use Rattle.jr_boxes.proofs.outbox.Outbox.stable.Goals as goal
 
 pub invariant_of-self : goal.invariant_of-self
@@ -23,10 +23,10 @@ unreachable-requires g c =
     let value = c.payload_of.ensures.value in
     let sound = read_sound (g.J.Journal.is_broken old.journal) (g.J.Journal.is_broken c.read.new.self) c.read.result c.read.ensures.broken.1 c.read.ensures.breaks c.in_ok-record.ensures.breaks in
     ∥∥₁_elim (old.held sound) (λ x y. absurd x) (λ found.
-        let within : c.args.number - 1 < length found.0.made = omega (arith, c.requires.least, c.requires.within, found.1.tallied.all) in
-        let at = entry_at found.0.made (mark_of found.0.finished) (c.args.number - 1) c.in_ok-record.«record» within (c.in_ok-record.ensures.found (records_of_history found.0) found.1.journal.stands_for) in
-        let is = at.is in
-        absurd (cc (is, none, value)))
+    let within : c.args.number - 1 < length found.0.made = omega (arith, c.requires.least, c.requires.within, found.1.tallied.all) in
+    let at = entry_at found.0.made (mark_of found.0.finished) (c.args.number - 1) c.in_ok-record.«record» within (c.in_ok-record.ensures.found (records_of_history found.0) found.1.journal.stands_for) in
+    let is = at.is in
+    absurd (cc (is, none, value)))
 
 pub returns-clause-payload : goal.returns-clause-payload
 returns-clause-payload g c h stands =
