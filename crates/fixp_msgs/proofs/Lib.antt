@@ -2,3 +2,4 @@ pub mod Rows
 pub mod Written
 pub mod Sizes
 pub mod Found
+pub mod Payloads

@@ -8,4 +8,5 @@ pub mod Reading
 pub mod Canonical
 pub mod Laws
 pub mod Numbering
+pub mod Payload
 pub mod Counting

@@ -8,6 +8,7 @@ mod frames;
 mod laws;
 mod messages;
 mod numbering;
+mod payload;
 mod reading;
 mod writing;
 
@@ -20,5 +21,6 @@ pub use messages::{
     RetransmitReject, RetransmitRequest, Sequence, SessionMsg, Terminate, UnsequencedHeartbeat,
 };
 pub use numbering::{Counter, Range};
+pub use payload::is_application;
 pub use reading::{MsgFault, read};
 pub use writing::{size, write};

@@ -11,7 +11,7 @@ use Rattle.jr_log.specs.Log.{StandsFor, MayLeave}
 use Rattle.jr_log.specs.declared.faults.AddFault.{AddFault}
 use Rattle.jr_log.specs.declared.faults.AddFault.TheVariants.{Memory, Fault}
 use Rattle.jr_log.specs.declared.log.LogJournal.{LogJournal}
-use Rattle.jr_log.proofs.Fronts.{closed_holds, left_images}
+use Rattle.jr_log.specs.Settled.{left_images, settled_images}
 
 pub on_memory : {P Q : Type 0} (fault : AddFault) → (P → Q) → OnMemory {T = Unit {0}} (Err fault) P → OnRefused {T = Unit {0}} (Err (told_as fault)) Q
 on_memory Memory f p = f p
@@ -45,6 +45,5 @@ module _ {D : Type 0} {G : Ghosts D} where
   pub settled : AtMostOneVerdict → (j : LogJournal D G) → j.broken ≡ false → (h : List Record) → StandsFor j h → Holds (StandsFor {D = D} {G = G}) (MayLeave {D = D} {G = G}) j h []
   settled one j open_is h stands = record {
     stands_for = stands;
-    images = left_images one (G.may_leave j.disk) h [] (λ image left.
-        ([], ([], refl), subst (IsJournal image) (stands ∙ sym (append-nil h)) (closed_holds j.records.items image j.legal (j.settled open_is image left))));
+    images = settled_images one (G.may_leave j.disk) j.records.items h j.legal (j.settled open_is) stands;
   }

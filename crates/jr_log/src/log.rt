@@ -118,12 +118,14 @@ impl<D: Disk> LogJournal<D> {
 
 impl<D: Disk> Journal for LogJournal<D> {
     ghost use Rattle.std.specs.Prelude.{length};
-    ghost use Rattle.std.proofs.Common.{◌∙◌, ap, subst, sym};
+    ghost use Rattle.std.proofs.Common.{◌∙◌, ap, refl, subst, sym};
     ghost use Rattle.std.specs.List.{AllByRecursion};
     ghost use Rattle.jr_record.specs.Records.{IsRecord};
     ghost use Rattle.jr_record.specs.Images.{journal_size};
     ghost use Rattle.jr_log.specs.Behind.{few_records};
     ghost use Rattle.jr_log.specs.Log.{StandsFor, MayLeave};
+    ghost use Rattle.jr_record.proofs.Verdicts.{at_most_one_verdict};
+    ghost use Rattle.jr_log.specs.Settled.{settled_images};
 
     ghost stands = { StandsFor };
 
@@ -178,4 +180,9 @@ impl<D: Disk> Journal for LogJournal<D> {
     ghost legal = { λ j h is. subst (AllByRecursion IsRecord) is j.legal };
 
     ghost few = { λ j. few_records j.records.items j.size j.sized j.small };
+
+    ghost held = { λ j open_is. (j.records.items, record {
+        stands_for = refl;
+        images = settled_images at_most_one_verdict (D.may_leave j.disk) j.records.items j.records.items j.legal (j.settled open_is) refl;
+    }) };
 }

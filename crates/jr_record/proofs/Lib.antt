@@ -1,3 +1,3 @@
 mod Bodies
 mod Spelling
-mod Verdicts
+pub mod Verdicts

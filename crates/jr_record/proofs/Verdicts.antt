@@ -1,8 +1,11 @@
 -- An image holds at most one list of records, or is damaged at one place, or is not formatted.
-use Rattle.std.proofs.Common.{◌≡◌, ◌≢◌, ℕ, List, [], ◌∷◌, ◌++◌, length, refl, sym, ap, ◌∙◌, arith, append_assoc, length-append}
+use Rattle.std.proofs.Common.{◌≡◌, ◌≢◌, ℕ, List, [], ◌∷◌, ◌++◌, length, refl, sym, ap, ◌∙◌, arith, append_assoc, length-append, take}
 use Rattle.std.proofs.lemmas.List.{append_cancel_left}
 use Rattle.std.specs.List.{AllByRecursion}
-use Rattle.jr_record.specs.Images.{gated, Breaks, ImageHolds, ImageDamaged}
+use Rattle.jr_record.specs.Images.{gated, header, Breaks, ImageHolds, ImageDamaged}
+use Rattle.jr_record.specs.Laws.{AtMostOneVerdict}
+use Rattle.jr_record.specs.Records.{IsRecord, spelled}
+use Rattle.jr_record.proofs.Spelling.{one}
 
 module _ {R : Type 0} (Legal : R → Type 0) (spell : R → List ℕ) (one : (r s : R) (a b : List ℕ) → Legal r → Legal s → spell r ++ a ≡ spell s ++ b → (r ≡ s) × (a ≡ b)) where
   -- the same bytes begin with the same records, as far as both go
@@ -70,3 +73,12 @@ module _ {R : Type 0} (Legal : R → Type 0) (spell : R → List ℕ) (one : (r 
     pub whole : (image : List ℕ) (h : List R) (n : ℕ) → ImageHolds header Legal spell image h → ImageDamaged header Legal spell image n → ⊥
     whole image h n a b = closed_whole h b.records a.behind b.rest a.closed a.legal b.legal a.is_closed b.breaks
         (behind_header (gated spell h) (gated spell b.records) (a.closed ∷ a.behind) b.rest (sym a.whole ∙ b.whole))
+
+pub at_most_one_verdict : AtMostOneVerdict
+at_most_one_verdict = record {
+  one_list = one_list IsRecord spelled one header;
+  one_place = one_place IsRecord spelled one header;
+  whole = whole IsRecord spelled one header;
+  formatted = λ image h held broken. broken (ap (λ (xs : List ℕ). take 16 xs) held.whole);
+  damaged = λ image at held broken. broken (ap (λ (xs : List ℕ). take 16 xs) held.whole);
+}

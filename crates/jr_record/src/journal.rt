@@ -101,4 +101,7 @@ pub trait Journal {
 
     /// It has fewer records than numbers of entries can count.
     ghost few: { (j : Self) → count j < 2 ^ 40 };
+
+    /// While no call of its disk has failed, each image holds exactly a list that it stands for.
+    ghost held: { (j : Self) → is_broken j ≡ false → (h : List Record) × Holds stands leaves j h [] };
 }

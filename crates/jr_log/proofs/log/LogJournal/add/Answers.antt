@@ -5,7 +5,8 @@ use Rattle.jr_record.specs.declared.record.Record.{Record}
 use Rattle.jr_record.specs.Records.{IsRecord, spelled}
 use Rattle.jr_record.specs.Images.{gated, journal_size}
 use Rattle.jr_log.specs.Behind.{front_of, IsClosedBehind}
-use Rattle.jr_log.proofs.Fronts.{first_gate, length-front_of, journal_size-append, legal-append, closed_holds, goes_on_holds, holds_closed}
+use Rattle.jr_log.specs.Settled.{closed_holds}
+use Rattle.jr_log.proofs.Fronts.{first_gate, length-front_of, journal_size-append, legal-append, goes_on_holds, holds_closed}
 use Rattle.jr_log.proofs.log.LogJournal.add.Goals as goal
 
 pub write_behind-requires-clause-gate : goal.write_behind-requires-clause-gate

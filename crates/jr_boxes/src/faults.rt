@@ -1,0 +1,113 @@
+//! Why a call on an outbox or an inbox did not do what it was asked for.
+
+ghost use Rattle.jr_boxes.specs.declared.faults.BoxFault.TheVariants as box_fault;
+ghost use Rattle.jr_boxes.specs.declared.faults.SubmitFault.TheVariants as submit;
+
+use jr_record::FetchFault;
+use std::alloc::AllocError;
+use thiserror::Error;
+
+/// Which of the two boxes of an end.
+#[derive(Clone, Copy, Debug, PartialEq, Eq)]
+pub enum Which {
+    Outbox,
+    Inbox,
+}
+
+/// Why a journal is not one that a box can be opened on, or can be formatted.
+#[derive(Clone, Copy, Debug, PartialEq, Eq, Error)]
+pub enum JournalCause {
+    /// The first 16 bytes are not the header.
+    #[error("not formatted as a journal")]
+    NotFormatted,
+    /// No record and no end of the records stands at this byte.
+    #[error("damaged at byte {at}")]
+    Damaged { at: u64 },
+    /// The record of this index, from 0 on, is the first that the box excludes.
+    #[error("wrong at record {at}")]
+    Wrong { at: u64 },
+    /// The disk begins as a journal does.
+    #[error("already formatted as a journal")]
+    Already,
+}
+
+/// Why a box was not opened on a journal.
+#[derive(Clone, Copy, Debug, PartialEq, Eq, Error)]
+pub enum BoxFault {
+    #[error("the journal's disk failed")]
+    Fault,
+    /// The record of this index, from 0 on, is the first that the box excludes.
+    #[error("wrong at record {at}")]
+    Wrong { at: u64 },
+    #[error("out of memory")]
+    Memory,
+}
+
+/// Why nothing was added to an outbox.
+#[derive(Clone, Copy, Debug, PartialEq, Eq, Error)]
+pub enum SubmitFault {
+    /// A call of the disk has failed since the opening.
+    #[error("the outbox is broken")]
+    Broken,
+    /// The Finish stands.
+    #[error("the outbox is closed")]
+    Closed,
+    /// The entry would pass a limit; the outbox has so many entries, and its journal so many bytes.
+    #[error("the outbox is full at {entries} entries and {bytes} bytes")]
+    Full { entries: u64, bytes: u64 },
+    #[error("out of memory")]
+    Memory,
+    /// A call of the disk failed: whether the entry is there shows when the outbox is opened again.
+    #[error("the outbox's disk failed")]
+    Fault,
+}
+
+/// Why an outbox was not closed.
+#[derive(Clone, Copy, Debug, PartialEq, Eq, Error)]
+pub enum CloseFault {
+    /// A call of the disk has failed since the opening.
+    #[error("the outbox is broken")]
+    Broken,
+    /// The Finish stands already.
+    #[error("the outbox is closed")]
+    Closed,
+    #[error("out of memory")]
+    Memory,
+    /// A call of the disk failed: whether the Finish is there shows when the outbox is opened again.
+    #[error("the outbox's disk failed")]
+    Fault,
+}
+
+impl From<AllocError> for SubmitFault {
+    ghost use Rattle.std.specs.Prelude.{◌≡◌};
+
+    ghost from_gives = { λ _ fault. fault ≡ submit.Memory };
+
+    fn from(_: AllocError) -> SubmitFault {
+        SubmitFault::Memory
+    }
+}
+
+impl From<AllocError> for BoxFault {
+    ghost use Rattle.std.specs.Prelude.{◌≡◌};
+
+    ghost from_gives = { λ _ fault. fault ≡ box_fault.Memory };
+
+    fn from(_: AllocError) -> BoxFault {
+        BoxFault::Memory
+    }
+}
+
+impl From<FetchFault> for BoxFault {
+    ghost use Rattle.std.specs.Prelude.{◌≡◌};
+    ghost use Rattle.jr_boxes.specs.Faults.{opening_fault};
+
+    ghost from_gives = { λ fault opening. opening ≡ opening_fault fault };
+
+    fn from(fault: FetchFault) -> BoxFault {
+        match fault {
+            FetchFault::Memory => BoxFault::Memory,
+            FetchFault::Broken | FetchFault::Fault => BoxFault::Fault,
+        }
+    }
+}
