@@ -1,10 +1,10 @@
 -- The plan of a checked schema is legal.
-use Rattle.std.proofs.Common.{◌≡◌, ℕ, ◌+◌, ℤ, pos, sym, ap, subst, ◌∙◌, true, false, not, ◌&&◌, ◌||◌, IsTrue, nat_lt, Option, List, [], ◌∷◌, ◌++◌, arith}
+use Rattle.std.proofs.Common.{◌≡◌, ℕ, zero, suc, ◌+◌, ◌<◌, length, get_or, ℤ, pos, sym, ap, subst, ◌∙◌, true, false, not, ◌&&◌, ◌||◌, IsTrue, nat_lt, Option, List, [], ◌∷◌, ◌++◌, arith}
 use Rattle.std.specs.Prelude.{int_lt}
 use Rattle.std.specs.Ordering.{int_cmp, eq_by_cmp}
 use Rattle.std.proofs.lemmas.Cmp.{eq_by_cmp_equiv, int_cmp_total}
 use Rattle.std.specs.FinSet as set
-use Rattle.std.specs.List.{AllByRecursion}
+use Rattle.std.specs.List.{AllByRecursion, Contains}
 use Rattle.std.proofs.lemmas.Bool.{or_parts, and_parts, not-false, true≢false, or_left, or_right, le-ltb}
 use Rattle.sbe_prim.specs.declared.Primitive.{Primitive}
 use Rattle.sbe_prim.specs.declared.Primitive.TheVariants as prims
@@ -28,7 +28,8 @@ use Rattle.sbe_schema.specs.Places.{whole, message_table, group_table}
 use Rattle.sbe_schema.specs.Walk.{spot, place, walk, walk_types, walk_messages, walk_message, walk_block, walk_groups, walk_fields, walk_data, entry_of, root_of, names_of_fields, names_of_groups, ids_of_fields, ids_of_groups, ids_of_data}
 use Rattle.sbe_schema.specs.Checked.{is_checked}
 use Rattle.sbe_layout.specs.declared.plan.Plan.{Plan}
-use Rattle.sbe_layout.specs.Plans.{plan_of, message_plans, groups_plan, items_of_fields, marks_of, data_of}
+use Rattle.sbe_layout.specs.declared.plan.MessagePlan.{MessagePlan}
+use Rattle.sbe_layout.specs.Plans.{plan_of, message_plan, message_plans, groups_plan, items_of_fields, marks_of, data_of, listings_of}
 use Rattle.sbe_layout.specs.Legal.{IsLegalDatum, IsLegalBlock, AreLegalGroups, IsLegalMessage, AreOfOthers, HaveOwnTemplates, LegalPlan}
 use Rattle.sbe_layout.proofs.Kept.{all_keep, checked_keep, kept_first, kept_parts, FieldsFit, fields_fit, DataFit, data_fit, TypesFit, types_fit}
 use Rattle.sbe_layout.proofs.Within.{begins_behind, is_at_most, fields_small, fields_items, fields_marks}
@@ -38,13 +39,13 @@ data_legal [] h = tt
 data_legal (d ∷ ds) h = (not-false (is_dimension d.length || is_uint32 d.length) h.0, data_legal ds h.1)
 
 block_legal : (types : List TypeDef) (stated : Option ℤ) (fs : List FieldDef) (ds : List DataDef) → TypesFit types types → FieldsFit types 0 fs → DataFit ds → is_below stated (fields_end types 0 fs) ≡ false → is_above stated 16384 ≡ false
-    → IsLegalBlock (block_length_of types stated fs) (items_of_fields types 0 fs) (marks_of types 0 fs) (data_of ds)
+    → IsLegalBlock (listings_of types) (block_length_of types stated fs) (items_of_fields types 0 fs) (marks_of types 0 fs) (data_of ds)
 block_legal types stated fs ds k h d short long =
     let within = begins_behind stated (fields_end types 0 fs) short in
     let small = is_at_most stated 16384 (fields_end types 0 fs) long (fields_small types fs h) in
     record {
       bounded = small;
-      each_item = fields_items types (block_length_of types stated fs) 0 fs k (omega arith) h within small;
+      each_item = fields_items types (block_length_of types stated fs) 0 fs k (omega arith) h within;
       each_field = fields_marks types (block_length_of types stated fs) 0 fs (omega arith) h within;
       each_datum = data_legal ds d;
     }
@@ -55,7 +56,7 @@ dimension_holds prims.UInt8 n d e = λ i. not (le-ltb n 0 (omega arith) i) && no
 dimension_holds prims.UInt16 n d e = λ i. not (le-ltb n 0 (omega arith) i) && not (e i)
 dimension_holds _ n d e = absurd (true≢false (sym d))
 
-groups_legal : (s : Schema) (base : List Spot) (holder : Holder) (names : Names) (ids : Numbers) (floor : ℤ) (at : ℕ) (gs : GroupTree) → TypesFit s.types s.types → all_keep s (walk_groups s.types base holder names ids floor at gs) ≡ true → AreLegalGroups (groups_plan s.types gs)
+groups_legal : (s : Schema) (base : List Spot) (holder : Holder) (names : Names) (ids : Numbers) (floor : ℤ) (at : ℕ) (gs : GroupTree) → TypesFit s.types s.types → all_keep s (walk_groups s.types base holder names ids floor at gs) ≡ true → AreLegalGroups (listings_of s.types) (groups_plan s.types gs)
 groups_legal s base holder names ids floor at no_groups k e = tt
 groups_legal s base holder names ids floor at (group g inner rest) k e =
     let below = base ++ spot Groups at ∷ [] in
@@ -84,7 +85,7 @@ groups_legal s base holder names ids floor at (group g inner rest) k e =
       (groups_legal s below entry field_names field_ids g.since 0 inner k more.0, groups_legal s base holder (set.insert names g.name) (ids_of_data group_ids g.vars) (int_max floor g.since) (at + 1) rest k split.1),
     )
 
-messages_legal : (s : Schema) (names : Names) (ids : Numbers) (at : ℕ) (ms : List MessageDef) → TypesFit s.types s.types → all_keep s (walk_messages s.types names ids at ms) ≡ true → AllByRecursion IsLegalMessage (message_plans s.types ms)
+messages_legal : (s : Schema) (names : Names) (ids : Numbers) (at : ℕ) (ms : List MessageDef) → TypesFit s.types s.types → all_keep s (walk_messages s.types names ids at ms) ≡ true → AllByRecursion (IsLegalMessage (listings_of s.types)) (message_plans s.types ms)
 messages_legal s names ids at [] k e = tt
 messages_legal s names ids at (m ∷ ms) k e =
     let base = spot Messages at ∷ [] in
@@ -140,3 +141,13 @@ legal s checked =
 
 pub legal_plan : (s : Schema) (p : Plan) → IsTrue (is_checked s) → p ≡ plan_of s → LegalPlan p
 legal_plan s p checked is = subst LegalPlan (sym is) (legal s checked)
+
+-- the message at a place is legal where all are
+legal_at : (types : List TypeDef) (P : MessagePlan → Type 0) (ms : List MessageDef) (k : ℕ) (m : MessageDef) → k < length ms → get_or ms k m ≡ m → AllByRecursion P (message_plans types ms) → P (message_plan types m)
+legal_at types P [] k m h e all = absurd (omega arith)
+legal_at types P (x ∷ ms) zero m h e all = subst (λ y. P (message_plan types y)) e all.0
+legal_at types P (x ∷ ms) (suc k) m h e all = legal_at types P ms k m (omega arith) e all.1
+
+pub legal_message : (s : Schema) (m : MessageDef) (p : MessagePlan) → p ≡ message_plan s.types m → IsTrue (is_checked s) → Contains s.messages m → IsLegalMessage (listings_of s.types) p
+legal_message s m p is checked (k, below, at) =
+    subst (IsLegalMessage (listings_of s.types)) (sym is) (legal_at s.types (IsLegalMessage (listings_of s.types)) s.messages k m below at (legal s checked).messages)
