@@ -1,5 +1,5 @@
 -- What bytes spell by a legal plan fits that plan.
-use Rattle.std.proofs.Common.{◌≡◌, inl, inr, ◌⊎◌, ℕ, ℤ, ◌+◌, ◌*◌, ◌≤◌, max, Bool, true, false, ◌&&◌, ◌||◌, Option, Some, None, List, [], ◌∷◌, length, take, drop, refl, sym, ◌∙◌, ap, subst, if◌then◌else◌, ◌==◌, arith, eqb-true, eq-eqb}
+use Rattle.std.proofs.Common.{◌≡◌, inl, inr, ◌⊎◌, ℕ, zero, suc, ℤ, ◌+◌, ◌*◌, ◌≤◌, max, Bool, true, false, ◌&&◌, ◌||◌, Option, Some, None, is_some, List, [], ◌∷◌, length, take, drop, refl, sym, ◌∙◌, ap, subst, if◌then◌else◌, ◌==◌, arith, eqb-true, eq-eqb}
 use Rattle.std.specs.Prelude.{IsTrue, nat_le}
 use Rattle.std.specs.Ordering.{int_eq}
 use Rattle.std.specs.List.{AllByRecursion}
@@ -151,9 +151,9 @@ as_many : (order : Order) (version : ℕ) (vs : List Datum) (ds : List DataPlan)
 as_many order version [] [] bytes s = refl
 as_many order version [] (d ∷ ds) bytes s = absurd s
 as_many order version (v ∷ vs) [] bytes s = absurd s
-as_many order version (datum.Absent ∷ vs) (d ∷ ds) bytes s = ap (λ (n : ℕ). 1 + n) (as_many order version vs ds bytes s.1)
+as_many order version (datum.Absent ∷ vs) (d ∷ ds) bytes s = ap suc (as_many order version vs ds bytes s.1)
 as_many order version (datum.Present t ∷ vs) (d ∷ ds) bytes s =
-    ap (λ (n : ℕ). 1 + n) (as_many order version vs ds s.1.is_behind.behind s.1.is_behind.is_behind)
+    ap suc (as_many order version vs ds s.1.is_behind.behind s.1.is_behind.is_behind)
 
 data_fit : (order : Order) (version : ℕ) (vs : List Datum) (ds : List DataPlan) (bytes : List ℕ) → SpellsData order version vs ds bytes → fit_data vs ds ≡ true
 data_fit order version vs ds bytes s = eq-eqb (length vs) (length ds) (as_many order version vs ds bytes s)
@@ -180,7 +180,7 @@ mutual
 
 -- the message of a template is legal where all are
 found_legal : (listings : List Listing) (template : ℕ) (ms : List MessagePlan) (layout : MessagePlan) → AllByRecursion (IsLegalMessage listings) ms → Some layout ≡ message_of template ms → IsLegalMessage listings layout
-found_legal listings template [] layout legal found = absurd (search (found))
+found_legal listings template [] layout legal found = absurd (true≢false (ap is_some found))
 found_legal listings template (m ∷ ms) layout legal found =
     elim (m.template == template) as (λ b. Some layout ≡ (if b then Some m else message_of template ms) → IsLegalMessage listings layout) [
       | true ↦ λ is. let P : Option MessagePlan → Type 0 = Holds listings in subst P (sym is) legal.0
