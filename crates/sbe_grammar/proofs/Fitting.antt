@@ -1,6 +1,6 @@
 -- What bytes spell by a legal plan fits that plan.
-use Rattle.std.proofs.Common.{◌≡◌, inl, inr, ◌⊎◌, ℕ, zero, suc, ℤ, ◌+◌, ◌*◌, ◌≤◌, max, Bool, true, false, ◌&&◌, ◌||◌, Option, Some, None, is_some, List, [], ◌∷◌, length, take, drop, refl, sym, ◌∙◌, ap, subst, if◌then◌else◌, ◌==◌, arith, eqb-true, eq-eqb}
-use Rattle.std.specs.Prelude.{IsTrue, nat_le}
+use Rattle.std.proofs.Common.{◌≡◌, inl, inr, ℕ, suc, ℤ, ◌+◌, ◌*◌, ◌≤◌, max, Bool, true, false, ◌&&◌, ◌||◌, Option, Some, None, is_some, List, [], ◌∷◌, length, take, drop, refl, sym, ◌∙◌, ap, subst, if◌then◌else◌, ◌==◌, arith, eq-eqb}
+use Rattle.std.specs.Prelude.{nat_le}
 use Rattle.std.specs.Ordering.{int_eq}
 use Rattle.std.specs.List.{AllByRecursion}
 use Rattle.std.proofs.lemmas.List.{length-take, length-drop}
@@ -15,7 +15,7 @@ use Rattle.schema_types.specs.declared.types.Presence.{Presence}
 use Rattle.schema_types.specs.declared.types.Presence.TheVariants.{Required, Optional, Constant}
 use Rattle.sbe_schema.specs.Kinds.{is_char, is_uint8, is_uint16, is_uint32, is_uint64}
 use Rattle.sbe_value.specs.declared.item.Item.{Item}
-use Rattle.sbe_value.specs.declared.item.Item.TheVariants.{Num, Null, Absent, Text, Raw}
+use Rattle.sbe_value.specs.declared.item.Item.TheVariants.{Num, Null}
 use Rattle.sbe_value.specs.declared.datum.Datum.{Datum}
 use Rattle.sbe_value.specs.declared.datum.Datum.TheVariants as datum
 use Rattle.sbe_value.specs.declared.message.Message.{Message}
@@ -33,7 +33,7 @@ use Rattle.sbe_layout.specs.Plans.{message_of}
 use Rattle.sbe_layout.specs.Legal.{size_of_item, is_legal_kind, SomeFieldEnds, IsLegalItem, AreLegalGroups, IsLegalMessage, LegalPlan}
 use Rattle.sbe_grammar.specs.Values.{is_in, null_by, number_or_null, of_integer, text_in, array_value, value_by, item_in, items_in}
 use Rattle.sbe_grammar.specs.Spelling.{AllWithin, IsBlock, SpellsData, SpellsGroups, SpellsEntries, Spells}
-use Rattle.sbe_grammar.specs.Fits.{Form, number, text, raw, is_optional, form_by, form_of, has_form, fit_items, fit_data, fit_groups, fit_entries, fits_layout, Fits}
+use Rattle.sbe_grammar.specs.Fits.{number, text, raw, is_optional, form_by, form_of, has_form, fit_items, fit_data, fit_groups, fit_entries, Fits}
 
 -- ---- values
 
