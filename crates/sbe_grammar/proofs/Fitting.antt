@@ -129,21 +129,21 @@ reaches version size since place (m ∷ ms) there (inl (same, ends)) within =
     omega (arith, ends, end)
 reaches version size since place (m ∷ ms) there (inr later) within = reaches version size since place ms there later within.1
 
-item_fits : (b : Bool) (order : Order) (version size : ℕ) (listings : List Listing) (length_of_block : ℕ) (marks : List Mark) (bytes : List ℕ) (i : ItemPlan) → is_in version i.since ≡ b → IsLegalItem listings length_of_block marks i → length bytes ≡ size → AllWithin version size marks → has_form (form_of i) (item_in order version bytes i) ≡ true
-item_fits true order version size listings length_of_block marks bytes i there legal long within =
+item_fits : (b : Bool) (order : Order) (version size : ℕ) (newest : ℕ) (listings : List Listing) (length_of_block : ℕ) (marks : List Mark) (bytes : List ℕ) (i : ItemPlan) → is_in version i.since ≡ b → IsLegalItem newest listings length_of_block marks i → length bytes ≡ size → AllWithin version size marks → has_form (form_of i) (item_in order version bytes i) ≡ true
+item_fits true order version size newest listings length_of_block marks bytes i there legal long within =
     let room : i.offset + i.size ≤ size = reaches version size i.since (i.offset + i.size) marks there legal.in_field within in
     let whole : length (take i.size (drop i.offset bytes)) ≡ i.size = simp (length-take, length-drop) (omega (arith, room, long)) in
     rw there (value_fits order i.presence i.kind i.size (take i.size (drop i.offset bytes)) whole legal.sized legal.kind)
-item_fits false order version size listings length_of_block marks bytes i gone legal long within = rw gone refl
+item_fits false order version size newest listings length_of_block marks bytes i gone legal long within = rw gone refl
 
-items_fit : (order : Order) (version size : ℕ) (listings : List Listing) (length_of_block : ℕ) (marks : List Mark) (bytes : List ℕ) (plans : List ItemPlan) → AllByRecursion (IsLegalItem listings length_of_block marks) plans → length bytes ≡ size → AllWithin version size marks → fit_items (items_in order version bytes plans) plans ≡ true
-items_fit order version size listings length_of_block marks bytes [] legal long within = refl
-items_fit order version size listings length_of_block marks bytes (i ∷ is) legal long within =
-    and_from (has_form (form_of i) (item_in order version bytes i)) (fit_items (items_in order version bytes is) is) (item_fits (is_in version i.since) order version size listings length_of_block marks bytes i refl legal.0 long within) (items_fit order version size listings length_of_block marks bytes is legal.1 long within)
+items_fit : (order : Order) (version size : ℕ) (newest : ℕ) (listings : List Listing) (length_of_block : ℕ) (marks : List Mark) (bytes : List ℕ) (plans : List ItemPlan) → AllByRecursion (IsLegalItem newest listings length_of_block marks) plans → length bytes ≡ size → AllWithin version size marks → fit_items (items_in order version bytes plans) plans ≡ true
+items_fit order version size newest listings length_of_block marks bytes [] legal long within = refl
+items_fit order version size newest listings length_of_block marks bytes (i ∷ is) legal long within =
+    and_from (has_form (form_of i) (item_in order version bytes i)) (fit_items (items_in order version bytes is) is) (item_fits (is_in version i.since) order version size newest listings length_of_block marks bytes i refl legal.0 long within) (items_fit order version size newest listings length_of_block marks bytes is legal.1 long within)
 
-block_fits : (order : Order) (version size : ℕ) (listings : List Listing) (length_of_block : ℕ) (marks : List Mark) (plans : List ItemPlan) (items : List Item) (bytes : List ℕ) → AllByRecursion (IsLegalItem listings length_of_block marks) plans → IsBlock order version size marks plans items bytes → fit_items items plans ≡ true
-block_fits order version size listings length_of_block marks plans items bytes legal s =
-    ap (λ (is : List Item). fit_items is plans) s.values ∙ items_fit order version size listings length_of_block marks bytes plans legal s.whole s.fields_within
+block_fits : (order : Order) (version size : ℕ) (newest : ℕ) (listings : List Listing) (length_of_block : ℕ) (marks : List Mark) (plans : List ItemPlan) (items : List Item) (bytes : List ℕ) → AllByRecursion (IsLegalItem newest listings length_of_block marks) plans → IsBlock order version size marks plans items bytes → fit_items items plans ≡ true
+block_fits order version size newest listings length_of_block marks plans items bytes legal s =
+    ap (λ (is : List Item). fit_items is plans) s.values ∙ items_fit order version size newest listings length_of_block marks bytes plans legal s.whole s.fields_within
 
 -- ---- data and groups
 
@@ -159,37 +159,37 @@ data_fit : (order : Order) (version : ℕ) (vs : List Datum) (ds : List DataPlan
 data_fit order version vs ds bytes s = eq-eqb (length vs) (length ds) (as_many order version vs ds bytes s)
 
 mutual
-  groups_fit : (gs : GroupList) (order : Order) (version : ℕ) (listings : List Listing) (plans : PlanTree) (bytes : List ℕ) → AreLegalGroups listings plans → SpellsGroups order version gs plans bytes → fit_groups gs plans ≡ true
-  groups_fit no_groups order version listings no_plans bytes legal s = refl
-  groups_fit no_groups order version listings (plan head inner others) bytes legal s = absurd s
-  groups_fit (absent gs) order version listings no_plans bytes legal s = absurd s
-  groups_fit (absent gs) order version listings (plan head inner others) bytes legal s = groups_fit gs order version listings others bytes legal.1.1 s.1
-  groups_fit (entries bs gs) order version listings no_plans bytes legal s = absurd s
-  groups_fit (entries bs gs) order version listings (plan head inner others) bytes legal s =
+  groups_fit : (gs : GroupList) (order : Order) (version newest : ℕ) (listings : List Listing) (plans : PlanTree) (bytes : List ℕ) → AreLegalGroups newest listings plans → SpellsGroups order version gs plans bytes → fit_groups gs plans ≡ true
+  groups_fit no_groups order version newest listings no_plans bytes legal s = refl
+  groups_fit no_groups order version newest listings (plan head inner others) bytes legal s = absurd s
+  groups_fit (absent gs) order version newest listings no_plans bytes legal s = absurd s
+  groups_fit (absent gs) order version newest listings (plan head inner others) bytes legal s = groups_fit gs order version newest listings others bytes legal.1.1 s.1
+  groups_fit (entries bs gs) order version newest listings no_plans bytes legal s = absurd s
+  groups_fit (entries bs gs) order version newest listings (plan head inner others) bytes legal s =
       let body = s.1.1.is_behind.is_behind in
-      and_from (fit_entries bs head inner) (fit_groups gs others) (entries_fit bs order version listings head inner s.1.0 body.front (legal.0.block.each_item) legal.1.0 body.is_front) (groups_fit gs order version listings others body.behind legal.1.1 body.is_behind)
+      and_from (fit_entries bs head inner) (fit_groups gs others) (entries_fit bs order version newest listings head inner s.1.0 body.front (legal.0.block.each_item) legal.1.0 body.is_front) (groups_fit gs order version newest listings others body.behind legal.1.1 body.is_behind)
 
-  entries_fit : (bs : BlockList) (order : Order) (version : ℕ) (listings : List Listing) (head : PlanHead) (inner : PlanTree) (size : ℕ) (bytes : List ℕ) → AllByRecursion (IsLegalItem listings head.block_length head.marks) head.items → AreLegalGroups listings inner → SpellsEntries order version bs head inner size bytes → fit_entries bs head inner ≡ true
-  entries_fit no_blocks order version listings head inner size bytes items legal s = refl
-  entries_fit (block is gs vars bs) order version listings head inner size bytes items legal s =
+  entries_fit : (bs : BlockList) (order : Order) (version newest : ℕ) (listings : List Listing) (head : PlanHead) (inner : PlanTree) (size : ℕ) (bytes : List ℕ) → AllByRecursion (IsLegalItem newest listings head.block_length head.marks) head.items → AreLegalGroups newest listings inner → SpellsEntries order version bs head inner size bytes → fit_entries bs head inner ≡ true
+  entries_fit no_blocks order version newest listings head inner size bytes items legal s = refl
+  entries_fit (block is gs vars bs) order version newest listings head inner size bytes items legal s =
       let groups = s.is_behind in
       let datums = groups.is_behind in
-      and_from (fit_items is head.items) (fit_groups gs inner && (fit_data vars head.vars && fit_entries bs head inner)) (block_fits order version size listings head.block_length head.marks head.items is s.front items s.is_front) (and_from (fit_groups gs inner) (fit_data vars head.vars && fit_entries bs head inner) (groups_fit gs order version listings inner groups.front legal groups.is_front) (and_from (fit_data vars head.vars) (fit_entries bs head inner) (data_fit order version vars head.vars datums.front datums.is_front) (entries_fit bs order version listings head inner size datums.behind items legal datums.is_behind)))
+      and_from (fit_items is head.items) (fit_groups gs inner && (fit_data vars head.vars && fit_entries bs head inner)) (block_fits order version size newest listings head.block_length head.marks head.items is s.front items s.is_front) (and_from (fit_groups gs inner) (fit_data vars head.vars && fit_entries bs head inner) (groups_fit gs order version newest listings inner groups.front legal groups.is_front) (and_from (fit_data vars head.vars) (fit_entries bs head inner) (data_fit order version vars head.vars datums.front datums.is_front) (entries_fit bs order version newest listings head inner size datums.behind items legal datums.is_behind)))
 
 -- ---- messages
 
 -- the message of a template is legal where all are
-found_legal : (listings : List Listing) (template : ℕ) (ms : List MessagePlan) (layout : MessagePlan) → AllByRecursion (IsLegalMessage listings) ms → Some layout ≡ message_of template ms → IsLegalMessage listings layout
-found_legal listings template [] layout legal found = absurd (true≢false (ap is_some found))
-found_legal listings template (m ∷ ms) layout legal found =
-    elim (m.template == template) as (λ b. Some layout ≡ (if b then Some m else message_of template ms) → IsLegalMessage listings layout) [
-      | true ↦ λ is. let P : Option MessagePlan → Type 0 = Holds listings in subst P (sym is) legal.0
-      | false ↦ λ is. found_legal listings template ms layout legal.1 is
+found_legal : (newest : ℕ) (listings : List Listing) (template : ℕ) (ms : List MessagePlan) (layout : MessagePlan) → AllByRecursion (IsLegalMessage newest listings) ms → Some layout ≡ message_of template ms → IsLegalMessage newest listings layout
+found_legal newest listings template [] layout legal found = absurd (true≢false (ap is_some found))
+found_legal newest listings template (m ∷ ms) layout legal found =
+    elim (m.template == template) as (λ b. Some layout ≡ (if b then Some m else message_of template ms) → IsLegalMessage newest listings layout) [
+      | true ↦ λ is. let P : Option MessagePlan → Type 0 = Holds newest listings in subst P (sym is) legal.0
+      | false ↦ λ is. found_legal newest listings template ms layout legal.1 is
     ] found
   where
-    Holds : List Listing → Option MessagePlan → Type 0
-    Holds listings None = Unit {0}
-    Holds listings (Some x) = IsLegalMessage listings x
+    Holds : ℕ → List Listing → Option MessagePlan → Type 0
+    Holds newest listings None = Unit {0}
+    Holds newest listings (Some x) = IsLegalMessage newest listings x
 
 pub fits : (schema : Plan) (bytes : List ℕ) (m : Message) → LegalPlan schema → Spells schema bytes m → Fits schema m
 fits schema bytes m legal s =
@@ -199,9 +199,9 @@ fits schema bytes m legal s =
     let body = by.joined.is_behind.is_behind.is_behind.is_behind in
     let groups = body.is_behind in
     let datums = groups.is_behind in
-    let own = found_legal schema.listings m.template schema.messages layout legal.messages by.found in
+    let own = found_legal schema.version schema.listings m.template schema.messages layout legal.messages by.found in
     record {
       layout = layout;
       found = by.found;
-      fits = and_from (fit_items m.root.items root.items) (fit_groups m.root.groups root.groups && fit_data m.root.vars root.vars) (block_fits schema.order by.version by.size schema.listings root.block_length root.marks root.items m.root.items body.front own.block.each_item body.is_front) (and_from (fit_groups m.root.groups root.groups) (fit_data m.root.vars root.vars) (groups_fit m.root.groups schema.order by.version schema.listings root.groups groups.front own.groups groups.is_front) (data_fit schema.order by.version m.root.vars root.vars datums.front datums.is_front));
+      fits = and_from (fit_items m.root.items root.items) (fit_groups m.root.groups root.groups && fit_data m.root.vars root.vars) (block_fits schema.order by.version by.size schema.version schema.listings root.block_length root.marks root.items m.root.items body.front own.block.each_item body.is_front) (and_from (fit_groups m.root.groups root.groups) (fit_data m.root.vars root.vars) (groups_fit m.root.groups schema.order by.version schema.version schema.listings root.groups groups.front own.groups groups.is_front) (data_fit schema.order by.version m.root.vars root.vars datums.front datums.is_front));
     }

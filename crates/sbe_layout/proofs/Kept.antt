@@ -1,6 +1,6 @@
 -- What the tables of a checked schema keep, list by list.
 use Rattle.std.proofs.Common.{◌≡◌, ℕ, ◌+◌, ◌*◌, ℤ, pos, refl, ap, ◌∙◌, true, false, not, ◌&&◌, ◌||◌, nat_lt, List, [], ◌∷◌, ◌++◌}
-use Rattle.std.specs.Prelude.{⊤, Bool, IsTrue}
+use Rattle.std.specs.Prelude.{⊤, Bool, IsTrue, int_lt}
 use Rattle.std.proofs.lemmas.Bool.{and_parts, or_parts, not-true, not-false}
 use Rattle.std.specs.List.{AllByRecursion, list_any}
 use Rattle.schema_types.specs.declared.schema.Schema.{Schema}
@@ -22,6 +22,7 @@ use Rattle.sbe_schema.specs.Places.{Place, type_table, value_table, bit_table, m
 use Rattle.sbe_schema.specs.Offsets.{member_end, field_end}
 use Rattle.sbe_schema.specs.Layout.{is_below}
 use Rattle.sbe_schema.specs.Kinds.{is_dimension, is_uint32, is_bad_enum_kind, is_bad_set_kind}
+use Rattle.sbe_schema.specs.Versions.{is_out_of_turn, is_not_with_group}
 use Rattle.sbe_schema.specs.Limits.{is_large_kind}
 use Rattle.std.specs.Int.{int_max}
 use Rattle.std.specs.FinSet as set
@@ -108,15 +109,28 @@ fields_fit s base names ids floor end at (f ∷ fs) e =
     let here = or_parts (is_below f.offset end) (nat_lt 16384 (field_end s.types end f)) h.0.1.1.1.0 in
     (here.0, (here.1, fields_fit s base (set.insert names f.name) (set.insert ids (pos f.id)) (int_max floor f.since) (field_end s.types end f) (at + 1) fs h.1))
 
-abbrev pub DataFit : List DataDef → Type 0
-DataFit ds = AllByRecursion (λ d. not (is_dimension d.length || is_uint32 d.length) ≡ false) ds
+-- no field came after the version
+abbrev pub FieldsCame : ℕ → List FieldDef → Type 0
+FieldsCame version fs = AllByRecursion (λ f. int_lt (pos version) f.since ≡ false) fs
 
-pub data_fit : (s : Schema) (base : List Spot) (holder : Holder) (names : Names) (ids : Numbers) (floor : ℤ) (at : ℕ) (ds : List DataDef) → all_keep s (walk_data base holder names ids floor at ds) ≡ true → DataFit ds
+pub fields_came : (s : Schema) (base : List Spot) (names : Names) (ids : Numbers) (floor : ℤ) (end at : ℕ) (fs : List FieldDef) → all_keep s (walk_fields s.types base names ids floor end at fs) ≡ true → FieldsCame s.version fs
+fields_came s base names ids floor end at [] e = tt
+fields_came s base names ids floor end at (f ∷ fs) e =
+    let next = walk_fields s.types base (set.insert names f.name) (set.insert ids (pos f.id)) (int_max floor f.since) (field_end s.types end f) (at + 1) fs in
+    let h = kept_first s (place base Fields at names ids (field_table floor end f)) next e in
+    ((or_parts (int_lt (pos s.version) f.since) (int_lt f.since floor) h.0.1.1.1.1.1.1.1.1.1.0).0, fields_came s base (set.insert names f.name) (set.insert ids (pos f.id)) (int_max floor f.since) (field_end s.types end f) (at + 1) fs h.1)
+
+abbrev pub DataFit : ℕ → List DataDef → Type 0
+DataFit version ds =
+    AllByRecursion (λ d. (int_lt (pos version) d.since ≡ false) × (not (is_dimension d.length || is_uint32 d.length) ≡ false)) ds
+
+pub data_fit : (s : Schema) (base : List Spot) (holder : Holder) (names : Names) (ids : Numbers) (floor : ℤ) (at : ℕ) (ds : List DataDef) → all_keep s (walk_data base holder names ids floor at ds) ≡ true → DataFit s.version ds
 data_fit s base holder names ids floor at [] e = tt
 data_fit s base holder names ids floor at (d ∷ ds) e =
     let next = walk_data base holder (set.insert names d.name) (set.insert ids (pos d.id)) (int_max floor d.since) (at + 1) ds in
     let h = kept_first s (place base Data at names ids (data_table holder floor d)) next e in
-    (h.0.1.1.1.1.1.1.1.1.0, data_fit s base holder (set.insert names d.name) (set.insert ids (pos d.id)) (int_max floor d.since) (at + 1) ds h.1)
+    let came = or_parts (is_out_of_turn s.version floor d.since) (is_not_with_group holder d.since) h.0.1.1.1.1.1.1.1.1.1.0 in
+    (((or_parts (int_lt (pos s.version) d.since) (int_lt d.since floor) came.0).0, h.0.1.1.1.1.1.1.1.1.0), data_fit s base holder (set.insert names d.name) (set.insert ids (pos d.id)) (int_max floor d.since) (at + 1) ds h.1)
 
 -- ---- types
 

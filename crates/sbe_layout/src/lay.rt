@@ -55,7 +55,6 @@ fn lay_out_all(alloc: Global, schema: &Schema) -> Result<Plan, AllocError>
 
 /// Lays out one message by the types of its schema, as `lay_out` does each of them. So a schema can be laid out
 /// with no more memory than its greatest message takes.
-#[tactic(auto, using(crate::proofs::Legality::legal_message))]
 pub fn lay_out_message(
     alloc: Global,
     types: &Types<'_>,
@@ -64,7 +63,19 @@ pub fn lay_out_message(
     requires known { Knows types.now }
     ensures plan { IfOk result (λ plan. plan ≡ message_plan types.now.index.schema.now.types m.now) }
     ensures legal { IsTrue (is_checked types.now.index.schema.now) → Contains types.now.index.schema.now.messages m.now
-        → IfOk result (IsLegalMessage (listings_of types.now.index.schema.now.types)) }
+        → IfOk result (IsLegalMessage types.now.index.schema.now.version (listings_of types.now.index.schema.now.types)) }
+{
+    let plan = message_plan(alloc, types, m)?;
+    Ok(plan)
+}
+
+fn message_plan(
+    alloc: Global,
+    types: &Types<'_>,
+    m: &MessageDef,
+) -> Result<MessagePlan, AllocError>
+    requires { Knows types.now }
+    ensures { IfOk result (λ plan. plan ≡ message_plan types.now.index.schema.now.types m.now) }
 {
     let name = m.name.copy(alloc)?;
     let root = block_plan(
