@@ -69,11 +69,7 @@ pub fn lay_out_message(
     Ok(plan)
 }
 
-fn message_plan(
-    alloc: Global,
-    types: &Types<'_>,
-    m: &MessageDef,
-) -> Result<MessagePlan, AllocError>
+fn message_plan(alloc: Global, types: &Types<'_>, m: &MessageDef) -> Result<MessagePlan, AllocError>
     requires { Knows types.now }
     ensures { IfOk result (λ plan. plan ≡ message_plan types.now.index.schema.now.types m.now) }
 {
