@@ -53,6 +53,10 @@ printed_front types messages i m old mid new below same p front =
       appended = subst (Appends old new) (sym taken) (Appends-trans old mid new p.lines (take front.count (lines_of types m)) p.appended front.appended);
     }
 
+-- nothing is a front too
+pub printed_none : (lines : List ℕ) (old now : Option (List ℕ)) → Appends old now [] → TakesFront old now lines
+printed_none lines old now a = record { count = 0; within = omega arith; appended = a }
+
 -- what was printed so far is a front
 pub printed_so_far : (types : List TypeDef) (messages : List MessageDef) (i : ℕ) (old now : Option (List ℕ)) → Printed types messages i old now → TakesFront old now (lines_of_all types messages)
 printed_so_far types messages i old now p =
