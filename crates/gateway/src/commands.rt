@@ -22,7 +22,7 @@ use crate::outside::Outside;
 use crate::status::Status;
 use crate::words::{Command, command_of};
 use gw_outside::{Sink, Source};
-use sbe_layout::Plan;
+use sbe_schema::Checked;
 use session_config::Settings;
 use std::alloc::Global;
 use std::sync::Wait;
@@ -66,8 +66,8 @@ fn check<S: Source, K: Sink>(alloc: Global, outside: &mut Outside<S, K>) -> Stat
     ensures cause { IsCaused (faults_of S.faults K.faults outside.old) (faults_of S.faults K.faults outside.new) result }
     ensures listed { result ≡ Status.Words → ⊥ }
 {
-    match read_config::<S, Plan>(alloc, &mut outside.config) {
-        Ok(plan) => print_layout(alloc, &plan, &mut outside.out),
+    match read_config::<S, Checked>(alloc, &mut outside.config) {
+        Ok(schema) => print_layout(alloc, &schema, &mut outside.out),
         Err(status) => status,
     }
 }

@@ -1,2 +1,3 @@
 pub mod ElementsRead
 pub mod MessagesRead
+pub mod Fitting

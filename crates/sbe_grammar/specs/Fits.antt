@@ -2,7 +2,6 @@
 -- gives it, each of its kind (SBE 1.0, "Message structure"). Any of them may be absent; whether a number lies within its
 -- range is another matter.
 use Rattle.std.specs.Prelude.{ℕ, ◌≡◌, nat_le, ◌==◌, ◌&&◌, Bool, true, false, if◌then◌else◌, IsTrue, Some, List, [], ◌∷◌, length}
-use Rattle.sbe_prim.specs.declared.Primitive.{Primitive}
 use Rattle.sbe_prim.specs.Primitives.{is_integer}
 use Rattle.schema_types.specs.declared.types.Presence.{Presence}
 use Rattle.schema_types.specs.declared.types.Presence.TheVariants.{Required, Optional, Constant}

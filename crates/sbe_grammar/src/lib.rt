@@ -8,9 +8,11 @@ mod fault;
 
 ghost use Rattle.std.specs.Prelude.{◌≡◌, ◌↔◌, List, ℕ, Ok};
 ghost use Rattle.sbe_layout.specs.declared.plan.Plan.{Plan};
+ghost use Rattle.sbe_layout.specs.Legal.{LegalPlan};
 ghost use Rattle.sbe_value.specs.declared.message.Message.{Message};
 ghost use Rattle.sbe_grammar.specs.Spelling.{Spells};
 ghost use Rattle.sbe_grammar.specs.Reading.{message_in};
+ghost use Rattle.sbe_grammar.specs.Fits.{Fits};
 
 /// A message is read of bytes exactly where they spell it.
 pub fn read_is_spelled()
@@ -20,4 +22,9 @@ pub fn read_is_spelled()
 /// The same bytes spell at most one message.
 pub fn one_message()
     ensures law { (schema : Plan) (bytes : List ℕ) (m n : Message) → Spells schema bytes m → Spells schema bytes n → m ≡ n }
+{}
+
+/// A message that bytes spell by a legal plan fits that plan.
+pub fn read_fits()
+    ensures law { (schema : Plan) (bytes : List ℕ) (m : Message) → LegalPlan schema → Spells schema bytes m → Fits schema m }
 {}

@@ -1,28 +1,33 @@
 -- What the tables of a checked schema keep, list by list.
-use Rattle.std.proofs.Common.{◌≡◌, ℕ, ◌+◌, ℤ, pos, refl, ap, ◌∙◌, true, false, not, ◌&&◌, ◌||◌, nat_lt, List, [], ◌∷◌, ◌++◌}
-use Rattle.std.specs.Prelude.{⊤, Bool, IsTrue}
-use Rattle.std.proofs.lemmas.Bool.{and_parts, or_parts, not-true}
+use Rattle.std.proofs.Common.{◌≡◌, ℕ, ◌+◌, ◌*◌, ℤ, pos, refl, ap, ◌∙◌, true, false, not, ◌&&◌, ◌||◌, nat_lt, List, [], ◌∷◌, ◌++◌}
+use Rattle.std.specs.Prelude.{⊤, Bool, IsTrue, int_lt}
+use Rattle.std.proofs.lemmas.Bool.{and_parts, or_parts, not-true, not-false}
 use Rattle.std.specs.List.{AllByRecursion, list_any}
 use Rattle.schema_types.specs.declared.schema.Schema.{Schema}
 use Rattle.schema_types.specs.declared.types.TypeDef.{TypeDef}
 use Rattle.schema_types.specs.declared.types.TypeKind.{TypeKind}
 use Rattle.schema_types.specs.declared.types.TypeKind.TheVariants.{Number, Enum, Set, Composite}
 use Rattle.schema_types.specs.declared.types.MemberDef.{MemberDef}
+use Rattle.schema_types.specs.declared.types.ValueDef.{ValueDef}
+use Rattle.schema_types.specs.declared.types.BitDef.{BitDef}
+use Rattle.sbe_prim.specs.declared.Primitive.{Primitive}
+use Rattle.sbe_prim.specs.Primitives.{size_of, least_of, greatest_of, lies_within}
 use Rattle.schema_types.specs.declared.messages.FieldDef.{FieldDef}
 use Rattle.schema_types.specs.declared.messages.DataDef.{DataDef}
 use Rattle.sbe_schema.specs.declared.fault.SchemaKind.{SchemaKind}
 use Rattle.sbe_schema.specs.declared.fault.Spot.{Spot}
 use Rattle.sbe_schema.specs.declared.holder.Holder.{Holder}
 use Rattle.sbe_schema.specs.Names.{Names, Numbers}
-use Rattle.sbe_schema.specs.Places.{Place, type_table, member_table, field_table, data_table}
+use Rattle.sbe_schema.specs.Places.{Place, type_table, value_table, bit_table, member_table, field_table, data_table}
 use Rattle.sbe_schema.specs.Offsets.{member_end, field_end}
 use Rattle.sbe_schema.specs.Layout.{is_below}
 use Rattle.sbe_schema.specs.Kinds.{is_dimension, is_uint32, is_bad_enum_kind, is_bad_set_kind}
+use Rattle.sbe_schema.specs.Versions.{is_out_of_turn, is_not_with_group}
 use Rattle.sbe_schema.specs.Limits.{is_large_kind}
 use Rattle.std.specs.Int.{int_max}
 use Rattle.std.specs.FinSet as set
-use Rattle.sbe_schema.specs.declared.fault.Part.TheVariants.{Types, Members, Fields, Data}
-use Rattle.sbe_schema.specs.Walk.{spot, place, walk_members, walk_kind, walk_type, walk_types, walk_fields, walk_data}
+use Rattle.sbe_schema.specs.declared.fault.Part.TheVariants.{Types, Values, Bits, Members, Fields, Data}
+use Rattle.sbe_schema.specs.Walk.{spot, place, walk_values, walk_bits, walk_members, walk_kind, walk_type, walk_types, walk_fields, walk_data}
 use Rattle.sbe_schema.specs.Walk.{walk}
 use Rattle.sbe_schema.specs.Faults.{has_fault}
 use Rattle.sbe_schema.specs.Checked.{occurs, rules_in_order, has_none_of, is_checked}
@@ -104,15 +109,28 @@ fields_fit s base names ids floor end at (f ∷ fs) e =
     let here = or_parts (is_below f.offset end) (nat_lt 16384 (field_end s.types end f)) h.0.1.1.1.0 in
     (here.0, (here.1, fields_fit s base (set.insert names f.name) (set.insert ids (pos f.id)) (int_max floor f.since) (field_end s.types end f) (at + 1) fs h.1))
 
-abbrev pub DataFit : List DataDef → Type 0
-DataFit ds = AllByRecursion (λ d. not (is_dimension d.length || is_uint32 d.length) ≡ false) ds
+-- no field came after the version
+abbrev pub FieldsCame : ℕ → List FieldDef → Type 0
+FieldsCame version fs = AllByRecursion (λ f. int_lt (pos version) f.since ≡ false) fs
 
-pub data_fit : (s : Schema) (base : List Spot) (holder : Holder) (names : Names) (ids : Numbers) (floor : ℤ) (at : ℕ) (ds : List DataDef) → all_keep s (walk_data base holder names ids floor at ds) ≡ true → DataFit ds
+pub fields_came : (s : Schema) (base : List Spot) (names : Names) (ids : Numbers) (floor : ℤ) (end at : ℕ) (fs : List FieldDef) → all_keep s (walk_fields s.types base names ids floor end at fs) ≡ true → FieldsCame s.version fs
+fields_came s base names ids floor end at [] e = tt
+fields_came s base names ids floor end at (f ∷ fs) e =
+    let next = walk_fields s.types base (set.insert names f.name) (set.insert ids (pos f.id)) (int_max floor f.since) (field_end s.types end f) (at + 1) fs in
+    let h = kept_first s (place base Fields at names ids (field_table floor end f)) next e in
+    ((or_parts (int_lt (pos s.version) f.since) (int_lt f.since floor) h.0.1.1.1.1.1.1.1.1.1.0).0, fields_came s base (set.insert names f.name) (set.insert ids (pos f.id)) (int_max floor f.since) (field_end s.types end f) (at + 1) fs h.1)
+
+abbrev pub DataFit : ℕ → List DataDef → Type 0
+DataFit version ds =
+    AllByRecursion (λ d. (int_lt (pos version) d.since ≡ false) × (not (is_dimension d.length || is_uint32 d.length) ≡ false)) ds
+
+pub data_fit : (s : Schema) (base : List Spot) (holder : Holder) (names : Names) (ids : Numbers) (floor : ℤ) (at : ℕ) (ds : List DataDef) → all_keep s (walk_data base holder names ids floor at ds) ≡ true → DataFit s.version ds
 data_fit s base holder names ids floor at [] e = tt
 data_fit s base holder names ids floor at (d ∷ ds) e =
     let next = walk_data base holder (set.insert names d.name) (set.insert ids (pos d.id)) (int_max floor d.since) (at + 1) ds in
     let h = kept_first s (place base Data at names ids (data_table holder floor d)) next e in
-    (h.0.1.1.1.1.1.1.1.1.0, data_fit s base holder (set.insert names d.name) (set.insert ids (pos d.id)) (int_max floor d.since) (at + 1) ds h.1)
+    let came = or_parts (is_out_of_turn s.version floor d.since) (is_not_with_group holder d.since) h.0.1.1.1.1.1.1.1.1.1.0 in
+    (((or_parts (int_lt (pos s.version) d.since) (int_lt d.since floor) came.0).0, h.0.1.1.1.1.1.1.1.1.0), data_fit s base holder (set.insert names d.name) (set.insert ids (pos d.id)) (int_max floor d.since) (at + 1) ds h.1)
 
 -- ---- types
 
@@ -128,6 +146,42 @@ members_fit s base names end at (m ∷ ms) e =
     let h = kept_first s (place base Members at names set.empty (member_table end m)) next e in
     (h.0.1.1.1.0, members_fit s base (set.insert names m.name) (member_end s.types end m) (at + 1) ms h.1)
 
+-- each value lies between the ends of what the primitive's bytes hold
+abbrev pub ValuesFit : Primitive → List ValueDef → Type 0
+ValuesFit prim vs = AllByRecursion (λ v. lies_within (least_of prim) (greatest_of prim) v.value ≡ true) vs
+
+values_fit : (s : Schema) (base : List Spot) (prim : Primitive) (names : Names) (numbers : Numbers) (at : ℕ) (vs : List ValueDef) → all_keep s (walk_values base prim names numbers at vs) ≡ true → ValuesFit prim vs
+values_fit s base prim names numbers at [] e = tt
+values_fit s base prim names numbers at (v ∷ vs) e =
+    let next = walk_values base prim (set.insert names v.name) (set.insert numbers v.value) (at + 1) vs in
+    let h = kept_first s (place base Values at names numbers (value_table prim v)) next e in
+    let held = lies_within (least_of prim) (greatest_of prim) v.value in
+    (not-false held (or_parts (set.contains numbers v.value) (not held) h.0.1.1.1.1.1.0).1, values_fit s base prim (set.insert names v.name) (set.insert numbers v.value) (at + 1) vs h.1)
+
+-- each bit lies below the primitive's width
+abbrev pub BitsFit : Primitive → List BitDef → Type 0
+BitsFit prim bs = AllByRecursion (λ b. nat_lt b.bit (8 * size_of prim) ≡ true) bs
+
+bits_fit : (s : Schema) (base : List Spot) (prim : Primitive) (names : Names) (numbers : Numbers) (at : ℕ) (bs : List BitDef) → all_keep s (walk_bits base prim names numbers at bs) ≡ true → BitsFit prim bs
+bits_fit s base prim names numbers at [] e = tt
+bits_fit s base prim names numbers at (b ∷ bs) e =
+    let next = walk_bits base prim (set.insert names b.name) (set.insert numbers (pos b.bit)) (at + 1) bs in
+    let h = kept_first s (place base Bits at names numbers (bit_table prim b)) next e in
+    let low = nat_lt b.bit (8 * size_of prim) in
+    (not-false low (or_parts (set.contains numbers (pos b.bit)) (not low) h.0.1.1.1.1.1.1.0).1, bits_fit s base prim (set.insert names b.name) (set.insert numbers (pos b.bit)) (at + 1) bs h.1)
+
+abbrev pub ListFits : TypeKind → Type 0
+ListFits (Enum prim values) = ValuesFit prim values
+ListFits (Set prim bits) = BitsFit prim bits
+ListFits (Number prim length null low high) = ⊤
+ListFits (Composite members) = ⊤
+
+list_fits : (s : Schema) (base : List Spot) (kind : TypeKind) → all_keep s (walk_kind s.types base kind) ≡ true → ListFits kind
+list_fits s base (Enum prim values) e = values_fit s base prim set.empty set.empty 0 values e
+list_fits s base (Set prim bits) e = bits_fit s base prim set.empty set.empty 0 bits e
+list_fits s base (Number prim length null low high) e = tt
+list_fits s base (Composite members) e = tt
+
 abbrev pub MembersOfFit : List TypeDef → TypeKind → Type 0
 MembersOfFit types (Composite members) = MembersFit types 0 members
 MembersOfFit types (Number prim length null low high) = ⊤
@@ -138,6 +192,7 @@ pub record KindFits (types : List TypeDef) (kind : TypeKind) : Type 0 where
   pub enum : is_bad_enum_kind kind ≡ false
   pub set : is_bad_set_kind kind ≡ false
   pub limit : is_large_kind kind ≡ false
+  pub listed : ListFits kind
   pub members : MembersOfFit types kind
 
 members_of_fit : (s : Schema) (base : List Spot) (kind : TypeKind) → all_keep s (walk_kind s.types base kind) ≡ true → MembersOfFit s.types kind
@@ -154,6 +209,7 @@ type_fits s names at t e =
       enum = h.0.1.1.1.1.1.0;
       set = h.0.1.1.1.1.1.1.0;
       limit = h.0.1.1.1.1.1.1.1.1.1.1.0;
+      listed = list_fits s inner t.kind h.1;
       members = members_of_fit s inner t.kind h.1;
     }
 

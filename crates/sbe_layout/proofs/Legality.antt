@@ -1,10 +1,10 @@
 -- The plan of a checked schema is legal.
-use Rattle.std.proofs.Common.{◌≡◌, ℕ, ◌+◌, ℤ, pos, sym, ap, subst, ◌∙◌, true, false, not, ◌&&◌, ◌||◌, IsTrue, nat_lt, Option, List, [], ◌∷◌, ◌++◌, arith}
+use Rattle.std.proofs.Common.{◌≡◌, ℕ, zero, suc, ◌+◌, ◌<◌, length, get_or, ℤ, pos, sym, ap, subst, ◌∙◌, true, false, not, ◌&&◌, ◌||◌, IsTrue, nat_lt, Option, List, [], ◌∷◌, ◌++◌, arith}
 use Rattle.std.specs.Prelude.{int_lt}
 use Rattle.std.specs.Ordering.{int_cmp, eq_by_cmp}
 use Rattle.std.proofs.lemmas.Cmp.{eq_by_cmp_equiv, int_cmp_total}
 use Rattle.std.specs.FinSet as set
-use Rattle.std.specs.List.{AllByRecursion}
+use Rattle.std.specs.List.{AllByRecursion, Contains}
 use Rattle.std.proofs.lemmas.Bool.{or_parts, and_parts, not-false, true≢false, or_left, or_right, le-ltb}
 use Rattle.sbe_prim.specs.declared.Primitive.{Primitive}
 use Rattle.sbe_prim.specs.declared.Primitive.TheVariants as prims
@@ -21,6 +21,7 @@ use Rattle.sbe_schema.specs.Names.{Names, Numbers}
 use Rattle.sbe_schema.specs.Offsets.{fields_end, block_length_of}
 use Rattle.sbe_schema.specs.Layout.{is_below}
 use Rattle.sbe_schema.specs.Kinds.{is_dimension, is_uint32}
+use Rattle.sbe_schema.specs.Versions.{is_out_of_turn, is_lower, is_not_with_group}
 use Rattle.sbe_schema.specs.Limits.{is_above, is_large_message}
 use Rattle.std.specs.Int.{int_max}
 use Rattle.sbe_schema.specs.declared.fault.Part.TheVariants.{Messages, Groups}
@@ -28,25 +29,28 @@ use Rattle.sbe_schema.specs.Places.{whole, message_table, group_table}
 use Rattle.sbe_schema.specs.Walk.{spot, place, walk, walk_types, walk_messages, walk_message, walk_block, walk_groups, walk_fields, walk_data, entry_of, root_of, names_of_fields, names_of_groups, ids_of_fields, ids_of_groups, ids_of_data}
 use Rattle.sbe_schema.specs.Checked.{is_checked}
 use Rattle.sbe_layout.specs.declared.plan.Plan.{Plan}
-use Rattle.sbe_layout.specs.Plans.{plan_of, message_plans, groups_plan, items_of_fields, marks_of, data_of}
+use Rattle.sbe_layout.specs.declared.plan.MessagePlan.{MessagePlan}
+use Rattle.sbe_layout.specs.Plans.{plan_of, message_plan, message_plans, groups_plan, items_of_fields, marks_of, data_of, listings_of}
 use Rattle.sbe_layout.specs.Legal.{IsLegalDatum, IsLegalBlock, AreLegalGroups, IsLegalMessage, AreOfOthers, HaveOwnTemplates, LegalPlan}
-use Rattle.sbe_layout.proofs.Kept.{all_keep, checked_keep, kept_first, kept_parts, FieldsFit, fields_fit, DataFit, data_fit, TypesFit, types_fit}
-use Rattle.sbe_layout.proofs.Within.{begins_behind, is_at_most, fields_small, fields_items, fields_marks}
+use Rattle.sbe_layout.proofs.Kept.{all_keep, checked_keep, kept_first, kept_parts, FieldsFit, fields_fit, FieldsCame, fields_came, DataFit, data_fit, TypesFit, types_fit}
+use Rattle.sbe_layout.proofs.Within.{begins_behind, is_at_most, fields_small, fields_items, fields_marks, fields_in_order}
 
-data_legal : (ds : List DataDef) → DataFit ds → AllByRecursion IsLegalDatum (data_of ds)
-data_legal [] h = tt
-data_legal (d ∷ ds) h = (not-false (is_dimension d.length || is_uint32 d.length) h.0, data_legal ds h.1)
+data_legal : (version : ℕ) (ds : List DataDef) → DataFit version ds → AllByRecursion (IsLegalDatum version) (data_of ds)
+data_legal version [] h = tt
+data_legal version (d ∷ ds) h =
+    (record { came = ap not h.0.0; length = not-false (is_dimension d.length || is_uint32 d.length) h.0.1 }, data_legal version ds h.1)
 
-block_legal : (types : List TypeDef) (stated : Option ℤ) (fs : List FieldDef) (ds : List DataDef) → TypesFit types types → FieldsFit types 0 fs → DataFit ds → is_below stated (fields_end types 0 fs) ≡ false → is_above stated 16384 ≡ false
-    → IsLegalBlock (block_length_of types stated fs) (items_of_fields types 0 fs) (marks_of types 0 fs) (data_of ds)
-block_legal types stated fs ds k h d short long =
+block_legal : (version : ℕ) (types : List TypeDef) (stated : Option ℤ) (fs : List FieldDef) (ds : List DataDef) → TypesFit types types → FieldsFit types 0 fs → FieldsCame version fs → DataFit version ds → is_below stated (fields_end types 0 fs) ≡ false → is_above stated 16384 ≡ false
+    → IsLegalBlock version (listings_of types) (block_length_of types stated fs) (items_of_fields types 0 fs) (marks_of types 0 fs) (data_of ds)
+block_legal version types stated fs ds k h c d short long =
     let within = begins_behind stated (fields_end types 0 fs) short in
     let small = is_at_most stated 16384 (fields_end types 0 fs) long (fields_small types fs h) in
     record {
       bounded = small;
-      each_item = fields_items types (block_length_of types stated fs) 0 fs k (omega arith) h within small;
+      each_item = fields_items version types (block_length_of types stated fs) 0 fs k (omega arith) h c within;
+      in_order = fields_in_order types fs k h;
       each_field = fields_marks types (block_length_of types stated fs) 0 fs (omega arith) h within;
-      each_datum = data_legal ds d;
+      each_datum = data_legal version ds d;
     }
 
 -- a dimension that a length does not pass holds it
@@ -55,7 +59,7 @@ dimension_holds prims.UInt8 n d e = λ i. not (le-ltb n 0 (omega arith) i) && no
 dimension_holds prims.UInt16 n d e = λ i. not (le-ltb n 0 (omega arith) i) && not (e i)
 dimension_holds _ n d e = absurd (true≢false (sym d))
 
-groups_legal : (s : Schema) (base : List Spot) (holder : Holder) (names : Names) (ids : Numbers) (floor : ℤ) (at : ℕ) (gs : GroupTree) → TypesFit s.types s.types → all_keep s (walk_groups s.types base holder names ids floor at gs) ≡ true → AreLegalGroups (groups_plan s.types gs)
+groups_legal : (s : Schema) (base : List Spot) (holder : Holder) (names : Names) (ids : Numbers) (floor : ℤ) (at : ℕ) (gs : GroupTree) → TypesFit s.types s.types → all_keep s (walk_groups s.types base holder names ids floor at gs) ≡ true → AreLegalGroups s.version (listings_of s.types) (groups_plan s.types gs)
 groups_legal s base holder names ids floor at no_groups k e = tt
 groups_legal s base holder names ids floor at (group g inner rest) k e =
     let below = base ++ spot Groups at ∷ [] in
@@ -75,16 +79,18 @@ groups_legal s base holder names ids floor at (group g inner rest) k e =
     let more = kept_parts s own_groups own_data fields.1 in
     let unfit = or_parts (not (is_dimension g.block_prim && is_dimension g.count_prim)) (int_lt (greatest_of g.block_prim) (pos (block_length_of s.types g.block_length g.fields))) here.0.1.1.1.1.1.1.1.0 in
     let dimension = not-false (is_dimension g.block_prim && is_dimension g.count_prim) unfit.0 in
+    let turn = or_parts (is_out_of_turn s.version floor g.since) (is_lower holder.lowest g.since || is_not_with_group holder g.since) here.0.1.1.1.1.1.1.1.1.1.0 in
     let limit = or_parts (is_above g.block_length 16384) (nat_lt 3 holder.depth) here.0.1.1.1.1.1.1.1.1.1.1.0 in (
       record {
+        came = ap not (or_parts (int_lt (pos s.version) g.since) (int_lt g.since floor) turn.0).0;
         dimension = dimension;
         held = dimension_holds g.block_prim (block_length_of s.types g.block_length g.fields) (and_parts (is_dimension g.block_prim) (is_dimension g.count_prim) dimension).0 unfit.1;
-        block = block_legal s.types g.block_length g.fields g.vars k (fields_fit s below set.empty ids_here g.since 0 0 g.fields fields.0) (data_fit s below entry (names_of_groups field_names inner) group_ids g.since 0 g.vars more.1) here.0.1.1.1.1.0 limit.0;
+        block = block_legal s.version s.types g.block_length g.fields g.vars k (fields_fit s below set.empty ids_here g.since 0 0 g.fields fields.0) (fields_came s below set.empty ids_here g.since 0 0 g.fields fields.0) (data_fit s below entry (names_of_groups field_names inner) group_ids g.since 0 g.vars more.1) here.0.1.1.1.1.0 limit.0;
       },
       (groups_legal s below entry field_names field_ids g.since 0 inner k more.0, groups_legal s base holder (set.insert names g.name) (ids_of_data group_ids g.vars) (int_max floor g.since) (at + 1) rest k split.1),
     )
 
-messages_legal : (s : Schema) (names : Names) (ids : Numbers) (at : ℕ) (ms : List MessageDef) → TypesFit s.types s.types → all_keep s (walk_messages s.types names ids at ms) ≡ true → AllByRecursion IsLegalMessage (message_plans s.types ms)
+messages_legal : (s : Schema) (names : Names) (ids : Numbers) (at : ℕ) (ms : List MessageDef) → TypesFit s.types s.types → all_keep s (walk_messages s.types names ids at ms) ≡ true → AllByRecursion (IsLegalMessage s.version (listings_of s.types)) (message_plans s.types ms)
 messages_legal s names ids at [] k e = tt
 messages_legal s names ids at (m ∷ ms) k e =
     let base = spot Messages at ∷ [] in
@@ -101,7 +107,7 @@ messages_legal s names ids at (m ∷ ms) k e =
     let more = kept_parts s own_groups own_data fields.1 in
     let limit = or_parts (is_above m.block_length 16384) (is_large_message s.types m) here.0.1.1.1.1.1.1.1.1.1.1.0 in (
       record {
-        block = block_legal s.types m.block_length m.fields m.vars k (fields_fit s base set.empty set.empty m.since 0 0 m.fields fields.0) (data_fit s base holder (names_of_groups field_names m.groups) group_ids m.since 0 m.vars more.1) here.0.1.1.1.1.0 limit.0;
+        block = block_legal s.version s.types m.block_length m.fields m.vars k (fields_fit s base set.empty set.empty m.since 0 0 m.fields fields.0) (fields_came s base set.empty set.empty m.since 0 0 m.fields fields.0) (data_fit s base holder (names_of_groups field_names m.groups) group_ids m.since 0 m.vars more.1) here.0.1.1.1.1.0 limit.0;
         groups = groups_legal s base holder field_names field_ids m.since 0 m.groups k more.0;
       },
       messages_legal s (set.insert names m.name) (set.insert ids (pos m.id)) (at + 1) ms k split.1,
@@ -140,3 +146,13 @@ legal s checked =
 
 pub legal_plan : (s : Schema) (p : Plan) → IsTrue (is_checked s) → p ≡ plan_of s → LegalPlan p
 legal_plan s p checked is = subst LegalPlan (sym is) (legal s checked)
+
+-- the message at a place is legal where all are
+legal_at : (types : List TypeDef) (P : MessagePlan → Type 0) (ms : List MessageDef) (k : ℕ) (m : MessageDef) → k < length ms → get_or ms k m ≡ m → AllByRecursion P (message_plans types ms) → P (message_plan types m)
+legal_at types P [] k m h e all = absurd (omega arith)
+legal_at types P (x ∷ ms) zero m h e all = subst (λ y. P (message_plan types y)) e all.0
+legal_at types P (x ∷ ms) (suc k) m h e all = legal_at types P ms k m (omega arith) e all.1
+
+pub legal_message : (s : Schema) (m : MessageDef) (p : MessagePlan) → p ≡ message_plan s.types m → IsTrue (is_checked s) → Contains s.messages m → IsLegalMessage s.version (listings_of s.types) p
+legal_message s m p is checked (k, below, at) =
+    subst (IsLegalMessage s.version (listings_of s.types)) (sym is) (legal_at s.types (IsLegalMessage s.version (listings_of s.types)) s.messages k m below at (legal s checked).messages)

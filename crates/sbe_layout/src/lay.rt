@@ -1,13 +1,15 @@
 //! Laying out the messages of a checked schema.
 
-ghost use Rattle.std.specs.Prelude.{◌≡◌, ◌++◌, ◌∷◌, IfOk, OnOk};
+ghost use Rattle.std.specs.Prelude.{◌≡◌, ◌++◌, ◌∷◌, IfOk, OnOk, IsTrue};
+ghost use Rattle.std.specs.List.{Contains};
+ghost use Rattle.sbe_schema.specs.Checked.{is_checked};
 ghost use Rattle.schema_types.specs.Views.{groups_of, head_of as schema_head_of};
 ghost use Rattle.sbe_layout.specs.Views.{plans_of, head_of};
 ghost use Rattle.sbe_layout.specs.Trees.{plan};
 ghost use Rattle.sbe_layout.specs.Context.{Knows};
-ghost use Rattle.sbe_layout.specs.Plans.{plan_of, message_plan, block_plan, groups_plan, group_head, items_of_fields, items_of_field, marks_of, data_of};
+ghost use Rattle.sbe_layout.specs.Plans.{plan_of, message_plan, block_plan, groups_plan, group_head, items_of_fields, items_of_field, marks_of, data_of, listings_of};
 ghost use Rattle.sbe_layout.specs.Parts.{items_of_parts};
-ghost use Rattle.sbe_layout.specs.Legal.{LegalPlan};
+ghost use Rattle.sbe_layout.specs.Legal.{IsLegalMessage, LegalPlan};
 
 use crate::blocks::{BlockPlan, GroupPlan, GroupPlans};
 use crate::items::{DataPlan, DataPlans, ItemPlan, ItemPlans, Mark, Marks};
@@ -60,6 +62,16 @@ pub fn lay_out_message(
 ) -> Result<MessagePlan, AllocError>
     requires known { Knows types.now }
     ensures plan { IfOk result (λ plan. plan ≡ message_plan types.now.index.schema.now.types m.now) }
+    ensures legal { IsTrue (is_checked types.now.index.schema.now) → Contains types.now.index.schema.now.messages m.now
+        → IfOk result (IsLegalMessage types.now.index.schema.now.version (listings_of types.now.index.schema.now.types)) }
+{
+    let plan = message_plan(alloc, types, m)?;
+    Ok(plan)
+}
+
+fn message_plan(alloc: Global, types: &Types<'_>, m: &MessageDef) -> Result<MessagePlan, AllocError>
+    requires { Knows types.now }
+    ensures { IfOk result (λ plan. plan ≡ message_plan types.now.index.schema.now.types m.now) }
 {
     let name = m.name.copy(alloc)?;
     let root = block_plan(

@@ -1,3 +1,4 @@
 pub mod Readings
+pub mod Ascending
 pub mod Unknown
 pub mod Kept

@@ -6,10 +6,11 @@ use Rattle.std.specs.declared.cmp.Ordering.{Ordering}
 use Rattle.std.specs.declared.cmp.Ordering.TheVariants.{Less, Equal, Greater}
 use Rattle.std.specs.Cmp.Lexicographic.{slice_cmp, nat_list_cmp_total}
 use Rattle.sbe_value.specs.declared.path.Step.TheVariants.{Key}
-use Rattle.toml.specs.Data.{Members, no_members, member, is_before, is_sorted, members_are_sorted}
+use Rattle.toml.specs.Data.{Data, string, integer, float, boolean, datetime, array, table, Items, no_items, item, Members, no_members, member, is_before, is_sorted, items_are_sorted, members_are_sorted}
 use Rattle.toml_walk.specs.declared.fault.TomlFault.TheVariants.{UnknownKey}
 use Rattle.toml_walk.specs.Keys.{is_among, unknown_member, unless_unknown}
-use Rattle.session_config.specs.Laws.{HasKey, IsAtMost, UnknownKeyIsLeast}
+use Rattle.session_config.specs.Laws.{HasKey, IsAtMost, LiesIn, LiesInItems, LiesInMembers, UnknownKeyIsLeast}
+use Rattle.session_config.proofs.Ascending.{documents_ascend}
 
 lt_is : (r : Ordering) → is_lt r ≡ true → r ≡ Less
 lt_is Less e = refl
@@ -56,5 +57,31 @@ told_of : (o : Option (List ℕ)) (key : List ℕ) → unless_unknown o ≡ Err 
 told_of None key e = absurd cc
 told_of (Some k) key e = cc
 
+-- the keys of a table that lies in data ascend where those of all its tables do
+mutual
+  ascends_in : (keys : Members) (d : Data) → is_sorted d ≡ true → LiesIn keys d → members_are_sorted keys ≡ true
+  ascends_in keys (table ms) s (inl same) = ap members_are_sorted same ∙ s
+  ascends_in keys (table ms) s (inr inside) = ascends_in_members keys ms s inside
+  ascends_in keys (array ds) s inside = ascends_in_items keys ds s inside
+  ascends_in keys (string t) s inside = absurd inside
+  ascends_in keys (integer z) s inside = absurd inside
+  ascends_in keys (float x) s inside = absurd inside
+  ascends_in keys (boolean b) s inside = absurd inside
+  ascends_in keys (datetime t) s inside = absurd inside
+
+  ascends_in_items : (keys : Members) (ds : Items) → items_are_sorted ds ≡ true → LiesInItems keys ds → members_are_sorted keys ≡ true
+  ascends_in_items keys no_items s inside = absurd inside
+  ascends_in_items keys (item d ds) s (inl here) = ascends_in keys d (and_parts (is_sorted d) (items_are_sorted ds) s).0 here
+  ascends_in_items keys (item d ds) s (inr later) = ascends_in_items keys ds (and_parts (is_sorted d) (items_are_sorted ds) s).1 later
+
+  ascends_in_members : (keys : Members) (ms : Members) → members_are_sorted ms ≡ true → LiesInMembers keys ms → members_are_sorted keys ≡ true
+  ascends_in_members keys no_members s inside = absurd inside
+  ascends_in_members keys (member k d ms) s (inl here) =
+      let front = (and_parts (is_before k ms && is_sorted d) (members_are_sorted ms) s).0 in
+      ascends_in keys d (and_parts (is_before k ms) (is_sorted d) front).1 here
+  ascends_in_members keys (member k d ms) s (inr later) =
+      ascends_in_members keys ms (and_parts (is_before k ms && is_sorted d) (members_are_sorted ms) s).1 later
+
 pub unknown_key_is_least : UnknownKeyIsLeast
-unknown_key_is_least known keys s key e = least known keys s key (told_of (unknown_member known keys) key e)
+unknown_key_is_least known text document keys read inside key e =
+    least known keys (ascends_in keys (table document) (documents_ascend text document read) inside) key (told_of (unknown_member known keys) key e)

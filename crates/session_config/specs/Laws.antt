@@ -1,10 +1,11 @@
 -- What a configuration that is read keeps, and which unknown key is told.
-use Rattle.std.specs.Prelude.{◌≡◌, ◌⊎◌, ℕ, true, false, IsTrue, List, [], ◌∷◌, Ok, Err}
+use Rattle.std.specs.Prelude.{◌≡◌, ◌⊎◌, ℕ, false, IsTrue, Some, List, [], ◌∷◌, Ok, Err}
 use Rattle.std.specs.Ordering.{nat_cmp}
 use Rattle.std.specs.Cmp.Lexicographic.{slice_cmp}
 use Rattle.std.specs.declared.cmp.Ordering.TheVariants.{Less}
 use Rattle.sbe_value.specs.declared.path.Step.TheVariants.{Key}
-use Rattle.toml.specs.Data.{Data, table, Members, no_members, member, members_are_sorted}
+use Rattle.toml.specs.Data.{Data, string, integer, float, boolean, datetime, array, table, Items, no_items, item, Members, no_members, member}
+use Rattle.toml.specs.Parse.{parse_document}
 use Rattle.toml_walk.specs.declared.fault.TomlFault.TheVariants.{UnknownKey}
 use Rattle.toml_walk.specs.Keys.{is_among, only}
 use Rattle.session_config.specs.declared.configuration.Role.{Role}
@@ -31,8 +32,27 @@ HasKey (member k d ms) key = (k ≡ key) ⊎ HasKey ms key
 abbrev pub IsAtMost : List ℕ → List ℕ → Type 0
 IsAtMost a b = (a ≡ b) ⊎ (slice_cmp nat_cmp a b ≡ Less)
 
--- Of a table whose keys ascend, the unknown key that is told is one of its keys, is not known, and is the least such key by its bytes
+-- a table is some data, or lies in it at any depth
+abbrev mutual
+  pub LiesIn : Members → Data → Type 0
+  LiesIn keys (table ms) = (keys ≡ ms) ⊎ LiesInMembers keys ms
+  LiesIn keys (array ds) = LiesInItems keys ds
+  LiesIn keys (string s) = ⊥
+  LiesIn keys (integer z) = ⊥
+  LiesIn keys (float x) = ⊥
+  LiesIn keys (boolean b) = ⊥
+  LiesIn keys (datetime d) = ⊥
+
+  pub LiesInItems : Members → Items → Type 0
+  LiesInItems keys no_items = ⊥
+  LiesInItems keys (item d ds) = LiesIn keys d ⊎ LiesInItems keys ds
+
+  pub LiesInMembers : Members → Members → Type 0
+  LiesInMembers keys no_members = ⊥
+  LiesInMembers keys (member k d ms) = LiesIn keys d ⊎ LiesInMembers keys ms
+
+-- Of each table of a document, the unknown key that is told is one of its keys, is not known, and is the least such key by its bytes
 abbrev pub UnknownKeyIsLeast : Type 0
-UnknownKeyIsLeast = (known : List (List ℕ)) (keys : Members) → members_are_sorted keys ≡ true
+UnknownKeyIsLeast = (known : List (List ℕ)) (text : List ℕ) (document keys : Members) → parse_document text ≡ Some document → LiesIn keys (table document)
     → (key : List ℕ) → only known (table keys) ≡ Err (UnknownKey (Key key ∷ []))
     → HasKey keys key × (is_among key known ≡ false) × ((other : List ℕ) → HasKey keys other → is_among other known ≡ false → IsAtMost key other)

@@ -4,6 +4,6 @@ use Rattle.gateway.proofs.check.print_layout.Given as goal
 
 abbrev pub invariant-loop-message : goal.invariant-loop-message
 invariant-loop-message g l = record {
-  printed : Printed l.plan.messages l.message-index (g.K.Sink.taken l.fn.out) (g.K.Sink.taken l.out);
+  printed : Printed l.schema.schema.types l.schema.schema.messages l.message-index (g.K.Sink.taken l.fn.out) (g.K.Sink.taken l.out);
   counted : g.K.Sink.faults l.fn.out ≤ g.K.Sink.faults l.out;
 }
