@@ -7,7 +7,7 @@
 use crate::messages::message_of;
 use sbe_encode::{EncodeError, EncodeFault, encode};
 use sbe_layout::Plan;
-use sbe_value::{Bytes, text_of_path, Path};
+use sbe_value::{Bytes, Path, text_of_path};
 use schema_load::load;
 use std::alloc::{AllocError, Global};
 use std::rt::Files;
