@@ -20,12 +20,14 @@ use Rattle.sbe_value.specs.declared.item.Item.TheVariants.{Num, Null, Absent, Te
 use Rattle.sbe_layout.specs.declared.items.ItemKind.{ItemKind}
 use Rattle.sbe_layout.specs.declared.items.ItemKind.TheVariants.{Number, Enum, Set}
 use Rattle.sbe_layout.specs.declared.items.ItemPlan.{ItemPlan}
+use Rattle.sbe_layout.specs.declared.items.Mark.{Mark}
 use Rattle.sbe_layout.specs.declared.listings.Listing.{Listing}
 use Rattle.sbe_layout.specs.Legal.{IsLegalItem, size_of_item}
 use Rattle.sbe_grammar.specs.Values.{null_by, number_or_null, of_integer, text_in, array_value, value_by, item_in, items_in}
 use Rattle.sbe_grammar.specs.Fits.{number, text, raw, form_by, form_of, has_form, is_optional}
 use Rattle.sbe_grammar.specs.Canonical.{zeros, value_bytes, item_bytes, block_bytes, can_write, is_written, is_ranged, is_admitted, is_absent, admits_items}
-use Rattle.sbe_encode.specs.ReadsBack.{IsNext, AreInOrder, is_none, is_plain, ArePlain}
+use Rattle.sbe_encode.specs.ReadsBack.{is_none, is_plain, ArePlain}
+use Rattle.sbe_encode.proofs.Current.{IsNext, AreInOrder}
 use Rattle.sbe_encode.proofs.Again.{again}
 
 pub and_split : (a b : Bool) → (a && b) ≡ true → (a ≡ true) × (b ≡ true)
@@ -187,8 +189,8 @@ record Placed (order : Order) (version size at : ℕ) (p : ItemPlan) (i : Item) 
   pub size_is : length (item_bytes order p i) ≡ p.size
   pub ends : max at p.offset + length (item_bytes order p i) ≡ p.offset + p.size
 
-placed : (ls : List Listing) (order : Order) (version size at : ℕ) (p : ItemPlan) (i : Item) → IsLegalItem size p → IsNext version at p → ((not (is_absent i) && has_form (form_of p) i) && is_admitted ls p.kind i) ≡ true → is_plain p.kind p.presence i ≡ true → Placed order version size at p i
-placed ls order version size at p i legal next admitted plain =
+placed : (marks : List Mark) (ls : List Listing) (order : Order) (version size at : ℕ) (p : ItemPlan) (i : Item) → IsLegalItem version ls size marks p → IsNext version at p → ((not (is_absent i) && has_form (form_of p) i) && is_admitted ls p.kind i) ≡ true → is_plain p.kind p.presence i ≡ true → Placed order version size at p i
+placed marks ls order version size at p i legal next admitted plain =
     let parts = and_split _ (is_admitted ls p.kind i) admitted in
     let written : is_written p.kind i ≡ true = (and_split _ (is_ranged ls p.kind i) parts.1).0 in
     let back = value_again order p.presence p.kind p.size i legal.sized parts.0 written plain in
@@ -203,28 +205,28 @@ placed ls order version size at p i legal next admitted plain =
       ends = omega (arith, whole, low);
     }
 
-pub block_size : (ls : List Listing) (order : Order) (version size at : ℕ) (ps : List ItemPlan) (is : List Item) → at ≤ size → AllByRecursion (IsLegalItem size) ps → AreInOrder version at ps → admits_items ls ps is ≡ true → ArePlain ps is → length (block_bytes order size at ps is) ≡ size - at
-block_size ls order version size at [] [] h legal next admitted plain = length-replicate (size - at) 0
-block_size ls order version size at [] (i ∷ is) h legal next admitted plain = absurd (false≢true admitted)
-block_size ls order version size at (p ∷ ps) [] h legal next admitted plain = absurd (false≢true admitted)
-block_size ls order version size at (p ∷ ps) (i ∷ is) h legal next admitted plain =
+pub block_size : (marks : List Mark) (ls : List Listing) (order : Order) (version size at : ℕ) (ps : List ItemPlan) (is : List Item) → at ≤ size → AllByRecursion (IsLegalItem version ls size marks) ps → AreInOrder version at ps → admits_items ls ps is ≡ true → ArePlain ps is → length (block_bytes order size at ps is) ≡ size - at
+block_size marks ls order version size at [] [] h legal next admitted plain = length-replicate (size - at) 0
+block_size marks ls order version size at [] (i ∷ is) h legal next admitted plain = absurd (false≢true admitted)
+block_size marks ls order version size at (p ∷ ps) [] h legal next admitted plain = absurd (false≢true admitted)
+block_size marks ls order version size at (p ∷ ps) (i ∷ is) h legal next admitted plain =
     let parts = and_split _ (admits_items ls ps is) admitted in
-    let here = placed ls order version size at p i legal.0 next.0 parts.0 plain.0 in
+    let here = placed marks ls order version size at p i legal.0 next.0 parts.0 plain.0 in
     let end : ℕ = max at p.offset + length (item_bytes order p i) in
     let within : p.offset + p.size ≤ size = legal.0.within in
     let low : at ≤ p.offset = next.0.behind in
     let fits : end ≤ size = omega (arith, here.ends, within) in
     let others : length (block_bytes order size end ps is) ≡ size - end =
-    block_size ls order version size end ps is fits legal.1 (subst (λ n. AreInOrder version n ps) (sym here.ends) next.1) parts.1 plain.1 in
+    block_size marks ls order version size end ps is fits legal.1 (subst (λ n. AreInOrder version n ps) (sym here.ends) next.1) parts.1 plain.1 in
     omega (arith, length-append (zeros (p.offset - at)) (item_bytes order p i ++ block_bytes order size end ps is), length-append (item_bytes order p i) (block_bytes order size end ps is), length-replicate {A = ℕ} (p.offset - at) 0, others, here.ends, here.size_is, within, low, h)
 
-pub items_again : (ls : List Listing) (order : Order) (version size at : ℕ) (front : List ℕ) (ps : List ItemPlan) (is : List Item) → length front ≡ at → AllByRecursion (IsLegalItem size) ps → AreInOrder version at ps → admits_items ls ps is ≡ true → ArePlain ps is → items_in order version (front ++ block_bytes order size at ps is) ps ≡ is
-items_again ls order version size at front [] [] e legal next admitted plain = refl
-items_again ls order version size at front [] (i ∷ is) e legal next admitted plain = absurd (false≢true admitted)
-items_again ls order version size at front (p ∷ ps) [] e legal next admitted plain = absurd (false≢true admitted)
-items_again ls order version size at front (p ∷ ps) (i ∷ is) e legal next admitted plain =
+pub items_again : (marks : List Mark) (ls : List Listing) (order : Order) (version size at : ℕ) (front : List ℕ) (ps : List ItemPlan) (is : List Item) → length front ≡ at → AllByRecursion (IsLegalItem version ls size marks) ps → AreInOrder version at ps → admits_items ls ps is ≡ true → ArePlain ps is → items_in order version (front ++ block_bytes order size at ps is) ps ≡ is
+items_again marks ls order version size at front [] [] e legal next admitted plain = refl
+items_again marks ls order version size at front [] (i ∷ is) e legal next admitted plain = absurd (false≢true admitted)
+items_again marks ls order version size at front (p ∷ ps) [] e legal next admitted plain = absurd (false≢true admitted)
+items_again marks ls order version size at front (p ∷ ps) (i ∷ is) e legal next admitted plain =
     let parts = and_split _ (admits_items ls ps is) admitted in
-    let here = placed ls order version size at p i legal.0 next.0 parts.0 plain.0 in
+    let here = placed marks ls order version size at p i legal.0 next.0 parts.0 plain.0 in
     let end : ℕ = max at p.offset + length (item_bytes order p i) in
     let gap : List ℕ = zeros (p.offset - at) in
     let bytes : List ℕ = item_bytes order p i in
@@ -235,5 +237,5 @@ items_again ls order version size at front (p ∷ ps) (i ∷ is) e legal next ad
     let joined : front ++ (gap ++ (bytes ++ rest)) ≡ (front ++ (gap ++ bytes)) ++ rest =
     ap (λ xs. front ++ xs) (sym (append_assoc gap bytes rest)) ∙ sym (append_assoc front (gap ++ bytes) rest) in
     let others : items_in order version ((front ++ (gap ++ bytes)) ++ rest) ps ≡ is =
-    items_again ls order version size end (front ++ (gap ++ bytes)) ps is long legal.1 (subst (λ n. AreInOrder version n ps) (sym here.ends) next.1) parts.1 plain.1 in
+    items_again marks ls order version size end (front ++ (gap ++ bytes)) ps is long legal.1 (subst (λ n. AreInOrder version n ps) (sym here.ends) next.1) parts.1 plain.1 in
     λ k. here.reads front rest e k ∷ (ap (λ xs. items_in order version xs ps) joined ∙ others) k

@@ -25,8 +25,9 @@ use Rattle.sbe_layout.specs.Legal.{IsLegalDatum, EndsWithin, IsLegalBlock, IsLeg
 use Rattle.sbe_grammar.specs.Parts.{IsNumber, unsigned}
 use Rattle.sbe_grammar.specs.Spelling.{AllWithin, IsBlock, SpellsData, SpellsGroups, SpellsEntries, SpellsBy}
 use Rattle.sbe_grammar.specs.Canonical.{count_bytes, block_bytes, data_bytes, groups_bytes, entries_bytes, canonical, canonical_by, can_write, holds_dimension, admits_items, admits_data, admits_groups, admits_entries, admits}
-use Rattle.sbe_encode.specs.ReadsBack.{AreInOrder, ArePresent, IsCurrentGroup, AreCurrentGroups, IsCurrentMessage, ArePlain, ArePlainGroups, ArePlainEntries, IsPlain, HasWords, CanonicalReadsBack}
+use Rattle.sbe_encode.specs.ReadsBack.{ArePlain, ArePlainGroups, ArePlainEntries, IsPlain, HasWords, CanonicalReadsBack}
 use Rattle.sbe_encode.proofs.Again.{again}
+use Rattle.sbe_encode.proofs.Current.{AreInOrder, ArePresent, IsCurrentGroup, AreCurrentGroups, IsCurrentMessage, message_current}
 use Rattle.sbe_encode.proofs.ItemsAgain.{and_split, block_size, items_again}
 
 -- ---- lengths and counts
@@ -62,16 +63,16 @@ ends_within : (version size : ℕ) (marks : List Mark) → AllByRecursion (EndsW
 ends_within version size [] h = tt
 ends_within version size (m ∷ ms) h = (λ _. h.0, ends_within version size ms h.1)
 
-block_again : (ls : List Listing) (order : Order) (version size : ℕ) (marks : List Mark) (ps : List ItemPlan) (is : List Item) (ds : List DataPlan) → IsLegalBlock size ps marks ds → AreInOrder version 0 ps → admits_items ls ps is ≡ true → ArePlain ps is → IsBlock order version size marks ps is (block_bytes order size 0 ps is)
+block_again : (ls : List Listing) (order : Order) (version size : ℕ) (marks : List Mark) (ps : List ItemPlan) (is : List Item) (ds : List DataPlan) → IsLegalBlock version ls size ps marks ds → AreInOrder version 0 ps → admits_items ls ps is ≡ true → ArePlain ps is → IsBlock order version size marks ps is (block_bytes order size 0 ps is)
 block_again ls order version size marks ps is ds legal next admitted plain =
-    let long = block_size ls order version size 0 ps is (omega arith) legal.each_item next admitted plain in
+    let long = block_size marks ls order version size 0 ps is (omega arith) legal.each_item next admitted plain in
     record {
       whole = omega (arith, long);
       fields_within = ends_within version size marks legal.each_field;
-      values = sym (items_again ls order version size 0 [] ps is refl legal.each_item next admitted plain);
+      values = sym (items_again marks ls order version size 0 [] ps is refl legal.each_item next admitted plain);
     }
 
-data_again : (order : Order) (version : ℕ) (ds : List DataPlan) (vs : List Datum) → AllByRecursion IsLegalDatum ds → ArePresent version ds → admits_data ds vs ≡ true → SpellsData order version vs ds (data_bytes order ds vs)
+data_again : (order : Order) (version : ℕ) (ds : List DataPlan) (vs : List Datum) → AllByRecursion (IsLegalDatum version) ds → ArePresent version ds → admits_data ds vs ≡ true → SpellsData order version vs ds (data_bytes order ds vs)
 data_again order version [] [] legal present admitted = refl
 data_again order version [] (v ∷ vs) legal present admitted = absurd (false≢true admitted)
 data_again order version (d ∷ ds) [] legal present admitted = absurd (false≢true admitted)
@@ -83,7 +84,7 @@ data_again order version (d ∷ ds) (datum.Present text ∷ vs) legal present ad
         front = count_bytes order d.length (length text);
         behind = text ++ data_bytes order ds vs;
         joined = refl;
-        is_front = count_again order d.length (length text) legal.0 parts.0;
+        is_front = count_again order d.length (length text) legal.0.length parts.0;
         is_behind = record {
           front = text;
           behind = data_bytes order ds vs;
@@ -97,7 +98,7 @@ data_again order version (d ∷ ds) (datum.Present text ∷ vs) legal present ad
 -- ---- groups
 
 mutual
-  groups_again : (ls : List Listing) (order : Order) (version : ℕ) (t : PlanTree) (gs : GroupList) → AreLegalGroups t → AreCurrentGroups version t → admits_groups ls t gs ≡ true → ArePlainGroups t gs → SpellsGroups order version gs t (groups_bytes order t gs)
+  groups_again : (ls : List Listing) (order : Order) (version : ℕ) (t : PlanTree) (gs : GroupList) → AreLegalGroups version ls t → AreCurrentGroups version t → admits_groups ls t gs ≡ true → ArePlainGroups t gs → SpellsGroups order version gs t (groups_bytes order t gs)
   groups_again ls order version no_plans no_groups legal current admitted plain = refl
   groups_again ls order version no_plans (absent gs) legal current admitted plain = absurd (false≢true admitted)
   groups_again ls order version no_plans (entries bs gs) legal current admitted plain = absurd (false≢true admitted)
@@ -133,7 +134,7 @@ mutual
         ),
       )
 
-  entries_again : (ls : List Listing) (order : Order) (version : ℕ) (head : PlanHead) (inner : PlanTree) (bs : BlockList) → IsLegalGroup head → AreLegalGroups inner → IsCurrentGroup version head → AreCurrentGroups version inner → admits_entries ls head inner bs ≡ true → ArePlainEntries head inner bs → SpellsEntries order version bs head inner head.block_length (entries_bytes order head inner bs)
+  entries_again : (ls : List Listing) (order : Order) (version : ℕ) (head : PlanHead) (inner : PlanTree) (bs : BlockList) → IsLegalGroup version ls head → AreLegalGroups version ls inner → IsCurrentGroup version head → AreCurrentGroups version inner → admits_entries ls head inner bs ≡ true → ArePlainEntries head inner bs → SpellsEntries order version bs head inner head.block_length (entries_bytes order head inner bs)
   entries_again ls order version head inner no_blocks legal legals current currents admitted plain = refl
   entries_again ls order version head inner (block is gs vs bs) legal legals current currents admitted plain =
       let items = and_split (admits_items ls head.items is) (admits_groups ls inner gs && (admits_data head.vars vs && admits_entries ls head inner bs)) admitted in
@@ -195,7 +196,7 @@ bytes_in_parts schema m layout found =
     ∙ four (count_bytes order UInt16 layout.root.block_length) (count_bytes order UInt16 m.template) (count_bytes order UInt16 schema.id) (count_bytes order UInt16 schema.version) (behind texts)
     ∙ ap (λ xs. header (behind xs)) (nothing_behind texts)
 
-parts_again : (schema : Plan) (m : Message) (layout : MessagePlan) → Some layout ≡ message_of m.template schema.messages → HasWords schema m → IsLegalMessage layout → IsCurrentMessage schema.version layout → can_write UInt16 (pos layout.root.block_length) ≡ true → admits schema.listings layout m ≡ true → IsPlain layout m → SpellsBy schema layout (parts_bytes schema layout m) m
+parts_again : (schema : Plan) (m : Message) (layout : MessagePlan) → Some layout ≡ message_of m.template schema.messages → HasWords schema m → IsLegalMessage schema.version schema.listings layout → IsCurrentMessage schema.version layout → can_write UInt16 (pos layout.root.block_length) ≡ true → admits schema.listings layout m ≡ true → IsPlain layout m → SpellsBy schema layout (parts_bytes schema layout m) m
 parts_again schema m layout found words legal current headed admitted plain =
     let order : Order = schema.order in
     let root = layout.root in
@@ -258,6 +259,6 @@ parts_again schema m layout found words legal current headed admitted plain =
 pub canonical_reads_back : (schema : Plan) (m : Message) → CanonicalReadsBack schema m
 canonical_reads_back schema m r =
     let w = r.admitted in
-    let legal = found_all IsLegalMessage m.template schema.messages w.layout r.legal.messages w.found in
-    let current = found_all (IsCurrentMessage schema.version) m.template schema.messages w.layout r.current w.found in
+    let legal = found_all (IsLegalMessage schema.version schema.listings) m.template schema.messages w.layout r.legal.messages w.found in
+    let current = message_current schema.version schema.listings w.layout legal in
     (w.layout, subst (λ bytes. SpellsBy schema w.layout bytes m) (sym (bytes_in_parts schema m w.layout w.found)) (parts_again schema m w.layout w.found r.words legal current w.headed w.admitted (r.plain w.layout w.found)))

@@ -1,9 +1,8 @@
--- The canonical encoding of a message spells the message, at a legal plan whose elements came with its version or before
--- it and whose items stand one behind another, where the message has no text with a NUL and no optional number that is
--- the one for no value.
-use Rattle.std.specs.Prelude.{◌≡◌, ◌≤◌, ◌<◌, ◌^◌, ◌+◌, ℕ, ℤ, Bool, true, false, not, ◌==◌, IsTrue, Some, List, [], ◌∷◌, ⊤}
+-- The canonical encoding of a message spells the message, at a legal plan, where the message has no text with a NUL and no
+-- optional number that is the one for no value.
+use Rattle.std.specs.Prelude.{◌≡◌, ◌<◌, ◌^◌, ℤ, Bool, true, false, not, ◌==◌, IsTrue, Some, List, [], ◌∷◌, ⊤}
 use Rattle.std.specs.Ordering.{int_eq}
-use Rattle.std.specs.List.{AllByRecursion, list_all}
+use Rattle.std.specs.List.{list_all}
 use Rattle.schema_types.specs.declared.types.Presence.{Presence}
 use Rattle.schema_types.specs.declared.types.Presence.TheVariants.{Required, Optional, Constant}
 use Rattle.sbe_value.specs.declared.item.Item.{Item}
@@ -13,49 +12,14 @@ use Rattle.sbe_value.specs.Trees.{GroupList, BlockList, no_groups, absent, entri
 use Rattle.sbe_layout.specs.declared.items.ItemKind.{ItemKind}
 use Rattle.sbe_layout.specs.declared.items.ItemKind.TheVariants.{Number, Enum, Set}
 use Rattle.sbe_layout.specs.declared.items.ItemPlan.{ItemPlan}
-use Rattle.sbe_layout.specs.declared.items.DataPlan.{DataPlan}
 use Rattle.sbe_layout.specs.declared.plan.MessagePlan.{MessagePlan}
 use Rattle.sbe_layout.specs.declared.plan.Plan.{Plan}
 use Rattle.sbe_layout.specs.Trees.{PlanHead, PlanTree, no_plans, plan}
 use Rattle.sbe_layout.specs.Legal.{LegalPlan}
 use Rattle.sbe_layout.specs.Plans.{message_of}
-use Rattle.sbe_grammar.specs.Values.{is_in, null_by}
+use Rattle.sbe_grammar.specs.Values.{null_by}
 use Rattle.sbe_grammar.specs.Spelling.{Spells}
 use Rattle.sbe_grammar.specs.Canonical.{canonical, MayBeWritten}
-
--- ---- the plan
-
--- an item came with the version or before it, and begins at an end or behind it
-pub record IsNext (version end : ℕ) (p : ItemPlan) : Type 0 where
-  pub present : IsTrue (is_in version p.since)
-  pub behind : end ≤ p.offset
-
--- items stand one behind another
-abbrev pub AreInOrder : ℕ → ℕ → List ItemPlan → Type 0
-AreInOrder version end [] = ⊤
-AreInOrder version end (p ∷ ps) = IsNext version end p × AreInOrder version (p.offset + p.size) ps
-
--- data came with the version or before it
-abbrev pub ArePresent : ℕ → List DataPlan → Type 0
-ArePresent version ds = AllByRecursion (λ d. IsTrue (is_in version d.since)) ds
-
-pub record IsCurrentGroup (version : ℕ) (head : PlanHead) : Type 0 where
-  pub present : IsTrue (is_in version head.since)
-  pub items : AreInOrder version 0 head.items
-  pub vars : ArePresent version head.vars
-
-abbrev pub AreCurrentGroups : ℕ → PlanTree → Type 0
-AreCurrentGroups version no_plans = ⊤
-AreCurrentGroups version (plan head inner rest) =
-    IsCurrentGroup version head × (AreCurrentGroups version inner × AreCurrentGroups version rest)
-
-pub record IsCurrentMessage (version : ℕ) (layout : MessagePlan) : Type 0 where
-  pub items : AreInOrder version 0 layout.root.items
-  pub groups : AreCurrentGroups version layout.root.groups
-  pub vars : ArePresent version layout.root.vars
-
-abbrev pub IsCurrent : Plan → Type 0
-IsCurrent schema = AllByRecursion (IsCurrentMessage schema.version) schema.messages
 
 -- ---- the message
 
@@ -108,7 +72,6 @@ pub record HasWords (schema : Plan) (m : Message) : Type 0 where
 
 pub record IsReadable (schema : Plan) (m : Message) : Type 0 where
   pub legal : LegalPlan schema
-  pub current : IsCurrent schema
   pub words : HasWords schema m
   pub admitted : MayBeWritten schema m
   pub plain : (layout : MessagePlan) → Some layout ≡ message_of m.template schema.messages → IsPlain layout m

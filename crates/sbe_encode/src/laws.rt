@@ -10,8 +10,8 @@ pub fn faultless_where_writable()
     ensures law { (schema : Plan) (m : Message) → FaultlessWhereWritable schema m }
 {}
 
-/// The canonical encoding of a message spells the message, at a legal plan, where all of its elements came with the
-/// plan's version or before it, no text has a NUL, and no optional number is the one for no value.
+/// The canonical encoding of a message spells the message, at a legal plan, where no text has a NUL, and no optional
+/// number is the one for no value.
 pub fn canonical_reads_back()
     ensures law { (schema : Plan) (m : Message) → CanonicalReadsBack schema m }
 {}
