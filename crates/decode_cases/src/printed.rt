@@ -8,12 +8,15 @@ use sbe_layout::Plan;
 use sbe_value::{Block, Datum, Group, Item};
 use std::alloc::{AllocError, Global};
 
+// A checked schema has at most so many groups in one another.
+const DEEPEST: u8 = 4;
+
 /// What decoding says of a message.
 pub fn decoded(alloc: Global, plan: &Plan, bytes: &[u8]) -> Result<String, AllocError> {
     match decode(alloc, plan, bytes) {
         Ok(message) => {
             let mut line = format!(in alloc; "{} ", message.template)?;
-            add_block(alloc, &message.root, &mut line)?;
+            add_block(alloc, &message.root, DEEPEST, &mut line)?;
             Ok(line)
         }
         Err(DecodeError::Fault(fault)) => fault_text(alloc, fault),
@@ -76,13 +79,13 @@ fn datum_text(alloc: Global, datum: &Datum) -> Result<String, AllocError> {
 }
 
 #[cycle(printing)]
-fn add_block(alloc: Global, block: &Block, line: &mut String) -> Result<(), AllocError> {
+fn add_block(alloc: Global, block: &Block, depth: u8, line: &mut String) -> Result<(), AllocError> {
     line.push_str("{")?;
     for item in block.items.as_slice() {
         add_word(line, item_text(alloc, item)?.as_str())?;
     }
     for group in block.groups.as_slice() {
-        add_group(alloc, group, line)?;
+        add_group(alloc, group, depth, line)?;
     }
     for datum in block.vars.as_slice() {
         add_word(line, datum_text(alloc, datum)?.as_str())?;
@@ -91,15 +94,16 @@ fn add_block(alloc: Global, block: &Block, line: &mut String) -> Result<(), Allo
 }
 
 #[cycle(printing)]
-fn add_group(alloc: Global, group: &Group, line: &mut String) -> Result<(), AllocError> {
+fn add_group(alloc: Global, group: &Group, depth: u8, line: &mut String) -> Result<(), AllocError> {
     add_word(line, "(")?;
     match group {
-        Group::Absent => line.push_str("absent")?,
-        Group::Entries(blocks) => {
+        Group::Entries(blocks) if depth > 0 => {
             for block in blocks.as_slice() {
-                add_block(alloc, block, line)?;
+                add_block(alloc, block, depth - 1, line)?;
             }
         }
+        Group::Entries(_) => line.push_str("deeper")?,
+        Group::Absent => line.push_str("absent")?,
     }
     line.push_str(")")
 }

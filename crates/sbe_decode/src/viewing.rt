@@ -75,14 +75,14 @@ impl<'a> MessageView<'a> {
         self.template
     }
 
-    /// The number of the fields of the root block.
+    /// The number of the items of the root block: its fields that are no constants, a composite by its members.
     pub fn field_count(&self) -> usize
         ensures { result ≡ length self.now.root.items }
     {
         self.layout.root.items.len()
     }
 
-    /// The value of the root block's field at a place in schema order, from 0.
+    /// The value of the root block's item at a place in schema order, from 0; `field_count` tells how many there are.
     pub fn field(&self, i: usize) -> FieldView<'a>
         requires within { i < length self.now.root.items }
         ensures shown { IfSome (slice_get self.now.root.items i) (Shows result) }
