@@ -3,11 +3,12 @@
 //! `before: TEXT` and `behind: TEXT` are what the texts of the cases behind them stand between; ` ; ` is a line
 //! end. `case: TEXT` is one text. `repeat: COUNT | BEFORE | PART | BEHIND` repeats a part, with `#` for its place
 //! from 0. `pad: LENGTH | START` is a text of so many bytes, the rest of which is a comment. `sample: FILE` is a
-//! schema in a file of its own; the lines of `numbers` speak of primitives.
+//! schema in a file of its own; the lines of `numbers` speak of primitives, and those of `values` of lists and messages.
 
 use crate::numbers::{holds_line, number_line, primitive_line};
 use crate::samples::print_sample;
 use crate::told::told;
+use crate::values::values_line;
 use std::alloc::{AllocError, Global};
 use std::io;
 use std::rt::Files;
@@ -58,6 +59,7 @@ fn print_case<R: Print + AllocGlobal>(
         "primitive" => primitive_line(alloc, rest)?,
         "number" => number_line(alloc, rest)?,
         "holds" => holds_line(alloc, rest)?,
+        "values" => values_line(alloc, rest)?,
         _ => format!(in alloc; "no case: {kind}: {rest}")?,
     };
     rt.println(line)
