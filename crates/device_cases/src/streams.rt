@@ -20,7 +20,12 @@ fn pushed<K: Sink>(sink: &mut K, bytes: &[u8]) -> Result<(), Failed> {
 }
 
 /// A source whose pull of this number fails; of no number, one that never fails.
-fn source(alloc: Global, content: Vec<u8>, piece: u64, fail: &str) -> Result<MemSource, AllocError> {
+fn source(
+    alloc: Global,
+    content: Vec<u8>,
+    piece: u64,
+    fail: &str,
+) -> Result<MemSource, AllocError> {
     let piece = (piece as usize).max(1);
     if fail == "none" {
         return Ok(MemSource::without_faults(alloc, Bytes::from(content), piece));
@@ -46,10 +51,11 @@ pub fn source_line(alloc: Global, rest: &str) -> Result<String, AllocError> {
 
 /// A sink whose push of this number fails; of no number, one that never fails.
 fn sink(alloc: Global, room: u64, fail: &str) -> Result<MemSink, AllocError> {
+    let room = room as usize;
     if fail == "none" {
-        return MemSink::without_faults(alloc, room as usize);
+        return MemSink::without_faults(alloc, room);
     }
-    MemSink::new(alloc, room as usize, failing(alloc, fail)?)
+    MemSink::new(alloc, room, failing(alloc, fail)?)
 }
 
 /// Pushes: `ROOM FAIL BYTES..`, where `-` is no bytes.

@@ -3,8 +3,8 @@
 use lists::{Element, are_equal};
 use sbe_schema::{Part, Spot, path_to};
 use sbe_value::{
-    Block, Blocks, Bytes, Datum, Datums, Group, Groups, Item, Items, Lines, Message, Path, Payloads,
-    Step, text_of_path,
+    Block, Blocks, Bytes, Datum, Datums, Group, Groups, Item, Items, Lines, Message, Path,
+    Payloads, Step, text_of_path,
 };
 use std::alloc::{AllocError, Global};
 

@@ -124,23 +124,38 @@ impl Server {
     }
 }
 
-/// The events at a server that is `new` or `negotiated`: for each its act, what is written, the phase and the ending. An
-/// event behind the end of a connection is of the next one.
-pub fn server_lines(alloc: Global, named: Named<'_>, words: &str) -> Result<String, AllocError> {
-    let (kind, events) = halves(words);
-    let mut server = Server::new(alloc, kind == "negotiated")?;
-    let mut lines = format!(in alloc; "server, {kind}: {:?}", server.end.phase())?;
+/// What the server does at an event: its act, what is written, the phase and the ending.
+fn event_line(alloc: Global, server: &mut Server, bytes: &[u8]) -> Result<String, AllocError> {
+    server.begin();
+    let act = server.hear(alloc, bytes)?;
+    let written = server.taken(alloc)?;
+    let phase = server.end.phase();
+    let ending = server.end.ending();
+    format!(in alloc; "{act}, [{written}], {phase:?}, {ending:?}")
+}
+
+/// What the server does at each event by name, a line each.
+fn event_lines(
+    alloc: Global,
+    named: Named<'_>,
+    server: &mut Server,
+    events: &str,
+) -> Result<String, AllocError> {
+    let mut lines = String::new(alloc);
     for event in events.split(" ") {
-        server.begin();
         let bytes = named.bytes(alloc, event)?;
-        let act = server.hear(alloc, bytes.as_slice())?;
-        let written = server.taken(alloc)?;
-        let line = format!(in alloc;
-            "\n  {event}: {act}, [{written}], {:?}, {:?}",
-            server.end.phase(),
-            server.end.ending()
-        )?;
-        lines.push_str(line.as_str())?;
+        let line = event_line(alloc, server, bytes.as_slice())?;
+        lines.push_str(format!(in alloc; "\n  {event}: {line}")?.as_str())?;
     }
     Ok(lines)
+}
+
+/// The events at a server that is `new` or `negotiated`. One behind the end of a connection is of the next connection.
+pub fn server_lines(alloc: Global, named: Named<'_>, words: &str) -> Result<String, AllocError> {
+    let (kind, events) = halves(words);
+    let negotiated = kind == "negotiated";
+    let mut server = Server::new(alloc, negotiated)?;
+    let phase = server.end.phase();
+    let lines = event_lines(alloc, named, &mut server, events)?;
+    format!(in alloc; "server, negotiated {negotiated}: {phase:?}{lines}")
 }

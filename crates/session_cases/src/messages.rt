@@ -1,10 +1,11 @@
 //! The session messages as the profile's table spells them, read and written, and the numbers that they imply.
 
-ghost use Rattle.std.specs.Prelude.{◌≡◌, ◌≤◌, length, IsTrue};
+ghost use Rattle.std.specs.Prelude.{◌≡◌, ◌≢◌, ◌≤◌, length, Some, IsTrue};
 ghost use Rattle.sbe_prim.specs.declared.Order.TheVariants.{Little};
 ghost use Rattle.fixp_msgs.specs.declared.frames.FrameKind.TheVariants.{Session};
 ghost use Rattle.fixp_msgs.specs.Header.{kind_of};
 ghost use Rattle.fixp_msgs.specs.Message.{message_of};
+ghost use Rattle.fixp_msgs.specs.Table.{null};
 ghost use Rattle.fixp_msgs.specs.Canonical.{IsWritable};
 
 use crate::words::{Named, decoded};
@@ -41,8 +42,13 @@ fn is_short(datum: &[u8]) -> bool
     datum.len() <= 2048
 }
 
-fn is_not_null(number: Option<u64>) -> bool {
-    number != Some(u64::MAX)
+fn is_not_null(number: Option<u64>) -> bool
+    ensures { IsTrue result → number ≢ Some null }
+{
+    match number {
+        Some(number) => number != u64::MAX,
+        None => true,
+    }
 }
 
 /// Whether a message can be written.
@@ -74,11 +80,12 @@ fn back(message: &SessionMsg<'_>, frame: &[u8]) -> Option<(usize, bool)> {
     if !is_writable(message) {
         return None;
     }
+    let size = size(message);
     let mut out = [BEHIND; 2100];
     let written = write(message, &mut out);
     let (front, behind) = out.split_at(written);
     let same = front == frame && behind.iter().all(|byte| *byte == BEHIND);
-    Some((size(message), same))
+    Some((size, same))
 }
 
 /// Whether the message of a frame is written as that frame.
