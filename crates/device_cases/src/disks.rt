@@ -1,6 +1,7 @@
 //! A disk in memory: what it gives, which calls fail, and what each pick of a stop leaves.
 
-use crate::words::{bytes, failing, halves, number};
+use crate::failing::failing;
+use case_words::{bytes, digits, halves, number};
 use gw_fakes::{MemDisk, Pick};
 use gw_outside::{Disk, Failed};
 use std::alloc::{AllocError, Global};
@@ -66,22 +67,27 @@ fn disk(alloc: Global, room: u64, fail: &str) -> Result<MemDisk, AllocError> {
 /// What a stop leaves, how long it is, and what one more stop leaves.
 fn stopped(alloc: Global, disk: MemDisk, pick: Pick) -> Result<String, AllocError> {
     let mut disk = disk.stop(pick);
-    let left = hex::encode(alloc, disk.content())?;
+    let left = digits(alloc, disk.content())?;
     let length = length(&mut disk);
     let again = disk.stop(Pick::Noise);
-    let same = hex::encode(alloc, again.content())?;
+    let same = digits(alloc, again.content())?;
     format!(in alloc; "{pick:?} [{left}] {length:?} [{same}]")
+}
+
+fn all_made(alloc: Global, disk: &mut MemDisk, calls: &str) -> Result<String, AllocError> {
+    let mut given = String::new(alloc);
+    for call in calls.split(", ") {
+        given.push_str(made(alloc, disk, call)?.as_str())?;
+    }
+    Ok(given)
 }
 
 /// What the calls give on a disk of this room, and what a stop leaves then.
 fn played(alloc: Global, case: Case<'_>, pick: Pick) -> Result<String, AllocError> {
     let mut disk = disk(alloc, case.room, case.fail)?;
-    let mut line = format!(in alloc; "disk")?;
-    for call in case.calls.split(", ") {
-        line.push_str(made(alloc, &mut disk, call)?.as_str())?;
-    }
+    let given = all_made(alloc, &mut disk, case.calls)?;
     let left = stopped(alloc, disk, pick)?;
-    format!(in alloc; "{line} | {left}")
+    format!(in alloc; "disk{given} | {left}")
 }
 
 /// Calls on a disk, `ROOM FAIL CALL, CALL, ..`: a line for each pick of a stop behind them.

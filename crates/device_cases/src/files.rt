@@ -1,8 +1,9 @@
 //! A file as a disk: it is read, written and synced, and kept to one process.
 
+use case_words::{digits, halves};
 use gw_outside::{Disk, Failed};
 use gw_real::{DiskReason, FileDisk};
-use std::alloc::Global;
+use std::alloc::{AllocError, Global};
 use std::fs::{File, Files};
 use std::io;
 
@@ -35,27 +36,31 @@ fn opened<R: Files<File = File> + AllocGlobal>(rt: &R, file: &str) -> io::Result
     Ok(format!(in rt.alloc(); "{length:?} {}", reason(&disk))?)
 }
 
-/// A file that is made, written, read and opened again while it is open.
-fn kept<R: Files<File = File> + AllocGlobal>(rt: &R, file: &str) -> io::Result<String> {
-    let alloc = rt.alloc();
-    let mut disk = FileDisk::open_or_make(rt, file);
+/// A write, a read and the length.
+fn worked(alloc: Global, disk: &mut FileDisk) -> Result<String, AllocError> {
     let written = disk.write_at(0, &[1, 2, 3]);
     let mut piece = [0; 4];
-    let count = read_and_synced(&mut disk, 1, &mut piece);
-    let front = hex::encode(alloc, &piece[..2])?;
-    let length = length(&mut disk);
+    let count = read_and_synced(disk, 1, &mut piece);
+    let length = length(disk);
+    let front = digits(alloc, &piece[..2])?;
+    format!(in alloc; "{written:?} {count:?} {front} {length:?} {}", reason(disk))
+}
+
+/// A file that is made, written and read, and opened again while it is open.
+fn kept<R: Files<File = File> + AllocGlobal>(rt: &R, file: &str) -> io::Result<String> {
+    let mut disk = FileDisk::open_or_make(rt, file);
+    let told = worked(rt.alloc(), &mut disk)?;
     let second = opened(rt, file)?;
-    Ok(format!(in alloc;
-        "{written:?} {count:?} {front} {length:?} {}, second: {second}",
-        reason(&disk)
-    )?)
+    Ok(format!(in rt.alloc(); "{told}, second: {second}")?)
 }
 
 /// `open FILE`, or `keep FILE`.
 pub fn file_line<R: Files<File = File> + AllocGlobal>(rt: &R, rest: &str) -> io::Result<String> {
-    match rest.split_once(" ") {
-        Some(("open", file)) => Ok(format!(in rt.alloc(); "file {file}: {}", opened(rt, file)?)?),
-        Some(("keep", file)) => Ok(format!(in rt.alloc(); "file {file}: {}", kept(rt, file)?)?),
-        _ => Ok(format!(in rt.alloc(); "no case")?),
-    }
+    let (kind, file) = halves(rest);
+    let told = if kind == "open" {
+        opened(rt, file)?
+    } else {
+        kept(rt, file)?
+    };
+    Ok(format!(in rt.alloc(); "file {file}: {told}")?)
 }

@@ -3,13 +3,15 @@
 #![tactic(auto)]
 
 mod disks;
+mod failing;
 mod files;
 mod streams;
-mod words;
 
 use std::alloc::{AllocError, Global};
-use std::{fs, io};
+use std::fs::{self, File, Files};
+use std::io;
 
+/// What a case shows.
 fn line_of(alloc: Global, kind: &str, rest: &str) -> Result<String, AllocError> {
     match kind {
         "source" => streams::source_line(alloc, rest),
@@ -19,17 +21,21 @@ fn line_of(alloc: Global, kind: &str, rest: &str) -> Result<String, AllocError> 
     }
 }
 
+fn print_case<R: Files<File = File> + Print + AllocGlobal>(rt: &R, line: &str) -> io::Result<()> {
+    match line.split_once(": ") {
+        Some(("file", calls)) => rt.println(files::file_line(rt, calls)?),
+        Some((kind, rest)) => rt.println(line_of(rt.alloc(), kind, rest)?),
+        None => rt.println(line),
+    }
+}
+
 fn main(rt: HostRuntime) -> io::Result<()> {
     let text = fs::read_to_string(&rt, "cases.txt")?;
     for line in text.lines() {
         if line.starts_with("#") {
             rt.println(line)?;
-            continue;
-        }
-        match line.split_once(": ") {
-            Some(("file", calls)) => rt.println(files::file_line(&rt, calls)?)?,
-            Some((kind, rest)) => rt.println(line_of(rt.alloc(), kind, rest)?)?,
-            None => rt.println(line)?,
+        } else {
+            print_case(&rt, line)?;
         }
     }
     Ok(())

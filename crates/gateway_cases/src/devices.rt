@@ -30,7 +30,7 @@ pub struct Case<'a> {
 
 /// How a run ended: its status, and the outputs.
 #[derive(Drop)]
-pub struct Ended {
+pub struct Outcome {
     pub code: u8,
     pub wire: MemSink,
     pub out: MemSink,
@@ -76,7 +76,7 @@ fn run_over<R: Wait>(
     alloc: Global,
     words: &[String],
     outside: Outside<MemSource, MemSink>,
-) -> Ended {
+) -> Outcome {
     let (status, outside) = run(rt, alloc, words, outside);
     let Outside {
         config: _,
@@ -84,7 +84,7 @@ fn run_over<R: Wait>(
         wire,
         out,
     } = outside;
-    Ended {
+    Outcome {
         code: status.code(),
         wire,
         out,
@@ -92,7 +92,7 @@ fn run_over<R: Wait>(
 }
 
 /// Runs a case.
-pub fn ended<R: Wait>(rt: &R, alloc: Global, case: Case<'_>) -> Result<Ended, AllocError> {
+pub fn ended<R: Wait>(rt: &R, alloc: Global, case: Case<'_>) -> Result<Outcome, AllocError> {
     let words = split(alloc, case.words)?;
     let outside = outside(alloc, case)?;
     Ok(run_over(rt, alloc, words.as_slice(), outside))

@@ -4,33 +4,28 @@
 
 mod cases;
 mod devices;
-mod words;
+mod texts;
 
-use crate::cases::Texts;
-use crate::words::unhexed;
+use crate::texts::{Answering, Checking, answering, checking};
+use std::sync::Wait;
 use std::{fs, io};
 
-fn main(rt: HostRuntime) -> io::Result<()> {
-    let alloc = rt.alloc();
-    let settings = fs::read_to_string(&rt, "answer.toml")?;
-    let client = fs::read_to_string(&rt, "client.hex")?;
-    let wire = fs::read_to_string(&rt, "wire.hex")?;
-    let lines = fs::read_to_string(&rt, "lines.txt")?;
-    let schema = fs::read_to_string(&rt, "schema.toml")?;
-    let layout = fs::read_to_string(&rt, "layout.txt")?;
-    let input = unhexed(alloc, client.as_str())?;
-    let wire = unhexed(alloc, wire.as_str())?;
-    let texts = Texts {
-        settings: settings.as_bytes(),
-        input: input.as_slice(),
-        wire: wire.as_slice(),
-        lines: lines.as_bytes(),
-        schema: schema.as_bytes(),
-        layout: layout.as_bytes(),
-    };
-    let cases = fs::read_to_string(&rt, "cases.txt")?;
+/// Prints what each line of the file of cases shows.
+fn print_cases<R: Print + AllocGlobal + Wait>(
+    rt: &R,
+    answering: &Answering,
+    checking: &Checking,
+    cases: &str,
+) -> io::Result<()> {
     for line in cases.lines() {
-        rt.println(cases::line_of(&rt, alloc, texts, line)?)?;
+        rt.println(cases::line_of(rt, rt.alloc(), answering, checking, line)?)?;
     }
     Ok(())
+}
+
+fn main(rt: HostRuntime) -> io::Result<()> {
+    let answering = answering(&rt)?;
+    let checking = checking(&rt)?;
+    let cases = fs::read_to_string(&rt, "cases.txt")?;
+    print_cases(&rt, &answering, &checking, cases.as_str())
 }

@@ -12,36 +12,55 @@ fn text(bytes: &[u8]) -> &str {
     str::from_utf8(bytes).unwrap_or("?")
 }
 
-/// Bytes that are pushed, copied and compared with greater ones.
-fn bytes_line(alloc: Global) -> Result<String, AllocError> {
+fn abc(alloc: Global) -> Result<Bytes, AllocError> {
     let mut bytes = Bytes::new(alloc);
     bytes.push(b'a')?;
     bytes.extend_from_slice(b"bc")?;
-    let copied = bytes.copy(alloc)? == bytes;
-    let less = bytes < Bytes::from_slice(alloc, b"abd")?;
+    Ok(bytes)
+}
+
+/// Bytes that are pushed, copied and compared with greater ones.
+fn bytes_line(alloc: Global) -> Result<String, AllocError> {
+    let bytes = abc(alloc)?;
+    let copy = bytes.copy(alloc)?;
+    let greater = Bytes::from_slice(alloc, b"abd")?;
+    let copied = copy == bytes;
+    let less = bytes < greater;
+    let count = bytes.len();
     format!(in alloc;
-        "bytes {}, {} of them, copied {copied}, less {less}",
-        text(bytes.as_slice()),
-        bytes.len()
+        "bytes {}, {count} of them, copied {copied}, less {less}",
+        text(bytes.as_slice())
     )
 }
 
-/// A list of lists of bytes, and a list made into a vector.
+/// A list of lists of bytes.
 fn payloads_line(alloc: Global) -> Result<String, AllocError> {
     let mut payloads = Payloads::new(alloc);
     payloads.push(Bytes::from_slice(alloc, b"abc")?)?;
-    let copied = payloads.copy(alloc)? == payloads;
+    let copy = payloads.copy(alloc)?;
+    let copied = copy == payloads;
     let equal = are_equal(&payloads, &payloads);
-    let inner: Vec<u8> = Vec::from(Lines::from(Vec::from_slice(alloc, b"end")?));
     format!(in alloc;
-        "payloads empty {}, copied {copied}, equal {equal}, lines {}",
-        payloads.is_empty(),
-        text(inner.as_slice())
+        "payloads empty {}, copied {copied}, equal {equal}",
+        payloads.is_empty()
     )
 }
 
-/// The path to a place of a schema, and whether other steps are another path.
-fn path_line(alloc: Global) -> Result<String, AllocError> {
+/// A list made into a vector.
+fn lines_line(alloc: Global) -> Result<String, AllocError> {
+    let inner: Vec<u8> = Vec::from(Lines::from(Vec::from_slice(alloc, b"end")?));
+    format!(in alloc; "lines {}", text(inner.as_slice()))
+}
+
+fn steps(alloc: Global) -> Result<Path, AllocError> {
+    let mut steps = Path::new(alloc);
+    steps.push(Step::Key(Bytes::from_slice(alloc, b"message")?))?;
+    steps.push(Step::At(0))?;
+    Ok(steps)
+}
+
+/// The path to the second field of the first message.
+fn path(alloc: Global) -> Result<Path, AllocError> {
     let message = Spot {
         part: Part::Messages,
         at: 0,
@@ -50,11 +69,14 @@ fn path_line(alloc: Global) -> Result<String, AllocError> {
         part: Part::Fields,
         at: 1,
     };
-    let path = path_to(alloc, &[message], field)?;
-    let mut steps = Path::new(alloc);
-    steps.push(Step::Key(Bytes::from_slice(alloc, b"message")?))?;
-    steps.push(Step::At(0))?;
-    let other = steps.copy(alloc)? != path;
+    path_to(alloc, &[message], field)
+}
+
+/// The path to a place of a schema, and whether other steps are another path.
+fn path_line(alloc: Global) -> Result<String, AllocError> {
+    let path = path(alloc)?;
+    let copy = steps(alloc)?.copy(alloc)?;
+    let other = copy != path;
     let line = text_of_path(alloc, &path)?;
     format!(in alloc; "path {}, another one {other}", text(line.as_slice()))
 }
@@ -89,22 +111,29 @@ fn groups(alloc: Global) -> Result<Groups, AllocError> {
     Ok(Groups::from(vec![in alloc; Group::Absent, entries]?))
 }
 
+fn message(alloc: Global) -> Result<Message, AllocError> {
+    let items = items(alloc)?;
+    let groups = groups(alloc)?;
+    let vars = datums(alloc)?;
+    Ok(Message {
+        template: 5,
+        root: Block {
+            items,
+            groups,
+            vars,
+        },
+    })
+}
+
 /// A message that is copied, and a copy that is changed.
 fn message_line(alloc: Global) -> Result<String, AllocError> {
-    let root = Block {
-        items: items(alloc)?,
-        groups: groups(alloc)?,
-        vars: datums(alloc)?,
-    };
-    let message = Message { template: 5, root };
+    let message = message(alloc)?;
     let mut other = message.copy(alloc)?;
     let copied = other == message;
     other.root.items.push(Item::Null)?;
     let changed = other != message;
-    format!(in alloc;
-        "message with {} groups, copied {copied}, changed {changed}",
-        message.root.groups.len()
-    )
+    let groups = message.root.groups.len();
+    format!(in alloc; "message with {groups} groups, copied {copied}, changed {changed}")
 }
 
 /// What is shown of lists of this name.
@@ -112,6 +141,7 @@ pub fn values_line(alloc: Global, name: &str) -> Result<String, AllocError> {
     match name {
         "bytes" => bytes_line(alloc),
         "payloads" => payloads_line(alloc),
+        "lines" => lines_line(alloc),
         "path" => path_line(alloc),
         "message" => message_line(alloc),
         _ => format!(in alloc; "no case: {name}"),

@@ -3,7 +3,8 @@
 
 ghost use Rattle.std.specs.Prelude.{◌≤◌, length};
 
-use crate::words::{Named, halves};
+use crate::named::Named;
+use case_words::{digits, halves};
 use fixp_end::{Act, End, EndConfig, EndState, Role};
 use fixp_msgs::Flow;
 use gw_outside::Bytes;
@@ -117,7 +118,7 @@ impl Server {
 
     /// The link takes everything that is written, which are these bytes.
     fn taken(&mut self, alloc: Global) -> Result<String, AllocError> {
-        let written = hex::encode(alloc, self.end.out())?;
+        let written = digits(alloc, self.end.out())?;
         let count = self.end.out().len();
         self.end.taken(count);
         Ok(written)

@@ -1,6 +1,7 @@
 //! The first frame of some bytes, and the frames of bytes that come in pieces.
 
-use crate::words::{Named, halves, number};
+use crate::named::Named;
+use case_words::{digits, halves, number};
 use sbe_prim::Order;
 use sofh_frame::{FirstFrame, Framer, OwnedFrame, Split, next, split_pieces};
 use std::alloc::{AllocError, Global};
@@ -13,8 +14,8 @@ fn told(alloc: Global, first: FirstFrame<'_>) -> Result<String, AllocError> {
             message,
             size,
         } => {
-            let digits = hex::encode(alloc, message)?;
-            format!(in alloc; "{order:?} {digits} of {size} bytes")
+            let spelled = digits(alloc, message)?;
+            format!(in alloc; "{order:?} {spelled} of {size} bytes")
         }
         other => format!(in alloc; "{other:?}"),
     }
@@ -116,8 +117,8 @@ pub fn pieces_line(alloc: Global, named: Named<'_>, rest: &str) -> Result<String
     let (size, others) = halves(rest);
     let (times, words) = halves(others);
     let frames = all_named(alloc, named, words)?;
-    let bytes = joined(alloc, frames.as_slice(), number(times))?;
-    let split = split_by(alloc, bytes.as_slice(), number(size))?;
+    let bytes = joined(alloc, frames.as_slice(), number(times) as usize)?;
+    let split = split_by(alloc, bytes.as_slice(), number(size) as usize)?;
     let same = as_wanted(split.frames.as_slice(), frames.as_slice());
     format!(in alloc;
         "pieces of {size}: {same} of {} frames as given, {:?} at {}",

@@ -5,9 +5,9 @@
 mod ends;
 mod frames;
 mod messages;
-mod words;
+mod named;
 
-use crate::words::Named;
+use crate::named::Named;
 use std::alloc::{AllocError, Global};
 use std::{fs, io};
 

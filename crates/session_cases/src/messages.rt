@@ -8,7 +8,8 @@ ghost use Rattle.fixp_msgs.specs.Message.{message_of};
 ghost use Rattle.fixp_msgs.specs.Table.{null};
 ghost use Rattle.fixp_msgs.specs.Canonical.{IsWritable};
 
-use crate::words::{Named, decoded};
+use crate::named::Named;
+use case_words::bytes;
 use fixp_msgs::{Counter, FrameKind, SessionMsg, kind, read, size, write};
 use sbe_prim::Order;
 use std::alloc::{AllocError, Global};
@@ -114,14 +115,14 @@ pub fn message_line(alloc: Global, named: Named<'_>, word: &str) -> Result<Strin
 
 /// What reading the bytes of a message says.
 pub fn bytes_line(alloc: Global, digits: &str) -> Result<String, AllocError> {
-    let message = decoded(alloc, digits)?;
+    let message = bytes(alloc, digits)?;
     let found = answer(alloc, message.as_slice())?;
     format!(in alloc; "bytes {digits}: {found}")
 }
 
 /// What a big-endian message is.
 pub fn big_line(alloc: Global, digits: &str) -> Result<String, AllocError> {
-    let message = decoded(alloc, digits)?;
+    let message = bytes(alloc, digits)?;
     if message.len() < 8 {
         return format!(in alloc; "big {digits}: no header");
     }
