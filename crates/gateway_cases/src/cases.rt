@@ -54,12 +54,22 @@ fn answer_line<R: Wait>(
 ) -> Result<String, AllocError> {
     let case = answer_of(texts, numbers);
     let outcome = ended(rt, alloc, case)?;
-    let told = told(alloc, &outcome, texts.wire.as_slice(), texts.lines.as_bytes())?;
+    let told = told(
+        alloc,
+        &outcome,
+        texts.wire.as_slice(),
+        texts.lines.as_bytes(),
+    )?;
     format!(in alloc; "answer {numbers}: {told}")
 }
 
 fn answer_of<'a>(texts: &'a Answering, numbers: &str) -> Case<'a> {
-    case_of("answer C I W O", texts.settings.as_bytes(), texts.input.as_slice(), numbers)
+    case_of(
+        "answer C I W O",
+        texts.settings.as_bytes(),
+        texts.input.as_slice(),
+        numbers,
+    )
 }
 
 /// A run of `check`.

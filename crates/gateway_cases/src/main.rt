@@ -6,7 +6,7 @@ mod cases;
 mod devices;
 mod texts;
 
-use crate::texts::{Answering, Checking, answering, checking};
+use crate::texts::{Answering, Checking, read_answering, read_checking};
 use std::sync::Wait;
 use std::{fs, io};
 
@@ -24,8 +24,8 @@ fn print_cases<R: Print + AllocGlobal + Wait>(
 }
 
 fn main(rt: HostRuntime) -> io::Result<()> {
-    let answering = answering(&rt)?;
-    let checking = checking(&rt)?;
+    let answering = read_answering(&rt)?;
+    let checking = read_checking(&rt)?;
     let cases = fs::read_to_string(&rt, "cases.txt")?;
     print_cases(&rt, &answering, &checking, cases.as_str())
 }

@@ -39,7 +39,7 @@ fn bytes_of_file<R: Files + AllocGlobal>(rt: &R, file: &str) -> io::Result<Vec<u
 ///
 /// # Errors
 /// A file that cannot be read, or want of memory.
-pub fn answering<R: Files + AllocGlobal>(rt: &R) -> io::Result<Answering> {
+pub fn read_answering<R: Files + AllocGlobal>(rt: &R) -> io::Result<Answering> {
     let settings = fs::read_to_string(rt, "answer.toml")?;
     let input = bytes_of_file(rt, "client.hex")?;
     let wire = bytes_of_file(rt, "wire.hex")?;
@@ -56,7 +56,7 @@ pub fn answering<R: Files + AllocGlobal>(rt: &R) -> io::Result<Answering> {
 ///
 /// # Errors
 /// A file that cannot be read, or want of memory.
-pub fn checking<R: Files + AllocGlobal>(rt: &R) -> io::Result<Checking> {
+pub fn read_checking<R: Files + AllocGlobal>(rt: &R) -> io::Result<Checking> {
     let schema = fs::read_to_string(rt, "schema.toml")?;
     let layout = fs::read_to_string(rt, "layout.txt")?;
     Ok(Checking { schema, layout })

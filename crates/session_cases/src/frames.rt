@@ -41,23 +41,39 @@ pub fn fronts_line(alloc: Global, named: Named<'_>, word: &str) -> Result<String
     format!(in alloc; "fronts of {word}: {open} of {} are a rest", bytes.len())
 }
 
-/// A framer that is filled with a frame, looked at, and emptied: its room before, between and behind, and what it holds.
+/// Fills a framer with bytes, where it has the room.
+fn fill(framer: &mut Framer, bytes: &[u8]) {
+    let count = bytes.len();
+    if count <= framer.room().len() {
+        framer.room()[..count].copy_from_slice(bytes);
+        framer.filled(count);
+    }
+}
+
+/// Lets go of the first frame that the framer holds.
+fn let_go(framer: &mut Framer) {
+    if let FirstFrame::Frame { size, .. } = framer.peek() {
+        framer.drop_front(size);
+    }
+}
+
+/// The framer's room, and the first frame that it holds.
+fn framer_told(alloc: Global, framer: &mut Framer) -> Result<String, AllocError> {
+    let room = framer.room().len();
+    let first = told(alloc, framer.peek())?;
+    format!(in alloc; "{room} with {first}")
+}
+
+/// A framer that is empty, is filled with a frame, and has let go of it.
 pub fn framer_line(alloc: Global, named: Named<'_>, word: &str) -> Result<String, AllocError> {
     let bytes = named.bytes(alloc, word)?;
     let mut framer = Framer::new(alloc)?;
-    let before = framer.room().len();
-    let count = bytes.len();
-    if before < count {
-        return format!(in alloc; "framer of {word}: no room");
-    }
-    framer.room()[..count].copy_from_slice(bytes.as_slice());
-    framer.filled(count);
-    let between = framer.room().len();
-    let held = told(alloc, framer.peek())?;
-    framer.drop_front(count);
-    let rest = told(alloc, framer.peek())?;
-    let behind = framer.room().len();
-    format!(in alloc; "framer of {word}: {before}, {between} and {held}, {behind} and {rest}")
+    let empty = framer_told(alloc, &mut framer)?;
+    fill(&mut framer, bytes.as_slice());
+    let full = framer_told(alloc, &mut framer)?;
+    let_go(&mut framer);
+    let left = framer_told(alloc, &mut framer)?;
+    format!(in alloc; "framer of {word}: {empty}, {full}, {left}")
 }
 
 /// The frames one behind another, so many times.

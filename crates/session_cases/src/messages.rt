@@ -129,17 +129,28 @@ pub fn big_line(alloc: Global, digits: &str) -> Result<String, AllocError> {
     format!(in alloc; "big {digits}: {:?}", kind(Order::Big, message.as_slice()))
 }
 
+/// The implied number of a frame's message.
+fn number_told(
+    alloc: Global,
+    counter: &mut Counter,
+    named: Named<'_>,
+    word: &str,
+) -> Result<String, AllocError> {
+    let frame = named.bytes(alloc, word)?;
+    let message = message_in(frame.as_slice());
+    if message.len() < 8 {
+        return format!(in alloc; "\n  {word} no header");
+    }
+    let number = counter.see(Order::Little, message);
+    format!(in alloc; "\n  {word} {number:?}")
+}
+
 /// The implied number of each frame's message, over one connection.
 pub fn numbers_line(alloc: Global, named: Named<'_>, words: &str) -> Result<String, AllocError> {
     let mut counter = Counter::new();
     let mut line = format!(in alloc; "numbers")?;
     for word in words.split(" ") {
-        let frame = named.bytes(alloc, word)?;
-        let message = message_in(frame.as_slice());
-        if message.len() >= 8 {
-            let number = counter.see(Order::Little, message);
-            line.push_str(format!(in alloc; "\n  {word} {number:?}")?.as_str())?;
-        }
+        line.push_str(number_told(alloc, &mut counter, named, word)?.as_str())?;
     }
     Ok(line)
 }
