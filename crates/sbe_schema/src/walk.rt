@@ -1,12 +1,11 @@
 //! The walk over the tables of a schema: types before messages, a table before what lies in it.
 
-ghost use Rattle.std.specs.Prelude.{◌≡◌, [], ◌∷◌, pos, OnOk};
+ghost use Rattle.std.specs.Prelude.{◌≡◌, [], pos, OnOk};
 ghost use Rattle.std.specs.FinSet as set;
 ghost use Rattle.sbe_schema.specs.Indexed.{Indexes};
-ghost use Rattle.sbe_schema.specs.Places.{value_table, bit_table, member_table, field_table};
 ghost use Rattle.sbe_schema.specs.Search.{folded};
 ghost use Rattle.schema_types.specs.Views.{head_of, groups_of};
-ghost use Rattle.sbe_schema.specs.Walk.{place, walk_values, walk_bits, walk_members, walk_kind, walk_type, walk_types, walk_fields, walk_data, walk_groups, walk_group, walk_block, walk_message, walk_messages, names_of_fields, names_of_groups, ids_of_fields, ids_of_data, ids_of_groups, ids_of_block, lowest_since, lower};
+ghost use Rattle.sbe_schema.specs.Walk.{walk_values, walk_bits, walk_members, walk_kind, walk_type, walk_types, walk_fields, walk_data, walk_groups, walk_group, walk_block, walk_message, walk_messages, names_of_fields, names_of_groups, ids_of_fields, ids_of_data, ids_of_groups, ids_of_block, lowest_since, lower};
 
 use crate::fault::{Part, Spot};
 use crate::holder::Holder;
@@ -41,38 +40,18 @@ pub fn walk_fields(
     let mut floor = since;
     let mut end = 0u128;
     for (at, f) in fields.iter().enumerate() {
-        look_at_field(index, state, names, floor, end, at, f)?;
+        let rule = rule_of_field(index, names, &state.ids, floor, end, f);
+        let spot = Spot {
+            part: Part::Fields,
+            at: at as u64,
+        };
+        note(state, rule, spot)?;
+        names.insert(state.alloc, &f.name)?;
+        state.ids.insert(i128::from(f.id))?;
         floor = floor.max(f.since);
         end = index.field_end(end, f);
     }
     Ok(())
-}
-
-// Looks at a field of a block, and adds its name and id to those before it.
-fn look_at_field(
-    index: &Index<'_>,
-    state: &mut State,
-    names: &mut NameSet,
-    floor: i128,
-    end: u128,
-    at: usize,
-    f: &FieldDef,
-) -> Result<(), AllocError>
-    requires { Indexes index.now }
-    ensures fault { OnOk result (state.new.fault
-        ≡ folded index.now.schema.now state.old.fault (place state.old.trail.items Part.Fields at names.old state.old.ids (field_table floor end f.now) ∷ [])) }
-    ensures names { OnOk result (names.new ≡ set.insert names.old f.now.name) }
-    ensures ids { OnOk result (state.new.ids ≡ set.insert state.old.ids (pos f.now.id)) }
-    ensures trail { OnOk result (state.new.trail.items ≡ state.old.trail.items) }
-{
-    let rule = rule_of_field(index, names, &state.ids, floor, end, f);
-    let spot = Spot {
-        part: Part::Fields,
-        at: at as u64,
-    };
-    note(state, rule, spot)?;
-    names.insert(state.alloc, &f.name)?;
-    state.ids.insert(i128::from(f.id))
 }
 
 /// Walks over the data of a block.
@@ -356,35 +335,16 @@ fn walk_values(
     let mut names = NameSet::new(state.alloc);
     let mut numbers = NumberSet::new(state.alloc);
     for (at, v) in values.iter().enumerate() {
-        look_at_value(index, state, &mut names, &mut numbers, prim, at, v)?;
+        let rule = rule_of_value(index.schema, &names, &numbers, prim, v);
+        let spot = Spot {
+            part: Part::Values,
+            at: at as u64,
+        };
+        note(state, rule, spot)?;
+        names.insert(state.alloc, &v.name)?;
+        numbers.insert(v.value)?;
     }
     Ok(())
-}
-
-// Looks at a value of an enum, and adds its name and number to those before it.
-fn look_at_value(
-    index: &Index<'_>,
-    state: &mut State,
-    names: &mut NameSet,
-    numbers: &mut NumberSet,
-    prim: Primitive,
-    at: usize,
-    v: &ValueDef,
-) -> Result<(), AllocError>
-    ensures fault { OnOk result (state.new.fault
-        ≡ folded index.now.schema.now state.old.fault (place state.old.trail.items Part.Values at names.old numbers.old (value_table prim v.now) ∷ [])) }
-    ensures names { OnOk result (names.new ≡ set.insert names.old v.now.name) }
-    ensures numbers { OnOk result (numbers.new ≡ set.insert numbers.old v.now.value) }
-    ensures trail { OnOk result (state.new.trail.items ≡ state.old.trail.items) }
-{
-    let rule = rule_of_value(index.schema, names, numbers, prim, v);
-    let spot = Spot {
-        part: Part::Values,
-        at: at as u64,
-    };
-    note(state, rule, spot)?;
-    names.insert(state.alloc, &v.name)?;
-    numbers.insert(v.value)
 }
 
 // Walks over the bits of a set.
@@ -401,35 +361,16 @@ fn walk_bits(
     let mut names = NameSet::new(state.alloc);
     let mut numbers = NumberSet::new(state.alloc);
     for (at, b) in bits.iter().enumerate() {
-        look_at_bit(index, state, &mut names, &mut numbers, prim, at, b)?;
+        let rule = rule_of_bit(index.schema, &names, &numbers, prim, b);
+        let spot = Spot {
+            part: Part::Bits,
+            at: at as u64,
+        };
+        note(state, rule, spot)?;
+        names.insert(state.alloc, &b.name)?;
+        numbers.insert(i128::from(b.bit))?;
     }
     Ok(())
-}
-
-// Looks at a bit of a set, and adds its name and place to those before it.
-fn look_at_bit(
-    index: &Index<'_>,
-    state: &mut State,
-    names: &mut NameSet,
-    numbers: &mut NumberSet,
-    prim: Primitive,
-    at: usize,
-    b: &BitDef,
-) -> Result<(), AllocError>
-    ensures fault { OnOk result (state.new.fault
-        ≡ folded index.now.schema.now state.old.fault (place state.old.trail.items Part.Bits at names.old numbers.old (bit_table prim b.now) ∷ [])) }
-    ensures names { OnOk result (names.new ≡ set.insert names.old b.now.name) }
-    ensures numbers { OnOk result (numbers.new ≡ set.insert numbers.old (pos b.now.bit)) }
-    ensures trail { OnOk result (state.new.trail.items ≡ state.old.trail.items) }
-{
-    let rule = rule_of_bit(index.schema, names, numbers, prim, b);
-    let spot = Spot {
-        part: Part::Bits,
-        at: at as u64,
-    };
-    note(state, rule, spot)?;
-    names.insert(state.alloc, &b.name)?;
-    numbers.insert(i128::from(b.bit))
 }
 
 // Walks over the members of a composite.
@@ -446,32 +387,14 @@ fn walk_members(
     let mut names = NameSet::new(state.alloc);
     let mut end = 0u128;
     for (at, m) in members.iter().enumerate() {
-        look_at_member(index, state, &mut names, end, at, m)?;
+        let rule = rule_of_member(index, &names, end, m);
+        let spot = Spot {
+            part: Part::Members,
+            at: at as u64,
+        };
+        note(state, rule, spot)?;
+        names.insert(state.alloc, &m.name)?;
         end = index.member_end(end, m);
     }
     Ok(())
-}
-
-// Looks at a member of a composite, and adds its name to those before it.
-fn look_at_member(
-    index: &Index<'_>,
-    state: &mut State,
-    names: &mut NameSet,
-    end: u128,
-    at: usize,
-    m: &MemberDef,
-) -> Result<(), AllocError>
-    requires { Indexes index.now }
-    ensures fault { OnOk result (state.new.fault
-        ≡ folded index.now.schema.now state.old.fault (place state.old.trail.items Part.Members at names.old set.empty (member_table end m.now) ∷ [])) }
-    ensures names { OnOk result (names.new ≡ set.insert names.old m.now.name) }
-    ensures trail { OnOk result (state.new.trail.items ≡ state.old.trail.items) }
-{
-    let rule = rule_of_member(index, names, end, m);
-    let spot = Spot {
-        part: Part::Members,
-        at: at as u64,
-    };
-    note(state, rule, spot)?;
-    names.insert(state.alloc, &m.name)
 }
