@@ -3,11 +3,13 @@
 //! `before: TEXT` and `behind: TEXT` are what the texts of the cases behind them stand between; ` ; ` is a line
 //! end. `case: TEXT` is one text. `repeat: COUNT | BEFORE | PART | BEHIND` repeats a part, with `#` for its place
 //! from 0. `pad: LENGTH | START` is a text of so many bytes, the rest of which is a comment. `sample: FILE` is a
-//! schema in a file of its own; the lines of `numbers` speak of primitives.
+//! schema in a file of its own; the lines of `numbers` speak of primitives, and those of `values` of lists and messages.
 
 use crate::numbers::{holds_line, number_line, primitive_line};
 use crate::samples::print_sample;
 use crate::told::told;
+use crate::values::values_line;
+use case_words::number;
 use std::alloc::{AllocError, Global};
 use std::io;
 use std::rt::Files;
@@ -50,59 +52,70 @@ fn print_case<R: Print + AllocGlobal>(
     kind: &str,
     rest: &str,
 ) -> io::Result<()> {
-    let alloc = rt.alloc();
-    let line = match kind {
-        "case" => case_line(alloc, frame, rest)?,
-        "repeat" => repeat_line(alloc, frame, rest)?,
-        "pad" => pad_line(alloc, rest)?,
-        "primitive" => primitive_line(alloc, rest)?,
-        "number" => number_line(alloc, rest)?,
-        "holds" => holds_line(alloc, rest)?,
-        _ => format!(in alloc; "no case: {kind}: {rest}")?,
-    };
-    rt.println(line)
+    rt.println(line_of(rt.alloc(), frame, kind, rest)?)
+}
+
+fn line_of(alloc: Global, frame: Frame<'_>, kind: &str, rest: &str) -> Result<String, AllocError> {
+    match kind {
+        "case" => case_line(alloc, frame, rest),
+        "repeat" => repeat_line(alloc, frame, rest),
+        "pad" => pad_line(alloc, rest),
+        "primitive" => primitive_line(alloc, rest),
+        "number" => number_line(alloc, rest),
+        "holds" => holds_line(alloc, rest),
+        "values" => values_line(alloc, rest),
+        _ => format!(in alloc; "no case: {kind}: {rest}"),
+    }
+}
+
+// What is said of a text in which ` ; ` is a line end.
+fn told_of_lines(alloc: Global, text: &str) -> Result<String, AllocError> {
+    let whole = text.replace(alloc, " ; ", "\n")?;
+    told(alloc, whole.as_bytes())
 }
 
 fn case_line(alloc: Global, frame: Frame<'_>, text: &str) -> Result<String, AllocError> {
     let whole = format!(in alloc; "{}{text}{}", frame.before, frame.behind)?;
-    let whole = whole.replace(alloc, " ; ", "\n")?;
-    let found = told(alloc, whole.as_bytes())?;
+    let found = told_of_lines(alloc, whole.as_str())?;
     format!(in alloc; "{found} | {text}")
 }
 
-// The number that a word spells; none where it spells none.
-fn count_of(word: &str) -> usize {
-    match word.parse::<u32>() {
-        Ok(count) => count as usize,
-        Err(_) => 0,
+// A part with `#` in the place of its own place.
+fn placed(alloc: Global, part: &str, at: u64) -> Result<String, AllocError> {
+    let place = format!(in alloc; "{at}")?;
+    part.replace(alloc, "#", place.as_str())
+}
+
+fn repeated(alloc: Global, part: &str, count: u64) -> Result<String, AllocError> {
+    let mut text = String::new(alloc);
+    for at in 0..count {
+        text.push_str(placed(alloc, part, at)?.as_str())?;
     }
+    Ok(text)
 }
 
 fn repeat_line(alloc: Global, frame: Frame<'_>, rest: &str) -> Result<String, AllocError> {
-    let mut words = rest.split(" | ");
-    let count = words.next().unwrap_or("");
-    let before = words.next().unwrap_or("");
-    let part = words.next().unwrap_or("");
-    let behind = words.next().unwrap_or("");
-    let mut text = format!(in alloc; "{}{before}", frame.before)?;
-    for at in 0..count_of(count) {
-        let place = format!(in alloc; "{at}")?;
-        let part = part.replace(alloc, "#", place.as_str())?;
-        text.push_str(part.as_str())?;
-    }
-    text.push_str(behind)?;
-    let whole = text.replace(alloc, " ; ", "\n")?;
-    let found = told(alloc, whole.as_bytes())?;
+    let (count, others) = rest.split_once(" | ").unwrap_or(("", rest));
+    let (before, others) = others.split_once(" | ").unwrap_or(("", others));
+    let (part, behind) = others.split_once(" | ").unwrap_or((others, ""));
+    let parts = repeated(alloc, part, number(count))?;
+    let text = format!(in alloc; "{}{before}{parts}{behind}", frame.before)?;
+    let found = told_of_lines(alloc, text.as_str())?;
     format!(in alloc; "{found} | {rest}")
+}
+
+// A text of so many bytes: its start, and a comment behind it.
+fn padded(alloc: Global, length: usize, start: &str) -> Result<Vec<u8>, AllocError> {
+    let mut text = Vec::from_slice(alloc, start.as_bytes())?;
+    text.push(b'#')?;
+    text.resize(length, b' ')?;
+    Ok(text)
 }
 
 fn pad_line(alloc: Global, rest: &str) -> Result<String, AllocError> {
     let (length, start) = rest.split_once(" | ").unwrap_or(("", rest));
-    let start = start.replace(alloc, " ; ", "\n")?;
-    let mut text = Vec::with_capacity(alloc, count_of(length))?;
-    text.extend_from_slice(start.as_bytes())?;
-    text.push(b'#')?;
-    text.resize(count_of(length), b' ')?;
+    let lines = start.replace(alloc, " ; ", "\n")?;
+    let text = padded(alloc, number(length) as usize, lines.as_str())?;
     let found = told(alloc, text.as_slice())?;
     format!(in alloc; "{found} | {rest}")
 }

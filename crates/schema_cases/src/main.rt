@@ -7,6 +7,7 @@ mod cases;
 mod numbers;
 mod samples;
 mod told;
+mod values;
 
 use std::{fs, io};
 

@@ -1,5 +1,6 @@
 //! Lines on the primitives and on the numbers that bytes spell.
 
+use case_words::{bytes, digits, halves};
 use sbe_prim::{
     Order, Primitive, can_hold, find_primitive, greatest, is_integral, least, null, primitive_name,
     read, size, write,
@@ -24,8 +25,8 @@ pub fn primitive_line(alloc: Global, name: &str) -> Result<String, AllocError> {
 
 /// Whether a primitive holds a number: `NAME NUMBER`.
 pub fn holds_line(alloc: Global, rest: &str) -> Result<String, AllocError> {
-    let (name, digits) = rest.split_once(" ").unwrap_or(("", rest));
-    match (find_primitive(name.as_bytes()), digits.parse::<i128>()) {
+    let (name, number) = halves(rest);
+    match (find_primitive(name.as_bytes()), number.parse::<i128>()) {
         (Some(p), Ok(number)) => format!(in alloc; "{rest} {}", can_hold(p, number)),
         _ => format!(in alloc; "no case: {rest}"),
     }
@@ -33,16 +34,17 @@ pub fn holds_line(alloc: Global, rest: &str) -> Result<String, AllocError> {
 
 /// The number that bytes spell, and the bytes that it is written as: `NAME ORDER HEX`.
 pub fn number_line(alloc: Global, rest: &str) -> Result<String, AllocError> {
-    let (name, others) = rest.split_once(" ").unwrap_or(("", rest));
-    let (order, digits) = others.split_once(" ").unwrap_or(("", others));
+    let (name, others) = halves(rest);
+    let (order, word) = halves(others);
     let order = if order == "big" {
         Order::Big
     } else {
         Order::Little
     };
-    match (find_primitive(name.as_bytes()), hex::decode(alloc, digits)) {
-        (Some(p), Ok(bytes)) => spelled(alloc, rest, p, order, bytes.as_slice()),
-        _ => format!(in alloc; "no case: {rest}"),
+    let bytes = bytes(alloc, word)?;
+    match find_primitive(name.as_bytes()) {
+        Some(p) => spelled(alloc, rest, p, order, bytes.as_slice()),
+        None => format!(in alloc; "no case: {rest}"),
     }
 }
 
@@ -60,6 +62,6 @@ fn spelled(
     let mut written = Vec::from_slice(alloc, bytes)?;
     written.as_mut_slice().fill(0);
     write(p, order, number, written.as_mut_slice());
-    let again = hex::encode(alloc, written.as_slice())?;
+    let again = digits(alloc, written.as_slice())?;
     format!(in alloc; "{rest} {number} {again}")
 }

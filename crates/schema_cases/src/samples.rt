@@ -5,38 +5,53 @@ use crate::told::fault_text;
 use layout_text::message_lines;
 use lists::{Element, are_equal};
 use sbe_layout::{BlockPlan, MessagePlan, Plan};
+use sbe_schema::Schema;
 use schema_load::load;
-use schema_toml::{print_schema, read_schema};
+use schema_toml::{ConfigFault, print_schema, read_schema};
 use std::alloc::{AllocError, Global};
 use std::rt::Files;
 use std::{fs, io};
 
 /// Prints what is said of the schema in a file.
 pub fn print_sample<R: Files + Print + AllocGlobal>(rt: &R, file: &str) -> io::Result<()> {
-    let alloc = rt.alloc();
     let text = fs::read(rt, file)?;
-    match load(alloc, text.as_slice()) {
-        Ok(plan) => {
-            println!(rt; "Ok | {file}")?;
-            print_plan(rt, &plan)?;
-            println!(rt; "{}", back(alloc, text.as_slice())?)
-        }
-        Err(fault) => println!(rt; "{} | {file}", fault_text(alloc, &fault)?),
+    match load(rt.alloc(), text.as_slice()) {
+        Ok(plan) => print_loaded(rt, file, text.as_slice(), &plan),
+        Err(fault) => print_fault(rt, file, &fault),
     }
 }
 
-fn print_plan<R: Print + AllocGlobal>(rt: &R, plan: &Plan) -> io::Result<()> {
-    let alloc = rt.alloc();
+fn print_fault<R: Print + AllocGlobal>(rt: &R, file: &str, fault: &ConfigFault) -> io::Result<()> {
+    let found = fault_text(rt.alloc(), fault)?;
+    println!(rt; "{found} | {file}")
+}
+
+fn print_loaded<R: Print + AllocGlobal>(
+    rt: &R,
+    file: &str,
+    text: &[u8],
+    plan: &Plan,
+) -> io::Result<()> {
+    println!(rt; "Ok | {file}")?;
     for message in plan.messages.as_slice() {
-        let lines = message_lines(alloc, message)?;
-        for line in word(lines.as_slice()).lines() {
-            rt.println(line)?;
-        }
-        if let Some(found) = plan.message(message.template) {
-            print_marks(rt, found)?;
-        }
+        print_message(rt, plan, message)?;
     }
-    Ok(())
+    rt.println(back(rt.alloc(), text)?)
+}
+
+fn print_message<R: Print + AllocGlobal>(
+    rt: &R,
+    plan: &Plan,
+    message: &MessagePlan,
+) -> io::Result<()> {
+    let lines = message_lines(rt.alloc(), message)?;
+    for line in word(lines.as_slice()).lines() {
+        rt.println(line)?;
+    }
+    match plan.message(message.template) {
+        Some(found) => print_marks(rt, found),
+        None => Ok(()),
+    }
 }
 
 fn word(bytes: &[u8]) -> &str {
@@ -59,13 +74,19 @@ fn print_marks<R: Print + AllocGlobal>(rt: &R, message: &MessagePlan) -> io::Res
     Ok(())
 }
 
-// The since and the end of each field, and the since of each datum.
-fn marks(alloc: Global, name: &str, block: &BlockPlan) -> Result<String, AllocError> {
-    let mut line = format!(in alloc; "marks of {name}:")?;
+// The since and the end of each field.
+fn field_marks(alloc: Global, block: &BlockPlan) -> Result<String, AllocError> {
+    let mut line = String::new(alloc);
     for mark in block.marks.as_slice() {
         let found = format!(in alloc; " {} {},", mark.since, mark.end)?;
         line.push_str(found.as_str())?;
     }
+    Ok(line)
+}
+
+// The since of each datum.
+fn data_marks(alloc: Global, block: &BlockPlan) -> Result<String, AllocError> {
+    let mut line = String::new(alloc);
     for datum in block.vars.as_slice() {
         let found = format!(in alloc; " {} since {},", word(datum.name.as_slice()), datum.since)?;
         line.push_str(found.as_str())?;
@@ -73,20 +94,39 @@ fn marks(alloc: Global, name: &str, block: &BlockPlan) -> Result<String, AllocEr
     Ok(line)
 }
 
+fn marks(alloc: Global, name: &str, block: &BlockPlan) -> Result<String, AllocError> {
+    let fields = field_marks(alloc, block)?;
+    let data = data_marks(alloc, block)?;
+    format!(in alloc; "marks of {name}:{fields}{data}")
+}
+
 // Whether a copy, and what is read of the printed text, are the schema that a text spells, and the text is printed alike.
-fn back(alloc: Global, text: &[u8]) -> io::Result<&'static str> {
+fn back(alloc: Global, text: &[u8]) -> Result<&'static str, AllocError> {
     let Ok(schema) = read_schema(alloc, text) else {
         return Ok("not read");
     };
     let copy = schema.copy(alloc)?;
-    let lines = print_schema(alloc, &copy)?;
-    let Ok(again) = read_schema(alloc, lines.as_slice()) else {
-        return Ok("not read back");
-    };
-    let alike = print_schema(alloc, &again)?;
-    if are_equal(&schema, &copy) && are_equal(&again, &schema) && alike == lines {
+    if are_equal(&schema, &copy) {
+        read_back(alloc, &copy)
+    } else {
+        Ok("another copy")
+    }
+}
+
+fn read_back(alloc: Global, schema: &Schema) -> Result<&'static str, AllocError> {
+    let lines = print_schema(alloc, schema)?;
+    match read_schema(alloc, lines.as_slice()) {
+        Ok(again) if are_equal(&again, schema) => printed_alike(alloc, &again, lines.as_slice()),
+        Ok(_other) => Ok("another schema"),
+        Err(_fault) => Ok("not read back"),
+    }
+}
+
+fn printed_alike(alloc: Global, schema: &Schema, lines: &[u8]) -> Result<&'static str, AllocError> {
+    let alike = print_schema(alloc, schema)?;
+    if alike.as_slice() == lines {
         Ok("copied, printed and read back")
     } else {
-        Ok("another schema")
+        Ok("printed otherwise")
     }
 }

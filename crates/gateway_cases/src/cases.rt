@@ -1,0 +1,126 @@
+//! The lines of the file of cases, and what each run is to give.
+
+use crate::devices::{Case, Failing, Outcome, ended};
+use crate::texts::{Answering, Checking};
+use case_words::number;
+use std::alloc::{AllocError, Global};
+use std::sync::Wait;
+
+/// The number that the next word of a line spells.
+fn number_of(word: Option<&str>) -> u64 {
+    number(word.unwrap_or(""))
+}
+
+/// The numbers of a line: `PIECE CONFIG INPUT WIRE OUT ROOM`, of which four are calls that fail.
+fn case_of<'a>(words: &'a str, config: &'a [u8], input: &'a [u8], numbers: &str) -> Case<'a> {
+    let mut numbers = numbers.split(" ");
+    Case {
+        words,
+        config,
+        input,
+        piece: number_of(numbers.next()) as usize,
+        failing: Failing {
+            config: number_of(numbers.next()),
+            input: number_of(numbers.next()),
+            wire: number_of(numbers.next()),
+            out: number_of(numbers.next()),
+        },
+        room: number_of(numbers.next()) as usize,
+    }
+}
+
+/// Whether bytes are a front of the whole, and how many they are.
+fn gained(alloc: Global, bytes: &[u8], whole: &[u8]) -> Result<String, AllocError> {
+    if whole.starts_with(bytes) {
+        format!(in alloc; "{}", bytes.len())
+    } else {
+        format!(in alloc; "other bytes")
+    }
+}
+
+/// The status, and how many bytes of the whole WIRE and OUT gained.
+fn told(alloc: Global, outcome: &Outcome, wire: &[u8], out: &[u8]) -> Result<String, AllocError> {
+    let wired = gained(alloc, outcome.wire.taken(), wire)?;
+    let written = gained(alloc, outcome.out.taken(), out)?;
+    format!(in alloc; "status {}, WIRE {wired}, OUT {written}", outcome.code)
+}
+
+/// A run of `answer`.
+fn answer_line<R: Wait>(
+    rt: &R,
+    alloc: Global,
+    texts: &Answering,
+    numbers: &str,
+) -> Result<String, AllocError> {
+    let case = answer_of(texts, numbers);
+    let outcome = ended(rt, alloc, case)?;
+    let told = told(
+        alloc,
+        &outcome,
+        texts.wire.as_slice(),
+        texts.lines.as_bytes(),
+    )?;
+    format!(in alloc; "answer {numbers}: {told}")
+}
+
+fn answer_of<'a>(texts: &'a Answering, numbers: &str) -> Case<'a> {
+    case_of(
+        "answer C I W O",
+        texts.settings.as_bytes(),
+        texts.input.as_slice(),
+        numbers,
+    )
+}
+
+/// A run of `check`.
+fn check_line<R: Wait>(
+    rt: &R,
+    alloc: Global,
+    texts: &Checking,
+    numbers: &str,
+) -> Result<String, AllocError> {
+    let case = case_of("check C O", texts.schema.as_bytes(), &[], numbers);
+    let outcome = ended(rt, alloc, case)?;
+    let told = told(alloc, &outcome, &[], texts.layout.as_bytes())?;
+    format!(in alloc; "check {numbers}: {told}")
+}
+
+/// Whether a run gave all of WIRE and OUT.
+fn is_whole(outcome: &Outcome, texts: &Answering) -> bool {
+    outcome.code == 0
+        && outcome.wire.taken() == texts.wire.as_slice()
+        && outcome.out.taken() == texts.lines.as_bytes()
+}
+
+/// How many of the runs with INPUT in pieces of 1 to `most` bytes give the whole.
+fn pieces_line<R: Wait>(
+    rt: &R,
+    alloc: Global,
+    texts: &Answering,
+    most: &str,
+) -> Result<String, AllocError> {
+    let case = answer_of(texts, "1 0 0 0 0 4096");
+    let mut count = 0u64;
+    for piece in 1..=number(most) as usize {
+        if is_whole(&ended(rt, alloc, Case { piece, ..case })?, texts) {
+            count = count.saturating_add(1);
+        }
+    }
+    format!(in alloc; "pieces of 1 to {most}: {count} give the whole")
+}
+
+/// What a line of the file of cases shows.
+pub fn line_of<R: Wait>(
+    rt: &R,
+    alloc: Global,
+    answering: &Answering,
+    checking: &Checking,
+    line: &str,
+) -> Result<String, AllocError> {
+    match line.split_once(": ") {
+        Some(("answer", numbers)) => answer_line(rt, alloc, answering, numbers),
+        Some(("check", numbers)) => check_line(rt, alloc, checking, numbers),
+        Some(("pieces", most)) => pieces_line(rt, alloc, answering, most),
+        _ => line.to_string(alloc),
+    }
+}
