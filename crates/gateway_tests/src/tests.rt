@@ -3,7 +3,7 @@
 ghost use Rattle.std.specs.Prelude.{◌<◌};
 
 use gateway::{Outside, Status, run};
-use gw_fakes::{Calls, MemSink, MemSource};
+use gw_fakes::{Calls, MemDisk, MemSink, MemSource};
 use gw_outside::Bytes;
 use std::alloc::{AllocError, Global};
 use std::sync::Wait;
@@ -116,6 +116,8 @@ fn try_case<R: Wait>(rt: &R, alloc: Global, case: Case) -> Result<bool, Fail> {
         input: source(alloc, input.as_slice(), case.piece.max(1), case.fail[1])?,
         wire: sink(alloc, case.room, case.fail[2])?,
         out: sink(alloc, case.room, case.fail[3])?,
+        out_disk: MemDisk::without_faults(alloc, 0)?,
+        in_disk: MemDisk::without_faults(alloc, 0)?,
     };
     let (status, outside) = run(rt, alloc, words.as_slice(), outside);
     let Outside {
@@ -123,6 +125,8 @@ fn try_case<R: Wait>(rt: &R, alloc: Global, case: Case) -> Result<bool, Fail> {
         input: _,
         wire: wired,
         out,
+        out_disk: _,
+        in_disk: _,
     } = outside;
     Ok(
         status.code() == case.code
