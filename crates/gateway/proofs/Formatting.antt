@@ -1,5 +1,5 @@
 -- What `format` leaves of a disk that it does not touch, and of a run without a device's fault.
-use Rattle.std.proofs.Common.{◌≡◌, ◌≢◌, ℕ, List, Option, Some, None, inl, inr, refl, arith, length, take}
+use Rattle.std.proofs.Common.{◌≡◌, ℕ, List, Option, inl, inr, refl, arith, take}
 use Rattle.std.specs.Option.{ForSome}
 use Rattle.gw_outside.specs.Disk.{Torn}
 use Rattle.jr_record.specs.Images.{magic}
