@@ -2,7 +2,7 @@
 
 use case_words::{digits, halves};
 use gw_outside::{Disk, Failed};
-use gw_real::{DiskReason, FileDisk};
+use gw_real::{DiskReason, FileDisk, Named, Opening};
 use std::alloc::{AllocError, Global};
 use std::fs::{File, Files};
 use std::io;
@@ -19,11 +19,19 @@ fn read_and_synced<D: Disk>(disk: &mut D, at: u64, into: &mut [u8]) -> Result<us
     Ok(count)
 }
 
+const fn outbox<'a>(path: &'a str) -> Named<'a> {
+    Named {
+        role: "OUTBOX",
+        path,
+    }
+}
+
 /// Why the last call that failed did, in a word.
-fn reason(disk: &FileDisk) -> &'static str {
+fn reason<R>(disk: &FileDisk<'_, R>) -> &'static str {
     match disk.reason() {
         Some(DiskReason::System(_)) => "System",
         Some(DiskReason::Locked) => "Locked",
+        Some(DiskReason::SameFile(_)) => "SameFile",
         Some(DiskReason::TooLong) => "TooLong",
         None => "none",
     }
@@ -31,13 +39,16 @@ fn reason(disk: &FileDisk) -> &'static str {
 
 /// The length of a file that is opened, and why it is not had.
 fn opened<R: Files<File = File> + AllocGlobal>(rt: &R, file: &str) -> io::Result<String> {
-    let mut disk = FileDisk::open(rt, file);
+    let mut disk = FileDisk::new(rt, outbox(file), &[], Opening::Read);
     let length = length(&mut disk);
     Ok(format!(in rt.alloc(); "{length:?} {}", reason(&disk))?)
 }
 
 /// A write, a read and the length.
-fn worked(alloc: Global, disk: &mut FileDisk) -> Result<String, AllocError> {
+fn worked<R: Files<File = File>>(
+    alloc: Global,
+    disk: &mut FileDisk<'_, R>,
+) -> Result<String, AllocError> {
     let written = disk.write_at(0, &[1, 2, 3]);
     let mut piece = [0; 4];
     let count = read_and_synced(disk, 1, &mut piece);
@@ -48,7 +59,7 @@ fn worked(alloc: Global, disk: &mut FileDisk) -> Result<String, AllocError> {
 
 /// A file that is made, written and read, and opened again while it is open.
 fn kept<R: Files<File = File> + AllocGlobal>(rt: &R, file: &str) -> io::Result<String> {
-    let mut disk = FileDisk::open_or_make(rt, file);
+    let mut disk = FileDisk::new(rt, outbox(file), &[], Opening::Make);
     let told = worked(rt.alloc(), &mut disk)?;
     let second = opened(rt, file)?;
     Ok(format!(in rt.alloc(); "{told}, second: {second}")?)

@@ -1,12 +1,13 @@
 //! A run over the files that its words name.
 
+use crate::lines::{disk_line, input_line, journal_line, sink_line, source_line};
 use crate::report::Report;
-use fault_text::{Wanted, config_fault, file_name, malformed_frame};
-use fixp_end::Violation;
-use gateway::{Bad, Outside, Status, run};
-use gw_real::{FileSink, FileSource, Kept, Named, Reason, STANDARD_OUTPUT};
+use fault_text::{Wanted, config_fault, file_name};
+use gateway::{Command, Outside, Status, Which, command_of, run};
+use gw_real::{FileDisk, FileSink, FileSource, Named, Opening, STANDARD_OUTPUT};
 use schema_toml::TEXT_LIMIT;
-use std::alloc::AllocError;
+use std::alloc::{AllocError, Global};
+use std::fs::File;
 use std::io::{self, Printer};
 use std::rt::Files;
 use std::sync::Wait;
@@ -18,158 +19,167 @@ const fn named<'a>(role: &'static str, path: &'a str) -> Named<'a> {
     Named { role, path }
 }
 
-/// A file and why it failed.
-fn device_line<R: AllocGlobal>(
-    rt: &R,
-    name: Named<'_>,
-    reason: Reason<'_>,
-) -> Result<String, AllocError> {
-    let alloc = rt.alloc();
-    let file = match name.role {
-        role if role == STANDARD_OUTPUT.role => String::from_str(alloc, role)?,
-        role => file_name(alloc, role, name.path)?,
-    };
-    match reason {
-        Reason::System(error) => format!(in alloc; "{file}: {error}"),
-        Reason::SameFile(other) => {
-            let other = file_name(alloc, other.role, other.path)?;
-            format!(in alloc; "{file}: this is the same file as {other}")
-        }
-        Reason::NotHere => {
-            format!(in alloc; "{file}: standard output can stand for OUT alone; ./- names a file")
-        }
+/// The word at a place behind the command.
+fn word(words: &[String], at: usize) -> &str {
+    match words.get(at) {
+        Some(word) => word.as_str(),
+        None => "",
     }
 }
 
-/// What is wrong with the input, as far as it was kept.
-fn input_line<R: AllocGlobal>(
-    rt: &R,
-    input: Named<'_>,
-    kept: &Kept,
-    bad: &Bad,
-) -> Result<String, AllocError> {
-    let alloc = rt.alloc();
-    let file = file_name(alloc, input.role, input.path)?;
-    if let Bad::Session {
-        at,
-        violation: Violation::BadFrame { .. },
-    } = bad
-    {
-        let bytes = kept.from_place(*at);
-        return match malformed_frame(alloc, bytes)? {
-            Some(why) => format!(in alloc; "{file}: malformed frame at byte {at}: {why}"),
-            None => format!(in alloc; "{file}: malformed frame at byte {at}"),
-        };
-    }
-    format!(in alloc; "{file}: {bad}")
-}
-
-/// The file of an input, and why it failed.
-fn source_line<R: AllocGlobal>(
-    rt: &R,
-    name: Named<'_>,
-    reason: io::Error,
-) -> Result<Option<String>, AllocError> {
-    Ok(Some(device_line(rt, name, Reason::System(reason))?))
-}
-
-/// What a run is over.
+/// What a run is over. A file that its words do not name has no path, and is never opened.
 #[derive(Clone, Copy)]
 struct Run<'a> {
-    wanted: Wanted,
+    command: Command,
     config: Named<'a>,
     input: Named<'a>,
     wire: Named<'a>,
     out: Named<'a>,
+    outbox: Named<'a>,
+    inbox: Named<'a>,
 }
 
 impl<'a> Run<'a> {
-    /// The run of words that are a listed form; a file that they do not name is never used.
+    /// The run of words that are a listed form.
     fn of(words: &'a [String]) -> Option<Run<'a>> {
-        let (wanted, config, input, wire, out) = match words {
-            [_command, config, input, wire, out] => (
-                Wanted::Settings,
-                config.as_str(),
-                input.as_str(),
-                wire.as_str(),
-                out.as_str(),
-            ),
-            [_command, config, out] => (Wanted::Schema, config.as_str(), "", "", out.as_str()),
-            _ => return None,
+        let command = command_of(words)?;
+        let unnamed = Run {
+            command,
+            config: named("CONFIG", ""),
+            input: named("INPUT", ""),
+            wire: named("WIRE", ""),
+            out: named("OUT", ""),
+            outbox: named("OUTBOX", ""),
+            inbox: named("INBOX", ""),
         };
-        Some(Run {
-            wanted,
-            config: named("CONFIG", config),
-            input: named("INPUT", input),
-            wire: named("WIRE", wire),
-            out: named("OUT", out),
+        Some(match command {
+            Command::Answer => Run {
+                config: named("CONFIG", word(words, 1)),
+                input: named("INPUT", word(words, 2)),
+                wire: named("WIRE", word(words, 3)),
+                out: named("OUT", word(words, 4)),
+                ..unnamed
+            },
+            Command::Check => Run {
+                config: named("CONFIG", word(words, 1)),
+                out: named("OUT", word(words, 2)),
+                ..unnamed
+            },
+            Command::Format => Run {
+                outbox: named("OUTBOX", word(words, 1)),
+                inbox: named("INBOX", word(words, 2)),
+                ..unnamed
+            },
         })
     }
 
     /// The files that an output must not be the same as.
-    fn others(&self) -> [Named<'a>; 5] {
+    fn others(&self) -> [Named<'a>; 7] {
         [
             self.config,
             self.input,
             self.wire,
             self.out,
+            self.outbox,
+            self.inbox,
             STANDARD_OUTPUT,
         ]
     }
 
+    /// The files that a journal must not be the same as; an output sees for itself that it is no journal.
+    fn journals(&self) -> [Named<'a>; 3] {
+        [self.outbox, self.inbox, STANDARD_OUTPUT]
+    }
+
+    /// What CONFIG is to the command.
+    fn wanted(&self) -> Wanted {
+        match self.command {
+            Command::Answer => Wanted::Settings,
+            Command::Check | Command::Format => Wanted::Schema,
+        }
+    }
+
     /// What is wrong, in a line; none where the status says all.
-    fn line<R: Files<File = F> + AllocGlobal, F, P>(
+    fn line<R: Files<File = File> + AllocGlobal, P>(
         &self,
-        rt: &R,
+        alloc: Global,
         status: &Status,
-        outside: &Outside<FileSource<'_, R, F>, FileSink<'_, R, F, P>>,
+        outside: &Devices<'_, R, P>,
     ) -> Result<Option<String>, AllocError> {
         match status {
             Status::Config(fault) => {
-                let alloc = rt.alloc();
                 let file = file_name(alloc, self.config.role, self.config.path)?;
-                let what = config_fault(alloc, self.wanted, fault, outside.config.kept().bytes())?;
+                let what = config_fault(
+                    alloc,
+                    self.wanted(),
+                    fault,
+                    outside.config.kept().bytes(),
+                )?;
                 Ok(Some(format!(in alloc; "{file}: {what}")?))
             }
             Status::InputFault => match (outside.config.reason(), outside.input.reason()) {
-                (Some(reason), _) => source_line(rt, self.config, reason),
-                (None, Some(reason)) => source_line(rt, self.input, reason),
+                (Some(reason), _) => source_line(alloc, self.config, reason),
+                (None, Some(reason)) => source_line(alloc, self.input, reason),
                 (None, None) => Ok(None),
             },
             Status::OutputFault => match (outside.out.reason(), outside.wire.reason()) {
-                (Some(reason), _) => Ok(Some(device_line(rt, outside.out.name(), reason)?)),
-                (None, Some(reason)) => Ok(Some(device_line(rt, self.wire, reason)?)),
+                (Some(reason), _) => sink_line(alloc, outside.out.name(), reason),
+                (None, Some(reason)) => sink_line(alloc, self.wire, reason),
                 (None, None) => Ok(None),
             },
-            Status::Message(bad) => Ok(Some(input_line(
-                rt,
-                self.input,
-                outside.input.kept(),
-                bad,
-            )?)),
+            Status::JournalFault => match (outside.out_disk.reason(), outside.in_disk.reason()) {
+                (Some(reason), _) => disk_line(alloc, self.outbox, reason),
+                (None, Some(reason)) => disk_line(alloc, self.inbox, reason),
+                (None, None) => Ok(None),
+            },
+            Status::JournalBad { which, cause } => {
+                journal_line(alloc, self.journal(*which), *which, *cause)
+            }
+            Status::Message(bad) => input_line(alloc, self.input, outside.input.kept(), bad),
             Status::Done | Status::Words | Status::Memory => Ok(None),
+        }
+    }
+
+    /// The file of a journal.
+    fn journal(&self, which: Which) -> Named<'a> {
+        match which {
+            Which::Outbox => self.outbox,
+            Which::Inbox => self.inbox,
         }
     }
 }
 
+/// The devices of a run over files.
+type Devices<'a, R, P> =
+    Outside<FileSource<'a, R, File>, FileSink<'a, R, File, P>, FileDisk<'a, R>>;
+
+/// The files of a run that others must not be the same as.
+#[derive(Clone, Copy)]
+struct Apart<'a> {
+    outputs: &'a [Named<'a>],
+    journals: &'a [Named<'a>],
+}
+
 /// Runs the command, with this device for OUT. The files are closed when it returns, before anything is printed: where
 /// standard output is closed, a file may stand in its place.
-fn run_with<'a, R: Wait + Files + Print + AllocGlobal>(
+fn run_with<'a, R: Wait + Files<File = File> + Print + AllocGlobal>(
     rt: &'a R,
     words: &[String],
     files: Run<'a>,
-    others: &'a [Named<'a>],
-    out: FileSink<'a, R, R::File, Printer<'a, R>>,
+    apart: Apart<'a>,
+    out: FileSink<'a, R, File, Printer<'a, R>>,
 ) -> Report {
     let alloc = rt.alloc();
     let outside = Outside {
         config: FileSource::new(rt, alloc, files.config.path, TEXT_LIMIT + 1),
         input: FileSource::new(rt, alloc, files.input.path, KEPT),
-        wire: FileSink::new(rt, files.wire, others),
+        wire: FileSink::new(rt, files.wire, apart.outputs),
         out,
+        out_disk: FileDisk::new(rt, files.outbox, apart.journals, Opening::Make),
+        in_disk: FileDisk::new(rt, files.inbox, apart.journals, Opening::Make),
     };
     let (status, outside) = run(rt, alloc, words, outside);
-    let line = match files.line(rt, &status, &outside) {
+    let line = match files.line(alloc, &status, &outside) {
         Ok(line) => line,
         Err(_) => None,
     };
@@ -178,20 +188,29 @@ fn run_with<'a, R: Wait + Files + Print + AllocGlobal>(
         input: _,
         wire: _,
         out: _,
+        out_disk: _,
+        in_disk: _,
     } = outside;
     Report { status, line }
 }
 
 /// Runs the command over the files that its words name; `-` as OUT is standard output.
-pub fn run_over_files<R: Wait + Files + Print + AllocGlobal>(rt: &R, words: &[String]) -> Report {
+pub fn run_over_files<R: Wait + Files<File = File> + Print + AllocGlobal>(
+    rt: &R,
+    words: &[String],
+) -> Report {
     let Some(files) = Run::of(words) else {
         return Report::bare(Status::Words);
     };
-    let others = files.others();
+    let (outputs, journals) = (files.others(), files.journals());
+    let apart = Apart {
+        outputs: &outputs,
+        journals: &journals,
+    };
     if files.out.path == "-" {
-        let out = FileSink::printing(rt, io::writer(rt), &others);
-        return run_with(rt, words, files, &others, out);
+        let out = FileSink::printing(rt, io::writer(rt), &outputs);
+        return run_with(rt, words, files, apart, out);
     }
-    let out = FileSink::new(rt, files.out, &others);
-    run_with(rt, words, files, &others, out)
+    let out = FileSink::new(rt, files.out, &outputs);
+    run_with(rt, words, files, apart, out)
 }

@@ -3,6 +3,7 @@
 #![tactic(auto)]
 
 mod files;
+mod lines;
 mod report;
 mod usage;
 

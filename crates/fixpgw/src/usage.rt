@@ -12,12 +12,14 @@ const USAGE: &str =
 
   fixpgw answer CONFIG INPUT WIRE OUT   answers the recorded client in INPUT: replies to WIRE, messages to OUT
   fixpgw check CONFIG OUT               checks the schema in CONFIG, and prints its layout to OUT
+  fixpgw format OUTBOX INBOX            makes the two journals of a new session
   fixpgw COMMAND --help                 what a command takes and does
   fixpgw --help                         this text
   fixpgw --version                      the name and the version
 
 OUT may be -, which is standard output. The last line on standard output is `status N NAME`, and N is the
-exit status: 0 done, 1 words, 2 config, 3 input-fault, 4 output-fault, 12 message, 14 memory.";
+exit status: 0 done, 1 words, 2 config, 3 input-fault, 4 output-fault, 5 journal-fault, 6 journal-bad,
+12 message, 14 memory.";
 
 const ANSWER: &str = "usage: fixpgw answer CONFIG INPUT WIRE OUT
 
@@ -35,11 +37,19 @@ Checks a schema, and prints where everything stands in its messages.
   CONFIG   the schema, as TOML (read)
   OUT      the layout of its messages (written); - is standard output";
 
+const FORMAT: &str = "usage: fixpgw format OUTBOX INBOX
+
+Makes the two journals of a new session, without records. A file that is a journal already is refused.
+
+  OUTBOX   the journal of what is sent (made where it is missing; its first 17 bytes are written)
+  INBOX    the journal of what is received (likewise; not touched where OUTBOX is refused)";
+
 /// The usage of a command, if there is such a command.
 fn usage_of(command: &str) -> Option<&'static str> {
     match command {
         "answer" => Some(ANSWER),
         "check" => Some(CHECK),
+        "format" => Some(FORMAT),
         _ => None,
     }
 }

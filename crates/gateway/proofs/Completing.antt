@@ -3,7 +3,7 @@ use Rattle.std.proofs.Common.{◌≡◌, ℕ, List, Result, Ok, Err, inl, inr, r
 use Rattle.std.specs.Io.KnownBytes.{Appends}
 use Rattle.schema_toml.specs.declared.fault.ConfigFault.{ConfigFault}
 use Rattle.gateway.specs.declared.status.Status.{Status}
-use Rattle.gateway.specs.declared.status.Status.TheVariants.{Done, Words, Config, InputFault, OutputFault, Message, Memory}
+use Rattle.gateway.specs.declared.status.Status.TheVariants.{Done, Words, Config, InputFault, OutputFault, JournalFault, JournalBad, Message, Memory}
 use Rattle.fixp_end.specs.declared.config.EndConfig.{EndConfig}
 use Rattle.gateway.specs.Answer.{Answer, IsAnswer, acceptor_of}
 use Rattle.gateway.specs.Promise.{Content, GaveWhole}
@@ -17,6 +17,8 @@ pub check_completes : CheckCompletes
 check_completes text plan before after old new Done same judged gave cause none = inr (record { status_is = refl; out = rw same at gave })
 check_completes text plan before after old new Memory same judged gave cause none = inl refl
 check_completes text plan before after old new Words same judged gave cause none = absurd judged
+check_completes text plan before after old new JournalFault same judged gave cause none = absurd judged
+check_completes text plan before after old new (JournalBad which bad) same judged gave cause none = absurd judged
 check_completes text plan before after old new (Config fault) same judged gave cause none = absurd (no_fault _ plan fault same judged)
 check_completes text plan before after old new (Message bad) same judged gave cause none = absurd (rw same at gave)
 check_completes text plan before after old new InputFault same judged gave (inl rose) none = absurd (none.config rose)
@@ -38,6 +40,8 @@ answer_completes text input settings answer before after old new Done same is ju
 answer_completes text input settings answer before after old new (Message bad) same is judged gave cause none = inr (whole input answer before after (Message bad) (acceptor_of settings) is (rw same at gave))
 answer_completes text input settings answer before after old new Memory same is judged gave cause none = inl refl
 answer_completes text input settings answer before after old new Words same is judged gave cause none = absurd judged
+answer_completes text input settings answer before after old new JournalFault same is judged gave cause none = absurd judged
+answer_completes text input settings answer before after old new (JournalBad which bad) same is judged gave cause none = absurd judged
 answer_completes text input settings answer before after old new (Config fault) same is judged gave cause none = absurd (no_fault _ settings fault same judged)
 answer_completes text input settings answer before after old new InputFault same is judged gave (inl rose) none = absurd (none.config rose)
 answer_completes text input settings answer before after old new InputFault same is judged gave (inr rose) none = absurd (none.input rose)

@@ -5,3 +5,4 @@ mod Fronts
 mod Rounds
 pub mod Printing
 mod Completing
+mod Formatting

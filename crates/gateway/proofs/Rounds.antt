@@ -18,7 +18,7 @@ use Rattle.gateway.specs.declared.answer.Acceptor.{Acceptor}
 use Rattle.gateway.specs.declared.answer.Step.{Step}
 use Rattle.gateway.specs.declared.answer.Step.TheVariants as steps
 use Rattle.gateway.specs.declared.status.Status.{Status}
-use Rattle.gateway.specs.declared.status.Status.TheVariants.{Done, Words, Config, InputFault, OutputFault, Message, Memory}
+use Rattle.gateway.specs.declared.status.Status.TheVariants.{Done, Words, Config, InputFault, OutputFault, JournalFault, JournalBad, Message, Memory}
 use Rattle.gateway.specs.Answer.{Stage, stage_after, Answer, status_of, status_after, status_at_rest, ended_answer, broken_answer, answer_at_end, answer_after, IsAnswer}
 use Rattle.gateway.specs.Progress.{IsBroken, Stands, BrokeOff, AnsweredAll, Halts, IsEmptied}
 use Rattle.gateway.specs.Promise.{Content, Begins, GaveWhole, GaveFront, Talks, AfterRound, round_of, verdict_of}
@@ -38,6 +38,8 @@ IsFinal Words = ⊥
 IsFinal (Config fault) = ⊥
 IsFinal InputFault = ⊥
 IsFinal OutputFault = ⊥
+IsFinal JournalFault = ⊥
+IsFinal (JournalBad which cause) = ⊥
 IsFinal Memory = ⊥
 
 final-status_of : (place : ℕ) (ending : Ending) → IsFinal (status_of place ending)
@@ -65,6 +67,8 @@ after-whole cfg before now a Words final gave = absurd final
 after-whole cfg before now a (Config fault) final gave = absurd final
 after-whole cfg before now a InputFault final gave = absurd final
 after-whole cfg before now a OutputFault final gave = absurd final
+after-whole cfg before now a JournalFault final gave = absurd final
+after-whole cfg before now a (JournalBad which cause) final gave = absurd final
 after-whole cfg before now a Memory final gave = absurd final
 
 -- ---- whole answers

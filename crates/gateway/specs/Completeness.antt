@@ -1,7 +1,8 @@
 -- What is left for a run over told inputs in which no device failed: its work was done, or memory ran out.
-use Rattle.std.specs.Prelude.{◌≡◌, ◌⊎◌, ℕ, List, Option, Ok}
+use Rattle.std.specs.Prelude.{◌≡◌, ◌≢◌, ◌⊎◌, ℕ, List, Option, Some, Ok, take}
 use Rattle.std.specs.Io.KnownBytes.{Appends}
 use Rattle.gw_outside.specs.Faults.{HasRisen}
+use Rattle.jr_record.specs.Images.{magic}
 use Rattle.sbe_layout.specs.declared.plan.Plan.{Plan}
 use Rattle.layout_text.specs.Lines.{lines_of_messages}
 use Rattle.session_config.specs.declared.settings.Settings.{Settings}
@@ -12,6 +13,7 @@ use Rattle.gateway.specs.declared.status.Status.{Status}
 use Rattle.gateway.specs.declared.status.Status.TheVariants.{Done, Memory}
 use Rattle.gateway.specs.Answer.{Answer, IsAnswer, acceptor_of}
 use Rattle.gateway.specs.Causes.{Counts, IsCaused}
+use Rattle.gateway.specs.Formats.{Disks, IsMade, Formats}
 use Rattle.gateway.specs.Layouts.{GaveLayout}
 use Rattle.gateway.specs.Promise.{Content}
 use Rattle.gateway.specs.Run.{JudgesBy, GaveBy}
@@ -22,6 +24,8 @@ pub record NoneRose (before after : Counts) : Type 0 where
   pub input : HasRisen before.input after.input → ⊥
   pub wire : HasRisen before.wire after.wire → ⊥
   pub out : HasRisen before.out after.out → ⊥
+  pub out_disk : HasRisen before.out_disk after.out_disk → ⊥
+  pub in_disk : HasRisen before.in_disk after.in_disk → ⊥
 
 -- all lines of a layout were printed
 pub record Printed (plan : Plan) (before after : Option (List ℕ)) (status : Status) : Type 0 where
@@ -47,3 +51,22 @@ AnswerCompletes = (text input : List ℕ) (settings : Settings) (answer : Answer
     → settings_of_text text ≡ Ok settings → IsAnswer (acceptor_of settings) input answer
     → JudgesBy commands.Answer text status → GaveBy (settings_of_text text) input before after status → IsCaused old new status → NoneRose old new
     → (status ≡ Memory) ⊎ Answered answer before after status
+
+-- a disk tells a content that does not begin with the magic
+pub record IsUnformatted {D : Type 0} (told : D → Option (List ℕ)) (disk : D) : Type 0 where
+  pub content : List ℕ
+  pub tells : told disk ≡ Some content
+  pub begins : take 8 content ≢ magic
+
+-- both journals were made
+pub record Formatted {D : Type 0} (told : D → Option (List ℕ)) (may_leave : D → List ℕ → Type 0) (before after : Disks D) (status : Status) : Type 0 where
+  pub status_is : status ≡ Done
+  pub outbox : IsMade told may_leave before.outbox after.outbox
+  pub inbox : IsMade told may_leave before.inbox after.inbox
+
+-- the same of `format`, which takes no memory: over two disks that are no journals yet it made both
+abbrev pub FormatCompletes : {D : Type 0} → (D → Option (List ℕ)) → (D → List ℕ → Type 0) → (D → ℕ) → Type 0
+FormatCompletes {D} told may_leave faults = (before after : Disks D) (old new : Counts) (status : Status)
+    → IsUnformatted told before.outbox → IsUnformatted told before.inbox
+    → Formats told may_leave faults before after status → IsCaused old new status → NoneRose old new
+    → Formatted told may_leave before after status

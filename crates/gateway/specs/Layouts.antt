@@ -6,7 +6,7 @@ use Rattle.sbe_layout.specs.declared.plan.Plan.{Plan}
 use Rattle.layout_text.specs.Lines.{lines_of_messages}
 use Rattle.schema_toml.specs.declared.fault.ConfigFault.{ConfigFault}
 use Rattle.gateway.specs.declared.status.Status.{Status}
-use Rattle.gateway.specs.declared.status.Status.TheVariants.{Done, Words, Config, InputFault, OutputFault, Message, Memory}
+use Rattle.gateway.specs.declared.status.Status.TheVariants.{Done, Words, Config, InputFault, OutputFault, JournalFault, JournalBad, Message, Memory}
 
 -- OUT gained all of the lines at status 0, and a front of them where OUT or memory failed
 abbrev pub GaveLines : List ℕ → Option (List ℕ) → Option (List ℕ) → Status → Type 0
@@ -15,6 +15,8 @@ GaveLines lines before after OutputFault = TakesFront before after lines
 GaveLines lines before after Memory = TakesFront before after lines
 GaveLines lines before after InputFault = Keeps before after
 GaveLines lines before after (Config fault) = ⊥
+GaveLines lines before after JournalFault = ⊥
+GaveLines lines before after (JournalBad which cause) = ⊥
 GaveLines lines before after (Message bad) = ⊥
 GaveLines lines before after Words = ⊥
 
@@ -25,6 +27,8 @@ IsPrintEnd OutputFault = Unit {0}
 IsPrintEnd Memory = Unit {0}
 IsPrintEnd InputFault = ⊥
 IsPrintEnd (Config fault) = ⊥
+IsPrintEnd JournalFault = ⊥
+IsPrintEnd (JournalBad which cause) = ⊥
 IsPrintEnd (Message bad) = ⊥
 IsPrintEnd Words = ⊥
 

@@ -8,5 +8,6 @@ pub mod Causes
 pub mod Order
 pub mod Promise
 pub mod Layouts
+pub mod Formats
 pub mod Run
 pub mod Completeness

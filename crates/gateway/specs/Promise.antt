@@ -9,17 +9,17 @@ use Rattle.gateway.specs.declared.answer.Step.{Step}
 use Rattle.gateway.specs.declared.answer.Step.TheVariants as steps
 use Rattle.gateway.specs.declared.outside.Outside.{Outside}
 use Rattle.gateway.specs.declared.status.Status.{Status}
-use Rattle.gateway.specs.declared.status.Status.TheVariants.{Done, Words, Config, InputFault, OutputFault, Message, Memory}
+use Rattle.gateway.specs.declared.status.Status.TheVariants.{Done, Words, Config, InputFault, OutputFault, JournalFault, JournalBad, Message, Memory}
 use Rattle.gateway.specs.Answer.{Answer, IsAnswer, status_after}
 use Rattle.gateway.specs.Progress.{IsOpen, Stands}
 
--- the content that four devices tell: the inputs what they have left, the outputs what they have taken
+-- the content that the streams tell: the inputs what they have left, the outputs what they have taken
 pub record Content : Type 0 where
   pub input : Option (List ℕ)
   pub wire : Option (List ℕ)
   pub out : Option (List ℕ)
 
-abbrev pub content_of : {S K : Type 0} → (S → Option (List ℕ)) → (K → Option (List ℕ)) → Outside S K → Content
+abbrev pub content_of : {S K D : Type 0} → (S → Option (List ℕ)) → (K → Option (List ℕ)) → Outside S K D → Content
 content_of left taken outside = record { input = left outside.input; wire = taken outside.wire; out = taken outside.out }
 
 -- one list begins another
@@ -54,6 +54,8 @@ Gave cfg input before after OutputFault = GaveFront cfg input before after
 Gave cfg input before after Memory = GaveFront cfg input before after
 Gave cfg input before after Words = ⊥
 Gave cfg input before after (Config fault) = ⊥
+Gave cfg input before after JournalFault = ⊥
+Gave cfg input before after (JournalBad which cause) = ⊥
 
 -- the same where the input is told
 abbrev pub KeepsPromise : EndConfig → Content → Content → Status → Type 0
@@ -63,6 +65,8 @@ KeepsPromise cfg before after status = (input : List ℕ) → before.input ≡ S
 abbrev pub IsConversationEnd : Status → Type 0
 IsConversationEnd Words = ⊥
 IsConversationEnd (Config fault) = ⊥
+IsConversationEnd JournalFault = ⊥
+IsConversationEnd (JournalBad which cause) = ⊥
 IsConversationEnd Done = Unit {0}
 IsConversationEnd (Message b) = Unit {0}
 IsConversationEnd InputFault = Unit {0}
@@ -99,6 +103,8 @@ round_of Words = Err Words
 round_of (Config fault) = Err (Config fault)
 round_of InputFault = Err InputFault
 round_of OutputFault = Err OutputFault
+round_of JournalFault = Err JournalFault
+round_of (JournalBad which cause) = Err (JournalBad which cause)
 round_of (Message b) = Err (Message b)
 round_of Memory = Err Memory
 

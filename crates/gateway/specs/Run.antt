@@ -8,7 +8,7 @@ use Rattle.schema_load.specs.Load.{plan_of_text}
 use Rattle.gateway.specs.declared.words.Command.{Command}
 use Rattle.gateway.specs.declared.words.Command.TheVariants as commands
 use Rattle.gateway.specs.declared.status.Status.{Status}
-use Rattle.gateway.specs.declared.status.Status.TheVariants.{Done, Words, Config, InputFault, OutputFault, Message, Memory}
+use Rattle.gateway.specs.declared.status.Status.TheVariants.{Done, Words, Config, InputFault, OutputFault, JournalFault, JournalBad, Message, Memory}
 use Rattle.gateway.specs.Answer.{acceptor_of}
 use Rattle.gateway.specs.Promise.{Content, Gave}
 
@@ -22,11 +22,14 @@ Judges OutputFault told = IsOk told
 Judges InputFault told = Unit {0}
 Judges Memory told = Unit {0}
 Judges Words told = ⊥
+Judges JournalFault told = ⊥
+Judges (JournalBad which cause) told = ⊥
 
--- `answer` reads the settings of a session, and `check` a schema
+-- `answer` reads the settings of a session, `check` a schema, and `format` nothing
 abbrev pub JudgesBy : Command → List ℕ → Status → Type 0
 JudgesBy commands.Answer text status = Judges status (settings_of_text text)
 JudgesBy commands.Check text status = Judges status (plan_of_text text)
+JudgesBy commands.Format text status = Unit {0}
 
 -- WIRE and OUT gained nothing
 pub record GaveNothing (before after : Content) : Type 0 where

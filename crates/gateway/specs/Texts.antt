@@ -3,7 +3,7 @@ use Rattle.std.specs.Prelude.{◌≡◌, ℕ, ◌≤◌, List, length, Option, R
 use Rattle.std.specs.Io.KnownBytes.{Consumes}
 use Rattle.schema_toml.specs.declared.fault.ConfigFault.{ConfigFault}
 use Rattle.gateway.specs.declared.status.Status.{Status}
-use Rattle.gateway.specs.declared.status.Status.TheVariants.{Done, Words, Config, InputFault, OutputFault, Message, Memory}
+use Rattle.gateway.specs.declared.status.Status.TheVariants.{Done, Words, Config, InputFault, OutputFault, JournalFault, JournalBad, Message, Memory}
 
 -- at most so many bytes of a source were read
 pub record ReadsWithin (old new : Option (List ℕ)) (limit : ℕ) : Type 0 where
@@ -19,6 +19,8 @@ Refuses Memory told = Unit {0}
 Refuses Done told = ⊥
 Refuses Words told = ⊥
 Refuses OutputFault told = ⊥
+Refuses JournalFault told = ⊥
+Refuses (JournalBad which cause) told = ⊥
 Refuses (Message bad) told = ⊥
 
 abbrev pub IsUnconfigured : Status → Type 0
@@ -28,4 +30,6 @@ IsUnconfigured Memory = Unit {0}
 IsUnconfigured Done = ⊥
 IsUnconfigured Words = ⊥
 IsUnconfigured OutputFault = ⊥
+IsUnconfigured JournalFault = ⊥
+IsUnconfigured (JournalBad which cause) = ⊥
 IsUnconfigured (Message bad) = ⊥

@@ -9,7 +9,7 @@ ghost use Rattle.std.specs.Io.KnownBytes.{Appends};
 ghost use Rattle.gw_outside.specs.Faults.{HasRisen, TakesFront};
 ghost use Rattle.gateway.specs.Answer.{status_of, status_at_rest};
 ghost use Rattle.session_config.specs.Settings.{IsInRange};
-ghost use Rattle.gateway.specs.Causes.{NoneFell, IsCaused, counts_of};
+ghost use Rattle.gateway.specs.Causes.{NoneFell, IsCaused, conversation_counts};
 ghost use Rattle.gateway.specs.Promise.{Content, Talks, IsIdle, AfterRound, KeepsPromise, IsConversationEnd, round_of, verdict_of};
 
 use crate::lines::push_line;
@@ -253,9 +253,9 @@ impl Acceptor {
         ensures after { (cfg : EndConfig) (before : Content) →
             Talks cfg before (record { input = S.left input.old; wire = K.taken wire.old; out = K.taken out.old }) self.old →
             AfterRound cfg before (record { input = S.left input.new; wire = K.taken wire.new; out = K.taken out.new }) self.new result }
-        ensures none_fell { NoneFell (counts_of 0 (S.faults input.old) (K.faults wire.old) (K.faults out.old)) (counts_of 0 (S.faults input.new) (K.faults wire.new) (K.faults out.new)) }
+        ensures none_fell { NoneFell (conversation_counts (S.faults input.old) (K.faults wire.old) (K.faults out.old)) (conversation_counts (S.faults input.new) (K.faults wire.new) (K.faults out.new)) }
         ensures ends { IfErr result IsConversationEnd }
-        ensures cause { IfErr result (IsCaused (counts_of 0 (S.faults input.old) (K.faults wire.old) (K.faults out.old)) (counts_of 0 (S.faults input.new) (K.faults wire.new) (K.faults out.new))) }
+        ensures cause { IfErr result (IsCaused (conversation_counts (S.faults input.old) (K.faults wire.old) (K.faults out.old)) (conversation_counts (S.faults input.new) (K.faults wire.new) (K.faults out.new))) }
     {
         let Ok(count) = input.pull(self.framer.room()) else {
             return Err(Status::InputFault);
@@ -315,8 +315,8 @@ pub fn converse<R: Wait, S: Source, K: Sink>(
         (record { input = S.left input.old; wire = K.taken wire.old; out = K.taken out.old })
         (record { input = S.left input.new; wire = K.taken wire.new; out = K.taken out.new }) result }
     ensures ends { IsConversationEnd result }
-    ensures none_fell { NoneFell (counts_of 0 (S.faults input.old) (K.faults wire.old) (K.faults out.old)) (counts_of 0 (S.faults input.new) (K.faults wire.new) (K.faults out.new)) }
-    ensures cause { IsCaused (counts_of 0 (S.faults input.old) (K.faults wire.old) (K.faults out.old)) (counts_of 0 (S.faults input.new) (K.faults wire.new) (K.faults out.new)) result }
+    ensures none_fell { NoneFell (conversation_counts (S.faults input.old) (K.faults wire.old) (K.faults out.old)) (conversation_counts (S.faults input.new) (K.faults wire.new) (K.faults out.new)) }
+    ensures cause { IsCaused (conversation_counts (S.faults input.old) (K.faults wire.old) (K.faults out.old)) (conversation_counts (S.faults input.new) (K.faults wire.new) (K.faults out.new)) result }
 {
     let Ok(()) = begin(out) else {
         return Status::OutputFault;

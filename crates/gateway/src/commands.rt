@@ -1,4 +1,4 @@
-//! The run of a command: words, configuration, work.
+//! The run of a command: words, configuration, journals, work.
 
 ghost use Rattle.std.specs.Prelude.{◌≡◌, ◌↔◌, ◌+◌, ◌≤◌, ℕ, List, Some, None};
 ghost use Rattle.schema_toml.specs.Faults.{text_limit};
@@ -10,34 +10,41 @@ ghost use Rattle.gateway.specs.Words.{bytes_of, command_of};
 ghost use Rattle.gateway.specs.Texts.{ReadsWithin};
 ghost use Rattle.schema_toml.specs.declared.fault.ConfigFault.{ConfigFault};
 ghost use Rattle.gateway.specs.Causes.{NoneFell, IsCaused, faults_of};
-ghost use Rattle.gateway.specs.Order.{IsRefused, KeepsBehindConfig, StopsAtConfig, FailsInOrder};
+ghost use Rattle.gateway.specs.Order.{IsRefused, KeepsBehindConfig, KeepsDisks, KeepsStreams, StopsAtConfig, FailsInOrder};
 ghost use Rattle.gateway.specs.Promise.{content_of};
 ghost use Rattle.gateway.specs.Layouts.{GaveLayout};
+ghost use Rattle.gateway.specs.Formats.{Formats, KeepsBehindHeader, disks_of};
 ghost use Rattle.gateway.specs.Run.{Judges, JudgesBy, GaveBy};
 
 use crate::answer::converse;
 use crate::check::print_layout;
 use crate::configured::read_config;
+use crate::format::format_journals;
 use crate::outside::Outside;
 use crate::status::Status;
 use crate::words::{Command, command_of};
-use gw_outside::{Sink, Source};
+use gw_outside::{Disk, Sink, Source};
 use sbe_schema::Checked;
 use session_config::Settings;
 use std::alloc::Global;
 use std::sync::Wait;
 
 /// `answer`: the acceptor's session over recorded bytes.
-fn answer<R: Wait, S: Source, K: Sink>(rt: &R, alloc: Global, outside: &mut Outside<S, K>) -> Status
+fn answer<R: Wait, S: Source, K: Sink, D: Disk>(
+    rt: &R,
+    alloc: Global,
+    outside: &mut Outside<S, K, D>,
+) -> Status
     ensures config_verdict { (text : List ℕ) → S.left outside.old.config ≡ Some text → JudgesBy commands.Answer text result }
     ensures answer_output { (text input : List ℕ) → S.left outside.old.config ≡ Some text → S.left outside.old.input ≡ Some input →
         GaveBy (settings_of_text text) input (content_of S.left K.taken outside.old) (content_of S.left K.taken outside.new) result }
+    ensures untouched_by_answer { KeepsDisks outside.old outside.new }
     ensures refused { (fault : ConfigFault) → result ≡ Status.Config fault → KeepsBehindConfig outside.old outside.new }
     ensures config_first { (text : List ℕ) → S.left outside.old.config ≡ Some text → IsRefused commands.Answer text → StopsAtConfig S.faults outside.old outside.new result }
     ensures unread { result ≡ Status.InputFault → FailsInOrder S.faults outside.old outside.new }
     ensures within { ReadsWithin (S.left outside.old.config) (S.left outside.new.config) (text_limit + 1) }
-    ensures none_fell { NoneFell (faults_of S.faults K.faults outside.old) (faults_of S.faults K.faults outside.new) }
-    ensures cause { IsCaused (faults_of S.faults K.faults outside.old) (faults_of S.faults K.faults outside.new) result }
+    ensures none_fell { NoneFell (faults_of S.faults K.faults D.faults outside.old) (faults_of S.faults K.faults D.faults outside.new) }
+    ensures cause { IsCaused (faults_of S.faults K.faults D.faults outside.old) (faults_of S.faults K.faults D.faults outside.new) result }
     ensures listed { result ≡ Status.Words → ⊥ }
 {
     match read_config::<S, Settings>(alloc, &mut outside.config) {
@@ -54,16 +61,16 @@ fn answer<R: Wait, S: Source, K: Sink>(rt: &R, alloc: Global, outside: &mut Outs
 }
 
 /// `check`: the layout of a schema.
-fn check<S: Source, K: Sink>(alloc: Global, outside: &mut Outside<S, K>) -> Status
+fn check<S: Source, K: Sink, D: Disk>(alloc: Global, outside: &mut Outside<S, K, D>) -> Status
     ensures config_verdict { (text : List ℕ) → S.left outside.old.config ≡ Some text → JudgesBy commands.Check text result }
     ensures check_output { (text : List ℕ) → S.left outside.old.config ≡ Some text → GaveLayout (plan_of_text text) (K.taken outside.old.out) (K.taken outside.new.out) result }
-    ensures untouched_by_check { (outside.new.input ≡ outside.old.input) × (outside.new.wire ≡ outside.old.wire) }
+    ensures untouched_by_check { (outside.new.input ≡ outside.old.input) × (outside.new.wire ≡ outside.old.wire) × KeepsDisks outside.old outside.new }
     ensures refused { (fault : ConfigFault) → result ≡ Status.Config fault → KeepsBehindConfig outside.old outside.new }
     ensures config_first { (text : List ℕ) → S.left outside.old.config ≡ Some text → IsRefused commands.Check text → StopsAtConfig S.faults outside.old outside.new result }
     ensures unread { result ≡ Status.InputFault → FailsInOrder S.faults outside.old outside.new }
     ensures within { ReadsWithin (S.left outside.old.config) (S.left outside.new.config) (text_limit + 1) }
-    ensures none_fell { NoneFell (faults_of S.faults K.faults outside.old) (faults_of S.faults K.faults outside.new) }
-    ensures cause { IsCaused (faults_of S.faults K.faults outside.old) (faults_of S.faults K.faults outside.new) result }
+    ensures none_fell { NoneFell (faults_of S.faults K.faults D.faults outside.old) (faults_of S.faults K.faults D.faults outside.new) }
+    ensures cause { IsCaused (faults_of S.faults K.faults D.faults outside.old) (faults_of S.faults K.faults D.faults outside.new) result }
     ensures listed { result ≡ Status.Words → ⊥ }
 {
     match read_config::<S, Checked>(alloc, &mut outside.config) {
@@ -78,20 +85,25 @@ fn check<S: Source, K: Sink>(alloc: Global, outside: &mut Outside<S, K>) -> Stat
 /// refused, with its first fault, exactly where it has one, and then no device but CONFIG is touched. Where the devices
 /// tell their content, `answer` gives WIRE and OUT what the definition of the answer says of CONFIG and INPUT, and `check`
 /// gives OUT the lines of the layout: all of it at statuses 0 and 12, and a front of it where a device failed or memory
-/// ran out.
-pub fn run<R: Wait, S: Source, K: Sink>(
+/// ran out. `format` makes both disks journals without records, the outbox first, and refuses a disk that begins as a
+/// journal does.
+pub fn run<R: Wait, S: Source, K: Sink, D: Disk>(
     rt: &R,
     alloc: Global,
     words: &[String],
-    outside: Outside<S, K>,
-) -> (Status, Outside<S, K>)
+    outside: Outside<S, K, D>,
+) -> (Status, Outside<S, K, D>)
     ensures words { (result.0 ≡ Status.Words) ↔ (command_of (bytes_of words.now) ≡ None) }
     ensures untouched { command_of (bytes_of words.now) ≡ None → result.1 ≡ outside }
     ensures config_verdict { (command : Command) → command_of (bytes_of words.now) ≡ Some command → (text : List ℕ) → S.left outside.config ≡ Some text → JudgesBy command text result.0 }
     ensures answer_output { command_of (bytes_of words.now) ≡ Some commands.Answer → (text input : List ℕ) → S.left outside.config ≡ Some text → S.left outside.input ≡ Some input →
         GaveBy (settings_of_text text) input (content_of S.left K.taken outside) (content_of S.left K.taken result.1) result.0 }
+    ensures untouched_by_answer { command_of (bytes_of words.now) ≡ Some commands.Answer → KeepsDisks outside result.1 }
     ensures check_output { command_of (bytes_of words.now) ≡ Some commands.Check → (text : List ℕ) → S.left outside.config ≡ Some text → GaveLayout (plan_of_text text) (K.taken outside.out) (K.taken result.1.out) result.0 }
-    ensures untouched_by_check { command_of (bytes_of words.now) ≡ Some commands.Check → (result.1.input ≡ outside.input) × (result.1.wire ≡ outside.wire) }
+    ensures untouched_by_check { command_of (bytes_of words.now) ≡ Some commands.Check → (result.1.input ≡ outside.input) × (result.1.wire ≡ outside.wire) × KeepsDisks outside result.1 }
+    ensures format_output { command_of (bytes_of words.now) ≡ Some commands.Format → Formats D.told D.may_leave D.faults (disks_of outside) (disks_of result.1) result.0 }
+    ensures format_within { command_of (bytes_of words.now) ≡ Some commands.Format → KeepsBehindHeader D.may_leave outside.out_disk result.1.out_disk × KeepsBehindHeader D.may_leave outside.in_disk result.1.in_disk }
+    ensures untouched_by_format { command_of (bytes_of words.now) ≡ Some commands.Format → KeepsStreams outside result.1 }
 
     // The order of refusals: the words are `untouched`; then the configuration, before anything behind it is touched.
     ensures refused { (fault : ConfigFault) → result.0 ≡ Status.Config fault → KeepsBehindConfig outside result.1 }
@@ -99,14 +111,15 @@ pub fn run<R: Wait, S: Source, K: Sink>(
     ensures unread { result.0 ≡ Status.InputFault → FailsInOrder S.faults outside result.1 }
 
     ensures within { ReadsWithin (S.left outside.config) (S.left result.1.config) (text_limit + 1) }
-    ensures none_fell { NoneFell (faults_of S.faults K.faults outside) (faults_of S.faults K.faults result.1) }
-    ensures cause { IsCaused (faults_of S.faults K.faults outside) (faults_of S.faults K.faults result.1) result.0 }
+    ensures none_fell { NoneFell (faults_of S.faults K.faults D.faults outside) (faults_of S.faults K.faults D.faults result.1) }
+    ensures cause { IsCaused (faults_of S.faults K.faults D.faults outside) (faults_of S.faults K.faults D.faults result.1) result.0 }
 {
     let mut outside = outside;
     let status = match command_of(words) {
         None => Status::Words,
         Some(Command::Answer) => answer(rt, alloc, &mut outside),
         Some(Command::Check) => check(alloc, &mut outside),
+        Some(Command::Format) => format_journals(&mut outside.out_disk, &mut outside.in_disk),
     };
     (status, outside)
 }

@@ -1,7 +1,9 @@
 //! Laws of the commands, facts about their definitions alone.
 
 ghost use Rattle.gateway.specs.Answer.{OneAnswer};
-ghost use Rattle.gateway.specs.Completeness.{AnswerCompletes, CheckCompletes};
+ghost use Rattle.gateway.specs.Completeness.{AnswerCompletes, CheckCompletes, FormatCompletes};
+
+use gw_outside::Disk;
 
 /// The answer to an input is one: whatever bytes the input holds, no two answers meet the definition.
 pub fn one_answer()
@@ -18,4 +20,10 @@ pub fn answer_completes()
 /// all lines were printed and the status is done, or memory ran out.
 pub fn check_completes()
     ensures { CheckCompletes }
+{}
+
+/// What the clauses of `run` say of `format` leaves one end for two told disks that do not begin with the magic, where no
+/// device failed: both are journals without records, and the status is done.
+pub fn format_completes<D: Disk>()
+    ensures { FormatCompletes D.told D.may_leave D.faults }
 {}

@@ -6,6 +6,8 @@ mod answer;
 mod check;
 mod commands;
 mod configured;
+mod format;
+mod journals;
 mod laws;
 mod lines;
 mod outputs;
@@ -15,7 +17,8 @@ mod text;
 mod words;
 
 pub use commands::run;
-pub use laws::{answer_completes, check_completes, one_answer};
+pub use journals::{JournalCause, Which};
+pub use laws::{answer_completes, check_completes, format_completes, one_answer};
 pub use outside::Outside;
 pub use status::{Bad, Status};
 pub use words::{Command, command_of};

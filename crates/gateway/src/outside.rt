@@ -1,9 +1,13 @@
 //! The devices of a run.
 
-/// The four devices of a run, which come back with its status.
-pub struct Outside<S, K> {
+/// The six devices of a run, which come back with its status.
+pub struct Outside<S, K, D> {
     pub config: S,
     pub input: S,
     pub wire: K,
     pub out: K,
+    /// The disk of the outbox.
+    pub out_disk: D,
+    /// The disk of the inbox.
+    pub in_disk: D,
 }

@@ -2,6 +2,7 @@
 
 ghost use Rattle.std.specs.Prelude.{◌≡◌};
 
+use crate::journals::{JournalCause, Which};
 use fixp_end::Violation;
 use schema_toml::ConfigFault;
 use thiserror::Error;
@@ -38,6 +39,12 @@ pub enum Status {
     /// WIRE or OUT could not be written.
     #[error("output: WIRE or OUT could not be written")]
     OutputFault,
+    /// A call of a journal's disk failed.
+    #[error("journal: the disk of OUTBOX or INBOX failed")]
+    JournalFault,
+    /// A journal is none that the command can use.
+    #[error("journal: {cause}")]
+    JournalBad { which: Which, cause: JournalCause },
     /// The input is wrong at some place.
     #[error("input: {0}")]
     Message(Bad),
@@ -60,6 +67,8 @@ impl Status {
             Status::Config(_) => 2,
             Status::InputFault => 3,
             Status::OutputFault => 4,
+            Status::JournalFault => 5,
+            Status::JournalBad { .. } => 6,
             Status::Message(_) => 12,
             Status::Memory => 14,
         }
@@ -75,6 +84,8 @@ impl Status {
             Status::Config(_) => "config",
             Status::InputFault => "input-fault",
             Status::OutputFault => "output-fault",
+            Status::JournalFault => "journal-fault",
+            Status::JournalBad { .. } => "journal-bad",
             Status::Message(_) => "message",
             Status::Memory => "memory",
         }

@@ -10,6 +10,8 @@ pub enum Command {
     Answer,
     /// `check CONFIG OUT`
     Check,
+    /// `format OUTBOX INBOX`
+    Format,
 }
 
 /// The command of a listed form of words.
@@ -21,6 +23,7 @@ pub fn command_of(words: &[String]) -> Option<Command>
             Some(Command::Answer)
         }
         [command, _config, _out] if command.as_str() == "check" => Some(Command::Check),
+        [command, _outbox, _inbox] if command.as_str() == "format" => Some(Command::Format),
         _ => None,
     }
 }

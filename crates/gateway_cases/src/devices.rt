@@ -3,7 +3,7 @@
 ghost use Rattle.std.specs.Prelude.{◌<◌};
 
 use gateway::{Outside, run};
-use gw_fakes::{Calls, MemSink, MemSource};
+use gw_fakes::{Calls, MemDisk, MemSink, MemSource};
 use gw_outside::Bytes;
 use std::alloc::{AllocError, Global};
 use std::sync::Wait;
@@ -61,12 +61,17 @@ fn split(alloc: Global, text: &str) -> Result<Vec<String>, AllocError> {
 }
 
 /// The devices of a case.
-fn outside(alloc: Global, case: Case<'_>) -> Result<Outside<MemSource, MemSink>, AllocError> {
+fn outside(
+    alloc: Global,
+    case: Case<'_>,
+) -> Result<Outside<MemSource, MemSink, MemDisk>, AllocError> {
     Ok(Outside {
         config: source(alloc, case.config, 64, case.failing.config)?,
         input: source(alloc, case.input, case.piece.max(1), case.failing.input)?,
         wire: sink(alloc, case.room, case.failing.wire)?,
         out: sink(alloc, case.room, case.failing.out)?,
+        out_disk: MemDisk::without_faults(alloc, 0)?,
+        in_disk: MemDisk::without_faults(alloc, 0)?,
     })
 }
 
@@ -75,7 +80,7 @@ fn run_over<R: Wait>(
     rt: &R,
     alloc: Global,
     words: &[String],
-    outside: Outside<MemSource, MemSink>,
+    outside: Outside<MemSource, MemSink, MemDisk>,
 ) -> Outcome {
     let (status, outside) = run(rt, alloc, words, outside);
     let Outside {
@@ -83,6 +88,8 @@ fn run_over<R: Wait>(
         input: _,
         wire,
         out,
+        out_disk: _,
+        in_disk: _,
     } = outside;
     Outcome {
         code: status.code(),

@@ -1,10 +1,13 @@
-//! A file as a disk: it is read and written at places, with no seek, and synced. It tells nothing of its content.
+//! A file as a disk: it is read and written at places, with no seek, and synced. It tells nothing of its content, and it is
+//! opened at the first call.
 
 ghost use Rattle.std.specs.Prelude.{◌≡◌, ◌+◌, ◌<◌, ◌≤◌, ◌^◌, length, None, Some, IfOk, IsErr};
 ghost use Rattle.gw_outside.specs.Faults.{HasRisen};
+ghost use Rattle.gw_real.specs.declared.disk.Held.TheVariants.{Unopened};
 
+use crate::named::{Named, same_file};
 use gw_outside::{Disk, Failed};
-use std::fs::{File, Files, OpenOptions, TryLockError};
+use std::fs::{self, File, Files, OpenOptions, TryLockError};
 use std::io::{self, ErrorKind};
 use std::os::unix::fs::FileExt;
 
@@ -13,31 +16,60 @@ const LIMIT: u64 = 1 << 40;
 
 /// Why a call of a disk failed.
 #[derive(Clone, Copy, Debug)]
-pub enum DiskReason {
+pub enum DiskReason<'a> {
     /// What the system said.
     System(io::Error),
     /// Another process has the file.
     Locked,
+    /// It is the same file as this other one of the command, also through a link.
+    SameFile(Named<'a>),
     /// The file has, or would have, more than 2^40 bytes.
     TooLong,
 }
 
-impl From<io::Error> for DiskReason {
+impl From<io::Error> for DiskReason<'_> {
     fn from(error: io::Error) -> Self {
         DiskReason::System(error)
     }
 }
 
-/// A file with an exclusive lock. Where it cannot be had, every call fails.
+/// How a file is opened.
+#[derive(Clone, Copy, Debug, PartialEq, Eq)]
+pub enum Opening {
+    /// A file that stands there already, to be read: every write fails.
+    Read,
+    /// A file that stands there already, to be read and written.
+    Write,
+    /// The same, and it is made where there is none; its folder is synced then, so that it is there after a power cut.
+    Make,
+}
+
+/// What stands behind a disk.
 #[derive(Drop)]
-pub struct FileDisk {
-    file: Result<File, DiskReason>,
-    reason: Option<DiskReason>,
+enum Held<'a> {
+    /// The file of its name, which is not open yet.
+    Unopened,
+    /// This file, which is locked against every other process.
+    File(File),
+    /// Nothing: every call fails.
+    Failing(DiskReason<'a>),
+}
+
+/// A file with an exclusive lock. Where it cannot be had, or is the same as another file of the command, every call
+/// fails.
+#[derive(Drop)]
+pub struct FileDisk<'a, R> {
+    rt: &'a R,
+    name: Named<'a>,
+    others: &'a [Named<'a>],
+    opening: Opening,
+    held: Held<'a>,
+    reason: Option<DiskReason<'a>>,
     faults: u64,
 }
 
 /// Locks a file against every other process.
-fn locked(file: File) -> Result<File, DiskReason> {
+fn locked<'a>(file: File) -> Result<File, DiskReason<'a>> {
     match file.try_lock() {
         Ok(()) => Ok(file),
         Err(TryLockError::WouldBlock) => Err(DiskReason::Locked),
@@ -45,9 +77,20 @@ fn locked(file: File) -> Result<File, DiskReason> {
     }
 }
 
-/// The file at a path, read and written.
-fn opened<R: Files<File = File>>(rt: &R, path: &str) -> Result<File, DiskReason> {
-    let file = OpenOptions::new().read(true).write(true).open(rt, path)?;
+/// A file that stands there already and is none of the others.
+fn found<'a, R: Files<File = File>>(
+    rt: &R,
+    name: Named<'a>,
+    others: &'a [Named<'a>],
+    is_written: bool,
+) -> Result<File, DiskReason<'a>> {
+    let file = OpenOptions::new()
+        .read(true)
+        .write(is_written)
+        .open(rt, name.path)?;
+    if let Some(other) = same_file(rt, name.role, &file.metadata()?, others) {
+        return Err(DiskReason::SameFile(other));
+    }
     locked(file)
 }
 
@@ -60,21 +103,37 @@ fn folder_of(path: &str) -> &str {
     }
 }
 
-/// The file at a path, made where there is none; its folder is synced then, so that it is there after a power cut.
-fn opened_or_made<R: Files<File = File>>(rt: &R, path: &str) -> Result<File, DiskReason> {
-    match File::create_new(rt, path) {
-        Ok(file) => {
-            file.sync_all()?;
-            File::open(rt, folder_of(path))?.sync_all()?;
-            locked(file)
-        }
-        Err(error) if error.kind() == ErrorKind::AlreadyExists => opened(rt, path),
+/// A file that was made just now; it goes away again where it is the same as another of the command.
+fn made<'a, R: Files<File = File>>(
+    rt: &R,
+    name: Named<'a>,
+    others: &'a [Named<'a>],
+    file: File,
+) -> Result<File, DiskReason<'a>> {
+    if let Some(other) = same_file(rt, name.role, &file.metadata()?, others) {
+        fs::remove_file(rt, name.path)?;
+        return Err(DiskReason::SameFile(other));
+    }
+    file.sync_all()?;
+    File::open(rt, folder_of(name.path))?.sync_all()?;
+    locked(file)
+}
+
+/// A file, made where there is none.
+fn found_or_made<'a, R: Files<File = File>>(
+    rt: &R,
+    name: Named<'a>,
+    others: &'a [Named<'a>],
+) -> Result<File, DiskReason<'a>> {
+    match File::create_new(rt, name.path) {
+        Ok(file) => made(rt, name, others, file),
+        Err(error) if error.kind() == ErrorKind::AlreadyExists => found(rt, name, others, true),
         Err(error) => Err(DiskReason::System(error)),
     }
 }
 
 /// The length of a file in bytes.
-fn length_of(file: &File) -> Result<u64, DiskReason>
+fn length_of<'a>(file: &File) -> Result<u64, DiskReason<'a>>
     ensures within { IfOk result (λ n. n ≤ 2 ^ 40) }
 {
     let length = file.metadata()?.len();
@@ -85,7 +144,7 @@ fn length_of(file: &File) -> Result<u64, DiskReason>
 }
 
 /// Reads from a place on, as many bytes as there are, again where a signal came between.
-fn read_some(file: &File, at: u64, into: &mut [u8]) -> Result<usize, DiskReason>
+fn read_some<'a>(file: &File, at: u64, into: &mut [u8]) -> Result<usize, DiskReason<'a>>
     ensures count { IfOk result (λ n. n ≤ length into.new) }
 {
     let mut count = 0;
@@ -104,7 +163,7 @@ fn read_some(file: &File, at: u64, into: &mut [u8]) -> Result<usize, DiskReason>
 }
 
 /// Writes all of some bytes from a place on.
-fn write_all(file: &File, at: u64, bytes: &[u8]) -> Result<(), DiskReason>
+fn write_all<'a>(file: &File, at: u64, bytes: &[u8]) -> Result<(), DiskReason<'a>>
     ensures limit { 2 ^ 40 < at + length bytes.now → IsErr result }
 {
     if at > LIMIT || bytes.len() as u64 > LIMIT - at {
@@ -115,41 +174,50 @@ fn write_all(file: &File, at: u64, bytes: &[u8]) -> Result<(), DiskReason>
 }
 
 /// Syncs what was written.
-fn synced(file: &File) -> Result<(), DiskReason> {
+fn synced<'a>(file: &File) -> Result<(), DiskReason<'a>> {
     file.sync_data()?;
     Ok(())
 }
 
-impl FileDisk {
-    /// The file at a path, which stands there already.
-    pub fn open<R: Files<File = File>>(rt: &R, path: &str) -> FileDisk
+impl<'a, R> FileDisk<'a, R> {
+    /// The file of a name, opened so, which must be none of the others.
+    pub fn new(
+        rt: &'a R,
+        name: Named<'a>,
+        others: &'a [Named<'a>],
+        opening: Opening,
+    ) -> FileDisk<'a, R>
         ensures fresh { result.faults ≡ 0 }
     {
         FileDisk {
-            file: opened(rt, path),
-            reason: None,
-            faults: 0,
-        }
-    }
-
-    /// The file at a path, made where there is none.
-    pub fn open_or_make<R: Files<File = File>>(rt: &R, path: &str) -> FileDisk
-        ensures fresh { result.faults ≡ 0 }
-    {
-        FileDisk {
-            file: opened_or_made(rt, path),
+            rt,
+            name,
+            others,
+            opening,
+            held: Held::Unopened,
             reason: None,
             faults: 0,
         }
     }
 
     /// Why the last call that failed did, if one has.
-    pub fn reason(&self) -> Option<DiskReason> {
+    pub fn reason(&self) -> Option<DiskReason<'a>> {
         self.reason
     }
 
+    /// The open file.
+    fn file(&self) -> Result<&File, DiskReason<'a>>
+        requires opened { self.now.held ≡ Unopened → ⊥ }
+    {
+        match &self.held {
+            Held::File(file) => Ok(file),
+            Held::Failing(reason) => Err(*reason),
+            Held::Unopened => unreachable!(),
+        }
+    }
+
     /// Keeps why a call failed, and counts it.
-    fn failed(&mut self, reason: DiskReason) -> Failed
+    fn failed(&mut self, reason: DiskReason<'a>) -> Failed
         ensures risen { HasRisen self.old.faults self.new.faults }
         ensures grown { self.old.faults ≤ self.new.faults }
     {
@@ -159,7 +227,28 @@ impl FileDisk {
     }
 }
 
-impl Disk for FileDisk {
+impl<'a, R: Files<File = File>> FileDisk<'a, R> {
+    /// Opens what is not open yet.
+    fn open(&mut self)
+        ensures opened { self.new.held ≡ Unopened → ⊥ }
+        ensures faults { self.new.faults ≡ self.old.faults }
+    {
+        let Held::Unopened = &self.held else {
+            return;
+        };
+        let file = match self.opening {
+            Opening::Read => found(self.rt, self.name, self.others, false),
+            Opening::Write => found(self.rt, self.name, self.others, true),
+            Opening::Make => found_or_made(self.rt, self.name, self.others),
+        };
+        self.held = match file {
+            Ok(file) => Held::File(file),
+            Err(reason) => Held::Failing(reason),
+        };
+    }
+}
+
+impl<R: Files<File = File>> Disk for FileDisk<'_, R> {
     ghost use Rattle.gw_real.specs.Untold.{tells_none};
 
     ghost told = { λ d. None };
@@ -175,9 +264,10 @@ impl Disk for FileDisk {
     ghost limited = { λ d content left. absurd left };
 
     fn length(&mut self) -> Result<u64, Failed> {
-        let outcome = match &self.file {
+        self.open();
+        let outcome = match self.file() {
             Ok(file) => length_of(file),
-            Err(reason) => Err(*reason),
+            Err(reason) => Err(reason),
         };
         match outcome {
             Ok(length) => Ok(length),
@@ -186,9 +276,10 @@ impl Disk for FileDisk {
     }
 
     fn read_at(&mut self, at: u64, into: &mut [u8]) -> Result<usize, Failed> {
-        let outcome = match &self.file {
+        self.open();
+        let outcome = match self.file() {
             Ok(file) => read_some(file, at, into),
-            Err(reason) => Err(*reason),
+            Err(reason) => Err(reason),
         };
         match outcome {
             Ok(count) => Ok(count),
@@ -197,9 +288,10 @@ impl Disk for FileDisk {
     }
 
     fn write_at(&mut self, at: u64, bytes: &[u8]) -> Result<(), Failed> {
-        let outcome = match &self.file {
+        self.open();
+        let outcome = match self.file() {
             Ok(file) => write_all(file, at, bytes),
-            Err(reason) => Err(*reason),
+            Err(reason) => Err(reason),
         };
         match outcome {
             Ok(()) => Ok(()),
@@ -208,9 +300,10 @@ impl Disk for FileDisk {
     }
 
     fn sync(&mut self) -> Result<(), Failed> {
-        let outcome = match &self.file {
+        self.open();
+        let outcome = match self.file() {
             Ok(file) => synced(file),
-            Err(reason) => Err(*reason),
+            Err(reason) => Err(reason),
         };
         match outcome {
             Ok(()) => Ok(()),

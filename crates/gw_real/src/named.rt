@@ -2,7 +2,7 @@
 
 use std::fs::{Files, Metadata};
 use std::io;
-use std::os::unix::fs::MetadataExt;
+use std::os::unix::fs::{FileTypeExt, MetadataExt};
 
 /// A file of the command line.
 #[derive(Clone, Copy, Debug)]
@@ -37,9 +37,29 @@ impl From<io::Error> for Reason<'_> {
 }
 
 /// Whether a path leads to the file of this device and inode.
-pub fn leads_to<R: Files>(rt: &R, path: &str, file: &Metadata) -> bool {
+fn leads_to<R: Files>(rt: &R, path: &str, file: &Metadata) -> bool {
     match rt.metadata(path) {
         Ok(other) => other.dev() == file.dev() && other.ino() == file.ino(),
         Err(_) => false,
     }
+}
+
+/// The other file of the command that a file is, if it is one. A device such as `/dev/null` may stand for several files
+/// of a command, and a pipe may be standard output as well.
+pub fn same_file<'a, R: Files>(
+    rt: &R,
+    role: &str,
+    file: &Metadata,
+    others: &'a [Named<'a>],
+) -> Option<Named<'a>> {
+    if file.file_type().is_char_device() {
+        return None;
+    }
+    for other in others {
+        let is_looked_at = file.is_file() || other.role != STANDARD_OUTPUT.role;
+        if other.role != role && is_looked_at && leads_to(rt, other.path, file) {
+            return Some(*other);
+        }
+    }
+    None
 }

@@ -5,12 +5,11 @@ ghost use Rattle.std.specs.Io.KnownBytes.{Keeps, WriteAppends};
 ghost use Rattle.gw_real.specs.declared.sink.Target.TheVariants.{Unopened, Unused};
 ghost use Rattle.gw_real.specs.Told.{told_into};
 
-use crate::named::{Named, Reason, STANDARD_OUTPUT, leads_to};
+use crate::named::{Named, Reason, STANDARD_OUTPUT, same_file};
 use gw_outside::{Failed, Sink};
-use std::fs::{Files, Metadata, OpenFile, OpenOptions};
+use std::fs::{Files, OpenFile, OpenOptions};
 use std::io::{self, ErrorKind, Write};
 use std::mem;
-use std::os::unix::fs::FileTypeExt;
 
 /// Where a sink writes.
 #[derive(Drop)]
@@ -98,26 +97,6 @@ impl<'a, R, F, P> FileSink<'a, R, F, P> {
     pub fn reason(&self) -> Option<Reason<'a>> {
         self.reason
     }
-}
-
-/// The other file of the command that a file is, if it is one. A device such as `/dev/null` may stand for several files
-/// of a command, and a pipe may be standard output as well.
-fn same_file<'a, R: Files>(
-    rt: &R,
-    role: &str,
-    file: &Metadata,
-    others: &'a [Named<'a>],
-) -> Option<Named<'a>> {
-    if file.file_type().is_char_device() {
-        return None;
-    }
-    for other in others {
-        let is_looked_at = file.is_file() || other.role != STANDARD_OUTPUT.role;
-        if other.role != role && is_looked_at && leads_to(rt, other.path, file) {
-            return Some(*other);
-        }
-    }
-    None
 }
 
 /// Opens a file that is written, sees that it is none of the others, and empties it. `-` names no file.

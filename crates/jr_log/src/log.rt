@@ -73,6 +73,15 @@ impl<D: Disk> LogJournal<D> {
         }
     }
 
+    /// Its records.
+    pub fn records(&self) -> &[Record]
+        ensures records { result.now ≡ records_of self.now }
+        ensures legal { AllByRecursion IsRecord result.now }
+        ensures few { length result.now < 2 ^ 40 }
+    {
+        self.records.as_slice()
+    }
+
     /// Gives the disk back.
     pub fn close(self) -> D
         ensures { result ≡ disk_of self }

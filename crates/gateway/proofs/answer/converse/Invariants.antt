@@ -1,5 +1,5 @@
 use Rattle.gateway.specs.Answer.{acceptor_of}
-use Rattle.gateway.specs.Causes.{NoneFell, counts_of}
+use Rattle.gateway.specs.Causes.{NoneFell, conversation_counts}
 use Rattle.gateway.specs.Promise.{Talks, IsIdle}
 use Rattle.gateway.proofs.answer.converse.Given as goal
 
@@ -10,5 +10,5 @@ invariant-loop g l =
     record {
       idle : IsIdle l.acceptor;
       talks : Talks (acceptor_of l.fn.settings) (record { input = left l.fn.input; wire = taken l.fn.wire; out = taken l.fn.out }) (record { input = left l.input; wire = taken l.wire; out = taken l.out }) l.acceptor;
-      fell : NoneFell (counts_of 0 (g.S.Source.faults l.fn.input) (g.K.Sink.faults l.fn.wire) (g.K.Sink.faults l.fn.out)) (counts_of 0 (g.S.Source.faults l.input) (g.K.Sink.faults l.wire) (g.K.Sink.faults l.out));
+      fell : NoneFell (conversation_counts (g.S.Source.faults l.fn.input) (g.K.Sink.faults l.fn.wire) (g.K.Sink.faults l.fn.out)) (conversation_counts (g.S.Source.faults l.input) (g.K.Sink.faults l.wire) (g.K.Sink.faults l.out));
     }
