@@ -1,1 +1,2 @@
-pub mod OneThing
+pub mod OneClass
+pub mod Messages

@@ -1,7 +1,8 @@
 pub mod Phases
 pub mod Acts
-pub mod Hearing
+pub mod Incoming
+pub mod Facts
 pub mod Replies
-pub mod Reactions
+pub mod Outgoing
 pub mod Machine
 pub mod Laws

@@ -44,9 +44,37 @@ pub struct EndState {
     pub finish: Option<u64>,
 }
 
-/// What a reply depends on, beside the configuration.
+/// What an end knows of the connection that it is in. It is made anew at each connection's beginning.
+#[derive(Clone, Copy, Debug, PartialEq, Eq)]
+pub struct Connection {
+    pub phase: Phase,
+}
+
+impl Connection {
+    ghost use Rattle.std.specs.Prelude.{◌≡◌};
+    ghost use Rattle.fixp_end.specs.Facts.{new_connection};
+
+    /// A connection that begins in this phase.
+    pub fn new(phase: Phase) -> Connection
+        ensures { result ≡ new_connection phase }
+    {
+        Connection { phase }
+    }
+}
+
+/// What a reply depends on, beside what stands around it: what is recorded, and what is known of the connection.
 #[derive(Clone, Copy, Debug, PartialEq, Eq)]
 pub struct Facts {
-    pub phase: Phase,
     pub recorded: EndState,
+    pub connection: Connection,
+}
+
+/// What stands around a reply: the configuration, the greatest number of an application message, the place of the frame
+/// in the connection's bytes, and the moment in milliseconds.
+#[derive(Clone, Copy, Debug)]
+pub struct Around<'a> {
+    pub config: &'a EndConfig,
+    pub most: u64,
+    pub at: u64,
+    pub moment: u64,
 }

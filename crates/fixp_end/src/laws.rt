@@ -1,10 +1,10 @@
 //! The laws of the session machine: facts about the definitions alone, on functions without a body of their own.
 
-ghost use Rattle.fixp_end.specs.Laws.{SaysOneThing};
+ghost use Rattle.fixp_end.specs.Laws.{ClassifiedOnce};
 
-/// The message of a frame says one thing, so the reply to it is one.
-pub fn one_hearing()
-    ensures { SaysOneThing }
+/// The message of a frame is classified in one way, so the reply to it is one.
+pub fn one_classification()
+    ensures { ClassifiedOnce }
 {
     fixp_msgs::one_message();
 }

@@ -4,7 +4,7 @@
 
 mod config;
 mod ending;
-mod hearing;
+mod incoming;
 mod laws;
 mod machine;
 mod output;
@@ -13,6 +13,6 @@ mod replies;
 
 pub use config::{EndConfig, EndState, Role};
 pub use ending::{Act, Ending, Violation};
-pub use laws::one_hearing;
+pub use laws::one_classification;
 pub use machine::End;
 pub use phase::Phase;

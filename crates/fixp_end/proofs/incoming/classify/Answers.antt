@@ -1,5 +1,5 @@
 use Rattle.std.proofs.Common.{sym}
-use Rattle.fixp_end.proofs.hearing.hear.Goals as goal
+use Rattle.fixp_end.proofs.incoming.classify.Goals as goal
 
 pub returns-in-Err-Short : goal.returns-in-Err-Short
 returns-in-Err-Short c =
