@@ -60,25 +60,25 @@ skips_none (m ∷ ms) = skips_none ms
 -- a chain has consecutive numbers
 chain_counts : (n : ℕ) (ms : List Numbered) → numbers_of (chain n ms) ≡ counts_from n (length (chain n ms))
 chain_counts n [] = refl
-chain_counts n (m ∷ ms) = by_test (m.number == n) refl
+chain_counts n (m ∷ ms) = by_test (m.number == n) refl (chain_counts (n + 1) ms) (chain_counts n ms)
   where
     by_test : (b : Bool) → (m.number == n) ≡ b
+        → numbers_of (chain (n + 1) ms) ≡ counts_from (n + 1) (length (chain (n + 1) ms)) → numbers_of (chain n ms) ≡ counts_from n (length (chain n ms))
         → numbers_of (if b then m ∷ chain (n + 1) ms else chain n ms) ≡ counts_from n (length (if b then m ∷ chain (n + 1) ms else chain n ms))
-    by_test true t =
-        ap (λ k. k ∷ numbers_of (chain (n + 1) ms)) (eqb-true m.number n t)
-        ∙ ap (λ ks. n ∷ ks) (chain_counts (n + 1) ms)
-    by_test false t = chain_counts n ms
+    by_test true t goes_on stays = ap (λ k. k ∷ numbers_of (chain (n + 1) ms)) (eqb-true m.number n t) ∙ ap (λ ks. n ∷ ks) goes_on
+    by_test false t goes_on stays = stays
 
 -- and is made of the messages that came
 chain_contained : (n : ℕ) (ms : List Numbered) → AllByRecursion (λ m. Contains ms m) (chain n ms)
 chain_contained n [] = tt
-chain_contained n (m ∷ ms) = by_test (m.number == n)
+chain_contained n (m ∷ ms) = by_test (m.number == n) (later (n + 1) (chain_contained (n + 1) ms)) (later n (chain_contained n ms))
   where
-    later : (k : ℕ) → AllByRecursion (λ x. Contains (m ∷ ms) x) (chain k ms)
-    later k = all_weaker (λ x. Contains ms x) (λ x. Contains (m ∷ ms) x) (λ x c. Contains-append_right (m ∷ []) ms x c) (chain k ms) (chain_contained k ms)
-    by_test : (b : Bool) → AllByRecursion (λ x. Contains (m ∷ ms) x) (if b then m ∷ chain (n + 1) ms else chain n ms)
-    by_test true = ((0, omega arith, refl), later (n + 1))
-    by_test false = later n
+    later : (k : ℕ) → AllByRecursion (λ x. Contains ms x) (chain k ms) → AllByRecursion (λ x. Contains (m ∷ ms) x) (chain k ms)
+    later k all = all_weaker (λ x. Contains ms x) (λ x. Contains (m ∷ ms) x) (λ x c. Contains-append_right (m ∷ []) ms x c) (chain k ms) all
+    by_test : (b : Bool) → AllByRecursion (λ x. Contains (m ∷ ms) x) (chain (n + 1) ms) → AllByRecursion (λ x. Contains (m ∷ ms) x) (chain n ms)
+        → AllByRecursion (λ x. Contains (m ∷ ms) x) (if b then m ∷ chain (n + 1) ms else chain n ms)
+    by_test true goes_on stays = ((0, omega arith, refl), goes_on)
+    by_test false goes_on stays = stays
 
 -- what is applied of an inbox that is grown by messages alone
 pub grows_recoverable : GrowsRecoverable

@@ -1,7 +1,7 @@
 //! The receiver of a recoverable flow on one connection: the number that the inbox waits for, the live number, and the
 //! number inside a retransmission.
 
-ghost use Rattle.std.specs.Prelude.{◌≡◌, ◌+◌, ◌^◌, ◌<◌, ◌≤◌, ◌↔◌, IsOk, IfErr, OnOk, OnErr};
+ghost use Rattle.std.specs.Prelude.{◌≡◌, ◌+◌, ◌^◌, ◌<◌, ◌≤◌, ◌↔◌, IsOk, IfErr, IfSome, OnOk, OnErr};
 ghost use Rattle.flow_recover.specs.Receiving.{fresh, expected, announced, retransmitted, number, seen, after_message, gap, counted};
 
 use fixp_msgs::Range;
@@ -59,35 +59,41 @@ impl Receiver {
         }
     }
 
-    /// The next number `announced` by an Establish, an EstablishmentAck or a Sequence. It ends a retransmission.
+    /// The next number `next_seq` is announced by an Establish, an EstablishmentAck or a Sequence. It ends a retransmission.
     ///
     /// # Errors
     /// The number is below the one expected, the greater of the number that the inbox waits for and the live number.
     /// Nothing has changed then.
-    pub fn announce(&mut self, announced: u64) -> Result<(), Back>
-        ensures taken { IsOk result ↔ (expected self.old ≤ announced) }
-        ensures live { OnOk result (self.new ≡ announced self.old announced) }
-        ensures back { IfErr result (λ back. back ≡ record { announced = announced; expected = expected self.old }) }
+    pub fn announce(&mut self, next_seq: u64) -> Result<(), Back>
+        ensures taken { IsOk result ↔ (expected self.old ≤ next_seq) }
+        ensures live { OnOk result (self.new ≡ announced self.old next_seq) }
+        ensures back { IfErr result (λ back. back ≡ record { announced = next_seq; expected = expected self.old }) }
         ensures same { OnErr result (self.new ≡ self.old) }
     {
         let expected = self.next.max(self.live);
-        if announced < expected {
+        if next_seq < expected {
             return Err(Back {
-                announced,
+                announced: next_seq,
                 expected,
             });
         }
-        self.live = announced;
+        self.live = next_seq;
         self.again = None;
         Ok(())
     }
 
     /// A retransmission begins with the number `first`. The messages up to the next announcement are numbered from there.
     pub fn on_retransmission(&mut self, first: u64)
-        requires { first ≤ self.old.live }
         ensures { self.new ≡ retransmitted self.old first }
     {
         self.again = Some(first);
+    }
+
+    /// The number of the next application message: the retransmission's inside one, else the live number.
+    pub fn number(&self) -> u64
+        ensures { result ≡ number self.now }
+    {
+        self.again.unwrap_or(self.live)
     }
 
     /// Takes an application message, and tells what becomes of it.
@@ -96,7 +102,8 @@ impl Receiver {
         ensures seen { result ≡ seen self.old }
         ensures after { self.new ≡ after_message self.old }
     {
-        let number = self.count();
+        let number = self.number();
+        self.count();
         if number == self.next {
             self.next = number + 1;
             Seen::Deliver(number)
@@ -109,7 +116,8 @@ impl Receiver {
 
     /// The numbers that are missing, if there are any: from the one that the inbox waits for up to the live number.
     pub fn gap(&self) -> Option<Range>
-        ensures { result ≡ gap self.now }
+        ensures exact { result ≡ gap self.now }
+        ensures within { IfSome result (λ g. (1 ≤ g.count) × (g.from + g.count < 2 ^ 64)) }
     {
         if self.next < self.live {
             Some(Range {
@@ -121,21 +129,14 @@ impl Receiver {
         }
     }
 
-    /// Gives the next message's number, the retransmission's inside one and else the live one, and counts it.
-    fn count(&mut self) -> u64
+    /// Counts the next message, under the retransmission's number inside one and else under the live one.
+    fn count(&mut self)
         requires { number self.old + 1 < 2 ^ 64 }
-        ensures number { result ≡ number self.old }
-        ensures counted { self.new ≡ counted self.old self.old.again }
+        ensures { self.new ≡ counted self.old self.old.again }
     {
         match self.again {
-            Some(number) => {
-                self.again = Some(number + 1);
-                number
-            }
-            None => {
-                self.live += 1;
-                self.live - 1
-            }
+            Some(number) => self.again = Some(number + 1),
+            None => self.live += 1,
         }
     }
 }

@@ -1,6 +1,6 @@
 -- The requests of a recoverable receiver (FIXP 1.1, RetransmitRequest and Retransmission; one request at a time for at most
 -- 256 messages is this project's profile).
-use Rattle.std.specs.Prelude.{ℕ, ◌+◌, ◌-◌, ◌≤◌, ◌==◌, ◌||◌, ◌^◌, ⊤, Bool, true, false, not, min, nat_lt, if◌then◌else◌, Option, Some, None, Result, Ok, Err}
+use Rattle.std.specs.Prelude.{ℕ, ◌+◌, ◌-◌, ◌<◌, ◌==◌, ◌||◌, ◌^◌, ⊤, Bool, true, false, not, min, nat_lt, if◌then◌else◌, Option, Some, None}
 use Rattle.fixp_msgs.specs.declared.numbering.Range.{Range}
 use Rattle.flow_retrans.specs.declared.requester.BadStart.{BadStart}
 use Rattle.flow_retrans.specs.declared.request.Request.{Request}
@@ -56,13 +56,8 @@ after_sequence Nothing = Nothing
 after_sequence (Asked range) = Asked range
 after_sequence (Coming range next left) = Nothing
 
--- the answer of a call that may find a fault
-abbrev pub checked : Option BadStart → Result (Unit {0}) BadStart
-checked None = Ok tt
-checked (Some fault) = Err fault
-
 -- the numbers of a request, and those that are still to come, end below 2^64
 abbrev pub EndsInWord : Request → Type 0
 EndsInWord Nothing = ⊤
-EndsInWord (Asked range) = range.from + range.count ≤ 2 ^ 64 - 1
-EndsInWord (Coming range next left) = (range.from + range.count ≤ 2 ^ 64 - 1) × (next + left ≤ 2 ^ 64 - 1)
+EndsInWord (Asked range) = range.from + range.count < 2 ^ 64
+EndsInWord (Coming range next left) = (range.from + range.count < 2 ^ 64) × (next + left < 2 ^ 64)

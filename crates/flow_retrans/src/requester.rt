@@ -1,8 +1,8 @@
 //! The receiver's side: one request at a time, and the retransmission that answers it.
 
-ghost use Rattle.std.specs.Prelude.{◌≡◌, ◌+◌, ◌<◌, ◌≤◌, ◌^◌, ◌↔◌, Some, None, IsNone, IsSome, OnOk, OnErr};
+ghost use Rattle.std.specs.Prelude.{◌≡◌, ◌+◌, ◌<◌, ◌≤◌, ◌^◌, ◌↔◌, Some, None, IsNone, IsSome, IfErr, OnOk, OnErr};
 ghost use Rattle.flow_retrans.specs.declared.request.Request.TheVariants.{Nothing, Asked};
-ghost use Rattle.flow_retrans.specs.Requests.{outstanding, first_of_gap, start_fault, started, message_fault, sequence_fault, after_message, after_sequence, checked};
+ghost use Rattle.flow_retrans.specs.Requests.{outstanding, first_of_gap, start_fault, started, message_fault, sequence_fault, after_message, after_sequence};
 
 use crate::judging::REQUEST_LIMIT;
 use crate::request::Request;
@@ -62,7 +62,7 @@ impl Requester {
     /// gives none, and nothing changes.
     pub fn want(&mut self, gap: Range) -> Option<Range>
         requires some { 1 ≤ gap.count }
-        requires within { gap.from + gap.count ≤ 2 ^ 64 - 1 }
+        requires within { gap.from + gap.count < 2 ^ 64 }
         ensures one { IsNone (outstanding self.old) → (result ≡ Some (first_of_gap gap)) × (self.new ≡ Asked (first_of_gap gap)) }
         ensures none { IsSome (outstanding self.old) → (result ≡ None) × (self.new ≡ self.old) }
     {
@@ -85,7 +85,8 @@ impl Requester {
     /// Without an outstanding request, 0 was expected and `next` is found; where `next` is not the first number asked for,
     /// that one was expected; where `count` is 0 or above the count asked for, that count was expected. Nothing has changed.
     pub fn on_start(&mut self, next: u64, count: u32) -> Result<(), BadStart>
-        ensures answer { result ≡ checked (start_fault (outstanding self.old) next count) }
+        ensures bad { IfErr result (λ bad. start_fault (outstanding self.old) next count ≡ Some bad) }
+        ensures fits { OnOk result (start_fault (outstanding self.old) next count ≡ None) }
         ensures started { OnOk result (self.new ≡ started self.old next count) }
         ensures same { OnErr result (self.new ≡ self.old) }
     {
@@ -117,7 +118,8 @@ impl Requester {
     /// # Errors
     /// All messages of the retransmission came: 0 was expected, and the message's number is found. Nothing has changed.
     pub fn on_app(&mut self) -> Result<(), BadStart>
-        ensures answer { result ≡ checked (message_fault self.old) }
+        ensures bad { IfErr result (λ bad. message_fault self.old ≡ Some bad) }
+        ensures fits { OnOk result (message_fault self.old ≡ None) }
         ensures counted { OnOk result (self.new ≡ after_message self.old) }
         ensures same { OnErr result (self.new ≡ self.old) }
     {
@@ -143,7 +145,8 @@ impl Requester {
     /// # Errors
     /// Some messages of the retransmission did not come: the next of them was expected, and 0 is found. Nothing has changed.
     pub fn on_sequence(&mut self) -> Result<(), BadStart>
-        ensures answer { result ≡ checked (sequence_fault self.old) }
+        ensures bad { IfErr result (λ bad. sequence_fault self.old ≡ Some bad) }
+        ensures fits { OnOk result (sequence_fault self.old ≡ None) }
         ensures done { OnOk result (self.new ≡ after_sequence self.old) }
         ensures same { OnErr result (self.new ≡ self.old) }
     {
