@@ -1,15 +1,15 @@
 -- What a receiver delivers is the chain of the numbered messages, and an inbox that applies it grows as a recoverable one.
-use Rattle.std.proofs.Common.{◌≡◌, ℕ, zero, suc, ◌+◌, ◌≤◌, ◌==◌, nat_lt, Bool, true, false, if◌then◌else◌, List, [], ◌∷◌, ◌++◌, map, length, Contains, Option, Some, None, refl, sym, ap, subst, ◌∙◌, arith, eqb-true}
+use Rattle.std.proofs.Common.{◌≡◌, ℕ, ◌+◌, ◌≤◌, ◌==◌, nat_lt, Bool, true, false, if◌then◌else◌, List, [], ◌∷◌, ◌++◌, map, length, Contains, Option, Some, None, refl, sym, ap, subst, ◌∙◌, arith, eqb-true}
 use Rattle.std.proofs.lemmas.List.Elements.{Contains-append_right}
 use Rattle.std.specs.List.{AllByRecursion}
 use Rattle.session_model.specs.Journal.{counts_from}
-use Rattle.session_model.specs.Inbox.{Numbered, InboxRecord, apply, applied, skips, numbers_of, next_number}
+use Rattle.session_model.specs.Inbox.{Numbered, apply, applied, skips, numbers_of, next_number}
 use Rattle.session_model.specs.Events.{numbered}
-use Rattle.session_model.specs.Growth.{chain, GrownRecoverable}
+use Rattle.session_model.specs.Growth.{chain}
 use Rattle.session_model.proofs.Lists.{all_weaker}
 use Rattle.flow_recover.specs.declared.receiver.Seen.TheVariants.{Deliver, Gap, Repeat}
-use Rattle.flow_recover.specs.Receiving.{Receiving, announced, retransmitted, number, seen_as, after_message}
-use Rattle.flow_recover.specs.Laws.{Arrival, announcement, retransmission, message, event_of, given, delivered, DeliversChain, GrowsRecoverable}
+use Rattle.flow_recover.specs.Receiving.{announced, retransmitted, number, seen_as, after_message}
+use Rattle.flow_recover.specs.Laws.{announcement, retransmission, message, event_of, given, delivered, DeliversChain, GrowsRecoverable}
 
 -- one message more: it is delivered exactly where the chain goes on with it
 delivers_one : (next n : ℕ) (payload : List ℕ) (later rest : List Numbered)
@@ -75,6 +75,7 @@ chain_contained n (m ∷ ms) = by_test (m.number == n) (later (n + 1) (chain_con
   where
     later : (k : ℕ) → AllByRecursion (λ x. Contains ms x) (chain k ms) → AllByRecursion (λ x. Contains (m ∷ ms) x) (chain k ms)
     later k all = all_weaker (λ x. Contains ms x) (λ x. Contains (m ∷ ms) x) (λ x c. Contains-append_right (m ∷ []) ms x c) (chain k ms) all
+
     by_test : (b : Bool) → AllByRecursion (λ x. Contains (m ∷ ms) x) (chain (n + 1) ms) → AllByRecursion (λ x. Contains (m ∷ ms) x) (chain n ms)
         → AllByRecursion (λ x. Contains (m ∷ ms) x) (if b then m ∷ chain (n + 1) ms else chain n ms)
     by_test true goes_on stays = ((0, omega arith, refl), goes_on)

@@ -1,6 +1,6 @@
 -- The requests of a recoverable receiver (FIXP 1.1, RetransmitRequest and Retransmission; one request at a time for at most
 -- 256 messages is this project's profile).
-use Rattle.std.specs.Prelude.{ℕ, ◌+◌, ◌-◌, ◌<◌, ◌==◌, ◌||◌, ◌^◌, ⊤, Bool, true, false, not, min, nat_lt, if◌then◌else◌, Option, Some, None}
+use Rattle.std.specs.Prelude.{ℕ, ◌+◌, ◌-◌, ◌<◌, ◌==◌, ◌||◌, ◌^◌, ⊤, not, min, nat_lt, if◌then◌else◌, Option, Some, None}
 use Rattle.fixp_msgs.specs.declared.numbering.Range.{Range}
 use Rattle.flow_retrans.specs.declared.requester.BadStart.{BadStart}
 use Rattle.flow_retrans.specs.declared.request.Request.{Request}
