@@ -1,2 +1,3 @@
 pub mod OneClass
 pub mod Messages
+pub mod Rows

@@ -5,7 +5,7 @@ use Rattle.std.proofs.lemmas.Grind.{flat_map-append}
 use Rattle.std.specs.List.{flat_map}
 use Rattle.fixp_msgs.specs.Canonical.{frame_bytes}
 use Rattle.fixp_end.specs.declared.config.EndConfig.{EndConfig}
-use Rattle.fixp_end.specs.declared.replies.Outgoing.{Outgoing}
+use Rattle.fixp_end.specs.declared.reply.Outgoing.{Outgoing}
 use Rattle.fixp_end.specs.Outgoing.{outgoing_message, messages_of}
 
 messages_of-append : (cfg : EndConfig) (first second : List (Option Outgoing)) → messages_of cfg (first ++ second) ≡ messages_of cfg first ++ messages_of cfg second

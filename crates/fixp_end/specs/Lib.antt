@@ -1,6 +1,7 @@
 pub mod Phases
 pub mod Acts
 pub mod Incoming
+pub mod Flows
 pub mod Facts
 pub mod Replies
 pub mod Outgoing

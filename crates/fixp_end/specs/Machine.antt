@@ -10,6 +10,7 @@ use Rattle.fixp_end.specs.declared.phase.Phase.{Phase}
 use Rattle.fixp_end.specs.declared.phase.Phase.TheVariants as phases
 use Rattle.fixp_end.specs.declared.ending.Act.{Act}
 use Rattle.fixp_end.specs.declared.ending.Ending.{Ending}
+use Rattle.fixp_end.specs.declared.ending.Ending.TheVariants as endings
 use Rattle.fixp_end.specs.Acts.{is_record}
 use Rattle.fixp_end.specs.Incoming.{Incoming, IsIncoming}
 use Rattle.fixp_end.specs.Facts.{Around, connecting}
@@ -72,6 +73,10 @@ pub record AnswersFrame (old new : State) (order : Order) (message : List ℕ) (
   pub is : IsIncoming order message incoming
   pub replies : act ≡ (reply_of (around old at now) old.facts incoming).act
   pub after : new ≡ after_frame old (reply_of (around old at now) old.facts incoming) now
+
+-- no more bytes come: a connection that has not ended ends
+abbrev pub link_ended : State → State
+link_ended s = if is_some s.ending then s else record s { ending = Some endings.LinkEnded; pending = None }
 
 -- the phase, which is Ended exactly where the connection has ended
 abbrev pub phase_of : State → Phase

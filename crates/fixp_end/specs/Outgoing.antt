@@ -1,21 +1,23 @@
 -- A reply of the code as an outcome of the reply table.
 use Rattle.std.specs.Prelude.{ℕ, List, [], ◌∷◌, Option, Some, None}
 use Rattle.fixp_msgs.specs.Flow.{flow_code}
-use Rattle.fixp_msgs.specs.Message.{Message, negotiation_response, establishment_ack, terminate}
+use Rattle.fixp_msgs.specs.Message.{Message, negotiation_response, establishment_ack, retransmit_request, retransmit_reject, terminate}
 use Rattle.fixp_end.specs.declared.config.EndConfig.{EndConfig}
-use Rattle.fixp_end.specs.declared.replies.Outgoing.{Outgoing}
-use Rattle.fixp_end.specs.declared.replies.Outgoing.TheVariants.{NegotiationResponse, EstablishmentAck, Terminate}
-use Rattle.fixp_end.specs.declared.replies.Reply.{Reply}
+use Rattle.fixp_end.specs.declared.reply.Outgoing.{Outgoing}
+use Rattle.fixp_end.specs.declared.reply.Outgoing.TheVariants.{NegotiationResponse, EstablishmentAck, RetransmitRequest, RetransmitReject, Terminate}
+use Rattle.fixp_end.specs.declared.reply.Reply.{Reply}
 use Rattle.fixp_end.specs.Replies.{Outcome}
 
 -- how many bytes the messages of one reply have at most
 abbrev pub reply_limit : ℕ
 reply_limit = 256
 
--- an outgoing message, of the configured session
+-- an outgoing message: of the configured session, but a reject, which names that of its request
 abbrev pub outgoing_message : EndConfig → Outgoing → Message
 outgoing_message cfg (NegotiationResponse timestamp) = negotiation_response cfg.session timestamp (flow_code cfg.own_flow) []
 outgoing_message cfg (EstablishmentAck timestamp) = establishment_ack cfg.session timestamp cfg.keepalive None
+outgoing_message cfg (RetransmitRequest timestamp first count) = retransmit_request cfg.session timestamp first count
+outgoing_message cfg (RetransmitReject session timestamp code) = retransmit_reject session timestamp code []
 outgoing_message cfg (Terminate code) = terminate cfg.session code []
 
 -- the messages of a reply, which has places for four

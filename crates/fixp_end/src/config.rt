@@ -2,6 +2,8 @@
 
 use crate::phase::Phase;
 use fixp_msgs::Flow;
+use flow_recover::Receiver;
+use flow_retrans::Requester;
 use gw_outside::Bytes;
 
 /// Which side of the session an end is (FIXP 1.1, "Session roles").
@@ -48,17 +50,25 @@ pub struct EndState {
 #[derive(Clone, Copy, Debug, PartialEq, Eq)]
 pub struct Connection {
     pub phase: Phase,
+    /// What is expected of the peer's flow, where it is recoverable.
+    pub receiver: Receiver,
+    /// What was asked for of the peer's flow.
+    pub requester: Requester,
 }
 
 impl Connection {
     ghost use Rattle.std.specs.Prelude.{◌≡◌};
     ghost use Rattle.fixp_end.specs.Facts.{new_connection};
 
-    /// A connection that begins in this phase.
-    pub fn new(phase: Phase) -> Connection
-        ensures { result ≡ new_connection phase }
+    /// A connection that begins in this phase, where this is recorded.
+    pub fn new(recorded: &EndState, phase: Phase) -> Connection
+        ensures { result ≡ new_connection recorded.now phase }
     {
-        Connection { phase }
+        Connection {
+            phase,
+            receiver: Receiver::new(recorded.inbox_next),
+            requester: Requester::new(),
+        }
     }
 }
 

@@ -2,14 +2,18 @@
 //! It reads and writes messages by `fixp_msgs`, and does no input or output itself.
 #![tactic(auto)]
 
+mod announcing;
 mod config;
 mod ending;
+mod handshake;
 mod incoming;
 mod laws;
 mod machine;
 mod output;
 mod phase;
+mod receiving;
 mod replies;
+mod reply;
 
 pub use config::{EndConfig, EndState, Role};
 pub use ending::{Act, Ending, Violation};

@@ -14,8 +14,12 @@ use crate::ending::{Act, Ending};
 use crate::incoming::classify;
 use crate::output::Output;
 use crate::phase::Phase;
-use crate::replies::{Outgoing, Reply, reply_to, reply_to_bad_frame};
-use fixp_msgs::{EstablishmentAck, NegotiationResponse, SessionMsg, Terminate, write};
+use crate::replies::{reply_to, reply_to_bad_frame};
+use crate::reply::{Outgoing, Reply};
+use fixp_msgs::{
+    EstablishmentAck, NegotiationResponse, RetransmitReject, RetransmitRequest, SessionMsg,
+    Terminate, write,
+};
 use sbe_prim::Order;
 use std::alloc::{AllocError, Global};
 use std::marker::Model;
@@ -86,6 +90,26 @@ fn session_message(config: &EndConfig, message: Outgoing) -> SessionMsg<'static>
                 next_seq: None,
             })
         }
+        Outgoing::RetransmitRequest {
+            timestamp,
+            from_seq,
+            count,
+        } => SessionMsg::RetransmitRequest(RetransmitRequest {
+            session_id,
+            timestamp,
+            from_seq,
+            count,
+        }),
+        Outgoing::RetransmitReject {
+            session_id,
+            request_timestamp,
+            code,
+        } => SessionMsg::RetransmitReject(RetransmitReject {
+            session_id,
+            request_timestamp,
+            code,
+            reason: &[],
+        }),
         Outgoing::Terminate { code } => SessionMsg::Terminate(Terminate {
             session_id,
             code,
@@ -124,7 +148,7 @@ impl End {
     ghost use Rattle.fixp_end.specs.Phases.{is_idle};
     ghost use Rattle.fixp_end.specs.Replies.{reply_to_bad_frame};
     ghost use Rattle.fixp_end.specs.Facts.{around_of};
-    ghost use Rattle.fixp_end.specs.Machine.{fresh, connected, around, reply_applied, phase_of, AnswersFrame};
+    ghost use Rattle.fixp_end.specs.Machine.{fresh, connected, around, reply_applied, link_ended, phase_of, AnswersFrame};
 
     /// A new end that has begun no connection. `most` is the greatest number of an application message.
     ///
@@ -152,7 +176,7 @@ impl End {
             moment: 0,
             facts: Facts {
                 recorded: state,
-                connection: Connection::new(Phase::Idle),
+                connection: Connection::new(&state, Phase::Idle),
             },
             ending: None,
             output,
@@ -171,7 +195,7 @@ impl End {
     {
         self.begun = true;
         self.moment = now;
-        self.facts.connection = Connection::new(Phase::Idle);
+        self.facts.connection = Connection::new(&self.facts.recorded, Phase::Idle);
         self.ending = None;
         self.output.clear();
         self.pending = None;
@@ -208,12 +232,13 @@ impl End {
         let reply = reply_to(&around, self.facts, &classify(order, message));
         self.moment = now;
         self.room -= 1;
-        if reply.act.is_record() {
+        let act = reply.act;
+        if act.is_record() {
             self.pending = Some(reply);
         } else {
             self.apply_reply(reply);
         }
-        reply.act
+        act
     }
 
     /// Answers bytes at the place `at` of the connection that are no frame.
@@ -243,6 +268,24 @@ impl End {
         if let Some(reply) = self.pending {
             self.apply_reply(reply);
         }
+    }
+
+    /// No more bytes come: the connection ends, if it has not ended.
+    pub fn on_link_end(&mut self)
+        requires { self.old.begun ≡ true }
+        ensures { self.new ≡ link_ended self.old }
+    {
+        if self.ending.is_none() {
+            self.ending = Some(Ending::LinkEnded);
+            self.pending = None;
+        }
+    }
+
+    /// How many entries of the outbox were sent or begun.
+    pub fn sent(&self) -> u64
+        ensures { result ≡ self.now.facts.recorded.sent }
+    {
+        self.facts.recorded.sent
     }
 
     /// The bytes that were written and not taken yet.
