@@ -6,4 +6,5 @@ pub mod Facts
 pub mod Replies
 pub mod Outgoing
 pub mod Machine
+pub mod Accepting
 pub mod Laws

@@ -12,11 +12,12 @@ use Rattle.fixp_end.specs.Replies.{Outcome}
 abbrev pub reply_limit : ℕ
 reply_limit = 256
 
--- an outgoing message: of the configured session, but a reject, which names that of its request
+-- an outgoing message: of the configured session, but a request, which names its own, and a reject, which names that of
+-- the request that it rejects
 abbrev pub outgoing_message : EndConfig → Outgoing → Message
 outgoing_message cfg (NegotiationResponse timestamp) = negotiation_response cfg.session timestamp (flow_code cfg.own_flow) []
 outgoing_message cfg (EstablishmentAck timestamp) = establishment_ack cfg.session timestamp cfg.keepalive None
-outgoing_message cfg (RetransmitRequest timestamp first count) = retransmit_request cfg.session timestamp first count
+outgoing_message cfg (RetransmitRequest m) = retransmit_request m.session_id m.timestamp m.from_seq m.count
 outgoing_message cfg (RetransmitReject session timestamp code) = retransmit_reject session timestamp code []
 outgoing_message cfg (Terminate code) = terminate cfg.session code []
 

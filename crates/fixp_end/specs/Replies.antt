@@ -91,10 +91,11 @@ ends x f code ending = record { act = Ended; written = terminate x.config.sessio
 abbrev pub breaks : Around → Facts → Violation → Outcome
 breaks x f violation = ends x f 2 (endings.Violation violation)
 
--- the session is negotiated, and the next number is this
+-- the session is negotiated
 abbrev pub negotiated : Facts → Facts
 negotiated f = record f { recorded = record f.recorded { negotiated = true } }
 
+-- the inbox awaits this number
 abbrev pub awaiting : Facts → ℕ → Facts
 awaiting f next = record f { recorded = record f.recorded { inbox_next = next } }
 
@@ -148,7 +149,7 @@ application_rows x f =
 abbrev pub negotiate_rows : Around → Facts → (id : List ℕ) (timestamp flow : ℕ) (credentials : List ℕ) → List Row
 negotiate_rows x f id timestamp flow credentials =
     row (is_idle f.connection.phase && not f.recorded.negotiated && bytes_eq id x.config.session && bytes_eq credentials x.config.credentials && flow == flow_code x.config.peer_flow)
-        (goes_on x Negotiated (negotiation_response x.config.session timestamp (flow_code x.config.own_flow) [] ∷ []) (negotiated f))
+    (goes_on x Negotiated (negotiation_response x.config.session timestamp (flow_code x.config.own_flow) [] ∷ []) (negotiated f))
     ∷ []
 
 -- Establish, where its checks pass

@@ -17,6 +17,6 @@ mod reply;
 
 pub use config::{EndConfig, EndState, Role};
 pub use ending::{Act, Ending, Violation};
-pub use laws::one_classification;
+pub use laws::{accepted_frame_grows, accepted_grow_recoverable, one_classification};
 pub use machine::End;
 pub use phase::Phase;

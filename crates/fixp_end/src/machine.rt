@@ -17,8 +17,7 @@ use crate::phase::Phase;
 use crate::replies::{reply_to, reply_to_bad_frame};
 use crate::reply::{Outgoing, Reply};
 use fixp_msgs::{
-    EstablishmentAck, NegotiationResponse, RetransmitReject, RetransmitRequest, SessionMsg,
-    Terminate, write,
+    EstablishmentAck, NegotiationResponse, RetransmitReject, SessionMsg, Terminate, write,
 };
 use sbe_prim::Order;
 use std::alloc::{AllocError, Global};
@@ -90,16 +89,7 @@ fn session_message(config: &EndConfig, message: Outgoing) -> SessionMsg<'static>
                 next_seq: None,
             })
         }
-        Outgoing::RetransmitRequest {
-            timestamp,
-            from_seq,
-            count,
-        } => SessionMsg::RetransmitRequest(RetransmitRequest {
-            session_id,
-            timestamp,
-            from_seq,
-            count,
-        }),
+        Outgoing::RetransmitRequest(request) => SessionMsg::RetransmitRequest(request),
         Outgoing::RetransmitReject {
             session_id,
             request_timestamp,

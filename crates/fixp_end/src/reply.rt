@@ -7,6 +7,7 @@ ghost use Rattle.fixp_end.specs.Outgoing.{messages_of, outgoing_message, outcome
 
 use crate::config::{Around, Facts};
 use crate::ending::{Act, Ending, Violation};
+use fixp_msgs::RetransmitRequest;
 use flow_retrans::BadStart;
 
 /// A message that an end writes.
@@ -18,11 +19,7 @@ pub enum Outgoing {
     EstablishmentAck {
         request_timestamp: u64,
     },
-    RetransmitRequest {
-        timestamp: u64,
-        from_seq: u64,
-        count: u32,
-    },
+    RetransmitRequest(RetransmitRequest),
     RetransmitReject {
         session_id: [u8; 16],
         request_timestamp: u64,
@@ -64,7 +61,8 @@ fn ask(around: &Around<'_>, facts: Facts) -> (Option<Outgoing>, Facts)
     let Some(range) = connection.requester.want(gap) else {
         return (None, facts);
     };
-    let request = Outgoing::RetransmitRequest {
+    let request = RetransmitRequest {
+        session_id: around.config.session,
         timestamp: around.moment * 1_000_000,
         from_seq: range.from,
         count: range.count as u32,
@@ -73,7 +71,7 @@ fn ask(around: &Around<'_>, facts: Facts) -> (Option<Outgoing>, Facts)
         connection,
         ..facts
     };
-    (Some(request), next)
+    (Some(Outgoing::RetransmitRequest(request)), next)
 }
 
 impl Reply {

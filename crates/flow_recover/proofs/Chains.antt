@@ -25,12 +25,12 @@ delivers_one next n payload later rest e = by_tests (n == next) (nat_lt next n) 
     by_tests false false e = e
 
 -- a message takes one number
-number_counted : (next live : ℕ) (again : Option ℕ)
+pub number_counted : (next live : ℕ) (again : Option ℕ)
     → number (after_message (record { next = next; live = live; again = again })) ≡ number (record { next = next; live = live; again = again }) + 1
 number_counted next live None = refl
 number_counted next live (Some n) = refl
 
-next_counted : (next live : ℕ) (again : Option ℕ)
+pub next_counted : (next live : ℕ) (again : Option ℕ)
     → (after_message (record { next = next; live = live; again = again })).next
     ≡ (if number (record { next = next; live = live; again = again }) == next then next + 1 else next)
 next_counted next live None = refl
