@@ -1,8 +1,8 @@
 -- The laws of the session machine.
 use Rattle.std.specs.Prelude.{◌≡◌, List, ℕ}
 use Rattle.sbe_prim.specs.declared.Order.{Order}
-use Rattle.fixp_end.specs.Hearing.{Said, Says}
+use Rattle.fixp_end.specs.Incoming.{Incoming, IsIncoming}
 
--- the message of a frame says one thing
-abbrev pub SaysOneThing : Type 0
-SaysOneThing = (order : Order) (message : List ℕ) (a b : Said) → Says order message a → Says order message b → a ≡ b
+-- the message of a frame is classified in one way
+abbrev pub ClassifiedOnce : Type 0
+ClassifiedOnce = (order : Order) (message : List ℕ) (a b : Incoming) → IsIncoming order message a → IsIncoming order message b → a ≡ b

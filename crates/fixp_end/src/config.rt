@@ -2,6 +2,8 @@
 
 use crate::phase::Phase;
 use fixp_msgs::Flow;
+use flow_recover::Receiver;
+use flow_retrans::Requester;
 use gw_outside::Bytes;
 
 /// Which side of the session an end is (FIXP 1.1, "Session roles").
@@ -44,9 +46,45 @@ pub struct EndState {
     pub finish: Option<u64>,
 }
 
-/// What a reply depends on, beside the configuration.
+/// What an end knows of the connection that it is in. It is made anew at each connection's beginning.
+#[derive(Clone, Copy, Debug, PartialEq, Eq)]
+pub struct Connection {
+    pub phase: Phase,
+    /// What is expected of the peer's flow, where it is recoverable.
+    pub receiver: Receiver,
+    /// What was asked for of the peer's flow.
+    pub requester: Requester,
+}
+
+impl Connection {
+    ghost use Rattle.std.specs.Prelude.{◌≡◌};
+    ghost use Rattle.fixp_end.specs.Facts.{new_connection};
+
+    /// A connection that begins in this phase, where this is recorded.
+    pub fn new(recorded: &EndState, phase: Phase) -> Connection
+        ensures { result ≡ new_connection recorded.now phase }
+    {
+        Connection {
+            phase,
+            receiver: Receiver::new(recorded.inbox_next),
+            requester: Requester::new(),
+        }
+    }
+}
+
+/// What a reply depends on, beside what stands around it: what is recorded, and what is known of the connection.
 #[derive(Clone, Copy, Debug, PartialEq, Eq)]
 pub struct Facts {
-    pub phase: Phase,
     pub recorded: EndState,
+    pub connection: Connection,
+}
+
+/// What stands around a reply: the configuration, the greatest number of an application message, the place of the frame
+/// in the connection's bytes, and the moment in milliseconds.
+#[derive(Clone, Copy, Debug)]
+pub struct Around<'a> {
+    pub config: &'a EndConfig,
+    pub most: u64,
+    pub at: u64,
+    pub moment: u64,
 }

@@ -1,20 +1,24 @@
 //! The session machine: an end keeps the facts of its session, answers each event by the reply table, and
 //! holds the bytes that it wrote until the link has taken them.
 
-ghost use Rattle.std.specs.Prelude.{◌≡◌, ℕ, ◌+◌, ◌^◌, ◌<◌, ◌≤◌, ◌++◌, [], length, drop, true, IsSome, IfSome, IfOk, OnOk, OnErr, None};
+ghost use Rattle.std.specs.Prelude.{◌≡◌, ℕ, ◌+◌, ◌^◌, ◌<◌, ◌≤◌, ◌++◌, [], ◌∷◌, length, drop, true, IsSome, IfSome, IfOk, OnOk, OnErr, None};
 ghost use Rattle.std.specs.List.{flat_map};
 ghost use Rattle.fixp_msgs.specs.Canonical.{frame_bytes};
+ghost use Rattle.fixp_msgs.specs.Message.{message_of};
 ghost use Rattle.fixp_msgs.specs.declared.flow.Flow.TheVariants.{Recoverable};
 ghost use Rattle.fixp_end.specs.declared.config.Role.TheVariants.{Acceptor};
-ghost use Rattle.fixp_end.specs.Reactions.{messages_of, outcome_of};
+ghost use Rattle.fixp_end.specs.Outgoing.{messages_of, outgoing_message, outcome_of, reply_limit};
 
-use crate::config::{EndConfig, EndState, Facts};
+use crate::config::{Around, Connection, EndConfig, EndState, Facts};
 use crate::ending::{Act, Ending};
-use crate::hearing::hear;
+use crate::incoming::classify;
 use crate::output::Output;
 use crate::phase::Phase;
-use crate::replies::{Reply, Say, reply_to, reply_to_bad_frame};
-use fixp_msgs::{EstablishmentAck, NegotiationResponse, SessionMsg, Terminate, write};
+use crate::replies::{reply_to, reply_to_bad_frame};
+use crate::reply::{Outgoing, Reply};
+use fixp_msgs::{
+    EstablishmentAck, NegotiationResponse, RetransmitReject, SessionMsg, Terminate, write,
+};
 use sbe_prim::Order;
 use std::alloc::{AllocError, Global};
 use std::marker::Model;
@@ -22,7 +26,7 @@ use std::marker::Model;
 /// How many frames `End::reserve` makes room for.
 const RESERVED_FRAMES: u8 = 16;
 
-/// The greatest message that an end writes without credentials and reasons, in bytes.
+/// The greatest message of a reply, in bytes: without credentials and reasons.
 const FRAME_BYTES: usize = 64;
 
 /// One end of a session, over any number of connections one after another.
@@ -35,7 +39,7 @@ pub struct End {
     facts: Facts,
     ending: Option<Ending>,
     output: Output,
-    undone: Option<Reply>,
+    pending: Option<Reply>,
     room: u8,
 }
 
@@ -46,7 +50,7 @@ impl Model for End {
 
     ghost Value = { State };
 
-    ghost use Rattle.fixp_end.specs.Reactions.{outcome_of};
+    ghost use Rattle.fixp_end.specs.Outgoing.{outcome_of};
 
     ghost view = { λ e. record {
       config = e.config;
@@ -56,52 +60,85 @@ impl Model for End {
       facts = e.facts;
       ending = e.ending;
       unsent = e.output;
-      undone = option_map (outcome_of e.config) e.undone;
+      pending = option_map (outcome_of e.config) e.pending;
       room = e.room;
     } };
 
     ghost invariant = { λ e. e.most ≤ 16777216 };
 }
 
-/// Writes the message of a reply at the end of the output.
-fn say(config: &EndConfig, output: &mut Output, message: Say)
-    requires { length output.old + 64 ≤ 5242880 }
-    ensures bytes { output.new ≡ output.old ++ flat_map frame_bytes (messages_of config.now message) }
-    ensures small { length output.new ≤ length output.old + 64 }
+/// A message of the configured session.
+fn session_message(config: &EndConfig, message: Outgoing) -> SessionMsg<'static>
+    ensures { message_of result ≡ outgoing_message config.now message }
 {
-    let mut frame = [0u8; FRAME_BYTES];
-    let message = match message {
-        Say::Nothing => return,
-        Say::NegotiationResponse { request_timestamp } => {
+    let session_id = config.session;
+    match message {
+        Outgoing::NegotiationResponse { request_timestamp } => {
             SessionMsg::NegotiationResponse(NegotiationResponse {
-                session_id: config.session,
+                session_id,
                 request_timestamp,
                 server_flow: config.own_flow.code(),
                 credentials: &[],
             })
         }
-        Say::EstablishmentAck { request_timestamp } => SessionMsg::EstablishmentAck(
-            EstablishmentAck {
-                session_id: config.session,
+        Outgoing::EstablishmentAck { request_timestamp } => {
+            SessionMsg::EstablishmentAck(EstablishmentAck {
+                session_id,
                 request_timestamp,
                 keepalive: config.keepalive,
                 next_seq: None,
-            },
-        ),
-        Say::Terminate { code } => SessionMsg::Terminate(Terminate {
-            session_id: config.session,
+            })
+        }
+        Outgoing::RetransmitRequest(request) => SessionMsg::RetransmitRequest(request),
+        Outgoing::RetransmitReject {
+            session_id,
+            request_timestamp,
+            code,
+        } => SessionMsg::RetransmitReject(RetransmitReject {
+            session_id,
+            request_timestamp,
             code,
             reason: &[],
         }),
+        Outgoing::Terminate { code } => SessionMsg::Terminate(Terminate {
+            session_id,
+            code,
+            reason: &[],
+        }),
+    }
+}
+
+/// Writes a message, if there is one, at the end of the output.
+fn write_outgoing(config: &EndConfig, output: &mut Output, message: Option<Outgoing>)
+    requires { length output.old + 64 ≤ 5242880 }
+    ensures bytes { output.new ≡ output.old ++ flat_map frame_bytes (messages_of config.now (message ∷ [])) }
+    ensures small { length output.new ≤ length output.old + 64 }
+{
+    let Some(message) = message else {
+        return;
     };
-    let size = write(&message, &mut frame);
+    let mut frame = [0u8; FRAME_BYTES];
+    let size = write(&session_message(config, message), &mut frame);
     output.append(&frame[..size]);
+}
+
+/// Writes the messages of a reply at the end of the output, in order.
+fn write_all(config: &EndConfig, output: &mut Output, written: &[Option<Outgoing>])
+    requires four { length written.now ≤ 4 }
+    requires room { length output.old + reply_limit ≤ 5242880 }
+    ensures bytes { output.new ≡ output.old ++ flat_map frame_bytes (messages_of config.now written.now) }
+    ensures small { length output.new ≤ length output.old + reply_limit }
+{
+    for message in written {
+        write_outgoing(config, output, *message);
+    }
 }
 
 impl End {
     ghost use Rattle.fixp_end.specs.Phases.{is_idle};
     ghost use Rattle.fixp_end.specs.Replies.{reply_to_bad_frame};
-    ghost use Rattle.fixp_end.specs.Machine.{fresh, connected, settled, phase_of, AnswersFrame};
+    ghost use Rattle.fixp_end.specs.Facts.{around_of};
+    ghost use Rattle.fixp_end.specs.Machine.{fresh, connected, around, reply_applied, link_ended, phase_of, AnswersFrame};
 
     /// A new end that has begun no connection. `most` is the greatest number of an application message.
     ///
@@ -128,12 +165,12 @@ impl End {
             begun: false,
             moment: 0,
             facts: Facts {
-                phase: Phase::Idle,
                 recorded: state,
+                connection: Connection::new(&state, Phase::Idle),
             },
             ending: None,
             output,
-            undone: None,
+            pending: None,
             room: 0,
         })
     }
@@ -148,10 +185,10 @@ impl End {
     {
         self.begun = true;
         self.moment = now;
-        self.facts.phase = Phase::Idle;
+        self.facts.connection = Connection::new(&self.facts.recorded, Phase::Idle);
         self.ending = None;
         self.output.clear();
-        self.undone = None;
+        self.pending = None;
     }
 
     /// Makes room for 16 frames.
@@ -174,57 +211,71 @@ impl End {
         requires most { length message.now ≤ 16384 }
         requires begun { self.old.begun ≡ true }
         requires open { self.old.ending ≡ None }
-        requires done { self.old.undone ≡ None }
+        requires done { self.old.pending ≡ None }
         requires room { 0 < self.old.room }
         requires output { length self.old.unsent ≤ 1000000 }
         requires time { (self.old.moment ≤ now) × (now < 2 ^ 44) }
         ensures reply { AnswersFrame self.old self.new order message.now at now result }
-        ensures small { length self.new.unsent ≤ length self.old.unsent + 64 }
+        ensures small { length self.new.unsent ≤ length self.old.unsent + reply_limit }
     {
-        let reply = reply_to(
-            &self.config,
-            self.most,
-            self.facts,
-            &hear(order, message),
-            at,
-        );
+        let around = self.around(at, now);
+        let reply = reply_to(&around, self.facts, &classify(order, message));
         self.moment = now;
         self.room -= 1;
-        if reply.act.is_record() {
-            self.undone = Some(reply);
+        let act = reply.act;
+        if act.is_record() {
+            self.pending = Some(reply);
         } else {
-            self.settle(reply);
+            self.apply_reply(reply);
         }
-        reply.act
+        act
     }
 
     /// Answers bytes at the place `at` of the connection that are no frame.
     pub fn on_bad_frame(&mut self, at: u64, now: u64)
         requires begun { self.old.begun ≡ true }
         requires open { self.old.ending ≡ None }
-        requires done { self.old.undone ≡ None }
+        requires done { self.old.pending ≡ None }
         requires output { length self.old.unsent ≤ 5100000 }
         requires time { (self.old.moment ≤ now) × (now < 2 ^ 44) }
-        ensures reply { self.new ≡ settled (record self.old { moment = now }) (reply_to_bad_frame self.old.config self.old.facts at) }
-        ensures small { length self.new.unsent ≤ length self.old.unsent + 64 }
+        ensures reply { self.new ≡ reply_applied (record self.old { moment = now }) (reply_to_bad_frame (around self.old at now) self.old.facts) }
+        ensures small { length self.new.unsent ≤ length self.old.unsent + reply_limit }
     {
-        let reply = reply_to_bad_frame(&self.config, self.facts, at);
+        let reply = reply_to_bad_frame(&self.around(at, now), self.facts);
         self.moment = now;
-        self.settle(reply);
+        self.apply_reply(reply);
     }
 
     /// The act of the last frame is stable: its reply takes effect.
     pub fn did(&mut self, now: u64)
-        requires undone { IsSome self.old.undone }
+        requires pending { IsSome self.old.pending }
         requires output { length self.old.unsent ≤ 5100000 }
         requires time { (self.old.moment ≤ now) × (now < 2 ^ 44) }
-        ensures reply { IfSome self.old.undone (λ outcome. self.new ≡ settled (record self.old { moment = now }) outcome) }
-        ensures small { length self.new.unsent ≤ length self.old.unsent + 64 }
+        ensures reply { IfSome self.old.pending (λ outcome. self.new ≡ reply_applied (record self.old { moment = now }) outcome) }
+        ensures small { length self.new.unsent ≤ length self.old.unsent + reply_limit }
     {
         self.moment = now;
-        if let Some(reply) = self.undone {
-            self.settle(reply);
+        if let Some(reply) = self.pending {
+            self.apply_reply(reply);
         }
+    }
+
+    /// No more bytes come: the connection ends, if it has not ended.
+    pub fn on_link_end(&mut self)
+        requires { self.old.begun ≡ true }
+        ensures { self.new ≡ link_ended self.old }
+    {
+        if self.ending.is_none() {
+            self.ending = Some(Ending::LinkEnded);
+            self.pending = None;
+        }
+    }
+
+    /// How many entries of the outbox were sent or begun.
+    pub fn sent(&self) -> u64
+        ensures { result ≡ self.now.facts.recorded.sent }
+    {
+        self.facts.recorded.sent
     }
 
     /// The bytes that were written and not taken yet.
@@ -248,7 +299,7 @@ impl End {
     {
         match self.ending {
             Some(_) => Phase::Ended,
-            None => self.facts.phase,
+            None => self.facts.connection.phase,
         }
     }
 
@@ -259,15 +310,27 @@ impl End {
         self.ending
     }
 
-    /// The reply takes effect.
-    fn settle(&mut self, reply: Reply)
-        requires { length self.old.unsent ≤ 5100000 }
-        ensures settled { self.new ≡ settled self.old (outcome_of self.old.config reply) }
-        ensures small { length self.new.unsent ≤ length self.old.unsent + 64 }
+    /// What stands around a reply to a frame at this place and moment.
+    fn around(&self, at: u64, now: u64) -> Around<'_>
+        ensures { around_of result ≡ around self.now at now }
     {
-        say(&self.config, &mut self.output, reply.say);
+        Around {
+            config: &self.config,
+            most: self.most,
+            at,
+            moment: now,
+        }
+    }
+
+    /// A reply takes effect.
+    fn apply_reply(&mut self, reply: Reply)
+        requires { length self.old.unsent ≤ 5100000 }
+        ensures applied { self.new ≡ reply_applied self.old (outcome_of self.old.config reply) }
+        ensures small { length self.new.unsent ≤ length self.old.unsent + reply_limit }
+    {
+        write_all(&self.config, &mut self.output, &reply.written);
         self.facts = reply.next;
         self.ending = reply.ending;
-        self.undone = None;
+        self.pending = None;
     }
 }

@@ -1,218 +1,76 @@
-//! The reply table: for each message, the row that answers it. A message without a row is not built yet.
+//! The reply table: for each incoming message, the row that answers it. A message without a row is not built yet.
 
-ghost use Rattle.std.specs.Prelude.{◌≡◌, ℕ, ◌^◌, ◌≤◌};
-ghost use Rattle.fixp_msgs.specs.Message.{message_of, negotiate, establish, sequence, unsequenced_heartbeat, terminate};
-ghost use Rattle.fixp_end.specs.Hearing.{application, session, said_by};
-ghost use Rattle.fixp_end.specs.Replies.{first_row, rows_of, not_built, goes_on, ends, breaks, is_answered, reply_of, reply_to_bad_frame};
-ghost use Rattle.fixp_end.specs.Reactions.{outcome_of};
-ghost use Rattle.fixp_end.specs.declared.ending.Violation.TheVariants.{BadFrame};
+ghost use Rattle.std.specs.Prelude.{◌≡◌, ◌<◌, ◌≤◌, ◌^◌};
+ghost use Rattle.fixp_msgs.specs.Message.{message_of};
+ghost use Rattle.fixp_end.specs.Incoming.{session, incoming_of};
+ghost use Rattle.fixp_end.specs.Facts.{around_of};
+ghost use Rattle.fixp_end.specs.Replies.{first_row, rows_of, retransmit_request_rows, is_answered, reply_of, reply_to_bad_frame};
+ghost use Rattle.fixp_end.specs.Outgoing.{outcome_of};
 
-use crate::config::{EndConfig, EndState, Facts, Role};
-use crate::ending::{Act, Ending, Violation};
-use crate::hearing::Heard;
-use crate::phase::{Phase, is_established, is_idle};
-use fixp_msgs::{Establish, Flow, Negotiate, SessionMsg, Terminate};
+use crate::announcing::is_recoverable;
+use crate::config::{Around, EndConfig, Facts, Role};
+use crate::ending::Violation;
+use crate::handshake::{on_establish, on_heartbeat, on_negotiate, on_terminate};
+use crate::incoming::Incoming;
+use crate::phase::is_established;
+use crate::receiving::{on_application, on_retransmission, on_retransmit_reject, on_sequence};
+use crate::reply::{Outgoing, Reply};
+use fixp_msgs::{Flow, RetransmitRequest, SessionMsg};
+use flow_retrans::judge;
 
-/// What an end writes about one event.
-#[derive(Clone, Copy, Debug)]
-pub enum Say {
-    Nothing,
-    NegotiationResponse { request_timestamp: u64 },
-    EstablishmentAck { request_timestamp: u64 },
-    Terminate { code: u8 },
-}
-
-/// What an end does at one event.
-#[derive(Clone, Copy, Debug)]
-pub struct Reply {
-    /// What the caller is to do.
-    pub act: Act,
-    /// What is written once the act is done.
-    pub say: Say,
-    /// The facts from then on.
-    pub next: Facts,
-    /// The connection's ending, if this is it.
-    pub ending: Option<Ending>,
-}
-
-impl Reply {
-    /// The connection ends without a word, since no row answers the event yet.
-    fn not_built(facts: Facts) -> Reply
-        ensures { (cfg : _) → outcome_of cfg result ≡ not_built facts }
-    {
-        Reply {
-            act: Act::Ended,
-            say: Say::Nothing,
-            next: facts,
-            ending: Some(Ending::NotBuilt),
-        }
-    }
-
-    /// The connection goes on as it was.
-    fn goes_on(facts: Facts) -> Reply
-        ensures { (cfg : _) → outcome_of cfg result ≡ goes_on facts }
-    {
-        Reply {
-            act: Act::Nothing,
-            say: Say::Nothing,
-            next: facts,
-            ending: None,
-        }
-    }
-
-    /// The connection ends with a Terminate.
-    fn ends(facts: Facts, code: u8, ending: Ending) -> Reply
-        ensures { (cfg : _) → outcome_of cfg result ≡ ends cfg facts code ending }
-    {
-        Reply {
-            act: Act::Ended,
-            say: Say::Terminate { code },
-            next: facts,
-            ending: Some(ending),
-        }
-    }
-
-    /// The peer broke a rule: unspecified error.
-    fn breaks(facts: Facts, violation: Violation) -> Reply
-        ensures { (cfg : _) → outcome_of cfg result ≡ breaks cfg facts violation }
-    {
-        Reply::ends(facts, 2, Ending::Violation(violation))
-    }
-}
-
-/// Whether the rows for this configuration are built: an acceptor of an unsequenced flow that sends none.
+/// Whether the rows for this configuration are built: an acceptor that sends no flow, and reads none, an unsequenced one
+/// or a recoverable one.
 fn is_answered(cfg: &EndConfig) -> bool
     ensures { result ≡ is_answered cfg.now }
 {
     match (cfg.role, cfg.own_flow, cfg.peer_flow) {
         (Role::Acceptor, Flow::None, Flow::Unsequenced) => true,
+        (Role::Acceptor, Flow::None, Flow::Recoverable) => true,
+        (Role::Acceptor, Flow::None, Flow::None) => true,
         _ => false,
     }
 }
 
-fn on_application(most: u64, facts: Facts) -> Reply
-    requires { most ≤ 2 ^ 24 }
-    ensures { (cfg : _) (at : ℕ) → outcome_of cfg result ≡ first_row facts (rows_of cfg most facts application at) }
+fn on_retransmit_request(around: &Around<'_>, facts: Facts, m: &RetransmitRequest) -> Reply
+    ensures { outcome_of around.now.config.now result ≡ first_row facts
+        (retransmit_request_rows (around_of around.now) facts m.now.session_id m.now.timestamp m.now.from_seq m.now.count) }
 {
-    let number = facts.recorded.inbox_next;
-    let applies = is_established(facts.phase)
-        && facts.recorded.peer_last.is_none()
-        && number <= most;
-    if !applies {
+    if !is_established(facts.connection.phase) {
         return Reply::not_built(facts);
     }
-    let recorded = EndState {
-        inbox_next: number + 1,
-        ..facts.recorded
-    };
-    Reply {
-        act: Act::Apply { number },
-        say: Say::Nothing,
-        next: Facts { recorded, ..facts },
-        ending: None,
+    let own = m.session_id == around.config.session;
+    let recoverable = is_recoverable(around.config.own_flow);
+    match judge(own, recoverable, m.from_seq, m.count, facts.recorded.sent) {
+        Ok(_range) => Reply::not_built(facts),
+        Err(code) => {
+            let reject = Outgoing::RetransmitReject {
+                session_id: m.session_id,
+                request_timestamp: m.timestamp,
+                code: code.code(),
+            };
+            Reply::rejects(reject, facts)
+        }
     }
 }
 
-fn on_negotiate(cfg: &EndConfig, facts: Facts, m: &Negotiate<'_>) -> Reply
-    ensures { (most at : ℕ) → outcome_of cfg.now result ≡ first_row facts
-        (rows_of cfg.now most facts (session (negotiate m.now.session_id m.now.timestamp m.now.client_flow m.now.credentials.now)) at) }
-{
-    let applies = is_idle(facts.phase)
-        && !facts.recorded.negotiated
-        && m.session_id == cfg.session
-        && m.credentials == cfg.credentials.as_slice()
-        && m.client_flow == cfg.peer_flow.code();
-    if !applies {
-        return Reply::not_built(facts);
-    }
-    let recorded = EndState {
-        negotiated: true,
-        ..facts.recorded
-    };
-    Reply {
-        act: Act::Negotiated,
-        say: Say::NegotiationResponse {
-            request_timestamp: m.timestamp,
-        },
-        next: Facts { recorded, ..facts },
-        ending: None,
-    }
-}
-
-fn on_establish(cfg: &EndConfig, facts: Facts, m: &Establish<'_>) -> Reply
-    ensures { (most at : ℕ) → outcome_of cfg.now result ≡ first_row facts
-        (rows_of cfg.now most facts (session (establish m.now.session_id m.now.timestamp m.now.keepalive m.now.next_seq m.now.credentials.now)) at) }
-{
-    let applies = is_idle(facts.phase)
-        && facts.recorded.negotiated
-        && m.session_id == cfg.session
-        && 100 <= m.keepalive
-        && m.keepalive <= 60000
-        && m.credentials == cfg.credentials.as_slice();
-    if !applies {
-        return Reply::not_built(facts);
-    }
-    Reply {
-        act: Act::Nothing,
-        say: Say::EstablishmentAck {
-            request_timestamp: m.timestamp,
-        },
-        next: Facts {
-            phase: Phase::Established,
-            ..facts
-        },
-        ending: None,
-    }
-}
-
-fn on_terminate(cfg: &EndConfig, facts: Facts, m: &Terminate<'_>) -> Reply
-    ensures { (most at : ℕ) → outcome_of cfg.now result ≡ first_row facts
-        (rows_of cfg.now most facts (session (terminate m.now.session_id m.now.code m.now.reason.now)) at) }
-{
-    if m.session_id == cfg.session {
-        Reply::ends(facts, 1, Ending::PeerTerminated { code: m.code })
-    } else {
-        Reply::not_built(facts)
-    }
-}
-
-/// The heartbeat of a numbered flow; its number says nothing on an unsequenced flow.
-fn on_sequence(facts: Facts) -> Reply
-    ensures { (cfg : _) (most next at : ℕ) → outcome_of cfg result ≡ first_row facts (rows_of cfg most facts (session (sequence next)) at) }
-{
-    if is_established(facts.phase) {
-        Reply::goes_on(facts)
-    } else {
-        Reply::not_built(facts)
-    }
-}
-
-fn on_heartbeat(facts: Facts) -> Reply
-    ensures { (cfg : _) (most at : ℕ) → outcome_of cfg result ≡ first_row facts (rows_of cfg most facts (session unsequenced_heartbeat) at) }
-{
-    if is_idle(facts.phase) || is_established(facts.phase) {
-        Reply::goes_on(facts)
-    } else {
-        Reply::not_built(facts)
-    }
-}
-
-fn on_session(cfg: &EndConfig, facts: Facts, m: &SessionMsg<'_>) -> Reply
-    ensures { (most at : ℕ) → outcome_of cfg.now result ≡ first_row facts (rows_of cfg.now most facts (session (message_of m.now)) at) }
+fn on_session(around: &Around<'_>, facts: Facts, m: &SessionMsg<'_>) -> Reply
+    requires moment { around.now.moment < 2 ^ 44 }
+    requires most { around.now.most ≤ 2 ^ 24 }
+    ensures { outcome_of around.now.config.now result ≡ first_row facts (rows_of (around_of around.now) facts (session (message_of m.now))) }
 {
     match m {
-        SessionMsg::Negotiate(m) => on_negotiate(cfg, facts, m),
-        SessionMsg::Establish(m) => on_establish(cfg, facts, m),
-        SessionMsg::Sequence(_) => on_sequence(facts),
-        SessionMsg::UnsequencedHeartbeat(_) => on_heartbeat(facts),
-        SessionMsg::Terminate(m) => on_terminate(cfg, facts, m),
+        SessionMsg::Negotiate(m) => on_negotiate(around, facts, m),
+        SessionMsg::Establish(m) => on_establish(around, facts, m),
+        SessionMsg::Sequence(m) => on_sequence(around, facts, m.next_seq),
+        SessionMsg::UnsequencedHeartbeat(_) => on_heartbeat(around, facts),
+        SessionMsg::RetransmitRequest(m) => on_retransmit_request(around, facts, m),
+        SessionMsg::Retransmission(m) => on_retransmission(around, facts, m),
+        SessionMsg::RetransmitReject(m) => on_retransmit_reject(around, facts, m),
+        SessionMsg::Terminate(m) => on_terminate(around, facts, m),
         SessionMsg::NegotiationResponse(_)
         | SessionMsg::NegotiationReject(_)
         | SessionMsg::EstablishmentAck(_)
         | SessionMsg::EstablishmentReject(_)
-        | SessionMsg::RetransmitRequest(_)
-        | SessionMsg::Retransmission(_)
-        | SessionMsg::RetransmitReject(_)
         | SessionMsg::Applied(_)
         | SessionMsg::NotApplied(_)
         | SessionMsg::FinishedSending(_)
@@ -220,28 +78,31 @@ fn on_session(cfg: &EndConfig, facts: Facts, m: &SessionMsg<'_>) -> Reply
     }
 }
 
-/// The reply to a frame that says this, at this place of the connection's bytes.
-pub fn reply_to(cfg: &EndConfig, most: u64, facts: Facts, heard: &Heard<'_>, at: u64) -> Reply
-    requires { most ≤ 2 ^ 24 }
-    ensures { outcome_of cfg.now result ≡ reply_of cfg.now most facts (said_by heard.now) at }
+/// The reply to an incoming message.
+pub fn reply_to(around: &Around<'_>, facts: Facts, incoming: &Incoming<'_>) -> Reply
+    requires moment { around.now.moment < 2 ^ 44 }
+    requires most { around.now.most ≤ 2 ^ 24 }
+    ensures { outcome_of around.now.config.now result ≡ reply_of (around_of around.now) facts (incoming_of incoming.now) }
 {
-    if !is_answered(cfg) {
+    if !is_answered(around.config) {
         return Reply::not_built(facts);
     }
-    match heard {
-        Heard::Application => on_application(most, facts),
-        Heard::Session(m) => on_session(cfg, facts, m),
-        Heard::WrongOrder | Heard::TooShort => Reply::breaks(facts, Violation::BadFrame { at }),
-        Heard::Unknown(_) => Reply::not_built(facts),
+    match incoming {
+        Incoming::Application { .. } => on_application(around, facts),
+        Incoming::Session(m) => on_session(around, facts, m),
+        Incoming::WrongOrder | Incoming::TooShort => {
+            Reply::breaks(around, facts, Violation::BadFrame { at: around.at })
+        }
+        Incoming::Unknown(_) => Reply::not_built(facts),
     }
 }
 
 /// The reply to bytes at this place that are no frame.
-pub fn reply_to_bad_frame(cfg: &EndConfig, facts: Facts, at: u64) -> Reply
-    ensures { outcome_of cfg.now result ≡ reply_to_bad_frame cfg.now facts at }
+pub fn reply_to_bad_frame(around: &Around<'_>, facts: Facts) -> Reply
+    ensures { outcome_of around.now.config.now result ≡ reply_to_bad_frame (around_of around.now) facts }
 {
-    if is_answered(cfg) {
-        Reply::breaks(facts, Violation::BadFrame { at })
+    if is_answered(around.config) {
+        Reply::breaks(around, facts, Violation::BadFrame { at: around.at })
     } else {
         Reply::not_built(facts)
     }

@@ -10,16 +10,16 @@ use Rattle.sofh_frame.proofs.SplitLemmas.{drop-spelled}
 use Rattle.fixp_msgs.proofs.Rows.{at_most_one}
 use Rattle.fixp_end.specs.declared.config.EndConfig.{EndConfig}
 use Rattle.fixp_end.specs.declared.ending.Ending.{Ending}
-use Rattle.fixp_end.specs.Hearing.{Said, Says}
+use Rattle.fixp_end.specs.Incoming.{Incoming, IsIncoming}
 use Rattle.fixp_end.specs.Replies.{reply_of}
 use Rattle.fixp_end.specs.Machine.{written_bytes}
-use Rattle.fixp_end.proofs.OneThing.{one_thing}
+use Rattle.fixp_end.proofs.OneClass.{classified_once}
 use Rattle.gateway.specs.Lines.{line_of}
-use Rattle.gateway.specs.Answer.{Heard, SaysSo, Stage, answered, next_stage, first_stage, stage_after, greatest_number, Answer, ended_answer, tail_answer, answer_at_end, answer_after, IsAnswer, OneAnswer}
+use Rattle.gateway.specs.Answer.{Received, IsClassified, Stage, answered, next_stage, first_stage, stage_after, around_place, Answer, ended_answer, tail_answer, answer_at_end, answer_after, IsAnswer, OneAnswer}
 use Rattle.gateway.specs.Promise.{Begins}
 
-abbrev pub frames_in : List Heard → List Frame
-frames_in heard = map (λ (h : Heard). h.frame) heard
+abbrev pub frames_in : List Received → List Frame
+frames_in received = map (λ (h : Received). h.frame) received
 
 -- ---- two lists of frames that the same bytes begin with
 
@@ -37,18 +37,18 @@ same_rest : (f g : Frame) (more other : List ℕ) → f ≡ g → spelled f ++ m
 same_rest f g more other same e =
     sym (drop-spelled f more) ∙ ap (drop (6 + length f.message)) e ∙ ap (λ (x : Frame). drop (6 + length x.message) (spelled g ++ other)) same ∙ drop-spelled g other
 
-same_heard : (x y : Heard) → x.frame ≡ y.frame → SaysSo x → SaysSo y → x ≡ y
-same_heard x y same sx sy =
-    let P : Frame → Type 0 = λ f. Says f.order f.message y.said in
-    let said : x.said ≡ y.said = one_thing at_most_one x.frame.order x.frame.message x.said y.said sx (subst P (sym same) sy) in
-    ap (λ (f : Frame). record { frame = f; said = x.said }) same ∙ ap (λ (s : Said). record { frame = y.frame; said = s }) said
+same_received : (x y : Received) → x.frame ≡ y.frame → IsClassified x → IsClassified y → x ≡ y
+same_received x y same sx sy =
+    let P : Frame → Type 0 = λ f. IsIncoming f.order f.message y.incoming in
+    let one : x.incoming ≡ y.incoming = classified_once at_most_one x.frame.order x.frame.message x.incoming y.incoming sx (subst P (sym same) sy) in
+    ap (λ (f : Frame). record { frame = f; incoming = x.incoming }) same ∙ ap (λ (m : Incoming). record { frame = y.frame; incoming = m }) one
 
 -- one list goes on where the other ends
-abbrev pub Continues : List Heard → List Heard → Type 0
-Continues a b = (more : List Heard) × (b ≡ a ++ more)
+abbrev pub Continues : List Received → List Received → Type 0
+Continues a b = (more : List Received) × (b ≡ a ++ more)
 
-pub comparable : (a b : List Heard) (s t : List ℕ) → spelled_all (frames_in a) ++ s ≡ spelled_all (frames_in b) ++ t
-    → AllByRecursion IsFrame (frames_in a) → AllByRecursion IsFrame (frames_in b) → AllByRecursion SaysSo a → AllByRecursion SaysSo b
+pub comparable : (a b : List Received) (s t : List ℕ) → spelled_all (frames_in a) ++ s ≡ spelled_all (frames_in b) ++ t
+    → AllByRecursion IsFrame (frames_in a) → AllByRecursion IsFrame (frames_in b) → AllByRecursion IsClassified a → AllByRecursion IsClassified b
     → Continues a b ⊎ Continues b a
 comparable [] b s t e fa fb sa sb = inl (b, refl)
 comparable (x ∷ a) [] s t e fa fb sa sb = inr (x ∷ a, refl)
@@ -56,10 +56,10 @@ comparable (x ∷ a) (y ∷ b) s t e fa fb sa sb =
     let regrouped : spelled x.frame ++ (spelled_all (frames_in a) ++ s) ≡ spelled y.frame ++ (spelled_all (frames_in b) ++ t) =
     sym (append_assoc (spelled x.frame) (spelled_all (frames_in a)) s) ∙ e ∙ append_assoc (spelled y.frame) (spelled_all (frames_in b)) t in
     let same : x.frame ≡ y.frame = same_first x.frame y.frame _ _ fa.0 fb.0 regrouped in
-    let first : x ≡ y = same_heard x y same sa.0 sb.0 in
+    let first : x ≡ y = same_received x y same sa.0 sb.0 in
     elim (comparable a b s t (same_rest x.frame y.frame _ _ same regrouped) fa.1 fb.1 sa.1 sb.1) as (λ _. Continues (x ∷ a) (y ∷ b) ⊎ Continues (y ∷ b) (x ∷ a)) [
-      | inl m ↦ inl (m.0, ap (λ (l : List Heard). y ∷ l) m.1 ∙ ap (λ (h : Heard). h ∷ (a ++ m.0)) (sym first))
-      | inr m ↦ inr (m.0, ap (λ (l : List Heard). x ∷ l) m.1 ∙ ap (λ (h : Heard). h ∷ (b ++ m.0)) first)
+      | inl m ↦ inl (m.0, ap (λ (l : List Received). y ∷ l) m.1 ∙ ap (λ (h : Received). h ∷ (a ++ m.0)) (sym first))
+      | inr m ↦ inr (m.0, ap (λ (l : List Received). x ∷ l) m.1 ∙ ap (λ (h : Received). h ∷ (b ++ m.0)) first)
     ]
 
 -- ---- what stands at the front stays
@@ -84,28 +84,28 @@ Grows-refl s = record { wire = Begins-refl s.wire; out = Begins-refl s.out }
 Grows-trans : (s t u : Stage) → Grows s t → Grows t u → Grows s u
 Grows-trans s t u p q = record { wire = Begins-trans _ _ _ p.wire q.wire; out = Begins-trans _ _ _ p.out q.out }
 
-next_stage-grows : (cfg : EndConfig) (s : Stage) (h : Heard) → Grows s (next_stage cfg s h)
+next_stage-grows : (cfg : EndConfig) (s : Stage) (h : Received) → Grows s (next_stage cfg s h)
 next_stage-grows cfg s h =
-    let o = reply_of cfg greatest_number s.facts h.said s.place in
+    let o = reply_of (around_place cfg s.place) s.facts h.incoming in
     elim (is_some s.ending) as (λ b. Grows s (cond b s (answered s h o))) [
       | true ↦ Grows-refl s
       | false ↦ record { wire = Begins-more s.wire (written_bytes o); out = Begins-more s.out (line_of o.act h.frame) }
     ]
 
-pub fold-grows : (cfg : EndConfig) (s : Stage) (heard : List Heard) → Grows s (fold (next_stage cfg) s heard)
+pub fold-grows : (cfg : EndConfig) (s : Stage) (received : List Received) → Grows s (fold (next_stage cfg) s received)
 fold-grows cfg s [] = Grows-refl s
-fold-grows cfg s (h ∷ heard) = Grows-trans _ _ _ (next_stage-grows cfg s h) (fold-grows cfg (next_stage cfg s h) heard)
+fold-grows cfg s (h ∷ received) = Grows-trans _ _ _ (next_stage-grows cfg s h) (fold-grows cfg (next_stage cfg s h) received)
 
-pub stage_after-append : (cfg : EndConfig) (a b : List Heard) → stage_after cfg (a ++ b) ≡ fold (next_stage cfg) (stage_after cfg a) b
+pub stage_after-append : (cfg : EndConfig) (a b : List Received) → stage_after cfg (a ++ b) ≡ fold (next_stage cfg) (stage_after cfg a) b
 stage_after-append cfg a b = fold-append (next_stage cfg) first_stage a b
 
 -- a connection that has ended stays so
-next_stage-ended : (cfg : EndConfig) (s : Stage) (h : Heard) (e : Ending) → s.ending ≡ Some e → next_stage cfg s h ≡ s
+next_stage-ended : (cfg : EndConfig) (s : Stage) (h : Received) (e : Ending) → s.ending ≡ Some e → next_stage cfg s h ≡ s
 next_stage-ended cfg s h e ended = rw ended refl
 
-fold-ended : (cfg : EndConfig) (s : Stage) (heard : List Heard) (e : Ending) → s.ending ≡ Some e → fold (next_stage cfg) s heard ≡ s
+fold-ended : (cfg : EndConfig) (s : Stage) (received : List Received) (e : Ending) → s.ending ≡ Some e → fold (next_stage cfg) s received ≡ s
 fold-ended cfg s [] e ended = refl
-fold-ended cfg s (h ∷ heard) e ended = ap (λ (t : Stage). fold (next_stage cfg) t heard) (next_stage-ended cfg s h e ended) ∙ fold-ended cfg s heard e ended
+fold-ended cfg s (h ∷ received) e ended = ap (λ (t : Stage). fold (next_stage cfg) t received) (next_stage-ended cfg s h e ended) ∙ fold-ended cfg s received e ended
 
 -- the answer begins with the stage that it ends at
 answer_at_end-begins : (cfg : EndConfig) (s : Stage) (tail : List ℕ) (ending : Option Ending) → Begins s.wire (answer_at_end cfg s tail ending).wire × Begins s.out (answer_at_end cfg s tail ending).out
@@ -120,15 +120,15 @@ answer_at_end-begins cfg s tail None =
 
 -- ---- no frame stands behind those of an answer, unless the connection ended
 
-no_frame : (h : Heard) (heard : List Heard) (tail end : List ℕ) → tail ≡ spelled_all (frames_in (h ∷ heard)) ++ end → IsFrame h.frame → IsNoFrame (first_of tail) → ⊥
-no_frame h heard tail end e of_h none =
+no_frame : (h : Received) (received : List Received) (tail end : List ℕ) → tail ≡ spelled_all (frames_in (h ∷ received)) ++ end → IsFrame h.frame → IsNoFrame (first_of tail) → ⊥
+no_frame h received tail end e of_h none =
     let found : first_of tail ≡ frame h.frame.order h.frame.message (6 + length h.frame.message) =
-    ap first_of (e ∙ append_assoc (spelled h.frame) (spelled_all (frames_in heard)) end) ∙ frame-begins h.frame _ of_h in
+    ap first_of (e ∙ append_assoc (spelled h.frame) (spelled_all (frames_in received)) end) ∙ frame-begins h.frame _ of_h in
     let P : First → Type 0 = IsNoFrame in
     subst P found none
 
 -- behind the frames of an answer that did not end the connection, the other list has no more
-nothing_more : (cfg : EndConfig) (x : List Heard) (m : List Heard) (tail end : List ℕ) → spelled_all (frames_in x) ++ tail ≡ spelled_all (frames_in (x ++ m)) ++ end
+nothing_more : (cfg : EndConfig) (x : List Received) (m : List Received) (tail end : List ℕ) → spelled_all (frames_in x) ++ tail ≡ spelled_all (frames_in (x ++ m)) ++ end
     → AllByRecursion IsFrame (frames_in (x ++ m)) → IsNoFrame (first_of tail) → m ≡ []
 nothing_more cfg [] [] tail end e each none = refl
 nothing_more cfg [] (h ∷ m) tail end e each none = absurd (no_frame h m tail end e each.0 none)
@@ -137,62 +137,62 @@ nothing_more cfg (y ∷ x) m tail end e each none =
     sym (append_assoc (spelled y.frame) (spelled_all (frames_in x)) tail) ∙ e ∙ append_assoc (spelled y.frame) (spelled_all (frames_in (x ++ m))) end in
     nothing_more cfg x m tail end (same_rest y.frame y.frame _ _ refl regrouped) each.1 none
 
-same_tail : (x : List Heard) (s t : List ℕ) → spelled_all (frames_in x) ++ s ≡ spelled_all (frames_in x) ++ t → s ≡ t
+same_tail : (x : List Received) (s t : List ℕ) → spelled_all (frames_in x) ++ s ≡ spelled_all (frames_in x) ++ t → s ≡ t
 same_tail [] s t e = e
 same_tail (y ∷ x) s t e =
     same_tail x s t (same_rest y.frame y.frame _ _ refl (sym (append_assoc (spelled y.frame) (spelled_all (frames_in x)) s) ∙ e ∙ append_assoc (spelled y.frame) (spelled_all (frames_in x)) t))
 
 -- a list of frames that goes on behind those of an answer makes the same stage
-same_stage : (cfg : EndConfig) (input : List ℕ) (answer : Answer) (x : IsAnswer cfg input answer) (heard m : List Heard) (more : List ℕ)
-    → input ≡ spelled_all (frames_in heard) ++ more → AllByRecursion IsFrame (frames_in heard) → heard ≡ x.heard ++ m
-    → (ending : Option Ending) → (stage_after cfg x.heard).ending ≡ ending → stage_after cfg heard ≡ stage_after cfg x.heard
-same_stage cfg input answer x heard m more joins each goes_on (Some e) ended =
-    ap (stage_after cfg) goes_on ∙ stage_after-append cfg x.heard m ∙ fold-ended cfg (stage_after cfg x.heard) m e ended
-same_stage cfg input answer x heard m more joins each goes_on None going =
-    let P : List Heard → Type 0 = λ l. AllByRecursion IsFrame (frames_in l) in
-    let none : m ≡ [] = nothing_more cfg x.heard m x.tail more (sym x.joins ∙ joins ∙ ap (λ (l : List Heard). spelled_all (frames_in l) ++ more) goes_on) (subst P goes_on each) (x.all going) in
-    ap (stage_after cfg) (goes_on ∙ ap (λ (l : List Heard). x.heard ++ l) none ∙ append-nil x.heard)
+same_stage : (cfg : EndConfig) (input : List ℕ) (answer : Answer) (x : IsAnswer cfg input answer) (received m : List Received) (more : List ℕ)
+    → input ≡ spelled_all (frames_in received) ++ more → AllByRecursion IsFrame (frames_in received) → received ≡ x.received ++ m
+    → (ending : Option Ending) → (stage_after cfg x.received).ending ≡ ending → stage_after cfg received ≡ stage_after cfg x.received
+same_stage cfg input answer x received m more joins each goes_on (Some e) ended =
+    ap (stage_after cfg) goes_on ∙ stage_after-append cfg x.received m ∙ fold-ended cfg (stage_after cfg x.received) m e ended
+same_stage cfg input answer x received m more joins each goes_on None going =
+    let P : List Received → Type 0 = λ l. AllByRecursion IsFrame (frames_in l) in
+    let none : m ≡ [] = nothing_more cfg x.received m x.tail more (sym x.joins ∙ joins ∙ ap (λ (l : List Received). spelled_all (frames_in l) ++ more) goes_on) (subst P goes_on each) (x.all going) in
+    ap (stage_after cfg) (goes_on ∙ ap (λ (l : List Received). x.received ++ l) none ∙ append-nil x.received)
 
 -- the stage of an answer goes on from where the frames so far stand
-pub stage-grows : (cfg : EndConfig) (input : List ℕ) (heard : List Heard) (more : List ℕ) → input ≡ spelled_all (frames_in heard) ++ more
-    → AllByRecursion IsFrame (frames_in heard) → AllByRecursion SaysSo heard → (answer : Answer) (x : IsAnswer cfg input answer)
-    → Grows (stage_after cfg heard) (stage_after cfg x.heard)
-stage-grows cfg input heard more joins each says answer x =
-    let P : Stage → Type 0 = λ s. Grows (stage_after cfg heard) s in
-    elim (comparable heard x.heard more x.tail (sym joins ∙ x.joins) each x.each says x.says) as (λ _. Grows (stage_after cfg heard) (stage_after cfg x.heard)) [
-      | inl m ↦ subst P (sym (ap (stage_after cfg) m.1 ∙ stage_after-append cfg heard m.0)) (fold-grows cfg (stage_after cfg heard) m.0)
-      | inr m ↦ subst P (same_stage cfg input answer x heard m.0 more joins each m.1 (stage_after cfg x.heard).ending refl) (Grows-refl (stage_after cfg heard))
+pub stage-grows : (cfg : EndConfig) (input : List ℕ) (received : List Received) (more : List ℕ) → input ≡ spelled_all (frames_in received) ++ more
+    → AllByRecursion IsFrame (frames_in received) → AllByRecursion IsClassified received → (answer : Answer) (x : IsAnswer cfg input answer)
+    → Grows (stage_after cfg received) (stage_after cfg x.received)
+stage-grows cfg input received more joins each classified answer x =
+    let P : Stage → Type 0 = λ s. Grows (stage_after cfg received) s in
+    elim (comparable received x.received more x.tail (sym joins ∙ x.joins) each x.each classified x.classified) as (λ _. Grows (stage_after cfg received) (stage_after cfg x.received)) [
+      | inl m ↦ subst P (sym (ap (stage_after cfg) m.1 ∙ stage_after-append cfg received m.0)) (fold-grows cfg (stage_after cfg received) m.0)
+      | inr m ↦ subst P (same_stage cfg input answer x received m.0 more joins each m.1 (stage_after cfg x.received).ending refl) (Grows-refl (stage_after cfg received))
     ]
 
 -- what was answered so far begins the answer
-pub answered-begins : (cfg : EndConfig) (input : List ℕ) (heard : List Heard) (more : List ℕ) → input ≡ spelled_all (frames_in heard) ++ more
-    → AllByRecursion IsFrame (frames_in heard) → AllByRecursion SaysSo heard → (answer : Answer) → IsAnswer cfg input answer
-    → Begins (stage_after cfg heard).wire answer.wire × Begins (stage_after cfg heard).out answer.out
-answered-begins cfg input heard more joins each says answer x =
-    let s = stage_after cfg x.heard in
-    let grows : Grows (stage_after cfg heard) s = stage-grows cfg input heard more joins each says answer x in
+pub answered-begins : (cfg : EndConfig) (input : List ℕ) (received : List Received) (more : List ℕ) → input ≡ spelled_all (frames_in received) ++ more
+    → AllByRecursion IsFrame (frames_in received) → AllByRecursion IsClassified received → (answer : Answer) → IsAnswer cfg input answer
+    → Begins (stage_after cfg received).wire answer.wire × Begins (stage_after cfg received).out answer.out
+answered-begins cfg input received more joins each classified answer x =
+    let s = stage_after cfg x.received in
+    let grows : Grows (stage_after cfg received) s = stage-grows cfg input received more joins each classified answer x in
     let end = answer_at_end-begins cfg s x.tail s.ending in
-    let P : Answer → Type 0 = λ a. Begins (stage_after cfg heard).wire a.wire × Begins (stage_after cfg heard).out a.out in
+    let P : Answer → Type 0 = λ a. Begins (stage_after cfg received).wire a.wire × Begins (stage_after cfg received).out a.out in
     subst P (sym x.is) (Begins-trans _ _ _ grows.wire end.0, Begins-trans _ _ _ grows.out end.1)
 
 -- two answers of which one list of frames goes on where the other ends are one
-continued_answer : (cfg : EndConfig) (input : List ℕ) (a b : Answer) (x : IsAnswer cfg input a) (y : IsAnswer cfg input b) (m : List Heard) → y.heard ≡ x.heard ++ m
-    → (ending : Option Ending) → (stage_after cfg x.heard).ending ≡ ending → a ≡ b
+continued_answer : (cfg : EndConfig) (input : List ℕ) (a b : Answer) (x : IsAnswer cfg input a) (y : IsAnswer cfg input b) (m : List Received) → y.received ≡ x.received ++ m
+    → (ending : Option Ending) → (stage_after cfg x.received).ending ≡ ending → a ≡ b
 continued_answer cfg input a b x y m goes_on (Some e) ended =
-    let same : stage_after cfg y.heard ≡ stage_after cfg x.heard = same_stage cfg input a x y.heard m y.tail y.joins y.each goes_on (Some e) ended in
+    let same : stage_after cfg y.received ≡ stage_after cfg x.received = same_stage cfg input a x y.received m y.tail y.joins y.each goes_on (Some e) ended in
     let at_end : (s : Stage) (tail : List ℕ) → s.ending ≡ Some e → answer_at_end cfg s tail s.ending ≡ ended_answer s e = λ s tail h. ap (answer_at_end cfg s tail) h in
-    x.is ∙ at_end (stage_after cfg x.heard) x.tail ended ∙ ap (λ (s : Stage). ended_answer s e) (sym same)
-    ∙ sym (at_end (stage_after cfg y.heard) y.tail (ap (λ (s : Stage). s.ending) same ∙ ended)) ∙ sym y.is
+    x.is ∙ at_end (stage_after cfg x.received) x.tail ended ∙ ap (λ (s : Stage). ended_answer s e) (sym same)
+    ∙ sym (at_end (stage_after cfg y.received) y.tail (ap (λ (s : Stage). s.ending) same ∙ ended)) ∙ sym y.is
 continued_answer cfg input a b x y m goes_on None going =
-    let P : List Heard → Type 0 = λ l. AllByRecursion IsFrame (frames_in l) in
-    let none : m ≡ [] = nothing_more cfg x.heard m x.tail y.tail (sym x.joins ∙ y.joins ∙ ap (λ (l : List Heard). spelled_all (frames_in l) ++ y.tail) goes_on) (subst P goes_on y.each) (x.all going) in
-    let same : y.heard ≡ x.heard = goes_on ∙ ap (λ (l : List Heard). x.heard ++ l) none ∙ append-nil x.heard in
-    let tails : x.tail ≡ y.tail = same_tail x.heard x.tail y.tail (sym x.joins ∙ y.joins ∙ ap (λ (l : List Heard). spelled_all (frames_in l) ++ y.tail) same) in
-    x.is ∙ ap (answer_after cfg x.heard) tails ∙ ap (λ (l : List Heard). answer_after cfg l y.tail) (sym same) ∙ sym y.is
+    let P : List Received → Type 0 = λ l. AllByRecursion IsFrame (frames_in l) in
+    let none : m ≡ [] = nothing_more cfg x.received m x.tail y.tail (sym x.joins ∙ y.joins ∙ ap (λ (l : List Received). spelled_all (frames_in l) ++ y.tail) goes_on) (subst P goes_on y.each) (x.all going) in
+    let same : y.received ≡ x.received = goes_on ∙ ap (λ (l : List Received). x.received ++ l) none ∙ append-nil x.received in
+    let tails : x.tail ≡ y.tail = same_tail x.received x.tail y.tail (sym x.joins ∙ y.joins ∙ ap (λ (l : List Received). spelled_all (frames_in l) ++ y.tail) same) in
+    x.is ∙ ap (answer_after cfg x.received) tails ∙ ap (λ (l : List Received). answer_after cfg l y.tail) (sym same) ∙ sym y.is
 
 pub one_answer : OneAnswer
 one_answer cfg input a b x y =
-    elim (comparable x.heard y.heard x.tail y.tail (sym x.joins ∙ y.joins) x.each y.each x.says y.says) as (λ _. a ≡ b) [
-      | inl m ↦ continued_answer cfg input a b x y m.0 m.1 (stage_after cfg x.heard).ending refl
-      | inr m ↦ sym (continued_answer cfg input b a y x m.0 m.1 (stage_after cfg y.heard).ending refl)
+    elim (comparable x.received y.received x.tail y.tail (sym x.joins ∙ y.joins) x.each y.each x.classified y.classified) as (λ _. a ≡ b) [
+      | inl m ↦ continued_answer cfg input a b x y m.0 m.1 (stage_after cfg x.received).ending refl
+      | inr m ↦ sym (continued_answer cfg input b a y x m.0 m.1 (stage_after cfg y.received).ending refl)
     ]

@@ -13,13 +13,13 @@ use Rattle.fixp_end.specs.declared.config.EndConfig.{EndConfig}
 use Rattle.fixp_end.specs.declared.ending.Ending.{Ending}
 use Rattle.fixp_end.specs.declared.ending.Ending.TheVariants as endings
 use Rattle.fixp_end.specs.Replies.{reply_to_bad_frame}
-use Rattle.fixp_end.specs.Machine.{State, settled, written_bytes}
+use Rattle.fixp_end.specs.Machine.{State, around, reply_applied, written_bytes}
 use Rattle.gateway.specs.declared.answer.Acceptor.{Acceptor}
 use Rattle.gateway.specs.declared.answer.Step.{Step}
 use Rattle.gateway.specs.declared.answer.Step.TheVariants as steps
 use Rattle.gateway.specs.declared.status.Status.{Status}
 use Rattle.gateway.specs.declared.status.Status.TheVariants.{Done, Words, Config, InputFault, OutputFault, JournalFault, JournalBad, Message, Memory}
-use Rattle.gateway.specs.Answer.{Stage, stage_after, Answer, status_of, status_after, status_at_rest, ended_answer, broken_answer, answer_at_end, answer_after, IsAnswer}
+use Rattle.gateway.specs.Answer.{Stage, stage_after, around_place, Answer, status_of, status_after, status_at_rest, ended_answer, broken_answer, answer_at_end, answer_after, IsAnswer}
 use Rattle.gateway.specs.Progress.{IsBroken, Stands, BrokeOff, AnsweredAll, Halts, IsEmptied}
 use Rattle.gateway.specs.Promise.{Content, Begins, GaveWhole, GaveFront, Talks, AfterRound, round_of, verdict_of}
 use Rattle.gateway.proofs.Devices.{told, at_end}
@@ -83,7 +83,7 @@ end_answer cfg s tail e ended = rw ended refl
 
 -- no frame begins with what is broken, whatever follows
 abbrev BrokenAnswer : EndConfig → Stage → List ℕ → Type 0
-BrokenAnswer cfg s tail = IsNoFrame (first_of tail) × (answer_at_end cfg s tail None ≡ broken_answer s (reply_to_bad_frame cfg s.facts s.place))
+BrokenAnswer cfg s tail = IsNoFrame (first_of tail) × (answer_at_end cfg s tail None ≡ broken_answer s (reply_to_bad_frame (around_place cfg s.place) s.facts))
 
 bad_answer : (cfg : EndConfig) (s : Stage) (held left : List ℕ) (first : First) → first_of held ≡ first → IsBroken first → BrokenAnswer cfg s (held ++ left)
 bad_answer cfg s held left (frame order message size) e broken = absurd broken
@@ -102,13 +102,13 @@ pub whole-rest : (cfg : EndConfig) (before now : Content) (a : Acceptor) (read w
     → Appends before.wire now.wire (wire ++ a.end.unsent) → Appends before.out now.out (out ++ a.lines.items)
     → GaveWhole cfg input before now (status_at_rest a.place a.framer.held)
 whole-rest cfg before now a read wire out input stands is going first wired outed =
-    let s = stage_after cfg stands.heard in
+    let s = stage_after cfg stands.received in
     let ended : s.ending ≡ None = ap (λ (t : Stage). t.ending) stands.stage ∙ going in
     let answer_is = rest_answer cfg s a.framer.held ended first in
     let P : First → Type 0 = IsNoFrame in
     record {
-      answer = answer_after cfg stands.heard a.framer.held;
-      is = record { heard = stands.heard; tail = a.framer.held; joins = is ∙ stands.joins; each = stands.each; says = stands.says; all = λ _. subst P (sym first) tt; is = refl };
+      answer = answer_after cfg stands.received a.framer.held;
+      is = record { received = stands.received; tail = a.framer.held; joins = is ∙ stands.joins; each = stands.each; classified = stands.classified; all = λ _. subst P (sym first) tt; is = refl };
       status_is = sym (ap (λ (x : Answer). x.status) answer_is ∙ ap (λ (t : Stage). status_at_rest t.place a.framer.held) stands.stage);
       wire = subst (Appends before.wire now.wire) (sym (ap (λ (x : Answer). x.wire) answer_is ∙ ap (λ (t : Stage). t.wire) stands.stage)) wired;
       out = subst (Appends before.out now.out) (sym (ap (λ (x : Answer). x.out) answer_is ∙ ap (λ (t : Stage). t.out) stands.stage)) outed;
@@ -119,14 +119,14 @@ pub whole-ended : (cfg : EndConfig) (before now : Content) (a : Acceptor) (read 
     → Appends before.wire now.wire (wire ++ a.end.unsent) → Appends before.out now.out (out ++ a.lines.items)
     → GaveWhole cfg input before now (status_after a.place a.end.ending)
 whole-ended cfg before now a read wire out left input stands is some wired outed =
-    let s = stage_after cfg stands.heard in
+    let s = stage_after cfg stands.received in
     let e = some_of a.end.ending some in
     let ended : s.ending ≡ Some e.0 = ap (λ (t : Stage). t.ending) stands.stage ∙ e.1 in
     let tail = a.framer.held ++ left in
     let answer_is = end_answer cfg s tail e.0 ended in
     record {
-      answer = answer_after cfg stands.heard tail;
-      is = record { heard = stands.heard; tail = tail; joins = is ∙ ap (λ (l : List ℕ). l ++ left) stands.joins ∙ append_assoc (spelled_all (frames_in stands.heard)) a.framer.held left; each = stands.each; says = stands.says; all = λ going. let no : None ≡ Some e.0 = sym going ∙ ended in cc; is = refl };
+      answer = answer_after cfg stands.received tail;
+      is = record { received = stands.received; tail = tail; joins = is ∙ ap (λ (l : List ℕ). l ++ left) stands.joins ∙ append_assoc (spelled_all (frames_in stands.received)) a.framer.held left; each = stands.each; classified = stands.classified; all = λ going. let no : None ≡ Some e.0 = sym going ∙ ended in cc; is = refl };
       status_is = ap (status_after a.place) e.1 ∙ sym (ap (λ (x : Answer). x.status) answer_is ∙ ap (λ (t : Stage). status_of t.place e.0) stands.stage);
       wire = subst (Appends before.wire now.wire) (sym (ap (λ (x : Answer). x.wire) answer_is ∙ ap (λ (t : Stage). t.wire) stands.stage)) wired;
       out = subst (Appends before.out now.out) (sym (ap (λ (x : Answer). x.out) answer_is ∙ ap (λ (t : Stage). t.out) stands.stage)) outed;
@@ -136,16 +136,16 @@ whole-ended cfg before now a read wire out left input stands is some wired outed
 pub broken-answer : (cfg : EndConfig) (a : Acceptor) (read wire out left input : List ℕ) → (b : BrokeOff cfg read wire out a) → input ≡ read ++ left
     → IsAnswer cfg input (record { wire = wire ++ a.end.unsent; out = out ++ a.lines.items; status = status_after a.place a.end.ending })
 broken-answer cfg a read wire out left input b is =
-    let s = stage_after cfg b.heard in
+    let s = stage_after cfg b.received in
     let tail = a.framer.held ++ left in
     let bad = bad_answer cfg s a.framer.held left (first_of a.framer.held) refl b.broken in
-    let at_none : answer_after cfg b.heard tail ≡ broken_answer s (reply_to_bad_frame cfg s.facts s.place) = ap (answer_at_end cfg s tail) b.going ∙ bad.1 in
+    let at_none : answer_after cfg b.received tail ≡ broken_answer s (reply_to_bad_frame (around_place cfg s.place) s.facts) = ap (answer_at_end cfg s tail) b.going ∙ bad.1 in
     record {
-      heard = b.heard;
+      received = b.received;
       tail = tail;
-      joins = is ∙ ap (λ (l : List ℕ). l ++ left) b.joins ∙ append_assoc (spelled_all (frames_in b.heard)) a.framer.held left;
+      joins = is ∙ ap (λ (l : List ℕ). l ++ left) b.joins ∙ append_assoc (spelled_all (frames_in b.received)) a.framer.held left;
       each = b.each;
-      says = b.says;
+      classified = b.classified;
       all = λ _. bad.0;
       is = rw (b.wire_is, b.out_is, b.place, b.ending) (sym at_none);
     }
@@ -167,9 +167,9 @@ pub front-stands : (cfg : EndConfig) (before now : Content) (a : Acceptor) (read
     → Appends before.wire now.wire w → Appends before.out now.out o → Begins w (wire ++ a.end.unsent) → Begins o (out ++ a.lines.items)
     → GaveFront cfg input before now
 front-stands cfg before now a read wire out left input w o stands is wired outed of_wire of_out =
-    let s = stage_after cfg stands.heard in
-    let joins : input ≡ spelled_all (frames_in stands.heard) ++ (a.framer.held ++ left) =
-    is ∙ ap (λ (l : List ℕ). l ++ left) stands.joins ∙ append_assoc (spelled_all (frames_in stands.heard)) a.framer.held left in
+    let s = stage_after cfg stands.received in
+    let joins : input ≡ spelled_all (frames_in stands.received) ++ (a.framer.held ++ left) =
+    is ∙ ap (λ (l : List ℕ). l ++ left) stands.joins ∙ append_assoc (spelled_all (frames_in stands.received)) a.framer.held left in
     let of_stage_wire : Begins w s.wire = subst (Begins w) (sym (ap (λ (t : Stage). t.wire) stands.stage)) of_wire in
     let of_stage_out : Begins o s.out = subst (Begins o) (sym (ap (λ (t : Stage). t.out) stands.stage)) of_out in
     record {
@@ -177,8 +177,8 @@ front-stands cfg before now a read wire out left input w o stands is wired outed
       out = o;
       wire_gained = wired;
       out_gained = outed;
-      wire_begins = λ answer x. Begins-trans _ _ _ of_stage_wire (answered-begins cfg input stands.heard _ joins stands.each stands.says answer x).0;
-      out_begins = λ answer x. Begins-trans _ _ _ of_stage_out (answered-begins cfg input stands.heard _ joins stands.each stands.says answer x).1;
+      wire_begins = λ answer x. Begins-trans _ _ _ of_stage_wire (answered-begins cfg input stands.received _ joins stands.each stands.classified answer x).0;
+      out_begins = λ answer x. Begins-trans _ _ _ of_stage_out (answered-begins cfg input stands.received _ joins stands.each stands.classified answer x).1;
     }
 
 pub front-broken : (cfg : EndConfig) (before now : Content) (a : Acceptor) (read wire out left input w o : List ℕ) → BrokeOff cfg read wire out a → input ≡ read ++ left
@@ -241,10 +241,10 @@ after-finish cfg before now after a b talks going first unsent lines consumed en
 -- all was pushed
 stands-emptied : (cfg : EndConfig) (read wire out : List ℕ) (a b : Acceptor) → Stands cfg read wire out a → IsEmptied a b → Stands cfg read (wire ++ a.end.unsent) (out ++ a.lines.items) b
 stands-emptied cfg read wire out a b stands emptied = record {
-  heard = stands.heard;
+  received = stands.received;
   joins = rw emptied.framer stands.joins;
   each = stands.each;
-  says = stands.says;
+  classified = stands.classified;
   config = ap (λ (s : State). s.config) emptied.end ∙ stands.config;
   most = ap (λ (s : State). s.most) emptied.end ∙ stands.most;
   stage = rw (emptied.end, emptied.place, emptied.lines, append-nil (wire ++ a.end.unsent), append-nil (out ++ a.lines.items)) stands.stage;
@@ -279,10 +279,10 @@ after-push cfg before now after a b read wire out steps.Broken all halts consume
 pub stands-filled : (cfg : EndConfig) (read wire out bytes : List ℕ) (a b : Acceptor) → Stands cfg read wire out a → b.end ≡ a.end → b.lines.items ≡ a.lines.items → b.place ≡ a.place → b.framer.held ≡ a.framer.held ++ bytes
     → Stands cfg (read ++ bytes) wire out b
 stands-filled cfg read wire out bytes a b stands end lines place held = record {
-  heard = stands.heard;
-  joins = ap (λ (l : List ℕ). l ++ bytes) stands.joins ∙ append_assoc (spelled_all (frames_in stands.heard)) a.framer.held bytes ∙ ap (λ (l : List ℕ). spelled_all (frames_in stands.heard) ++ l) (sym held);
+  received = stands.received;
+  joins = ap (λ (l : List ℕ). l ++ bytes) stands.joins ∙ append_assoc (spelled_all (frames_in stands.received)) a.framer.held bytes ∙ ap (λ (l : List ℕ). spelled_all (frames_in stands.received) ++ l) (sym held);
   each = stands.each;
-  says = stands.says;
+  classified = stands.classified;
   config = ap (λ (s : State). s.config) end ∙ stands.config;
   most = ap (λ (s : State). s.most) end ∙ stands.most;
   stage = rw (end, place, lines) stands.stage;
@@ -290,18 +290,21 @@ stands-filled cfg read wire out bytes a b stands end lines place held = record {
 
 -- bytes that are no frame are answered
 pub broke-off : (cfg : EndConfig) (read wire out : List ℕ) (a b : Acceptor) → Stands cfg read wire out a → IsBroken (first_of a.framer.held) → a.end.ending ≡ None
-    → b.end ≡ settled (record a.end { moment = 0 }) (reply_to_bad_frame a.end.config a.end.facts a.place) → b.framer.held ≡ a.framer.held → b.lines.items ≡ a.lines.items → b.place ≡ a.place
+    → b.end ≡ reply_applied (record a.end { moment = 0 }) (reply_to_bad_frame (around a.end a.place 0) a.end.facts) → b.framer.held ≡ a.framer.held → b.lines.items ≡ a.lines.items → b.place ≡ a.place
     → BrokeOff cfg read wire out b
 broke-off cfg read wire out a b stands broken going end held lines place =
-    let s = stage_after cfg stands.heard in
-    let reply = reply_to_bad_frame cfg s.facts s.place in
-    let same : reply_to_bad_frame a.end.config a.end.facts a.place ≡ reply = rw (stands.config, stands.stage) refl in
+    let s = stage_after cfg stands.received in
+    let reply = reply_to_bad_frame (around_place cfg s.place) s.facts in
+    let same : reply_to_bad_frame (around a.end a.place 0) a.end.facts ≡ reply =
+    ap (λ (c : EndConfig). reply_to_bad_frame (record { config = c; most = a.end.most; at = a.place; moment = 0 }) a.end.facts) stands.config
+    ∙ ap (λ (m : ℕ). reply_to_bad_frame (record { config = cfg; most = m; at = a.place; moment = 0 }) a.end.facts) stands.most
+    ∙ ap (λ (t : Stage). reply_to_bad_frame (around_place cfg t.place) t.facts) (sym stands.stage) in
     let P : List ℕ → Type 0 = λ l. IsBroken (first_of l) in
     record {
-      heard = stands.heard;
-      joins = stands.joins ∙ ap (λ (l : List ℕ). spelled_all (frames_in stands.heard) ++ l) (sym held);
+      received = stands.received;
+      joins = stands.joins ∙ ap (λ (l : List ℕ). spelled_all (frames_in stands.received) ++ l) (sym held);
       each = stands.each;
-      says = stands.says;
+      classified = stands.classified;
       broken = subst P (sym held) broken;
       going = ap (λ (t : Stage). t.ending) stands.stage ∙ going;
       place = place ∙ sym (ap (λ (t : Stage). t.place) stands.stage);

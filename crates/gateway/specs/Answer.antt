@@ -11,7 +11,8 @@ use Rattle.fixp_end.specs.declared.config.Facts.{Facts}
 use Rattle.fixp_end.specs.declared.phase.Phase.TheVariants.{Idle}
 use Rattle.fixp_end.specs.declared.ending.Ending.{Ending}
 use Rattle.fixp_end.specs.declared.ending.Ending.TheVariants as endings
-use Rattle.fixp_end.specs.Hearing.{Said, Says}
+use Rattle.fixp_end.specs.Incoming.{Incoming, IsIncoming}
+use Rattle.fixp_end.specs.Facts.{Around, connecting}
 use Rattle.fixp_end.specs.Replies.{Outcome, reply_of, reply_to_bad_frame}
 use Rattle.fixp_end.specs.Machine.{written_bytes}
 use Rattle.session_config.specs.declared.settings.Settings.{Settings}
@@ -30,15 +31,19 @@ acceptor_of s = record { role = Acceptor; session = s.session; own_flow = flows.
 
 -- a new session: not negotiated, and awaiting message 1
 abbrev pub first_facts : Facts
-first_facts = record { phase = Idle; recorded = record { negotiated = false; inbox_next = 1; peer_last = None; sent = 0; finish = None } }
+first_facts = connecting (record { negotiated = false; inbox_next = 1; peer_last = None; sent = 0; finish = None }) Idle
 
--- a frame of the input, and what its message says
-pub record Heard : Type 0 where
+-- what stands around the reply to what is found at this place; every moment is 0
+abbrev pub around_place : EndConfig → ℕ → Around
+around_place cfg place = record { config = cfg; most = greatest_number; at = place; moment = 0 }
+
+-- a frame of the input, and its message, classified
+pub record Received : Type 0 where
   pub frame : Frame
-  pub said : Said
+  pub incoming : Incoming
 
-abbrev pub SaysSo : Heard → Type 0
-SaysSo h = Says h.frame.order h.frame.message h.said
+abbrev pub IsClassified : Received → Type 0
+IsClassified r = IsIncoming r.frame.order r.frame.message r.incoming
 
 -- how far the answer has come: the place of the next frame in the input, the session's facts, the bytes
 -- for WIRE and for OUT so far, and how the connection ended, if it has; then the place is that of the frame
@@ -58,7 +63,7 @@ abbrev pub next_place : ℕ → Frame → ℕ
 next_place place f = min (place + length (spelled f)) (2 ^ 64 - 1)
 
 -- a frame is answered by the reply table
-abbrev pub answered : Stage → Heard → Outcome → Stage
+abbrev pub answered : Stage → Received → Outcome → Stage
 answered s h o = record {
   place = if is_some o.ending then s.place else next_place s.place h.frame;
   facts = o.next;
@@ -68,11 +73,11 @@ answered s h o = record {
 }
 
 -- frames behind the one that ended the connection are ignored
-abbrev pub next_stage : EndConfig → Stage → Heard → Stage
-next_stage cfg s h = if is_some s.ending then s else answered s h (reply_of cfg greatest_number s.facts h.said s.place)
+abbrev pub next_stage : EndConfig → Stage → Received → Stage
+next_stage cfg s h = if is_some s.ending then s else answered s h (reply_of (around_place cfg s.place) s.facts h.incoming)
 
-abbrev pub stage_after : EndConfig → List Heard → Stage
-stage_after cfg heard = fold (next_stage cfg) first_stage heard
+abbrev pub stage_after : EndConfig → List Received → Stage
+stage_after cfg received = fold (next_stage cfg) first_stage received
 
 -- what the whole answer is
 pub record Answer : Type 0 where
@@ -112,26 +117,26 @@ broken_answer s o = record { wire = s.wire ++ written_bytes o; out = s.out; stat
 abbrev pub tail_answer : EndConfig → Stage → List ℕ → First → Answer
 tail_answer cfg s tail (frame order message size) = ended_answer s endings.NotBuilt
 tail_answer cfg s tail rest = record { wire = s.wire; out = s.out; status = status_at_rest s.place tail }
-tail_answer cfg s tail (bad_length n) = broken_answer s (reply_to_bad_frame cfg s.facts s.place)
-tail_answer cfg s tail (bad_encoding e) = broken_answer s (reply_to_bad_frame cfg s.facts s.place)
+tail_answer cfg s tail (bad_length n) = broken_answer s (reply_to_bad_frame (around_place cfg s.place) s.facts)
+tail_answer cfg s tail (bad_encoding e) = broken_answer s (reply_to_bad_frame (around_place cfg s.place) s.facts)
 
 abbrev pub answer_at_end : EndConfig → Stage → List ℕ → Option Ending → Answer
 answer_at_end cfg s tail (Some ending) = ended_answer s ending
 answer_at_end cfg s tail None = tail_answer cfg s tail (first_of tail)
 
-abbrev pub answer_after : EndConfig → List Heard → List ℕ → Answer
-answer_after cfg heard tail = answer_at_end cfg (stage_after cfg heard) tail (stage_after cfg heard).ending
+abbrev pub answer_after : EndConfig → List Received → List ℕ → Answer
+answer_after cfg received tail = answer_at_end cfg (stage_after cfg received) tail (stage_after cfg received).ending
 
--- The answer to an input: the input begins with these frames, each of them says this, and no frame follows
+-- The answer to an input: the input begins with these frames, each is classified so, and no frame follows
 -- where none of them ended the connection.
 pub record IsAnswer (cfg : EndConfig) (input : List ℕ) (answer : Answer) : Type 0 where
-  pub heard : List Heard
+  pub received : List Received
   pub tail : List ℕ
-  pub joins : input ≡ spelled_all (map (λ h. h.frame) heard) ++ tail
-  pub each : AllByRecursion IsFrame (map (λ h. h.frame) heard)
-  pub says : AllByRecursion SaysSo heard
-  pub all : (stage_after cfg heard).ending ≡ None → IsNoFrame (first_of tail)
-  pub is : answer ≡ answer_after cfg heard tail
+  pub joins : input ≡ spelled_all (map (λ h. h.frame) received) ++ tail
+  pub each : AllByRecursion IsFrame (map (λ h. h.frame) received)
+  pub classified : AllByRecursion IsClassified received
+  pub all : (stage_after cfg received).ending ≡ None → IsNoFrame (first_of tail)
+  pub is : answer ≡ answer_after cfg received tail
 
 -- the answer to an input is one
 abbrev pub OneAnswer : Type 0

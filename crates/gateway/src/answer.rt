@@ -3,6 +3,7 @@
 
 ghost use Rattle.std.specs.Prelude.{◌≡◌, ℕ, ◌+◌, ◌<◌, ◌≤◌, ◌⊎◌, List, length, true, IfOk, IfErr, OnOk, OnErr, Ok, None};
 ghost use Rattle.fixp_end.specs.declared.config.EndConfig.{EndConfig};
+ghost use Rattle.fixp_end.specs.Outgoing.{reply_limit};
 ghost use Rattle.gateway.specs.Answer.{acceptor_of, first_facts};
 ghost use Rattle.gateway.specs.Progress.{AnswersOne};
 ghost use Rattle.std.specs.Io.KnownBytes.{Appends};
@@ -99,11 +100,11 @@ fn answer_frame(
     requires most { length message.now ≤ 16384 }
     requires begun { end.old.begun ≡ true }
     requires open { end.old.ending ≡ None }
-    requires done { end.old.undone ≡ None }
+    requires done { end.old.pending ≡ None }
     requires output { length end.old.unsent ≤ 1000000 }
     requires moment { end.old.moment ≡ 0 }
     ensures answered { OnOk result (AnswersOne end.old end.new lines.old.items lines.new.items (record { order = order; message = message.now }) place) }
-    ensures small { OnOk result (length end.new.unsent ≤ length end.old.unsent + 64) }
+    ensures small { OnOk result (length end.new.unsent ≤ length end.old.unsent + reply_limit) }
 {
     end.reserve()?;
     let act = end.on_frame(order, message, place, 0);

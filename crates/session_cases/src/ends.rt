@@ -39,7 +39,7 @@ impl Model for Server {
 
     ghost view = { λ s. s.end };
 
-    ghost invariant = { λ s. (s.end.config.role ≡ Acceptor) × (s.end.begun ≡ true) × (s.end.undone ≡ None) × (s.end.moment ≡ 5) };
+    ghost invariant = { λ s. (s.end.config.role ≡ Acceptor) × (s.end.begun ≡ true) × (s.end.pending ≡ None) × (s.end.moment ≡ 5) };
 }
 
 impl Server {

@@ -1,0 +1,142 @@
+//! The receiver of a recoverable flow on one connection: the number that the inbox waits for, the live number, and the
+//! number inside a retransmission.
+
+ghost use Rattle.std.specs.Prelude.{◌≡◌, ◌+◌, ◌^◌, ◌<◌, ◌≤◌, ◌↔◌, IsOk, IfErr, IfSome, OnOk, OnErr};
+ghost use Rattle.flow_recover.specs.Receiving.{fresh, expected, announced, retransmitted, number, seen, after_message, gap, counted};
+
+use fixp_msgs::Range;
+use std::marker::Model;
+use thiserror::Error;
+
+/// An announcement goes back: its number is below the one expected.
+#[derive(Clone, Copy, Debug, PartialEq, Eq, Error)]
+#[error("announced number {announced} is below {expected}")]
+pub struct Back {
+    /// The number announced.
+    pub announced: u64,
+    /// The least number that may be announced.
+    pub expected: u64,
+}
+
+/// What becomes of an application message, with its number.
+#[derive(Clone, Copy, Debug, PartialEq, Eq)]
+pub enum Seen {
+    /// It is the one that the inbox waits for, and is delivered.
+    Deliver(u64),
+    /// It is past the one that the inbox waits for.
+    Gap(u64),
+    /// It is there already.
+    Repeat(u64),
+}
+
+/// The receiving end of a recoverable flow on one connection (FIXP 1.1, recoverable flow type).
+#[derive(Clone, Copy, Debug, PartialEq, Eq)]
+pub struct Receiver {
+    next: u64,
+    live: u64,
+    again: Option<u64>,
+}
+
+impl Model for Receiver {
+    ghost use Rattle.flow_recover.specs.Receiving.{Receiving};
+
+    ghost Value = { Receiving };
+
+    ghost view = { λ r. record { next = r.next; live = r.live; again = r.again } };
+
+    ghost inverse = { λ v. record { next = v.next; live = v.live; again = v.again } };
+}
+
+impl Receiver {
+    /// The receiver at the beginning of a connection, where the inbox waits for the number `next`.
+    pub fn new(next: u64) -> Receiver
+        ensures { result ≡ fresh next }
+    {
+        Receiver {
+            next,
+            live: next,
+            again: None,
+        }
+    }
+
+    /// The next number `next_seq` is announced by an Establish, an EstablishmentAck or a Sequence. It ends a retransmission.
+    ///
+    /// # Errors
+    /// The number is below the one expected, the greater of the number that the inbox waits for and the live number.
+    /// Nothing has changed then.
+    pub fn announce(&mut self, next_seq: u64) -> Result<(), Back>
+        ensures taken { IsOk result ↔ (expected self.old ≤ next_seq) }
+        ensures live { OnOk result (self.new ≡ announced self.old next_seq) }
+        ensures back { IfErr result (λ back. back ≡ record { announced = next_seq; expected = expected self.old }) }
+        ensures same { OnErr result (self.new ≡ self.old) }
+    {
+        let expected = self.next.max(self.live);
+        if next_seq < expected {
+            return Err(Back {
+                announced: next_seq,
+                expected,
+            });
+        }
+        self.live = next_seq;
+        self.again = None;
+        Ok(())
+    }
+
+    /// A retransmission begins with the number `first`. The messages up to the next announcement are numbered from there.
+    pub fn on_retransmission(&mut self, first: u64)
+        ensures { self.new ≡ retransmitted self.old first }
+    {
+        self.again = Some(first);
+    }
+
+    /// The number of the next application message: the retransmission's inside one, else the live number.
+    pub fn number(&self) -> u64
+        ensures { result ≡ number self.now }
+    {
+        self.again.unwrap_or(self.live)
+    }
+
+    /// Takes an application message, and tells what becomes of it.
+    pub fn on_app(&mut self) -> Seen
+        requires { number self.old + 1 < 2 ^ 64 }
+        ensures seen { result ≡ seen self.old }
+        ensures after { self.new ≡ after_message self.old }
+    {
+        let number = self.number();
+        self.count();
+        if number == self.next {
+            self.next = number + 1;
+            Seen::Deliver(number)
+        } else if number > self.next {
+            Seen::Gap(number)
+        } else {
+            Seen::Repeat(number)
+        }
+    }
+
+    /// The numbers that are missing, if there are any: from the one that the inbox waits for up to the live number.
+    pub fn gap(&self) -> Option<Range>
+        ensures exact { result ≡ gap self.now }
+        ensures within { IfSome result (λ g. (1 ≤ g.count) × (g.from + g.count < 2 ^ 64)) }
+    {
+        if self.next < self.live {
+            Some(Range {
+                from: self.next,
+                count: self.live - self.next,
+            })
+        } else {
+            None
+        }
+    }
+
+    /// Counts the next message, under the retransmission's number inside one and else under the live one.
+    fn count(&mut self)
+        requires { number self.old + 1 < 2 ^ 64 }
+        ensures { self.new ≡ counted self.old self.old.again }
+    {
+        match self.again {
+            Some(number) => self.again = Some(number + 1),
+            None => self.live += 1,
+        }
+    }
+}
