@@ -1,10 +1,10 @@
 -- The encoding type and the message of a payload.
-use Rattle.std.proofs.Common.{◌≡◌, ℕ, zero, suc, ◌+◌, ◌<◌, ◌≤◌, ◌^◌, List, [], ◌∷◌, ◌++◌, length, get_or, take, drop, Bool, true, false, ◌==◌, if◌then◌else◌, eqb-true, refl, sym, ap, subst, ◌∙◌, arith, length-append, take-append-drop, Fits, w8, Some, None, Option}
-use Rattle.std.proofs.lemmas.Nat.{from_be_bytes-to_be_bytes_2, be_bytes_2}
+use Rattle.std.proofs.Common.{◌≡◌, ℕ, zero, suc, ◌<◌, ◌≤◌, List, [], ◌∷◌, ◌++◌, length, get_or, take, drop, Bool, true, false, ◌==◌, if◌then◌else◌, eqb-true, refl, sym, ap, subst, ◌∙◌, arith, take-append-drop, Fits, w8, Some, None}
+use Rattle.std.proofs.lemmas.Nat.{be_bytes_2}
 use Rattle.std.specs.Int.{w16, from_be_bytes, to_be_bytes}
 use Rattle.sbe_prim.specs.declared.Order.{Order}
 use Rattle.sbe_prim.specs.declared.Order.TheVariants.{Little, Big}
-use Rattle.sofh_frame.specs.Framing.{Frame, IsFrame, encoding_of, order_of}
+use Rattle.sofh_frame.specs.Framing.{encoding_of, order_of}
 use Rattle.fixp_msgs.specs.declared.frames.FrameKind.TheVariants.{App}
 use Rattle.fixp_msgs.specs.Header.{kind_of}
 use Rattle.fixp_msgs.specs.Payload.{IsApplication}

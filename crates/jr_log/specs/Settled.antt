@@ -1,5 +1,5 @@
 -- A journal whose every image is closed behind its records holds exactly these.
-use Rattle.std.specs.Prelude.{◌≡◌, ℕ, ◌+◌, List, [], ◌∷◌, ◌++◌, Option, Some, None, length, drop, IsSomeAnd}
+use Rattle.std.specs.Prelude.{◌≡◌, ℕ, ◌+◌, List, [], ◌++◌, Option, Some, None, length, drop, IsSomeAnd}
 use Rattle.std.proofs.Common.{get_or, refl, sym, ◌∙◌, ap, subst, take-append-drop}
 use Rattle.std.proofs.lemmas.List.{append-nil, drop_more}
 use Rattle.std.specs.List.{AllByRecursion}

@@ -190,8 +190,11 @@ impl<D: Disk> Journal for LogJournal<D> {
 
     ghost few = { λ j. few_records j.records.items j.size j.sized j.small };
 
-    ghost held = { λ j open_is. (j.records.items, record {
+    ghost held = { λ j open_is. (
+      j.records.items,
+      record {
         stands_for = refl;
         images = settled_images at_most_one_verdict (D.may_leave j.disk) j.records.items j.records.items j.legal (j.settled open_is) refl;
-    }) };
+      },
+    ) };
 }

@@ -1,4 +1,4 @@
-use Rattle.std.proofs.Common.{refl, sym, arith, ◌≤◌, length}
+use Rattle.std.proofs.Common.{refl, sym, arith}
 use Rattle.fixp_msgs.proofs.Payloads.{is_payload}
 use Rattle.fixp_msgs.proofs.payload.is_application.Goals as goal
 
@@ -7,5 +7,6 @@ returns-in-App c = record {
   exact = (
     λ _. is_payload c.in-Some.encoding c.in-Some-order_named.order c.in-Some.message.now c.args.payload.now
         (sym c.in-Some-order_named.ensures.named) (omega arith) (omega arith) c.in-App.ensures c.in-Some.ensures.found,
-    λ _. refl);
+    λ _. refl,
+  );
 }
