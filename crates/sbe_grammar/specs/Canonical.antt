@@ -15,7 +15,7 @@ use Rattle.sbe_value.specs.declared.item.Item.TheVariants.{Num, Null, Absent, Te
 use Rattle.sbe_value.specs.declared.datum.Datum.{Datum}
 use Rattle.sbe_value.specs.declared.datum.Datum.TheVariants as datum
 use Rattle.sbe_value.specs.declared.message.Message.{Message}
-use Rattle.sbe_value.specs.Trees.{GroupList, BlockList, no_groups, absent, entries, no_blocks, block, count_of_blocks, count_of_groups}
+use Rattle.sbe_value.specs.Trees.{GroupList, BlockList, no_groups, absent, entries, no_blocks, block, count_of_blocks}
 use Rattle.sbe_layout.specs.declared.items.ItemKind.{ItemKind}
 use Rattle.sbe_layout.specs.declared.items.ItemKind.TheVariants.{Number, Enum, Set}
 use Rattle.sbe_layout.specs.declared.items.ItemPlan.{ItemPlan}
@@ -24,7 +24,7 @@ use Rattle.sbe_layout.specs.declared.listings.Listing.{Listing}
 use Rattle.sbe_layout.specs.declared.listings.Listing.TheVariants.{Nothing, Values, Bits}
 use Rattle.sbe_layout.specs.declared.plan.MessagePlan.{MessagePlan}
 use Rattle.sbe_layout.specs.declared.plan.Plan.{Plan}
-use Rattle.sbe_layout.specs.Trees.{PlanHead, PlanTree, no_plans, plan, weight_of}
+use Rattle.sbe_layout.specs.Trees.{PlanHead, PlanTree, no_plans, plan}
 use Rattle.sbe_layout.specs.Plans.{message_of}
 use Rattle.sbe_grammar.specs.Values.{null_by}
 use Rattle.sbe_grammar.specs.Fits.{form_of, has_form}
