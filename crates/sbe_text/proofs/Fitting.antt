@@ -177,7 +177,7 @@ groups_fit (plan g inner more) before ls rest gs h =
 
 -- ---- messages
 
-layout_found : (t : ℕ) (ms : List MessagePlan) (l : MessagePlan) → message_of t ms ≡ Some l → l.template ≡ t
+pub layout_found : (t : ℕ) (ms : List MessagePlan) (l : MessagePlan) → message_of t ms ≡ Some l → l.template ≡ t
 layout_found t [] l e = absurd (cc)
 layout_found t (m ∷ ms) l e =
     let P : Bool → Type 0 = λ b. (m.template == t) ≡ b → (if b then Some m else message_of t ms) ≡ Some l → l.template ≡ t in

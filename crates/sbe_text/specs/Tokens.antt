@@ -69,7 +69,7 @@ number_of (byte ∷ bytes) = if byte == 45 then also (natural_of bytes) negative
 
 -- ---- bytes and characters
 
-abbrev decoded : Result (List ℕ) FromHexError → Option (List ℕ)
+abbrev pub decoded : Result (List ℕ) FromHexError → Option (List ℕ)
 decoded (Ok bytes) = Some bytes
 decoded (Err fault) = None
 
