@@ -1,5 +1,5 @@
 -- The lines of a message read back as the message.
-use Rattle.std.proofs.Common.{◌≡◌, ◌≢◌, ℕ, zero, suc, ◌+◌, ◌-◌, ◌/◌, ◌%◌, ◌^◌, ◌<◌, ◌≤◌, ◌==◌, Bool, true, false, ◌&&◌, not, Option, Some, None, Result, Ok, Err, List, [], ◌∷◌, ◌++◌, length, refl, sym, ap, ◌∙◌, subst, arith, append_assoc, append-nil, decimal}
+use Rattle.std.proofs.Common.{◌≡◌, ◌≢◌, ℕ, suc, ◌+◌, ◌-◌, ◌/◌, ◌%◌, ◌^◌, ◌<◌, ◌≤◌, ◌==◌, Bool, true, false, ◌&&◌, not, Option, Some, None, Ok, List, [], ◌∷◌, ◌++◌, length, refl, sym, ap, ◌∙◌, subst, arith, append_assoc, decimal}
 use Rattle.std.specs.Prelude.{ℤ, pos, negsuc, IsTrue, nat_le, nat_lt, if◌then◌else◌, codes, slice_index}
 use Rattle.std.specs.List.{AllByRecursion}
 use Rattle.std.specs.Fmt.{signed_decimal}
@@ -28,9 +28,9 @@ use Rattle.sbe_grammar.specs.Reading.{Entry}
 use Rattle.sbe_text.specs.declared.token.Count.TheVariants as count
 use Rattle.sbe_text.specs.Lines.{lines_in, unreturned, Read, next, taken, read_line, read_each}
 use Rattle.sbe_text.specs.Written.{is_plain, are_plain, quoted, raw_text, value_text, datum_text, element_line, before_in, lines_of_items, lines_of_data, lines_of_groups, lines_of_entries, message_line, end_line, lines_by, lines_of_message}
-use Rattle.sbe_text.specs.Tokens.{also, behind, value_on, is_digit, are_digits, is_line, value_of, datum_of, count_of}
-use Rattle.sbe_text.specs.Reading.{read_element, read_item, read_datum, read_elements, entry_at, repeated, read_entries, read_counted, read_group, read_groups, named, layout_on, read_body, read_message, alone, numbered, message_of_text}
-use Rattle.sbe_text.specs.Held.{are_bytes, is_number, is_item, are_items, is_datum, are_data, are_groups, are_blocks, is_message, is_word, items_have_words, data_have_words, groups_have_words, message_has_words, AreNamedOtherwise, HaveOwnNames, HasWords}
+use Rattle.sbe_text.specs.Tokens.{also, is_digit, are_digits, value_of, datum_of, count_of}
+use Rattle.sbe_text.specs.Reading.{read_element, read_item, read_datum, read_elements, entry_at, repeated, read_group, read_groups, named, layout_on, read_message, message_of_text}
+use Rattle.sbe_text.specs.Held.{are_bytes, is_number, is_item, are_items, is_datum, are_data, are_groups, are_blocks, is_message, is_word, items_have_words, data_have_words, groups_have_words, message_has_words, HaveOwnNames, HasWords}
 use Rattle.sbe_text.proofs.Feeds.{no_feeds, first_of_lines}
 use Rattle.sbe_text.proofs.Fitting.{layout_found}
 use Rattle.sbe_text.proofs.Texts.{at_most_of, below_of, both, both_left, both_right, behind_joined, value_on_joined, digits_are, value_back, datum_back, count_back}
@@ -138,10 +138,10 @@ items_back before (i ∷ is) (p ∷ ps) rest w n f h =
     let held = both_left (is_item i) (are_items is) h in
     ap (λ text. read_each (read_item before) (p ∷ ps) (lines_in text)) (append_assoc (element_line before p.name (value_text i)) (lines_of_items before is ps) rest)
     ∙ next_back (read_item before p (lines_in (element_line before p.name (value_text i) ++ (lines_of_items before is ps ++ rest)))) i (lines_in (lines_of_items before is ps ++ rest)) _ _
-      (element_back before p.name (value_text i) (lines_of_items before is ps ++ rest) (value_of (form_of p)) i w (both_left (is_word p.name) (items_have_words ps) n) (value_word i held) (value_back (form_of p) i (both_left (has_form (form_of p) i) (fit_items is ps) f) held))
-      (next_back (read_each (read_item before) ps (lines_in (lines_of_items before is ps ++ rest))) is (lines_in rest) _ _
-        (items_back before is ps rest w (both_right (is_word p.name) (items_have_words ps) n) (both_right (has_form (form_of p) i) (fit_items is ps) f) (both_right (is_item i) (are_items is) h))
-        refl)
+    (element_back before p.name (value_text i) (lines_of_items before is ps ++ rest) (value_of (form_of p)) i w (both_left (is_word p.name) (items_have_words ps) n) (value_word i held) (value_back (form_of p) i (both_left (has_form (form_of p) i) (fit_items is ps) f) held))
+    (next_back (read_each (read_item before) ps (lines_in (lines_of_items before is ps ++ rest))) is (lines_in rest) _ _
+    (items_back before is ps rest w (both_right (is_word p.name) (items_have_words ps) n) (both_right (has_form (form_of p) i) (fit_items is ps) f) (both_right (is_item i) (are_items is) h))
+    refl)
 
 data_back : (before : List ℕ) (vs : List Datum) (ds : List DataPlan) (rest : List ℕ) → is_word before ≡ true → data_have_words ds ≡ true → length vs ≡ length ds → are_data vs ≡ true → read_each (read_datum before) ds (lines_in (lines_of_data before vs ds ++ rest)) ≡ Ok (vs, lines_in rest)
 data_back before [] [] rest w n f h = refl
@@ -151,10 +151,10 @@ data_back before (v ∷ vs) (d ∷ ds) rest w n f h =
     let held = both_left (is_datum v) (are_data vs) h in
     ap (λ text. read_each (read_datum before) (d ∷ ds) (lines_in text)) (append_assoc (element_line before d.name (datum_text v)) (lines_of_data before vs ds) rest)
     ∙ next_back (read_datum before d (lines_in (element_line before d.name (datum_text v) ++ (lines_of_data before vs ds ++ rest)))) v (lines_in (lines_of_data before vs ds ++ rest)) _ _
-      (element_back before d.name (datum_text v) (lines_of_data before vs ds ++ rest) datum_of v w (both_left (is_word d.name) (data_have_words ds) n) (datum_word v held) (datum_back v held))
-      (next_back (read_each (read_datum before) ds (lines_in (lines_of_data before vs ds ++ rest))) vs (lines_in rest) _ _
-        (data_back before vs ds rest w (both_right (is_word d.name) (data_have_words ds) n) (omega arith) (both_right (is_datum v) (are_data vs) h))
-        refl)
+    (element_back before d.name (datum_text v) (lines_of_data before vs ds ++ rest) datum_of v w (both_left (is_word d.name) (data_have_words ds) n) (datum_word v held) (datum_back v held))
+    (next_back (read_each (read_datum before) ds (lines_in (lines_of_data before vs ds ++ rest))) vs (lines_in rest) _ _
+    (data_back before vs ds rest w (both_right (is_word d.name) (data_have_words ds) n) (omega arith) (both_right (is_datum v) (are_data vs) h))
+    refl)
 
 -- ---- groups
 
@@ -201,8 +201,8 @@ mutual
       let left = lines_of_groups before gs more ++ rest in
       ap (λ text. read_groups before (plan g inner more) (lines_in text)) (append_assoc (element_line before g.name (codes "absent")) (lines_of_groups before gs more) rest)
       ∙ next_back (read_group before g (λ path. read_groups path inner) (lines_in (element_line before g.name (codes "absent") ++ left))) group.Absent (lines_in left) _ _
-        (next_back (read_element before g.name count_of (lines_in (element_line before g.name (codes "absent") ++ left))) count.Absent (lines_in left) _ _ (element_back before g.name (codes "absent") left count_of count.Absent w words.name refl refl) refl)
-        (next_back (read_groups before more (lines_in left)) gs (lines_in rest) _ _ (groups_back gs more before rest w words.others f h) refl)
+      (next_back (read_element before g.name count_of (lines_in (element_line before g.name (codes "absent") ++ left))) count.Absent (lines_in left) _ _ (element_back before g.name (codes "absent") left count_of count.Absent w words.name refl refl) refl)
+      (next_back (read_groups before more (lines_in left)) gs (lines_in rest) _ _ (groups_back gs more before rest w words.others f h) refl)
   groups_back (entries bs gs) no_plans before rest w n f h = absurd (false≢true f)
   groups_back (entries bs gs) (plan g inner more) before rest w n f h =
       let words = group_words g inner more n in
@@ -213,12 +213,12 @@ mutual
       let behind_line = lines_of_entries before 0 bs g inner ++ left in
       ap (λ text. read_groups before (plan g inner more) (lines_in text)) (three (element_line before g.name (decimal (count_of_blocks bs))) (lines_of_entries before 0 bs g inner) (lines_of_groups before gs more) rest)
       ∙ next_back (read_group before g (λ path. read_groups path inner) (lines_in (element_line before g.name (decimal (count_of_blocks bs)) ++ behind_line))) (group.Entries bs) (lines_in left) _ _
-        (next_back (read_element before g.name count_of (lines_in (element_line before g.name (decimal (count_of_blocks bs)) ++ behind_line))) (count.Entries (count_of_blocks bs)) (lines_in behind_line) _ _
-          (element_back before g.name (decimal (count_of_blocks bs)) behind_line count_of (count.Entries (count_of_blocks bs)) w words.name (decimal_word (count_of_blocks bs) (omega arith)) (count_back (count_of_blocks bs) many))
-          (next_back (repeated (count_of_blocks bs) 0 (entry_at before g (λ path. read_groups path inner)) (lines_in behind_line)) bs (lines_in left) _ _
-            (entries_back bs g inner before left 0 (omega arith) w words.name words.items words.inside words.vars (both_left (fit_entries bs g inner) (fit_groups gs more) f) (both_left (are_blocks bs) (are_groups gs) held))
-            refl))
-        (next_back (read_groups before more (lines_in left)) gs (lines_in rest) _ _ (groups_back gs more before rest w words.others (both_right (fit_entries bs g inner) (fit_groups gs more) f) (both_right (are_blocks bs) (are_groups gs) held)) refl)
+      (next_back (read_element before g.name count_of (lines_in (element_line before g.name (decimal (count_of_blocks bs)) ++ behind_line))) (count.Entries (count_of_blocks bs)) (lines_in behind_line) _ _
+      (element_back before g.name (decimal (count_of_blocks bs)) behind_line count_of (count.Entries (count_of_blocks bs)) w words.name (decimal_word (count_of_blocks bs) (omega arith)) (count_back (count_of_blocks bs) many))
+      (next_back (repeated (count_of_blocks bs) 0 (entry_at before g (λ path. read_groups path inner)) (lines_in behind_line)) bs (lines_in left) _ _
+      (entries_back bs g inner before left 0 (omega arith) w words.name words.items words.inside words.vars (both_left (fit_entries bs g inner) (fit_groups gs more) f) (both_left (are_blocks bs) (are_groups gs) held))
+      refl))
+      (next_back (read_groups before more (lines_in left)) gs (lines_in rest) _ _ (groups_back gs more before rest w words.others (both_right (fit_entries bs g inner) (fit_groups gs more) f) (both_right (are_blocks bs) (are_groups gs) held)) refl)
 
   entries_back : (bs : BlockList) (g : PlanHead) (inner : PlanTree) (before rest : List ℕ) (at : ℕ) → at + count_of_blocks bs < 10 ^ 64 → is_word before ≡ true → is_word g.name ≡ true → items_have_words g.items ≡ true → groups_have_words inner ≡ true → data_have_words g.vars ≡ true → fit_entries bs g inner ≡ true → are_blocks bs ≡ true → repeated (count_of_blocks bs) at (entry_at before g (λ path. read_groups path inner)) (lines_in (lines_of_entries before at bs g inner ++ rest)) ≡ Ok (bs, lines_in rest)
   entries_back no_blocks g inner before rest at p w n ni ng nv f h = refl
@@ -237,13 +237,13 @@ mutual
       ap (λ n. repeated n at read (lines_in (lines_of_entries before at (block items gs vars bs) g inner ++ rest))) one
       ∙ ap (λ text. repeated (suc (count_of_blocks bs)) at read (lines_in text)) (four (lines_of_items path items g.items) (lines_of_groups path gs inner) (lines_of_data path vars g.vars) (lines_of_entries before (at + 1) bs g inner) rest)
       ∙ next_back (read at (lines_in (lines_of_items path items g.items ++ inside))) (record { items = items; groups = gs; vars = vars }) (lines_in later) _ _
-        (next_back (read_each (read_item path) g.items (lines_in (lines_of_items path items g.items ++ inside))) items (lines_in inside) _ _ (items_back path items g.items inside word ni (both_left (fit_items items g.items) _ f) (both_left (are_items items) _ h))
-          (next_back (read_groups path inner (lines_in inside)) gs (lines_in others) _ _ (groups_back gs inner path others word ng (both_left (fit_groups gs inner) _ f1) (both_left (are_groups gs) _ h1))
-            (next_back (read_each (read_datum path) g.vars (lines_in others)) vars (lines_in later) _ _ (data_back path vars g.vars later word nv (counts_equal vars g.vars (both_left (fit_data vars g.vars) _ f2)) (both_left (are_data vars) _ h2))
-              refl)))
-        (next_back (repeated (count_of_blocks bs) (at + 1) read (lines_in later)) bs (lines_in rest) _ _
-          (entries_back bs g inner before rest (at + 1) (omega arith) w n ni ng nv (both_right (fit_data vars g.vars) _ f2) (both_right (are_data vars) _ h2))
-          refl)
+      (next_back (read_each (read_item path) g.items (lines_in (lines_of_items path items g.items ++ inside))) items (lines_in inside) _ _ (items_back path items g.items inside word ni (both_left (fit_items items g.items) _ f) (both_left (are_items items) _ h))
+      (next_back (read_groups path inner (lines_in inside)) gs (lines_in others) _ _ (groups_back gs inner path others word ng (both_left (fit_groups gs inner) _ f1) (both_left (are_groups gs) _ h1))
+      (next_back (read_each (read_datum path) g.vars (lines_in others)) vars (lines_in later) _ _ (data_back path vars g.vars later word nv (counts_equal vars g.vars (both_left (fit_data vars g.vars) _ f2)) (both_left (are_data vars) _ h2))
+      refl)))
+      (next_back (repeated (count_of_blocks bs) (at + 1) read (lines_in later)) bs (lines_in rest) _ _
+      (entries_back bs g inner before rest (at + 1) (omega arith) w n ni ng nv (both_right (fit_data vars g.vars) _ f2) (both_right (are_data vars) _ h2))
+      refl)
 
 -- ---- messages
 
@@ -258,11 +258,11 @@ named_back t [] l own e = absurd (cc)
 named_back t (m ∷ ms) l own e =
     let Q : Bool → Type 0 = λ b. (if b then Some m else message_of t ms) ≡ Some l → named (m ∷ ms) l.name ≡ Some l in
     elim (m.template == t) as Q [
-      true ↦ λ k.
-        let same : m ≡ l = cc in
-        let P : MessagePlan → Type 0 = λ x. named (m ∷ ms) x.name ≡ Some x in
-        subst P same (rw ((bytes_eq-Decides m.name m.name).1 refl) refl)
-    | false ↦ λ k. other m.name l.name (found_holds (λ x. x.name ≢ m.name) t ms l k own.0) m ms l ∙ named_back t ms l own.1 k
+      | true ↦ λ k.
+          let same : m ≡ l = cc in
+          let P : MessagePlan → Type 0 = λ x. named (m ∷ ms) x.name ≡ Some x in
+          subst P same (rw ((bytes_eq-Decides m.name m.name).1 refl) refl)
+      | false ↦ λ k. other m.name l.name (found_holds (λ x. x.name ≢ m.name) t ms l k own.0) m ms l ∙ named_back t ms l own.1 k
     ] e
   where
     other : (a b : List ℕ) → b ≢ a → (m : MessagePlan) (ms : List MessagePlan) (l : MessagePlan) → (if bytes_eq a b then Some m else named ms b) ≡ named ms b
@@ -288,18 +288,18 @@ message_back schema m l words found f h =
     let body = lines_of_items [] m.root.items l.root.items ++ inside in
     let first : lines_in (message_line l.name ++ body) ≡ (codes "message " ++ l.name) ∷ lines_in body = ap lines_in (append_assoc (codes "message " ++ l.name) (10 ∷ []) body) ∙ line_back (codes "message " ++ l.name) body (both_left (is_word l.name) _ w) in
     let line_is : layout_on schema.messages (codes "message " ++ l.name) ≡ Some l =
-        ap (λ o. also (also o (named schema.messages)) (λ x. message_of x.template schema.messages)) (behind_joined (codes "message ") l.name)
-        ∙ ap (λ o. also o (λ x. message_of x.template schema.messages)) named_is
-        ∙ own in
+    ap (λ o. also (also o (named schema.messages)) (λ x. message_of x.template schema.messages)) (behind_joined (codes "message ") l.name)
+    ∙ ap (λ o. also o (λ x. message_of x.template schema.messages)) named_is
+    ∙ own in
     ap (λ text. read_message schema.messages (lines_in text)) (five (message_line l.name) (lines_of_items [] m.root.items l.root.items) (lines_of_groups [] m.root.groups l.root.groups) (lines_of_data [] m.root.vars l.root.vars) end_line)
     ∙ next_back (read_line (layout_on schema.messages) (lines_in (message_line l.name ++ body))) l (lines_in body) _ _
-      (ap (read_line (layout_on schema.messages)) first ∙ ap (λ o. taken (length ((codes "message " ++ l.name) ∷ lines_in body)) o (lines_in body)) line_is)
-      (next_back (read_elements [] l.root.items (read_groups [] l.root.groups) l.root.vars (lines_in body)) (record { items = m.root.items; groups = m.root.groups; vars = m.root.vars }) (lines_in end_line) _ _
-        (next_back (read_each (read_item []) l.root.items (lines_in body)) m.root.items (lines_in inside) _ _ (items_back [] m.root.items l.root.items inside refl (both_left (items_have_words l.root.items) _ w1) (both_left (fit_items m.root.items l.root.items) _ f) (both_left (are_items m.root.items) _ h))
-          (next_back (read_groups [] l.root.groups (lines_in inside)) m.root.groups (lines_in others) _ _ (groups_back m.root.groups l.root.groups [] others refl (both_left (groups_have_words l.root.groups) _ w2) (both_left (fit_groups m.root.groups l.root.groups) _ f1) (both_left (are_groups m.root.groups) _ h1))
-            (next_back (read_each (read_datum []) l.root.vars (lines_in others)) m.root.vars (lines_in end_line) _ _ (data_back [] m.root.vars l.root.vars end_line refl (both_right (groups_have_words l.root.groups) _ w2) (counts_equal m.root.vars l.root.vars (both_right (fit_groups m.root.groups l.root.groups) _ f1)) (both_right (are_groups m.root.groups) _ h1))
-              refl)))
-        (ap (λ t. Ok (record m { template = t }, [])) template))
+    (ap (read_line (layout_on schema.messages)) first ∙ ap (λ o. taken (length ((codes "message " ++ l.name) ∷ lines_in body)) o (lines_in body)) line_is)
+    (next_back (read_elements [] l.root.items (read_groups [] l.root.groups) l.root.vars (lines_in body)) (record { items = m.root.items; groups = m.root.groups; vars = m.root.vars }) (lines_in end_line) _ _
+    (next_back (read_each (read_item []) l.root.items (lines_in body)) m.root.items (lines_in inside) _ _ (items_back [] m.root.items l.root.items inside refl (both_left (items_have_words l.root.items) _ w1) (both_left (fit_items m.root.items l.root.items) _ f) (both_left (are_items m.root.items) _ h))
+    (next_back (read_groups [] l.root.groups (lines_in inside)) m.root.groups (lines_in others) _ _ (groups_back m.root.groups l.root.groups [] others refl (both_left (groups_have_words l.root.groups) _ w2) (both_left (fit_groups m.root.groups l.root.groups) _ f1) (both_left (are_groups m.root.groups) _ h1))
+    (next_back (read_each (read_datum []) l.root.vars (lines_in others)) m.root.vars (lines_in end_line) _ _ (data_back [] m.root.vars l.root.vars end_line refl (both_right (groups_have_words l.root.groups) _ w2) (counts_equal m.root.vars l.root.vars (both_right (fit_groups m.root.groups l.root.groups) _ f1)) (both_right (are_groups m.root.groups) _ h1))
+    refl)))
+    (ap (λ t. Ok (record m { template = t }, [])) template))
 
 -- the message of the lines that are printed is the one that was printed
 pub printed_back : (schema : Plan) (m : Message) → Fits schema m → HasWords schema → is_message m ≡ true → message_of_text schema (lines_of_message schema m) ≡ Ok m

@@ -1,5 +1,5 @@
 -- The text of a value reads back as the value.
-use Rattle.std.proofs.Common.{◌≡◌, ◌≢◌, ℕ, zero, suc, ◌+◌, ◌-◌, ◌*◌, ◌/◌, ◌%◌, ◌^◌, ◌<◌, ◌≤◌, ◌==◌, Bool, true, false, ◌&&◌, not, Option, Some, None, Result, Ok, Err, List, [], ◌∷◌, ◌++◌, length, take, drop, get_or, refl, sym, ap, ◌∙◌, subst, arith, append_assoc, decimal}
+use Rattle.std.proofs.Common.{◌≡◌, ℕ, zero, suc, ◌+◌, ◌-◌, ◌*◌, ◌^◌, ◌<◌, ◌≤◌, ◌==◌, Bool, true, false, ◌&&◌, not, Some, None, List, [], ◌∷◌, ◌++◌, length, refl, sym, ap, ◌∙◌, subst, arith, append_assoc, decimal}
 use Rattle.std.specs.Prelude.{ℤ, pos, negsuc, nat_le, nat_lt, if◌then◌else◌, ◌||◌, codes, slice_index}
 use Rattle.std.specs.Fmt.{signed_decimal}
 use Rattle.std.specs.Char.{digit_value}
@@ -14,14 +14,12 @@ use Rattle.std.proofs.lemmas.Str.Parse.{digit_from_value}
 use Rattle.std.proofs.lemmas.Slice.Eq.{bytes_eq-Decides}
 use Rattle.std.proofs.lemmas.Bool.{false≢true}
 use Rattle.std.proofs.lemmas.Bool.Decides.{nat_tests, Decides-eqb}
-use Rattle.hex.specs.Hex.{encode_lower, decode_of, IsBytes}
 use Rattle.hex.proofs.HexLemmas.{decode_of-encode_lower}
 use Rattle.sbe_value.specs.declared.item.Item.{Item}
 use Rattle.sbe_value.specs.declared.item.Item.TheVariants.{Num, Null, Absent, Text, Raw}
 use Rattle.sbe_value.specs.declared.datum.Datum.{Datum}
 use Rattle.sbe_value.specs.declared.datum.Datum.TheVariants as datum
 use Rattle.sbe_grammar.specs.Fits.{Form, number, text, raw, has_form}
-use Rattle.sbe_text.specs.declared.token.Count.{Count}
 use Rattle.sbe_text.specs.declared.token.Count.TheVariants as count
 use Rattle.sbe_text.specs.Written.{are_plain, quoted, raw_text, value_text, datum_text}
 use Rattle.sbe_text.specs.Tokens.{decoded, plain, either_of, at_most, exactly, behind, in_front, also, value_on, is_digit, are_digits, natural_of, number_of, positive, negative, raw_of, quoted_of, characters_of, present_of, value_of, datum_of, count_of}
@@ -93,8 +91,8 @@ no_leading n b (c ∷ cs) h e =
     let numeral = decimal_is_IsNumeral_wide n h in
     let P : Bool → Type 0 = λ t. (b == 48) ≡ t → (not t || (length (c ∷ cs) == 0)) ≡ true in
     elim (b == 48) as P [
-      true ↦ λ z. absurd (too_long n b c cs h e ((Decides-eqb b 48).0 z) (subst (λ (ds : List ℕ). AllDigits 10 ds) e numeral.0.1) (ap (digits_value 10) (sym e) ∙ numeral.1))
-    | false ↦ λ z. refl
+      | true ↦ λ z. absurd (too_long n b c cs h e ((Decides-eqb b 48).0 z) (subst (λ (ds : List ℕ). AllDigits 10 ds) e numeral.0.1) (ap (digits_value 10) (sym e) ∙ numeral.1))
+      | false ↦ λ z. refl
     ] refl
   where
     too_long : (n b c : ℕ) (cs : List ℕ) → n < 10 ^ 64 → decimal n ≡ b ∷ c ∷ cs → b ≡ 48 → AllDigits 10 (b ∷ c ∷ cs) → digits_value 10 (b ∷ c ∷ cs) ≡ n → ⊥

@@ -1,5 +1,5 @@
 -- What the values of a message and the names of a plan are, where lines are read back.
-use Rattle.std.specs.Prelude.{◌≡◌, ◌≢◌, ⊤, IsTrue, ℕ, ◌-◌, ◌^◌, ◌==◌, ◌&&◌, nat_le, nat_lt, ℤ, pos, negsuc, Bool, true, not, List, [], ◌∷◌}
+use Rattle.std.specs.Prelude.{◌≢◌, ⊤, IsTrue, ℕ, ◌-◌, ◌^◌, ◌==◌, ◌&&◌, nat_le, nat_lt, ℤ, pos, negsuc, Bool, true, not, List, [], ◌∷◌}
 use Rattle.std.specs.List.{AllByRecursion}
 use Rattle.sbe_value.specs.declared.item.Item.{Item}
 use Rattle.sbe_value.specs.declared.item.Item.TheVariants.{Num, Null, Absent, Text, Raw}
@@ -11,7 +11,7 @@ use Rattle.sbe_layout.specs.declared.items.ItemPlan.{ItemPlan}
 use Rattle.sbe_layout.specs.declared.items.DataPlan.{DataPlan}
 use Rattle.sbe_layout.specs.declared.plan.MessagePlan.{MessagePlan}
 use Rattle.sbe_layout.specs.declared.plan.Plan.{Plan}
-use Rattle.sbe_layout.specs.Trees.{PlanHead, PlanTree, no_plans, plan}
+use Rattle.sbe_layout.specs.Trees.{PlanTree, no_plans, plan}
 
 -- ---- values are those of the types of the program: bytes, numbers of 128 bits, counts of at most 128 bits
 
