@@ -1,6 +1,6 @@
 -- What is read of lines by a plan fits the plan.
-use Rattle.std.proofs.Common.{◌≡◌, ◌≢◌, ℕ, zero, suc, ◌+◌, ◌≤◌, ◌==◌, Bool, true, false, ◌&&◌, Option, Some, None, Ok, Err, List, [], ◌∷◌, length, refl, sym, ap, ◌∙◌, subst, eq-eqb}
-use Rattle.std.specs.Prelude.{ℤ, nat_le, IsTrue, if◌then◌else◌, Result, codes}
+use Rattle.std.proofs.Common.{◌≡◌, ℕ, zero, suc, ◌+◌, ◌==◌, Bool, true, false, ◌&&◌, Option, Some, None, Ok, Err, List, [], ◌∷◌, length, refl, sym, ap, ◌∙◌, subst, eq-eqb}
+use Rattle.std.specs.Prelude.{ℤ, nat_le, if◌then◌else◌, Result, codes}
 use Rattle.std.specs.Option.{option_map}
 use Rattle.std.specs.Str.{bytes_eq}
 use Rattle.std.proofs.lemmas.Bool.Decides.{Decides-eqb}
@@ -10,7 +10,7 @@ use Rattle.sbe_value.specs.declared.datum.Datum.{Datum}
 use Rattle.sbe_value.specs.declared.message.Message.{Message}
 use Rattle.sbe_value.specs.declared.tree.Group.{Group}
 use Rattle.sbe_value.specs.declared.tree.Group.TheVariants as group
-use Rattle.sbe_value.specs.Trees.{GroupList, BlockList, no_groups, absent, entries, no_blocks, block}
+use Rattle.sbe_value.specs.Trees.{GroupList, BlockList, no_groups, no_blocks, block}
 use Rattle.sbe_layout.specs.declared.items.ItemPlan.{ItemPlan}
 use Rattle.sbe_layout.specs.declared.items.DataPlan.{DataPlan}
 use Rattle.sbe_layout.specs.declared.plan.MessagePlan.{MessagePlan}
@@ -23,8 +23,8 @@ use Rattle.sbe_text.specs.declared.token.Count.{Count}
 use Rattle.sbe_text.specs.declared.token.Count.TheVariants as count
 use Rattle.sbe_text.specs.Written.{before_in}
 use Rattle.sbe_text.specs.Lines.{Read, next, taken, read_line, read_each, lines_in}
-use Rattle.sbe_text.specs.Tokens.{also, behind, at_most, exactly, characters_of, raw_of, number_of, present_of, value_of, datum_of, count_of, value_on, is_line}
-use Rattle.sbe_text.specs.Reading.{read_element, read_item, read_datum, read_elements, repeated, entry_at, read_entries, read_counted, read_group, read_groups, layout_on, named, message_with, read_body, read_message, alone, numbered, message_of_text}
+use Rattle.sbe_text.specs.Tokens.{also, behind, at_most, exactly, characters_of, raw_of, number_of, present_of, value_of, count_of, value_on, is_line}
+use Rattle.sbe_text.specs.Reading.{read_element, read_item, read_datum, read_elements, repeated, entry_at, read_counted, read_group, read_groups, layout_on, named, message_with, read_body, read_message, alone, numbered, message_of_text}
 
 -- ---- taking apart what was read
 
@@ -177,7 +177,7 @@ groups_fit (plan g inner more) before ls rest gs h =
 
 -- ---- messages
 
-layout_found : (t : ℕ) (ms : List MessagePlan) (l : MessagePlan) → message_of t ms ≡ Some l → l.template ≡ t
+pub layout_found : (t : ℕ) (ms : List MessagePlan) (l : MessagePlan) → message_of t ms ≡ Some l → l.template ≡ t
 layout_found t [] l e = absurd (cc)
 layout_found t (m ∷ ms) l e =
     let P : Bool → Type 0 = λ b. (m.template == t) ≡ b → (if b then Some m else message_of t ms) ≡ Some l → l.template ≡ t in

@@ -1,5 +1,5 @@
 -- The items, the data, the groups and the entries that are read so far, and those that are left.
-use Rattle.std.proofs.Common.{◌≡◌, ℕ, zero, suc, ◌+◌, ◌-◌, ◌<◌, ◌≤◌, Ok, Err, List, [], ◌∷◌, ◌++◌, length, drop, get_or, refl, ap, sym, ◌∙◌, arith, add-one, drop-cons, append_assoc, append-nil}
+use Rattle.std.proofs.Common.{◌≡◌, ℕ, suc, ◌+◌, ◌-◌, ◌<◌, ◌≤◌, Ok, List, [], ◌∷◌, ◌++◌, length, drop, get_or, refl, ap, sym, ◌∙◌, arith, add-one, drop-cons, append_assoc, append-nil}
 use Rattle.std.proofs.Math.ListN.{drop_of_length-le}
 use Rattle.sbe_value.specs.declared.tree.Group.{Group}
 use Rattle.sbe_value.specs.declared.tree.Group.TheVariants.{Absent, Entries}
@@ -10,7 +10,7 @@ use Rattle.sbe_layout.specs.declared.blocks.GroupPlan.{GroupPlan}
 use Rattle.sbe_layout.specs.Views.{head_of, plans_of}
 use Rattle.sbe_grammar.specs.Reading.{Entry, group_before}
 use Rattle.sbe_text.specs.declared.error.Refusal.{Refusal}
-use Rattle.sbe_text.specs.Lines.{Read, next, read_each}
+use Rattle.sbe_text.specs.Lines.{Read, read_each}
 use Rattle.sbe_text.specs.Reading.{read_group, read_groups, repeated}
 use Rattle.sbe_text.specs.Answers.{Fails, entry_of}
 use Rattle.sbe_text.proofs.Steps.{along, along_same, along_step, along_fails}

@@ -4,6 +4,7 @@
 #![tactic(auto)]
 
 mod error;
+mod laws;
 mod line;
 mod parse;
 mod path;
@@ -12,5 +13,6 @@ mod token;
 mod values;
 
 pub use error::TextError;
+pub use laws::printed_reads_back;
 pub use parse::parse_message;
 pub use print::print_message;
