@@ -2,3 +2,4 @@ pub mod Parts
 pub mod Values
 pub mod Spelling
 pub mod Reading
+pub mod Fits
