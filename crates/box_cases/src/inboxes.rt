@@ -11,7 +11,12 @@ use std::alloc::{AllocError, Global};
 /// What opening on given records answers, in each flow.
 pub fn refusals(alloc: Global) -> Result<String, AllocError> {
     let cases: [&[Made]; 10] = [
-        &[Made::Negotiated, Made::Apply(1), Made::Apply(2), Made::PeerFinished],
+        &[
+            Made::Negotiated,
+            Made::Apply(1),
+            Made::Apply(2),
+            Made::PeerFinished,
+        ],
         &[Made::Skip(1, 4), Made::Apply(5)],
         &[Made::Skip(1, u64::MAX - 1)],
         &[Made::Skip(1, u64::MAX)],
@@ -54,7 +59,9 @@ fn jumped<J: Journal>(inbox: &mut Inbox<J>) -> Option<Result<(), AppendFault>> {
 }
 
 /// Both marks, where they are not recorded yet.
-fn marked<J: Journal>(inbox: &mut Inbox<J>) -> Option<(Result<(), AppendFault>, Result<(), AppendFault>)> {
+fn marked<J: Journal>(
+    inbox: &mut Inbox<J>,
+) -> Option<(Result<(), AppendFault>, Result<(), AppendFault>)> {
     if inbox.is_negotiated() || inbox.peer_last().is_some() {
         return None;
     }
@@ -72,8 +79,13 @@ fn told<J: Journal>(alloc: Global, inbox: &mut Inbox<J>) -> Result<String, Alloc
         inbox.bytes()
     )?;
     let count = inbox.count();
-    if count > 0 && let Ok(payload) = inbox.payload(count) {
-        line.push_str(format!(in alloc; ", the last of template {:?}", payload.as_slice().get(4))?.as_str())?;
+    if count > 0
+        && let Ok(payload) = inbox.payload(count)
+    {
+        line.push_str(format!(in alloc;
+            ", the last of template {:?}",
+            payload.as_slice().get(4)
+        )?.as_str())?;
     }
     Ok(line)
 }

@@ -97,7 +97,10 @@ fn disk_of(alloc: Global, records: &[Made]) -> Result<Option<MemDisk>, AllocErro
 }
 
 /// What opening an outbox on these records answers: how many entries it has, or why it is refused.
-pub fn open_outbox(alloc: Global, records: &[Made]) -> Result<Option<Result<u64, BoxFault>>, AllocError> {
+pub fn open_outbox(
+    alloc: Global,
+    records: &[Made],
+) -> Result<Option<Result<u64, BoxFault>>, AllocError> {
     let Some(disk) = disk_of(alloc, records)? else {
         return Ok(None);
     };
@@ -111,7 +114,11 @@ pub fn open_outbox(alloc: Global, records: &[Made]) -> Result<Option<Result<u64,
 }
 
 /// What opening an inbox on these records answers: the number that it waits for, or why it is refused.
-pub fn open_inbox(alloc: Global, records: &[Made], flow: Flow) -> Result<Option<Result<u64, BoxFault>>, AllocError> {
+pub fn open_inbox(
+    alloc: Global,
+    records: &[Made],
+    flow: Flow,
+) -> Result<Option<Result<u64, BoxFault>>, AllocError> {
     let Some(disk) = disk_of(alloc, records)? else {
         return Ok(None);
     };

@@ -22,7 +22,11 @@ fn opened(alloc: Global, disk: MemDisk, limits: Limits) -> Option<Outbox<LogJour
 }
 
 /// A message of this template from sender 1, or from sender 2.
-fn accepted<J: Journal>(outbox: &mut Outbox<J>, second: bool, template: u8) -> Option<Result<u64, SubmitFault>> {
+fn accepted<J: Journal>(
+    outbox: &mut Outbox<J>,
+    second: bool,
+    template: u8,
+) -> Option<Result<u64, SubmitFault>> {
     let payload = message(template);
     if !is_application(&payload) {
         return None;
@@ -34,8 +38,14 @@ fn accepted<J: Journal>(outbox: &mut Outbox<J>, second: bool, template: u8) -> O
 pub fn limits(alloc: Global) -> Result<String, AllocError> {
     let mut line = String::new(alloc);
     for limits in [
-        Limits { entries: 3, bytes: 100_000 },
-        Limits { entries: 1000, bytes: 95 },
+        Limits {
+            entries: 3,
+            bytes: 100_000,
+        },
+        Limits {
+            entries: 1000,
+            bytes: 95,
+        },
     ] {
         let Some(disk) = formatted(alloc)? else {
             return format!(in alloc; "no formatted disk");
@@ -50,14 +60,12 @@ pub fn limits(alloc: Global) -> Result<String, AllocError> {
         let closed = outbox.close();
         let behind = accepted(&mut outbox, false, 5);
         let again = outbox.close();
-        line.push_str(
-            format!(in alloc;
-                "close {closed:?}, {behind:?}, close {again:?}, {} entries, {} bytes; ",
-                outbox.front(),
-                outbox.bytes()
-            )?
-            .as_str(),
-        )?;
+        line.push_str(format!(in alloc;
+            "close {closed:?}, {behind:?}, close {again:?}, {} entries, {} bytes; ",
+            outbox.front(),
+            outbox.bytes()
+        )?
+        .as_str())?;
     }
     Ok(line)
 }
@@ -94,8 +102,15 @@ fn told<J: Journal>(alloc: Global, outbox: &mut Outbox<J>) -> Result<String, All
         outbox.closed(),
         outbox.bytes()
     )?;
-    if outbox.front() >= 2 && let Ok(entry) = outbox.stable(2) {
-        line.push_str(format!(in alloc; ", entry {} is of template {}", entry.number(), template_of(entry.payload()))?.as_str())?;
+    if outbox.front() >= 2
+        && let Ok(entry) = outbox.stable(2)
+    {
+        line.push_str(format!(in alloc;
+            ", entry {} is of template {}",
+            entry.number(),
+            template_of(entry.payload())
+        )?
+        .as_str())?;
     }
     Ok(line)
 }
@@ -142,7 +157,11 @@ fn accepted_until(alloc: Global, calls: u64) -> Result<Option<String>, AllocErro
     let first = accepted(&mut outbox, false, 1);
     let second = accepted(&mut outbox, false, 2);
     let closed = outbox.close();
-    Ok(Some(format!(in alloc; "{first:?} {second:?} {closed:?} {} {}", outbox.broken(), outbox.front())?))
+    Ok(Some(format!(in alloc;
+        "{first:?} {second:?} {closed:?} {} {}",
+        outbox.broken(),
+        outbox.front()
+    )?))
 }
 
 /// Two messages and the Finish over a disk that fails at each of their first nine calls in turn.
@@ -150,7 +169,9 @@ pub fn failing(alloc: Global) -> Result<String, AllocError> {
     let mut line = format!(in alloc; "failing")?;
     let mut shown = 0;
     for calls in 0..MOST {
-        if shown < 9 && let Some(answers) = accepted_until(alloc, calls)? {
+        if shown < 9
+            && let Some(answers) = accepted_until(alloc, calls)?
+        {
             line.push_str(format!(in alloc; " {answers};")?.as_str())?;
             shown += 1;
         }

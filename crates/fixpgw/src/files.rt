@@ -150,8 +150,11 @@ impl<'a> Run<'a> {
 }
 
 /// The devices of a run over files.
-type Devices<'a, R, P> =
-    Outside<FileSource<'a, R, File>, FileSink<'a, R, File, P>, FileDisk<'a, R>>;
+type Devices<'a, R, P> = Outside<
+    FileSource<'a, R, File>,
+    FileSink<'a, R, File, P>,
+    FileDisk<'a, R>,
+>;
 
 /// The files of a run that others must not be the same as.
 #[derive(Clone, Copy)]

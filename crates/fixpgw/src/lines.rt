@@ -77,7 +77,9 @@ pub fn journal_line(
     };
     Ok(Some(match cause {
         JournalCause::Wrong { at } => {
-            format!(in alloc; "{file}: record {at}, counted from 0, does not belong into {journal}")?
+            format!(in alloc;
+                "{file}: record {at}, counted from 0, does not belong into {journal}"
+            )?
         }
         JournalCause::NotFormatted => {
             format!(in alloc; "{file}: {cause}: for a new session run fixpgw format OUTBOX INBOX")?
