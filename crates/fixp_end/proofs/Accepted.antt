@@ -1,20 +1,19 @@
 -- Over accepted frames a recoverable inbox grows as one.
-use Rattle.std.proofs.Common.{◌≡◌, ℕ, ◌+◌, ◌≤◌, ◌==◌, ◌||◌, max, nat_lt, not, IsTrue, Bool, true, false, if◌then◌else◌, List, [], ◌∷◌, ◌++◌, map, length, Option, Some, None, option_to_list, refl, sym, ap, subst, ◌∙◌, arith, append-nil, append_assoc, eqb-true, eq-eqb, true≢false}
-use Rattle.std.specs.Prelude.{⊤, is_some, is_none, unwrap_or, Result, Ok, Err}
-use Rattle.std.specs.List.{flat_map, AllByRecursion}
+use Rattle.std.proofs.Common.{◌≡◌, ℕ, ◌+◌, ◌==◌, ◌||◌, max, nat_lt, not, IsTrue, Bool, true, false, if◌then◌else◌, List, [], ◌∷◌, ◌++◌, map, length, Option, Some, None, option_to_list, refl, sym, ap, subst, ◌∙◌, arith, append-nil, eqb-true, eq-eqb, true≢false}
+use Rattle.std.specs.Prelude.{is_some, Result, Ok, Err}
+use Rattle.std.specs.List.{AllByRecursion}
 use Rattle.std.specs.Str.{bytes_eq}
 use Rattle.session_model.specs.Journal.{counts_from}
 use Rattle.session_model.specs.Inbox.{Numbered, InboxRecord, apply, applied, skips, settled, numbers_of, next_number, past_greatest}
-use Rattle.session_model.specs.Events.{Announcer, Event, announce, handshake, in_flow, standing, numbered}
+use Rattle.session_model.specs.Events.{Announcer, Event, announce, handshake, in_flow, standing}
 use Rattle.session_model.specs.Growth.{recoverable, GrownInOrder, GrownRecoverable}
 use Rattle.session_model.proofs.Lists.{past_greatest-pos}
 use Rattle.session_model.proofs.Inboxes.{next_number-append}
-use Rattle.session_model.proofs.Recoverable.{next_behind}
 use Rattle.session_model.proofs.Through.{growth_goes_on}
 use Rattle.flow_recover.specs.declared.receiver.Seen.{Seen}
 use Rattle.flow_recover.specs.declared.receiver.Seen.TheVariants.{Deliver, Gap, Repeat}
-use Rattle.flow_recover.specs.Receiving.{Receiving, number, seen, seen_as, announced, after_message}
-use Rattle.flow_recover.specs.Laws.{message, event_of as arrival_event, given}
+use Rattle.flow_recover.specs.Receiving.{number, seen, seen_as, announced, after_message}
+use Rattle.flow_recover.specs.Laws.{message, given}
 use Rattle.flow_recover.proofs.Chains.{grows_recoverable, number_counted, next_counted}
 use Rattle.flow_retrans.specs.declared.requester.BadStart.{BadStart}
 use Rattle.flow_retrans.specs.declared.judging.RetransmitCode.{RetransmitCode}
@@ -23,17 +22,16 @@ use Rattle.flow_retrans.specs.Requests as request_is
 use Rattle.fixp_msgs.specs.Flow.{flow_code}
 use Rattle.fixp_msgs.specs.declared.numbering.Range.{Range}
 use Rattle.fixp_msgs.specs.Message.{Message, negotiate, negotiation_response, negotiation_reject, establish, establishment_ack, establishment_reject, sequence, unsequenced_heartbeat, retransmit_request, retransmission, retransmit_reject, applied as applied_message, not_applied, finished_sending, finished_receiving, terminate}
-use Rattle.fixp_end.specs.declared.config.EndState.{EndState}
 use Rattle.fixp_end.specs.declared.config.Facts.{Facts}
-use Rattle.fixp_end.specs.declared.phase.Phase.TheVariants.{Idle, Established}
+use Rattle.fixp_end.specs.declared.phase.Phase.TheVariants.{Established}
 use Rattle.fixp_end.specs.declared.ending.Act.{Act}
 use Rattle.fixp_end.specs.declared.ending.Act.TheVariants as acts
 use Rattle.fixp_end.specs.Phases.{is_established}
 use Rattle.fixp_end.specs.Incoming.{Incoming, application, session, wrong_order, too_short, unknown}
 use Rattle.fixp_end.specs.Flows.{is_recoverable}
-use Rattle.fixp_end.specs.Facts.{Around, connecting, in_phase, receiving, requesting, gap_to_ask, having_asked}
-use Rattle.fixp_end.specs.Replies.{Outcome, Row, not_built, goes_on, accepts, rejects, ends, breaks, bad_retransmission, announcement_rows, counted, taken_as, awaiting, negotiated, establishes, request_answered, restarted, rows_of, is_answered, reply_of, first_row}
-use Rattle.fixp_end.specs.Accepting.{Agrees, GrowsBy, AcceptedFrameGrows, event_of, records_of, Arrived, Course, outcome_at, next_course, course_after, AllAccepted, events_of, beginning, AcceptedGrowRecoverable}
+use Rattle.fixp_end.specs.Facts.{Around, in_phase, receiving, requesting, gap_to_ask, having_asked}
+use Rattle.fixp_end.specs.Replies.{Outcome, not_built, goes_on, accepts, bad_retransmission, announcement_rows, counted, taken_as, awaiting, negotiated, establishes, request_answered, restarted, rows_of, is_answered, first_row}
+use Rattle.fixp_end.specs.Accepting.{Agrees, GrowsBy, AcceptedFrameGrows, event_of, records_of, Arrived, Course, next_course, course_after, AllAccepted, events_of, beginning, AcceptedGrowRecoverable}
 use Rattle.fixp_end.proofs.RowByRow.{AllRows, by_row, all_rows}
 
 -- what an outcome leaves, where it is accepted

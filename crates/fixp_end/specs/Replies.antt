@@ -18,7 +18,6 @@ use Rattle.fixp_end.specs.declared.config.Role.{Role}
 use Rattle.fixp_end.specs.declared.config.Role.TheVariants.{Acceptor}
 use Rattle.fixp_end.specs.declared.config.EndConfig.{EndConfig}
 use Rattle.fixp_end.specs.declared.config.Facts.{Facts}
-use Rattle.fixp_end.specs.declared.phase.Phase.{Phase}
 use Rattle.fixp_end.specs.declared.phase.Phase.TheVariants.{Established}
 use Rattle.fixp_end.specs.declared.ending.Act.{Act}
 use Rattle.fixp_end.specs.declared.ending.Act.TheVariants.{Nothing, Apply, Negotiated, Ended}

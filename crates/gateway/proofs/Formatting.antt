@@ -1,11 +1,9 @@
 -- What `format` leaves of a disk that it does not touch, and of a run without a device's fault.
 use Rattle.std.proofs.Common.{◌≡◌, ℕ, List, Option, inl, inr, refl, arith, take}
 use Rattle.std.specs.Option.{ForSome}
-use Rattle.gw_outside.specs.Disk.{Torn}
 use Rattle.jr_record.specs.Images.{magic}
 use Rattle.gateway.specs.declared.journals.Which.TheVariants.{Outbox, Inbox}
 use Rattle.gateway.specs.declared.journals.JournalCause.TheVariants.{NotFormatted, Damaged, Wrong, Already}
-use Rattle.gateway.specs.declared.status.Status.{Status}
 use Rattle.gateway.specs.declared.status.Status.TheVariants.{Done, Words, Config, InputFault, OutputFault, JournalFault, JournalBad, Message, Memory}
 use Rattle.gateway.specs.Formats.{KeepsBehindHeader}
 use Rattle.gateway.specs.Completeness.{FormatCompletes, IsUnformatted}

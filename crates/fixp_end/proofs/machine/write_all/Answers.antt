@@ -1,4 +1,4 @@
-use Rattle.std.proofs.Common.{◌≤◌, None, arith}
+use Rattle.std.proofs.Common.{None, arith}
 use Rattle.fixp_end.proofs.Messages.{written_more}
 use Rattle.fixp_end.proofs.machine.write_all.Goals as goal
 
