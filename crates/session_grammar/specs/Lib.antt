@@ -1,0 +1,2 @@
+pub mod SessionTrees
+pub mod Laws
