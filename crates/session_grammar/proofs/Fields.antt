@@ -1,13 +1,13 @@
 -- The fields of a row of the session messages and the items of a block of the session's schema: the same values at the same places.
-use Rattle.std.proofs.Common.{◌≡◌, ℕ, ◌+◌, ◌-◌, ◌≤◌, ◌^◌, pos, Bool, true, false, IsTrue, List, [], ◌∷◌, length, take, drop, map, sum_by, Option, Some, None, if◌then◌else◌, refl, sym, ap, ◌∙◌, subst, arith}
+use Rattle.std.proofs.Common.{◌≡◌, ℕ, ◌+◌, ◌-◌, ◌≤◌, ◌^◌, pos, Bool, true, false, IsTrue, List, [], ◌∷◌, length, take, drop, map, sum_by, Some, None, if◌then◌else◌, refl, sym, ap, ◌∙◌, arith}
 use Rattle.std.specs.Prelude.{◌==◌}
 use Rattle.std.specs.Ordering.{int_eq}
 use Rattle.std.proofs.lemmas.List.Sums.{sum_by-cons}
+use Rattle.std.proofs.lemmas.Bool.{false≢true}
 use Rattle.std.proofs.lemmas.Bool.Decides.{nat_tests}
 use Rattle.std.specs.Int.{w64, from_le_bytes}
 use Rattle.sbe_prim.specs.declared.Primitive.TheVariants.{UInt8, UInt32, UInt64}
 use Rattle.sbe_prim.specs.declared.Order.TheVariants.{Little}
-use Rattle.sbe_value.specs.declared.item.Item.{Item}
 use Rattle.sbe_value.specs.declared.item.Item.TheVariants.{Num, Null, Raw, Absent}
 use Rattle.schema_types.specs.declared.types.Presence.{Presence}
 use Rattle.schema_types.specs.declared.types.Presence.TheVariants.{Required, Optional}
@@ -62,10 +62,11 @@ MarksFit place (f ∷ fs) (m ∷ ms) = (m ≡ record { since = pos 0; end = plac
 pub in_every : (version : ℕ) → is_in version (pos 0) ≡ true
 in_every version = grind (arith, nat_tests)
 
-if_true : (b : Bool) (x y : Item) → b ≡ true → x ≡ (if b then x else y)
+pub if_true : {A : Type 0} (b : Bool) (x y : A) → b ≡ true → (if b then x else y) ≡ x
 if_true true x y e = refl
-if_true false x y e = cc
+if_true false x y e = absurd (false≢true e)
 
+-- a number that may be missing
 optional_by : (b : Bool) (n : ℕ) → optional_item (if b then None else Some n) ≡ (if b then Null else Num (pos n))
 optional_by true n = refl
 optional_by false n = refl
@@ -76,28 +77,29 @@ same_null n = grind (arith, nat_tests)
 optional_is : (n : ℕ) → optional_item (unless_null n) ≡ number_or_null Optional (pos (2 ^ 64 - 1)) (pos n)
 optional_is n = rw (sym (same_null n)) (optional_by (n == null) n)
 
-is_one : (a b : ℕ) → a ≡ b → (a == b) ≡ true
-is_one a b e = grind (arith, nat_tests)
+same_number : (a b : ℕ) → a ≡ b → (a == b) ≡ true
+same_number a b e = grind (arith, nat_tests)
 
+-- a field holds the value of its item
 field_value : (version place : ℕ) (block name : List ℕ) (f : Field) → Holds block place f → place + size_of f ≤ length block → item_of f ≡ item_in Little version block (placed name place f)
-field_value version place block name (Field.identifier id) h long = ap Raw h ∙ if_true (is_in version (pos 0)) _ Absent (in_every version)
+field_value version place block name (Field.identifier id) h long = ap Raw h ∙ sym (if_true (is_in version (pos 0)) _ Absent (in_every version))
 field_value version place block name (Field.u8 n) h long =
     ap (λ (k : ℕ). Num (pos k)) (h ∙ sym (number_1 (drop place block)))
-    ∙ if_true (length (take 1 (drop place block)) == 1) _ (Raw (take 1 (drop place block))) (is_one _ _ (all_there 1 place block long))
-    ∙ if_true (is_in version (pos 0)) _ Absent (in_every version)
+    ∙ sym (if_true (length (take 1 (drop place block)) == 1) _ (Raw (take 1 (drop place block))) (same_number _ _ (all_there 1 place block long)))
+    ∙ sym (if_true (is_in version (pos 0)) _ Absent (in_every version))
 field_value version place block name (Field.u32 n) h long =
     ap (λ (k : ℕ). Num (pos k)) (h ∙ sym (number_4 (drop place block)))
-    ∙ if_true (length (take 4 (drop place block)) == 4) _ (Raw (take 4 (drop place block))) (is_one _ _ (all_there 4 place block long))
-    ∙ if_true (is_in version (pos 0)) _ Absent (in_every version)
+    ∙ sym (if_true (length (take 4 (drop place block)) == 4) _ (Raw (take 4 (drop place block))) (same_number _ _ (all_there 4 place block long)))
+    ∙ sym (if_true (is_in version (pos 0)) _ Absent (in_every version))
 field_value version place block name (Field.u64 n) h long =
     ap (λ (k : ℕ). Num (pos k)) (h ∙ sym (number_8 (drop place block)))
-    ∙ if_true (length (take 8 (drop place block)) == 8) _ (Raw (take 8 (drop place block))) (is_one _ _ (all_there 8 place block long))
-    ∙ if_true (is_in version (pos 0)) _ Absent (in_every version)
+    ∙ sym (if_true (length (take 8 (drop place block)) == 8) _ (Raw (take 8 (drop place block))) (same_number _ _ (all_there 8 place block long)))
+    ∙ sym (if_true (is_in version (pos 0)) _ Absent (in_every version))
 field_value version place block name (Field.optional n) h long =
     ap optional_item (h ∙ ap unless_null (sym (number_8 (drop place block))))
     ∙ optional_is (from_le_bytes w64 (take 8 (drop place block)))
-    ∙ if_true (length (take 8 (drop place block)) == 8) _ (Raw (take 8 (drop place block))) (is_one _ _ (all_there 8 place block long))
-    ∙ if_true (is_in version (pos 0)) _ Absent (in_every version)
+    ∙ sym (if_true (length (take 8 (drop place block)) == 8) _ (Raw (take 8 (drop place block))) (same_number _ _ (all_there 8 place block long)))
+    ∙ sym (if_true (is_in version (pos 0)) _ Absent (in_every version))
 
 -- the values of a row's fields are those of its items
 pub values_are : (version place : ℕ) (block : List ℕ) (fs : List Field) (ps : List ItemPlan) → ItemsFit place fs ps → HoldsAll block place fs → place + sum_by size_of fs ≤ length block → map item_of fs ≡ items_in Little version block ps
@@ -127,6 +129,6 @@ covered version size place [] (m ∷ ms) fit start within = absurd fit
 covered version size place (f ∷ fs) [] fit start within = absurd fit
 covered version size place (f ∷ fs) (m ∷ ms) (here, more) start (ends, within) =
     let end : m.end ≡ place + size_of f = ap (λ (x : Mark). x.end) here in
-    let there : IsTrue (is_in version m.since) = subst IsTrue (sym (ap (λ (x : Mark). is_in version x.since) here ∙ in_every version)) refl in
+    let there : IsTrue (is_in version m.since) = ap (λ (x : Mark). is_in version x.since) here ∙ in_every version in
     let last : place + size_of f ≤ size = omega (arith, end, ends there) in
     omega (arith, sum_by-cons size_of f fs, covered version size (place + size_of f) fs ms more last within)

@@ -34,6 +34,7 @@ FitsFound (Some layout) r = Fits layout r
 abbrev pub plans_at : ℕ → List MessagePlan
 plans_at version = (plans.plan_of (session_schema version)).messages
 
+-- every row, by the message of its template
 pub fits : (version : ℕ) (m : Message) → FitsFound (plans.message_of (row_of m).template (plans_at version)) (row_of m)
 unfolding primitive_named
 fits version (Message.negotiate _ _ _ _) = record { items = (refl, (refl, (refl, tt))); marks = (refl, (refl, (refl, tt))); groups = refl; vars = refl }

@@ -78,6 +78,7 @@ told_by id is vs =
 abbrev told : tree.Message → Message
 told t = told_by t.template t.root.items t.root.vars
 
+-- the tree tells its message
 is_told : (m : Message) → told (tree_of m) ≡ m
 is_told (Message.negotiate _ _ _ _) = refl
 is_told (Message.negotiation_response _ _ _ _) = refl

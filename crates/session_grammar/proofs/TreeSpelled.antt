@@ -1,5 +1,5 @@
 -- Bytes that spell a session message spell its tree by the session's schema.
-use Rattle.std.proofs.Common.{◌≡◌, ℕ, ◌+◌, ◌≤◌, pos, IsTrue, List, [], ◌∷◌, ◌++◌, length, take, drop, sum_by, map, Option, Some, None, refl, sym, ap, ◌∙◌, subst, append_assoc, arith}
+use Rattle.std.proofs.Common.{◌≡◌, ℕ, ◌≤◌, pos, IsTrue, List, [], ◌∷◌, ◌++◌, length, take, drop, map, Option, Some, None, refl, sym, ap, ◌∙◌, subst, append_assoc, arith}
 use Rattle.std.specs.Prelude.{⊤}
 use Rattle.std.proofs.lemmas.List.{take-append-drop, append-nil}
 use Rattle.std.specs.Int.{w16, from_le_bytes}
@@ -8,14 +8,14 @@ use Rattle.sbe_prim.specs.declared.Order.TheVariants.{Little}
 use Rattle.sbe_value.specs.Trees.{no_groups}
 use Rattle.sbe_layout.specs.declared.items.DataPlan.{DataPlan}
 use Rattle.sbe_layout.specs.declared.plan.MessagePlan.{MessagePlan}
-use Rattle.sbe_layout.specs.Trees.{PlanTree, no_plans}
+use Rattle.sbe_layout.specs.Trees.{PlanTree}
 use Rattle.sbe_layout.specs.Plans as plans
 use Rattle.sbe_grammar.specs.Parts.{Then}
 use Rattle.sbe_grammar.specs.Values.{is_in}
 use Rattle.sbe_grammar.specs.Spelling.{IsBlock, SpellsGroups, SpellsData}
 use Rattle.fixp_msgs.specs.Header.{block_length_in}
 use Rattle.fixp_msgs.specs.Message.{Message}
-use Rattle.fixp_msgs.specs.Table.{Row, row_of, size_of, block_size}
+use Rattle.fixp_msgs.specs.Table.{Row, row_of, block_size}
 use Rattle.fixp_msgs.specs.Grammar.{Spells, HoldsAll, HasDatum}
 use Rattle.session_grammar.specs.SessionTrees.{item_of, data_of, tree_of}
 use Rattle.session_grammar.specs.Laws.{SpellsTree}
@@ -25,7 +25,7 @@ use Rattle.session_grammar.proofs.SessionRows.{DataFit, Fits, FitsFound, plans_a
 
 -- what came with version 0 is there
 pub there : (version : ℕ) (d : DataPlan) → d ≡ record { name = d.name; since = pos 0; length = UInt16 } → IsTrue (is_in version d.since)
-there version d is = subst IsTrue (sym (ap (λ (x : DataPlan). is_in version x.since) is ∙ in_every version)) refl
+there version d is = ap (λ (x : DataPlan). is_in version x.since) is ∙ in_every version
 
 -- the datum behind a block, and any bytes
 data_spelled : (version : ℕ) (behind : List ℕ) (datum : Option (List ℕ)) (ds : List DataPlan) → DataFit datum ds → HasDatum behind datum → Then (SpellsData Little version (data_of datum) ds) (λ rest. ⊤) behind
