@@ -1,7 +1,14 @@
 //! How the versions of a schema of Simple Binary Encoding 1.0 relate: what an older version has of a schema and of
-//! a message. It stands on the layout of messages and on their grammar.
+//! a message, and whether one schema is a later version of another. It stands on the layout of messages and on their grammar.
 #![tactic(auto)]
 
+mod extending;
+mod fault;
+mod projecting;
 mod restricting;
+mod same_types;
 
+pub use extending::extends;
+pub use fault::SkewFault;
+pub use projecting::project;
 pub use restricting::restrict;
