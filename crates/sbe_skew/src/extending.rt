@@ -62,7 +62,7 @@ fn first_other(alloc: Global, a: &Schema, b: &Schema) -> Result<Option<Path>, Al
         own: a.types.as_slice(),
         others: b.types.as_slice(),
     };
-    other_messages(alloc, types, 0, a.messages.as_slice(), b.messages.as_slice())
+    other_messages(alloc, &types, 0, a.messages.as_slice(), b.messages.as_slice())
 }
 
 /// The types of two schemas.
@@ -94,13 +94,13 @@ fn path_at(alloc: Global, part: Part, at: u64) -> Result<Option<Path>, AllocErro
 
 fn other_messages(
     alloc: Global,
-    types: Both<'_>,
+    types: &Both<'_>,
     at: u64,
     messages: &[MessageDef],
     others: &[MessageDef],
 ) -> Result<Option<Path>, AllocError>
     requires { at + length messages.now < 2 ^ 64 }
-    ensures { IfOk result (λ path. path ≡ other_messages types.own.now types.others.now at messages.now others.now) }
+    ensures { IfOk result (λ path. path ≡ other_messages types.now.own.now types.now.others.now at messages.now others.now) }
 {
     match (messages, others) {
         ([m, messages @ ..], [n, others @ ..]) => {
@@ -125,11 +125,11 @@ fn is_same_template(m: &MessageDef, n: &MessageDef) -> bool
 
 fn other_parts(
     alloc: Global,
-    types: Both<'_>,
+    types: &Both<'_>,
     m: &MessageDef,
     n: &MessageDef,
 ) -> Result<Option<Path>, AllocError>
-    ensures { IfOk result (λ path. path ≡ other_parts types.own.now types.others.now m.now n.now) }
+    ensures { IfOk result (λ path. path ≡ other_parts types.now.own.now types.now.others.now m.now n.now) }
 {
     let fields = other_fields(alloc, types, 0, m.fields.as_slice(), n.fields.as_slice())?;
     if let Some(path) = fields {
@@ -145,13 +145,13 @@ fn other_parts(
 #[cycle(groups)]
 fn other_groups(
     alloc: Global,
-    types: Both<'_>,
+    types: &Both<'_>,
     at: u64,
     groups: &[GroupDef],
     others: &[GroupDef],
 ) -> Result<Option<Path>, AllocError>
     requires { at + length groups.now < 2 ^ 64 }
-    ensures { IfOk result (λ path. path ≡ other_groups types.own.now types.others.now at (groups_of groups.now) (groups_of others.now)) }
+    ensures { IfOk result (λ path. path ≡ other_groups types.now.own.now types.now.others.now at (groups_of groups.now) (groups_of others.now)) }
 {
     match (groups, others) {
         ([g, groups @ ..], [h, others @ ..]) => {
@@ -181,13 +181,13 @@ fn is_same_head(g: &GroupDef, h: &GroupDef) -> bool
 #[cycle(groups)]
 fn other_parts_of_group(
     alloc: Global,
-    types: Both<'_>,
+    types: &Both<'_>,
     g: &GroupDef,
     h: &GroupDef,
 ) -> Result<Option<Path>, AllocError>
     ensures { IfOk result (λ path. path
-        ≡ or_else (other_fields types.own.now types.others.now 0 g.now.fields h.now.fields)
-        (or_else (other_groups types.own.now types.others.now 0 g.now.groups h.now.groups) (other_data 0 g.now.vars h.now.vars))) }
+        ≡ or_else (other_fields types.now.own.now types.now.others.now 0 g.now.fields h.now.fields)
+        (or_else (other_groups types.now.own.now types.now.others.now 0 g.now.groups h.now.groups) (other_data 0 g.now.vars h.now.vars))) }
 {
     let fields = other_fields(alloc, types, 0, g.fields.as_slice(), h.fields.as_slice())?;
     if let Some(path) = fields {
@@ -202,13 +202,13 @@ fn other_parts_of_group(
 
 fn other_fields(
     alloc: Global,
-    types: Both<'_>,
+    types: &Both<'_>,
     at: u64,
     fields: &[FieldDef],
     others: &[FieldDef],
 ) -> Result<Option<Path>, AllocError>
     requires { at + length fields.now < 2 ^ 64 }
-    ensures { IfOk result (λ path. path ≡ other_fields types.own.now types.others.now at fields.now others.now) }
+    ensures { IfOk result (λ path. path ≡ other_fields types.now.own.now types.now.others.now at fields.now others.now) }
 {
     match (fields, others) {
         ([f, fields @ ..], [g, others @ ..]) => {
@@ -223,8 +223,8 @@ fn other_fields(
     }
 }
 
-fn is_same_field(types: Both<'_>, f: &FieldDef, g: &FieldDef) -> bool
-    ensures { result ≡ same_field types.own.now types.others.now f.now g.now }
+fn is_same_field(types: &Both<'_>, f: &FieldDef, g: &FieldDef) -> bool
+    ensures { result ≡ same_field types.now.own.now types.now.others.now f.now g.now }
 {
     f.name == g.name
         && f.id == g.id
