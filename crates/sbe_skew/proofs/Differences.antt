@@ -1,6 +1,6 @@
 -- A schema extends another exactly where no difference is found: the two have the same elements exactly where neither has
 -- one that the other has not in its place.
-use Rattle.std.proofs.Common.{◌≡◌, ◌≢◌, ℕ, ◌+◌, ◌≤◌, ◌∙◌, Bool, true, false, ◌&&◌, if◌then◌else◌, is_some, List, [], ◌∷◌, Option, Some, None, option_map, refl, sym, ap}
+use Rattle.std.proofs.Common.{◌≡◌, ◌≢◌, ℕ, ◌+◌, ◌∙◌, Bool, true, false, ◌&&◌, if◌then◌else◌, is_some, List, [], ◌∷◌, Option, Some, None, option_map, refl, sym, ap}
 use Rattle.std.specs.Prelude.{nat_eq, nat_le}
 use Rattle.std.proofs.lemmas.Bool.{false≢true, leb-true, le-leb}
 use Rattle.std.proofs.lemmas.Bool.Decides.{Decides-eqb}
@@ -16,7 +16,7 @@ use Rattle.schema_types.specs.declared.messages.DataDef.{DataDef}
 use Rattle.schema_types.specs.declared.messages.MessageDef.{MessageDef}
 use Rattle.schema_types.specs.Groups.{GroupTree, no_groups, group}
 use Rattle.sbe_skew.specs.Projected.{projected}
-use Rattle.sbe_skew.specs.Extends.{Extends, same_elements, same_field, same_datum, same_head, same_template, same_groups, same_message, or_else, other_fields, other_data, other_groups, other_parts, other_messages, first_other, first_difference, difference_by, difference_of}
+use Rattle.sbe_skew.specs.Extends.{Extends, same_field, same_datum, same_head, same_template, same_groups, same_message, or_else, other_fields, other_data, other_groups, other_messages, first_difference, difference_by, difference_of}
 use Rattle.sbe_skew.proofs.Flips.{messages_flip}
 
 abbrev Found : Type 0

@@ -1,11 +1,7 @@
 -- Two elements are the same whichever is looked at first.
-use Rattle.std.proofs.Common.{◌≡◌, ℕ, Bool, true, false, ◌&&◌, List, [], ◌∷◌, Option, Some, None, refl}
-use Rattle.std.specs.Prelude.{nat_eq}
-use Rattle.std.specs.Ordering.{int_eq}
-use Rattle.std.specs.Option.{option_eq}
+use Rattle.std.proofs.Common.{◌≡◌, Bool, ◌&&◌, List, [], ◌∷◌, Option, Some, None, refl}
 use Rattle.std.specs.Cmp.Lexicographic.{pointwise}
 use Rattle.std.proofs.lemmas.Bool.Decides.{Decides-eqb, Decides-int_eq}
-use denote.Enum.Bare.{sameb}
 use Rattle.lists.specs.Exact.{Exact, exact_option, exact_bare, partial_equivalence}
 use Rattle.sbe_prim.specs.contracts.Primitive as primitive
 use Rattle.schema_types.specs.contracts.types.Presence as presence
@@ -18,7 +14,7 @@ use Rattle.schema_types.specs.declared.messages.FieldDef.{FieldDef}
 use Rattle.schema_types.specs.declared.messages.DataDef.{DataDef}
 use Rattle.schema_types.specs.declared.messages.MessageDef.{MessageDef}
 use Rattle.schema_types.specs.Groups.{GroupHead, GroupTree, no_groups, group}
-use Rattle.sbe_skew.specs.SameTypes.{same_kind, kind_named, same_member, same_kinds, same_type}
+use Rattle.sbe_skew.specs.SameTypes.{same_kind, kind_named, same_member, same_kinds}
 use Rattle.sbe_skew.specs.Extends.{same_field, same_datum, same_head, same_template, same_groups, same_message}
 
 flip : {A : Type 0} {same : A → A → Bool} → Exact same → (x y : A) → same x y ≡ same y x

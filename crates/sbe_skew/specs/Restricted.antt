@@ -13,7 +13,7 @@ use Rattle.sbe_layout.specs.declared.items.DataPlan.{DataPlan}
 use Rattle.sbe_layout.specs.declared.blocks.BlockPlan.{BlockPlan}
 use Rattle.sbe_layout.specs.declared.plan.MessagePlan.{MessagePlan}
 use Rattle.sbe_layout.specs.declared.plan.Plan.{Plan}
-use Rattle.sbe_layout.specs.Trees.{PlanHead, PlanTree, no_plans, plan}
+use Rattle.sbe_layout.specs.Trees.{PlanTree, no_plans, plan}
 use Rattle.sbe_layout.specs.Plans.{message_of}
 use Rattle.sbe_grammar.specs.Values.{is_in}
 

@@ -9,7 +9,7 @@ use Rattle.sbe_prim.specs.Names.{primitive_named}
 use Rattle.schema_types.specs.declared.types.TypeDef.{TypeDef}
 use Rattle.schema_types.specs.declared.types.MemberDef.{MemberDef}
 use Rattle.schema_types.specs.declared.types.TypeKind.{TypeKind}
-use Rattle.schema_types.specs.declared.types.TypeKind.TheVariants.{Number, Enum, Set, Composite}
+use Rattle.schema_types.specs.declared.types.TypeKind.TheVariants.{Number, Composite}
 use Rattle.schema_types.specs.contracts.types.Presence as presence
 use Rattle.schema_types.specs.contracts.types.ConstantPartialEq.TheImpl as constant
 use Rattle.schema_types.specs.contracts.types.TypeKindPartialEq.TheImpl as kind

@@ -62,7 +62,13 @@ fn first_other(alloc: Global, a: &Schema, b: &Schema) -> Result<Option<Path>, Al
         own: a.types.as_slice(),
         others: b.types.as_slice(),
     };
-    other_messages(alloc, &types, 0, a.messages.as_slice(), b.messages.as_slice())
+    other_messages(
+        alloc,
+        &types,
+        0,
+        a.messages.as_slice(),
+        b.messages.as_slice(),
+    )
 }
 
 /// The types of two schemas.

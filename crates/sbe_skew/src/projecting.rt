@@ -40,11 +40,7 @@ pub fn project_schema(alloc: Global, schema: &Schema, version: u16) -> Result<Sc
     })
 }
 
-fn project_message(
-    alloc: Global,
-    m: &MessageDef,
-    version: u16,
-) -> Result<MessageDef, AllocError>
+fn project_message(alloc: Global, m: &MessageDef, version: u16) -> Result<MessageDef, AllocError>
     ensures { IfOk result (λ older. older ≡ projected_message version m.now) }
 {
     let name = m.name.copy(alloc)?;
@@ -64,11 +60,7 @@ fn project_message(
 
 #[cycle(groups)]
 #[tactic(auto, using(crate::proofs::Rows::defs_back))]
-fn project_groups(
-    alloc: Global,
-    version: u16,
-    groups: &GroupDefs,
-) -> Result<GroupDefs, AllocError>
+fn project_groups(alloc: Global, version: u16, groups: &GroupDefs) -> Result<GroupDefs, AllocError>
     ensures { IfOk result (λ older. older ≡ projected_groups version groups.now) }
 {
     let mut older = Vec::new(alloc);
@@ -134,11 +126,7 @@ fn project_fields(
     Ok(older)
 }
 
-fn project_data(
-    alloc: Global,
-    version: u16,
-    vars: &[DataDef],
-) -> Result<Vec<DataDef>, AllocError>
+fn project_data(alloc: Global, version: u16, vars: &[DataDef]) -> Result<Vec<DataDef>, AllocError>
     ensures { IfOk result (λ older. older.items ≡ projected_data version vars.now) }
 {
     let mut older = Vec::new(alloc);

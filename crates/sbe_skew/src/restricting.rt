@@ -50,11 +50,29 @@ fn keep_block(
     ensures { IfOk result (λ kept. kept ≡ kept_block version plan.now block.now) }
 {
     let mut items = Vec::new(alloc);
-    keep_items(alloc, version, plan.items.as_slice(), block.items.as_slice(), &mut items)?;
+    keep_items(
+        alloc,
+        version,
+        plan.items.as_slice(),
+        block.items.as_slice(),
+        &mut items,
+    )?;
     let mut groups = Vec::new(alloc);
-    keep_groups(alloc, version, plan.groups.as_slice(), block.groups.as_slice(), &mut groups)?;
+    keep_groups(
+        alloc,
+        version,
+        plan.groups.as_slice(),
+        block.groups.as_slice(),
+        &mut groups,
+    )?;
     let mut vars = Vec::new(alloc);
-    keep_data(alloc, version, plan.vars.as_slice(), block.vars.as_slice(), &mut vars)?;
+    keep_data(
+        alloc,
+        version,
+        plan.vars.as_slice(),
+        block.vars.as_slice(),
+        &mut vars,
+    )?;
     Ok(Block {
         items: Items::from(items),
         groups: Groups::from(groups),
