@@ -1,5 +1,5 @@
 -- What a block spells by a schema, it spells by an older version of that schema, but for its later items: they are the last.
-use Rattle.std.proofs.Common.{◌≡◌, ◌⊎◌, inl, inr, ℕ, ◌+◌, ◌∙◌, ℤ, pos, int_lt, not, Bool, true, false, cond, if◌then◌else◌, filter, map, refl, sym, ap, subst, IsTrue, Option, Some, None, List, [], ◌∷◌, ◌++◌, slice_get, arith}
+use Rattle.std.proofs.Common.{◌≡◌, ◌⊎◌, inl, inr, ℕ, ◌∙◌, ℤ, Bool, true, false, cond, if◌then◌else◌, filter, refl, sym, ap, subst, Option, Some, None, List, [], ◌∷◌, ◌++◌, slice_get}
 use Rattle.std.specs.Prelude.{⊤}
 use Rattle.std.specs.List.{AllByRecursion}
 use Rattle.std.proofs.lemmas.List.Elements.{filter-append}

@@ -1,32 +1,29 @@
 -- What groups and data spell by a schema, they spell by an older version of that schema, but for the later ones. In an entry
 -- all groups and data came with its group. In a root block the later ones are the last, and what they spell stands behind.
-use Rattle.std.proofs.Common.{◌≡◌, ◌⊎◌, inl, inr, ℕ, ◌+◌, ◌∙◌, Bool, true, false, cond, if◌then◌else◌, refl, sym, ap, subst, IsTrue, List, [], ◌∷◌, ◌++◌, length}
+use Rattle.std.proofs.Common.{◌≡◌, ◌⊎◌, inl, inr, ℕ, ◌+◌, ◌∙◌, Bool, true, false, cond, if◌then◌else◌, refl, sym, ap, subst, List, [], ◌∷◌, ◌++◌}
 use Rattle.std.specs.Prelude.{⊤}
-use Rattle.std.specs.List.{AllByRecursion}
 use Rattle.sbe_prim.specs.declared.Order.{Order}
-use Rattle.sbe_value.specs.declared.item.Item.{Item}
 use Rattle.sbe_value.specs.declared.datum.Datum.{Datum}
 use Rattle.sbe_value.specs.declared.datum.Datum.TheVariants.{Absent, Present}
 use Rattle.sbe_value.specs.Trees.{GroupList, BlockList, no_groups, absent, entries, no_blocks, block, count_of_blocks}
 use Rattle.schema_types.specs.declared.types.TypeDef.{TypeDef}
-use Rattle.schema_types.specs.declared.messages.FieldDef.{FieldDef}
 use Rattle.schema_types.specs.declared.messages.DataDef.{DataDef}
 use Rattle.schema_types.specs.Groups.{GroupHead, GroupTree, group, no_groups as no_defs}
 use Rattle.sbe_layout.specs.declared.items.ItemPlan.{ItemPlan}
 use Rattle.sbe_layout.specs.declared.items.DataPlan.{DataPlan}
 use Rattle.sbe_layout.specs.Trees.{PlanTree}
-use Rattle.sbe_layout.specs.Plans.{data_plan, data_of, group_head, groups_plan, items_of_fields, marks_of}
+use Rattle.sbe_layout.specs.Plans.{data_of, group_head, groups_plan, items_of_fields}
 use Rattle.sbe_grammar.specs.Parts.{Then, IsNumber}
 use Rattle.sbe_grammar.specs.Values.{is_in}
-use Rattle.sbe_grammar.specs.Spelling.{IsBlock, SpellsData, SpellsGroups, SpellsEntries}
-use Rattle.sbe_skew.specs.Restricted.{kept_items, kept_data, kept_groups, kept_entries}
-use Rattle.sbe_skew.specs.Projected.{projected_fields, projected_data, projected_head, projected_groups}
+use Rattle.sbe_grammar.specs.Spelling.{SpellsData, SpellsGroups, SpellsEntries}
+use Rattle.sbe_skew.specs.Restricted.{kept_data, kept_groups, kept_entries}
+use Rattle.sbe_skew.specs.Projected.{projected_data, projected_head, projected_groups}
 use Rattle.sbe_skew.proofs.OlderBlocks.{AllIn, AllOut, Ends, filter_out, keep_field, block_kept}
 
 -- ---- parts one behind another
 
 module _ {P Q R S : List ℕ → Type 0} where
-  then_map : ((x : List ℕ) → P x → R x) → ((x : List ℕ) → Q x → S x) → (bytes : List ℕ) → Then P Q bytes → Then R S bytes
+  pub then_map : ((x : List ℕ) → P x → R x) → ((x : List ℕ) → Q x → S x) → (bytes : List ℕ) → Then P Q bytes → Then R S bytes
   then_map f g bytes t = record {
     front = t.front;
     behind = t.behind;
@@ -47,7 +44,7 @@ module _ {P Q R : List ℕ → Type 0} where
   behind_map f bytes t = then_map (λ x p. p) f bytes t
 
   -- two parts and a third
-  right : (bytes : List ℕ) → Then (Then P Q) R bytes → Then P (Then Q R) bytes
+  pub right : (bytes : List ℕ) → Then (Then P Q) R bytes → Then P (Then Q R) bytes
   right bytes t = record {
     front = t.is_front.front;
     behind = t.is_front.behind ++ t.behind;

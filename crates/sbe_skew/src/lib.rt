@@ -4,11 +4,13 @@
 
 mod extending;
 mod fault;
+mod laws;
 mod projecting;
 mod restricting;
 mod same_types;
 
 pub use extending::extends;
 pub use fault::SkewFault;
+pub use laws::older_version;
 pub use projecting::project;
 pub use restricting::restrict;

@@ -1,0 +1,18 @@
+//! What an older reader sees of a newer message.
+
+ghost use Rattle.std.specs.Prelude.{◌≡◌, ℕ, List, IsTrue};
+ghost use Rattle.schema_types.specs.declared.schema.Schema.{Schema};
+ghost use Rattle.sbe_value.specs.declared.message.Message.{Message};
+ghost use Rattle.sbe_schema.specs.Checked.{is_checked};
+ghost use Rattle.sbe_layout.specs.Plans.{plan_of, HasTemplate};
+ghost use Rattle.sbe_grammar.specs.Spelling.{Spells};
+ghost use Rattle.sbe_skew.specs.Projected.{projected};
+ghost use Rattle.sbe_skew.specs.Restricted.{restricted};
+
+/// Bytes that spell a message by a checked schema spell its restriction by the schema's projection to the same version,
+/// where that has the message's template.
+pub fn older_version()
+    ensures law { (schema : Schema) (version : ℕ) (bytes : List ℕ) (m : Message) → IsTrue (is_checked schema)
+        → HasTemplate m.template (plan_of (projected version schema)).messages → Spells (plan_of schema) bytes m
+        → Spells (plan_of (projected version schema)) bytes (restricted (plan_of schema) m version) }
+{}
