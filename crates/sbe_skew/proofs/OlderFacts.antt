@@ -31,7 +31,7 @@ module _ {A : Type 0} (w : ℕ) (s : A → ℤ) where
   all_above y e (x ∷ xs) h =
       let p = or_parts (int_lt (s x) y) (list_any (λ later. int_lt later y) (map s xs)) h in (above w y (s x) e p.0, all_above y e xs p.1)
 
-  sorted_ends : (xs : List A) → any_pair int_lt (map s xs) ≡ false → Ends (λ x. is_in w (s x)) xs
+  pub sorted_ends : (xs : List A) → any_pair int_lt (map s xs) ≡ false → Ends (λ x. is_in w (s x)) xs
   sorted_ends [] h = tt
   sorted_ends (x ∷ xs) h =
       let p = or_parts (list_any (λ later. int_lt later (s x)) (map s xs)) (any_pair int_lt (map s xs)) h in
@@ -41,14 +41,14 @@ module _ {A : Type 0} (w : ℕ) (s : A → ℤ) where
       ] refl
 
 -- what an extended block of this level may not have
-record Sound (version : ℕ) (b : Block) : Type 0 where
-  fields : any_pair int_lt (map (λ f. f.since) b.fields) ≡ false
-  each_group : list_any (λ g. is_outside version b.since g.since || (is_behind_older b.level b.vars g.since || is_new_inside b.level b.since g.since)) b.groups ≡ false
-  groups : any_pair int_lt (map (λ g. g.since) b.groups) ≡ false
-  each_datum : list_any (λ d. is_outside version b.since d.since || is_new_inside b.level b.since d.since) b.vars ≡ false
-  vars : any_pair int_lt (map (λ d. d.since) b.vars) ≡ false
+pub record Sound (version : ℕ) (b : Block) : Type 0 where
+  pub fields : any_pair int_lt (map (λ f. f.since) b.fields) ≡ false
+  pub each_group : list_any (λ g. is_outside version b.since g.since || (is_behind_older b.level b.vars g.since || is_new_inside b.level b.since g.since)) b.groups ≡ false
+  pub groups : any_pair int_lt (map (λ g. g.since) b.groups) ≡ false
+  pub each_datum : list_any (λ d. is_outside version b.since d.since || is_new_inside b.level b.since d.since) b.vars ≡ false
+  pub vars : any_pair int_lt (map (λ d. d.since) b.vars) ≡ false
 
-sound : (version : ℕ) (b : Block) → is_badly_extended version b ≡ false → Sound version b
+pub sound : (version : ℕ) (b : Block) → is_badly_extended version b ≡ false → Sound version b
 sound version b h =
     let p = or_parts (list_any (λ f. is_outside version b.since f.since) b.fields || any_pair int_lt (map (λ f. f.since) b.fields)) _ h in
     let f = or_parts (list_any (λ f. is_outside version b.since f.since) b.fields) _ p.0 in
@@ -138,11 +138,11 @@ grows w version (m ∷ ms) h =
 
 -- ---- of a checked schema
 
-and_parts : (a b : Bool) → (a && b) ≡ true → (a ≡ true) × (b ≡ true)
+pub and_parts : (a b : Bool) → (a && b) ≡ true → (a ≡ true) × (b ≡ true)
 and_parts true b t = (refl, t)
 and_parts false b t = absurd (false≢true t)
 
-is_not : (a : Bool) → not a ≡ true → a ≡ false
+pub is_not : (a : Bool) → not a ≡ true → a ≡ false
 is_not true t = absurd (false≢true t)
 is_not false t = refl
 

@@ -1,4 +1,4 @@
-//! What an older reader sees of a newer message.
+//! Older versions of checked schemas, and what an older reader sees of a newer message.
 
 ghost use Rattle.std.specs.Prelude.{◌≡◌, ℕ, List, IsTrue};
 ghost use Rattle.schema_types.specs.declared.schema.Schema.{Schema};
@@ -9,6 +9,12 @@ ghost use Rattle.sbe_grammar.specs.Spelling.{Spells};
 ghost use Rattle.sbe_skew.specs.Extends.{Extends};
 ghost use Rattle.sbe_skew.specs.Projected.{projected};
 ghost use Rattle.sbe_skew.specs.Restricted.{restricted};
+
+/// The projection of a checked schema to any version is checked.
+pub fn older_is_checked()
+    ensures law { (schema : Schema) (version : ℕ) → IsTrue (is_checked schema)
+        → IsTrue (is_checked (projected version schema)) }
+{}
 
 /// Bytes that spell a message by a checked schema spell its restriction by the schema's projection to the same version,
 /// where that has the message's template.

@@ -13,11 +13,13 @@ use sbe_schema::{
 use std::alloc::{AllocError, Global};
 
 /// The schema as it was at an older version: its messages, fields, groups and data that came with a version of at
-/// most `version`, without the stated block lengths.
-pub fn project(alloc: Global, schema: &Checked, version: u16) -> Result<Schema, AllocError>
-    ensures exact { IfOk result (λ older. older ≡ projected version schema.now.schema) }
+/// most `version`, without the stated block lengths. It is checked too, by the law `older_is_checked`.
+#[tactic(auto, using(crate::proofs::KeptChecked::projection_checked))]
+pub fn project(alloc: Global, schema: &Checked, version: u16) -> Result<Checked, AllocError>
+    ensures exact { IfOk result (λ older. older.schema ≡ projected version schema.now.schema) }
 {
-    project_schema(alloc, &schema.schema, version)
+    let schema = project_schema(alloc, &schema.schema, version)?;
+    Ok(Checked { schema })
 }
 
 /// The projection of any schema.
