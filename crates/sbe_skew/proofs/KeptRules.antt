@@ -134,7 +134,7 @@ module _ (T : List TypeDef) (w version : ℕ) where
       let q = or_parts (is_behind_older b.level b.vars g.since) (is_new_inside b.level b.since g.since) p.1 in
       or_none _ _ (or_none _ _ (in_version w g.since i) (or_parts (int_lt (pos version) g.since) _ p.0).1) (or_none _ _ (older b.level g.since q.0) q.1)) t heads in
       let k = pairs_sub int_lt (map (λ g. g.since) (heads_of (projected_groups w t))) (map (λ g. g.since) b.groups) (subst (λ gs. Sub (map (λ (g : GroupHead). g.since) (heads_of (projected_groups w t))) (map (λ g. g.since) gs)) e (heads_sub T w (λ g. g.since) (λ g. refl) t)) own.groups in
-      let d = any_filter (λ d. is_in w d.since) (λ d. is_outside version b.since d.since || is_new_inside b.level b.since d.since) (λ d. is_outside w b.since d.since || is_new_inside b.level b.since d.since) (λ d i o. (let p = or_parts (is_outside version b.since d.since) _ o in or_none _ _ (or_none _ _ (in_version w d.since i) (or_parts (int_lt (pos version) d.since) _ p.0).1) p.1)) b.vars own.each_datum in
+      let d = any_filter (λ d. is_in w d.since) (λ d. is_outside version b.since d.since || is_new_inside b.level b.since d.since) (λ d. is_outside w b.since d.since || is_new_inside b.level b.since d.since) (λ d i o. (let p = or_parts (is_outside version b.since d.since) _ o in or_none (is_outside w b.since d.since) (is_new_inside b.level b.since d.since) (or_none (int_lt (pos w) d.since) (int_lt d.since b.since) (in_version w d.since i) (or_parts (int_lt (pos version) d.since) (int_lt d.since b.since) p.0).1) p.1)) b.vars own.each_datum in
       let v = pairs_sub int_lt (map (λ d. d.since) (projected_data w b.vars)) (map (λ d. d.since) b.vars) (sub_map (λ d. d.since) (λ d. is_in w d.since) b.vars) own.vars in
       or_none _ _ (or_none _ _ a c) (or_none _ _ (or_none _ _ g k) (or_none _ _ d v))
     where
