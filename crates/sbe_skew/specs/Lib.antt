@@ -1,0 +1,4 @@
+pub mod Restricted
+pub mod Projected
+pub mod SameTypes
+pub mod Extends
