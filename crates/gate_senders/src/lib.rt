@@ -2,4 +2,5 @@
 //! for what a caller's pass knows, and on `jr_boxes` for the outbox.
 #![tactic(auto)]
 
+mod kept;
 mod told;

@@ -1,0 +1,128 @@
+//! An outbox under the turn lock, with the history that is told of it.
+ghost use Rattle.std.specs.Prelude.{◌≡◌, ◌≢◌, ◌↔◌, ℕ, ◌+◌, ◌<◌, ◌≤◌, ◌^◌, true, false, [], ◌∷◌, length, Err, IfOk, IfErr, OnOk, IsErrOf, IsTrue};
+ghost use Rattle.session_model.specs.Journal.{History, entries_of};
+ghost use Rattle.fixp_msgs.specs.Payload.{IsApplication};
+ghost use Rattle.jr_record.specs.Records.{IsSender};
+ghost use Rattle.jr_boxes.specs.Outbox.{StandsFor, HoldsBox, is_broken};
+ghost use Rattle.jr_boxes.specs.Outboxes.{with_entry, with_mark};
+ghost use Rattle.jr_boxes.specs.declared.faults.SubmitFault.TheVariants as submit;
+ghost use Rattle.jr_boxes.specs.declared.faults.CloseFault.TheVariants as closing;
+ghost use Rattle.gate_senders.specs.Kept.{account, next_entry, StaysSound, IsFullAt};
+
+use crate::told::{Says, Told};
+use gate_turn::Logged;
+use jr_boxes::{CloseFault, Outbox, SubmitFault};
+use jr_record::Journal;
+
+/// An outbox, with the history that is told of it: one for which it stands. The history takes no memory.
+pub struct Kept<J: Journal> {
+    pub(crate) outbox: Outbox<J>,
+    told: Told,
+    pub ghost stands: { ∥ StandsFor outbox told.history ∥₁ },
+    pub ghost holds: { is_broken outbox ≡ false → ∥ HoldsBox outbox told.history [] ∥₁ },
+}
+
+impl<J: Journal> Logged for Kept<J> {
+    ghost use Rattle.gate_senders.specs.Told.{told_by};
+
+    ghost tells = { told_by };
+
+    fn length(&self) -> u64 {
+        self.outbox.front()
+    }
+
+    fn marked(&self) -> bool {
+        self.outbox.closed()
+    }
+}
+
+/// The histories that an outbox holds may be told of it.
+struct Holding;
+
+impl<J: Journal> Says<Outbox<J>> for Holding {
+    ghost says = { λ box h. HoldsBox box h [] };
+}
+
+/// A history, and an entry behind it.
+#[derive(Clone, Copy)]
+struct Next<'a> {
+    told: &'a Told,
+    sender: u16,
+    own_number: u64,
+    payload: &'a [u8],
+}
+
+impl Says<Next<'_>> for Next<'_> {
+    ghost says = { λ n h. h ≡ with_entry n.told.now.history (record { sender = n.sender; own_number = n.own_number; payload = n.payload.now }) };
+}
+
+/// A history, and the mark behind it.
+struct Finished;
+
+impl Says<Told> for Finished {
+    ghost says = { λ t h. h ≡ with_mark t.history };
+}
+
+impl<J: Journal> Kept<J> {
+    ghost use Rattle.gate_senders.specs.Told.{told_by, outbox_of};
+
+    /// An outbox, with a history that it holds.
+    pub(crate) fn of(outbox: Outbox<J>) -> Kept<J>
+        requires sound { is_broken outbox ≡ false }
+        ensures outbox { outbox_of result ≡ outbox }
+    {
+        let told = Told::of::<Outbox<J>, Holding>(&outbox);
+        Kept { outbox, told }
+    }
+
+    /// How many entries a sender from 1 to 16 has.
+    pub(crate) fn count_of(&self, sender: u16) -> u64
+        requires sender { IsSender sender }
+        ensures exact { result ≡ length (entries_of (told_by self.now).history.made sender) }
+        ensures few { result < 2 ^ 40 }
+    {
+        self.outbox.mine(sender)
+    }
+
+    /// Adds an entry of a sender from 1 to 16, and answers how many entries there are then.
+    pub(crate) fn add(&mut self, sender: u16, payload: &[u8]) -> Result<u64, SubmitFault>
+        requires sender { IsSender sender }
+        requires payload { IsApplication payload.now }
+        ensures open { OnOk result ((told_by self.old).history.finished ≢ true) }
+        ensures ok { OnOk result ((told_by self.new).history ≡ with_entry (told_by self.old).history (next_entry (told_by self.old).history sender payload.now)) }
+        ensures number { IfOk result (λ n. n ≡ length (told_by self.new).history.made) }
+        ensures refused { IfErr result (λ _. (told_by self.new).history ≡ (told_by self.old).history) }
+        ensures sound { StaysSound (told_by self.old) (told_by self.new) }
+        ensures closed { result ≡ Err submit.Closed → (told_by self.old).history.finished ≡ true }
+        ensures full { (entries bytes : ℕ) → result ≡ Err (submit.Full entries bytes) → IsFullAt (told_by self.old).limits (told_by self.old).history (next_entry (told_by self.old).history sender payload.now) entries bytes }
+        ensures fault { IsErrOf result submit.Fault → (told_by self.old).faults < (told_by self.new).faults }
+        ensures broken { result ≡ Err submit.Broken → (told_by self.old).broken ≡ true }
+    {
+        let own_number = self.count_of(sender) + 1;
+        let told = Told::of::<Next, Next>(&Next {
+            told: &self.told,
+            sender,
+            own_number,
+            payload,
+        });
+        let number = self.outbox.accept(sender, payload)?;
+        self.told = told;
+        Ok(number)
+    }
+
+    /// Adds the mark that nothing more comes.
+    pub(crate) fn finish(&mut self) -> Result<(), CloseFault>
+        ensures open { OnOk result ((told_by self.old).history.finished ≢ true) }
+        ensures ok { OnOk result ((told_by self.new).history ≡ with_mark (told_by self.old).history) }
+        ensures refused { IfErr result (λ _. (told_by self.new).history ≡ (told_by self.old).history) }
+        ensures sound { StaysSound (told_by self.old) (told_by self.new) }
+        ensures closed { result ≡ Err closing.Closed → (told_by self.old).history.finished ≡ true }
+        ensures fault { IsErrOf result closing.Fault → (told_by self.old).faults < (told_by self.new).faults }
+        ensures broken { result ≡ Err closing.Broken → (told_by self.old).broken ≡ true }
+    {
+        let told = Told::of::<Told, Finished>(&self.told);
+        self.outbox.close()?;
+        self.told = told;
+        Ok(())
+    }
+}
