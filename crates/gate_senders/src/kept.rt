@@ -105,9 +105,13 @@ impl<J: Journal> Kept<J> {
             own_number,
             payload,
         });
-        let number = self.outbox.accept(sender, payload)?;
-        self.told = told;
-        Ok(number)
+        match self.outbox.accept(sender, payload) {
+            Ok(number) => {
+                self.told = told;
+                Ok(number)
+            }
+            Err(fault) => Err(fault),
+        }
     }
 
     /// Adds the mark that nothing more comes.
@@ -121,8 +125,12 @@ impl<J: Journal> Kept<J> {
         ensures broken { result ≡ Err closing.Broken → (told_by self.old).broken ≡ true }
     {
         let told = Told::of::<Told, Finished>(&self.told);
-        self.outbox.close()?;
-        self.told = told;
-        Ok(())
+        match self.outbox.close() {
+            Ok(()) => {
+                self.told = told;
+                Ok(())
+            }
+            Err(fault) => Err(fault),
+        }
     }
 }
