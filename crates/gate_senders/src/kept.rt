@@ -84,6 +84,14 @@ impl<J: Journal> Kept<J> {
         self.outbox.mine(sender)
     }
 
+    /// The outbox.
+    pub(crate) fn into_outbox(self) -> Outbox<J>
+        ensures outbox { result ≡ outbox_of self }
+    {
+        let Kept { outbox, told: _ } = self;
+        outbox
+    }
+
     /// Adds an entry of a sender from 1 to 16, and answers how many entries there are then.
     pub(crate) fn add(&mut self, sender: u16, payload: &[u8]) -> Result<u64, SubmitFault>
         requires sender { IsSender sender }

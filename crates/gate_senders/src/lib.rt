@@ -2,5 +2,9 @@
 //! for what a caller's pass knows, and on `jr_boxes` for the outbox.
 #![tactic(auto)]
 
+mod gate;
 mod kept;
 mod told;
+
+pub use gate::Gate;
+pub use kept::Kept;
