@@ -1,10 +1,11 @@
 -- An outbox after a call on it still stands for the history told of it.
-use Rattle.std.proofs.Common.{◌≡◌, ◌⊎◌, inl, inr, ⊎_elim, ℕ, Bool, true, false, List, [], length, Result, Ok, Err, refl, sym, ap, ◌∙◌}
+use Rattle.std.proofs.Common.{◌≡◌, ◌⊎◌, inl, inr, ⊎_elim, ℕ, Bool, true, false, ◌<◌, cond, arith, ne_eqb, List, [], ◌∷◌, length, Result, Ok, Err, refl, sym, ap, ◌∙◌}
 use Rattle.std.proofs.Math.Logic.{∥∥₁_map, ∥∥₁_elim}
 use Rattle.std.proofs.Math.Bool.{Bool-set}
 use native.Mathlib.Nat.{ℕ_set}
 use Rattle.std.proofs.lemmas.Bool.{false≢true, cases_Bool}
-use Rattle.session_model.specs.Journal.{History, OutboxRecord, entries_of}
+use Rattle.std.specs.List.{AllByRecursion}
+use Rattle.session_model.specs.Journal.{Entry, History, OutboxRecord, entries_of}
 use Rattle.jr_record.specs.declared.journal.Journal.{Ghosts}
 use Rattle.jr_boxes.specs.declared.outbox.Outbox.{Outbox}
 use Rattle.jr_boxes.specs.declared.faults.SubmitFault.{SubmitFault}
@@ -16,6 +17,11 @@ use Rattle.jr_record.specs.Records.{IsSender}
 use Rattle.jr_record.specs.Images.{journal_size}
 use Rattle.jr_boxes.specs.Outboxes.{records_of_history}
 use Rattle.jr_boxes.specs.Outbox.{StandsFor, HoldsBox, SameContent, Unchanged, is_broken, is_closed, front_of, mine_of, size_of}
+
+none_of : (es : List Entry) (n : ℕ) → 16 < n → AllByRecursion (λ (e : Entry). IsSender e.sender) es → entries_of es n ≡ []
+none_of [] n far all = refl
+none_of (e ∷ es) n far all =
+    ap (λ (b : Bool). cond b (e ∷ entries_of es n) (entries_of es n)) (ne_eqb e.sender n (λ same. omega (arith, same, all.0.1, far))) ∙ none_of es n far all.1
 
 module _ {J : Type 0} {G : Ghosts J} where
   -- it stands for the history, and while it is not broken every image of it holds just that
@@ -66,6 +72,10 @@ module _ {J : Type 0} {G : Ghosts J} where
   pub size_is : (box : Outbox J G) (h : History) → ((records : List Record) → G.stands box.journal records → (length records ≡ G.count box.journal) × (journal_size records ≡ G.size box.journal))
       → ∥ StandsFor box h ∥₁ → size_of box ≡ journal_size (records_of_history h)
   size_is box h counted stands = ∥∥₁_elim stands (ℕ_set _ _) (λ s. sym (counted (records_of_history h) s.journal).1)
+
+  -- a number above those of senders has no entries
+  pub none_past : (box : Outbox J G) (h : History) (n : ℕ) → 16 < n → ∥ StandsFor box h ∥₁ → 0 ≡ length (entries_of h.made n)
+  none_past box h n far stands = ∥∥₁_elim stands (ℕ_set _ _) (λ s. sym (ap length (none_of h.made n far s.outbox.senders)))
 
 -- a box that is not known to be broken
 pub sound_if : (broken : Bool) → (broken ≡ true → ⊥) → broken ≡ false

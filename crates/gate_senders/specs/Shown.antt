@@ -1,12 +1,14 @@
 -- What a pass has seen, and what of it grew, once a call of a gate has answered: p before the call, q behind it.
-use Rattle.std.specs.Prelude.{◌≡◌, ◌≢◌, ℕ, ◌+◌, true, List, [], ◌∷◌, ◌++◌, length}
+use Rattle.std.specs.Prelude.{◌≡◌, ◌≢◌, ℕ, ◌+◌, ◌≤◌, true, List, [], ◌∷◌, ◌++◌, length}
 use Rattle.session_model.specs.Journal.{Entry, BeginsHistory}
 use Rattle.gate_turn.specs.Views.{Part}
 
--- it is the same pass: it took one turn, and what it has seen begins with all that it had seen
+-- it is the same pass: it took one turn, what it has seen begins with all that it had seen, and its count of faults did not fall
 pub record TakesTurn (p q : Part) : Type 0 where
   pub seen : BeginsHistory p.seen q.seen
+  pub looked : q.looked ≡ length q.seen.made
   pub turns : q.turns ≡ p.turns + 1
+  pub faults : p.faults ≤ q.faults
   pub looks : q.looks ≡ p.looks
   pub number : q.number ≡ p.number
   pub made : q.made ≡ p.made

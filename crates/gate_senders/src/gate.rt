@@ -154,6 +154,22 @@ impl<J: Journal> Gate<J> {
         answer
     }
 
+    /// How many entries of its own the pass has made, with those that its sender had at the opening.
+    pub fn mine<R: Wait>(&self, pass: &mut Pass<Kept<J>>, rt: &R) -> u64
+        requires own { IsPassAt self.now pass.old }
+        requires free { IsFree pass.old }
+        ensures own { IsPassAt self.now pass.new }
+        ensures free { IsFree pass.new }
+        ensures turn { TakesTurn (known pass.old) (known pass.new) }
+        ensures exact { result ≡ length (known pass.new).mine }
+        ensures same { ((known pass.new).mine ≡ (known pass.old).mine) × ((known pass.new).ended ≡ (known pass.old).ended) }
+    {
+        let Held { value } = self.lock.enter(pass, rt);
+        let count = value.count_of_pass(pass.number());
+        self.lock.leave(pass, Held { value });
+        count
+    }
+
     /// Reads the number of entries. It waits for nobody.
     pub fn front(&self, pass: &mut Pass<Kept<J>>) -> u64
         requires own { IsPassAt self.now pass.old }

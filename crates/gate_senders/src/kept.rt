@@ -84,6 +84,18 @@ impl<J: Journal> Kept<J> {
         self.outbox.mine(sender)
     }
 
+    /// How many entries the pass of a number has. Only those up to 16 belong to senders.
+    pub(crate) fn count_of_pass(&self, number: u16) -> u64
+        requires from_one { 1 ≤ number }
+        ensures exact { result ≡ length (entries_of (told_by self.now).history.made number) }
+    {
+        if number > 16 {
+            0
+        } else {
+            self.count_of(number)
+        }
+    }
+
     /// The outbox.
     pub(crate) fn into_outbox(self) -> Outbox<J>
         ensures outbox { result ≡ outbox_of self }

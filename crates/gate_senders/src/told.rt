@@ -32,3 +32,8 @@ impl Told {
         }
     }
 }
+
+// It owns nothing.
+unsafe impl Send for Told {}
+
+unsafe impl Sync for Told {}
