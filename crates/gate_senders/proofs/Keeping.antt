@@ -59,6 +59,13 @@ module _ {J : Type 0} {G : Ghosts J} where
       let held = ∥∥₁_map (k.holds was) to in
       record { stands = ∥∥₁_map held (λ x. stands_of new next [] x); holds = λ _. held }
 
+  -- a read changes neither the history nor what a stop may leave, and breaks what it does not find sound
+  pub keeps_read : (old new : Outbox J G) (h : History) → SameContent old new → (is_broken new ≡ false → is_broken old ≡ false) → Keeps old h → Keeps new h
+  keeps_read old new h same back k = record {
+    stands = ∥∥₁_map k.stands (λ s. (same.stands h).0 s);
+    holds = λ sound. ∥∥₁_map (k.holds (back sound)) (λ held. holds_same old new same h held);
+  }
+
   -- what it counts is so of each history for which it stands
   pub mark_is : (box : Outbox J G) (h : History) → ∥ StandsFor box h ∥₁ → is_closed box ≡ h.finished
   mark_is box h stands = ∥∥₁_elim stands (Bool-set _ _) (λ s. s.tallied.mark)

@@ -1,6 +1,7 @@
 -- What an outbox under a turn lock says of itself, and what a call on it leaves of that. Gates are this project's profile.
-use Rattle.std.specs.Prelude.{◌≡◌, ◌≢◌, ◌⊎◌, ℕ, ◌+◌, ◌<◌, ◌≤◌, Bool, true, false, List, length, if◌then◌else◌}
+use Rattle.std.specs.Prelude.{◌≡◌, ◌≢◌, ◌⊎◌, ℕ, ◌+◌, ◌-◌, ◌<◌, ◌≤◌, Bool, true, false, List, [], ◌∷◌, length, take, drop, if◌then◌else◌}
 use Rattle.session_model.specs.Journal.{Entry, History, entries_of}
+use Rattle.session_model.specs.Inbox.{Numbered}
 use Rattle.jr_record.specs.declared.journal.Journal.{Ghosts}
 use Rattle.jr_record.specs.declared.record.Record.TheVariants as kinds
 use Rattle.jr_record.specs.Images.{record_size, journal_size}
@@ -39,3 +40,12 @@ pub record IsFullAt (limits : Limits) (h : History) (e : Entry) (entries bytes :
   pub entries_are : entries ≡ length h.made
   pub bytes_are : bytes ≡ journal_size (records_of_history h)
   pub past : (limits.entries ≤ entries) ⊎ (limits.bytes < bytes + record_size (kinds.Entry e.sender e.own_number e.payload))
+
+-- the messages of entries, the first of which has the number n
+abbrev pub numbered_from : ℕ → List Entry → List Numbered
+numbered_from n [] = []
+numbered_from n (e ∷ es) = (record { number = n; payload = e.payload }) ∷ numbered_from (n + 1) es
+
+-- the messages of a history from a number on, at most so many
+abbrev pub messages : History → ℕ → ℕ → List Numbered
+messages h from most = numbered_from from (take most (drop (from - 1) h.made))

@@ -1,18 +1,20 @@
 //! An outbox under the turn lock, with the history that is told of it.
-ghost use Rattle.std.specs.Prelude.{◌≡◌, ◌≢◌, ◌↔◌, ℕ, ◌+◌, ◌<◌, ◌≤◌, ◌^◌, true, false, [], ◌∷◌, length, Err, IfOk, IfErr, OnOk, IsErrOf, IsTrue};
-ghost use Rattle.session_model.specs.Journal.{History, entries_of};
+ghost use Rattle.std.specs.Prelude.{◌≡◌, ◌≢◌, ◌↔◌, ℕ, ◌+◌, ◌-◌, ◌<◌, ◌≤◌, ◌^◌, true, false, [], ◌∷◌, length, slice_get, Some, Err, IfOk, IfErr, OnOk, IsErrOf, IsTrue};
+ghost use Rattle.session_model.specs.Journal.{History, entries_of, payloads};
 ghost use Rattle.fixp_msgs.specs.Payload.{IsApplication};
 ghost use Rattle.jr_record.specs.Records.{IsSender};
 ghost use Rattle.jr_boxes.specs.Outbox.{StandsFor, HoldsBox, is_broken};
 ghost use Rattle.jr_boxes.specs.Outboxes.{with_entry, with_mark};
 ghost use Rattle.jr_boxes.specs.declared.faults.SubmitFault.TheVariants as submit;
 ghost use Rattle.jr_boxes.specs.declared.faults.CloseFault.TheVariants as closing;
-ghost use Rattle.gate_senders.specs.Kept.{account, next_entry, StaysSound, IsFullAt};
+ghost use Rattle.jr_record.specs.declared.faults.FetchFault.TheVariants as fetching;
+ghost use Rattle.gate_senders.specs.Kept.{account, messages, next_entry, StaysSound, IsFullAt};
 
 use crate::told::{Says, Told};
 use gate_turn::Logged;
-use jr_boxes::{CloseFault, Outbox, SubmitFault};
-use jr_record::Journal;
+use jr_boxes::{CloseFault, Outbox, Stable, SubmitFault};
+use jr_record::{FetchFault, Journal};
+use std::alloc::Global;
 
 /// An outbox, with the history that is told of it: one for which it stands. The history takes no memory.
 pub struct Kept<J: Journal> {
@@ -94,6 +96,46 @@ impl<J: Journal> Kept<J> {
         } else {
             self.count_of(number)
         }
+    }
+
+    /// The entry of a number from 1 to the last.
+    fn stable(&mut self, number: u64) -> Result<Stable, FetchFault>
+        requires least { 1 ≤ number }
+        requires within { number ≤ length (told_by self.old).history.made }
+        ensures number { IfOk result (λ s. s.number ≡ number) }
+        ensures payload { IfOk result (λ s. slice_get (payloads (told_by self.old).history.made) (number - 1) ≡ Some s.payload) }
+        ensures whole { OnOk result ((told_by self.new).broken ≢ true) }
+        ensures same { (told_by self.new).history ≡ (told_by self.old).history }
+        ensures sound { StaysSound (told_by self.old) (told_by self.new) }
+        ensures fault { IsErrOf result fetching.Fault → (told_by self.old).faults < (told_by self.new).faults }
+        ensures broken { result ≡ Err fetching.Broken → (told_by self.old).broken ≡ true }
+    {
+        self.outbox.stable(number)
+    }
+
+    /// The entries from a number on, at most so many.
+    pub(crate) fn fetch(
+        &mut self,
+        alloc: Global,
+        from: u64,
+        most: u16,
+    ) -> Result<Vec<Stable>, FetchFault>
+        requires least { 1 ≤ from }
+        ensures given { IfOk result (λ list. list.items ≡ messages (told_by self.old).history from most) }
+        ensures same { (told_by self.new).history ≡ (told_by self.old).history }
+        ensures sound { StaysSound (told_by self.old) (told_by self.new) }
+        ensures fault { IsErrOf result fetching.Fault → (told_by self.old).faults < (told_by self.new).faults }
+        ensures broken { result ≡ Err fetching.Broken → (told_by self.old).broken ≡ true }
+    {
+        let end = from.saturating_add(u64::from(most)).min(self.length() + 1);
+        let mut list = Vec::new(alloc);
+        for number in from..end {
+            let entry = self.stable(number)?;
+            let Ok(()) = list.push(entry) else {
+                return Err(FetchFault::Memory);
+            };
+        }
+        Ok(list)
     }
 
     /// The outbox.
