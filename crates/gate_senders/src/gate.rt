@@ -4,22 +4,24 @@ ghost use Rattle.fixp_msgs.specs.Payload.{IsApplication};
 ghost use Rattle.jr_boxes.specs.Outbox.{is_broken};
 ghost use Rattle.jr_boxes.specs.declared.faults.SubmitFault.TheVariants as submit;
 ghost use Rattle.jr_boxes.specs.declared.faults.CloseFault.TheVariants as closing;
+ghost use Rattle.jr_record.specs.declared.faults.FetchFault.TheVariants as fetching;
 ghost use Rattle.gate_turn.specs.Views.{looked_at};
 ghost use Rattle.gate_turn.specs.Places.{known};
 ghost use Rattle.gate_turn.specs.Calls.{IsFree, HasTurn, opened_with};
-ghost use Rattle.gate_senders.specs.Kept.{next_entry, IsFullAt};
+ghost use Rattle.gate_senders.specs.Kept.{next_entry, messages, IsFullAt};
 ghost use Rattle.gate_senders.specs.Told.{told_by};
 ghost use Rattle.gate_senders.specs.Shown.{TakesTurn, Submitted, Finished};
 
 use crate::kept::Kept;
 use gate_turn::{Held, Logged, Pass, Passes, TurnLock};
-use jr_boxes::{CloseFault, Outbox, SubmitFault};
-use jr_record::Journal;
+use jr_boxes::{CloseFault, Outbox, Stable, SubmitFault};
+use jr_record::{FetchFault, Journal};
 use std::alloc::Global;
 use std::sync::Wait;
 
 /// An outbox at which senders and a connection take turns.
 pub struct Gate<J: Journal> {
+    alloc: Global,
     lock: TurnLock<Kept<J>>,
     senders: u16,
     count: u64,
@@ -56,6 +58,7 @@ impl<J: Journal> Gate<J> {
         match TurnLock::new(alloc, kept, senders + 1) {
             Ok((lock, passes)) => Ok((
                 Gate {
+                    alloc,
                     lock,
                     senders,
                     count,
@@ -133,6 +136,36 @@ impl<J: Journal> Gate<J> {
         answer
     }
 
+    /// The entries from a number on, at most `most` of them and fewer only where the history ends. Each is one that every later
+    /// stop leaves.
+    ///
+    /// # Errors
+    ///
+    /// `Broken` and `Fault` where a call of the disk has failed, before or now. `Memory`.
+    pub fn fetch<R: Wait>(
+        &self,
+        pass: &mut Pass<Kept<J>>,
+        from: u64,
+        most: u16,
+        rt: &R,
+    ) -> Result<Vec<Stable>, FetchFault>
+        requires own { IsPassAt self.now pass.old }
+        requires free { IsFree pass.old }
+        requires least { 1 ≤ from }
+        ensures own { IsPassAt self.now pass.new }
+        ensures free { IsFree pass.new }
+        ensures turn { TakesTurn (known pass.old) (known pass.new) }
+        ensures given { IfOk result (λ list. list.items ≡ messages (known pass.new).seen from most) }
+        ensures same { ((known pass.new).mine ≡ (known pass.old).mine) × ((known pass.new).ended ≡ (known pass.old).ended) }
+        ensures fault { IsErrOf result fetching.Fault → (known pass.old).faults < (known pass.new).faults }
+        ensures broken { result ≡ Err fetching.Broken → (known pass.new).opening.faults < (known pass.new).faults }
+    {
+        let Held { mut value } = self.lock.enter(pass, rt);
+        let answer = value.fetch(self.alloc, from, most);
+        self.lock.leave(pass, Held { value });
+        answer
+    }
+
     /// The number of entries behind which the mark stands, or None where it does not stand.
     pub fn closed<R: Wait>(&self, pass: &mut Pass<Kept<J>>, rt: &R) -> Option<u64>
         requires own { IsPassAt self.now pass.old }
@@ -187,7 +220,13 @@ impl<J: Journal> Gate<J> {
         requires back { AllBackAt self passes }
         ensures closed { ClosedWith self passes result }
     {
-        let Gate { lock, senders: _, count: _, finished: _ } = self;
+        let Gate {
+            alloc: _,
+            lock,
+            senders: _,
+            count: _,
+            finished: _,
+        } = self;
         lock.close(passes).into_outbox()
     }
 }
