@@ -1,5 +1,5 @@
 -- The messages of a history, one after the other.
-use Rattle.std.proofs.Common.{◌≡◌, ◌⊎◌, inl, inr, ⊎_elim, min, ◌^◌, ◌<◌, ℕ, zero, suc, ◌+◌, ◌-◌, ◌≤◌, true, List, [], ◌∷◌, ◌++◌, length, take, drop, slice_get, Option, Some, Result, Ok, Err, IfOk, refl, sym, ap, ◌∙◌, arith}
+use Rattle.std.proofs.Common.{◌≡◌, ◌⊎◌, inl, inr, ⊎_elim, min, ◌^◌, ◌<◌, ℕ, zero, suc, ◌+◌, ◌-◌, ◌≤◌, true, List, [], ◌∷◌, ◌++◌, length, take, drop, slice_get, Some, Result, Ok, Err, IfOk, sym, ap, ◌∙◌, arith}
 use Rattle.std.proofs.Math.Logic.{∥∥₁_elim}
 use denote.Struct.Props.{≡_prop}
 use Rattle.std.proofs.lemmas.Bool.{cases_lt}

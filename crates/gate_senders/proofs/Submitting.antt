@@ -14,12 +14,12 @@ pub submits : (answer : Result ℕ SubmitFault) (p q last : Part) (sender : ℕ)
     → IfOk answer (λ n. Submitted p last payload n)
 submits (Err _) p q last sender payload a b entered same is unmarked ok number = tt
 submits (Ok n) p q last sender payload a b entered same is unmarked ok number = subst (λ (r : Part). Submitted p r payload n) (sym whole) (record {
-      before = a.history.made;
-      last = made;
-      unmarked = λ m. unmarked (sym (ap (λ (h : History). h.finished) ok) ∙ m);
-      count = sym number;
-      mine = ap (λ (es : List Entry). p.mine ++ es) (ap (λ (es : List Entry). drop (length a.history.made) es) made ∙ drop_length a.history.made (entry_after p payload ∷ []));
-    })
+  before = a.history.made;
+  last = made;
+  unmarked = λ m. unmarked (sym (ap (λ (h : History). h.finished) ok) ∙ m);
+  count = sym number;
+  mine = ap (λ (es : List Entry). p.mine ++ es) (ap (λ (es : List Entry). drop (length a.history.made) es) made ∙ drop_length a.history.made (entry_after p payload ∷ []));
+})
   where
     whole : last ≡ left b (got a (drawn entered.ticket p))
     whole = is ∙ ap (λ (r : Part). left b r) entered.after

@@ -1,5 +1,5 @@
 -- What an outbox under a turn lock says of itself, and what a call on it leaves of that. Gates are this project's profile.
-use Rattle.std.specs.Prelude.{◌≡◌, ◌≢◌, ◌⊎◌, ℕ, ◌+◌, ◌-◌, ◌<◌, ◌≤◌, Bool, true, false, List, [], ◌∷◌, length, take, drop, if◌then◌else◌}
+use Rattle.std.specs.Prelude.{◌≡◌, ◌≢◌, ◌⊎◌, ℕ, ◌+◌, ◌-◌, ◌<◌, ◌≤◌, true, List, [], ◌∷◌, length, take, drop, if◌then◌else◌}
 use Rattle.session_model.specs.Journal.{Entry, History, entries_of}
 use Rattle.session_model.specs.Inbox.{Numbered}
 use Rattle.jr_record.specs.declared.journal.Journal.{Ghosts}

@@ -13,10 +13,10 @@ loop-number-preserved g c =
     let made = c.args.self.now.told.history.made in
     let k = at.number - from in
     let there : slice_get (payloads made) (at.number - 1) ≡ Some c.in_ok-entry.entry.payload =
-        sym (ap (λ (h : History). slice_get (payloads h.made) (at.number - 1)) at.invariant.same) ∙ c.in_ok-entry.ensures.payload in
+    sym (ap (λ (h : History). slice_get (payloads h.made) (at.number - 1)) at.invariant.same) ∙ c.in_ok-entry.ensures.payload in
     let more : numbered_from from (take (suc k) (drop (from - 1) made)) ≡ numbered_from from (take k (drop (from - 1) made)) ++ c.in_ok-entry.entry ∷ [] =
-        message_on from k (drop (from - 1) made) c.in_ok-entry.entry (omega (arith, c.in_ok-entry.ensures.number, at.auto.number))
-            (in_rest (from - 1) k (at.number - 1) made c.in_ok-entry.entry.payload (omega (arith, c.requires.least, at.auto.number)) there) in
+    message_on from k (drop (from - 1) made) c.in_ok-entry.entry (omega (arith, c.in_ok-entry.ensures.number, at.auto.number))
+    (in_rest (from - 1) k (at.number - 1) made c.in_ok-entry.entry.payload (omega (arith, c.requires.least, at.auto.number)) there) in
     let next : suc k ≡ at.number + 1 - from = omega (arith, at.auto.number) in
     record {
       same = c.stable.ensures.same ∙ at.invariant.same;
@@ -32,7 +32,7 @@ returns-clause-given g c =
     let made = c.args.self.now.told.history.made in
     let most : c.from.result ≡ c.args.most = c.from.ensures in
     let end : at.number ≡ c.args.from + c.args.most ⊎ (length made + 1 ≤ at.number) × (length made + 1 ≤ c.args.from + c.args.most) =
-        ends c.args.from c.args.most at.number c.min-end.result c.saturating_add.result (length made) at.auto.number at.auto.number-end c.loop-number-test.false
-            (c.min-end.ensures ∙ ap (λ k. min c.saturating_add.result (k + 1)) c.length.ensures.exact) (c.saturating_add.ensures ∙ ap (λ k. min (c.args.from + k) (2 ^ 64 - 1)) most)
-            (omega (arith, c.length.ensures.few, c.length.ensures.exact)) in
+    ends c.args.from c.args.most at.number c.min-end.result c.saturating_add.result (length made) at.auto.number at.auto.number-end c.loop-number-test.false
+    (c.min-end.ensures ∙ ap (λ k. min c.saturating_add.result (k + 1)) c.length.ensures.exact) (c.saturating_add.ensures ∙ ap (λ k. min (c.args.from + k) (2 ^ 64 - 1)) most)
+    (omega (arith, c.length.ensures.few, c.length.ensures.exact)) in
     at.invariant.given ∙ ap (λ es. numbered_from c.args.from es) (all_taken c.args.from c.args.most at.number made c.requires.least at.auto.number end)

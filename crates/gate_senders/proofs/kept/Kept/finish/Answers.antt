@@ -1,5 +1,4 @@
-use Rattle.std.proofs.Common.{◌≡◌, [], ◌∷◌, true, Err, ⊎_elim, refl, sym, ap, ◌∙◌, subst}
-use Rattle.std.proofs.lemmas.Bool.{false≢true}
+use Rattle.std.proofs.Common.{[], ◌∷◌, Err, ⊎_elim, sym, ap, ◌∙◌, subst}
 use Rattle.session_model.specs.Journal.{History, finish}
 use Rattle.jr_boxes.specs.Outbox.{is_broken}
 use Rattle.jr_boxes.specs.Outboxes.{with_mark}
@@ -22,11 +21,11 @@ invariant_of-self-in-Err-1 g c =
     let h = old.told.history in
     let was : Keeps old.outbox h = record { stands = old.stands; holds = old.holds } in
     let now : Keeps c.close.new.self h = ⊎_elim
-        (λ failed.
-        let sound = sound_if (is_broken old.outbox) (λ b. let e = c.in-Err.ensures.broken.1 b in cc (e, failed)) in
-        keeps_failed old.outbox c.close.new.self h (finish ∷ []) sound (c.in-Err.ensures.breaks (ap Err failed)) (λ held. c.in-Err.ensures.fault (ap Err failed) h held) was)
-        (λ other. keeps_unchanged old.outbox c.close.new.self h (c.in-Err.ensures.unchanged other) was)
-        (close_failed c.in-Err.fault) in
+    (λ failed.
+    let sound = sound_if (is_broken old.outbox) (λ b. let e = c.in-Err.ensures.broken.1 b in cc (e, failed)) in
+    keeps_failed old.outbox c.close.new.self h (finish ∷ []) sound (c.in-Err.ensures.breaks (ap Err failed)) (λ held. c.in-Err.ensures.fault (ap Err failed) h held) was)
+    (λ other. keeps_unchanged old.outbox c.close.new.self h (c.in-Err.ensures.unchanged other) was)
+    (close_failed c.in-Err.fault) in
     record { stands = now.stands; holds = now.holds }
 
 pub returns-in-Ok-clause-open : goal.returns-in-Ok-clause-open

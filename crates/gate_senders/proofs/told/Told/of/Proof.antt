@@ -1,11 +1,11 @@
 -- `of` makes a value of no bytes, whose history is one that the argument allows.
-use Rattle.std.proofs.Common.{◌≡◌, [], ◌∷◌, refl}
+use Rattle.std.proofs.Common.{[], ◌∷◌, refl}
 use Rattle.std.proofs.Math.Logic.{∥∥₁_elim}
 use Rattle.session_model.specs.Journal.{History}
 use mir.Syntax.{a_type, dcons, dnil, named}
 use mir.Val.{Val, vptr, vstruct, vcons, vnil}
 use mir.MapTy.{inst_fn}
-use base.Logic.{SProp, ent, emp, ex, guard}
+use base.Logic.{SProp, emp}
 use base.Fml.{Fml, ftrue}
 use types.Kit.{‵, raw, ◌⊛◌, some, ◌$◌, ◌∵◌, !, qed, by, move, keep, drop, use0, split, fjoin, pick}
 use types.Run.{no_more, and_then, returns, enter}
