@@ -1,5 +1,5 @@
 -- What an outbox under a turn lock says of itself, and what a call on it leaves of that. Gates are this project's profile.
-use Rattle.std.specs.Prelude.{◌≡◌, ◌≢◌, ◌⊎◌, ℕ, ◌+◌, ◌-◌, ◌<◌, ◌≤◌, true, List, [], ◌∷◌, length, take, drop, if◌then◌else◌}
+use Rattle.std.specs.Prelude.{◌≡◌, ◌≢◌, ◌⊎◌, ℕ, ◌+◌, ◌-◌, ◌^◌, ◌<◌, ◌≤◌, min, true, List, [], ◌∷◌, length, take, drop, if◌then◌else◌}
 use Rattle.session_model.specs.Journal.{Entry, History, entries_of}
 use Rattle.session_model.specs.Inbox.{Numbered}
 use Rattle.jr_record.specs.declared.journal.Journal.{Ghosts}
@@ -33,6 +33,11 @@ pub record StaysSound (before after : Account) : Type 0 where
   pub limits : after.limits ≡ before.limits
   pub faults : before.faults ≤ after.faults
   pub broken : after.broken ≡ true → before.broken ≢ true → before.faults < after.faults
+
+-- A call of the disk failed: the count rose, by what the disk's count did, where that is not at its greatest number, and by one more
+pub record HasFailed (before after : ℕ) : Type 0 where
+  pub rose : before < after
+  pub disk : min (before + 2) (2 ^ 64) ≤ after
 
 -- The entry is refused at this history: it has so many entries, the journal that holds them takes so many bytes, and the record
 -- of the entry is past one of the two limits

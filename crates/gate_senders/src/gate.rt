@@ -8,7 +8,7 @@ ghost use Rattle.jr_record.specs.declared.faults.FetchFault.TheVariants as fetch
 ghost use Rattle.gate_turn.specs.Views.{looked_at};
 ghost use Rattle.gate_turn.specs.Places.{known};
 ghost use Rattle.gate_turn.specs.Calls.{IsFree, HasTurn, opened_with};
-ghost use Rattle.gate_senders.specs.Kept.{next_entry, messages, IsFullAt};
+ghost use Rattle.gate_senders.specs.Kept.{next_entry, messages, IsFullAt, HasFailed};
 ghost use Rattle.gate_senders.specs.Told.{told_by};
 ghost use Rattle.gate_senders.specs.Shown.{TakesTurn, Submitted, Finished};
 
@@ -102,7 +102,7 @@ impl<J: Journal> Gate<J> {
         ensures closed { result ≡ Err submit.Closed → (known pass.new).seen.finished ≡ true }
         ensures full { (entries bytes : ℕ) → result ≡ Err (submit.Full entries bytes)
             → IsFullAt (known pass.new).opening.limits (known pass.new).seen (next_entry (known pass.new).seen (known pass.new).number payload.now) entries bytes }
-        ensures fault { IsErrOf result submit.Fault → (known pass.old).faults < (known pass.new).faults }
+        ensures fault { IsErrOf result submit.Fault → HasFailed (known pass.old).faults (known pass.new).faults }
         ensures broken { result ≡ Err submit.Broken → (known pass.new).opening.faults < (known pass.new).faults }
     {
         let Held { mut value } = self.lock.enter(pass, rt);
@@ -127,7 +127,7 @@ impl<J: Journal> Gate<J> {
         ensures mine { (known pass.new).mine ≡ (known pass.old).mine }
         ensures refused { IfErr result (λ _. (known pass.new).ended ≡ (known pass.old).ended) }
         ensures closed { result ≡ Err closing.Closed → (known pass.new).seen.finished ≡ true }
-        ensures fault { IsErrOf result closing.Fault → (known pass.old).faults < (known pass.new).faults }
+        ensures fault { IsErrOf result closing.Fault → HasFailed (known pass.old).faults (known pass.new).faults }
         ensures broken { result ≡ Err closing.Broken → (known pass.new).opening.faults < (known pass.new).faults }
     {
         let Held { mut value } = self.lock.enter(pass, rt);
@@ -157,7 +157,7 @@ impl<J: Journal> Gate<J> {
         ensures turn { TakesTurn (known pass.old) (known pass.new) }
         ensures given { IfOk result (λ list. list.items ≡ messages (known pass.new).seen from most) }
         ensures same { ((known pass.new).mine ≡ (known pass.old).mine) × ((known pass.new).ended ≡ (known pass.old).ended) }
-        ensures fault { IsErrOf result fetching.Fault → (known pass.old).faults < (known pass.new).faults }
+        ensures fault { IsErrOf result fetching.Fault → HasFailed (known pass.old).faults (known pass.new).faults }
         ensures broken { result ≡ Err fetching.Broken → (known pass.new).opening.faults < (known pass.new).faults }
     {
         let Held { mut value } = self.lock.enter(pass, rt);

@@ -8,7 +8,7 @@ ghost use Rattle.jr_boxes.specs.Outboxes.{with_entry, with_mark};
 ghost use Rattle.jr_boxes.specs.declared.faults.SubmitFault.TheVariants as submit;
 ghost use Rattle.jr_boxes.specs.declared.faults.CloseFault.TheVariants as closing;
 ghost use Rattle.jr_record.specs.declared.faults.FetchFault.TheVariants as fetching;
-ghost use Rattle.gate_senders.specs.Kept.{account, messages, next_entry, StaysSound, IsFullAt};
+ghost use Rattle.gate_senders.specs.Kept.{account, messages, next_entry, StaysSound, IsFullAt, HasFailed};
 
 use crate::told::{Says, Told};
 use gate_turn::Logged;
@@ -107,7 +107,7 @@ impl<J: Journal> Kept<J> {
         ensures whole { OnOk result ((told_by self.new).broken ≢ true) }
         ensures same { (told_by self.new).history ≡ (told_by self.old).history }
         ensures sound { StaysSound (told_by self.old) (told_by self.new) }
-        ensures fault { IsErrOf result fetching.Fault → (told_by self.old).faults < (told_by self.new).faults }
+        ensures fault { IsErrOf result fetching.Fault → HasFailed (told_by self.old).faults (told_by self.new).faults }
         ensures broken { result ≡ Err fetching.Broken → (told_by self.old).broken ≡ true }
     {
         self.outbox.stable(number)
@@ -124,7 +124,7 @@ impl<J: Journal> Kept<J> {
         ensures given { IfOk result (λ list. list.items ≡ messages (told_by self.old).history from most) }
         ensures same { (told_by self.new).history ≡ (told_by self.old).history }
         ensures sound { StaysSound (told_by self.old) (told_by self.new) }
-        ensures fault { IsErrOf result fetching.Fault → (told_by self.old).faults < (told_by self.new).faults }
+        ensures fault { IsErrOf result fetching.Fault → HasFailed (told_by self.old).faults (told_by self.new).faults }
         ensures broken { result ≡ Err fetching.Broken → (told_by self.old).broken ≡ true }
     {
         let end = from.saturating_add(u64::from(most)).min(self.length() + 1);
@@ -157,7 +157,7 @@ impl<J: Journal> Kept<J> {
         ensures sound { StaysSound (told_by self.old) (told_by self.new) }
         ensures closed { result ≡ Err submit.Closed → (told_by self.old).history.finished ≡ true }
         ensures full { (entries bytes : ℕ) → result ≡ Err (submit.Full entries bytes) → IsFullAt (told_by self.old).limits (told_by self.old).history (next_entry (told_by self.old).history sender payload.now) entries bytes }
-        ensures fault { IsErrOf result submit.Fault → (told_by self.old).faults < (told_by self.new).faults }
+        ensures fault { IsErrOf result submit.Fault → HasFailed (told_by self.old).faults (told_by self.new).faults }
         ensures broken { result ≡ Err submit.Broken → (told_by self.old).broken ≡ true }
     {
         let own_number = self.count_of(sender) + 1;
@@ -183,7 +183,7 @@ impl<J: Journal> Kept<J> {
         ensures refused { IfErr result (λ _. (told_by self.new).history ≡ (told_by self.old).history) }
         ensures sound { StaysSound (told_by self.old) (told_by self.new) }
         ensures closed { result ≡ Err closing.Closed → (told_by self.old).history.finished ≡ true }
-        ensures fault { IsErrOf result closing.Fault → (told_by self.old).faults < (told_by self.new).faults }
+        ensures fault { IsErrOf result closing.Fault → HasFailed (told_by self.old).faults (told_by self.new).faults }
         ensures broken { result ≡ Err closing.Broken → (told_by self.old).broken ≡ true }
     {
         let told = Told::of::<Told, Finished>(&self.told);
