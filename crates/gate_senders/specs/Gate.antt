@@ -8,7 +8,7 @@ use Rattle.gate_turn.specs.Views.{Account}
 use Rattle.gate_turn.specs.Places.{known}
 use Rattle.gate_turn.specs.Listed.{known_at}
 use Rattle.gate_turn.specs.Steps.{Closed}
-use Rattle.gate_turn.specs.Calls.{IsPassOf, MadeWith, AllBack, opened_with}
+use Rattle.gate_turn.specs.Calls.{IsPassOf, HasBack, MadeWith, AllBack, opened_with}
 use Rattle.gate_turn.specs.declared.pass.Pass.{Pass}
 use Rattle.gate_turn.specs.declared.passes.Passes.{Passes}
 use Rattle.gate_senders.specs.Kept.{account}
@@ -42,6 +42,10 @@ module _ {J : Type 0} {G : Ghosts J} where
   -- these are the passes that it was made with, so many
   abbrev pub MadeAt : Gate J G → Passes (Kept J G) → ℕ → Type 0
   MadeAt gate passes made = MadeWith gate.lock passes made (opening_of gate)
+
+  -- the list has the pass of number n, which is one of the gate's and is free
+  abbrev pub HasBackAt : Gate J G → Passes (Kept J G) → ℕ → Type 0
+  HasBackAt gate passes n = HasBack gate.lock passes n
 
   -- all of its passes are back
   abbrev pub AllBackAt : Gate J G → Passes (Kept J G) → Type 0

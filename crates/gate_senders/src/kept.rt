@@ -20,8 +20,8 @@ use std::alloc::Global;
 pub struct Kept<J: Journal> {
     pub(crate) outbox: Outbox<J>,
     told: Told,
-    pub ghost stands: { ∥ StandsFor outbox told.history ∥₁ },
-    pub ghost holds: { is_broken outbox ≡ false → ∥ HoldsBox outbox told.history [] ∥₁ },
+    ghost stands: { ∥ StandsFor outbox told.history ∥₁ },
+    ghost holds: { is_broken outbox ≡ false → ∥ HoldsBox outbox told.history [] ∥₁ },
 }
 
 impl<J: Journal> Logged for Kept<J> {
