@@ -1,7 +1,5 @@
-use Rattle.std.proofs.Common.{◌≡◌, ap, ◌∙◌, arith, le_refl}
-use Rattle.gate_turn.specs.Views.{Part}
-use Rattle.gate_turn.specs.Places.{known}
-use Rattle.gate_turn.specs.Listed.{pass_at, known_if}
+use Rattle.std.proofs.Common.{ap, ◌∙◌, arith, le_refl}
+use Rattle.gate_turn.specs.Listed.{pass_at}
 use Rattle.gate_senders.specs.Gate.{opening_of}
 use Rattle.senders_at_once.proofs.Returning.{number_of, back_again}
 use Rattle.senders_at_once.proofs.at_once.Goals as goal
