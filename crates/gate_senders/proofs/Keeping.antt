@@ -1,0 +1,102 @@
+-- An outbox after a call on it still stands for the history told of it.
+use Rattle.std.proofs.Common.{◌≡◌, ◌⊎◌, inl, inr, ⊎_elim, ℕ, Bool, true, false, ◌<◌, cond, arith, ne_eqb, List, [], ◌∷◌, length, refl, sym, ap, ◌∙◌}
+use Rattle.std.proofs.Math.Logic.{∥∥₁_map, ∥∥₁_elim}
+use Rattle.std.proofs.Math.Bool.{Bool-set}
+use native.Mathlib.Nat.{ℕ_set}
+use Rattle.std.proofs.lemmas.Bool.{false≢true, cases_Bool}
+use Rattle.std.specs.List.{AllByRecursion}
+use Rattle.session_model.specs.Journal.{Entry, History, OutboxRecord, entries_of}
+use Rattle.jr_record.specs.declared.journal.Journal.{Ghosts}
+use Rattle.jr_boxes.specs.declared.outbox.Outbox.{Outbox}
+use Rattle.jr_boxes.specs.declared.faults.SubmitFault.{SubmitFault}
+use Rattle.jr_boxes.specs.declared.faults.SubmitFault.TheVariants as submit
+use Rattle.jr_boxes.specs.declared.faults.CloseFault.{CloseFault}
+use Rattle.jr_boxes.specs.declared.faults.CloseFault.TheVariants as closing
+use Rattle.jr_record.specs.declared.record.Record.{Record}
+use Rattle.jr_record.specs.Records.{IsSender}
+use Rattle.jr_record.specs.Images.{journal_size}
+use Rattle.jr_boxes.specs.Outboxes.{records_of_history}
+use Rattle.jr_boxes.specs.Outbox.{StandsFor, HoldsBox, SameContent, Unchanged, is_broken, is_closed, front_of, mine_of, size_of}
+
+none_of : (es : List Entry) (n : ℕ) → 16 < n → AllByRecursion (λ (e : Entry). IsSender e.sender) es → entries_of es n ≡ []
+none_of [] n far all = refl
+none_of (e ∷ es) n far all =
+    ap (λ (b : Bool). cond b (e ∷ entries_of es n) (entries_of es n)) (ne_eqb e.sender n (λ same. omega (arith, same, all.0.1, far))) ∙ none_of es n far all.1
+
+module _ {J : Type 0} {G : Ghosts J} where
+  -- it stands for the history, and while it is not broken every image of it holds just that
+  pub record Keeps (box : Outbox J G) (h : History) : Type 0 where
+    pub stands : ∥ StandsFor box h ∥₁
+    pub holds : is_broken box ≡ false → ∥ HoldsBox box h [] ∥₁
+
+  pub stands_of : (box : Outbox J G) (h : History) (refused : List OutboxRecord) → HoldsBox box h refused → StandsFor box h
+  stands_of box h refused held = record { journal = held.journal.stands_for; outbox = held.outbox; tallied = held.tallied }
+
+  pub holds_same : (old new : Outbox J G) → SameContent old new → (h : History) → HoldsBox old h [] → HoldsBox new h []
+  holds_same old new same h held =
+      let s = (same.stands h).0 (stands_of old h [] held) in
+      record {
+        journal = record { stands_for = s.journal; images = λ image left. held.journal.images image ((same.images image).1 left) };
+        outbox = s.outbox;
+        tallied = s.tallied;
+      }
+
+  pub keeps_unchanged : (old new : Outbox J G) (h : History) → Unchanged old new → Keeps old h → Keeps new h
+  keeps_unchanged old new h same k = record {
+    stands = ∥∥₁_map k.stands (λ s. (same.content.stands h).0 s);
+    holds = λ sound. ∥∥₁_map (k.holds (sym same.broken ∙ sound)) (λ held. holds_same old new same.content h held);
+  }
+
+  pub keeps_failed : (old new : Outbox J G) (h : History) (refused : List OutboxRecord) → is_broken old ≡ false → is_broken new ≡ true → (HoldsBox old h [] → HoldsBox new h refused)
+      → Keeps old h → Keeps new h
+  keeps_failed old new h refused was now to k = record {
+    stands = ∥∥₁_map (k.holds was) (λ held. stands_of new h refused (to held));
+    holds = λ sound. absurd (false≢true (sym sound ∙ now));
+  }
+
+  pub keeps_on : (old new : Outbox J G) (h next : History) → is_broken old ≡ false → (HoldsBox old h [] → HoldsBox new next []) → Keeps old h → Keeps new next
+  keeps_on old new h next was to k =
+      let held = ∥∥₁_map (k.holds was) to in
+      record { stands = ∥∥₁_map held (λ x. stands_of new next [] x); holds = λ _. held }
+
+  -- a read changes neither the history nor what a stop may leave, and breaks what it does not find sound
+  pub keeps_read : (old new : Outbox J G) (h : History) → SameContent old new → (is_broken new ≡ false → is_broken old ≡ false) → Keeps old h → Keeps new h
+  keeps_read old new h same back k = record {
+    stands = ∥∥₁_map k.stands (λ s. (same.stands h).0 s);
+    holds = λ sound. ∥∥₁_map (k.holds (back sound)) (λ held. holds_same old new same h held);
+  }
+
+  -- what it counts is so of each history for which it stands
+  pub mark_is : (box : Outbox J G) (h : History) → ∥ StandsFor box h ∥₁ → is_closed box ≡ h.finished
+  mark_is box h stands = ∥∥₁_elim stands (Bool-set _ _) (λ s. s.tallied.mark)
+
+  pub front_is : (box : Outbox J G) (h : History) → ∥ StandsFor box h ∥₁ → front_of box ≡ length h.made
+  front_is box h stands = ∥∥₁_elim stands (ℕ_set _ _) (λ s. s.tallied.all)
+
+  pub mine_is : (box : Outbox J G) (h : History) (sender : ℕ) → IsSender sender → ∥ StandsFor box h ∥₁ → mine_of box sender ≡ length (entries_of h.made sender)
+  mine_is box h sender is stands = ∥∥₁_elim stands (ℕ_set _ _) (λ s. s.tallied.each sender is)
+
+  pub size_is : (box : Outbox J G) (h : History) → ((records : List Record) → G.stands box.journal records → (length records ≡ G.count box.journal) × (journal_size records ≡ G.size box.journal))
+      → ∥ StandsFor box h ∥₁ → size_of box ≡ journal_size (records_of_history h)
+  size_is box h counted stands = ∥∥₁_elim stands (ℕ_set _ _) (λ s. sym (counted (records_of_history h) s.journal).1)
+
+  -- a number above those of senders has no entries
+  pub none_past : (box : Outbox J G) (h : History) (n : ℕ) → 16 < n → ∥ StandsFor box h ∥₁ → 0 ≡ length (entries_of h.made n)
+  none_past box h n far stands = ∥∥₁_elim stands (ℕ_set _ _) (λ s. sym (ap length (none_of h.made n far s.outbox.senders)))
+
+-- a box that is not known to be broken
+pub sound_if : (broken : Bool) → (broken ≡ true → ⊥) → broken ≡ false
+sound_if broken never = ⊎_elim (λ is. absurd (never is)) (λ is. is) (cases_Bool broken)
+
+pub submit_failed : (fault : SubmitFault) → (fault ≡ submit.Fault) ⊎ (fault ≡ submit.Fault → ⊥)
+submit_failed submit.Broken = inr (λ e. cc e)
+submit_failed submit.Closed = inr (λ e. cc e)
+submit_failed (submit.Full _ _) = inr (λ e. cc e)
+submit_failed submit.Memory = inr (λ e. cc e)
+submit_failed submit.Fault = inl refl
+
+pub close_failed : (fault : CloseFault) → (fault ≡ closing.Fault) ⊎ (fault ≡ closing.Fault → ⊥)
+close_failed closing.Broken = inr (λ e. cc e)
+close_failed closing.Closed = inr (λ e. cc e)
+close_failed closing.Memory = inr (λ e. cc e)
+close_failed closing.Fault = inl refl

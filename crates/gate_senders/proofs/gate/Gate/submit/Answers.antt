@@ -1,0 +1,9 @@
+use Rattle.gate_senders.specs.Told.{told_by}
+use Rattle.gate_turn.specs.Places.{known}
+use Rattle.gate_senders.proofs.Submitting.{submits}
+use Rattle.gate_senders.proofs.gate.Gate.submit.Goals as goal
+
+pub returns-clause-ok : goal.returns-clause-ok
+returns-clause-ok g c = submits c.add-answer.result (known c.args.pass.now) (known c.enter-value.new.pass) (known c.leave.new.pass) c.number.result c.args.payload.now
+    (told_by c.enter-value.result.value) (told_by c.add-answer.new.self) c.enter-value.ensures.entered c.number.ensures.exact c.leave.ensures.left
+    c.add-answer.ensures.open c.add-answer.ensures.ok c.add-answer.ensures.number

@@ -1,0 +1,12 @@
+use Rattle.std.proofs.Common.{◌≡◌, ◌-◌, true, take, drop}
+use Rattle.gate_senders.specs.Kept.{numbered_from, StaysSound}
+use Rattle.gate_senders.specs.Told.{told_by}
+use Rattle.gate_senders.proofs.kept.Kept.fetch.Given as goal
+
+abbrev pub invariant-loop-number : goal.invariant-loop-number
+invariant-loop-number g l = record {
+  same : (told_by l.self).history ≡ (told_by l.fn.self).history;
+  given : l.list.items ≡ numbered_from l.from (take (l.number - l.from) (drop (l.from - 1) (told_by l.fn.self).history.made));
+  sound : StaysSound (told_by l.fn.self) (told_by l.self);
+  broken : (told_by l.self).broken ≡ true → (told_by l.fn.self).broken ≡ true;
+}

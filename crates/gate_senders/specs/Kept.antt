@@ -1,0 +1,56 @@
+-- What an outbox under a turn lock says of itself, and what a call on it leaves of that. Gates are this project's profile.
+use Rattle.std.specs.Prelude.{◌≡◌, ◌≢◌, ◌⊎◌, ℕ, ◌+◌, ◌-◌, ◌^◌, ◌<◌, ◌≤◌, min, true, List, [], ◌∷◌, length, take, drop, if◌then◌else◌}
+use Rattle.session_model.specs.Journal.{Entry, History, entries_of}
+use Rattle.session_model.specs.Inbox.{Numbered}
+use Rattle.jr_record.specs.declared.journal.Journal.{Ghosts}
+use Rattle.jr_record.specs.declared.record.Record.TheVariants as kinds
+use Rattle.jr_record.specs.Images.{record_size, journal_size}
+use Rattle.jr_boxes.specs.declared.outbox.Outbox.{Outbox}
+use Rattle.jr_boxes.specs.Outboxes.{records_of_history}
+use Rattle.jr_boxes.specs.Outbox.{limits_of, faults_of, is_broken}
+use Rattle.gate_turn.specs.Views.{Account, Limits}
+
+module _ {J : Type 0} {G : Ghosts J} where
+  -- how often it failed: the count of its disk, which stands still at its greatest number, and one more once it is broken
+  abbrev pub failures : Outbox J G → ℕ
+  failures box = faults_of box + (if is_broken box then 1 else 0)
+
+  -- what it says of itself where this history is told of it
+  abbrev pub account : Outbox J G → History → Account
+  account box h = record {
+    history = h;
+    faults = failures box;
+    limits = record { entries = (limits_of box).entries; bytes = (limits_of box).bytes };
+    broken = is_broken box;
+  }
+
+-- the entry that a sender adds next behind a history: the next one of its own numbers
+abbrev pub next_entry : History → ℕ → List ℕ → Entry
+next_entry h sender payload = record { sender = sender; own_number = length (entries_of h.made sender) + 1; payload = payload }
+
+-- nothing of the limits changes, the count of failures does not fall, and what is broken now was so before or has failed since
+pub record StaysSound (before after : Account) : Type 0 where
+  pub limits : after.limits ≡ before.limits
+  pub faults : before.faults ≤ after.faults
+  pub broken : after.broken ≡ true → before.broken ≢ true → before.faults < after.faults
+
+-- A call of the disk failed: the count rose, by what the disk's count did, where that is not at its greatest number, and by one more
+pub record HasFailed (before after : ℕ) : Type 0 where
+  pub rose : before < after
+  pub disk : min (before + 2) (2 ^ 64) ≤ after
+
+-- The entry is refused at this history: it has so many entries, the journal that holds them takes so many bytes, and the record
+-- of the entry is past one of the two limits
+pub record IsFullAt (limits : Limits) (h : History) (e : Entry) (entries bytes : ℕ) : Type 0 where
+  pub entries_are : entries ≡ length h.made
+  pub bytes_are : bytes ≡ journal_size (records_of_history h)
+  pub past : (limits.entries ≤ entries) ⊎ (limits.bytes < bytes + record_size (kinds.Entry e.sender e.own_number e.payload))
+
+-- the messages of entries, the first of which has the number n
+abbrev pub numbered_from : ℕ → List Entry → List Numbered
+numbered_from n [] = []
+numbered_from n (e ∷ es) = (record { number = n; payload = e.payload }) ∷ numbered_from (n + 1) es
+
+-- the messages of a history from a number on, at most so many
+abbrev pub messages : History → ℕ → ℕ → List Numbered
+messages h from most = numbered_from from (take most (drop (from - 1) h.made))

@@ -1,0 +1,15 @@
+-- What an outbox that is kept says of itself.
+use Rattle.jr_record.specs.declared.journal.Journal.{Ghosts}
+use Rattle.jr_boxes.specs.declared.outbox.Outbox.{Outbox}
+use Rattle.gate_turn.specs.Views.{Account}
+use Rattle.gate_senders.specs.Kept.{account}
+use Rattle.gate_senders.specs.declared.kept.Kept.{Kept}
+
+module _ {J : Type 0} {G : Ghosts J} where
+  -- the outbox
+  abbrev pub outbox_of : Kept J G → Outbox J G
+  outbox_of k = k.outbox
+
+  -- it stands for the history told of it
+  abbrev pub told_by : Kept J G → Account
+  told_by k = account k.outbox k.told.history

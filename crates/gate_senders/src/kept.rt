@@ -1,0 +1,198 @@
+//! An outbox under the turn lock, with the history that is told of it.
+ghost use Rattle.std.specs.Prelude.{◌≡◌, ◌≢◌, ◌↔◌, ℕ, ◌+◌, ◌-◌, ◌<◌, ◌≤◌, ◌^◌, true, false, [], ◌∷◌, length, slice_get, Some, Err, IfOk, IfErr, OnOk, IsErrOf, IsTrue};
+ghost use Rattle.session_model.specs.Journal.{History, entries_of, payloads};
+ghost use Rattle.fixp_msgs.specs.Payload.{IsApplication};
+ghost use Rattle.jr_record.specs.Records.{IsSender};
+ghost use Rattle.jr_boxes.specs.Outbox.{StandsFor, HoldsBox, is_broken};
+ghost use Rattle.jr_boxes.specs.Outboxes.{with_entry, with_mark};
+ghost use Rattle.jr_boxes.specs.declared.faults.SubmitFault.TheVariants as submit;
+ghost use Rattle.jr_boxes.specs.declared.faults.CloseFault.TheVariants as closing;
+ghost use Rattle.jr_record.specs.declared.faults.FetchFault.TheVariants as fetching;
+ghost use Rattle.gate_senders.specs.Kept.{account, messages, next_entry, StaysSound, IsFullAt, HasFailed};
+
+use crate::told::{Says, Told};
+use gate_turn::Logged;
+use jr_boxes::{CloseFault, Outbox, Stable, SubmitFault};
+use jr_record::{FetchFault, Journal};
+use std::alloc::Global;
+
+/// An outbox, with the history that is told of it: one for which it stands. The history takes no memory.
+pub struct Kept<J: Journal> {
+    pub(crate) outbox: Outbox<J>,
+    told: Told,
+    ghost stands: { ∥ StandsFor outbox told.history ∥₁ },
+    ghost holds: { is_broken outbox ≡ false → ∥ HoldsBox outbox told.history [] ∥₁ },
+}
+
+impl<J: Journal> Logged for Kept<J> {
+    ghost use Rattle.gate_senders.specs.Told.{told_by};
+
+    ghost tells = { told_by };
+
+    fn length(&self) -> u64 {
+        self.outbox.front()
+    }
+
+    fn marked(&self) -> bool {
+        self.outbox.closed()
+    }
+}
+
+/// The histories that an outbox holds may be told of it.
+struct Holding;
+
+impl<J: Journal> Says<Outbox<J>> for Holding {
+    ghost says = { λ box h. HoldsBox box h [] };
+}
+
+/// A history, and an entry behind it.
+#[derive(Clone, Copy)]
+struct Next<'a> {
+    told: &'a Told,
+    sender: u16,
+    own_number: u64,
+    payload: &'a [u8],
+}
+
+impl Says<Next<'_>> for Next<'_> {
+    ghost says = { λ n h. h ≡ with_entry n.told.now.history (record { sender = n.sender; own_number = n.own_number; payload = n.payload.now }) };
+}
+
+/// A history, and the mark behind it.
+struct Finished;
+
+impl Says<Told> for Finished {
+    ghost says = { λ t h. h ≡ with_mark t.history };
+}
+
+impl<J: Journal> Kept<J> {
+    ghost use Rattle.gate_senders.specs.Told.{told_by, outbox_of};
+
+    /// An outbox, with a history that it holds.
+    pub(crate) fn of(outbox: Outbox<J>) -> Kept<J>
+        requires sound { is_broken outbox ≡ false }
+        ensures outbox { outbox_of result ≡ outbox }
+    {
+        let told = Told::of::<Outbox<J>, Holding>(&outbox);
+        Kept { outbox, told }
+    }
+
+    /// How many entries a sender from 1 to 16 has.
+    pub(crate) fn count_of(&self, sender: u16) -> u64
+        requires sender { IsSender sender }
+        ensures exact { result ≡ length (entries_of (told_by self.now).history.made sender) }
+        ensures few { result < 2 ^ 40 }
+    {
+        self.outbox.mine(sender)
+    }
+
+    /// How many entries the pass of a number has. Only those up to 16 belong to senders.
+    pub(crate) fn count_of_pass(&self, number: u16) -> u64
+        requires from_one { 1 ≤ number }
+        ensures exact { result ≡ length (entries_of (told_by self.now).history.made number) }
+    {
+        if number > 16 {
+            0
+        } else {
+            self.count_of(number)
+        }
+    }
+
+    /// The entry of a number from 1 to the last.
+    fn stable(&mut self, number: u64) -> Result<Stable, FetchFault>
+        requires least { 1 ≤ number }
+        requires within { number ≤ length (told_by self.old).history.made }
+        ensures number { IfOk result (λ s. s.number ≡ number) }
+        ensures payload { IfOk result (λ s. slice_get (payloads (told_by self.old).history.made) (number - 1) ≡ Some s.payload) }
+        ensures whole { OnOk result ((told_by self.new).broken ≢ true) }
+        ensures same { (told_by self.new).history ≡ (told_by self.old).history }
+        ensures sound { StaysSound (told_by self.old) (told_by self.new) }
+        ensures fault { IsErrOf result fetching.Fault → HasFailed (told_by self.old).faults (told_by self.new).faults }
+        ensures broken { result ≡ Err fetching.Broken → (told_by self.old).broken ≡ true }
+    {
+        self.outbox.stable(number)
+    }
+
+    /// The entries from a number on, at most so many.
+    pub(crate) fn fetch(
+        &mut self,
+        alloc: Global,
+        from: u64,
+        most: u16,
+    ) -> Result<Vec<Stable>, FetchFault>
+        requires least { 1 ≤ from }
+        ensures given { IfOk result (λ list. list.items ≡ messages (told_by self.old).history from most) }
+        ensures same { (told_by self.new).history ≡ (told_by self.old).history }
+        ensures sound { StaysSound (told_by self.old) (told_by self.new) }
+        ensures fault { IsErrOf result fetching.Fault → HasFailed (told_by self.old).faults (told_by self.new).faults }
+        ensures broken { result ≡ Err fetching.Broken → (told_by self.old).broken ≡ true }
+    {
+        let end = from.saturating_add(u64::from(most)).min(self.length() + 1);
+        let mut list = Vec::new(alloc);
+        for number in from..end {
+            let entry = self.stable(number)?;
+            let Ok(()) = list.push(entry) else {
+                return Err(FetchFault::Memory);
+            };
+        }
+        Ok(list)
+    }
+
+    /// The outbox.
+    pub(crate) fn into_outbox(self) -> Outbox<J>
+        ensures outbox { result ≡ outbox_of self }
+    {
+        let Kept { outbox, told: _ } = self;
+        outbox
+    }
+
+    /// Adds an entry of a sender from 1 to 16, and answers how many entries there are then.
+    pub(crate) fn add(&mut self, sender: u16, payload: &[u8]) -> Result<u64, SubmitFault>
+        requires sender { IsSender sender }
+        requires payload { IsApplication payload.now }
+        ensures open { OnOk result ((told_by self.old).history.finished ≢ true) }
+        ensures ok { OnOk result ((told_by self.new).history ≡ with_entry (told_by self.old).history (next_entry (told_by self.old).history sender payload.now)) }
+        ensures number { IfOk result (λ n. n ≡ length (told_by self.new).history.made) }
+        ensures refused { IfErr result (λ _. (told_by self.new).history ≡ (told_by self.old).history) }
+        ensures sound { StaysSound (told_by self.old) (told_by self.new) }
+        ensures closed { result ≡ Err submit.Closed → (told_by self.old).history.finished ≡ true }
+        ensures full { (entries bytes : ℕ) → result ≡ Err (submit.Full entries bytes) → IsFullAt (told_by self.old).limits (told_by self.old).history (next_entry (told_by self.old).history sender payload.now) entries bytes }
+        ensures fault { IsErrOf result submit.Fault → HasFailed (told_by self.old).faults (told_by self.new).faults }
+        ensures broken { result ≡ Err submit.Broken → (told_by self.old).broken ≡ true }
+    {
+        let own_number = self.count_of(sender) + 1;
+        let told = Told::of::<Next, Next>(&Next {
+            told: &self.told,
+            sender,
+            own_number,
+            payload,
+        });
+        match self.outbox.accept(sender, payload) {
+            Ok(number) => {
+                self.told = told;
+                Ok(number)
+            }
+            Err(fault) => Err(fault),
+        }
+    }
+
+    /// Adds the mark that nothing more comes.
+    pub(crate) fn finish(&mut self) -> Result<(), CloseFault>
+        ensures open { OnOk result ((told_by self.old).history.finished ≢ true) }
+        ensures ok { OnOk result ((told_by self.new).history ≡ with_mark (told_by self.old).history) }
+        ensures refused { IfErr result (λ _. (told_by self.new).history ≡ (told_by self.old).history) }
+        ensures sound { StaysSound (told_by self.old) (told_by self.new) }
+        ensures closed { result ≡ Err closing.Closed → (told_by self.old).history.finished ≡ true }
+        ensures fault { IsErrOf result closing.Fault → HasFailed (told_by self.old).faults (told_by self.new).faults }
+        ensures broken { result ≡ Err closing.Broken → (told_by self.old).broken ≡ true }
+    {
+        let told = Told::of::<Told, Finished>(&self.told);
+        match self.outbox.close() {
+            Ok(()) => {
+                self.told = told;
+                Ok(())
+            }
+            Err(fault) => Err(fault),
+        }
+    }
+}
