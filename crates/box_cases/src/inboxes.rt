@@ -62,10 +62,14 @@ fn jumped<J: Journal>(inbox: &mut Inbox<J>) -> Option<Result<(), AppendFault>> {
 fn marked<J: Journal>(
     inbox: &mut Inbox<J>,
 ) -> Option<(Result<(), AppendFault>, Result<(), AppendFault>)> {
-    if inbox.is_negotiated() || inbox.peer_last().is_some() {
+    if inbox.is_negotiated() {
         return None;
     }
-    Some((inbox.negotiated(), inbox.peer_finished(4)))
+    let negotiated = inbox.negotiated();
+    if inbox.peer_last().is_some() {
+        return None;
+    }
+    Some((negotiated, inbox.peer_finished(4)))
 }
 
 /// What an inbox tells of itself, with the template of its last message.
@@ -92,10 +96,11 @@ fn told<J: Journal>(alloc: Global, inbox: &mut Inbox<J>) -> Result<String, Alloc
 
 /// An inbox over a disk; none where it is refused.
 fn opened(alloc: Global, disk: MemDisk, flow: Flow) -> Option<Inbox<LogJournal<MemDisk>>> {
-    let Ok(journal) = LogJournal::open(alloc, disk, WIDE) else {
+    let limits = WIDE;
+    let Ok(journal) = LogJournal::open(alloc, disk, limits) else {
         return None;
     };
-    Inbox::open(alloc, journal, WIDE, flow).ok()
+    Inbox::open(alloc, journal, limits, flow).ok()
 }
 
 /// Messages, a jump and the marks of an idempotent peer, and what is there after opening again.

@@ -104,10 +104,11 @@ pub fn open_outbox(
     let Some(disk) = disk_of(alloc, records)? else {
         return Ok(None);
     };
-    let Ok(journal) = LogJournal::open(alloc, disk, WIDE) else {
+    let limits = WIDE;
+    let Ok(journal) = LogJournal::open(alloc, disk, limits) else {
         return Ok(None);
     };
-    Ok(Some(match Outbox::open(alloc, journal, WIDE) {
+    Ok(Some(match Outbox::open(alloc, journal, limits) {
         Ok(outbox) => Ok(outbox.front()),
         Err((_journal, fault)) => Err(fault),
     }))
@@ -122,10 +123,11 @@ pub fn open_inbox(
     let Some(disk) = disk_of(alloc, records)? else {
         return Ok(None);
     };
-    let Ok(journal) = LogJournal::open(alloc, disk, WIDE) else {
+    let limits = WIDE;
+    let Ok(journal) = LogJournal::open(alloc, disk, limits) else {
         return Ok(None);
     };
-    Ok(Some(match Inbox::open(alloc, journal, WIDE, flow) {
+    Ok(Some(match Inbox::open(alloc, journal, limits, flow) {
         Ok(inbox) => Ok(inbox.next()),
         Err((_journal, fault)) => Err(fault),
     }))
