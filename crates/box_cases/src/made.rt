@@ -96,6 +96,33 @@ fn disk_of(alloc: Global, records: &[Made]) -> Result<Option<MemDisk>, AllocErro
     Ok(Some(journal.close()))
 }
 
+/// How many entries an outbox on this disk has, or why it is refused; none where the disk holds no journal.
+fn outbox_on(alloc: Global, disk: MemDisk, limits: Limits) -> Option<Result<u64, BoxFault>> {
+    let Ok(journal) = LogJournal::open(alloc, disk, limits) else {
+        return None;
+    };
+    match Outbox::open(alloc, journal, limits) {
+        Ok(outbox) => Some(Ok(outbox.front())),
+        Err((_journal, fault)) => Some(Err(fault)),
+    }
+}
+
+/// The number that an inbox on this disk waits for, or why it is refused; none where the disk holds no journal.
+fn inbox_on(
+    alloc: Global,
+    disk: MemDisk,
+    limits: Limits,
+    flow: Flow,
+) -> Option<Result<u64, BoxFault>> {
+    let Ok(journal) = LogJournal::open(alloc, disk, limits) else {
+        return None;
+    };
+    match Inbox::open(alloc, journal, limits, flow) {
+        Ok(inbox) => Some(Ok(inbox.next())),
+        Err((_journal, fault)) => Some(Err(fault)),
+    }
+}
+
 /// What opening an outbox on these records answers: how many entries it has, or why it is refused.
 pub fn open_outbox(
     alloc: Global,
@@ -104,14 +131,7 @@ pub fn open_outbox(
     let Some(disk) = disk_of(alloc, records)? else {
         return Ok(None);
     };
-    let limits = WIDE;
-    let Ok(journal) = LogJournal::open(alloc, disk, limits) else {
-        return Ok(None);
-    };
-    Ok(Some(match Outbox::open(alloc, journal, limits) {
-        Ok(outbox) => Ok(outbox.front()),
-        Err((_journal, fault)) => Err(fault),
-    }))
+    Ok(outbox_on(alloc, disk, WIDE))
 }
 
 /// What opening an inbox on these records answers: the number that it waits for, or why it is refused.
@@ -123,12 +143,5 @@ pub fn open_inbox(
     let Some(disk) = disk_of(alloc, records)? else {
         return Ok(None);
     };
-    let limits = WIDE;
-    let Ok(journal) = LogJournal::open(alloc, disk, limits) else {
-        return Ok(None);
-    };
-    Ok(Some(match Inbox::open(alloc, journal, limits, flow) {
-        Ok(inbox) => Ok(inbox.next()),
-        Err((_journal, fault)) => Err(fault),
-    }))
+    Ok(inbox_on(alloc, disk, WIDE, flow))
 }
