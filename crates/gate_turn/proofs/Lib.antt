@@ -5,3 +5,4 @@ pub mod Moves
 pub mod Ends
 pub mod Placed
 pub mod Making
+pub mod Returning

@@ -2,8 +2,8 @@
 use Rattle.std.proofs.Common.{◌≡◌, ℕ, List, Option, inl, inr, refl, arith, take}
 use Rattle.std.specs.Option.{ForSome}
 use Rattle.jr_record.specs.Images.{magic}
-use Rattle.gateway.specs.declared.journals.Which.TheVariants.{Outbox, Inbox}
-use Rattle.gateway.specs.declared.journals.JournalCause.TheVariants.{NotFormatted, Damaged, Wrong, Already}
+use Rattle.jr_boxes.specs.declared.faults.Which.TheVariants.{Outbox, Inbox}
+use Rattle.jr_boxes.specs.declared.faults.JournalCause.TheVariants.{NotFormatted, Damaged, Wrong, Already}
 use Rattle.gateway.specs.declared.status.Status.TheVariants.{Done, Words, Config, InputFault, OutputFault, JournalFault, JournalBad, Message, Memory}
 use Rattle.gateway.specs.Formats.{KeepsBehindHeader}
 use Rattle.gateway.specs.Completeness.{FormatCompletes, IsUnformatted}

@@ -5,8 +5,8 @@ use Rattle.gw_outside.specs.Disk.{Follows, LeavesSame, Torn}
 use Rattle.gw_outside.specs.Faults.{HasRisen}
 use Rattle.jr_record.specs.Images.{magic, IsJournal}
 use Rattle.gateway.specs.declared.outside.Outside.{Outside}
-use Rattle.gateway.specs.declared.journals.Which.TheVariants.{Outbox, Inbox}
-use Rattle.gateway.specs.declared.journals.JournalCause.TheVariants.{NotFormatted, Damaged, Wrong, Already}
+use Rattle.jr_boxes.specs.declared.faults.Which.TheVariants.{Outbox, Inbox}
+use Rattle.jr_boxes.specs.declared.faults.JournalCause.TheVariants.{NotFormatted, Damaged, Wrong, Already}
 use Rattle.gateway.specs.declared.status.Status.{Status}
 use Rattle.gateway.specs.declared.status.Status.TheVariants.{Done, Words, Config, InputFault, OutputFault, JournalFault, JournalBad, Message, Memory}
 

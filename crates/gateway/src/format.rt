@@ -4,9 +4,9 @@ ghost use Rattle.std.specs.Prelude.{◌≡◌, ◌≤◌};
 ghost use Rattle.gateway.specs.Causes.{IsCaused, NoneFell, disk_counts};
 ghost use Rattle.gateway.specs.Formats.{Formats, KeepsBehindHeader};
 
-use crate::journals::{JournalCause, Which};
 use crate::status::Status;
 use gw_outside::Disk;
+use jr_boxes::{JournalCause, Which};
 use jr_log::format;
 use jr_record::FormatFault;
 

@@ -7,7 +7,6 @@ mod check;
 mod commands;
 mod configured;
 mod format;
-mod journals;
 mod laws;
 mod lines;
 mod outputs;
@@ -17,7 +16,7 @@ mod text;
 mod words;
 
 pub use commands::run;
-pub use journals::{JournalCause, Which};
+pub use jr_boxes::{JournalCause, Which};
 pub use laws::{answer_completes, check_completes, format_completes, one_answer};
 pub use outside::Outside;
 pub use status::{Bad, Status};

@@ -2,8 +2,8 @@
 
 ghost use Rattle.std.specs.Prelude.{◌≡◌};
 
-use crate::journals::{JournalCause, Which};
 use fixp_end::Violation;
+use jr_boxes::{JournalCause, Which};
 use schema_toml::ConfigFault;
 use thiserror::Error;
 

@@ -2,7 +2,7 @@ use Rattle.std.proofs.Common.{ap, ◌∙◌, arith, le_refl}
 use Rattle.turns_at_once.specs.Told.{told_by}
 use Rattle.gate_turn.specs.Listed.{pass_at}
 use Rattle.gate_turn.specs.Calls.{opened_with}
-use Rattle.turns_at_once.proofs.Returning.{number_of, back_again}
+use Rattle.gate_turn.proofs.Returning.{number_of, back_again}
 use Rattle.turns_at_once.proofs.at_once.Goals as goal
 
 pub taken-first-requires : goal.taken-first-requires

@@ -1,8 +1,8 @@
 use Rattle.std.proofs.Common.{ap, ◌∙◌, arith, le_refl}
 use Rattle.gate_turn.specs.Listed.{pass_at}
 use Rattle.gate_senders.specs.Gate.{opening_of}
-use Rattle.senders_at_once.proofs.Returning.{number_of, back_again}
-use Rattle.senders_at_once.proofs.at_once.Goals as goal
+use Rattle.gate_turn.proofs.Returning.{number_of, back_again}
+use Rattle.sender_at_gate.proofs.at_once.Goals as goal
 
 pub taken-first-requires : goal.taken-first-requires
 taken-first-requires g c = record { back = (c.requires.made.each 1 (record { from_one = le_refl 1; up_to = omega arith })).0 }
