@@ -15,8 +15,8 @@ use Rattle.sbe_prim.specs.Primitives.{size_of, least_of, greatest_of, lies_withi
 use Rattle.schema_types.specs.declared.messages.FieldDef.{FieldDef}
 use Rattle.schema_types.specs.declared.messages.DataDef.{DataDef}
 use Rattle.sbe_schema.specs.declared.fault.SchemaKind.{SchemaKind}
-use Rattle.sbe_schema.specs.declared.fault.Spot.{Spot}
-use Rattle.sbe_schema.specs.declared.holder.Holder.{Holder}
+use Rattle.sbe_schema.specs.declared.fault.PathStep.{PathStep}
+use Rattle.sbe_schema.specs.declared.parent.Parent.{Parent}
 use Rattle.sbe_schema.specs.Names.{Names, Numbers}
 use Rattle.sbe_schema.specs.Places.{Place, type_table, value_table, bit_table, member_table, field_table, data_table}
 use Rattle.sbe_schema.specs.Offsets.{member_end, field_end}
@@ -26,8 +26,8 @@ use Rattle.sbe_schema.specs.Versions.{is_out_of_turn, is_not_with_group}
 use Rattle.sbe_schema.specs.Limits.{is_large_kind}
 use Rattle.std.specs.Int.{int_max}
 use Rattle.std.specs.FinSet as set
-use Rattle.sbe_schema.specs.declared.fault.Part.TheVariants.{Types, Values, Bits, Members, Fields, Data}
-use Rattle.sbe_schema.specs.Walk.{spot, place, walk_values, walk_bits, walk_members, walk_kind, walk_type, walk_types, walk_fields, walk_data}
+use Rattle.sbe_schema.specs.declared.fault.TableArray.TheVariants.{Types, Values, Bits, Members, Fields, Data}
+use Rattle.sbe_schema.specs.Walk.{path_step, place, walk_values, walk_bits, walk_members, walk_kind, walk_type, walk_types, walk_fields, walk_data}
 use Rattle.sbe_schema.specs.Walk.{walk}
 use Rattle.sbe_schema.specs.Faults.{has_fault}
 use Rattle.sbe_schema.specs.Checked.{occurs, rules_in_order, has_none_of, is_checked}
@@ -101,36 +101,36 @@ FieldsFit types end [] = ⊤
 FieldsFit types end (f ∷ fs) =
     (is_below f.offset end ≡ false) × ((nat_lt 16384 (field_end types end f) ≡ false) × FieldsFit types (field_end types end f) fs)
 
-pub fields_fit : (s : Schema) (base : List Spot) (names : Names) (ids : Numbers) (floor : ℤ) (end at : ℕ) (fs : List FieldDef) → all_keep s (walk_fields s.types base names ids floor end at fs) ≡ true → FieldsFit s.types end fs
-fields_fit s base names ids floor end at [] e = tt
-fields_fit s base names ids floor end at (f ∷ fs) e =
-    let next = walk_fields s.types base (set.insert names f.name) (set.insert ids (pos f.id)) (int_max floor f.since) (field_end s.types end f) (at + 1) fs in
-    let h = kept_first s (place base Fields at names ids (field_table floor end f)) next e in
+pub fields_fit : (s : Schema) (base : List PathStep) (names : Names) (ids : Numbers) (least_since : ℤ) (end at : ℕ) (fs : List FieldDef) → all_keep s (walk_fields s.types base names ids least_since end at fs) ≡ true → FieldsFit s.types end fs
+fields_fit s base names ids least_since end at [] e = tt
+fields_fit s base names ids least_since end at (f ∷ fs) e =
+    let next = walk_fields s.types base (set.insert names f.name) (set.insert ids (pos f.id)) (int_max least_since f.since) (field_end s.types end f) (at + 1) fs in
+    let h = kept_first s (place base Fields at names ids (field_table least_since end f)) next e in
     let here = or_parts (is_below f.offset end) (nat_lt 16384 (field_end s.types end f)) h.0.1.1.1.0 in
-    (here.0, (here.1, fields_fit s base (set.insert names f.name) (set.insert ids (pos f.id)) (int_max floor f.since) (field_end s.types end f) (at + 1) fs h.1))
+    (here.0, (here.1, fields_fit s base (set.insert names f.name) (set.insert ids (pos f.id)) (int_max least_since f.since) (field_end s.types end f) (at + 1) fs h.1))
 
 -- no field came after the version
 abbrev pub FieldsCame : ℕ → List FieldDef → Type 0
 FieldsCame version fs = AllByRecursion (λ f. int_lt (pos version) f.since ≡ false) fs
 
-pub fields_came : (s : Schema) (base : List Spot) (names : Names) (ids : Numbers) (floor : ℤ) (end at : ℕ) (fs : List FieldDef) → all_keep s (walk_fields s.types base names ids floor end at fs) ≡ true → FieldsCame s.version fs
-fields_came s base names ids floor end at [] e = tt
-fields_came s base names ids floor end at (f ∷ fs) e =
-    let next = walk_fields s.types base (set.insert names f.name) (set.insert ids (pos f.id)) (int_max floor f.since) (field_end s.types end f) (at + 1) fs in
-    let h = kept_first s (place base Fields at names ids (field_table floor end f)) next e in
-    ((or_parts (int_lt (pos s.version) f.since) (int_lt f.since floor) h.0.1.1.1.1.1.1.1.1.1.0).0, fields_came s base (set.insert names f.name) (set.insert ids (pos f.id)) (int_max floor f.since) (field_end s.types end f) (at + 1) fs h.1)
+pub fields_came : (s : Schema) (base : List PathStep) (names : Names) (ids : Numbers) (least_since : ℤ) (end at : ℕ) (fs : List FieldDef) → all_keep s (walk_fields s.types base names ids least_since end at fs) ≡ true → FieldsCame s.version fs
+fields_came s base names ids least_since end at [] e = tt
+fields_came s base names ids least_since end at (f ∷ fs) e =
+    let next = walk_fields s.types base (set.insert names f.name) (set.insert ids (pos f.id)) (int_max least_since f.since) (field_end s.types end f) (at + 1) fs in
+    let h = kept_first s (place base Fields at names ids (field_table least_since end f)) next e in
+    ((or_parts (int_lt (pos s.version) f.since) (int_lt f.since least_since) h.0.1.1.1.1.1.1.1.1.1.0).0, fields_came s base (set.insert names f.name) (set.insert ids (pos f.id)) (int_max least_since f.since) (field_end s.types end f) (at + 1) fs h.1)
 
 abbrev pub DataFit : ℕ → List DataDef → Type 0
 DataFit version ds =
     AllByRecursion (λ d. (int_lt (pos version) d.since ≡ false) × (not (is_dimension d.length || is_uint32 d.length) ≡ false)) ds
 
-pub data_fit : (s : Schema) (base : List Spot) (holder : Holder) (names : Names) (ids : Numbers) (floor : ℤ) (at : ℕ) (ds : List DataDef) → all_keep s (walk_data base holder names ids floor at ds) ≡ true → DataFit s.version ds
-data_fit s base holder names ids floor at [] e = tt
-data_fit s base holder names ids floor at (d ∷ ds) e =
-    let next = walk_data base holder (set.insert names d.name) (set.insert ids (pos d.id)) (int_max floor d.since) (at + 1) ds in
-    let h = kept_first s (place base Data at names ids (data_table holder floor d)) next e in
-    let came = or_parts (is_out_of_turn s.version floor d.since) (is_not_with_group holder d.since) h.0.1.1.1.1.1.1.1.1.1.0 in
-    (((or_parts (int_lt (pos s.version) d.since) (int_lt d.since floor) came.0).0, h.0.1.1.1.1.1.1.1.1.0), data_fit s base holder (set.insert names d.name) (set.insert ids (pos d.id)) (int_max floor d.since) (at + 1) ds h.1)
+pub data_fit : (s : Schema) (base : List PathStep) (parent : Parent) (names : Names) (ids : Numbers) (least_since : ℤ) (at : ℕ) (ds : List DataDef) → all_keep s (walk_data base parent names ids least_since at ds) ≡ true → DataFit s.version ds
+data_fit s base parent names ids least_since at [] e = tt
+data_fit s base parent names ids least_since at (d ∷ ds) e =
+    let next = walk_data base parent (set.insert names d.name) (set.insert ids (pos d.id)) (int_max least_since d.since) (at + 1) ds in
+    let h = kept_first s (place base Data at names ids (data_table parent least_since d)) next e in
+    let came = or_parts (is_out_of_turn s.version least_since d.since) (is_not_with_group parent d.since) h.0.1.1.1.1.1.1.1.1.1.0 in
+    (((or_parts (int_lt (pos s.version) d.since) (int_lt d.since least_since) came.0).0, h.0.1.1.1.1.1.1.1.1.0), data_fit s base parent (set.insert names d.name) (set.insert ids (pos d.id)) (int_max least_since d.since) (at + 1) ds h.1)
 
 -- ---- types
 
@@ -139,7 +139,7 @@ abbrev pub MembersFit : List TypeDef → ℕ → List MemberDef → Type 0
 MembersFit types end [] = ⊤
 MembersFit types end (m ∷ ms) = (is_below m.offset end ≡ false) × MembersFit types (member_end types end m) ms
 
-members_fit : (s : Schema) (base : List Spot) (names : Names) (end at : ℕ) (ms : List MemberDef) → all_keep s (walk_members s.types base names end at ms) ≡ true → MembersFit s.types end ms
+members_fit : (s : Schema) (base : List PathStep) (names : Names) (end at : ℕ) (ms : List MemberDef) → all_keep s (walk_members s.types base names end at ms) ≡ true → MembersFit s.types end ms
 members_fit s base names end at [] e = tt
 members_fit s base names end at (m ∷ ms) e =
     let next = walk_members s.types base (set.insert names m.name) (member_end s.types end m) (at + 1) ms in
@@ -150,7 +150,7 @@ members_fit s base names end at (m ∷ ms) e =
 abbrev pub ValuesFit : Primitive → List ValueDef → Type 0
 ValuesFit prim vs = AllByRecursion (λ v. lies_within (least_of prim) (greatest_of prim) v.value ≡ true) vs
 
-values_fit : (s : Schema) (base : List Spot) (prim : Primitive) (names : Names) (numbers : Numbers) (at : ℕ) (vs : List ValueDef) → all_keep s (walk_values base prim names numbers at vs) ≡ true → ValuesFit prim vs
+values_fit : (s : Schema) (base : List PathStep) (prim : Primitive) (names : Names) (numbers : Numbers) (at : ℕ) (vs : List ValueDef) → all_keep s (walk_values base prim names numbers at vs) ≡ true → ValuesFit prim vs
 values_fit s base prim names numbers at [] e = tt
 values_fit s base prim names numbers at (v ∷ vs) e =
     let next = walk_values base prim (set.insert names v.name) (set.insert numbers v.value) (at + 1) vs in
@@ -162,7 +162,7 @@ values_fit s base prim names numbers at (v ∷ vs) e =
 abbrev pub BitsFit : Primitive → List BitDef → Type 0
 BitsFit prim bs = AllByRecursion (λ b. nat_lt b.bit (8 * size_of prim) ≡ true) bs
 
-bits_fit : (s : Schema) (base : List Spot) (prim : Primitive) (names : Names) (numbers : Numbers) (at : ℕ) (bs : List BitDef) → all_keep s (walk_bits base prim names numbers at bs) ≡ true → BitsFit prim bs
+bits_fit : (s : Schema) (base : List PathStep) (prim : Primitive) (names : Names) (numbers : Numbers) (at : ℕ) (bs : List BitDef) → all_keep s (walk_bits base prim names numbers at bs) ≡ true → BitsFit prim bs
 bits_fit s base prim names numbers at [] e = tt
 bits_fit s base prim names numbers at (b ∷ bs) e =
     let next = walk_bits base prim (set.insert names b.name) (set.insert numbers (pos b.bit)) (at + 1) bs in
@@ -176,7 +176,7 @@ ListFits (Set prim bits) = BitsFit prim bits
 ListFits (Number prim length null low high) = ⊤
 ListFits (Composite members) = ⊤
 
-list_fits : (s : Schema) (base : List Spot) (kind : TypeKind) → all_keep s (walk_kind s.types base kind) ≡ true → ListFits kind
+list_fits : (s : Schema) (base : List PathStep) (kind : TypeKind) → all_keep s (walk_kind s.types base kind) ≡ true → ListFits kind
 list_fits s base (Enum prim values) e = values_fit s base prim set.empty set.empty 0 values e
 list_fits s base (Set prim bits) e = bits_fit s base prim set.empty set.empty 0 bits e
 list_fits s base (Number prim length null low high) e = tt
@@ -195,7 +195,7 @@ pub record KindFits (types : List TypeDef) (kind : TypeKind) : Type 0 where
   pub listed : ListFits kind
   pub members : MembersOfFit types kind
 
-members_of_fit : (s : Schema) (base : List Spot) (kind : TypeKind) → all_keep s (walk_kind s.types base kind) ≡ true → MembersOfFit s.types kind
+members_of_fit : (s : Schema) (base : List PathStep) (kind : TypeKind) → all_keep s (walk_kind s.types base kind) ≡ true → MembersOfFit s.types kind
 members_of_fit s base (Composite members) e = members_fit s base set.empty 0 0 members e
 members_of_fit s base (Number prim length null low high) e = tt
 members_of_fit s base (Enum prim values) e = tt
@@ -203,7 +203,7 @@ members_of_fit s base (Set prim bits) e = tt
 
 type_fits : (s : Schema) (names : Names) (at : ℕ) (t : TypeDef) → all_keep s (walk_type s.types names at t) ≡ true → KindFits s.types t.kind
 type_fits s names at t e =
-    let inner = spot Types at ∷ [] in
+    let inner = path_step Types at ∷ [] in
     let h = kept_first s (place [] Types at names set.empty (type_table t)) (walk_kind s.types inner t.kind) e in
     record {
       enum = h.0.1.1.1.1.1.0;

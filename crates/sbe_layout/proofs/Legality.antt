@@ -15,8 +15,8 @@ use Rattle.schema_types.specs.declared.messages.FieldDef.{FieldDef}
 use Rattle.schema_types.specs.declared.messages.DataDef.{DataDef}
 use Rattle.schema_types.specs.declared.messages.MessageDef.{MessageDef}
 use Rattle.schema_types.specs.Groups.{GroupTree, no_groups, group}
-use Rattle.sbe_schema.specs.declared.fault.Spot.{Spot}
-use Rattle.sbe_schema.specs.declared.holder.Holder.{Holder}
+use Rattle.sbe_schema.specs.declared.fault.PathStep.{PathStep}
+use Rattle.sbe_schema.specs.declared.parent.Parent.{Parent}
 use Rattle.sbe_schema.specs.Names.{Names, Numbers}
 use Rattle.sbe_schema.specs.Offsets.{fields_end, block_length_of}
 use Rattle.sbe_schema.specs.Layout.{is_below}
@@ -24,9 +24,9 @@ use Rattle.sbe_schema.specs.Kinds.{is_dimension, is_uint32}
 use Rattle.sbe_schema.specs.Versions.{is_out_of_turn, is_lower, is_not_with_group}
 use Rattle.sbe_schema.specs.Limits.{is_above, is_large_message}
 use Rattle.std.specs.Int.{int_max}
-use Rattle.sbe_schema.specs.declared.fault.Part.TheVariants.{Messages, Groups}
+use Rattle.sbe_schema.specs.declared.fault.TableArray.TheVariants.{Messages, Groups}
 use Rattle.sbe_schema.specs.Places.{whole, message_table, group_table}
-use Rattle.sbe_schema.specs.Walk.{spot, place, walk, walk_types, walk_messages, walk_message, walk_block, walk_groups, walk_fields, walk_data, entry_of, root_of, names_of_fields, names_of_groups, ids_of_fields, ids_of_groups, ids_of_data}
+use Rattle.sbe_schema.specs.Walk.{path_step, place, walk, walk_types, walk_messages, walk_message, walk_block, walk_groups, walk_fields, walk_data, entry_of, root_of, names_of_fields, names_of_groups, ids_of_fields, ids_of_groups, ids_of_data}
 use Rattle.sbe_schema.specs.Checked.{is_checked}
 use Rattle.sbe_layout.specs.declared.plan.Plan.{Plan}
 use Rattle.sbe_layout.specs.declared.plan.MessagePlan.{MessagePlan}
@@ -59,56 +59,56 @@ dimension_holds prims.UInt8 n d e = λ i. not (le-ltb n 0 (omega arith) i) && no
 dimension_holds prims.UInt16 n d e = λ i. not (le-ltb n 0 (omega arith) i) && not (e i)
 dimension_holds _ n d e = absurd (true≢false (sym d))
 
-groups_legal : (s : Schema) (base : List Spot) (holder : Holder) (names : Names) (ids : Numbers) (floor : ℤ) (at : ℕ) (gs : GroupTree) → TypesFit s.types s.types → all_keep s (walk_groups s.types base holder names ids floor at gs) ≡ true → AreLegalGroups s.version (listings_of s.types) (groups_plan s.types gs)
-groups_legal s base holder names ids floor at no_groups k e = tt
-groups_legal s base holder names ids floor at (group g inner rest) k e =
-    let below = base ++ spot Groups at ∷ [] in
-    let entry = entry_of holder g in
+groups_legal : (s : Schema) (base : List PathStep) (parent : Parent) (names : Names) (ids : Numbers) (least_since : ℤ) (at : ℕ) (gs : GroupTree) → TypesFit s.types s.types → all_keep s (walk_groups s.types base parent names ids least_since at gs) ≡ true → AreLegalGroups s.version (listings_of s.types) (groups_plan s.types gs)
+groups_legal s base parent names ids least_since at no_groups k e = tt
+groups_legal s base parent names ids least_since at (group g inner rest) k e =
+    let below = base ++ path_step Groups at ∷ [] in
+    let entry = entry_of parent g in
     let ids_here = set.insert ids (pos g.id) in
     let field_names = names_of_fields set.empty g.fields in
     let field_ids = ids_of_fields ids_here g.fields in
     let group_ids = ids_of_groups field_ids inner in
-    let later = walk_groups s.types base holder (set.insert names g.name) (ids_of_data group_ids g.vars) (int_max floor g.since) (at + 1) rest in
+    let later = walk_groups s.types base parent (set.insert names g.name) (ids_of_data group_ids g.vars) (int_max least_since g.since) (at + 1) rest in
     let own_fields = walk_fields s.types below set.empty ids_here g.since 0 0 g.fields in
     let own_groups = walk_groups s.types below entry field_names field_ids g.since 0 inner in
     let own_data = walk_data below entry (names_of_groups field_names inner) group_ids g.since 0 g.vars in
-    let self = place base Groups at names ids (group_table holder floor g) in
+    let self = place base Groups at names ids (group_table parent least_since g) in
     let split = kept_parts s (self ∷ (own_fields ++ (own_groups ++ own_data))) later e in
     let here = kept_first s self (own_fields ++ (own_groups ++ own_data)) split.0 in
     let fields = kept_parts s own_fields (own_groups ++ own_data) here.1 in
     let more = kept_parts s own_groups own_data fields.1 in
     let unfit = or_parts (not (is_dimension g.block_prim && is_dimension g.count_prim)) (int_lt (greatest_of g.block_prim) (pos (block_length_of s.types g.block_length g.fields))) here.0.1.1.1.1.1.1.1.0 in
     let dimension = not-false (is_dimension g.block_prim && is_dimension g.count_prim) unfit.0 in
-    let turn = or_parts (is_out_of_turn s.version floor g.since) (is_lower holder.lowest g.since || is_not_with_group holder g.since) here.0.1.1.1.1.1.1.1.1.1.0 in
-    let limit = or_parts (is_above g.block_length 16384) (nat_lt 3 holder.depth) here.0.1.1.1.1.1.1.1.1.1.1.0 in (
+    let turn = or_parts (is_out_of_turn s.version least_since g.since) (is_lower parent.lowest g.since || is_not_with_group parent g.since) here.0.1.1.1.1.1.1.1.1.1.0 in
+    let limit = or_parts (is_above g.block_length 16384) (nat_lt 3 parent.depth) here.0.1.1.1.1.1.1.1.1.1.1.0 in (
       record {
-        came = ap not (or_parts (int_lt (pos s.version) g.since) (int_lt g.since floor) turn.0).0;
+        came = ap not (or_parts (int_lt (pos s.version) g.since) (int_lt g.since least_since) turn.0).0;
         dimension = dimension;
         held = dimension_holds g.block_prim (block_length_of s.types g.block_length g.fields) (and_parts (is_dimension g.block_prim) (is_dimension g.count_prim) dimension).0 unfit.1;
         block = block_legal s.version s.types g.block_length g.fields g.vars k (fields_fit s below set.empty ids_here g.since 0 0 g.fields fields.0) (fields_came s below set.empty ids_here g.since 0 0 g.fields fields.0) (data_fit s below entry (names_of_groups field_names inner) group_ids g.since 0 g.vars more.1) here.0.1.1.1.1.0 limit.0;
       },
-      (groups_legal s below entry field_names field_ids g.since 0 inner k more.0, groups_legal s base holder (set.insert names g.name) (ids_of_data group_ids g.vars) (int_max floor g.since) (at + 1) rest k split.1),
+      (groups_legal s below entry field_names field_ids g.since 0 inner k more.0, groups_legal s base parent (set.insert names g.name) (ids_of_data group_ids g.vars) (int_max least_since g.since) (at + 1) rest k split.1),
     )
 
 messages_legal : (s : Schema) (names : Names) (ids : Numbers) (at : ℕ) (ms : List MessageDef) → TypesFit s.types s.types → all_keep s (walk_messages s.types names ids at ms) ≡ true → AllByRecursion (IsLegalMessage s.version (listings_of s.types)) (message_plans s.types ms)
 messages_legal s names ids at [] k e = tt
 messages_legal s names ids at (m ∷ ms) k e =
-    let base = spot Messages at ∷ [] in
-    let holder = root_of m in
+    let base = path_step Messages at ∷ [] in
+    let parent = root_of m in
     let field_names = names_of_fields set.empty m.fields in
     let field_ids = ids_of_fields set.empty m.fields in
     let group_ids = ids_of_groups field_ids m.groups in
     let own_fields = walk_fields s.types base set.empty set.empty m.since 0 0 m.fields in
-    let own_groups = walk_groups s.types base holder field_names field_ids m.since 0 m.groups in
-    let own_data = walk_data base holder (names_of_groups field_names m.groups) group_ids m.since 0 m.vars in
+    let own_groups = walk_groups s.types base parent field_names field_ids m.since 0 m.groups in
+    let own_data = walk_data base parent (names_of_groups field_names m.groups) group_ids m.since 0 m.vars in
     let split = kept_parts s (walk_message s.types names ids at m) (walk_messages s.types (set.insert names m.name) (set.insert ids (pos m.id)) (at + 1) ms) e in
     let here = kept_first s (place [] Messages at names ids (message_table m)) (own_fields ++ (own_groups ++ own_data)) split.0 in
     let fields = kept_parts s own_fields (own_groups ++ own_data) here.1 in
     let more = kept_parts s own_groups own_data fields.1 in
     let limit = or_parts (is_above m.block_length 16384) (is_large_message s.types m) here.0.1.1.1.1.1.1.1.1.1.1.0 in (
       record {
-        block = block_legal s.version s.types m.block_length m.fields m.vars k (fields_fit s base set.empty set.empty m.since 0 0 m.fields fields.0) (fields_came s base set.empty set.empty m.since 0 0 m.fields fields.0) (data_fit s base holder (names_of_groups field_names m.groups) group_ids m.since 0 m.vars more.1) here.0.1.1.1.1.0 limit.0;
-        groups = groups_legal s base holder field_names field_ids m.since 0 m.groups k more.0;
+        block = block_legal s.version s.types m.block_length m.fields m.vars k (fields_fit s base set.empty set.empty m.since 0 0 m.fields fields.0) (fields_came s base set.empty set.empty m.since 0 0 m.fields fields.0) (data_fit s base parent (names_of_groups field_names m.groups) group_ids m.since 0 m.vars more.1) here.0.1.1.1.1.0 limit.0;
+        groups = groups_legal s base parent field_names field_ids m.since 0 m.groups k more.0;
       },
       messages_legal s (set.insert names m.name) (set.insert ids (pos m.id)) (at + 1) ms k split.1,
     )
@@ -124,7 +124,7 @@ others : (s : Schema) (names : Names) (ids : Numbers) (at : ℕ) (ms : List Mess
 others s names ids at [] id before e = tt
 others s names ids at (m ∷ ms) id before e =
     let split = kept_parts s (walk_message s.types names ids at m) (walk_messages s.types (set.insert names m.name) (set.insert ids (pos m.id)) (at + 1) ms) e in
-    let here = kept_first s (place [] Messages at names ids (message_table m)) (walk_block s.types (spot Messages at ∷ []) (root_of m) set.empty m.fields m.groups m.vars) split.0 in
+    let here = kept_first s (place [] Messages at names ids (message_table m)) (walk_block s.types (path_step Messages at ∷ []) (root_of m) set.empty m.fields m.groups m.vars) split.0 in
     (λ same. true≢false (sym before ∙ ap (λ n. set.contains ids (pos n)) (sym same) ∙ here.0.1.0), others s (set.insert names m.name) (set.insert ids (pos m.id)) (at + 1) ms id (set.contains-insert int_cmp_total ids (pos m.id) (pos id) ∙ or_right (eq_by_cmp int_cmp (pos id) (pos m.id)) (set.contains ids (pos id)) before) split.1)
 
 templates_differ : (s : Schema) (names : Names) (ids : Numbers) (at : ℕ) (ms : List MessageDef) → all_keep s (walk_messages s.types names ids at ms) ≡ true → HaveOwnTemplates (message_plans s.types ms)
@@ -136,7 +136,7 @@ templates_differ s names ids at (m ∷ ms) e =
 pub legal : (s : Schema) → IsTrue (is_checked s) → LegalPlan (plan_of s)
 unfolding walk
 legal s checked =
-    let tables = kept_first s (record { spots = []; names = set.empty; numbers = set.empty; table = whole }) (walk_types s.types set.empty 0 s.types ++ walk_messages s.types set.empty set.empty 0 s.messages) (checked_keep s checked) in
+    let tables = kept_first s (record { path_steps = []; names = set.empty; numbers = set.empty; table = whole }) (walk_types s.types set.empty 0 s.types ++ walk_messages s.types set.empty set.empty 0 s.messages) (checked_keep s checked) in
     let split = kept_parts s (walk_types s.types set.empty 0 s.types) (walk_messages s.types set.empty set.empty 0 s.messages) tables.1 in
     let types = types_fit s set.empty 0 s.types split.0 in
     record {

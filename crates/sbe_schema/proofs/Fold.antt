@@ -3,7 +3,7 @@ use Rattle.std.proofs.Common.{◌≡◌, ℕ, suc, ◌≤◌, ◌∙◌, sym, ap
 use Rattle.std.proofs.lemmas.Bool.{false≢true}
 use Rattle.std.proofs.lemmas.Bool.Decides.{nat_tests}
 use Rattle.sbe_value.specs.declared.path.Step.{Step}
-use Rattle.sbe_schema.specs.declared.fault.Spot.{Spot}
+use Rattle.sbe_schema.specs.declared.fault.PathStep.{PathStep}
 use Rattle.sbe_schema.specs.declared.fault.SchemaFault.{SchemaFault}
 use Rattle.sbe_schema.specs.declared.fault.SchemaKind.{SchemaKind}
 use Rattle.schema_types.specs.declared.schema.Schema.{Schema}
@@ -68,24 +68,24 @@ least_above : (s : Schema) (kinds : List SchemaKind) (n : ℕ) → Rising n kind
 least_above s [] n r ps = tt
 least_above s (k ∷ ks) n r ps = at_first_above k n (first_place s k ps) _ r.0 (least_above s ks (suc (rank k)) r.1 ps)
 
-found_above : (b : Bool) (k : SchemaKind) (n : ℕ) (o : Option SchemaKind) (spots : List Spot) → n ≤ rank k → Above (suc (rank k)) (found_at o spots) → Above n (found_at (if b then Some k else o) spots)
-found_above true k n o spots le h = le
-found_above false k n o spots le h = weaker (suc (rank k)) n (found_at o spots) (omega arith) h
+found_above : (b : Bool) (k : SchemaKind) (n : ℕ) (o : Option SchemaKind) (path_steps : List PathStep) → n ≤ rank k → Above (suc (rank k)) (found_at o path_steps) → Above n (found_at (if b then Some k else o) path_steps)
+found_above true k n o path_steps le h = le
+found_above false k n o path_steps le h = weaker (suc (rank k)) n (found_at o path_steps) (omega arith) h
 
-first_above : (s : Schema) (kinds : List SchemaKind) (n : ℕ) → Rising n kinds → (names : Names) (numbers : Numbers) (table : Table) (spots : List Spot) → Above n (found_at (first_broken s kinds names numbers table) spots)
-first_above s [] n r names numbers table spots = tt
-first_above s (k ∷ ks) n r names numbers table spots =
-    found_above (breaks s k names numbers table) k n _ spots r.0 (first_above s ks (suc (rank k)) r.1 names numbers table spots)
+first_above : (s : Schema) (kinds : List SchemaKind) (n : ℕ) → Rising n kinds → (names : Names) (numbers : Numbers) (table : Table) (path_steps : List PathStep) → Above n (found_at (first_broken s kinds names numbers table) path_steps)
+first_above s [] n r names numbers table path_steps = tt
+first_above s (k ∷ ks) n r names numbers table path_steps =
+    found_above (breaks s k names numbers table) k n _ path_steps r.0 (first_above s ks (suc (rank k)) r.1 names numbers table path_steps)
 
-by_cases : (b : Bool) (o : Option (List Step)) (k : SchemaKind) (spots : List Spot) (first : Option SchemaKind) (rest all : Option SchemaFault) → Above (suc (rank k)) (found_at first spots) → Above (rank k) (at_first k o rest) → all ≡ better (found_at first spots) rest → at_first k (if b then Some (path_of spots) else o) all ≡ better (found_at (if b then Some k else first) spots) (at_first k o rest)
-by_cases true o k spots first rest all f r e = sym (better_left (fault k (path_of spots)) (at_first k o rest) r)
-by_cases false (Some path) k spots first rest all f r e = sym (better_right (found_at first spots) (fault k path) f)
-by_cases false None k spots first rest all f r e = e
+by_cases : (b : Bool) (o : Option (List Step)) (k : SchemaKind) (path_steps : List PathStep) (first : Option SchemaKind) (rest all : Option SchemaFault) → Above (suc (rank k)) (found_at first path_steps) → Above (rank k) (at_first k o rest) → all ≡ better (found_at first path_steps) rest → at_first k (if b then Some (path_of path_steps) else o) all ≡ better (found_at (if b then Some k else first) path_steps) (at_first k o rest)
+by_cases true o k path_steps first rest all f r e = sym (better_left (fault k (path_of path_steps)) (at_first k o rest) r)
+by_cases false (Some path) k path_steps first rest all f r e = sym (better_right (found_at first path_steps) (fault k path) f)
+by_cases false None k path_steps first rest all f r e = e
 
-least-cons : (s : Schema) (kinds : List SchemaKind) (n : ℕ) → Rising n kinds → (p : Place) (ps : List Place) → least_of_rules s kinds (p ∷ ps) ≡ better (found_at (first_broken s kinds p.names p.numbers p.table) p.spots) (least_of_rules s kinds ps)
+least-cons : (s : Schema) (kinds : List SchemaKind) (n : ℕ) → Rising n kinds → (p : Place) (ps : List Place) → least_of_rules s kinds (p ∷ ps) ≡ better (found_at (first_broken s kinds p.names p.numbers p.table) p.path_steps) (least_of_rules s kinds ps)
 least-cons s [] n r p ps = refl
 least-cons s (k ∷ ks) n r p ps =
-    by_cases (occurs s k p) (first_place s k ps) k p.spots _ (least_of_rules s ks ps) _ (first_above s ks (suc (rank k)) r.1 p.names p.numbers p.table p.spots) (least_above s (k ∷ ks) (rank k) (le_refl (rank k), r.1) ps) (least-cons s ks (suc (rank k)) r.1 p ps)
+    by_cases (occurs s k p) (first_place s k ps) k p.path_steps _ (least_of_rules s ks ps) _ (first_above s ks (suc (rank k)) r.1 p.names p.numbers p.table p.path_steps) (least_above s (k ∷ ks) (rank k) (le_refl (rank k), r.1) ps) (least-cons s ks (suc (rank k)) r.1 p ps)
 
 in_order : Rising 0 rules_in_order
 in_order = (lit≤ tt, (lit≤ tt, (lit≤ tt, (lit≤ tt, (lit≤ tt, (lit≤ tt, (lit≤ tt, (lit≤ tt, (lit≤ tt, (lit≤ tt, (lit≤ tt, tt)))))))))))
@@ -94,12 +94,12 @@ pub folded_is : (s : Schema) (best : Option SchemaFault) (ps : List Place) → f
 unfolding rule_of
 folded_is s best [] = sym (better-none best)
 folded_is s best (p ∷ ps) =
-    folded_is s (better best (found_at (first_broken s rules_in_order p.names p.numbers p.table) p.spots)) ps ∙ better_assoc best _ _ ∙ ap (better best) (sym (least-cons s rules_in_order 0 in_order p ps))
+    folded_is s (better best (found_at (first_broken s rules_in_order p.names p.numbers p.table) p.path_steps)) ps ∙ better_assoc best _ _ ∙ ap (better best) (sym (least-cons s rules_in_order 0 in_order p ps))
 
 pub folded_append : (s : Schema) (best : Option SchemaFault) (xs ys : List Place) → folded s best (xs ++ ys) ≡ folded s (folded s best xs) ys
 folded_append s best [] ys = refl
 folded_append s best (x ∷ xs) ys =
-    folded_append s (better best (found_at (rule_of s x.names x.numbers x.table) x.spots)) xs ys
+    folded_append s (better best (found_at (rule_of s x.names x.numbers x.table) x.path_steps)) xs ys
 
 -- ---- a schema is checked exactly where no fault is found
 
@@ -128,4 +128,4 @@ found_by_walk s best end b e =
     e
     ∙ sym (folded_append s best (walk_types s.types set.empty 0 s.types) (walk_messages s.types set.empty set.empty 0 s.messages))
     ∙ ap (λ o. folded s o (walk_types s.types set.empty 0 s.types ++ walk_messages s.types set.empty set.empty 0 s.messages)) b
-    ∙ folded_is s None (record { spots = []; names = set.empty; numbers = set.empty; table = whole } ∷ (walk_types s.types set.empty 0 s.types ++ walk_messages s.types set.empty set.empty 0 s.messages))
+    ∙ folded_is s None (record { path_steps = []; names = set.empty; numbers = set.empty; table = whole } ∷ (walk_types s.types set.empty 0 s.types ++ walk_messages s.types set.empty set.empty 0 s.messages))

@@ -35,7 +35,7 @@ walk_finds s Memory = any_none (λ p. false) (λ p. refl) (walk s)
 first_none : (s : Schema) (kind : SchemaKind) (ps : List Place) → is_none (first_place s kind ps) ≡ not (list_any (occurs s kind) ps)
 first_none s kind [] = refl
 first_none s kind (p ∷ ps) =
-    elim (occurs s kind p) as (λ b. is_none (if b then Some (path_of p.spots) else first_place s kind ps) ≡ not (b || list_any (occurs s kind) ps)) [ true ↦ refl | false ↦ first_none s kind ps ]
+    elim (occurs s kind p) as (λ b. is_none (if b then Some (path_of p.path_steps) else first_place s kind ps) ≡ not (b || list_any (occurs s kind) ps)) [ true ↦ refl | false ↦ first_none s kind ps ]
 
 none_first : (kind : SchemaKind) (o : Option (List Step)) (l : Option SchemaFault) → is_none (at_first kind o l) ≡ (is_none o && is_none l)
 none_first kind (Some path) l = refl

@@ -5,9 +5,9 @@ use Rattle.std.specs.List.{list_any}
 use Rattle.std.specs.Int.{int_max}
 use Rattle.std.specs.FinSet as set
 use Rattle.sbe_schema.specs.declared.fault.SchemaKind.TheVariants.{DuplicateId}
-use Rattle.sbe_schema.specs.declared.fault.Spot.{Spot}
-use Rattle.sbe_schema.specs.declared.fault.Part.TheVariants.{Groups, Messages}
-use Rattle.sbe_schema.specs.declared.holder.Holder.{Holder}
+use Rattle.sbe_schema.specs.declared.fault.PathStep.{PathStep}
+use Rattle.sbe_schema.specs.declared.fault.TableArray.TheVariants.{Groups, Messages}
+use Rattle.sbe_schema.specs.declared.parent.Parent.{Parent}
 use Rattle.schema_types.specs.declared.schema.Schema.{Schema}
 use Rattle.schema_types.specs.declared.types.TypeDef.{TypeDef}
 use Rattle.schema_types.specs.declared.types.TypeKind.{TypeKind}
@@ -19,7 +19,7 @@ use Rattle.schema_types.specs.Groups.{GroupTree, no_groups, group}
 use Rattle.sbe_schema.specs.Names.{Names, Numbers}
 use Rattle.sbe_schema.specs.Offsets.{field_end}
 use Rattle.sbe_schema.specs.Places.{Place, Table}
-use Rattle.sbe_schema.specs.Walk.{spot, walk, walk_fields, walk_groups, walk_data, walk_block, walk_messages, entry_of, root_of, names_of_fields, names_of_groups, ids_of_fields, ids_of_groups, ids_of_data}
+use Rattle.sbe_schema.specs.Walk.{path_step, walk, walk_fields, walk_groups, walk_data, walk_block, walk_messages, entry_of, root_of, names_of_fields, names_of_groups, ids_of_fields, ids_of_groups, ids_of_data}
 use Rattle.sbe_schema.specs.Checked.{breaks, occurs}
 use Rattle.sbe_schema.specs.Blocks.{ids_between, ids_in_groups, ids_in_message}
 use Rattle.sbe_schema.specs.Faults.{any_pair, has_duplicate_id}
@@ -46,13 +46,13 @@ module _ (s : Schema) where
   kind_is (Set prim bits) = along_none (bit_step U) (bit_test U prim) (λ r b. refl) (set.empty, set.empty) bits
   kind_is (Composite members) = along_none (member_step U s.types) (member_test U) (λ r m. refl) (set.empty, 0) members
 
-  fields_are : (types : List TypeDef) (base : List Spot) (names : Names) (ids : Numbers) (floor : ℤ) (end at : ℕ) (fs : List FieldDef) → found (walk_fields types base names ids floor end at fs) ≡ twice ids (map (λ f. f.id) fs)
-  fields_are types base names ids floor end at [] = refl
-  fields_are types base names ids floor end at (f ∷ fs) = ap (λ b. has_id ids f.id || b) (fields_are types base (set.insert names f.name) (set.insert ids (pos f.id)) (int_max floor f.since) (field_end types end f) (at + 1) fs)
+  fields_are : (types : List TypeDef) (base : List PathStep) (names : Names) (ids : Numbers) (least_since : ℤ) (end at : ℕ) (fs : List FieldDef) → found (walk_fields types base names ids least_since end at fs) ≡ twice ids (map (λ f. f.id) fs)
+  fields_are types base names ids least_since end at [] = refl
+  fields_are types base names ids least_since end at (f ∷ fs) = ap (λ b. has_id ids f.id || b) (fields_are types base (set.insert names f.name) (set.insert ids (pos f.id)) (int_max least_since f.since) (field_end types end f) (at + 1) fs)
 
-  data_are : (base : List Spot) (holder : Holder) (names : Names) (ids : Numbers) (floor : ℤ) (at : ℕ) (ds : List DataDef) → found (walk_data base holder names ids floor at ds) ≡ twice ids (map (λ d. d.id) ds)
-  data_are base holder names ids floor at [] = refl
-  data_are base holder names ids floor at (d ∷ ds) = ap (λ b. has_id ids d.id || b) (data_are base holder (set.insert names d.name) (set.insert ids (pos d.id)) (int_max floor d.since) (at + 1) ds)
+  data_are : (base : List PathStep) (parent : Parent) (names : Names) (ids : Numbers) (least_since : ℤ) (at : ℕ) (ds : List DataDef) → found (walk_data base parent names ids least_since at ds) ≡ twice ids (map (λ d. d.id) ds)
+  data_are base parent names ids least_since at [] = refl
+  data_are base parent names ids least_since at (d ∷ ds) = ap (λ b. has_id ids d.id || b) (data_are base parent (set.insert names d.name) (set.insert ids (pos d.id)) (int_max least_since d.since) (at + 1) ds)
 
   -- the ids behind some elements
   after_fields : (ids : Numbers) (fs : List FieldDef) → ids_of_fields ids fs ≡ after ids (map (λ f. f.id) fs)
@@ -79,44 +79,44 @@ module _ (s : Schema) where
       ∙ sym (steps_append put_id has_id (set.insert ids (pos g.id)) (ids_between g.fields (ids_in_groups inner) g.vars) (ids_in_groups rest))
 
   -- what is owed of the groups of a block
-  abbrev GroupsAre : List TypeDef → List Spot → Holder → Names → Numbers → ℤ → ℕ → GroupTree → Type 0
-  GroupsAre types base holder names ids floor at tree = found (walk_groups types base holder names ids floor at tree) ≡ twice ids (ids_in_groups tree)
+  abbrev GroupsAre : List TypeDef → List PathStep → Parent → Names → Numbers → ℤ → ℕ → GroupTree → Type 0
+  GroupsAre types base parent names ids least_since at tree = found (walk_groups types base parent names ids least_since at tree) ≡ twice ids (ids_in_groups tree)
 
-  block_is : (types : List TypeDef) (base : List Spot) (holder : Holder) (ids : Numbers) (fields : List FieldDef) (tree : GroupTree) (vars : List DataDef) → GroupsAre types base holder (names_of_fields set.empty fields) (ids_of_fields ids fields) holder.since 0 tree → found (walk_block types base holder ids fields tree vars) ≡ twice ids (ids_between fields (ids_in_groups tree) vars)
-  block_is types base holder ids fields tree vars groups =
+  block_is : (types : List TypeDef) (base : List PathStep) (parent : Parent) (ids : Numbers) (fields : List FieldDef) (tree : GroupTree) (vars : List DataDef) → GroupsAre types base parent (names_of_fields set.empty fields) (ids_of_fields ids fields) parent.since 0 tree → found (walk_block types base parent ids fields tree vars) ≡ twice ids (ids_between fields (ids_in_groups tree) vars)
+  block_is types base parent ids fields tree vars groups =
       let names : Names = names_of_fields set.empty fields in
       let field_ids : Numbers = ids_of_fields ids fields in
-      let one : List Place = walk_fields types base set.empty ids holder.since 0 0 fields in
-      let two : List Place = walk_groups types base holder names field_ids holder.since 0 tree in
-      let three : List Place = walk_data base holder (names_of_groups names tree) (ids_of_groups field_ids tree) holder.since 0 vars in
+      let one : List Place = walk_fields types base set.empty ids parent.since 0 0 fields in
+      let two : List Place = walk_groups types base parent names field_ids parent.since 0 tree in
+      let three : List Place = walk_data base parent (names_of_groups names tree) (ids_of_groups field_ids tree) parent.since 0 vars in
       let first : List ℕ = map (λ f. f.id) fields in
       let second : List ℕ = ids_in_groups tree in
       let third : List ℕ = map (λ d. d.id) vars in
       list_any-append (at_place U) one (two ++ three)
       ∙ ap (λ b. found one || b) (list_any-append (at_place U) two three)
-      ∙ (λ i. fields_are types base set.empty ids holder.since 0 0 fields i || (groups i || data_are base holder (names_of_groups names tree) (ids_of_groups field_ids tree) holder.since 0 vars i))
+      ∙ (λ i. fields_are types base set.empty ids parent.since 0 0 fields i || (groups i || data_are base parent (names_of_groups names tree) (ids_of_groups field_ids tree) parent.since 0 vars i))
       ∙ (λ i. twice ids first || (twice (after_fields ids fields i) second || twice (after_groups tree (after_fields ids fields i) i) third))
       ∙ sym (along_append put_id has_id ids first (second ++ third) ∙ ap (λ b. twice ids first || b) (along_append put_id has_id (after ids first) second third))
 
-  groups_are : (types : List TypeDef) (base : List Spot) (holder : Holder) (names : Names) (ids : Numbers) (floor : ℤ) (at : ℕ) (tree : GroupTree) → GroupsAre types base holder names ids floor at tree
-  groups_are types base holder names ids floor at no_groups = refl
-  groups_are types base holder names ids floor at (group g inner rest) =
-      let here : List Spot = base ++ spot Groups at ∷ [] in
-      let entry : Holder = entry_of holder g in
+  groups_are : (types : List TypeDef) (base : List PathStep) (parent : Parent) (names : Names) (ids : Numbers) (least_since : ℤ) (at : ℕ) (tree : GroupTree) → GroupsAre types base parent names ids least_since at tree
+  groups_are types base parent names ids least_since at no_groups = refl
+  groups_are types base parent names ids least_since at (group g inner rest) =
+      let here : List PathStep = base ++ path_step Groups at ∷ [] in
+      let entry : Parent = entry_of parent g in
       let new_ids : Numbers = set.insert ids (pos g.id) in
       let field_ids : Numbers = ids_of_fields new_ids g.fields in
       let group_ids : Numbers = ids_of_data (ids_of_groups field_ids inner) g.vars in
       let inside : List Place = walk_block types here entry new_ids g.fields inner g.vars in
-      let more : List Place = walk_groups types base holder (set.insert names g.name) group_ids (int_max floor g.since) (at + 1) rest in
+      let more : List Place = walk_groups types base parent (set.insert names g.name) group_ids (int_max least_since g.since) (at + 1) rest in
       let between : List ℕ = ids_between g.fields (ids_in_groups inner) g.vars in
       let block = block_is types here entry new_ids g.fields inner g.vars (groups_are types here entry (names_of_fields set.empty g.fields) field_ids g.since 0 inner) in
-      let others = groups_are types base holder (set.insert names g.name) group_ids (int_max floor g.since) (at + 1) rest in
+      let others = groups_are types base parent (set.insert names g.name) group_ids (int_max least_since g.since) (at + 1) rest in
       ap (λ b. has_id ids g.id || b) (list_any-append (at_place U) inside more ∙ (λ i. block i || others i) ∙ (λ i. twice new_ids between || twice (after_between new_ids g.fields inner g.vars (λ r. after_groups inner r) i) (ids_in_groups rest)) ∙ sym (along_append put_id has_id new_ids between (ids_in_groups rest)))
 
   messages_are : (types : List TypeDef) (names : Names) (ids : Numbers) (at : ℕ) (ms : List MessageDef) → found (walk_messages types names ids at ms) ≡ (twice ids (map (λ m. m.id) ms) || list_any (λ m. any_pair nat_eq (ids_in_message m)) ms)
   messages_are types names ids at [] = refl
   messages_are types names ids at (m ∷ ms) =
-      let here : List Spot = spot Messages at ∷ [] in
+      let here : List PathStep = path_step Messages at ∷ [] in
       let inside : List Place = walk_block types here (root_of m) set.empty m.fields m.groups m.vars in
       let more : List Place = walk_messages types (set.insert names m.name) (set.insert ids (pos m.id)) (at + 1) ms in
       let block = block_is types here (root_of m) set.empty m.fields m.groups m.vars (groups_are types here (root_of m) (names_of_fields set.empty m.fields) (ids_of_fields set.empty m.fields) m.since 0 m.groups) ∙ ids_twice (ids_in_message m) in

@@ -17,7 +17,7 @@ use Rattle.sbe_schema.specs.Checked.{breaks, occurs}
 use Rattle.sbe_schema.specs.Blocks.{Block, blocks_of, names_in_block}
 use Rattle.sbe_schema.specs.Faults.{any_pair, names_in, has_duplicate_name}
 use Rattle.sbe_schema.proofs.Along.{or_assoc, or_swap, along, steps, along_append, along_pairs, any_same, pair-map}
-use Rattle.sbe_schema.proofs.Parts.{holder_of, in_kind, in_block, names_of_heads, types_test, messages_test, parts_are, value_step, value_test, bit_step, bit_test, member_step, member_test, type_step, type_test, message_step, message_test, field_step, field_test, group_step, group_test, data_step, data_test}
+use Rattle.sbe_schema.proofs.Parts.{parent_of, in_kind, in_block, names_of_heads, types_test, messages_test, parts_are, value_step, value_test, bit_step, bit_test, member_step, member_test, type_step, type_test, message_step, message_test, field_step, field_test, group_step, group_test, data_step, data_test}
 use Rattle.sbe_schema.proofs.Twice.{put_name, has_name, name_adds, no_name, names_twice, names_along}
 
 module _ (s : Schema) where
@@ -59,8 +59,8 @@ module _ (s : Schema) where
       let second : List (List ℕ) = map (λ g. g.name) b.groups in
       let third : List (List ℕ) = map (λ d. d.name) b.vars in
       let fields = names_along (field_step U s.types) (field_test U) (λ r. r.0) (λ f. f.name) (λ r f. refl) (λ r f. refl) (set.empty, (b.since, 0)) b.fields in
-      let heads = names_along (group_step U) (group_test U (holder_of b)) (λ r. r.0) (λ g. g.name) (λ r g. refl) (λ r g. refl) (names_of_fields set.empty b.fields, b.since) b.groups in
-      let vars = names_along (data_step U) (data_test U (holder_of b)) (λ r. r.0) (λ d. d.name) (λ r d. refl) (λ r d. refl) (names_of_heads U (names_of_fields set.empty b.fields) b.groups, b.since) b.vars in
+      let heads = names_along (group_step U) (group_test U (parent_of b)) (λ r. r.0) (λ g. g.name) (λ r g. refl) (λ r g. refl) (names_of_fields set.empty b.fields, b.since) b.groups in
+      let vars = names_along (data_step U) (data_test U (parent_of b)) (λ r. r.0) (λ d. d.name) (λ r d. refl) (λ r d. refl) (names_of_heads U (names_of_fields set.empty b.fields) b.groups, b.since) b.vars in
       let after : names_of_fields set.empty b.fields ≡ steps put_name has_name set.empty first = names_after_fields set.empty b.fields in
       (λ i. fields i || (heads i || vars i))
       ∙ (λ i. along put_name has_name set.empty first || (along put_name has_name (after i) second || along put_name has_name (names_after_heads (after i) b.groups i) third))
@@ -69,5 +69,5 @@ module _ (s : Schema) where
 
   pub names_are : list_any (occurs s DuplicateName) (walk s) ≡ has_duplicate_name s
   names_are =
-      parts_are U (λ names ids floor end f. refl) (λ names ids holder floor g. refl) (λ names ids holder floor d. refl) s (any_pair same_name (map (λ t. t.name) s.types) || list_any (λ t. is_some (primitive_named t.name)) s.types) (list_any (λ t. any_pair same_name (names_in t.kind)) s.types) (any_pair same_name (map (λ m. m.name) s.messages)) (list_any (λ b. any_pair same_name (names_in_block b)) (blocks_of s.messages)) types_is (any_same (λ t. in_kind U s.types t.kind) (λ t. any_pair same_name (names_in t.kind)) (λ t. kind_is t.kind) s.types) messages_are (any_same (in_block U s.types) (λ b. any_pair same_name (names_in_block b)) block_is (blocks_of s.messages))
+      parts_are U (λ names ids least_since end f. refl) (λ names ids parent least_since g. refl) (λ names ids parent least_since d. refl) s (any_pair same_name (map (λ t. t.name) s.types) || list_any (λ t. is_some (primitive_named t.name)) s.types) (list_any (λ t. any_pair same_name (names_in t.kind)) s.types) (any_pair same_name (map (λ m. m.name) s.messages)) (list_any (λ b. any_pair same_name (names_in_block b)) (blocks_of s.messages)) types_is (any_same (λ t. in_kind U s.types t.kind) (λ t. any_pair same_name (names_in t.kind)) (λ t. kind_is t.kind) s.types) messages_are (any_same (in_block U s.types) (λ b. any_pair same_name (names_in_block b)) block_is (blocks_of s.messages))
       ∙ or_assoc (any_pair same_name (map (λ t. t.name) s.types) || list_any (λ t. is_some (primitive_named t.name)) s.types) (list_any (λ t. any_pair same_name (names_in t.kind)) s.types) (any_pair same_name (map (λ m. m.name) s.messages) || list_any (λ b. any_pair same_name (names_in_block b)) (blocks_of s.messages))

@@ -21,7 +21,7 @@ use Rattle.sbe_schema.specs.Checked.{breaks, occurs}
 use Rattle.sbe_schema.specs.Blocks.{Block, blocks_of}
 use Rattle.sbe_schema.specs.Faults.{any_pair, members_in, is_outside, is_new_inside, is_behind_older, is_badly_extended, has_illegal_extension, is_too_large, is_over_limit_in, is_past_limits}
 use Rattle.sbe_schema.proofs.Along.{or_false, or_assoc, along_none, along_any, along_pairs, any_none, any_same, any_or, pair-map}
-use Rattle.sbe_schema.proofs.Parts.{lowest_of, holder_of, in_kind, in_block, in_fields, in_heads, in_vars, names_of_heads, parts_are, value_step, value_test, bit_step, bit_test, member_step, member_test, type_step, type_test, message_step, message_test, field_step, field_test, group_step, group_test, data_step, data_test}
+use Rattle.sbe_schema.proofs.Parts.{lowest_of, parent_of, in_kind, in_block, in_fields, in_heads, in_vars, names_of_heads, parts_are, value_step, value_test, bit_step, bit_test, member_step, member_test, type_step, type_test, message_step, message_test, field_step, field_test, group_step, group_test, data_step, data_test}
 use Rattle.sbe_schema.proofs.Sizes.{large_is}
 
 -- below the greater of two, or above the lower
@@ -73,9 +73,9 @@ module _ (s : Schema) where
   since_in (Set prim bits) = along_none (bit_step Since) (bit_test Since prim) (λ r b. refl) (set.empty, set.empty) bits
   since_in (Composite members) = along_none (member_step Since s.types) (member_test Since) (λ r m. refl) (set.empty, 0) members
 
-  -- a higher floor refuses what is below the one that raised it
-  raised : (floor x y : ℤ) → is_outside s.version (int_max floor x) y ≡ (int_lt y x || is_outside s.version floor y)
-  raised floor x y = ap (λ b. int_lt (pos s.version) y || b) (below_greater floor x y) ∙ or_front (int_lt (pos s.version) y) (int_lt y x) (int_lt y floor)
+  -- a higher least since refuses what is below the one that raised it
+  raised : (least_since x y : ℤ) → is_outside s.version (int_max least_since x) y ≡ (int_lt y x || is_outside s.version least_since y)
+  raised least_since x y = ap (λ b. int_lt (pos s.version) y || b) (below_greater least_since x y) ∙ or_front (int_lt (pos s.version) y) (int_lt y x) (int_lt y least_since)
 
   abbrev group_out : Block → ℤ → Bool
   group_out b since = is_behind_older b.level b.vars since || is_new_inside b.level b.since since
@@ -87,20 +87,20 @@ module _ (s : Schema) where
 
   since_heads : (b : Block) → in_heads Since b ≡ (list_any (λ g. is_outside s.version b.since g.since || group_out b g.since) b.groups || any_pair int_lt (map (λ g. g.since) b.groups))
   since_heads b =
-      along_pairs (group_step Since) (group_test Since (holder_of b)) (λ y x. int_lt y.since x.since) (λ r x y. ap (λ c. c || (is_lower (lowest_of b.level b.vars) y.since || is_not_with_group (holder_of b) y.since)) (raised r.1 x.since y.since) ∙ or_assoc (int_lt y.since x.since) (is_outside s.version r.1 y.since) (is_lower (lowest_of b.level b.vars) y.since || is_not_with_group (holder_of b) y.since)) (names_of_fields set.empty b.fields, b.since) b.groups
-      ∙ (λ i. any_same (group_test Since (holder_of b) (names_of_fields set.empty b.fields, b.since)) (λ g. is_outside s.version b.since g.since || group_out b g.since) (λ g j. is_outside s.version b.since g.since || (older b.level b.vars g.since j || newer b.level b.since g.since j)) b.groups i || sym (pair-map int_lt (λ g. g.since) b.groups) i)
+      along_pairs (group_step Since) (group_test Since (parent_of b)) (λ y x. int_lt y.since x.since) (λ r x y. ap (λ c. c || (is_lower (lowest_of b.level b.vars) y.since || is_not_with_group (parent_of b) y.since)) (raised r.1 x.since y.since) ∙ or_assoc (int_lt y.since x.since) (is_outside s.version r.1 y.since) (is_lower (lowest_of b.level b.vars) y.since || is_not_with_group (parent_of b) y.since)) (names_of_fields set.empty b.fields, b.since) b.groups
+      ∙ (λ i. any_same (group_test Since (parent_of b) (names_of_fields set.empty b.fields, b.since)) (λ g. is_outside s.version b.since g.since || group_out b g.since) (λ g j. is_outside s.version b.since g.since || (older b.level b.vars g.since j || newer b.level b.since g.since j)) b.groups i || sym (pair-map int_lt (λ g. g.since) b.groups) i)
 
   since_vars : (b : Block) → in_vars Since b ≡ (list_any (λ d. is_outside s.version b.since d.since || is_new_inside b.level b.since d.since) b.vars || any_pair int_lt (map (λ d. d.since) b.vars))
   since_vars b =
-      along_pairs (data_step Since) (data_test Since (holder_of b)) (λ y x. int_lt y.since x.since) (λ r x y. ap (λ c. c || is_not_with_group (holder_of b) y.since) (raised r.1 x.since y.since) ∙ or_assoc (int_lt y.since x.since) (is_outside s.version r.1 y.since) (is_not_with_group (holder_of b) y.since)) (names_of_heads Since (names_of_fields set.empty b.fields) b.groups, b.since) b.vars
-      ∙ (λ i. any_same (data_test Since (holder_of b) (names_of_heads Since (names_of_fields set.empty b.fields) b.groups, b.since)) (λ d. is_outside s.version b.since d.since || is_new_inside b.level b.since d.since) (λ d j. is_outside s.version b.since d.since || newer b.level b.since d.since j) b.vars i || sym (pair-map int_lt (λ d. d.since) b.vars) i)
+      along_pairs (data_step Since) (data_test Since (parent_of b)) (λ y x. int_lt y.since x.since) (λ r x y. ap (λ c. c || is_not_with_group (parent_of b) y.since) (raised r.1 x.since y.since) ∙ or_assoc (int_lt y.since x.since) (is_outside s.version r.1 y.since) (is_not_with_group (parent_of b) y.since)) (names_of_heads Since (names_of_fields set.empty b.fields) b.groups, b.since) b.vars
+      ∙ (λ i. any_same (data_test Since (parent_of b) (names_of_heads Since (names_of_fields set.empty b.fields) b.groups, b.since)) (λ d. is_outside s.version b.since d.since || is_new_inside b.level b.since d.since) (λ d j. is_outside s.version b.since d.since || newer b.level b.since d.since j) b.vars i || sym (pair-map int_lt (λ d. d.since) b.vars) i)
 
   since_block : (b : Block) → in_block Since s.types b ≡ is_badly_extended s.version b
   since_block b = λ i. since_fields b i || (since_heads b i || since_vars b i)
 
   pub since_are : list_any (occurs s IllegalExtension) (walk s) ≡ has_illegal_extension s
   since_are =
-      parts_are Since (λ names ids floor end f. refl) (λ names ids holder floor g. refl) (λ names ids holder floor d. refl) s false false (list_any (λ m. int_lt (pos s.version) m.since) s.messages) (list_any (is_badly_extended s.version) (blocks_of s.messages)) (along_none (type_step Since) (type_test Since) (λ r t. refl) set.empty s.types) (any_none (λ t. in_kind Since s.types t.kind) (λ t. since_in t.kind) s.types) (along_any (message_step Since) (message_test Since) (λ m. int_lt (pos s.version) m.since) (λ r m. refl) (set.empty, set.empty) s.messages) (any_same (in_block Since s.types) (is_badly_extended s.version) since_block (blocks_of s.messages))
+      parts_are Since (λ names ids least_since end f. refl) (λ names ids parent least_since g. refl) (λ names ids parent least_since d. refl) s false false (list_any (λ m. int_lt (pos s.version) m.since) s.messages) (list_any (is_badly_extended s.version) (blocks_of s.messages)) (along_none (type_step Since) (type_test Since) (λ r t. refl) set.empty s.types) (any_none (λ t. in_kind Since s.types t.kind) (λ t. since_in t.kind) s.types) (along_any (message_step Since) (message_test Since) (λ m. int_lt (pos s.version) m.since) (λ r m. refl) (set.empty, set.empty) s.messages) (any_same (in_block Since s.types) (is_badly_extended s.version) since_block (blocks_of s.messages))
 
 -- ---- limits
 
@@ -116,9 +116,9 @@ module _ (s : Schema) where
 
   limit_block : (b : Block) → in_block Limit s.types b ≡ is_over_limit_in s.types b
   limit_block b =
-      λ i. along_any (field_step Limit s.types) (field_test Limit) (λ f. is_bad_value (meaning_of s.types f.type_name) f.presence f.value) (λ r f. refl) (set.empty, (b.since, 0)) b.fields i || ((λ j. along_any (group_step Limit) (group_test Limit (holder_of b)) (λ g. is_above g.block_length 16384 || nat_lt 3 b.level) (λ r g. ap (λ x. is_above g.block_length 16384 || x) (deep b.level)) (names_of_fields set.empty b.fields, b.since) b.groups j || along_none (data_step Limit) (data_test Limit (holder_of b)) (λ r d. refl) (names_of_heads Limit (names_of_fields set.empty b.fields) b.groups, b.since) b.vars j) ∙ or_false (list_any (λ g. is_above g.block_length 16384 || nat_lt 3 b.level) b.groups)) i
+      λ i. along_any (field_step Limit s.types) (field_test Limit) (λ f. is_bad_value (meaning_of s.types f.type_name) f.presence f.value) (λ r f. refl) (set.empty, (b.since, 0)) b.fields i || ((λ j. along_any (group_step Limit) (group_test Limit (parent_of b)) (λ g. is_above g.block_length 16384 || nat_lt 3 b.level) (λ r g. ap (λ x. is_above g.block_length 16384 || x) (deep b.level)) (names_of_fields set.empty b.fields, b.since) b.groups j || along_none (data_step Limit) (data_test Limit (parent_of b)) (λ r d. refl) (names_of_heads Limit (names_of_fields set.empty b.fields) b.groups, b.since) b.vars j) ∙ or_false (list_any (λ g. is_above g.block_length 16384 || nat_lt 3 b.level) b.groups)) i
 
   pub limits_are : list_any (occurs s OverLimit) (walk s) ≡ is_past_limits s
   limits_are =
-      parts_are Limit (λ names ids floor end f. refl) (λ names ids holder floor g. refl) (λ names ids holder floor d. refl) s (list_any (λ t. is_large_kind t.kind) s.types) (list_any (λ t. list_any (λ m. is_bad_value (meaning_of s.types m.type_name) m.presence m.value) (members_in t.kind)) s.types) (list_any (is_too_large s.types) s.messages) (list_any (is_over_limit_in s.types) (blocks_of s.messages)) (along_any (type_step Limit) (type_test Limit) (λ t. is_large_kind t.kind) (λ r t. refl) set.empty s.types) (any_same (λ t. in_kind Limit s.types t.kind) (λ t. list_any (λ m. is_bad_value (meaning_of s.types m.type_name) m.presence m.value) (members_in t.kind)) (λ t. limit_in t.kind) s.types) (along_any (message_step Limit) (message_test Limit) (is_too_large s.types) (λ r m. ap (λ x. is_above m.block_length 16384 || x) (large_is s.types m)) (set.empty, set.empty) s.messages) (any_same (in_block Limit s.types) (is_over_limit_in s.types) limit_block (blocks_of s.messages))
+      parts_are Limit (λ names ids least_since end f. refl) (λ names ids parent least_since g. refl) (λ names ids parent least_since d. refl) s (list_any (λ t. is_large_kind t.kind) s.types) (list_any (λ t. list_any (λ m. is_bad_value (meaning_of s.types m.type_name) m.presence m.value) (members_in t.kind)) s.types) (list_any (is_too_large s.types) s.messages) (list_any (is_over_limit_in s.types) (blocks_of s.messages)) (along_any (type_step Limit) (type_test Limit) (λ t. is_large_kind t.kind) (λ r t. refl) set.empty s.types) (any_same (λ t. in_kind Limit s.types t.kind) (λ t. list_any (λ m. is_bad_value (meaning_of s.types m.type_name) m.presence m.value) (members_in t.kind)) (λ t. limit_in t.kind) s.types) (along_any (message_step Limit) (message_test Limit) (is_too_large s.types) (λ r m. ap (λ x. is_above m.block_length 16384 || x) (large_is s.types m)) (set.empty, set.empty) s.messages) (any_same (in_block Limit s.types) (is_over_limit_in s.types) limit_block (blocks_of s.messages))
       ∙ ap (λ x. (nat_lt 1024 (length s.types) || nat_lt 256 (length s.messages)) || (x || (list_any (is_too_large s.types) s.messages || list_any (is_over_limit_in s.types) (blocks_of s.messages)))) (sym (any_or (λ t. is_large_kind t.kind) (λ t. list_any (λ m. is_bad_value (meaning_of s.types m.type_name) m.presence m.value) (members_in t.kind)) s.types))

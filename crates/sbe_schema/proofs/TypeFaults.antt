@@ -24,7 +24,7 @@ use Rattle.sbe_schema.specs.Sums.{stands_below, end_of_member, end_of_members, e
 use Rattle.sbe_schema.specs.Blocks.{Block, blocks_of}
 use Rattle.sbe_schema.specs.Faults.{any_pair, with_earlier, members_in, has_unknown_type, is_low_member, is_misplaced_field, has_bad_offset, has_short_length, has_bad_values, has_bad_enum, has_bad_bits, has_bad_set, is_bad_dimension_of, has_bad_dimension, has_bad_data}
 use Rattle.sbe_schema.proofs.Along.{or_false, or_assoc, or_swap, along, steps, along_none, along_any, along_pairs, along_part, along_earlier, any_none, any_same, any_or, pair-map}
-use Rattle.sbe_schema.proofs.Parts.{holder_of, in_kind, in_block, names_of_heads, parts_are, value_step, value_test, bit_step, bit_test, member_step, member_test, type_step, type_test, message_step, message_test, field_step, field_test, group_step, group_test, data_step, data_test}
+use Rattle.sbe_schema.proofs.Parts.{parent_of, in_kind, in_block, names_of_heads, parts_are, value_step, value_test, bit_step, bit_test, member_step, member_test, type_step, type_test, message_step, message_test, field_step, field_test, group_step, group_test, data_step, data_test}
 use Rattle.sbe_schema.proofs.Twice.{number_adds, no_number, same_ids}
 use Rattle.sbe_schema.proofs.Sizes.{most, member_end_is, field_end_is, below_is, long_is, short_is, dimension_is}
 
@@ -42,12 +42,12 @@ module _ (s : Schema) where
 
   unknown_block : (b : Block) → in_block Unknown s.types b ≡ list_any (λ f. is_unknown (meaning_of s.types f.type_name)) b.fields
   unknown_block b =
-      (λ i. along_any (field_step Unknown s.types) (field_test Unknown) (λ f. is_unknown (meaning_of s.types f.type_name)) (λ r f. refl) (set.empty, (b.since, 0)) b.fields i || (along_none (group_step Unknown) (group_test Unknown (holder_of b)) (λ r g. refl) (names_of_fields set.empty b.fields, b.since) b.groups i || along_none (data_step Unknown) (data_test Unknown (holder_of b)) (λ r d. refl) (names_of_heads Unknown (names_of_fields set.empty b.fields) b.groups, b.since) b.vars i))
+      (λ i. along_any (field_step Unknown s.types) (field_test Unknown) (λ f. is_unknown (meaning_of s.types f.type_name)) (λ r f. refl) (set.empty, (b.since, 0)) b.fields i || (along_none (group_step Unknown) (group_test Unknown (parent_of b)) (λ r g. refl) (names_of_fields set.empty b.fields, b.since) b.groups i || along_none (data_step Unknown) (data_test Unknown (parent_of b)) (λ r d. refl) (names_of_heads Unknown (names_of_fields set.empty b.fields) b.groups, b.since) b.vars i))
       ∙ or_false (list_any (λ f. is_unknown (meaning_of s.types f.type_name)) b.fields)
 
   pub unknown_are : list_any (occurs s UnknownType) (walk s) ≡ has_unknown_type s
   unknown_are =
-      parts_are Unknown (λ names ids floor end f. refl) (λ names ids holder floor g. refl) (λ names ids holder floor d. refl) s false (list_any (λ t. list_any (λ m. is_unknown (meaning_of s.types m.type_name) || is_composite (meaning_of s.types m.type_name)) (members_in t.kind)) s.types) false (list_any (λ b. list_any (λ f. is_unknown (meaning_of s.types f.type_name)) b.fields) (blocks_of s.messages)) (along_none (type_step Unknown) (type_test Unknown) (λ r t. refl) set.empty s.types) (any_same (λ t. in_kind Unknown s.types t.kind) (λ t. list_any (λ m. is_unknown (meaning_of s.types m.type_name) || is_composite (meaning_of s.types m.type_name)) (members_in t.kind)) (λ t. unknown_in t.kind) s.types) (along_none (message_step Unknown) (message_test Unknown) (λ r m. refl) (set.empty, set.empty) s.messages) (any_same (in_block Unknown s.types) (λ b. list_any (λ f. is_unknown (meaning_of s.types f.type_name)) b.fields) unknown_block (blocks_of s.messages))
+      parts_are Unknown (λ names ids least_since end f. refl) (λ names ids parent least_since g. refl) (λ names ids parent least_since d. refl) s false (list_any (λ t. list_any (λ m. is_unknown (meaning_of s.types m.type_name) || is_composite (meaning_of s.types m.type_name)) (members_in t.kind)) s.types) false (list_any (λ b. list_any (λ f. is_unknown (meaning_of s.types f.type_name)) b.fields) (blocks_of s.messages)) (along_none (type_step Unknown) (type_test Unknown) (λ r t. refl) set.empty s.types) (any_same (λ t. in_kind Unknown s.types t.kind) (λ t. list_any (λ m. is_unknown (meaning_of s.types m.type_name) || is_composite (meaning_of s.types m.type_name)) (members_in t.kind)) (λ t. unknown_in t.kind) s.types) (along_none (message_step Unknown) (message_test Unknown) (λ r m. refl) (set.empty, set.empty) s.messages) (any_same (in_block Unknown s.types) (λ b. list_any (λ f. is_unknown (meaning_of s.types f.type_name)) b.fields) unknown_block (blocks_of s.messages))
 
 -- ---- offsets
 
@@ -88,12 +88,12 @@ module _ (s : Schema) where
 
   offsets_block : (b : Block) → in_block Offset s.types b ≡ list_any (is_misplaced_field s.types) (with_earlier b.fields)
   offsets_block b =
-      (λ i. (along_part (field_step Offset s.types) (field_test Offset) (field_end s.types) (λ e f. is_below f.offset e || nat_lt 16384 (field_end s.types e f)) (λ r. r.1.1) (λ r f. refl) (λ r f. refl) (set.empty, (b.since, 0)) b.fields ∙ fields_placed s.types b.fields) i || (along_none (group_step Offset) (group_test Offset (holder_of b)) (λ r g. refl) (names_of_fields set.empty b.fields, b.since) b.groups i || along_none (data_step Offset) (data_test Offset (holder_of b)) (λ r d. refl) (names_of_heads Offset (names_of_fields set.empty b.fields) b.groups, b.since) b.vars i))
+      (λ i. (along_part (field_step Offset s.types) (field_test Offset) (field_end s.types) (λ e f. is_below f.offset e || nat_lt 16384 (field_end s.types e f)) (λ r. r.1.1) (λ r f. refl) (λ r f. refl) (set.empty, (b.since, 0)) b.fields ∙ fields_placed s.types b.fields) i || (along_none (group_step Offset) (group_test Offset (parent_of b)) (λ r g. refl) (names_of_fields set.empty b.fields, b.since) b.groups i || along_none (data_step Offset) (data_test Offset (parent_of b)) (λ r d. refl) (names_of_heads Offset (names_of_fields set.empty b.fields) b.groups, b.since) b.vars i))
       ∙ or_false (list_any (is_misplaced_field s.types) (with_earlier b.fields))
 
   pub offsets_are : list_any (occurs s BadOffset) (walk s) ≡ has_bad_offset s
   offsets_are =
-      parts_are Offset (λ names ids floor end f. refl) (λ names ids holder floor g. refl) (λ names ids holder floor d. refl) s false (list_any (λ t. list_any (is_low_member s.types) (with_earlier (members_in t.kind))) s.types) false (list_any (λ b. list_any (is_misplaced_field s.types) (with_earlier b.fields)) (blocks_of s.messages)) (along_none (type_step Offset) (type_test Offset) (λ r t. refl) set.empty s.types) (any_same (λ t. in_kind Offset s.types t.kind) (λ t. list_any (is_low_member s.types) (with_earlier (members_in t.kind))) (λ t. offsets_in t.kind) s.types) (along_none (message_step Offset) (message_test Offset) (λ r m. refl) (set.empty, set.empty) s.messages) (any_same (in_block Offset s.types) (λ b. list_any (is_misplaced_field s.types) (with_earlier b.fields)) offsets_block (blocks_of s.messages))
+      parts_are Offset (λ names ids least_since end f. refl) (λ names ids parent least_since g. refl) (λ names ids parent least_since d. refl) s false (list_any (λ t. list_any (is_low_member s.types) (with_earlier (members_in t.kind))) s.types) false (list_any (λ b. list_any (is_misplaced_field s.types) (with_earlier b.fields)) (blocks_of s.messages)) (along_none (type_step Offset) (type_test Offset) (λ r t. refl) set.empty s.types) (any_same (λ t. in_kind Offset s.types t.kind) (λ t. list_any (is_low_member s.types) (with_earlier (members_in t.kind))) (λ t. offsets_in t.kind) s.types) (along_none (message_step Offset) (message_test Offset) (λ r m. refl) (set.empty, set.empty) s.messages) (any_same (in_block Offset s.types) (λ b. list_any (is_misplaced_field s.types) (with_earlier b.fields)) offsets_block (blocks_of s.messages))
 
 -- ---- block lengths
 
@@ -109,12 +109,12 @@ module _ (s : Schema) where
 
   short_block : (b : Block) → in_block Short s.types b ≡ list_any (λ g. stands_below g.block_length (end_of_fields s.types 0 g.fields)) b.groups
   short_block b =
-      (λ i. along_none (field_step Short s.types) (field_test Short) (λ r f. refl) (set.empty, (b.since, 0)) b.fields i || (along_any (group_step Short) (group_test Short (holder_of b)) (λ g. stands_below g.block_length (end_of_fields s.types 0 g.fields)) (λ r g. short_is s.types g.block_length g.fields) (names_of_fields set.empty b.fields, b.since) b.groups i || along_none (data_step Short) (data_test Short (holder_of b)) (λ r d. refl) (names_of_heads Short (names_of_fields set.empty b.fields) b.groups, b.since) b.vars i))
+      (λ i. along_none (field_step Short s.types) (field_test Short) (λ r f. refl) (set.empty, (b.since, 0)) b.fields i || (along_any (group_step Short) (group_test Short (parent_of b)) (λ g. stands_below g.block_length (end_of_fields s.types 0 g.fields)) (λ r g. short_is s.types g.block_length g.fields) (names_of_fields set.empty b.fields, b.since) b.groups i || along_none (data_step Short) (data_test Short (parent_of b)) (λ r d. refl) (names_of_heads Short (names_of_fields set.empty b.fields) b.groups, b.since) b.vars i))
       ∙ or_false (list_any (λ g. stands_below g.block_length (end_of_fields s.types 0 g.fields)) b.groups)
 
   pub short_are : list_any (occurs s ShortLength) (walk s) ≡ has_short_length s
   short_are =
-      parts_are Short (λ names ids floor end f. refl) (λ names ids holder floor g. refl) (λ names ids holder floor d. refl) s false false (list_any (λ m. stands_below m.block_length (end_of_fields s.types 0 m.fields)) s.messages) (list_any (λ b. list_any (λ g. stands_below g.block_length (end_of_fields s.types 0 g.fields)) b.groups) (blocks_of s.messages)) (along_none (type_step Short) (type_test Short) (λ r t. refl) set.empty s.types) (any_none (λ t. in_kind Short s.types t.kind) (λ t. short_in t.kind) s.types) (along_any (message_step Short) (message_test Short) (λ m. stands_below m.block_length (end_of_fields s.types 0 m.fields)) (λ r m. short_is s.types m.block_length m.fields) (set.empty, set.empty) s.messages) (any_same (in_block Short s.types) (λ b. list_any (λ g. stands_below g.block_length (end_of_fields s.types 0 g.fields)) b.groups) short_block (blocks_of s.messages))
+      parts_are Short (λ names ids least_since end f. refl) (λ names ids parent least_since g. refl) (λ names ids parent least_since d. refl) s false false (list_any (λ m. stands_below m.block_length (end_of_fields s.types 0 m.fields)) s.messages) (list_any (λ b. list_any (λ g. stands_below g.block_length (end_of_fields s.types 0 g.fields)) b.groups) (blocks_of s.messages)) (along_none (type_step Short) (type_test Short) (λ r t. refl) set.empty s.types) (any_none (λ t. in_kind Short s.types t.kind) (λ t. short_in t.kind) s.types) (along_any (message_step Short) (message_test Short) (λ m. stands_below m.block_length (end_of_fields s.types 0 m.fields)) (λ r m. short_is s.types m.block_length m.fields) (set.empty, set.empty) s.messages) (any_same (in_block Short s.types) (λ b. list_any (λ g. stands_below g.block_length (end_of_fields s.types 0 g.fields)) b.groups) short_block (blocks_of s.messages))
 
 -- ---- a fault that no block has
 
@@ -133,11 +133,11 @@ module _ (s : Schema) where
 
   enums_block : (b : Block) → in_block Enums s.types b ≡ false
   enums_block b =
-      λ i. along_none (field_step Enums s.types) (field_test Enums) (λ r f. refl) (set.empty, (b.since, 0)) b.fields i || (along_none (group_step Enums) (group_test Enums (holder_of b)) (λ r g. refl) (names_of_fields set.empty b.fields, b.since) b.groups i || along_none (data_step Enums) (data_test Enums (holder_of b)) (λ r d. refl) (names_of_heads Enums (names_of_fields set.empty b.fields) b.groups, b.since) b.vars i)
+      λ i. along_none (field_step Enums s.types) (field_test Enums) (λ r f. refl) (set.empty, (b.since, 0)) b.fields i || (along_none (group_step Enums) (group_test Enums (parent_of b)) (λ r g. refl) (names_of_fields set.empty b.fields, b.since) b.groups i || along_none (data_step Enums) (data_test Enums (parent_of b)) (λ r d. refl) (names_of_heads Enums (names_of_fields set.empty b.fields) b.groups, b.since) b.vars i)
 
   pub enums_are : list_any (occurs s BadEnum) (walk s) ≡ has_bad_enum s
   enums_are =
-      parts_are Enums (λ names ids floor end f. refl) (λ names ids holder floor g. refl) (λ names ids holder floor d. refl) s (list_any (λ t. is_bad_enum_kind t.kind) s.types) (list_any (λ t. has_bad_values t.kind) s.types) false false (along_any (type_step Enums) (type_test Enums) (λ t. is_bad_enum_kind t.kind) (λ r t. refl) set.empty s.types) (any_same (λ t. in_kind Enums s.types t.kind) (λ t. has_bad_values t.kind) (λ t. enums_in t.kind) s.types) (along_none (message_step Enums) (message_test Enums) (λ r m. refl) (set.empty, set.empty) s.messages) (any_none (in_block Enums s.types) enums_block (blocks_of s.messages))
+      parts_are Enums (λ names ids least_since end f. refl) (λ names ids parent least_since g. refl) (λ names ids parent least_since d. refl) s (list_any (λ t. is_bad_enum_kind t.kind) s.types) (list_any (λ t. has_bad_values t.kind) s.types) false false (along_any (type_step Enums) (type_test Enums) (λ t. is_bad_enum_kind t.kind) (λ r t. refl) set.empty s.types) (any_same (λ t. in_kind Enums s.types t.kind) (λ t. has_bad_values t.kind) (λ t. enums_in t.kind) s.types) (along_none (message_step Enums) (message_test Enums) (λ r m. refl) (set.empty, set.empty) s.messages) (any_none (in_block Enums s.types) enums_block (blocks_of s.messages))
       ∙ or_false (list_any (λ t. is_bad_enum_kind t.kind) s.types || list_any (λ t. has_bad_values t.kind) s.types)
       ∙ sym (any_or (λ t. is_bad_enum_kind t.kind) (λ t. has_bad_values t.kind) s.types)
 
@@ -156,11 +156,11 @@ module _ (s : Schema) where
 
   sets_block : (b : Block) → in_block Sets s.types b ≡ false
   sets_block b =
-      λ i. along_none (field_step Sets s.types) (field_test Sets) (λ r f. refl) (set.empty, (b.since, 0)) b.fields i || (along_none (group_step Sets) (group_test Sets (holder_of b)) (λ r g. refl) (names_of_fields set.empty b.fields, b.since) b.groups i || along_none (data_step Sets) (data_test Sets (holder_of b)) (λ r d. refl) (names_of_heads Sets (names_of_fields set.empty b.fields) b.groups, b.since) b.vars i)
+      λ i. along_none (field_step Sets s.types) (field_test Sets) (λ r f. refl) (set.empty, (b.since, 0)) b.fields i || (along_none (group_step Sets) (group_test Sets (parent_of b)) (λ r g. refl) (names_of_fields set.empty b.fields, b.since) b.groups i || along_none (data_step Sets) (data_test Sets (parent_of b)) (λ r d. refl) (names_of_heads Sets (names_of_fields set.empty b.fields) b.groups, b.since) b.vars i)
 
   pub sets_are : list_any (occurs s BadSet) (walk s) ≡ has_bad_set s
   sets_are =
-      parts_are Sets (λ names ids floor end f. refl) (λ names ids holder floor g. refl) (λ names ids holder floor d. refl) s (list_any (λ t. is_bad_set_kind t.kind) s.types) (list_any (λ t. has_bad_bits t.kind) s.types) false false (along_any (type_step Sets) (type_test Sets) (λ t. is_bad_set_kind t.kind) (λ r t. refl) set.empty s.types) (any_same (λ t. in_kind Sets s.types t.kind) (λ t. has_bad_bits t.kind) (λ t. sets_in t.kind) s.types) (along_none (message_step Sets) (message_test Sets) (λ r m. refl) (set.empty, set.empty) s.messages) (any_none (in_block Sets s.types) sets_block (blocks_of s.messages))
+      parts_are Sets (λ names ids least_since end f. refl) (λ names ids parent least_since g. refl) (λ names ids parent least_since d. refl) s (list_any (λ t. is_bad_set_kind t.kind) s.types) (list_any (λ t. has_bad_bits t.kind) s.types) false false (along_any (type_step Sets) (type_test Sets) (λ t. is_bad_set_kind t.kind) (λ r t. refl) set.empty s.types) (any_same (λ t. in_kind Sets s.types t.kind) (λ t. has_bad_bits t.kind) (λ t. sets_in t.kind) s.types) (along_none (message_step Sets) (message_test Sets) (λ r m. refl) (set.empty, set.empty) s.messages) (any_none (in_block Sets s.types) sets_block (blocks_of s.messages))
       ∙ or_false (list_any (λ t. is_bad_set_kind t.kind) s.types || list_any (λ t. has_bad_bits t.kind) s.types)
       ∙ sym (any_or (λ t. is_bad_set_kind t.kind) (λ t. has_bad_bits t.kind) s.types)
 
@@ -178,12 +178,12 @@ module _ (s : Schema) where
 
   dims_block : (b : Block) → in_block Dims s.types b ≡ list_any (is_bad_dimension_of s.types) b.groups
   dims_block b =
-      (λ i. along_none (field_step Dims s.types) (field_test Dims) (λ r f. refl) (set.empty, (b.since, 0)) b.fields i || (along_any (group_step Dims) (group_test Dims (holder_of b)) (is_bad_dimension_of s.types) (λ r g. dimension_is s.types g) (names_of_fields set.empty b.fields, b.since) b.groups i || along_none (data_step Dims) (data_test Dims (holder_of b)) (λ r d. refl) (names_of_heads Dims (names_of_fields set.empty b.fields) b.groups, b.since) b.vars i))
+      (λ i. along_none (field_step Dims s.types) (field_test Dims) (λ r f. refl) (set.empty, (b.since, 0)) b.fields i || (along_any (group_step Dims) (group_test Dims (parent_of b)) (is_bad_dimension_of s.types) (λ r g. dimension_is s.types g) (names_of_fields set.empty b.fields, b.since) b.groups i || along_none (data_step Dims) (data_test Dims (parent_of b)) (λ r d. refl) (names_of_heads Dims (names_of_fields set.empty b.fields) b.groups, b.since) b.vars i))
       ∙ or_false (list_any (is_bad_dimension_of s.types) b.groups)
 
   pub dims_are : list_any (occurs s BadDimension) (walk s) ≡ has_bad_dimension s
   dims_are =
-      parts_are Dims (λ names ids floor end f. refl) (λ names ids holder floor g. refl) (λ names ids holder floor d. refl) s false false false (list_any (λ b. list_any (is_bad_dimension_of s.types) b.groups) (blocks_of s.messages)) (along_none (type_step Dims) (type_test Dims) (λ r t. refl) set.empty s.types) (any_none (λ t. in_kind Dims s.types t.kind) (λ t. dims_in t.kind) s.types) (along_none (message_step Dims) (message_test Dims) (λ r m. refl) (set.empty, set.empty) s.messages) (any_same (in_block Dims s.types) (λ b. list_any (is_bad_dimension_of s.types) b.groups) dims_block (blocks_of s.messages))
+      parts_are Dims (λ names ids least_since end f. refl) (λ names ids parent least_since g. refl) (λ names ids parent least_since d. refl) s false false false (list_any (λ b. list_any (is_bad_dimension_of s.types) b.groups) (blocks_of s.messages)) (along_none (type_step Dims) (type_test Dims) (λ r t. refl) set.empty s.types) (any_none (λ t. in_kind Dims s.types t.kind) (λ t. dims_in t.kind) s.types) (along_none (message_step Dims) (message_test Dims) (λ r m. refl) (set.empty, set.empty) s.messages) (any_same (in_block Dims s.types) (λ b. list_any (is_bad_dimension_of s.types) b.groups) dims_block (blocks_of s.messages))
 
 -- ---- data
 
@@ -199,8 +199,8 @@ module _ (s : Schema) where
 
   vars_block : (b : Block) → in_block Vars s.types b ≡ list_any (λ d. not (is_dimension d.length || is_uint32 d.length)) b.vars
   vars_block b =
-      λ i. along_none (field_step Vars s.types) (field_test Vars) (λ r f. refl) (set.empty, (b.since, 0)) b.fields i || (along_none (group_step Vars) (group_test Vars (holder_of b)) (λ r g. refl) (names_of_fields set.empty b.fields, b.since) b.groups i || along_any (data_step Vars) (data_test Vars (holder_of b)) (λ d. not (is_dimension d.length || is_uint32 d.length)) (λ r d. refl) (names_of_heads Vars (names_of_fields set.empty b.fields) b.groups, b.since) b.vars i)
+      λ i. along_none (field_step Vars s.types) (field_test Vars) (λ r f. refl) (set.empty, (b.since, 0)) b.fields i || (along_none (group_step Vars) (group_test Vars (parent_of b)) (λ r g. refl) (names_of_fields set.empty b.fields, b.since) b.groups i || along_any (data_step Vars) (data_test Vars (parent_of b)) (λ d. not (is_dimension d.length || is_uint32 d.length)) (λ r d. refl) (names_of_heads Vars (names_of_fields set.empty b.fields) b.groups, b.since) b.vars i)
 
   pub vars_are : list_any (occurs s BadData) (walk s) ≡ has_bad_data s
   vars_are =
-      parts_are Vars (λ names ids floor end f. refl) (λ names ids holder floor g. refl) (λ names ids holder floor d. refl) s false false false (list_any (λ b. list_any (λ d. not (is_dimension d.length || is_uint32 d.length)) b.vars) (blocks_of s.messages)) (along_none (type_step Vars) (type_test Vars) (λ r t. refl) set.empty s.types) (any_none (λ t. in_kind Vars s.types t.kind) (λ t. vars_in t.kind) s.types) (along_none (message_step Vars) (message_test Vars) (λ r m. refl) (set.empty, set.empty) s.messages) (any_same (in_block Vars s.types) (λ b. list_any (λ d. not (is_dimension d.length || is_uint32 d.length)) b.vars) vars_block (blocks_of s.messages))
+      parts_are Vars (λ names ids least_since end f. refl) (λ names ids parent least_since g. refl) (λ names ids parent least_since d. refl) s false false false (list_any (λ b. list_any (λ d. not (is_dimension d.length || is_uint32 d.length)) b.vars) (blocks_of s.messages)) (along_none (type_step Vars) (type_test Vars) (λ r t. refl) set.empty s.types) (any_none (λ t. in_kind Vars s.types t.kind) (λ t. vars_in t.kind) s.types) (along_none (message_step Vars) (message_test Vars) (λ r m. refl) (set.empty, set.empty) s.messages) (any_same (in_block Vars s.types) (λ b. list_any (λ d. not (is_dimension d.length || is_uint32 d.length)) b.vars) vars_block (blocks_of s.messages))

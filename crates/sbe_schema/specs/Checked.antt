@@ -62,7 +62,7 @@ occurs schema kind p = breaks schema kind p.names p.numbers p.table
 -- the first place that breaks a rule
 abbrev pub first_place : Schema → SchemaKind → List Place → Option (List Step)
 first_place schema kind [] = None
-first_place schema kind (p ∷ ps) = if occurs schema kind p then Some (path_of p.spots) else first_place schema kind ps
+first_place schema kind (p ∷ ps) = if occurs schema kind p then Some (path_of p.path_steps) else first_place schema kind ps
 
 abbrev pub fault : SchemaKind → List Step → SchemaFault
 fault kind path = record { kind = kind; path = path }

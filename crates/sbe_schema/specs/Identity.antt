@@ -1,4 +1,4 @@
--- Names, ids and types that are told apart (SBE 1.0, "Message schema", names and ids).
+-- Names, ids and types that have to differ (SBE 1.0, "Message schema", names and ids).
 use Rattle.std.specs.Prelude.{pos, Bool, true, false, ◌||◌, is_some, List}
 use Rattle.sbe_schema.specs.declared.meaning.Meaning as meaning
 use Rattle.sbe_schema.specs.declared.meaning.Meaning.TheVariants as means
@@ -17,9 +17,9 @@ is_duplicate_name names (value_table prim v) = set.contains names v.name
 is_duplicate_name names (bit_table prim b) = set.contains names b.name
 is_duplicate_name names (member_table end m) = set.contains names m.name
 is_duplicate_name names (message_table m) = set.contains names m.name
-is_duplicate_name names (field_table floor end f) = set.contains names f.name
-is_duplicate_name names (group_table holder floor g) = set.contains names g.name
-is_duplicate_name names (data_table holder floor d) = set.contains names d.name
+is_duplicate_name names (field_table least_since end f) = set.contains names f.name
+is_duplicate_name names (group_table parent least_since g) = set.contains names g.name
+is_duplicate_name names (data_table parent least_since d) = set.contains names d.name
 
 -- the id stands before among the messages, or among the elements of the message
 abbrev pub is_duplicate_id : Numbers → Table → Bool
@@ -29,9 +29,9 @@ is_duplicate_id ids (value_table prim v) = false
 is_duplicate_id ids (bit_table prim b) = false
 is_duplicate_id ids (member_table end m) = false
 is_duplicate_id ids (message_table m) = set.contains ids (pos m.id)
-is_duplicate_id ids (field_table floor end f) = set.contains ids (pos f.id)
-is_duplicate_id ids (group_table holder floor g) = set.contains ids (pos g.id)
-is_duplicate_id ids (data_table holder floor d) = set.contains ids (pos d.id)
+is_duplicate_id ids (field_table least_since end f) = set.contains ids (pos f.id)
+is_duplicate_id ids (group_table parent least_since g) = set.contains ids (pos g.id)
+is_duplicate_id ids (data_table parent least_since d) = set.contains ids (pos d.id)
 
 abbrev pub is_unknown : meaning.Meaning → Bool
 is_unknown means.Unknown = true
@@ -48,5 +48,5 @@ is_composite means.Composite = true
 -- a name that is neither a primitive's nor a type's, or a member that is a composite
 abbrev pub is_unknown_type : List TypeDef → Table → Bool
 is_unknown_type types (member_table end m) = is_unknown (meaning_of types m.type_name) || is_composite (meaning_of types m.type_name)
-is_unknown_type types (field_table floor end f) = is_unknown (meaning_of types f.type_name)
+is_unknown_type types (field_table least_since end f) = is_unknown (meaning_of types f.type_name)
 is_unknown_type types _ = false

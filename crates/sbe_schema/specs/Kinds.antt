@@ -72,10 +72,10 @@ is_unfit_dimension types g =
     not (is_dimension g.block_prim && is_dimension g.count_prim) || int_lt (greatest_of g.block_prim) (pos (block_length_of types g.block_length g.fields))
 
 abbrev pub is_bad_dimension : List TypeDef → Table → Bool
-is_bad_dimension types (group_table holder floor g) = is_unfit_dimension types g
+is_bad_dimension types (group_table parent least_since g) = is_unfit_dimension types g
 is_bad_dimension types _ = false
 
 -- the length of data is uint8, uint16 or uint32
 abbrev pub is_bad_data : Table → Bool
-is_bad_data (data_table holder floor d) = not (is_dimension d.length || is_uint32 d.length)
+is_bad_data (data_table parent least_since d) = not (is_dimension d.length || is_uint32 d.length)
 is_bad_data _ = false

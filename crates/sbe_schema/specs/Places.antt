@@ -3,10 +3,10 @@ use Rattle.std.specs.Prelude.{ℕ, ℤ, List, [], ◌∷◌, codes}
 use Rattle.sbe_prim.specs.declared.Primitive.{Primitive}
 use Rattle.sbe_value.specs.declared.path.Step.{Step}
 use Rattle.sbe_value.specs.declared.path.Step.TheVariants.{Key, At}
-use Rattle.sbe_schema.specs.declared.fault.Spot.{Spot}
-use Rattle.sbe_schema.specs.declared.fault.Part.{Part}
-use Rattle.sbe_schema.specs.declared.fault.Part.TheVariants.{Types, Values, Bits, Members, Messages, Fields, Groups, Data}
-use Rattle.sbe_schema.specs.declared.holder.Holder.{Holder}
+use Rattle.sbe_schema.specs.declared.fault.PathStep.{PathStep}
+use Rattle.sbe_schema.specs.declared.fault.TableArray.{TableArray}
+use Rattle.sbe_schema.specs.declared.fault.TableArray.TheVariants.{Types, Values, Bits, Members, Messages, Fields, Groups, Data}
+use Rattle.sbe_schema.specs.declared.parent.Parent.{Parent}
 use Rattle.schema_types.specs.declared.types.TypeDef.{TypeDef}
 use Rattle.schema_types.specs.declared.types.ValueDef.{ValueDef}
 use Rattle.schema_types.specs.declared.types.BitDef.{BitDef}
@@ -27,19 +27,19 @@ pub data Table : Type 0 where
   member_table : ℕ → MemberDef → Table
   message_table : MessageDef → Table
   field_table : ℤ → ℕ → FieldDef → Table
-  group_table : Holder → ℤ → GroupHead → Table
-  data_table : Holder → ℤ → DataDef → Table
+  group_table : Parent → ℤ → GroupHead → Table
+  data_table : Parent → ℤ → DataDef → Table
 
 -- a table, its place, the set of the names that stand before it in its list or block, and the set of the numbers before it that must differ from its own:
 -- ids of messages, of the elements of one message, values of one enum, bits of one set
 pub record Place : Type 0 where
-  pub spots : List Spot
+  pub path_steps : List PathStep
   pub names : Names
   pub numbers : Numbers
   pub table : Table
 
 -- the key of a list in the text of a schema
-abbrev pub key_of : Part → List ℕ
+abbrev pub key_of : TableArray → List ℕ
 key_of Types = codes "type"
 key_of Values = codes "values"
 key_of Bits = codes "bits"
@@ -50,6 +50,6 @@ key_of Groups = codes "groups"
 key_of Data = codes "data"
 
 -- a place as the steps that lead to it
-abbrev pub path_of : List Spot → List Step
+abbrev pub path_of : List PathStep → List Step
 path_of [] = []
-path_of (spot ∷ spots) = Key (key_of spot.part) ∷ At spot.at ∷ path_of spots
+path_of (path_step ∷ path_steps) = Key (key_of path_step.array) ∷ At path_step.at ∷ path_of path_steps

@@ -1,6 +1,6 @@
 -- How a walk keeps the least fault at its first place: the best so far, and the better of it and what a place shows.
 use Rattle.std.specs.Prelude.{ℕ, nat_lt, if◌then◌else◌, Option, Some, None, List, [], ◌∷◌}
-use Rattle.sbe_schema.specs.declared.fault.Spot.{Spot}
+use Rattle.sbe_schema.specs.declared.fault.PathStep.{PathStep}
 use Rattle.sbe_schema.specs.declared.fault.SchemaFault.{SchemaFault}
 use Rattle.sbe_schema.specs.declared.fault.SchemaKind.{SchemaKind}
 use Rattle.sbe_schema.specs.declared.fault.SchemaKind.TheVariants.{DuplicateName, DuplicateId, UnknownType, BadOffset, ShortLength, BadEnum, BadSet, BadDimension, BadData, IllegalExtension, OverLimit, Memory}
@@ -33,9 +33,9 @@ first_broken schema (kind ∷ kinds) names numbers table =
 unfoldable pub rule_of : Schema → Names → Numbers → Table → Option SchemaKind
 rule_of schema names numbers table = first_broken schema rules_in_order names numbers table
 
-abbrev pub found_at : Option SchemaKind → List Spot → Option SchemaFault
-found_at None spots = None
-found_at (Some kind) spots = Some (fault kind (path_of spots))
+abbrev pub found_at : Option SchemaKind → List PathStep → Option SchemaFault
+found_at None path_steps = None
+found_at (Some kind) path_steps = Some (fault kind (path_of path_steps))
 
 -- the one of the lower rank; the first of two of one rank
 abbrev pub better : Option SchemaFault → Option SchemaFault → Option SchemaFault
@@ -45,4 +45,4 @@ better (Some best) (Some found) = if nat_lt (rank found.kind) (rank best.kind) t
 
 abbrev pub folded : Schema → Option SchemaFault → List Place → Option SchemaFault
 folded schema best [] = best
-folded schema best (p ∷ ps) = folded schema (better best (found_at (rule_of schema p.names p.numbers p.table) p.spots)) ps
+folded schema best (p ∷ ps) = folded schema (better best (found_at (rule_of schema p.names p.numbers p.table) p.path_steps)) ps

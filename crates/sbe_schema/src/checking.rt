@@ -17,7 +17,7 @@ use std::alloc::{AllocError, Global};
 /// Checks a schema by the rules of this project's profile of SBE 1.0. A
 /// refusal gives the schema back, with the least fault that occurs, at its
 /// first place: types before messages, and a table before what lies in it.
-/// Want of memory is told as `SchemaKind::Memory` with the empty path.
+/// Want of memory is `SchemaKind::Memory` with the empty path.
 #[tactic(auto, using(crate::proofs::Fold::checked_by_none))]
 pub fn check(alloc: Global, schema: Schema) -> Result<Checked, (Schema, SchemaFault)>
     ensures same { IfOk result (λ checked. checked.schema ≡ schema) }
@@ -49,7 +49,7 @@ fn find_fault(alloc: Global, schema: &Schema) -> Result<Option<SchemaFault>, All
     let mut state = State {
         alloc,
         fault,
-        trail: Vec::new(alloc),
+        parent_path: Vec::new(alloc),
         ids: NumberSet::new(alloc),
     };
     walk_types(&index, &mut state, schema.types.as_slice())?;

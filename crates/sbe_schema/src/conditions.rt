@@ -6,7 +6,7 @@ ghost use Rattle.sbe_schema.specs.Kinds.{is_dimension, is_bad_enum_kind, is_bad_
 ghost use Rattle.sbe_schema.specs.Versions.{is_lower, is_out_of_turn, is_not_with_group};
 ghost use Rattle.sbe_schema.specs.Limits.{is_above, is_unheld, is_large_kind, is_text, is_unfit, is_bad_value};
 
-use crate::holder::Holder;
+use crate::parent::Parent;
 use crate::{Constant, Meaning, Presence, TypeKind};
 use sbe_prim::{Primitive, can_hold};
 
@@ -132,10 +132,10 @@ pub fn is_bad_value(meaning: Meaning, presence: Presence, value: &Option<Constan
 }
 
 /// Whether a since lies above the schema's version, or below that of what stands before.
-pub fn is_out_of_turn(version: u16, floor: i128, since: i128) -> bool
-    ensures { result ≡ is_out_of_turn version floor since }
+pub fn is_out_of_turn(version: u16, least_since: i128, since: i128) -> bool
+    ensures { result ≡ is_out_of_turn version least_since since }
 {
-    since > i128::from(version) || since < floor
+    since > i128::from(version) || since < least_since
 }
 
 /// Whether something has a lower since.
@@ -149,8 +149,8 @@ pub fn is_lower(lowest: Option<i128>, since: i128) -> bool
 }
 
 /// Whether an element of an entry did not come with its group.
-pub fn is_not_with_group(holder: &Holder, since: i128) -> bool
-    ensures { result ≡ is_not_with_group holder.now since }
+pub fn is_not_with_group(parent: &Parent, since: i128) -> bool
+    ensures { result ≡ is_not_with_group parent.now since }
 {
-    holder.depth > 0 && since != holder.since
+    parent.depth > 0 && since != parent.since
 }

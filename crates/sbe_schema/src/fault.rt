@@ -40,9 +40,9 @@ pub struct SchemaFault {
     pub path: Path,
 }
 
-/// A list of a schema's tables.
+/// An array of tables in the text of a schema.
 #[derive(Debug, Clone, Copy, PartialEq, Eq)]
-pub enum Part {
+pub enum TableArray {
     /// The types of the schema.
     Types,
     /// The values of an enum.
@@ -61,11 +61,11 @@ pub enum Part {
     Data,
 }
 
-/// A table of one list, by its place in it from 0.
+/// A step of a path: a table of one array, by its place in it from 0.
 #[derive(Debug, Clone, Copy, PartialEq, Eq)]
-pub struct Spot {
-    /// The list.
-    pub part: Part,
+pub struct PathStep {
+    /// The array.
+    pub array: TableArray,
     /// The place.
     pub at: u64,
 }

@@ -6,9 +6,9 @@ mod checked;
 mod checking;
 mod conditions;
 mod fault;
-mod holder;
 mod index;
 mod meaning;
+mod parent;
 mod rules;
 mod sets;
 mod state;
@@ -16,7 +16,7 @@ mod walk;
 
 pub use checked::Checked;
 pub use checking::{check, fault_tells};
-pub use fault::{Part, SchemaFault, SchemaKind, Spot};
+pub use fault::{PathStep, SchemaFault, SchemaKind, TableArray};
 pub use index::{Index, offset_of, plus};
 pub use meaning::Meaning;
 pub use schema_types::{
@@ -24,4 +24,4 @@ pub use schema_types::{
     MemberDef, MemberDefs, MessageDef, MessageDefs, Presence, Schema, TypeDef, TypeDefs, TypeKind,
     ValueDef, ValueDefs,
 };
-pub use state::{part_key, path_to};
+pub use state::{array_key, path_to};

@@ -13,8 +13,8 @@ use crate::conditions::{
     is_above, is_bad_enum_kind, is_bad_set_kind, is_bad_value, is_below, is_dimension,
     is_large_kind, is_lower, is_not_with_group, is_out_of_turn,
 };
-use crate::holder::Holder;
 use crate::index::{Index, plus};
+use crate::parent::Parent;
 use crate::sets::{NameSet, NumberSet};
 use crate::{
     BitDef, DataDef, FieldDef, GroupDef, Meaning, MemberDef, MessageDef, Schema, SchemaKind,
@@ -168,12 +168,12 @@ pub fn rule_of_field(
     index: &Index<'_>,
     names: &NameSet,
     ids: &NumberSet,
-    floor: i128,
+    least_since: i128,
     end: u128,
     f: &FieldDef,
 ) -> Option<SchemaKind>
     requires { Indexes index.now }
-    ensures { result ≡ rule_of index.now.schema.now names.now ids.now (field_table floor end f.now) }
+    ensures { result ≡ rule_of index.now.schema.now names.now ids.now (field_table least_since end f.now) }
 {
     if names.contains(&f.name) {
         return Some(SchemaKind::DuplicateName);
@@ -188,7 +188,7 @@ pub fn rule_of_field(
     if is_below(f.offset, end) || index.field_end(end, f) > u128::from(MOST_BYTES) {
         return Some(SchemaKind::BadOffset);
     }
-    if is_out_of_turn(index.schema.version, floor, f.since) {
+    if is_out_of_turn(index.schema.version, least_since, f.since) {
         return Some(SchemaKind::IllegalExtension);
     }
     if is_bad_value(meaning, f.presence, &f.value) {
@@ -203,12 +203,12 @@ pub fn rule_of_group(
     index: &Index<'_>,
     names: &NameSet,
     ids: &NumberSet,
-    holder: &Holder,
-    floor: i128,
+    parent: &Parent,
+    least_since: i128,
     g: &GroupDef,
 ) -> Option<SchemaKind>
     requires { Indexes index.now }
-    ensures { result ≡ rule_of index.now.schema.now names.now ids.now (group_table holder.now floor (head_of g.now)) }
+    ensures { result ≡ rule_of index.now.schema.now names.now ids.now (group_table parent.now least_since (head_of g.now)) }
 {
     if names.contains(&g.name) {
         return Some(SchemaKind::DuplicateName);
@@ -222,13 +222,13 @@ pub fn rule_of_group(
     if is_bad_dimension(index, g) {
         return Some(SchemaKind::BadDimension);
     }
-    if is_out_of_turn(index.schema.version, floor, g.since)
-        || is_lower(holder.lowest, g.since)
-        || is_not_with_group(holder, g.since)
+    if is_out_of_turn(index.schema.version, least_since, g.since)
+        || is_lower(parent.lowest, g.since)
+        || is_not_with_group(parent, g.since)
     {
         return Some(SchemaKind::IllegalExtension);
     }
-    if is_above(g.block_length, MOST_BYTES) || holder.depth > 3 {
+    if is_above(g.block_length, MOST_BYTES) || parent.depth > 3 {
         return Some(SchemaKind::OverLimit);
     }
     None
@@ -252,11 +252,11 @@ pub fn rule_of_data(
     index: &Index<'_>,
     names: &NameSet,
     ids: &NumberSet,
-    holder: &Holder,
-    floor: i128,
+    parent: &Parent,
+    least_since: i128,
     d: &DataDef,
 ) -> Option<SchemaKind>
-    ensures { result ≡ rule_of index.now.schema.now names.now ids.now (data_table holder.now floor d.now) }
+    ensures { result ≡ rule_of index.now.schema.now names.now ids.now (data_table parent.now least_since d.now) }
 {
     if names.contains(&d.name) {
         return Some(SchemaKind::DuplicateName);
@@ -267,7 +267,9 @@ pub fn rule_of_data(
     if !is_dimension(d.length) && !matches!(d.length, Primitive::UInt32) {
         return Some(SchemaKind::BadData);
     }
-    if is_out_of_turn(index.schema.version, floor, d.since) || is_not_with_group(holder, d.since) {
+    if is_out_of_turn(index.schema.version, least_since, d.since)
+        || is_not_with_group(parent, d.since)
+    {
         return Some(SchemaKind::IllegalExtension);
     }
     None

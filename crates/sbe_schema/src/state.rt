@@ -1,11 +1,11 @@
-//! What a walk over a schema keeps: the least fault so far, and the way to the present table.
+//! What a walk over a schema keeps: the least fault so far, and the steps to the present table.
 
 ghost use Rattle.std.specs.Prelude.{◌≡◌, [], ◌∷◌, ◌++◌, IfOk, OnOk};
 ghost use Rattle.sbe_value.specs.declared.path.Step.TheVariants.{Key, At};
 ghost use Rattle.sbe_schema.specs.Places.{key_of, path_of};
 ghost use Rattle.sbe_schema.specs.Search.{rank, found_at, better};
 
-use crate::fault::{Part, Spot};
+use crate::fault::{PathStep, TableArray};
 use crate::sets::NumberSet;
 use crate::{SchemaFault, SchemaKind};
 use sbe_value::{Bytes, Path, Step};
@@ -18,17 +18,21 @@ pub struct State {
     pub alloc: Global,
     /// The least fault so far, at its first place.
     pub fault: Option<SchemaFault>,
-    /// The way to what holds the present table.
-    pub trail: Vec<Spot>,
+    /// The steps to the table that the present one lies in.
+    pub parent_path: Vec<PathStep>,
     /// The ids that stand before in the present message.
     pub ids: NumberSet,
 }
 
 /// Keeps a broken rule at a place if it is less than the one that is kept.
-pub fn note(state: &mut State, rule: Option<SchemaKind>, spot: Spot) -> Result<(), AllocError>
+pub fn note(
+    state: &mut State,
+    rule: Option<SchemaKind>,
+    path_step: PathStep,
+) -> Result<(), AllocError>
     ensures fault { OnOk result (state.new.fault
-        ≡ better state.old.fault (found_at rule (state.old.trail.items ++ spot ∷ []))) }
-    ensures trail { state.new.trail.items ≡ state.old.trail.items }
+        ≡ better state.old.fault (found_at rule (state.old.parent_path.items ++ path_step ∷ []))) }
+    ensures parent_path { state.new.parent_path.items ≡ state.old.parent_path.items }
     ensures ids { state.new.ids ≡ state.old.ids }
 {
     let Some(kind) = rule else {
@@ -39,7 +43,7 @@ pub fn note(state: &mut State, rule: Option<SchemaKind>, spot: Spot) -> Result<(
             return Ok(());
         }
     }
-    let path = path_to(state.alloc, state.trail.as_slice(), spot)?;
+    let path = path_to(state.alloc, state.parent_path.as_slice(), path_step)?;
     state.fault = Some(SchemaFault { kind, path });
     Ok(())
 }
@@ -64,38 +68,42 @@ fn rank(kind: SchemaKind) -> u8
     }
 }
 
-/// The path to a table, by the way to what holds it and its place there.
-pub fn path_to(alloc: Global, trail: &[Spot], spot: Spot) -> Result<Path, AllocError>
-    ensures { IfOk result (λ path. path ≡ path_of (trail.now ++ spot ∷ [])) }
+/// The path to a table, by the steps to the table that it lies in and its own step.
+pub fn path_to(
+    alloc: Global,
+    parent_path: &[PathStep],
+    path_step: PathStep,
+) -> Result<Path, AllocError>
+    ensures { IfOk result (λ path. path ≡ path_of (parent_path.now ++ path_step ∷ [])) }
 {
     let mut path = Path::new(alloc);
-    for holder in trail {
-        push_spot(alloc, &mut path, *holder)?;
+    for parent in parent_path {
+        push_path_step(alloc, &mut path, *parent)?;
     }
-    push_spot(alloc, &mut path, spot)?;
+    push_path_step(alloc, &mut path, path_step)?;
     Ok(path)
 }
 
-fn push_spot(alloc: Global, path: &mut Path, spot: Spot) -> Result<(), AllocError>
-    ensures { OnOk result (path.new ≡ path.old ++ Key (key_of spot.part) ∷ At spot.at ∷ []) }
+fn push_path_step(alloc: Global, path: &mut Path, path_step: PathStep) -> Result<(), AllocError>
+    ensures { OnOk result (path.new ≡ path.old ++ Key (key_of path_step.array) ∷ At path_step.at ∷ []) }
 {
-    let key = Bytes::from_slice(alloc, part_key(spot.part))?;
+    let key = Bytes::from_slice(alloc, array_key(path_step.array))?;
     path.push(Step::Key(key))?;
-    path.push(Step::At(spot.at))
+    path.push(Step::At(path_step.at))
 }
 
 /// The key of a list of tables in the text of a schema.
-pub fn part_key(part: Part) -> &'static [u8]
-    ensures { result.now ≡ key_of part }
+pub fn array_key(array: TableArray) -> &'static [u8]
+    ensures { result.now ≡ key_of array }
 {
-    match part {
-        Part::Types => b"type",
-        Part::Values => b"values",
-        Part::Bits => b"bits",
-        Part::Members => b"members",
-        Part::Messages => b"message",
-        Part::Fields => b"fields",
-        Part::Groups => b"groups",
-        Part::Data => b"data",
+    match array {
+        TableArray::Types => b"type",
+        TableArray::Values => b"values",
+        TableArray::Bits => b"bits",
+        TableArray::Members => b"members",
+        TableArray::Messages => b"message",
+        TableArray::Fields => b"fields",
+        TableArray::Groups => b"groups",
+        TableArray::Data => b"data",
     }
 }

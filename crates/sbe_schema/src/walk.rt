@@ -7,9 +7,9 @@ ghost use Rattle.sbe_schema.specs.Search.{folded};
 ghost use Rattle.schema_types.specs.Views.{head_of, groups_of};
 ghost use Rattle.sbe_schema.specs.Walk.{walk_values, walk_bits, walk_members, walk_kind, walk_type, walk_types, walk_fields, walk_data, walk_groups, walk_group, walk_block, walk_message, walk_messages, names_of_fields, names_of_groups, ids_of_fields, ids_of_data, ids_of_groups, ids_of_block, lowest_since, lower};
 
-use crate::fault::{Part, Spot};
-use crate::holder::Holder;
+use crate::fault::{PathStep, TableArray};
 use crate::index::Index;
+use crate::parent::Parent;
 use crate::rules::{
     rule_of_bit, rule_of_data, rule_of_field, rule_of_group, rule_of_member, rule_of_message,
     rule_of_type, rule_of_value,
@@ -32,23 +32,23 @@ pub fn walk_fields(
 ) -> Result<(), AllocError>
     requires { Indexes index.now }
     ensures fault { OnOk result (state.new.fault
-        ≡ folded index.now.schema.now state.old.fault (walk_fields index.now.schema.now.types state.old.trail.items names.old state.old.ids since 0 0 fields.now)) }
+        ≡ folded index.now.schema.now state.old.fault (walk_fields index.now.schema.now.types state.old.parent_path.items names.old state.old.ids since 0 0 fields.now)) }
     ensures names { OnOk result (names.new ≡ names_of_fields names.old fields.now) }
     ensures ids { OnOk result (state.new.ids ≡ ids_of_fields state.old.ids fields.now) }
-    ensures trail { OnOk result (state.new.trail.items ≡ state.old.trail.items) }
+    ensures parent_path { OnOk result (state.new.parent_path.items ≡ state.old.parent_path.items) }
 {
-    let mut floor = since;
+    let mut least_since = since;
     let mut end = 0u128;
     for (at, f) in fields.iter().enumerate() {
-        let rule = rule_of_field(index, names, &state.ids, floor, end, f);
-        let spot = Spot {
-            part: Part::Fields,
+        let rule = rule_of_field(index, names, &state.ids, least_since, end, f);
+        let path_step = PathStep {
+            array: TableArray::Fields,
             at: at as u64,
         };
-        note(state, rule, spot)?;
+        note(state, rule, path_step)?;
         names.insert(state.alloc, &f.name)?;
         state.ids.insert(i128::from(f.id))?;
-        floor = floor.max(f.since);
+        least_since = least_since.max(f.since);
         end = index.field_end(end, f);
     }
     Ok(())
@@ -59,25 +59,25 @@ pub fn walk_data(
     index: &Index<'_>,
     state: &mut State,
     names: &mut NameSet,
-    holder: &Holder,
+    parent: &Parent,
     vars: &[DataDef],
 ) -> Result<(), AllocError>
     ensures fault { OnOk result (state.new.fault
-        ≡ folded index.now.schema.now state.old.fault (walk_data state.old.trail.items holder.now names.old state.old.ids holder.now.since 0 vars.now)) }
+        ≡ folded index.now.schema.now state.old.fault (walk_data state.old.parent_path.items parent.now names.old state.old.ids parent.now.since 0 vars.now)) }
     ensures ids { OnOk result (state.new.ids ≡ ids_of_data state.old.ids vars.now) }
-    ensures trail { OnOk result (state.new.trail.items ≡ state.old.trail.items) }
+    ensures parent_path { OnOk result (state.new.parent_path.items ≡ state.old.parent_path.items) }
 {
-    let mut floor = holder.since;
+    let mut least_since = parent.since;
     for (at, d) in vars.iter().enumerate() {
-        let rule = rule_of_data(index, names, &state.ids, holder, floor, d);
-        let spot = Spot {
-            part: Part::Data,
+        let rule = rule_of_data(index, names, &state.ids, parent, least_since, d);
+        let path_step = PathStep {
+            array: TableArray::Data,
             at: at as u64,
         };
-        note(state, rule, spot)?;
+        note(state, rule, path_step)?;
         names.insert(state.alloc, &d.name)?;
         state.ids.insert(i128::from(d.id))?;
-        floor = floor.max(d.since);
+        least_since = least_since.max(d.since);
     }
     Ok(())
 }
@@ -88,21 +88,21 @@ pub fn walk_data(
 pub fn walk_block(
     index: &Index<'_>,
     state: &mut State,
-    holder: &Holder,
+    parent: &Parent,
     fields: &[FieldDef],
     groups: &[GroupDef],
     vars: &[DataDef],
 ) -> Result<(), AllocError>
     requires { Indexes index.now }
     ensures fault { OnOk result (state.new.fault
-        ≡ folded index.now.schema.now state.old.fault (walk_block index.now.schema.now.types state.old.trail.items holder.now state.old.ids fields.now (groups_of groups.now) vars.now)) }
+        ≡ folded index.now.schema.now state.old.fault (walk_block index.now.schema.now.types state.old.parent_path.items parent.now state.old.ids fields.now (groups_of groups.now) vars.now)) }
     ensures ids { OnOk result (state.new.ids ≡ ids_of_block state.old.ids fields.now (groups_of groups.now) vars.now) }
-    ensures trail { OnOk result (state.new.trail.items ≡ state.old.trail.items) }
+    ensures parent_path { OnOk result (state.new.parent_path.items ≡ state.old.parent_path.items) }
 {
     let mut names = NameSet::new(state.alloc);
-    walk_fields(index, state, &mut names, holder.since, fields)?;
-    walk_groups(index, state, &mut names, holder, groups)?;
-    walk_data(index, state, &mut names, holder, vars)?;
+    walk_fields(index, state, &mut names, parent.since, fields)?;
+    walk_groups(index, state, &mut names, parent, groups)?;
+    walk_data(index, state, &mut names, parent, vars)?;
     Ok(())
 }
 
@@ -112,24 +112,24 @@ pub fn walk_groups(
     index: &Index<'_>,
     state: &mut State,
     names: &mut NameSet,
-    holder: &Holder,
+    parent: &Parent,
     groups: &[GroupDef],
 ) -> Result<(), AllocError>
     requires { Indexes index.now }
     ensures fault { OnOk result (state.new.fault
-        ≡ folded index.now.schema.now state.old.fault (walk_groups index.now.schema.now.types state.old.trail.items holder.now names.old state.old.ids holder.now.since 0 (groups_of groups.now))) }
+        ≡ folded index.now.schema.now state.old.fault (walk_groups index.now.schema.now.types state.old.parent_path.items parent.now names.old state.old.ids parent.now.since 0 (groups_of groups.now))) }
     ensures names { OnOk result (names.new ≡ names_of_groups names.old (groups_of groups.now)) }
     ensures ids { OnOk result (state.new.ids ≡ ids_of_groups state.old.ids (groups_of groups.now)) }
-    ensures trail { OnOk result (state.new.trail.items ≡ state.old.trail.items) }
+    ensures parent_path { OnOk result (state.new.parent_path.items ≡ state.old.parent_path.items) }
 {
-    let mut floor = holder.since;
+    let mut least_since = parent.since;
     for (at, g) in groups.iter().enumerate() {
-        let spot = Spot {
-            part: Part::Groups,
+        let path_step = PathStep {
+            array: TableArray::Groups,
             at: at as u64,
         };
-        walk_group(index, state, names, holder, floor, spot, g)?;
-        floor = floor.max(g.since);
+        walk_group(index, state, names, parent, least_since, path_step, g)?;
+        least_since = least_since.max(g.since);
     }
     Ok(())
 }
@@ -140,26 +140,26 @@ fn walk_group(
     index: &Index<'_>,
     state: &mut State,
     names: &mut NameSet,
-    holder: &Holder,
-    floor: i128,
-    spot: Spot,
+    parent: &Parent,
+    least_since: i128,
+    path_step: PathStep,
     g: &GroupDef,
 ) -> Result<(), AllocError>
     requires index { Indexes index.now }
-    requires part { spot.part ≡ Part.Groups }
+    requires array { path_step.array ≡ TableArray.Groups }
     ensures fault { OnOk result (state.new.fault
-        ≡ folded index.now.schema.now state.old.fault (walk_group index.now.schema.now.types state.old.trail.items holder.now names.old state.old.ids floor spot.at (head_of g.now) g.now.groups)) }
+        ≡ folded index.now.schema.now state.old.fault (walk_group index.now.schema.now.types state.old.parent_path.items parent.now names.old state.old.ids least_since path_step.at (head_of g.now) g.now.groups)) }
     ensures names { OnOk result (names.new ≡ set.insert names.old g.now.name) }
     ensures ids { OnOk result (state.new.ids ≡ ids_of_block (set.insert state.old.ids (pos g.now.id)) g.now.fields g.now.groups g.now.vars) }
-    ensures trail { OnOk result (state.new.trail.items ≡ state.old.trail.items) }
+    ensures parent_path { OnOk result (state.new.parent_path.items ≡ state.old.parent_path.items) }
 {
-    let rule = rule_of_group(index, names, &state.ids, holder, floor, g);
-    note(state, rule, spot)?;
+    let rule = rule_of_group(index, names, &state.ids, parent, least_since, g);
+    note(state, rule, path_step)?;
     names.insert(state.alloc, &g.name)?;
     state.ids.insert(i128::from(g.id))?;
-    state.trail.push(spot)?;
-    let entry = Holder {
-        depth: (holder.depth.min(3)) + 1,
+    state.parent_path.push(path_step)?;
+    let entry = Parent {
+        depth: (parent.depth.min(3)) + 1,
         since: g.since,
         lowest: None,
     };
@@ -171,7 +171,7 @@ fn walk_group(
         g.groups.as_slice(),
         g.vars.as_slice(),
     )?;
-    let _spot = state.trail.pop();
+    let _path_step = state.parent_path.pop();
     Ok(())
 }
 
@@ -205,18 +205,18 @@ pub fn walk_messages(
     messages: &[MessageDef],
 ) -> Result<(), AllocError>
     requires index { Indexes index.now }
-    requires top { state.old.trail.items ≡ [] }
+    requires top { state.old.parent_path.items ≡ [] }
     ensures { OnOk result (state.new.fault
         ≡ folded index.now.schema.now state.old.fault (walk_messages index.now.schema.now.types set.empty set.empty 0 messages.now)) }
 {
     let mut names = NameSet::new(state.alloc);
     let mut ids = NumberSet::new(state.alloc);
     for (at, m) in messages.iter().enumerate() {
-        let spot = Spot {
-            part: Part::Messages,
+        let path_step = PathStep {
+            array: TableArray::Messages,
             at: at as u64,
         };
-        walk_message(index, state, &mut names, &mut ids, spot, m)?;
+        walk_message(index, state, &mut names, &mut ids, path_step, m)?;
     }
     Ok(())
 }
@@ -227,25 +227,25 @@ fn walk_message(
     state: &mut State,
     names: &mut NameSet,
     ids: &mut NumberSet,
-    spot: Spot,
+    path_step: PathStep,
     m: &MessageDef,
 ) -> Result<(), AllocError>
     requires index { Indexes index.now }
-    requires part { spot.part ≡ Part.Messages }
-    requires top { state.old.trail.items ≡ [] }
+    requires array { path_step.array ≡ TableArray.Messages }
+    requires top { state.old.parent_path.items ≡ [] }
     ensures fault { OnOk result (state.new.fault
-        ≡ folded index.now.schema.now state.old.fault (walk_message index.now.schema.now.types names.old ids.old spot.at m.now)) }
+        ≡ folded index.now.schema.now state.old.fault (walk_message index.now.schema.now.types names.old ids.old path_step.at m.now)) }
     ensures names { OnOk result (names.new ≡ set.insert names.old m.now.name) }
     ensures ids { OnOk result (ids.new ≡ set.insert ids.old (pos m.now.id)) }
-    ensures trail { OnOk result (state.new.trail.items ≡ []) }
+    ensures parent_path { OnOk result (state.new.parent_path.items ≡ []) }
 {
     let rule = rule_of_message(index, names, ids, m);
-    note(state, rule, spot)?;
+    note(state, rule, path_step)?;
     names.insert(state.alloc, &m.name)?;
     ids.insert(i128::from(m.id))?;
     state.ids = NumberSet::new(state.alloc);
-    state.trail.push(spot)?;
-    let root = Holder {
+    state.parent_path.push(path_step)?;
+    let root = Parent {
         depth: 0,
         since: m.since,
         lowest: lowest_since(m.vars.as_slice()),
@@ -258,25 +258,25 @@ fn walk_message(
         m.groups.as_slice(),
         m.vars.as_slice(),
     )?;
-    let _spot = state.trail.pop();
+    let _path_step = state.parent_path.pop();
     Ok(())
 }
 
 /// Walks over the types of a schema and all that lies in them.
 pub fn walk_types(index: &Index<'_>, state: &mut State, types: &[TypeDef]) -> Result<(), AllocError>
     requires index { Indexes index.now }
-    requires top { state.old.trail.items ≡ [] }
+    requires top { state.old.parent_path.items ≡ [] }
     ensures fault { OnOk result (state.new.fault
         ≡ folded index.now.schema.now state.old.fault (walk_types index.now.schema.now.types set.empty 0 types.now)) }
-    ensures trail { OnOk result (state.new.trail.items ≡ []) }
+    ensures parent_path { OnOk result (state.new.parent_path.items ≡ []) }
 {
     let mut names = NameSet::new(state.alloc);
     for (at, t) in types.iter().enumerate() {
-        let spot = Spot {
-            part: Part::Types,
+        let path_step = PathStep {
+            array: TableArray::Types,
             at: at as u64,
         };
-        walk_type(index, state, &mut names, spot, t)?;
+        walk_type(index, state, &mut names, path_step, t)?;
     }
     Ok(())
 }
@@ -286,23 +286,23 @@ fn walk_type(
     index: &Index<'_>,
     state: &mut State,
     names: &mut NameSet,
-    spot: Spot,
+    path_step: PathStep,
     t: &TypeDef,
 ) -> Result<(), AllocError>
     requires index { Indexes index.now }
-    requires part { spot.part ≡ Part.Types }
-    requires top { state.old.trail.items ≡ [] }
+    requires array { path_step.array ≡ TableArray.Types }
+    requires top { state.old.parent_path.items ≡ [] }
     ensures fault { OnOk result (state.new.fault
-        ≡ folded index.now.schema.now state.old.fault (walk_type index.now.schema.now.types names.old spot.at t.now)) }
+        ≡ folded index.now.schema.now state.old.fault (walk_type index.now.schema.now.types names.old path_step.at t.now)) }
     ensures names { OnOk result (names.new ≡ set.insert names.old t.now.name) }
-    ensures trail { OnOk result (state.new.trail.items ≡ []) }
+    ensures parent_path { OnOk result (state.new.parent_path.items ≡ []) }
 {
     let rule = rule_of_type(index.schema, names, t);
-    note(state, rule, spot)?;
+    note(state, rule, path_step)?;
     names.insert(state.alloc, &t.name)?;
-    state.trail.push(spot)?;
+    state.parent_path.push(path_step)?;
     walk_kind(index, state, &t.kind)?;
-    let _spot = state.trail.pop();
+    let _path_step = state.parent_path.pop();
     Ok(())
 }
 
@@ -310,8 +310,8 @@ fn walk_type(
 fn walk_kind(index: &Index<'_>, state: &mut State, kind: &TypeKind) -> Result<(), AllocError>
     requires { Indexes index.now }
     ensures fault { OnOk result (state.new.fault
-        ≡ folded index.now.schema.now state.old.fault (walk_kind index.now.schema.now.types state.old.trail.items kind.now)) }
-    ensures trail { OnOk result (state.new.trail.items ≡ state.old.trail.items) }
+        ≡ folded index.now.schema.now state.old.fault (walk_kind index.now.schema.now.types state.old.parent_path.items kind.now)) }
+    ensures parent_path { OnOk result (state.new.parent_path.items ≡ state.old.parent_path.items) }
 {
     match kind {
         TypeKind::Number { .. } => Ok(()),
@@ -329,18 +329,18 @@ fn walk_values(
     values: &[ValueDef],
 ) -> Result<(), AllocError>
     ensures fault { OnOk result (state.new.fault
-        ≡ folded index.now.schema.now state.old.fault (walk_values state.old.trail.items prim set.empty set.empty 0 values.now)) }
-    ensures trail { OnOk result (state.new.trail.items ≡ state.old.trail.items) }
+        ≡ folded index.now.schema.now state.old.fault (walk_values state.old.parent_path.items prim set.empty set.empty 0 values.now)) }
+    ensures parent_path { OnOk result (state.new.parent_path.items ≡ state.old.parent_path.items) }
 {
     let mut names = NameSet::new(state.alloc);
     let mut numbers = NumberSet::new(state.alloc);
     for (at, v) in values.iter().enumerate() {
         let rule = rule_of_value(index.schema, &names, &numbers, prim, v);
-        let spot = Spot {
-            part: Part::Values,
+        let path_step = PathStep {
+            array: TableArray::Values,
             at: at as u64,
         };
-        note(state, rule, spot)?;
+        note(state, rule, path_step)?;
         names.insert(state.alloc, &v.name)?;
         numbers.insert(v.value)?;
     }
@@ -355,18 +355,18 @@ fn walk_bits(
     bits: &[BitDef],
 ) -> Result<(), AllocError>
     ensures fault { OnOk result (state.new.fault
-        ≡ folded index.now.schema.now state.old.fault (walk_bits state.old.trail.items prim set.empty set.empty 0 bits.now)) }
-    ensures trail { OnOk result (state.new.trail.items ≡ state.old.trail.items) }
+        ≡ folded index.now.schema.now state.old.fault (walk_bits state.old.parent_path.items prim set.empty set.empty 0 bits.now)) }
+    ensures parent_path { OnOk result (state.new.parent_path.items ≡ state.old.parent_path.items) }
 {
     let mut names = NameSet::new(state.alloc);
     let mut numbers = NumberSet::new(state.alloc);
     for (at, b) in bits.iter().enumerate() {
         let rule = rule_of_bit(index.schema, &names, &numbers, prim, b);
-        let spot = Spot {
-            part: Part::Bits,
+        let path_step = PathStep {
+            array: TableArray::Bits,
             at: at as u64,
         };
-        note(state, rule, spot)?;
+        note(state, rule, path_step)?;
         names.insert(state.alloc, &b.name)?;
         numbers.insert(i128::from(b.bit))?;
     }
@@ -381,18 +381,18 @@ fn walk_members(
 ) -> Result<(), AllocError>
     requires { Indexes index.now }
     ensures fault { OnOk result (state.new.fault
-        ≡ folded index.now.schema.now state.old.fault (walk_members index.now.schema.now.types state.old.trail.items set.empty 0 0 members.now)) }
-    ensures trail { OnOk result (state.new.trail.items ≡ state.old.trail.items) }
+        ≡ folded index.now.schema.now state.old.fault (walk_members index.now.schema.now.types state.old.parent_path.items set.empty 0 0 members.now)) }
+    ensures parent_path { OnOk result (state.new.parent_path.items ≡ state.old.parent_path.items) }
 {
     let mut names = NameSet::new(state.alloc);
     let mut end = 0u128;
     for (at, m) in members.iter().enumerate() {
         let rule = rule_of_member(index, &names, end, m);
-        let spot = Spot {
-            part: Part::Members,
+        let path_step = PathStep {
+            array: TableArray::Members,
             at: at as u64,
         };
-        note(state, rule, spot)?;
+        note(state, rule, path_step)?;
         names.insert(state.alloc, &m.name)?;
         end = index.member_end(end, m);
     }

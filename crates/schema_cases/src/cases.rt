@@ -81,15 +81,15 @@ fn case_line(alloc: Global, frame: Frame<'_>, text: &str) -> Result<String, Allo
 }
 
 // A part with `#` in the place of its own place.
-fn placed(alloc: Global, part: &str, at: u64) -> Result<String, AllocError> {
+fn placed(alloc: Global, array: &str, at: u64) -> Result<String, AllocError> {
     let place = format!(in alloc; "{at}")?;
-    part.replace(alloc, "#", place.as_str())
+    array.replace(alloc, "#", place.as_str())
 }
 
-fn repeated(alloc: Global, part: &str, count: u64) -> Result<String, AllocError> {
+fn repeated(alloc: Global, array: &str, count: u64) -> Result<String, AllocError> {
     let mut text = String::new(alloc);
     for at in 0..count {
-        text.push_str(placed(alloc, part, at)?.as_str())?;
+        text.push_str(placed(alloc, array, at)?.as_str())?;
     }
     Ok(text)
 }
@@ -97,8 +97,8 @@ fn repeated(alloc: Global, part: &str, count: u64) -> Result<String, AllocError>
 fn repeat_line(alloc: Global, frame: Frame<'_>, rest: &str) -> Result<String, AllocError> {
     let (count, others) = rest.split_once(" | ").unwrap_or(("", rest));
     let (before, others) = others.split_once(" | ").unwrap_or(("", others));
-    let (part, behind) = others.split_once(" | ").unwrap_or((others, ""));
-    let parts = repeated(alloc, part, number(count))?;
+    let (array, behind) = others.split_once(" | ").unwrap_or((others, ""));
+    let parts = repeated(alloc, array, number(count))?;
     let text = format!(in alloc; "{}{before}{parts}{behind}", frame.before)?;
     let found = told_of_lines(alloc, text.as_str())?;
     format!(in alloc; "{found} | {rest}")

@@ -1,7 +1,7 @@
 //! Lines on the lists that many crates name, and on the tree of a message's values: what is added, copied and compared.
 
 use lists::{Element, are_equal};
-use sbe_schema::{Part, Spot, path_to};
+use sbe_schema::{TableArray, PathStep, path_to};
 use sbe_value::{
     Block, Blocks, Bytes, Datum, Datums, Group, Groups, Item, Items, Lines, Message, Path,
     Payloads, Step, text_of_path,
@@ -61,12 +61,12 @@ fn steps(alloc: Global) -> Result<Path, AllocError> {
 
 /// The path to the second field of the first message.
 fn path(alloc: Global) -> Result<Path, AllocError> {
-    let message = Spot {
-        part: Part::Messages,
+    let message = PathStep {
+        array: TableArray::Messages,
         at: 0,
     };
-    let field = Spot {
-        part: Part::Fields,
+    let field = PathStep {
+        array: TableArray::Fields,
         at: 1,
     };
     path_to(alloc, &[message], field)

@@ -3,7 +3,7 @@ use Rattle.std.proofs.Common.{◌≡◌, ℕ, zero, suc, ◌<◌, ◌⊎◌, inl
 use Rattle.std.proofs.lemmas.Bool.{false≢true, and_parts, and_from, or_cases, or_left, or_right, not-true, not_from_false}
 use Rattle.std.proofs.lemmas.List.Elements.{Contains-append_right}
 use Rattle.std.specs.List.{list_any}
-use Rattle.sbe_schema.specs.declared.fault.Spot.{Spot}
+use Rattle.sbe_schema.specs.declared.fault.PathStep.{PathStep}
 use Rattle.sbe_schema.specs.Places.{Place, Table}
 
 any_found : (test : Place → Bool) (ps : List Place) → list_any test ps ≡ true → (q : Place) × Contains ps q × (test q ≡ true)
@@ -23,17 +23,17 @@ found_any : (test : Place → Bool) (ps : List Place) (q : Place) → Contains p
 found_any test ps q c t = found_at test ps q c.0 c.1 c.2 t
 
 -- a test of the places before tells of one of them
-module _ (near : List Spot → List Spot → Bool) (Near : List Spot → List Spot → Type 0) (tells : (xs ys : List Spot) → near xs ys ≡ true → Near xs ys) (are : (xs ys : List Spot) → Near xs ys → near xs ys ≡ true) where
-  pub told_pair : (before : List Place) (path : List Spot) (test : Table → Bool) (Has : Table → Type 0) → ((t : Table) → test t ≡ true → Has t) → ((t : Table) → Has t → test t ≡ true)
-      → (b : Bool) → b ≡ list_any (λ q. near q.spots path && test q.table) before → (b ≡ true) ↔ ((q : Place) × Contains before q × Near q.spots path × Has q.table)
-  told_pair before path test Has has is b told =
-      let there : b ≡ true → (q : Place) × Contains before q × Near q.spots path × Has q.table
+module _ (near : List PathStep → List PathStep → Bool) (Near : List PathStep → List PathStep → Type 0) (tells : (xs ys : List PathStep) → near xs ys ≡ true → Near xs ys) (are : (xs ys : List PathStep) → Near xs ys → near xs ys ≡ true) where
+  pub known_pair : (before : List Place) (path : List PathStep) (test : Table → Bool) (Has : Table → Type 0) → ((t : Table) → test t ≡ true → Has t) → ((t : Table) → Has t → test t ≡ true)
+      → (b : Bool) → b ≡ list_any (λ q. near q.path_steps path && test q.table) before → (b ≡ true) ↔ ((q : Place) × Contains before q × Near q.path_steps path × Has q.table)
+  known_pair before path test Has has is b known =
+      let there : b ≡ true → (q : Place) × Contains before q × Near q.path_steps path × Has q.table
       = λ yes.
-      let found = any_found (λ q. near q.spots path && test q.table) before (sym told ∙ yes) in
-      let both = and_parts (near found.0.spots path) (test found.0.table) found.2 in
-      (found.0, found.1, tells found.0.spots path both.0, has found.0.table both.1) in
-      let back : ((q : Place) × Contains before q × Near q.spots path × Has q.table) → b ≡ true
-      = λ s. told ∙ found_any (λ q. near q.spots path && test q.table) before s.0 s.1 (and_from (near s.0.spots path) (test s.0.table) (are s.0.spots path s.2) (is s.0.table s.3)) in
+      let found = any_found (λ q. near q.path_steps path && test q.table) before (sym known ∙ yes) in
+      let both = and_parts (near found.0.path_steps path) (test found.0.table) found.2 in
+      (found.0, found.1, tells found.0.path_steps path both.0, has found.0.table both.1) in
+      let back : ((q : Place) × Contains before q × Near q.path_steps path × Has q.table) → b ≡ true
+      = λ s. known ∙ found_any (λ q. near q.path_steps path && test q.table) before s.0 s.1 (and_from (near s.0.path_steps path) (test s.0.table) (are s.0.path_steps path s.2) (is s.0.table s.3)) in
       (there, back)
 
 pub or_either : (a w : Bool) (Q : Type 0) → (a ≡ true) ↔ Q → ((a || not w) ≡ true) ↔ (Q ⊎ (w ≡ false))

@@ -17,8 +17,8 @@ use Rattle.sbe_schema.specs.declared.fault.SchemaKind.{SchemaKind}
 use Rattle.sbe_schema.specs.declared.fault.SchemaKind.TheVariants.{DuplicateName, DuplicateId, UnknownType, BadOffset, ShortLength, BadEnum, BadSet, BadDimension, BadData, IllegalExtension, OverLimit}
 use Rattle.schema_laws.specs.Pairs.{number_of}
 use Rattle.schema_laws.specs.Kept.{CheckedNamesDiffer, CheckedTypesAreNoPrimitives, CheckedIdsDiffer, CheckedNumbersDiffer}
-use Rattle.schema_laws.proofs.NamePairs.{names_are_told_apart}
-use Rattle.schema_laws.proofs.IdPairs.{ids_are_told_apart}
+use Rattle.schema_laws.proofs.NamePairs.{duplicate_names_are_found}
+use Rattle.schema_laws.proofs.IdPairs.{duplicate_ids_are_found}
 use Rattle.schema_laws.proofs.NumberPairs.{number_pair}
 
 or_parts : (a b : Bool) → (a || b) ≡ false → (a ≡ false) × (b ≡ false)
@@ -83,18 +83,18 @@ never b f t = false≢true (sym f ∙ t)
 pub checked_names_differ : CheckedNamesDiffer
 checked_names_differ schema checked before q between p after split alike =
     let s = regroup (walk schema) before q between p after split in
-    let law = names_are_told_apart schema (before ++ q ∷ between) p after s in
+    let law = duplicate_names_are_found schema (before ++ q ∷ between) p after s in
     never (is_duplicate_name p.names p.table) (kept_at schema checked (before ++ q ∷ between) p after s).name (law.1 (inr (q, earlier before q between, alike.0, alike.1)))
 
 pub checked_types_are_no_primitives : CheckedTypesAreNoPrimitives
 checked_types_are_no_primitives schema checked before p after split primitive =
-    let law = names_are_told_apart schema before p after split in
+    let law = duplicate_names_are_found schema before p after split in
     never (is_duplicate_name p.names p.table) (kept_at schema checked before p after split).name (law.1 (inl primitive))
 
 pub checked_ids_differ : CheckedIdsDiffer
 checked_ids_differ schema checked before q between p after split alike =
     let s = regroup (walk schema) before q between p after split in
-    let law = ids_are_told_apart schema (before ++ q ∷ between) p after s in
+    let law = duplicate_ids_are_found schema (before ++ q ∷ between) p after s in
     never (is_duplicate_id p.numbers p.table) (kept_at schema checked (before ++ q ∷ between) p after s).id (law.1 (q, earlier before q between, alike.0, alike.1))
 
 -- a number that stands before breaks the rule of enums or of sets
@@ -105,9 +105,9 @@ number_breaks numbers (value_table prim v) number e h = let same : v.value ≡ n
 number_breaks numbers (bit_table prim b) number e h = let same : pos b.bit ≡ number = cc in inr (or_left (set.contains numbers (pos b.bit)) _ (ap (λ n. set.contains numbers n) same ∙ h))
 number_breaks numbers (member_table end m) number e h = absurd cc
 number_breaks numbers (message_table m) number e h = absurd cc
-number_breaks numbers (field_table floor end f) number e h = absurd cc
-number_breaks numbers (group_table holder floor g) number e h = absurd cc
-number_breaks numbers (data_table holder floor d) number e h = absurd cc
+number_breaks numbers (field_table least_since end f) number e h = absurd cc
+number_breaks numbers (group_table parent least_since g) number e h = absurd cc
+number_breaks numbers (data_table parent least_since d) number e h = absurd cc
 
 pub checked_numbers_differ : CheckedNumbersDiffer
 checked_numbers_differ schema checked before q between p after split alike =

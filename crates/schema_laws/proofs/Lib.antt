@@ -1,4 +1,4 @@
-pub mod Spots
+pub mod PathSteps
 pub mod State
 pub mod Below
 pub mod Lists

@@ -11,10 +11,10 @@ use Rattle.sbe_schema.specs.Names.{Numbers}
 use Rattle.sbe_schema.specs.Places.{Place, Table}
 use Rattle.sbe_schema.specs.Kinds.{is_bad_enum, is_bad_set}
 use Rattle.sbe_schema.specs.Walk.{walk}
-use Rattle.schema_laws.specs.Pairs.{number_of, AreSiblings, HaveOneNumber, IsNumberedBefore, ValuesAreToldApart, BitsAreToldApart}
-use Rattle.schema_laws.proofs.Spots.{siblings, siblings_tell, siblings_are}
-use Rattle.schema_laws.proofs.State.{told_at, adds, adds-start}
-use Rattle.schema_laws.proofs.Found.{told_pair, or_either}
+use Rattle.schema_laws.specs.Pairs.{number_of, AreSiblings, HaveOneNumber, IsNumberedBefore, BadValuesAreFound, BadBitsAreFound}
+use Rattle.schema_laws.proofs.PathSteps.{siblings, siblings_tell, siblings_are}
+use Rattle.schema_laws.proofs.State.{knows_at, adds, adds-start}
+use Rattle.schema_laws.proofs.Found.{known_pair, or_either}
 use Rattle.schema_laws.proofs.Numbers.{numbered_as, numbered, KnowsAt, Knows, Tells, walk_tells}
 
 numbered_tells : (o : Option ℤ) (n : ℤ) → numbered_as o n ≡ true → o ≡ Some n
@@ -32,15 +32,15 @@ pub number_pair : (schema : Schema) (before : List Place) (p : Place) (after : L
     → (set.contains p.numbers number ≡ true) ↔ IsNumberedBefore before p
 number_pair schema before p after split number e =
     let tells : Tells (λ _ _. false) (before ++ p ∷ after) = subst (λ (ps : List Place). Tells (λ _ _. false) ps) split (walk_tells schema) in
-    let knows = told_at siblings numbered Knows (λ _ _. false) before p after tells in
-    told_pair siblings AreSiblings siblings_tell siblings_are before p.spots (λ t. numbered t number) (λ t. HaveOneNumber t p.table)
+    let knows = knows_at siblings numbered Knows (λ _ _. false) before p after tells in
+    known_pair siblings AreSiblings siblings_tell siblings_are before p.path_steps (λ t. numbered t number) (λ t. HaveOneNumber t p.table)
     (λ t yes. (number, numbered_tells (number_of t) number yes, e))
     (λ t same. numbered_is (number_of t) number (same.1 ∙ (sym same.2 ∙ e)))
     (set.contains p.numbers number)
-    (known (number_of p.table) p.numbers (adds siblings numbered (λ _ _. false) before p.spots) number e knows number ∙ adds-start siblings numbered before p.spots number)
+    (known (number_of p.table) p.numbers (adds siblings numbered (λ _ _. false) before p.path_steps) number e knows number ∙ adds-start siblings numbered before p.path_steps number)
 
-pub values_are_told_apart : ValuesAreToldApart
-values_are_told_apart schema before p after split prim v e =
+pub bad_values_are_found : BadValuesAreFound
+bad_values_are_found schema before p after split prim v e =
     let pair = number_pair schema before p after split v.value (ap number_of e) in
     subst (λ (t : Table). (is_bad_enum p.numbers t ≡ true) ↔ (IsNumberedBefore before p ⊎ (lies_within (least_of prim) (greatest_of prim) v.value ≡ false))) (sym e)
     (or_either (set.contains p.numbers v.value) (lies_within (least_of prim) (greatest_of prim) v.value) (IsNumberedBefore before p) pair)
@@ -49,8 +49,8 @@ wide : (Q : Type 0) (m n : ℕ) (b : Bool) → (b ≡ true) ↔ (Q ⊎ (nat_lt m
 wide Q m n b h =
     (λ e. elim (h.0 e) [ inl q ↦ inl q | inr y ↦ inr (ltb-false m n y) ], λ s. elim s [ inl q ↦ h.1 (inl q) | inr y ↦ h.1 (inr (le-ltb m n y)) ])
 
-pub bits_are_told_apart : BitsAreToldApart
-bits_are_told_apart schema before p after split prim b e =
+pub bad_bits_are_found : BadBitsAreFound
+bad_bits_are_found schema before p after split prim b e =
     let pair = number_pair schema before p after split (pos b.bit) (ap number_of e) in
     subst (λ (t : Table). (is_bad_set p.numbers t ≡ true) ↔ (IsNumberedBefore before p ⊎ (8 * size_of prim ≤ b.bit))) (sym e)
     (wide (IsNumberedBefore before p) b.bit (8 * size_of prim) _ (or_either (set.contains p.numbers (pos b.bit)) (nat_lt b.bit (8 * size_of prim)) (IsNumberedBefore before p) pair))

@@ -1,4 +1,4 @@
--- What the tables of a checked schema are: told apart, each from every other that it is to be told apart from.
+-- The tables of a checked schema differ, each from every other that it has to differ from.
 use Rattle.std.specs.Prelude.{◌≡◌, ◌⊎◌, IsTrue, List, ◌∷◌, ◌++◌}
 use Rattle.schema_types.specs.declared.schema.Schema.{Schema}
 use Rattle.sbe_schema.specs.Places.{Place}
@@ -12,15 +12,15 @@ NoTwo Alike places = (before : List Place) (q : Place) (between : List Place) (p
 
 -- one name in one list or block
 abbrev pub ShareName : Place → Place → Type 0
-ShareName q p = AreSiblings q.spots p.spots × HaveOneName q.table p.table
+ShareName q p = AreSiblings q.path_steps p.path_steps × HaveOneName q.table p.table
 
 -- one id among the messages, or within one message
 abbrev pub ShareId : Place → Place → Type 0
-ShareId q p = (AreMessages q.spots p.spots ⊎ AreWithinOneMessage q.spots p.spots) × HaveOneId q.table p.table
+ShareId q p = (AreMessages q.path_steps p.path_steps ⊎ AreWithinOneMessage q.path_steps p.path_steps) × HaveOneId q.table p.table
 
 -- one number in one enum or set
 abbrev pub ShareNumber : Place → Place → Type 0
-ShareNumber q p = AreSiblings q.spots p.spots × HaveOneNumber q.table p.table
+ShareNumber q p = AreSiblings q.path_steps p.path_steps × HaveOneNumber q.table p.table
 
 -- In a checked schema no two tables of one list or block have one name
 abbrev pub CheckedNamesDiffer : Type 0

@@ -3,33 +3,33 @@
 //! Each function has an empty body: its clause is a statement about every schema.
 #![tactic(auto)]
 
-ghost use Rattle.schema_laws.specs.Pairs.{NamesAreToldApart, IdsAreToldApart, ValuesAreToldApart, BitsAreToldApart};
+ghost use Rattle.schema_laws.specs.Pairs.{DuplicateNamesAreFound, DuplicateIdsAreFound, BadValuesAreFound, BadBitsAreFound};
 ghost use Rattle.schema_laws.specs.Kept.{CheckedNamesDiffer, CheckedTypesAreNoPrimitives, CheckedIdsDiffer, CheckedNumbersDiffer};
 ghost use Rattle.schema_laws.specs.Standing.{WalkTellsTruly, WalkLeavesNoneOut, WalkRepeatsNone};
 ghost use Rattle.schema_laws.specs.Order.{WalkGoesInOrder};
 
 /// A table breaks the rule of names exactly where a table before it, in the same list or block, has the same name,
 /// or where it is a type that is named as a primitive.
-pub fn names_are_told_apart()
-    ensures law { NamesAreToldApart }
+pub fn duplicate_names_are_found()
+    ensures law { DuplicateNamesAreFound }
 {}
 
 /// A table breaks the rule of ids exactly where a table before it has the same id, and both are messages, or both are
 /// fields, groups and data of one message, at any depth.
-pub fn ids_are_told_apart()
-    ensures law { IdsAreToldApart }
+pub fn duplicate_ids_are_found()
+    ensures law { DuplicateIdsAreFound }
 {}
 
 /// A value breaks the rule of enums exactly where a value before it in the same enum has the same number, or where its
 /// number is none of the primitive's.
-pub fn values_are_told_apart()
-    ensures law { ValuesAreToldApart }
+pub fn bad_values_are_found()
+    ensures law { BadValuesAreFound }
 {}
 
 /// A bit breaks the rule of sets exactly where a bit before it in the same set has the same number, or where it is past the
 /// width of the primitive.
-pub fn bits_are_told_apart()
-    ensures law { BitsAreToldApart }
+pub fn bad_bits_are_found()
+    ensures law { BadBitsAreFound }
 {}
 
 /// No two tables of a checked schema that are in one list or block have one name.

@@ -16,9 +16,9 @@ use std::alloc::Global;
 /// # Errors
 /// `TooLong` exactly where the text is longer than `TEXT_LIMIT`, before anything else is said of it; else `Toml`
 /// with the first fault of its text; else `Schema` with the least rule of schemas that it breaks, at its first
-/// place. Want of memory is told as a fault that `ConfigFault::is_memory` knows.
+/// place. Want of memory is a fault that `ConfigFault::is_memory` knows.
 pub fn load(alloc: Global, text: &[u8]) -> Result<Plan, ConfigFault>
-    ensures told { Tells result (plan_of_text text.now) }
+    ensures exact { Tells result (plan_of_text text.now) }
     ensures too_long { text_limit < length text.now → result ≡ Err ConfigFault.TooLong }
     ensures legal { IfOk result LegalPlan }
 {

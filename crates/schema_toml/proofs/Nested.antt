@@ -17,7 +17,7 @@ use Rattle.toml_walk.specs.Reading.{Read, ◌>>=◌, under, deepened, is_memory,
 use Rattle.toml_walk.specs.declared.fault.TomlFault.{TomlFault}
 use Rattle.toml_walk.specs.declared.fault.TomlFault.TheVariants.{Memory, Text, Missing, WrongKind, UnknownKey, Range}
 use Rattle.toml.proofs.Views.{items_view-drop}
-use Rattle.toml_walk.specs.Keys.{defaulted, defaulted_of}
+use Rattle.toml_walk.specs.Keys.{get_or_default, get_or_default_of}
 use Rattle.schema_toml.specs.Messages.{GroupRead, group_keys, group_of, group_by_keys, groups_in, groups_of, groups_from}
 
 -- a number that 128 bits hold is what its bits say
@@ -26,26 +26,26 @@ bits_say z fits = to_z-of_z w128 z fits
 
 -- ---- by their key
 
-by_order : (o : Ordering) (since : ℤ) (d : Data) (rest : Members) → groups_in since rest ≡ defaulted (codes "groups") no_groups (groups_of since) (table rest)
+by_order : (o : Ordering) (since : ℤ) (d : Data) (rest : Members) → groups_in since rest ≡ get_or_default (codes "groups") no_groups (groups_of since) (table rest)
     → cond (is_eq o) (under (Key (codes "groups")) (groups_of since d)) (groups_in since rest)
-    ≡ defaulted_of (codes "groups") no_groups (groups_of since) (match_ordering o (get_member (codes "groups") rest) (Some d) (get_member (codes "groups") rest))
+    ≡ get_or_default_of (codes "groups") no_groups (groups_of since) (match_ordering o (get_member (codes "groups") rest) (Some d) (get_member (codes "groups") rest))
 by_order Less since d rest same = same
 by_order Equal since d rest same = refl
 by_order Greater since d rest same = same
 
-pub in_by_key : (since : ℤ) (keys : Members) → groups_in since keys ≡ defaulted (codes "groups") no_groups (groups_of since) (table keys)
+pub in_by_key : (since : ℤ) (keys : Members) → groups_in since keys ≡ get_or_default (codes "groups") no_groups (groups_of since) (table keys)
 in_by_key since no_members = refl
 in_by_key since (member key d rest) = by_order (slice_cmp nat_cmp (codes "groups") key) since d rest (in_by_key since rest)
 
-pub told_by_keys : (since : ℤ) (d : Data) → group_of since d ≡ group_by_keys since d
+pub group_is_by_keys : (since : ℤ) (d : Data) → group_of since d ≡ group_by_keys since d
 unfolding group_by_keys
-told_by_keys since (table keys) = ap (λ inner. group_keys inner since (table keys)) (λ t own. in_by_key own keys t)
-told_by_keys since (array ds) = refl
-told_by_keys since (string s) = refl
-told_by_keys since (integer z) = refl
-told_by_keys since (float x) = refl
-told_by_keys since (boolean b) = refl
-told_by_keys since (datetime dt) = refl
+group_is_by_keys since (table keys) = ap (λ inner. group_keys inner since (table keys)) (λ t own. in_by_key own keys t)
+group_is_by_keys since (array ds) = refl
+group_is_by_keys since (string s) = refl
+group_is_by_keys since (integer z) = refl
+group_is_by_keys since (float x) = refl
+group_is_by_keys since (boolean b) = refl
+group_is_by_keys since (datetime dt) = refl
 
 -- ---- groups behind those that were read
 
@@ -86,18 +86,18 @@ none_left since gs vs i past = rw (drop_all i vs past) (ap Ok (behind_none gs))
 -- ---- faults from one step further out
 
 pub at_ok : (at : ℕ) (since : ℤ) (d : Data) (g : GroupRead) → group_by_keys since d ≡ Ok g → under (At at) (group_of since d) ≡ Ok g
-at_ok at since d g made = rw (told_by_keys since d, made) refl
+at_ok at since d g made = rw (group_is_by_keys since d, made) refl
 
 pub at_err : (at : ℕ) (since : ℤ) (d : Data) (fault : TomlFault) → group_by_keys since d ≡ Err fault → under (At at) (group_of since d) ≡ Err (deepened (At at) fault)
-at_err at since d fault made = rw (told_by_keys since d, made) refl
+at_err at since d fault made = rw (group_is_by_keys since d, made) refl
 
 pub no_memory : (step : Step) (fault result : TomlFault) → IsFault result (deepened step fault) → is_memory result ≡ false → is_memory fault ≡ false
-no_memory step Memory result told plain = ap is_memory (told plain) ∙ plain
-no_memory step Text result told plain = refl
-no_memory step (Missing path) result told plain = refl
-no_memory step (WrongKind path) result told plain = refl
-no_memory step (UnknownKey path) result told plain = refl
-no_memory step (Range path) result told plain = refl
+no_memory step Memory result gives plain = ap is_memory (gives plain) ∙ plain
+no_memory step Text result gives plain = refl
+no_memory step (Missing path) result gives plain = refl
+no_memory step (WrongKind path) result gives plain = refl
+no_memory step (UnknownKey path) result gives plain = refl
+no_memory step (Range path) result gives plain = refl
 
 -- ---- what lies inside is less deep
 

@@ -52,8 +52,8 @@ pub some_value : {A : Type 0} (a b : A) → Some a ≡ Some b → a ≡ b
 some_value a b same = cc
 
 pub map_inv : {A B G : Type 0} (f : A → B) (o : Option A) (b : B) → option_map f o ≡ Some b → ((a : A) → o ≡ Some a → f a ≡ b → G) → G
-map_inv f None b told so = absurd cc
-map_inv f (Some a) b told so = so a refl (some_value (f a) b told)
+map_inv f None b gives so = absurd cc
+map_inv f (Some a) b gives so = so a refl (some_value (f a) b gives)
 
 -- ---- items, members and nodes
 
@@ -72,12 +72,12 @@ mutual
   close_sound (node k x ns) all = (close_node_sound x all.0, close_sound ns all.1)
 
 get_by : (b : Bool) (y x : Node) (o : Option Node) → cond b (Some y) o ≡ Some x → SoundNode y → (o ≡ Some x → SoundNode x) → SoundNode x
-get_by true y x o told here more = subst SoundNode (some_value y x told) here
-get_by false y x o told here more = more told
+get_by true y x o gives here more = subst SoundNode (some_value y x gives) here
+get_by false y x o gives here more = more gives
 
 get_node_sound : (k : List ℕ) (ns : Nodes) (x : Node) → get_node k ns ≡ Some x → SoundNodes ns → SoundNode x
-get_node_sound k no_nodes x told all = absurd cc
-get_node_sound k (node l y ns) x told all = get_by (same_key k l) y x (get_node k ns) told all.0 (λ more. get_node_sound k ns x more all.1)
+get_node_sound k no_nodes x gives all = absurd cc
+get_node_sound k (node l y ns) x gives all = get_by (same_key k l) y x (get_node k ns) gives all.0 (λ more. get_node_sound k ns x more all.1)
 
 insert_by : (o : Ordering) (k l : List ℕ) (x y : Node) (ns more : Nodes) → SoundNode x → SoundNode y → SoundNodes ns → SoundNodes more
     → SoundNodes (match_ordering o (node k x (node l y ns)) (node l x ns) (node l y more))
@@ -100,38 +100,38 @@ replace_sound k x (node l y ns) here all = replace_by (same_key k l) l x y ns (r
 -- ---- edits
 
 header_node_sound : (edit : Edit) (x y : Node) → SoundEdit edit → SoundNode x → header_node edit x ≡ Some y → SoundNode y
-header_node_sound edit (value d) y keeps all told = absurd cc
-header_node_sound edit (open_table origin inner) y keeps all told = map_inv (open_table origin) (edit inner) y told (λ new made same. subst SoundNode same (keeps inner new all made))
-header_node_sound edit (open_array done last) y keeps all told = map_inv (open_array done) (edit last) y told (λ new made same. subst SoundNode same (all.0, keeps last new all.1 made))
+header_node_sound edit (value d) y keeps all gives = absurd cc
+header_node_sound edit (open_table origin inner) y keeps all gives = map_inv (open_table origin) (edit inner) y gives (λ new made same. subst SoundNode same (keeps inner new all made))
+header_node_sound edit (open_array done last) y keeps all gives = map_inv (open_array done) (edit last) y gives (λ new made same. subst SoundNode same (all.0, keeps last new all.1 made))
 
 dot_node_sound : (edit : Edit) (x y : Node) → SoundEdit edit → SoundNode x → dot_node edit x ≡ Some y → SoundNode y
-dot_node_sound edit (value d) y keeps all told = absurd cc
-dot_node_sound edit (open_table header inner) y keeps all told = absurd cc
-dot_node_sound edit (open_table implicit inner) y keeps all told = map_inv (open_table dotted) (edit inner) y told (λ new made same. subst SoundNode same (keeps inner new all made))
-dot_node_sound edit (open_table dotted inner) y keeps all told = map_inv (open_table dotted) (edit inner) y told (λ new made same. subst SoundNode same (keeps inner new all made))
-dot_node_sound edit (open_array done last) y keeps all told = absurd cc
+dot_node_sound edit (value d) y keeps all gives = absurd cc
+dot_node_sound edit (open_table header inner) y keeps all gives = absurd cc
+dot_node_sound edit (open_table implicit inner) y keeps all gives = map_inv (open_table dotted) (edit inner) y gives (λ new made same. subst SoundNode same (keeps inner new all made))
+dot_node_sound edit (open_table dotted inner) y keeps all gives = map_inv (open_table dotted) (edit inner) y gives (λ new made same. subst SoundNode same (keeps inner new all made))
+dot_node_sound edit (open_array done last) y keeps all gives = absurd cc
 
 by_header_sound : (k : List ℕ) (edit : Edit) (ns new : Nodes) (o : Option Node) → SoundEdit edit → SoundNodes ns → get_node k ns ≡ o → by_header k edit ns o ≡ Some new → SoundNodes new
-by_header_sound k edit ns new None keeps all at told =
-    map_inv (λ inner. insert k (open_table implicit inner) ns) (edit no_nodes) new told (λ inner made same. subst SoundNodes same (insert_sound k (open_table implicit inner) ns (keeps no_nodes inner tt made) all))
-by_header_sound k edit ns new (Some x) keeps all at told =
-    map_inv (λ y. replace k y ns) (header_node edit x) new told (λ y made same. subst SoundNodes same (replace_sound k y ns (header_node_sound edit x y keeps (get_node_sound k ns x at all) made) all))
+by_header_sound k edit ns new None keeps all at gives =
+    map_inv (λ inner. insert k (open_table implicit inner) ns) (edit no_nodes) new gives (λ inner made same. subst SoundNodes same (insert_sound k (open_table implicit inner) ns (keeps no_nodes inner tt made) all))
+by_header_sound k edit ns new (Some x) keeps all at gives =
+    map_inv (λ y. replace k y ns) (header_node edit x) new gives (λ y made same. subst SoundNodes same (replace_sound k y ns (header_node_sound edit x y keeps (get_node_sound k ns x at all) made) all))
 
 by_dot_sound : (k : List ℕ) (edit : Edit) (ns new : Nodes) (o : Option Node) → SoundEdit edit → SoundNodes ns → get_node k ns ≡ o → by_dot k edit ns o ≡ Some new → SoundNodes new
-by_dot_sound k edit ns new None keeps all at told =
-    map_inv (λ inner. insert k (open_table dotted inner) ns) (edit no_nodes) new told (λ inner made same. subst SoundNodes same (insert_sound k (open_table dotted inner) ns (keeps no_nodes inner tt made) all))
-by_dot_sound k edit ns new (Some x) keeps all at told =
-    map_inv (λ y. replace k y ns) (dot_node edit x) new told (λ y made same. subst SoundNodes same (replace_sound k y ns (dot_node_sound edit x y keeps (get_node_sound k ns x at all) made) all))
+by_dot_sound k edit ns new None keeps all at gives =
+    map_inv (λ inner. insert k (open_table dotted inner) ns) (edit no_nodes) new gives (λ inner made same. subst SoundNodes same (insert_sound k (open_table dotted inner) ns (keeps no_nodes inner tt made) all))
+by_dot_sound k edit ns new (Some x) keeps all at gives =
+    map_inv (λ y. replace k y ns) (dot_node edit x) new gives (λ y made same. subst SoundNodes same (replace_sound k y ns (dot_node_sound edit x y keeps (get_node_sound k ns x at all) made) all))
 
 along_header_sound : (path : List (List ℕ)) (edit : Edit) → SoundEdit edit → SoundEdit (along_header path edit)
 unfolding along_header
-along_header_sound [] edit keeps ns new all told = keeps ns new all told
-along_header_sound (k ∷ path) edit keeps ns new all told = by_header_sound k (along_header path edit) ns new (get_node k ns) (along_header_sound path edit keeps) all refl told
+along_header_sound [] edit keeps ns new all gives = keeps ns new all gives
+along_header_sound (k ∷ path) edit keeps ns new all gives = by_header_sound k (along_header path edit) ns new (get_node k ns) (along_header_sound path edit keeps) all refl gives
 
 along_dots_sound : (path : List (List ℕ)) (edit : Edit) → SoundEdit edit → SoundEdit (along_dots path edit)
 unfolding along_dots
-along_dots_sound [] edit keeps ns new all told = keeps ns new all told
-along_dots_sound (k ∷ path) edit keeps ns new all told = by_dot_sound k (along_dots path edit) ns new (get_node k ns) (along_dots_sound path edit keeps) all refl told
+along_dots_sound [] edit keeps ns new all gives = keeps ns new all gives
+along_dots_sound (k ∷ path) edit keeps ns new all gives = by_dot_sound k (along_dots path edit) ns new (get_node k ns) (along_dots_sound path edit keeps) all refl gives
 
 new_node_sound : (what : Definition) → SoundDefinition what → SoundNode (new_node what)
 new_node_sound (key_value d) here = here
@@ -139,41 +139,41 @@ new_node_sound std_table here = tt
 new_node_sound array_table here = (tt, tt)
 
 redefine_sound : (what : Definition) (x y : Node) → SoundNode x → redefine what x ≡ Some y → SoundNode y
-redefine_sound (key_value d) x y all told = absurd cc
-redefine_sound std_table (value d) y all told = absurd cc
-redefine_sound std_table (open_table implicit inner) y all told = subst SoundNode (some_value (open_table header inner) y told) all
-redefine_sound std_table (open_table dotted inner) y all told = absurd cc
-redefine_sound std_table (open_table header inner) y all told = absurd cc
-redefine_sound std_table (open_array done last) y all told = absurd cc
-redefine_sound array_table (value d) y all told = absurd cc
-redefine_sound array_table (open_table origin inner) y all told = absurd cc
-redefine_sound array_table (open_array done last) y all told =
-    subst SoundNode (some_value (open_array (push_item done (table (close last))) no_nodes) y told) (push_sound done (table (close last)) all.0 (close_sound last all.1), tt)
+redefine_sound (key_value d) x y all gives = absurd cc
+redefine_sound std_table (value d) y all gives = absurd cc
+redefine_sound std_table (open_table implicit inner) y all gives = subst SoundNode (some_value (open_table header inner) y gives) all
+redefine_sound std_table (open_table dotted inner) y all gives = absurd cc
+redefine_sound std_table (open_table header inner) y all gives = absurd cc
+redefine_sound std_table (open_array done last) y all gives = absurd cc
+redefine_sound array_table (value d) y all gives = absurd cc
+redefine_sound array_table (open_table origin inner) y all gives = absurd cc
+redefine_sound array_table (open_array done last) y all gives =
+    subst SoundNode (some_value (open_array (push_item done (table (close last))) no_nodes) y gives) (push_sound done (table (close last)) all.0 (close_sound last all.1), tt)
 
 found_sound : (k : List ℕ) (what : Definition) (ns new : Nodes) (o : Option Node) → SoundDefinition what → SoundNodes ns → get_node k ns ≡ o → at_found k what ns o ≡ Some new → SoundNodes new
-found_sound k what ns new None here all at told = subst SoundNodes (some_value (insert k (new_node what) ns) new told) (insert_sound k (new_node what) ns (new_node_sound what here) all)
-found_sound k what ns new (Some x) here all at told =
-    map_inv (λ y. replace k y ns) (redefine what x) new told (λ y made same. subst SoundNodes same (replace_sound k y ns (redefine_sound what x y (get_node_sound k ns x at all) made) all))
+found_sound k what ns new None here all at gives = subst SoundNodes (some_value (insert k (new_node what) ns) new gives) (insert_sound k (new_node what) ns (new_node_sound what here) all)
+found_sound k what ns new (Some x) here all at gives =
+    map_inv (λ y. replace k y ns) (redefine what x) new gives (λ y made same. subst SoundNodes same (replace_sound k y ns (redefine_sound what x y (get_node_sound k ns x at all) made) all))
 
 at_key_sound : (k : List ℕ) (what : Definition) → SoundDefinition what → SoundEdit (at_key k what)
 unfolding at_key
-at_key_sound k what here ns new all told = found_sound k what ns new (get_node k ns) here all refl told
+at_key_sound k what here ns new all gives = found_sound k what ns new (get_node k ns) here all refl gives
 
 pub put_sound : (path : List (List ℕ)) (k : List ℕ) (d : Data) → Sound d → SoundEdit (put (path, k) d)
 put_sound path k d here = along_dots_sound path (at_key k (key_value d)) (at_key_sound k (key_value d) here)
 
 define_as_sound : (doc new : Document) (path : List (List ℕ)) (k : List ℕ) (what : Definition) → SoundDefinition what → SoundNodes doc.0 → define_as doc (path, k) what ≡ Some new → SoundNodes new.0
-define_as_sound doc new path k (key_value d) here all told =
-    map_inv (λ root. (root, doc.1)) (along_header doc.1 (put (path, k) d) doc.0) new told
+define_as_sound doc new path k (key_value d) here all gives =
+    map_inv (λ root. (root, doc.1)) (along_header doc.1 (put (path, k) d) doc.0) new gives
     (λ root made same. subst (λ (x : Document). SoundNodes x.0) same (along_header_sound doc.1 (put (path, k) d) (put_sound path k d here) doc.0 root all made))
-define_as_sound doc new path k std_table here all told =
-    map_inv (λ root. (root, path ++ k ∷ [])) (along_header path (at_key k std_table) doc.0) new told
+define_as_sound doc new path k std_table here all gives =
+    map_inv (λ root. (root, path ++ k ∷ [])) (along_header path (at_key k std_table) doc.0) new gives
     (λ root made same. subst (λ (x : Document). SoundNodes x.0) same (along_header_sound path (at_key k std_table) (at_key_sound k std_table tt) doc.0 root all made))
-define_as_sound doc new path k array_table here all told =
-    map_inv (λ root. (root, path ++ k ∷ [])) (along_header path (at_key k array_table) doc.0) new told
+define_as_sound doc new path k array_table here all gives =
+    map_inv (λ root. (root, path ++ k ∷ [])) (along_header path (at_key k array_table) doc.0) new gives
     (λ root made same. subst (λ (x : Document). SoundNodes x.0) same (along_header_sound path (at_key k array_table) (at_key_sound k array_table tt) doc.0 root all made))
 
 -- one more expression
 pub define_sound : (doc new : Document) (path : List (List ℕ)) (k : List ℕ) (what : Definition) → SoundDefinition what → SoundNodes doc.0 → define doc ((path, k), what) ≡ Some new → SoundNodes new.0
 unfolding define
-define_sound doc new path k what here all told = define_as_sound doc new path k what here all told
+define_sound doc new path k what here all gives = define_as_sound doc new path k what here all gives

@@ -8,7 +8,7 @@ use Rattle.sbe_value.specs.declared.path.Step.TheVariants.{Key, At}
 use Rattle.toml.specs.Data.{Data, string, integer, float, boolean, datetime, array, table, Items, no_items, item, Members, no_members, member, get_member}
 use Rattle.toml.specs.View.{items_of}
 use Rattle.toml_walk.specs.Reading.{Read, ◌>>=◌, under}
-use Rattle.toml_walk.specs.Keys.{required, required_of, defaulted, defaulted_of, optional, optional_of, elements, list_of, table_of, only, unless_unknown, unknown_member}
+use Rattle.toml_walk.specs.Keys.{required, required_of, get_or_default, get_or_default_of, optional, optional_of, elements, list_of, table_of, deny_unknown_keys, unless_unknown, unknown_member}
 use Rattle.schema_toml.specs.Written.{Pairs, with_keys, table_by, list_data}
 use Rattle.schema_toml.proofs.Sound.{Sound, SoundItems, SoundMembers}
 use Rattle.schema_toml.proofs.WithKeys.{found, pick, get-with_keys, all_known, unknown-with_keys}
@@ -60,14 +60,14 @@ pub required_inv : {A B G : Type 0} (key : List ℕ) (read : Data → Read A) (w
     → (required key read (table ms) >>= next) ≡ Ok b → ((a : A) → read (write a) ≡ Ok a → next a ≡ Ok b → G) → G
 required_inv key read write ms sound = required_by key read write (get_member key ms) (member_sound key ms sound)
 
-defaulted_by : {A B G : Type 0} (key : List ℕ) (default : A) (read : Data → Read A) (write : A → Data) (o : Option Data) → SoundOption o → (next : A → Read B) (b : B) → Back read write → read (write default) ≡ Ok default
-    → (defaulted_of key default read o >>= next) ≡ Ok b → ((a : A) → read (write a) ≡ Ok a → next a ≡ Ok b → G) → G
-defaulted_by key default read write None sound next b back ready went so = so default ready went
-defaulted_by key default read write (Some d) sound next b back ready went so = under_inv (Key key) (read d) next b went (λ a same more. so a (back d a sound same) more)
+get_or_default_by : {A B G : Type 0} (key : List ℕ) (default : A) (read : Data → Read A) (write : A → Data) (o : Option Data) → SoundOption o → (next : A → Read B) (b : B) → Back read write → read (write default) ≡ Ok default
+    → (get_or_default_of key default read o >>= next) ≡ Ok b → ((a : A) → read (write a) ≡ Ok a → next a ≡ Ok b → G) → G
+get_or_default_by key default read write None sound next b back ready went so = so default ready went
+get_or_default_by key default read write (Some d) sound next b back ready went so = under_inv (Key key) (read d) next b went (λ a same more. so a (back d a sound same) more)
 
-pub defaulted_inv : {A B G : Type 0} (key : List ℕ) (default : A) (read : Data → Read A) (write : A → Data) (ms : Members) → SoundMembers ms → (next : A → Read B) (b : B) → Back read write → read (write default) ≡ Ok default
-    → (defaulted key default read (table ms) >>= next) ≡ Ok b → ((a : A) → read (write a) ≡ Ok a → next a ≡ Ok b → G) → G
-defaulted_inv key default read write ms sound = defaulted_by key default read write (get_member key ms) (member_sound key ms sound)
+pub get_or_default_inv : {A B G : Type 0} (key : List ℕ) (default : A) (read : Data → Read A) (write : A → Data) (ms : Members) → SoundMembers ms → (next : A → Read B) (b : B) → Back read write → read (write default) ≡ Ok default
+    → (get_or_default key default read (table ms) >>= next) ≡ Ok b → ((a : A) → read (write a) ≡ Ok a → next a ≡ Ok b → G) → G
+get_or_default_inv key default read write ms sound = get_or_default_by key default read write (get_member key ms) (member_sound key ms sound)
 
 some_by : {A B G : Type 0} (key : List ℕ) (read : Data → Read A) (write : A → Data) (d : Data) → Sound d → (r : Read A) (next : Option A → Read B) (b : B) → Back read write → read d ≡ r
     → ((under (Key key) r >>= (λ a. Ok (Some a))) >>= next) ≡ Ok b → ((o : Option A) → IfBack read write o → next o ≡ Ok b → G) → G
@@ -83,12 +83,12 @@ pub optional_inv : {A B G : Type 0} (key : List ℕ) (read : Data → Read A) (w
     → (optional key read (table ms) >>= next) ≡ Ok b → ((o : Option A) → IfBack read write o → next o ≡ Ok b → G) → G
 optional_inv key read write ms sound = optional_by key read write (get_member key ms) (member_sound key ms sound)
 
-only_by : {B : Type 0} (o : Option (List ℕ)) (next : Unit {0} → Read B) (b : B) → (unless_unknown o >>= next) ≡ Ok b → next tt ≡ Ok b
-only_by None next b went = went
-only_by (Some key) next b went = absurd cc
+deny_unknown_keys_by : {B : Type 0} (o : Option (List ℕ)) (next : Unit {0} → Read B) (b : B) → (unless_unknown o >>= next) ≡ Ok b → next tt ≡ Ok b
+deny_unknown_keys_by None next b went = went
+deny_unknown_keys_by (Some key) next b went = absurd cc
 
-pub only_inv : {B : Type 0} (known : List (List ℕ)) (ms : Members) (next : Unit {0} → Read B) (b : B) → (only known (table ms) >>= next) ≡ Ok b → next tt ≡ Ok b
-only_inv known ms = only_by (unknown_member known ms)
+pub deny_unknown_keys_inv : {B : Type 0} (known : List (List ℕ)) (ms : Members) (next : Unit {0} → Read B) (b : B) → (deny_unknown_keys known (table ms) >>= next) ≡ Ok b → next tt ≡ Ok b
+deny_unknown_keys_inv known ms = deny_unknown_keys_by (unknown_member known ms)
 
 pub table_inv : {A G : Type 0} (read : Data → Read A) (d : Data) (a : A) → Sound d → table_of read d ≡ Ok a → ((ms : Members) → SoundMembers ms → read (table ms) ≡ Ok a → G) → G
 table_inv read (table ms) a sound went so = so ms sound went
@@ -107,8 +107,8 @@ found_by key ps o same = get-with_keys key ps no_members ∙ same
 pub required_is : {A : Type 0} (key : List ℕ) (read : Data → Read A) (d : Data) (ps : Pairs) (a : A) → found key ps None ≡ Some d → read d ≡ Ok a → required key read (table_by ps) ≡ Ok a
 required_is key read d ps a at again = rw (found_by key ps (Some d) at, again) refl
 
-pub defaulted_is : {A : Type 0} (key : List ℕ) (default : A) (read : Data → Read A) (d : Data) (ps : Pairs) (a : A) → found key ps None ≡ Some d → read d ≡ Ok a → defaulted key default read (table_by ps) ≡ Ok a
-defaulted_is key default read d ps a at again = rw (found_by key ps (Some d) at, again) refl
+pub get_or_default_is : {A : Type 0} (key : List ℕ) (default : A) (read : Data → Read A) (d : Data) (ps : Pairs) (a : A) → found key ps None ≡ Some d → read d ≡ Ok a → get_or_default key default read (table_by ps) ≡ Ok a
+get_or_default_is key default read d ps a at again = rw (found_by key ps (Some d) at, again) refl
 
 optional_of_is : {A : Type 0} (key : List ℕ) (read : Data → Read A) (write : A → Data) (o : Option A) → IfBack read write o → optional_of key read (pick (option_map write o) None) ≡ Ok o
 optional_of_is key read write None again = refl
@@ -117,8 +117,8 @@ optional_of_is key read write (Some a) again = rw again refl
 pub optional_is : {A : Type 0} (key : List ℕ) (read : Data → Read A) (write : A → Data) (ps : Pairs) (o : Option A) → found key ps None ≡ pick (option_map write o) None → IfBack read write o → optional key read (table_by ps) ≡ Ok o
 optional_is key read write ps o at again = rw (found_by key ps (pick (option_map write o) None) at) (optional_of_is key read write o again)
 
-pub only_is : (known : List (List ℕ)) (ps : Pairs) → all_known known ps ≡ true → only known (table_by ps) ≡ Ok tt
-only_is known ps all = rw (unknown-with_keys known ps no_members all refl) refl
+pub deny_unknown_keys_is : (known : List (List ℕ)) (ps : Pairs) → all_known known ps ≡ true → deny_unknown_keys known (table_by ps) ≡ Ok tt
+deny_unknown_keys_is known ps all = rw (unknown-with_keys known ps no_members all refl) refl
 
 -- ---- lists
 

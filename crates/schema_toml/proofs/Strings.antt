@@ -13,12 +13,12 @@ use Rattle.schema_toml.proofs.Sound.{some_value, map_inv}
 use Rattle.schema_toml.proofs.Tails.{Tail, whole, tail-drop, utf8_before, utf8_behind, utf8-skip_lines}
 
 pub cond_inv : {A G : Type 0} (b : Bool) (x y : Option A) (q : A) → cond b x y ≡ Some q → (b ≡ true → x ≡ Some q → G) → (b ≡ false → y ≡ Some q → G) → G
-cond_inv true x y q told first_ second_ = first_ refl told
-cond_inv false x y q told first_ second_ = second_ refl told
+cond_inv true x y q gives first_ second_ = first_ refl gives
+cond_inv false x y q gives first_ second_ = second_ refl gives
 
 pub then_inv : {A B G : Type 0} (f : A → Option B) (o : Option A) (b : B) → option_and_then f o ≡ Some b → ((a : A) → o ≡ Some a → f a ≡ Some b → G) → G
-then_inv f None b told so = absurd cc
-then_inv f (Some a) b told so = so a refl told
+then_inv f None b gives so = absurd cc
+then_inv f (Some a) b gives so = so a refl gives
 
 one_at : (c i : ℕ) → c < 128 → slice_index (c ∷ []) i < 128
 one_at c zero low = low
@@ -30,28 +30,28 @@ ascii_one c low = IsUtf8-from_ascii (c ∷ []) (λ i. one_at c i low)
 -- ---- escapes
 
 scalar_by : (c : ℕ) → is_scalar c ≡ true → IsScalar c
-scalar_by c told = grind (arith, nat_tests)
+scalar_by c gives = grind (arith, nat_tests)
 
 simple_at : (c x v d : ℕ) → (c == x) ≡ true → x < 128 → is_scalar v ≡ true → Some v ≡ Some d → (c < 128) × (is_scalar d ≡ true)
-simple_at c x v d same low scalar told = let ascii : c < 128 = grind (arith, nat_tests) in (ascii, subst (λ (y : ℕ). is_scalar y ≡ true) (some_value v d told) scalar)
+simple_at c x v d same low scalar gives = let ascii : c < 128 = grind (arith, nat_tests) in (ascii, subst (λ (y : ℕ). is_scalar y ≡ true) (some_value v d gives) scalar)
 
 simple_sound : (c d : ℕ) → simple_escape c ≡ Some d → (c < 128) × (is_scalar d ≡ true)
-simple_sound c d told =
-    cond_inv (c == 0x62) _ _ d told (λ same told. simple_at c 0x62 0x08 d same (omega arith) refl told) (λ _ told.
-    cond_inv (c == 0x65) _ _ d told (λ same told. simple_at c 0x65 0x1B d same (omega arith) refl told) (λ _ told.
-    cond_inv (c == 0x66) _ _ d told (λ same told. simple_at c 0x66 0x0C d same (omega arith) refl told) (λ _ told.
-    cond_inv (c == 0x6E) _ _ d told (λ same told. simple_at c 0x6E 10 d same (omega arith) refl told) (λ _ told.
-    cond_inv (c == 0x72) _ _ d told (λ same told. simple_at c 0x72 13 d same (omega arith) refl told) (λ _ told.
-    cond_inv (c == 0x74) _ _ d told (λ same told. simple_at c 0x74 9 d same (omega arith) refl told) (λ _ told.
-    cond_inv (c == quote || c == backslash) _ _ d told
-    (λ same told. let low : c < 128 = grind (arith, nat_tests) in let whole_ : is_scalar c ≡ true = grind (arith, nat_tests) in (low, subst (λ (x : ℕ). is_scalar x ≡ true) (some_value c d told) whole_))
-    (λ _ told. absurd cc)))))))
+simple_sound c d gives =
+    cond_inv (c == 0x62) _ _ d gives (λ same gives. simple_at c 0x62 0x08 d same (omega arith) refl gives) (λ _ gives.
+    cond_inv (c == 0x65) _ _ d gives (λ same gives. simple_at c 0x65 0x1B d same (omega arith) refl gives) (λ _ gives.
+    cond_inv (c == 0x66) _ _ d gives (λ same gives. simple_at c 0x66 0x0C d same (omega arith) refl gives) (λ _ gives.
+    cond_inv (c == 0x6E) _ _ d gives (λ same gives. simple_at c 0x6E 10 d same (omega arith) refl gives) (λ _ gives.
+    cond_inv (c == 0x72) _ _ d gives (λ same gives. simple_at c 0x72 13 d same (omega arith) refl gives) (λ _ gives.
+    cond_inv (c == 0x74) _ _ d gives (λ same gives. simple_at c 0x74 9 d same (omega arith) refl gives) (λ _ gives.
+    cond_inv (c == quote || c == backslash) _ _ d gives
+    (λ same gives. let low : c < 128 = grind (arith, nat_tests) in let whole_ : is_scalar c ≡ true = grind (arith, nat_tests) in (low, subst (λ (x : ℕ). is_scalar x ≡ true) (some_value c d gives) whole_))
+    (λ _ gives. absurd cc)))))))
 
 hex_ascii : (c : ℕ) → nat_lt 0 (hex_len c) ≡ true → c < 128
-hex_ascii c told = grind (arith, nat_tests)
+hex_ascii c gives = grind (arith, nat_tests)
 
 digit_ascii : (c : ℕ) → is_digit c 16 ≡ true → c < 128
-digit_ascii c told = grind (arith, nat_tests)
+digit_ascii c gives = grind (arith, nat_tests)
 
 digits_behind : (n : ℕ) (text : List ℕ) → list_all (λ c. is_digit c 16) (take n text) ≡ true → IsUtf8 text → IsUtf8 (drop n text)
 digits_behind zero text all valid = valid
@@ -65,22 +65,22 @@ Escaped q = IsScalar q.0 × IsUtf8 q.1
 
 hex_sound : (n : ℕ) (text : List ℕ) (q : ℕ × List ℕ) → IsUtf8 text → hex_escape n text ≡ Some q → Escaped q
 unfolding hex_escape
-hex_sound n text q valid told =
+hex_sound n text q valid gives =
     let digits = take n text in
-    cond_inv ((nat_le n (length text) && list_all (λ c. is_digit c 16) digits) && is_scalar (digits_value 16 digits)) _ _ q told
-    (λ all told.
+    cond_inv ((nat_le n (length text) && list_all (λ c. is_digit c 16) digits) && is_scalar (digits_value 16 digits)) _ _ q gives
+    (λ all gives.
     let both = and_parts (nat_le n (length text) && list_all (λ c. is_digit c 16) digits) (is_scalar (digits_value 16 digits)) all in
     let inner = and_parts (nat_le n (length text)) (list_all (λ c. is_digit c 16) digits) both.0 in
-    subst Escaped (some_value (digits_value 16 digits, drop n text) q told) (scalar_by (digits_value 16 digits) both.1, digits_behind n text inner.1 valid))
-    (λ _ told. absurd cc)
+    subst Escaped (some_value (digits_value 16 digits, drop n text) q gives) (scalar_by (digits_value 16 digits) both.1, digits_behind n text inner.1 valid))
+    (λ _ gives. absurd cc)
 
 escape_char_sound : (text : List ℕ) (q : ℕ × List ℕ) → IsUtf8 text → escape_char text ≡ Some q → Escaped q
 unfolding escape_char
-escape_char_sound [] q valid told = absurd cc
-escape_char_sound (c ∷ cs) q valid told =
-    cond_inv (nat_lt 0 (hex_len c)) _ _ q told
-    (λ hex told. hex_sound (hex_len c) cs q (utf8_behind [] c cs (hex_ascii c hex) valid) told)
-    (λ _ told. map_inv (λ d. (d, cs)) (simple_escape c) q told (λ d made same.
+escape_char_sound [] q valid gives = absurd cc
+escape_char_sound (c ∷ cs) q valid gives =
+    cond_inv (nat_lt 0 (hex_len c)) _ _ q gives
+    (λ hex gives. hex_sound (hex_len c) cs q (utf8_behind [] c cs (hex_ascii c hex) valid) gives)
+    (λ _ gives. map_inv (λ d. (d, cs)) (simple_escape c) q gives (λ d made same.
     let both = simple_sound c d made in
     subst Escaped same (scalar_by d both.1, utf8_behind [] c cs both.0 valid)))
 
@@ -89,10 +89,10 @@ Both e = IsUtf8 e.0 × IsUtf8 e.1
 
 escape_sound : (multi : Bool) (text : List ℕ) (e : List ℕ × List ℕ) → IsUtf8 text → escape multi text ≡ Some e → Both e
 unfolding escape
-escape_sound multi text e valid told =
-    cond_inv (multi && starts_newline (skip_ws text)) _ _ e told
-    (λ _ told. subst Both (some_value ([], skip_lines text) e told) (IsUtf8-nil, utf8-skip_lines text valid))
-    (λ _ told. map_inv (λ q. (encode_utf8 q.0, q.1)) (escape_char text) e told (λ q made same.
+escape_sound multi text e valid gives =
+    cond_inv (multi && starts_newline (skip_ws text)) _ _ e gives
+    (λ _ gives. subst Both (some_value ([], skip_lines text) e gives) (IsUtf8-nil, utf8-skip_lines text valid))
+    (λ _ gives. map_inv (λ q. (encode_utf8 q.0, q.1)) (escape_char text) e gives (λ q made same.
     let both = escape_char_sound text q valid made in
     subst Both same (IsUtf8-encode q.0 both.0, both.1)))
 
@@ -109,39 +109,39 @@ record Piece (p : List ℕ) (q : Option (List ℕ) × List ℕ) : Type 0 where
   rest : Tail q.1
 
 newline_ascii : (multi : Bool) (c : ℕ) (cs : List ℕ) → (multi && starts_newline (c ∷ cs)) ≡ true → c < 128
-newline_ascii multi c cs told = grind (arith, nat_tests)
+newline_ascii multi c cs gives = grind (arith, nat_tests)
 
 special_sound : (delim : ℕ) (multi : Bool) (p text : List ℕ) (q : Option (List ℕ) × List ℕ) → 0 < delim → delim < 128 → IsUtf8 (p ++ text) → special delim multi text ≡ Some q → Piece p q
 unfolding special
-special_sound delim multi p [] q some ascii valid told =
-    cond_inv (0 == delim) _ _ q told
-    (λ same told. let never : ⊥ = grind (arith, nat_tests) in absurd never)
-    (λ _ told. cond_inv (multi && false) _ _ q told (λ both told. absurd (false≢true (and_parts multi false both).1)) (λ _ told. absurd cc))
-special_sound delim multi p (c ∷ cs) q some ascii valid told =
-    cond_inv (c == delim) _ _ q told
-    (λ same told.
+special_sound delim multi p [] q some ascii valid gives =
+    cond_inv (0 == delim) _ _ q gives
+    (λ same gives. let never : ⊥ = grind (arith, nat_tests) in absurd never)
+    (λ _ gives. cond_inv (multi && false) _ _ q gives (λ both gives. absurd (false≢true (and_parts multi false both).1)) (λ _ gives. absurd cc))
+special_sound delim multi p (c ∷ cs) q some ascii valid gives =
+    cond_inv (c == delim) _ _ q gives
+    (λ same gives.
     let low : c < 128 = grind (arith, nat_tests) in
     let before = utf8_before p c cs low valid in
     let behind = utf8_behind p c cs low valid in
-    cond_inv multi _ _ q told
-    (λ _ told. cond_inv (prefix_len (λ x. x == delim) (c ∷ cs) == 3) _ _ q told
-    (λ _ told. subst (Piece p) (some_value (None, drop 3 (c ∷ cs)) q told) (record { before = before; piece = tt; rest = tail-drop 3 (c ∷ cs) (record { front = p; valid = valid }) }))
-    (λ _ told. cond_inv (nat_lt (prefix_len (λ x. x == delim) (c ∷ cs)) 6) _ _ q told
-    (λ _ told. subst (Piece p) (some_value (Some (delim ∷ []), cs) q told) (record { before = before; piece = (ascii_one delim ascii, behind); rest = whole cs behind }))
-    (λ _ told. absurd cc)))
-    (λ _ told. subst (Piece p) (some_value (None, cs) q told) (record { before = before; piece = tt; rest = whole cs behind })))
-    (λ _ told. cond_inv (c == backslash) _ _ q told
-    (λ same told.
+    cond_inv multi _ _ q gives
+    (λ _ gives. cond_inv (prefix_len (λ x. x == delim) (c ∷ cs) == 3) _ _ q gives
+    (λ _ gives. subst (Piece p) (some_value (None, drop 3 (c ∷ cs)) q gives) (record { before = before; piece = tt; rest = tail-drop 3 (c ∷ cs) (record { front = p; valid = valid }) }))
+    (λ _ gives. cond_inv (nat_lt (prefix_len (λ x. x == delim) (c ∷ cs)) 6) _ _ q gives
+    (λ _ gives. subst (Piece p) (some_value (Some (delim ∷ []), cs) q gives) (record { before = before; piece = (ascii_one delim ascii, behind); rest = whole cs behind }))
+    (λ _ gives. absurd cc)))
+    (λ _ gives. subst (Piece p) (some_value (None, cs) q gives) (record { before = before; piece = tt; rest = whole cs behind })))
+    (λ _ gives. cond_inv (c == backslash) _ _ q gives
+    (λ same gives.
     let low : c < 128 = grind (arith, nat_tests) in
-    map_inv (λ e. (Some e.0, e.1)) (escape multi cs) q told (λ e made is.
+    map_inv (λ e. (Some e.0, e.1)) (escape multi cs) q gives (λ e made is.
     let both = escape_sound multi cs e (utf8_behind p c cs low valid) made in
     subst (Piece p) is (record { before = utf8_before p c cs low valid; piece = both; rest = whole e.1 both.1 })))
-    (λ _ told. cond_inv (multi && starts_newline (c ∷ cs)) _ _ q told
-    (λ newline told.
+    (λ _ gives. cond_inv (multi && starts_newline (c ∷ cs)) _ _ q gives
+    (λ newline gives.
     let low = newline_ascii multi c cs newline in
     let behind = utf8_behind p c cs low valid in
-    subst (Piece p) (some_value (Some (c ∷ []), cs) q told) (record { before = utf8_before p c cs low valid; piece = (ascii_one c low, behind); rest = whole cs behind }))
-    (λ _ told. absurd cc)))
+    subst (Piece p) (some_value (Some (c ∷ []), cs) q gives) (record { before = utf8_before p c cs low valid; piece = (ascii_one c low, behind); rest = whole cs behind }))
+    (λ _ gives. absurd cc)))
 
 -- ---- bodies
 
@@ -154,27 +154,27 @@ no_plain delim multi plain = grind (arith, nat_tests)
 
 piece_sound : (more : List ℕ → Read (List ℕ)) (p : List ℕ) (piece : Option (List ℕ)) (rest : List ℕ) (r : List ℕ × List ℕ) → Piece p (piece, rest)
     → ((text : List ℕ) (x : List ℕ × List ℕ) → IsUtf8 text → more text ≡ Some x → Ended [] x) → after_piece more piece rest ≡ Some r → Ended p r
-piece_sound more p None rest r sound go_on told = subst (Ended p) (some_value ([], rest) r told) (rw (append-nil p) sound.before, sound.rest)
-piece_sound more p (Some bytes) rest r sound go_on told =
-    map_inv (λ x. (bytes ++ x.0, x.1)) (more rest) r told (λ x made same.
+piece_sound more p None rest r sound go_on gives = subst (Ended p) (some_value ([], rest) r gives) (rw (append-nil p) sound.before, sound.rest)
+piece_sound more p (Some bytes) rest r sound go_on gives =
+    map_inv (λ x. (bytes ++ x.0, x.1)) (more rest) r gives (λ x made same.
     let ended = go_on rest x sound.piece.1 made in
     subst (Ended p) same (IsUtf8-append p (bytes ++ x.0) sound.before (IsUtf8-append bytes x.0 sound.piece.0 ended.0), ended.1))
 
 body_sound : (delim : ℕ) (multi : Bool) (n : ℕ) (p text : List ℕ) (r : List ℕ × List ℕ) → 0 < delim → delim < 128 → IsUtf8 (p ++ text) → body delim multi n text ≡ Some r → Ended p r
 unfolding body
-body_sound delim multi zero p text r some ascii valid told = absurd cc
-body_sound delim multi (suc n) p [] r some ascii valid told =
-    cond_inv (is_plain delim multi 0) _ _ r told
+body_sound delim multi zero p text r some ascii valid gives = absurd cc
+body_sound delim multi (suc n) p [] r some ascii valid gives =
+    cond_inv (is_plain delim multi 0) _ _ r gives
     (λ plain _. absurd (no_plain delim multi plain))
-    (λ _ told. then_inv (λ q. after_piece (body delim multi n) q.0 q.1) (special delim multi []) r told (λ q made told.
-    piece_sound (body delim multi n) p q.0 q.1 r (special_sound delim multi p [] q some ascii valid made) (λ text x valid told. body_sound delim multi n [] text x some ascii valid told) told))
-body_sound delim multi (suc n) p (c ∷ cs) r some ascii valid told =
-    cond_inv (is_plain delim multi c) _ _ r told
-    (λ _ told. map_inv (λ x. (c ∷ x.0, x.1)) (body delim multi n cs) r told (λ x made same.
+    (λ _ gives. then_inv (λ q. after_piece (body delim multi n) q.0 q.1) (special delim multi []) r gives (λ q made gives.
+    piece_sound (body delim multi n) p q.0 q.1 r (special_sound delim multi p [] q some ascii valid made) (λ text x valid gives. body_sound delim multi n [] text x some ascii valid gives) gives))
+body_sound delim multi (suc n) p (c ∷ cs) r some ascii valid gives =
+    cond_inv (is_plain delim multi c) _ _ r gives
+    (λ _ gives. map_inv (λ x. (c ∷ x.0, x.1)) (body delim multi n cs) r gives (λ x made same.
     let ended = body_sound delim multi n (p ++ c ∷ []) cs x some ascii (rw append_assoc valid) made in
     subst (Ended p) same (rw append_assoc at ended.0, ended.1)))
-    (λ _ told. then_inv (λ q. after_piece (body delim multi n) q.0 q.1) (special delim multi (c ∷ cs)) r told (λ q made told.
-    piece_sound (body delim multi n) p q.0 q.1 r (special_sound delim multi p (c ∷ cs) q some ascii valid made) (λ text x valid told. body_sound delim multi n [] text x some ascii valid told) told))
+    (λ _ gives. then_inv (λ q. after_piece (body delim multi n) q.0 q.1) (special delim multi (c ∷ cs)) r gives (λ q made gives.
+    piece_sound (body delim multi n) p q.0 q.1 r (special_sound delim multi p (c ∷ cs) q some ascii valid made) (λ text x valid gives. body_sound delim multi n [] text x some ascii valid gives) gives))
 
 -- ---- strings at their delimiters
 
@@ -212,18 +212,18 @@ three_behind c (a ∷ b ∷ rest) some low same valid =
 
 pub one_line_sound : (text : List ℕ) (r : List ℕ × List ℕ) → starts_string text ≡ true → Tail text → one_line text ≡ Some r → Quoted r
 unfolding one_line
-one_line_sound [] r starts t told = absurd cc
-one_line_sound (c ∷ cs) r starts t told =
+one_line_sound [] r starts t gives = absurd cc
+one_line_sound (c ∷ cs) r starts t gives =
     let some : 0 < c = grind (arith, nat_tests) in
     let low : c < 128 = grind (arith, nat_tests) in
-    body_sound c false (length (c ∷ cs)) [] cs r some low (utf8_behind t.front c cs low t.valid) told
+    body_sound c false (length (c ∷ cs)) [] cs r some low (utf8_behind t.front c cs low t.valid) gives
 
 pub quoted_sound : (text : List ℕ) (r : List ℕ × List ℕ) → starts_string text ≡ true → Tail text → quoted text ≡ Some r → Quoted r
 unfolding quoted
-quoted_sound [] r starts t told = absurd cc
-quoted_sound (c ∷ cs) r starts t told =
+quoted_sound [] r starts t gives = absurd cc
+quoted_sound (c ∷ cs) r starts t gives =
     let some : 0 < c = grind (arith, nat_tests) in
     let low : c < 128 = grind (arith, nat_tests) in
-    cond_inv (slice_index (c ∷ cs) 1 == c && slice_index (c ∷ cs) 2 == c) _ _ r told
-    (λ same told. body_sound c true (length (c ∷ cs)) [] (trim_newline (drop 3 (c ∷ cs))) r some low (trim_sound (drop 3 (c ∷ cs)) (three_behind c cs some low same (utf8_behind t.front c cs low t.valid))) told)
-    (λ _ told. one_line_sound (c ∷ cs) r starts t told)
+    cond_inv (slice_index (c ∷ cs) 1 == c && slice_index (c ∷ cs) 2 == c) _ _ r gives
+    (λ same gives. body_sound c true (length (c ∷ cs)) [] (trim_newline (drop 3 (c ∷ cs))) r some low (trim_sound (drop 3 (c ∷ cs)) (three_behind c cs some low same (utf8_behind t.front c cs low t.valid))) gives)
+    (λ _ gives. one_line_sound (c ∷ cs) r starts t gives)

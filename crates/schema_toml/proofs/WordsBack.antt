@@ -56,8 +56,8 @@ wide_by (b ∷ bs) n numeral same above = rw (all_digits (b ∷ bs) numeral.1, s
 wide_number-decimal : (n : ℕ) → nat_le n (2 ^ 63 - 1) ≡ false → nat_le n (2 ^ 127 - 1) ≡ true → wide_number (decimal n) ≡ Some n
 wide_number-decimal n above below =
     let short : n < 10 ^ 64 = grind (arith, nat_tests) in
-    let told = decimal_is_IsNumeral_wide n short in
-    wide_by (decimal n) n told.0 told.1 above
+    let gives = decimal_is_IsNumeral_wide n short in
+    wide_by (decimal n) n gives.0 gives.1 above
 
 number_by_size : (a b : Bool) (n : ℕ) → nat_le n (2 ^ 63 - 1) ≡ a → nat_le n (2 ^ 127 - 1) ≡ b
     → number_of (cond a (integer (pos n)) (cond b (string (decimal n)) (integer (pos n)))) ≡ Ok (pos n)
@@ -160,7 +160,7 @@ ConstantAgain a = constant_of (constant_data a) ≡ Ok a
 constant_of_text : (text : List ℕ) (o : Option ℕ) (a : Constant) → is_utf8 text ≡ true → wide_number text ≡ o → constant_by text o ≡ Ok a → ConstantAgain a
 constant_of_text text None a valid same went = subst ConstantAgain (ok_value (Text text) a went) (rw (valid, same) refl)
 constant_of_text text (Some n) a valid same went =
-    bind_inv (held n) (λ z. Ok (Num z)) a went (λ z told rest. subst ConstantAgain (ok_value (Num z) a rest) (num_again z (held_by (nat_le n (2 ^ 127 - 1)) n z told)))
+    bind_inv (held n) (λ z. Ok (Num z)) a went (λ z gives rest. subst ConstantAgain (ok_value (Num z) a rest) (num_again z (held_by (nat_le n (2 ^ 127 - 1)) n z gives)))
 
 pub constant_back : Back constant_of constant_data
 constant_back (integer z) a sound went = subst ConstantAgain (ok_value (Num z) a went) (num_again z sound)

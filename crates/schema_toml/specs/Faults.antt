@@ -16,10 +16,10 @@ is_memory (Toml fault) = reading.is_memory fault
 is_memory (Schema fault) = is_memory_kind fault.kind
 is_memory TooLong = false
 
--- a result is what is told, unless memory ran out
+-- a result is the expected one, unless memory ran out
 abbrev pub Tells : {A : Type 0} → Result A ConfigFault → Result A ConfigFault → Type 0
-Tells (Ok a) told = told ≡ Ok a
-Tells (Err fault) told = is_memory fault ≡ false → told ≡ Err fault
+Tells (Ok a) expected = expected ≡ Ok a
+Tells (Err fault) expected = is_memory fault ≡ false → expected ≡ Err fault
 
 -- the greatest configuration text, in bytes
 abbrev pub text_limit : ℕ

@@ -14,9 +14,9 @@ use Rattle.schema_types.specs.Groups.{GroupHead, GroupTree, no_groups, group}
 use Rattle.toml_walk.specs.declared.fault.TomlFault.{TomlFault}
 use Rattle.toml_walk.specs.declared.fault.TomlFault.TheVariants.{WrongKind}
 use Rattle.toml_walk.specs.Reading.{Read, ◌>>=◌, under, is_memory}
-use Rattle.toml_walk.specs.Keys.{required, defaulted, optional, list_of, table_of, only}
+use Rattle.toml_walk.specs.Keys.{required, get_or_default, optional, list_of, table_of, deny_unknown_keys}
 use Rattle.toml_walk.specs.Values.{name_of, number_of, natural_of}
-use Rattle.schema_toml.specs.declared.messages.Holder.{Holder}
+use Rattle.schema_toml.specs.declared.messages.Parent.{Parent}
 use Rattle.schema_toml.specs.declared.groups.Start.{Start}
 use Rattle.schema_toml.specs.declared.groups.Inside.{Inside}
 use Rattle.schema_toml.specs.Words.{primitive_of, presence_of, constant_of}
@@ -26,8 +26,8 @@ abbrev pub id_of : Data → Read ℕ
 id_of = natural_of 0 65534
 
 -- {since?}: the version with which a message or a group came, by default that of what holds it
-abbrev pub own_of : ℤ → Data → Read Holder
-own_of since keys = defaulted (codes "since") since number_of keys >>= λ own. Ok (record { since = own })
+abbrev pub own_of : ℤ → Data → Read Parent
+own_of since keys = get_or_default (codes "since") since number_of keys >>= λ own. Ok (record { since = own })
 
 -- {name, id, type, presence?, value?, offset?, since?}, in what came with the version `since`
 abbrev pub field_keys : ℤ → Data → Read FieldDef
@@ -35,11 +35,11 @@ field_keys since keys =
     required (codes "name") name_of keys >>= λ name.
     required (codes "id") id_of keys >>= λ id.
     required (codes "type") name_of keys >>= λ type_name.
-    defaulted (codes "presence") Required presence_of keys >>= λ presence.
+    get_or_default (codes "presence") Required presence_of keys >>= λ presence.
     optional (codes "value") constant_of keys >>= λ value.
     optional (codes "offset") number_of keys >>= λ offset.
-    defaulted (codes "since") since number_of keys >>= λ own_since.
-    only (codes "name" ∷ codes "id" ∷ codes "type" ∷ codes "presence" ∷ codes "value" ∷ codes "offset" ∷ codes "since" ∷ []) keys >>= λ _.
+    get_or_default (codes "since") since number_of keys >>= λ own_since.
+    deny_unknown_keys (codes "name" ∷ codes "id" ∷ codes "type" ∷ codes "presence" ∷ codes "value" ∷ codes "offset" ∷ codes "since" ∷ []) keys >>= λ _.
     Ok (record { name = name; id = id; type_name = type_name; presence = presence; value = value; offset = offset; since = own_since })
 
 abbrev pub field_of : ℤ → Data → Read FieldDef
@@ -50,9 +50,9 @@ abbrev pub data_keys : ℤ → Data → Read DataDef
 data_keys since keys =
     required (codes "name") name_of keys >>= λ name.
     required (codes "id") id_of keys >>= λ id.
-    defaulted (codes "length") UInt16 primitive_of keys >>= λ length.
-    defaulted (codes "since") since number_of keys >>= λ own_since.
-    only (codes "name" ∷ codes "id" ∷ codes "length" ∷ codes "since" ∷ []) keys >>= λ _.
+    get_or_default (codes "length") UInt16 primitive_of keys >>= λ length.
+    get_or_default (codes "since") since number_of keys >>= λ own_since.
+    deny_unknown_keys (codes "name" ∷ codes "id" ∷ codes "length" ∷ codes "since" ∷ []) keys >>= λ _.
     Ok (record { name = name; id = id; length = length; since = own_since })
 
 abbrev pub datum_of : ℤ → Data → Read DataDef
@@ -63,8 +63,8 @@ abbrev pub start_of : ℤ → Data → Read Start
 start_of since keys =
     required (codes "name") name_of keys >>= λ name.
     required (codes "id") id_of keys >>= λ id.
-    defaulted (codes "block_prim") UInt16 primitive_of keys >>= λ block_prim.
-    defaulted (codes "count_prim") UInt16 primitive_of keys >>= λ count_prim.
+    get_or_default (codes "block_prim") UInt16 primitive_of keys >>= λ block_prim.
+    get_or_default (codes "count_prim") UInt16 primitive_of keys >>= λ count_prim.
     own_of since keys >>= λ own.
     optional (codes "block_length") number_of keys >>= λ block_length.
     Ok (record { name = name; id = id; block_prim = block_prim; count_prim = count_prim; own = own; block_length = block_length })
@@ -76,10 +76,10 @@ GroupRead = GroupHead × GroupTree
 -- {fields?, groups?, data?} of a group of this version behind its start, of which `inner` reads the groups
 abbrev pub inside_of : Read GroupTree → ℤ → Data → Read Inside
 inside_of inner since keys =
-    defaulted (codes "fields") [] (list_of (field_of since)) keys >>= λ fields.
+    get_or_default (codes "fields") [] (list_of (field_of since)) keys >>= λ fields.
     inner >>= λ groups.
-    defaulted (codes "data") [] (list_of (datum_of since)) keys >>= λ vars.
-    only (codes "name" ∷ codes "id" ∷ codes "block_prim" ∷ codes "count_prim" ∷ codes "since" ∷ codes "block_length" ∷ codes "fields" ∷ codes "groups" ∷ codes "data" ∷ []) keys >>= λ _.
+    get_or_default (codes "data") [] (list_of (datum_of since)) keys >>= λ vars.
+    deny_unknown_keys (codes "name" ∷ codes "id" ∷ codes "block_prim" ∷ codes "count_prim" ∷ codes "since" ∷ codes "block_length" ∷ codes "fields" ∷ codes "groups" ∷ codes "data" ∷ []) keys >>= λ _.
     Ok (record { fields = fields; groups = groups; vars = vars })
 
 abbrev pub head_with : Start → Inside → GroupHead
@@ -110,14 +110,14 @@ abbrev mutual
   groups_from since at (item d ds) =
       under (At at) (group_of since d) >>= λ g. groups_from since (at + 1) ds >>= λ rest. Ok (group g.0 g.1 rest)
 
--- a group told by its keys alone: its own groups lie at the key `groups`
+-- a group by its keys alone: its own groups lie at the key `groups`
 unfoldable pub group_by_keys : ℤ → Data → Read GroupRead
-group_by_keys since d = table_of (λ keys. group_keys (λ own_since. defaulted (codes "groups") no_groups (groups_of own_since) keys) since keys) d
+group_by_keys since d = table_of (λ keys. group_keys (λ own_since. get_or_default (codes "groups") no_groups (groups_of own_since) keys) since keys) d
 
--- a group is what is told, unless memory ran out
+-- a group is the expected one, unless memory ran out
 abbrev pub ReadsGroup : Result GroupDef TomlFault → Read GroupRead → Type 0
-ReadsGroup (Ok g) told = told ≡ Ok (head_of g, g.groups)
-ReadsGroup (Err fault) told = is_memory fault ≡ false → told ≡ Err fault
+ReadsGroup (Ok g) expected = expected ≡ Ok (head_of g, g.groups)
+ReadsGroup (Err fault) expected = is_memory fault ≡ false → expected ≡ Err fault
 
 -- {name, id, since?, block_length?, fields?, groups?, data?}
 abbrev pub message_keys : Data → Read MessageDef
@@ -126,10 +126,10 @@ message_keys keys =
     required (codes "id") id_of keys >>= λ id.
     own_of (pos 0) keys >>= λ own.
     optional (codes "block_length") number_of keys >>= λ block_length.
-    defaulted (codes "fields") [] (list_of (field_of own.since)) keys >>= λ fields.
-    defaulted (codes "groups") no_groups (groups_of own.since) keys >>= λ groups.
-    defaulted (codes "data") [] (list_of (datum_of own.since)) keys >>= λ vars.
-    only (codes "name" ∷ codes "id" ∷ codes "since" ∷ codes "block_length" ∷ codes "fields" ∷ codes "groups" ∷ codes "data" ∷ []) keys >>= λ _.
+    get_or_default (codes "fields") [] (list_of (field_of own.since)) keys >>= λ fields.
+    get_or_default (codes "groups") no_groups (groups_of own.since) keys >>= λ groups.
+    get_or_default (codes "data") [] (list_of (datum_of own.since)) keys >>= λ vars.
+    deny_unknown_keys (codes "name" ∷ codes "id" ∷ codes "since" ∷ codes "block_length" ∷ codes "fields" ∷ codes "groups" ∷ codes "data" ∷ []) keys >>= λ _.
     Ok (record { name = name; id = id; since = own.since; block_length = block_length; fields = fields; groups = groups; vars = vars })
 
 abbrev pub message_of : Data → Read MessageDef

@@ -5,7 +5,7 @@ use Rattle.sbe_prim.specs.declared.Order.TheVariants.{Little}
 use Rattle.schema_types.specs.declared.schema.Schema.{Schema}
 use Rattle.toml_walk.specs.Reading.{Read, ◌>>=◌}
 use Rattle.toml_walk.specs.Documents.{document_of}
-use Rattle.toml_walk.specs.Keys.{required, defaulted, list_of, only}
+use Rattle.toml_walk.specs.Keys.{required, get_or_default, list_of, deny_unknown_keys}
 use Rattle.toml_walk.specs.Values.{natural_of}
 use Rattle.schema_toml.specs.Words.{order_of}
 use Rattle.schema_toml.specs.Types.{type_of}
@@ -16,10 +16,10 @@ abbrev pub schema_of : Data → Read Schema
 schema_of keys =
     required (codes "id") id_of keys >>= λ id.
     required (codes "version") (natural_of 0 65534) keys >>= λ version.
-    defaulted (codes "order") Little order_of keys >>= λ order.
-    defaulted (codes "type") [] (list_of type_of) keys >>= λ types.
+    get_or_default (codes "order") Little order_of keys >>= λ order.
+    get_or_default (codes "type") [] (list_of type_of) keys >>= λ types.
     required (codes "message") (list_of message_of) keys >>= λ messages.
-    only (codes "id" ∷ codes "version" ∷ codes "order" ∷ codes "type" ∷ codes "message" ∷ []) keys >>= λ _.
+    deny_unknown_keys (codes "id" ∷ codes "version" ∷ codes "order" ∷ codes "type" ∷ codes "message" ∷ []) keys >>= λ _.
     Ok (record { id = id; version = version; order = order; types = types; messages = messages })
 
 abbrev pub schema_of_text : List ℕ → Read Schema

@@ -10,7 +10,7 @@ use Rattle.schema_types.specs.declared.types.BitDef.{BitDef}
 use Rattle.schema_types.specs.declared.types.MemberDef.{MemberDef}
 use Rattle.schema_types.specs.declared.types.Presence.TheVariants.{Required}
 use Rattle.toml_walk.specs.Reading.{Read, ◌>>=◌}
-use Rattle.toml_walk.specs.Keys.{required, defaulted, optional, list_of, table_of, only}
+use Rattle.toml_walk.specs.Keys.{required, get_or_default, optional, list_of, table_of, deny_unknown_keys}
 use Rattle.toml_walk.specs.Values.{text_of, name_of, number_of, natural_of, word_in, listed}
 use Rattle.schema_toml.specs.declared.types.Kind.{Kind}
 use Rattle.schema_toml.specs.declared.types.Kind.TheVariants as kinds
@@ -21,7 +21,7 @@ abbrev pub value_keys : Data → Read ValueDef
 value_keys keys =
     required (codes "name") name_of keys >>= λ name.
     required (codes "value") number_of keys >>= λ value.
-    only (codes "name" ∷ codes "value" ∷ []) keys >>= λ _.
+    deny_unknown_keys (codes "name" ∷ codes "value" ∷ []) keys >>= λ _.
     Ok (record { name = name; value = value })
 
 abbrev pub value_of : Data → Read ValueDef
@@ -32,7 +32,7 @@ abbrev pub bit_keys : Data → Read BitDef
 bit_keys keys =
     required (codes "name") name_of keys >>= λ name.
     required (codes "bit") (natural_of 0 63) keys >>= λ bit.
-    only (codes "name" ∷ codes "bit" ∷ []) keys >>= λ _.
+    deny_unknown_keys (codes "name" ∷ codes "bit" ∷ []) keys >>= λ _.
     Ok (record { name = name; bit = bit })
 
 abbrev pub bit_of : Data → Read BitDef
@@ -44,9 +44,9 @@ member_keys keys =
     required (codes "name") name_of keys >>= λ name.
     required (codes "type") name_of keys >>= λ type_name.
     optional (codes "offset") number_of keys >>= λ offset.
-    defaulted (codes "presence") Required presence_of keys >>= λ presence.
+    get_or_default (codes "presence") Required presence_of keys >>= λ presence.
     optional (codes "value") constant_of keys >>= λ value.
-    only (codes "name" ∷ codes "type" ∷ codes "offset" ∷ codes "presence" ∷ codes "value" ∷ []) keys >>= λ _.
+    deny_unknown_keys (codes "name" ∷ codes "type" ∷ codes "offset" ∷ codes "presence" ∷ codes "value" ∷ []) keys >>= λ _.
     Ok (record { name = name; type_name = type_name; offset = offset; presence = presence; value = value })
 
 abbrev pub member_of : Data → Read MemberDef
@@ -56,11 +56,11 @@ member_of = table_of member_keys
 abbrev pub number_kind : Data → Read TypeKind
 number_kind keys =
     required (codes "prim") primitive_of keys >>= λ prim.
-    defaulted (codes "length") 1 (natural_of 1 16384) keys >>= λ length.
+    get_or_default (codes "length") 1 (natural_of 1 16384) keys >>= λ length.
     optional (codes "null") number_of keys >>= λ null.
     optional (codes "min") number_of keys >>= λ least.
     optional (codes "max") number_of keys >>= λ greatest.
-    only (codes "name" ∷ codes "kind" ∷ codes "prim" ∷ codes "length" ∷ codes "null" ∷ codes "min" ∷ codes "max" ∷ []) keys >>= λ _.
+    deny_unknown_keys (codes "name" ∷ codes "kind" ∷ codes "prim" ∷ codes "length" ∷ codes "null" ∷ codes "min" ∷ codes "max" ∷ []) keys >>= λ _.
     Ok (Number prim length null least greatest)
 
 -- {prim, values}
@@ -68,7 +68,7 @@ abbrev pub enum_kind : Data → Read TypeKind
 enum_kind keys =
     required (codes "prim") primitive_of keys >>= λ prim.
     required (codes "values") (list_of value_of) keys >>= λ values.
-    only (codes "name" ∷ codes "kind" ∷ codes "prim" ∷ codes "values" ∷ []) keys >>= λ _.
+    deny_unknown_keys (codes "name" ∷ codes "kind" ∷ codes "prim" ∷ codes "values" ∷ []) keys >>= λ _.
     Ok (Enum prim values)
 
 -- {prim, bits}
@@ -76,14 +76,14 @@ abbrev pub set_kind : Data → Read TypeKind
 set_kind keys =
     required (codes "prim") primitive_of keys >>= λ prim.
     required (codes "bits") (list_of bit_of) keys >>= λ bits.
-    only (codes "name" ∷ codes "kind" ∷ codes "prim" ∷ codes "bits" ∷ []) keys >>= λ _.
+    deny_unknown_keys (codes "name" ∷ codes "kind" ∷ codes "prim" ∷ codes "bits" ∷ []) keys >>= λ _.
     Ok (Set prim bits)
 
 -- {members}
 abbrev pub composite_kind : Data → Read TypeKind
 composite_kind keys =
     required (codes "members") (list_of member_of) keys >>= λ members.
-    only (codes "name" ∷ codes "kind" ∷ codes "members" ∷ []) keys >>= λ _.
+    deny_unknown_keys (codes "name" ∷ codes "kind" ∷ codes "members" ∷ []) keys >>= λ _.
     Ok (Composite members)
 
 -- the word of a kind

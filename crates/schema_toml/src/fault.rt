@@ -21,7 +21,7 @@ pub enum ConfigFault {
 }
 
 impl ConfigFault {
-    /// Whether memory ran out before more could be told.
+    /// Whether memory ran out before more was known.
     pub fn is_memory(&self) -> bool
         ensures { result ≡ is_memory self.now }
     {

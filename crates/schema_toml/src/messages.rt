@@ -13,8 +13,8 @@ use sbe_value::Path;
 use std::alloc::Global;
 use toml::Value;
 use toml_walk::{
-    Names, Numbers, Reader, TomlFault, defaulted, list_or_empty, natural_at, only, optional,
-    required,
+    Names, Numbers, Reader, TomlFault, deny_unknown_keys, get_or_default, list_or_empty,
+    natural_at, optional, required,
 };
 
 /// The greatest id.
@@ -22,43 +22,49 @@ pub const GREATEST_ID: u64 = 65534;
 
 /// What holds an element, as far as the element's defaults depend on it.
 #[derive(Clone, Copy, Debug)]
-pub struct Holder {
+pub struct Parent {
     /// The version with which it came.
     pub since: i128,
 }
 
 /// The version with which a message or a group came, by default that of what holds it.
-pub fn read_own(alloc: Global, since: i128, keys: &Value) -> Result<Holder, TomlFault>
+pub fn read_own(alloc: Global, since: i128, keys: &Value) -> Result<Parent, TomlFault>
     ensures { Reads result (own_of since (view keys.now)) }
 {
-    let since = defaulted::<Numbers>(alloc, (), keys, "since", since)?;
-    Ok(Holder { since })
+    let since = get_or_default::<Numbers>(alloc, (), keys, "since", since)?;
+    Ok(Parent { since })
 }
 
 /// Fields of a block, in what came with a version.
 pub struct Fields;
 
 impl Reader for Fields {
-    type Holder = Holder;
+    type Parent = Parent;
 
     type Made = FieldDef;
 
     ghost use Rattle.schema_toml.specs.Messages.{field_of};
 
-    ghost spelled = { λ holder. field_of holder.since };
+    ghost spelled = { λ parent. field_of parent.since };
 
-    fn read(alloc: Global, holder: Holder, keys: &Value) -> Result<FieldDef, TomlFault> {
+    fn read(alloc: Global, parent: Parent, keys: &Value) -> Result<FieldDef, TomlFault> {
         if !keys.is_table() {
             return Err(TomlFault::WrongKind(Path::new(alloc)));
         }
         let name = required::<Names>(alloc, (), keys, "name")?;
         let id = natural_at(alloc, keys, "id", 0, GREATEST_ID)?;
         let type_name = required::<Names>(alloc, (), keys, "type")?;
-        let presence = defaulted::<Presences>(alloc, (), keys, "presence", Presence::Required)?;
+        let presence = get_or_default::<Presences>(
+            alloc,
+            (),
+            keys,
+            "presence",
+            Presence::Required,
+        )?;
         let value = optional::<Constants>(alloc, (), keys, "value")?;
         let offset = optional::<Numbers>(alloc, (), keys, "offset")?;
-        let since = defaulted::<Numbers>(alloc, (), keys, "since", holder.since)?;
-        only(
+        let since = get_or_default::<Numbers>(alloc, (), keys, "since", parent.since)?;
+        deny_unknown_keys(
             alloc,
             keys,
             &["name", "id", "type", "presence", "value", "offset", "since"],
@@ -79,23 +85,23 @@ impl Reader for Fields {
 pub struct Data;
 
 impl Reader for Data {
-    type Holder = Holder;
+    type Parent = Parent;
 
     type Made = DataDef;
 
     ghost use Rattle.schema_toml.specs.Messages.{datum_of};
 
-    ghost spelled = { λ holder. datum_of holder.since };
+    ghost spelled = { λ parent. datum_of parent.since };
 
-    fn read(alloc: Global, holder: Holder, keys: &Value) -> Result<DataDef, TomlFault> {
+    fn read(alloc: Global, parent: Parent, keys: &Value) -> Result<DataDef, TomlFault> {
         if !keys.is_table() {
             return Err(TomlFault::WrongKind(Path::new(alloc)));
         }
         let name = required::<Names>(alloc, (), keys, "name")?;
         let id = natural_at(alloc, keys, "id", 0, GREATEST_ID)?;
-        let length = defaulted::<Primitives>(alloc, (), keys, "length", Primitive::UInt16)?;
-        let since = defaulted::<Numbers>(alloc, (), keys, "since", holder.since)?;
-        only(alloc, keys, &["name", "id", "length", "since"])?;
+        let length = get_or_default::<Primitives>(alloc, (), keys, "length", Primitive::UInt16)?;
+        let since = get_or_default::<Numbers>(alloc, (), keys, "since", parent.since)?;
+        deny_unknown_keys(alloc, keys, &["name", "id", "length", "since"])?;
         Ok(DataDef {
             name,
             id: id as u16,
@@ -109,7 +115,7 @@ impl Reader for Data {
 pub struct Messages;
 
 impl Reader for Messages {
-    type Holder = ();
+    type Parent = ();
 
     type Made = MessageDef;
 
@@ -117,7 +123,7 @@ impl Reader for Messages {
 
     ghost spelled = { λ _. message_of };
 
-    fn read(alloc: Global, _holder: (), keys: &Value) -> Result<MessageDef, TomlFault> {
+    fn read(alloc: Global, _parent: (), keys: &Value) -> Result<MessageDef, TomlFault> {
         if !keys.is_table() {
             return Err(TomlFault::WrongKind(Path::new(alloc)));
         }
@@ -128,7 +134,7 @@ impl Reader for Messages {
         let fields = list_or_empty::<Fields>(alloc, own, keys, "fields")?;
         let groups = groups_or_none(alloc, own, keys)?;
         let vars = list_or_empty::<Data>(alloc, own, keys, "data")?;
-        only(
+        deny_unknown_keys(
             alloc,
             keys,
             &[

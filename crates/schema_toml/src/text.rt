@@ -13,7 +13,8 @@ use sbe_schema::{MessageDefs, Schema, TypeDefs};
 use std::alloc::Global;
 use toml::Value;
 use toml_walk::{
-    TomlFault, defaulted, list_or_empty, natural_at, only, read_document, required_list,
+    TomlFault, deny_unknown_keys, get_or_default, list_or_empty, natural_at, read_document,
+    required_list,
 };
 
 /// The greatest version.
@@ -25,10 +26,10 @@ fn read_table(alloc: Global, keys: &Value) -> Result<Schema, TomlFault>
 {
     let id = natural_at(alloc, keys, "id", 0, GREATEST_ID)?;
     let version = natural_at(alloc, keys, "version", 0, GREATEST_VERSION)?;
-    let order = defaulted::<Orders>(alloc, (), keys, "order", Order::Little)?;
+    let order = get_or_default::<Orders>(alloc, (), keys, "order", Order::Little)?;
     let types = list_or_empty::<Types>(alloc, (), keys, "type")?;
     let messages = required_list::<Messages>(alloc, (), keys, "message")?;
-    only(alloc, keys, &["id", "version", "order", "type", "message"])?;
+    deny_unknown_keys(alloc, keys, &["id", "version", "order", "type", "message"])?;
     Ok(Schema {
         id: id as u16,
         version: version as u16,

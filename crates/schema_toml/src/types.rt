@@ -13,8 +13,8 @@ use sbe_value::Path;
 use std::alloc::Global;
 use toml::Value;
 use toml_walk::{
-    Names, Numbers, Reader, TomlFault, defaulted, natural_at, natural_or, only, optional, required,
-    required_list,
+    Names, Numbers, Reader, TomlFault, deny_unknown_keys, get_or_default, natural_at, natural_or,
+    optional, required, required_list,
 };
 
 /// The longest array.
@@ -24,7 +24,7 @@ const LENGTH_LIMIT: u64 = 16384;
 pub struct Values;
 
 impl Reader for Values {
-    type Holder = ();
+    type Parent = ();
 
     type Made = ValueDef;
 
@@ -32,13 +32,13 @@ impl Reader for Values {
 
     ghost spelled = { λ _. value_of };
 
-    fn read(alloc: Global, _holder: (), keys: &Value) -> Result<ValueDef, TomlFault> {
+    fn read(alloc: Global, _parent: (), keys: &Value) -> Result<ValueDef, TomlFault> {
         if !keys.is_table() {
             return Err(TomlFault::WrongKind(Path::new(alloc)));
         }
         let name = required::<Names>(alloc, (), keys, "name")?;
         let value = required::<Numbers>(alloc, (), keys, "value")?;
-        only(alloc, keys, &["name", "value"])?;
+        deny_unknown_keys(alloc, keys, &["name", "value"])?;
         Ok(ValueDef { name, value })
     }
 }
@@ -47,7 +47,7 @@ impl Reader for Values {
 pub struct Bits;
 
 impl Reader for Bits {
-    type Holder = ();
+    type Parent = ();
 
     type Made = BitDef;
 
@@ -55,13 +55,13 @@ impl Reader for Bits {
 
     ghost spelled = { λ _. bit_of };
 
-    fn read(alloc: Global, _holder: (), keys: &Value) -> Result<BitDef, TomlFault> {
+    fn read(alloc: Global, _parent: (), keys: &Value) -> Result<BitDef, TomlFault> {
         if !keys.is_table() {
             return Err(TomlFault::WrongKind(Path::new(alloc)));
         }
         let name = required::<Names>(alloc, (), keys, "name")?;
         let bit = natural_at(alloc, keys, "bit", 0, 63)?;
-        only(alloc, keys, &["name", "bit"])?;
+        deny_unknown_keys(alloc, keys, &["name", "bit"])?;
         Ok(BitDef {
             name,
             bit: bit as u8,
@@ -73,7 +73,7 @@ impl Reader for Bits {
 pub struct Members;
 
 impl Reader for Members {
-    type Holder = ();
+    type Parent = ();
 
     type Made = MemberDef;
 
@@ -81,16 +81,22 @@ impl Reader for Members {
 
     ghost spelled = { λ _. member_of };
 
-    fn read(alloc: Global, _holder: (), keys: &Value) -> Result<MemberDef, TomlFault> {
+    fn read(alloc: Global, _parent: (), keys: &Value) -> Result<MemberDef, TomlFault> {
         if !keys.is_table() {
             return Err(TomlFault::WrongKind(Path::new(alloc)));
         }
         let name = required::<Names>(alloc, (), keys, "name")?;
         let type_name = required::<Names>(alloc, (), keys, "type")?;
         let offset = optional::<Numbers>(alloc, (), keys, "offset")?;
-        let presence = defaulted::<Presences>(alloc, (), keys, "presence", Presence::Required)?;
+        let presence = get_or_default::<Presences>(
+            alloc,
+            (),
+            keys,
+            "presence",
+            Presence::Required,
+        )?;
         let value = optional::<Constants>(alloc, (), keys, "value")?;
-        only(
+        deny_unknown_keys(
             alloc,
             keys,
             &["name", "type", "offset", "presence", "value"],
@@ -122,7 +128,7 @@ pub enum Kind {
 struct Kinds;
 
 impl Reader for Kinds {
-    type Holder = ();
+    type Parent = ();
 
     type Made = Kind;
 
@@ -130,7 +136,7 @@ impl Reader for Kinds {
 
     ghost spelled = { λ _. kind_word_of };
 
-    fn read(alloc: Global, _holder: (), value: &Value) -> Result<Kind, TomlFault> {
+    fn read(alloc: Global, _parent: (), value: &Value) -> Result<Kind, TomlFault> {
         match value.as_str() {
             Some("number") => Ok(Kind::Number),
             Some("enum") => Ok(Kind::Enum),
@@ -150,7 +156,7 @@ fn read_number_kind(alloc: Global, keys: &Value) -> Result<TypeKind, TomlFault>
     let null = optional::<Numbers>(alloc, (), keys, "null")?;
     let min = optional::<Numbers>(alloc, (), keys, "min")?;
     let max = optional::<Numbers>(alloc, (), keys, "max")?;
-    only(
+    deny_unknown_keys(
         alloc,
         keys,
         &["name", "kind", "prim", "length", "null", "min", "max"],
@@ -169,7 +175,7 @@ fn read_enum_kind(alloc: Global, keys: &Value) -> Result<TypeKind, TomlFault>
 {
     let prim = required::<Primitives>(alloc, (), keys, "prim")?;
     let values = required_list::<Values>(alloc, (), keys, "values")?;
-    only(alloc, keys, &["name", "kind", "prim", "values"])?;
+    deny_unknown_keys(alloc, keys, &["name", "kind", "prim", "values"])?;
     Ok(TypeKind::Enum {
         prim,
         values: ValueDefs::from(values),
@@ -181,7 +187,7 @@ fn read_set_kind(alloc: Global, keys: &Value) -> Result<TypeKind, TomlFault>
 {
     let prim = required::<Primitives>(alloc, (), keys, "prim")?;
     let bits = required_list::<Bits>(alloc, (), keys, "bits")?;
-    only(alloc, keys, &["name", "kind", "prim", "bits"])?;
+    deny_unknown_keys(alloc, keys, &["name", "kind", "prim", "bits"])?;
     Ok(TypeKind::Set {
         prim,
         bits: BitDefs::from(bits),
@@ -192,7 +198,7 @@ fn read_composite_kind(alloc: Global, keys: &Value) -> Result<TypeKind, TomlFaul
     ensures { Reads result (composite_kind (view keys.now)) }
 {
     let members = required_list::<Members>(alloc, (), keys, "members")?;
-    only(alloc, keys, &["name", "kind", "members"])?;
+    deny_unknown_keys(alloc, keys, &["name", "kind", "members"])?;
     Ok(TypeKind::Composite {
         members: MemberDefs::from(members),
     })
@@ -213,7 +219,7 @@ fn read_kind(alloc: Global, kind: Kind, keys: &Value) -> Result<TypeKind, TomlFa
 pub struct Types;
 
 impl Reader for Types {
-    type Holder = ();
+    type Parent = ();
 
     type Made = TypeDef;
 
@@ -221,7 +227,7 @@ impl Reader for Types {
 
     ghost spelled = { λ _. type_of };
 
-    fn read(alloc: Global, _holder: (), keys: &Value) -> Result<TypeDef, TomlFault> {
+    fn read(alloc: Global, _parent: (), keys: &Value) -> Result<TypeDef, TomlFault> {
         if !keys.is_table() {
             return Err(TomlFault::WrongKind(Path::new(alloc)));
         }

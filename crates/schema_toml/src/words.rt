@@ -13,7 +13,7 @@ use toml_walk::{Reader, TomlFault, read_held, wide_number};
 pub struct Orders;
 
 impl Reader for Orders {
-    type Holder = ();
+    type Parent = ();
 
     type Made = Order;
 
@@ -21,7 +21,7 @@ impl Reader for Orders {
 
     ghost spelled = { λ _. order_of };
 
-    fn read(alloc: Global, _holder: (), value: &Value) -> Result<Order, TomlFault> {
+    fn read(alloc: Global, _parent: (), value: &Value) -> Result<Order, TomlFault> {
         match value.as_str() {
             Some("little") => Ok(Order::Little),
             Some("big") => Ok(Order::Big),
@@ -35,7 +35,7 @@ impl Reader for Orders {
 pub struct Presences;
 
 impl Reader for Presences {
-    type Holder = ();
+    type Parent = ();
 
     type Made = Presence;
 
@@ -43,7 +43,7 @@ impl Reader for Presences {
 
     ghost spelled = { λ _. presence_of };
 
-    fn read(alloc: Global, _holder: (), value: &Value) -> Result<Presence, TomlFault> {
+    fn read(alloc: Global, _parent: (), value: &Value) -> Result<Presence, TomlFault> {
         match value.as_str() {
             Some("required") => Ok(Presence::Required),
             Some("optional") => Ok(Presence::Optional),
@@ -58,7 +58,7 @@ impl Reader for Presences {
 pub struct Primitives;
 
 impl Reader for Primitives {
-    type Holder = ();
+    type Parent = ();
 
     type Made = Primitive;
 
@@ -66,7 +66,7 @@ impl Reader for Primitives {
 
     ghost spelled = { λ _. primitive_of };
 
-    fn read(alloc: Global, _holder: (), value: &Value) -> Result<Primitive, TomlFault> {
+    fn read(alloc: Global, _parent: (), value: &Value) -> Result<Primitive, TomlFault> {
         match value.as_str() {
             Some(word) => match find_primitive(word.as_bytes()) {
                 Some(primitive) => Ok(primitive),
@@ -81,7 +81,7 @@ impl Reader for Primitives {
 pub struct Constants;
 
 impl Reader for Constants {
-    type Holder = ();
+    type Parent = ();
 
     type Made = Constant;
 
@@ -89,7 +89,7 @@ impl Reader for Constants {
 
     ghost spelled = { λ _. constant_of };
 
-    fn read(alloc: Global, _holder: (), value: &Value) -> Result<Constant, TomlFault> {
+    fn read(alloc: Global, _parent: (), value: &Value) -> Result<Constant, TomlFault> {
         match value {
             Value::Integer(number) => Ok(Constant::Num(*number as i128)),
             Value::String(text) => match wide_number(text.as_str()) {

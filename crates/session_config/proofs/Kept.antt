@@ -1,4 +1,4 @@
--- What was demanded on the way holds of the configuration that is read.
+-- What was checked on the way holds of the configuration that is read.
 use Rattle.std.proofs.Common.{◌≡◌, ℕ, ◌^◌, Bool, true, false, ◌==◌, ◌&&◌, ◌||◌, not, is_some, List, [], Ok, Err, codes, refl, sym, subst}
 use Rattle.toml.specs.Data.{Data, get}
 use Rattle.fixp_msgs.specs.declared.flow.Flow.{Flow}
@@ -8,13 +8,13 @@ use Rattle.session_config.specs.declared.configuration.Link.{Link}
 use Rattle.session_config.specs.declared.configuration.Trade.{Trade}
 use Rattle.session_config.specs.declared.configuration.Configuration.{Configuration}
 use Rattle.std.proofs.lemmas.Bool.{false≢true}
-use Rattle.toml_walk.specs.Keys.{required, defaulted, only}
+use Rattle.toml_walk.specs.Keys.{required, get_or_default, deny_unknown_keys}
 use Rattle.toml_walk.specs.Values.{natural_of}
-use Rattle.session_config.specs.Settings.{session_of, flow_of, credentials_of, known_keys, demanded, allows_client, allows_server, allows_senders, allows_desks, own_flow, is_none, is_accept, link_of, trade_of}
+use Rattle.session_config.specs.Settings.{session_of, flow_of, credentials_of, known_keys, ensure_in_range, allows_client, allows_server, allows_senders, allows_desks, own_flow, is_none, is_accept, link_of, trade_of}
 use Rattle.session_config.specs.Laws.{KeepsRole, ConfigurationsKeepTheRole}
 
--- a demand that was met, and what stands behind it
-met : {B : Type 0} (key : List ℕ) (holds : Bool) (next : Read B) (b : B) → (demanded key holds >>= λ _. next) ≡ Ok b → (holds ≡ true) × (next ≡ Ok b)
+-- a check that passed, and what stands behind it
+met : {B : Type 0} (key : List ℕ) (holds : Bool) (next : Read B) (b : B) → (ensure_in_range key holds >>= λ _. next) ≡ Ok b → (holds ≡ true) × (next ≡ Ok b)
 met key true next b e = (refl, e)
 met key false next b e = absurd cc
 
@@ -26,7 +26,7 @@ link_end session keepalive client server credentials =
 
 abbrev link_from_server : Role → List ℕ → ℕ → Flow → Read Flow → Read (List ℕ) → Read Link
 link_from_server role session keepalive client server credentials =
-    server >>= λ flow. demanded (codes "server_flow") (allows_server role flow) >>= λ _. link_end session keepalive client flow credentials
+    server >>= λ flow. ensure_in_range (codes "server_flow") (allows_server role flow) >>= λ _. link_end session keepalive client flow credentials
 
 abbrev LinkKept : Role → Link → Type 0
 LinkKept role link = (allows_client role link.client_flow ≡ true) × (allows_server role link.server_flow ≡ true)
@@ -45,7 +45,7 @@ server_kept role session keepalive client (Ok flow) credentials link c e =
 server_kept role session keepalive client (Err fault) credentials link c e = absurd cc
 
 link_by : (role : Role) (session : Read (List ℕ)) (keepalive : Read ℕ) (client server : Read Flow) (credentials : Read (List ℕ)) (link : Link)
-    → (session >>= λ id. keepalive >>= λ interval. client >>= λ flow. demanded (codes "client_flow") (allows_client role flow) >>= λ _. link_from_server role id interval flow server credentials) ≡ Ok link → LinkKept role link
+    → (session >>= λ id. keepalive >>= λ interval. client >>= λ flow. ensure_in_range (codes "client_flow") (allows_client role flow) >>= λ _. link_from_server role id interval flow server credentials) ≡ Ok link → LinkKept role link
 link_by role (Err fault) keepalive client server credentials link e = absurd cc
 link_by role (Ok id) (Err fault) client server credentials link e = absurd cc
 link_by role (Ok id) (Ok interval) (Err fault) server credentials link e = absurd cc
@@ -55,7 +55,7 @@ link_by role (Ok id) (Ok interval) (Ok flow) server credentials link e =
 
 link_kept : (role : Role) (keys : Data) (link : Link) → link_of role keys ≡ Ok link → LinkKept role link
 link_kept role keys link e =
-    link_by role (required (codes "session") session_of keys) (required (codes "keepalive") (natural_of 100 60000) keys) (required (codes "client_flow") flow_of keys) (required (codes "server_flow") flow_of keys) (defaulted (codes "credentials") [] credentials_of keys) link e
+    link_by role (required (codes "session") session_of keys) (required (codes "keepalive") (natural_of 100 60000) keys) (required (codes "client_flow") flow_of keys) (required (codes "server_flow") flow_of keys) (get_or_default (codes "credentials") [] credentials_of keys) link e
 
 -- ---- senders and desks
 
@@ -80,20 +80,20 @@ trade_end_kept role client server senders desks (Ok number) (Ok price) trade s d
     let same : built ≡ trade = cc in
     subst (TradeKept role client server) same (s, d)
 
-trade_by : (role : Role) (client server : Flow) (given : Bool) (senders desks version reference : Read ℕ) (trade : Trade)
-    → (senders >>= λ count. demanded (codes "senders") (allows_senders (own_flow role client server) count) >>= λ _. desks >>= λ more. demanded (codes "desks") (allows_desks role server given more) >>= λ _. trade_end count more version reference) ≡ Ok trade → TradeKept role client server trade
-trade_by role client server given (Err fault) desks version reference trade e = absurd cc
-trade_by role client server given (Ok count) (Err fault) version reference trade e =
+trade_by : (role : Role) (client server : Flow) (has_senders_key : Bool) (senders desks version reference : Read ℕ) (trade : Trade)
+    → (senders >>= λ count. ensure_in_range (codes "senders") (allows_senders (own_flow role client server) count) >>= λ _. desks >>= λ more. ensure_in_range (codes "desks") (allows_desks role server has_senders_key more) >>= λ _. trade_end count more version reference) ≡ Ok trade → TradeKept role client server trade
+trade_by role client server has_senders_key (Err fault) desks version reference trade e = absurd cc
+trade_by role client server has_senders_key (Ok count) (Err fault) version reference trade e =
     let one = met (codes "senders") (allows_senders (own_flow role client server) count) (Err fault) trade e in
     absurd cc
-trade_by role client server given (Ok count) (Ok more) version reference trade e =
-    let one = met (codes "senders") (allows_senders (own_flow role client server) count) (demanded (codes "desks") (allows_desks role server given more) >>= λ _. trade_end count more version reference) trade e in
-    let two = met (codes "desks") (allows_desks role server given more) (trade_end count more version reference) trade one.1 in
-    trade_end_kept role client server count more version reference trade one.0 (weaker (more == 0) (is_accept role) (not given) (not (is_none server)) two.0) two.1
+trade_by role client server has_senders_key (Ok count) (Ok more) version reference trade e =
+    let one = met (codes "senders") (allows_senders (own_flow role client server) count) (ensure_in_range (codes "desks") (allows_desks role server has_senders_key more) >>= λ _. trade_end count more version reference) trade e in
+    let two = met (codes "desks") (allows_desks role server has_senders_key more) (trade_end count more version reference) trade one.1 in
+    trade_end_kept role client server count more version reference trade one.0 (weaker (more == 0) (is_accept role) (not has_senders_key) (not (is_none server)) two.0) two.1
 
 trade_kept : (role : Role) (client server : Flow) (keys : Data) (trade : Trade) → trade_of role client server keys ≡ Ok trade → TradeKept role client server trade
 trade_kept role client server keys trade e =
-    trade_by role client server (is_some (get (codes "senders") keys)) (defaulted (codes "senders") 1 (natural_of 0 16) keys) (defaulted (codes "desks") 0 (natural_of 0 16) keys) (defaulted (codes "order_version") 1 (natural_of 1 2) keys) (defaulted (codes "reference") 1000000 (natural_of 1 (10 ^ 15)) keys) trade e
+    trade_by role client server (is_some (get (codes "senders") keys)) (get_or_default (codes "senders") 1 (natural_of 0 16) keys) (get_or_default (codes "desks") 0 (natural_of 0 16) keys) (get_or_default (codes "order_version") 1 (natural_of 1 2) keys) (get_or_default (codes "reference") 1000000 (natural_of 1 (10 ^ 15)) keys) trade e
 
 -- ---- both
 
@@ -107,9 +107,9 @@ trade_ok role keys link (Ok trade) (Ok done) c l is e =
     let two = trade_kept role link.client_flow link.server_flow keys trade (sym is) in
     subst (KeepsRole role) same (record { client = one.0; server = one.1; senders = two.0; desks = two.1 })
 
-both_ok : (role : Role) (keys : Data) (link : Read Link) (c : Configuration) → link_of role keys ≡ link → (link >>= λ l. trade_of role l.client_flow l.server_flow keys >>= λ t. only known_keys keys >>= λ _. Ok (record { link = l; trade = t })) ≡ Ok c → KeepsRole role c
+both_ok : (role : Role) (keys : Data) (link : Read Link) (c : Configuration) → link_of role keys ≡ link → (link >>= λ l. trade_of role l.client_flow l.server_flow keys >>= λ t. deny_unknown_keys known_keys keys >>= λ _. Ok (record { link = l; trade = t })) ≡ Ok c → KeepsRole role c
 both_ok role keys (Err fault) c l e = absurd cc
-both_ok role keys (Ok link) c l e = trade_ok role keys link (trade_of role link.client_flow link.server_flow keys) (only known_keys keys) c l refl e
+both_ok role keys (Ok link) c l e = trade_ok role keys link (trade_of role link.client_flow link.server_flow keys) (deny_unknown_keys known_keys keys) c l refl e
 
 pub configurations_keep_the_role : ConfigurationsKeepTheRole
 configurations_keep_the_role role keys c e = both_ok role keys (link_of role keys) c refl e

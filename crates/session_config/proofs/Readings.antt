@@ -7,7 +7,7 @@ use Rattle.toml.specs.Data.{Data, as_str, get}
 use Rattle.sbe_value.specs.declared.path.Step.{Step}
 use Rattle.sbe_value.specs.declared.path.Step.TheVariants.{Key}
 use Rattle.toml_walk.specs.Reading.{Read, ◌>>=◌, under}
-use Rattle.toml_walk.specs.Keys.{defaulted, defaulted_of}
+use Rattle.toml_walk.specs.Keys.{get_or_default, get_or_default_of}
 use Rattle.toml_walk.specs.Values.{text_of_string}
 use Rattle.toml_walk.specs.declared.fault.TomlFault.TheVariants.{Range}
 use Rattle.session_config.specs.Settings.{session_of, credentials_of, short_bytes}
@@ -26,8 +26,8 @@ short_bytes-le : {E : Type 0} (r : Result (List ℕ) E) (bytes : List ℕ) → s
 short_bytes-le (Err error) bytes same = grind arith
 short_bytes-le (Ok given) bytes same =
     elim (nat_le (length given) 2048) as (λ t. nat_le (length given) 2048 ≡ t → cond t (Ok given) (Err (Range [])) ≡ Ok bytes → length bytes ≤ 2048) [
-      | true ↦ λ short told. let is_same : given ≡ bytes = cc in rw (← is_same) (grind (arith, nat_tests))
-      | false ↦ λ long told. grind arith
+      | true ↦ λ short same. let is_same : given ≡ bytes = cc in rw (← is_same) (grind (arith, nat_tests))
+      | false ↦ λ long same. grind arith
     ] refl same
 
 of_string-le : (s : Option (List ℕ)) (bytes : List ℕ) → (text_of_string s >>= (λ text. short_bytes (decode_of text))) ≡ Ok bytes → length bytes ≤ 2048
@@ -38,9 +38,9 @@ under-ok : {A : Type 0} (step : Step) (r : Read A) (a : A) → under step r ≡ 
 under-ok step (Ok b) a same = same
 under-ok step (Err fault) a same = cc
 
-at_key-le : (o : Option Data) (bytes : List ℕ) → defaulted_of (codes "credentials") [] credentials_of o ≡ Ok bytes → length bytes ≤ 2048
+at_key-le : (o : Option Data) (bytes : List ℕ) → get_or_default_of (codes "credentials") [] credentials_of o ≡ Ok bytes → length bytes ≤ 2048
 at_key-le None bytes same = let none : [] ≡ bytes = cc in rw (← none) (omega arith)
 at_key-le (Some d) bytes same = of_string-le (as_str d) bytes (under-ok (Key (codes "credentials")) (credentials_of d) bytes same)
 
-pub credentials_le : (keys : Data) (bytes : List ℕ) → defaulted (codes "credentials") [] credentials_of keys ≡ Ok bytes → length bytes ≤ 2048
+pub credentials_le : (keys : Data) (bytes : List ℕ) → get_or_default (codes "credentials") [] credentials_of keys ≡ Ok bytes → length bytes ≤ 2048
 credentials_le keys bytes same = at_key-le (get (codes "credentials") keys) bytes same

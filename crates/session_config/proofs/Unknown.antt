@@ -1,4 +1,4 @@
--- The unknown key that is told is the least of them.
+-- The unknown key that is reported is the least of them.
 use Rattle.std.proofs.Common.{◌≡◌, ℕ, inl, inr, true, false, ◌&&◌, if◌then◌else◌, Option, Some, None, List, [], ◌∷◌, Err, refl, sym, ap, subst, ◌∙◌}
 use Rattle.std.proofs.lemmas.Bool.{false≢true, and_parts}
 use Rattle.std.specs.Ordering.{nat_cmp, is_lt}
@@ -38,7 +38,7 @@ least known (member k d ms) s key e =
     let parts = and_parts (is_before k ms && is_sorted d) (members_are_sorted ms) s in
     let here = and_parts (is_before k ms) (is_sorted d) parts.0 in
     elim (is_among k known) as (λ b. is_among k known ≡ b → (if b then unknown_member known ms else Some k) ≡ Some key → Least known (member k d ms) key) [
-      | true ↦ λ among told. let rest = least known ms parts.1 key told in (
+      | true ↦ λ among rest_is. let rest = least known ms parts.1 key rest_is in (
         inr rest.0,
         rest.1,
         λ other h unknown. elim h [
@@ -46,16 +46,16 @@ least known (member k d ms) s key e =
           | inr more ↦ rest.2 other more unknown
         ],
       )
-      | false ↦ λ among told. let same : k ≡ key = cc in subst (Least known (member k d ms)) same (
+      | false ↦ λ among rest_is. let same : k ≡ key = cc in subst (Least known (member k d ms)) same (
         inl refl,
         among,
         λ other h unknown. elim h [ inl is ↦ inl is | inr more ↦ inr (before_all k ms here.0 parts.1 other more) ],
       )
     ] refl e
 
-told_of : (o : Option (List ℕ)) (key : List ℕ) → unless_unknown o ≡ Err (UnknownKey (Key key ∷ [])) → o ≡ Some key
-told_of None key e = absurd cc
-told_of (Some k) key e = cc
+some_of_fault : (o : Option (List ℕ)) (key : List ℕ) → unless_unknown o ≡ Err (UnknownKey (Key key ∷ [])) → o ≡ Some key
+some_of_fault None key e = absurd cc
+some_of_fault (Some k) key e = cc
 
 -- the keys of a table that lies in data ascend where those of all its tables do
 mutual
@@ -84,4 +84,4 @@ mutual
 
 pub unknown_key_is_least : UnknownKeyIsLeast
 unknown_key_is_least known text document keys read inside key e =
-    least known keys (ascends_in keys (table document) (documents_ascend text document read) inside) key (told_of (unknown_member known keys) key e)
+    least known keys (ascends_in keys (table document) (documents_ascend text document read) inside) key (some_of_fault (unknown_member known keys) key e)

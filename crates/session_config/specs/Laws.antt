@@ -1,4 +1,4 @@
--- What a configuration that is read keeps, and which unknown key is told.
+-- What a configuration that is read keeps, and which unknown key is reported.
 use Rattle.std.specs.Prelude.{◌≡◌, ◌⊎◌, ℕ, false, IsTrue, Some, List, [], ◌∷◌, Ok, Err}
 use Rattle.std.specs.Ordering.{nat_cmp}
 use Rattle.std.specs.Cmp.Lexicographic.{slice_cmp}
@@ -7,7 +7,7 @@ use Rattle.sbe_value.specs.declared.path.Step.TheVariants.{Key}
 use Rattle.toml.specs.Data.{Data, string, integer, float, boolean, datetime, array, table, Items, no_items, item, Members, no_members, member}
 use Rattle.toml.specs.Parse.{parse_document}
 use Rattle.toml_walk.specs.declared.fault.TomlFault.TheVariants.{UnknownKey}
-use Rattle.toml_walk.specs.Keys.{is_among, only}
+use Rattle.toml_walk.specs.Keys.{is_among, deny_unknown_keys}
 use Rattle.session_config.specs.declared.configuration.Role.{Role}
 use Rattle.session_config.specs.declared.configuration.Configuration.{Configuration}
 use Rattle.session_config.specs.Settings.{allows_client, allows_server, allows_senders, allows_desks, own_flow, configuration_of}
@@ -51,8 +51,8 @@ abbrev mutual
   LiesInMembers keys no_members = ⊥
   LiesInMembers keys (member k d ms) = LiesIn keys d ⊎ LiesInMembers keys ms
 
--- Of each table of a document, the unknown key that is told is one of its keys, is not known, and is the least such key by its bytes
+-- Of each table of a document, the unknown key that is reported is one of its keys, is not known, and is the least such key by its bytes
 abbrev pub UnknownKeyIsLeast : Type 0
 UnknownKeyIsLeast = (known : List (List ℕ)) (text : List ℕ) (document keys : Members) → parse_document text ≡ Some document → LiesIn keys (table document)
-    → (key : List ℕ) → only known (table keys) ≡ Err (UnknownKey (Key key ∷ []))
+    → (key : List ℕ) → deny_unknown_keys known (table keys) ≡ Err (UnknownKey (Key key ∷ []))
     → HasKey keys key × (is_among key known ≡ false) × ((other : List ℕ) → HasKey keys other → is_among other known ≡ false → IsAtMost key other)

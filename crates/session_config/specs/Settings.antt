@@ -9,7 +9,7 @@ use Rattle.fixp_msgs.specs.declared.flow.Flow.TheVariants as flows
 use Rattle.toml_walk.specs.declared.fault.TomlFault.TheVariants.{Range}
 use Rattle.toml_walk.specs.Reading.{Read, ◌>>=◌}
 use Rattle.toml_walk.specs.Documents.{document_of}
-use Rattle.toml_walk.specs.Keys.{required, defaulted, only}
+use Rattle.toml_walk.specs.Keys.{required, get_or_default, deny_unknown_keys}
 use Rattle.toml_walk.specs.Values.{text_of, natural_of, word_in, listed}
 use Rattle.schema_toml.specs.declared.fault.ConfigFault.{ConfigFault}
 use Rattle.schema_toml.specs.Faults.{limited, of_text}
@@ -42,9 +42,9 @@ credentials_of d = text_of d >>= λ text. short_bytes (decode_of text)
 -- ---- what a role asks of several keys
 
 -- a condition that the value at a key breaks is out of range there
-abbrev pub demanded : List ℕ → Bool → Read Bool
-demanded key true = Ok true
-demanded key false = Err (Range (Key key ∷ []))
+abbrev pub ensure_in_range : List ℕ → Bool → Read (Unit {0})
+ensure_in_range key true = Ok tt
+ensure_in_range key false = Err (Range (Key key ∷ []))
 
 abbrev pub is_unsequenced : Flow → Bool
 is_unsequenced flows.Unsequenced = true
@@ -84,9 +84,9 @@ is_accept Accept = true
 is_accept Answer = false
 is_accept Connect = false
 
--- desks are for `accept` alone, where it sends and its senders are not given
+-- desks are for `accept` alone, where it sends and the key `senders` is absent
 abbrev pub allows_desks : Role → Flow → Bool → ℕ → Bool
-allows_desks role server given desks = desks == 0 || (is_accept role && (not given && not (is_none server)))
+allows_desks role server has_senders_key desks = desks == 0 || (is_accept role && (not has_senders_key && not (is_none server)))
 
 -- ---- the keys
 
@@ -96,21 +96,21 @@ link_of role keys =
     required (codes "session") session_of keys >>= λ session.
     required (codes "keepalive") (natural_of 100 60000) keys >>= λ keepalive.
     required (codes "client_flow") flow_of keys >>= λ client.
-    demanded (codes "client_flow") (allows_client role client) >>= λ _.
+    ensure_in_range (codes "client_flow") (allows_client role client) >>= λ _.
     required (codes "server_flow") flow_of keys >>= λ server.
-    demanded (codes "server_flow") (allows_server role server) >>= λ _.
-    defaulted (codes "credentials") [] credentials_of keys >>= λ credentials.
+    ensure_in_range (codes "server_flow") (allows_server role server) >>= λ _.
+    get_or_default (codes "credentials") [] credentials_of keys >>= λ credentials.
     Ok (record { session = session; keepalive = keepalive; client_flow = client; server_flow = server; credentials = credentials })
 
 -- {.., senders?, desks?, order_version?, reference?}
 abbrev pub trade_of : Role → Flow → Flow → Data → Read Trade
 trade_of role client server keys =
-    defaulted (codes "senders") 1 (natural_of 0 16) keys >>= λ senders.
-    demanded (codes "senders") (allows_senders (own_flow role client server) senders) >>= λ _.
-    defaulted (codes "desks") 0 (natural_of 0 16) keys >>= λ desks.
-    demanded (codes "desks") (allows_desks role server (is_some (get (codes "senders") keys)) desks) >>= λ _.
-    defaulted (codes "order_version") 1 (natural_of 1 2) keys >>= λ order_version.
-    defaulted (codes "reference") 1000000 (natural_of 1 (10 ^ 15)) keys >>= λ reference.
+    get_or_default (codes "senders") 1 (natural_of 0 16) keys >>= λ senders.
+    ensure_in_range (codes "senders") (allows_senders (own_flow role client server) senders) >>= λ _.
+    get_or_default (codes "desks") 0 (natural_of 0 16) keys >>= λ desks.
+    ensure_in_range (codes "desks") (allows_desks role server (is_some (get (codes "senders") keys)) desks) >>= λ _.
+    get_or_default (codes "order_version") 1 (natural_of 1 2) keys >>= λ order_version.
+    get_or_default (codes "reference") 1000000 (natural_of 1 (10 ^ 15)) keys >>= λ reference.
     Ok (record { senders = senders; desks = desks; order_version = order_version; reference = reference })
 
 abbrev pub known_keys : List (List ℕ)
@@ -121,7 +121,7 @@ abbrev pub configuration_of : Role → Data → Read Configuration
 configuration_of role keys =
     link_of role keys >>= λ link.
     trade_of role link.client_flow link.server_flow keys >>= λ trade.
-    only known_keys keys >>= λ _.
+    deny_unknown_keys known_keys keys >>= λ _.
     Ok (record { link = link; trade = trade })
 
 abbrev pub configuration_of_document : Role → List ℕ → Read Configuration

@@ -2,11 +2,11 @@
 //! of several of them.
 
 ghost use Rattle.std.specs.Prelude.{◌≡◌, ◌<◌, ◌≤◌, codes, [], length, IfOk, Err};
-ghost use Rattle.toml_walk.specs.Keys.{defaulted};
+ghost use Rattle.toml_walk.specs.Keys.{get_or_default};
 ghost use Rattle.toml.specs.View.{view};
 ghost use Rattle.toml_walk.specs.Reading.{Reads};
 ghost use Rattle.schema_toml.specs.Faults.{Tells, text_limit};
-ghost use Rattle.session_config.specs.Settings.{IsLinkInRange, IsTradeInRange, allows_client, allows_desks, allows_senders, allows_server, configuration_of, configuration_of_document, configuration_of_text, credentials_of, demanded, is_none, is_unsequenced, link_of, own_flow, trade_of};
+ghost use Rattle.session_config.specs.Settings.{IsLinkInRange, IsTradeInRange, allows_client, allows_desks, allows_senders, allows_server, configuration_of, configuration_of_document, configuration_of_text, credentials_of, ensure_in_range, is_none, is_unsequenced, link_of, own_flow, trade_of};
 
 use crate::limits::{DESKS, KEEPALIVE, ORDER_VERSION, REFERENCE, SENDERS};
 use crate::readers::{Credentials, Flows, Sessions};
@@ -16,7 +16,8 @@ use schema_toml::{ConfigFault, TEXT_LIMIT};
 use std::alloc::Global;
 use toml::Value;
 use toml_walk::{
-    TomlFault, defaulted, natural_at, natural_or, only, out_of_range, read_document, required,
+    TomlFault, deny_unknown_keys, get_or_default, natural_at, natural_or, out_of_range,
+    read_document, required,
 };
 
 /// What a configuration is for.
@@ -68,11 +69,14 @@ pub struct Configuration {
 }
 
 /// Checks a condition on the value at a key.
-fn demanded(alloc: Global, key: &str, holds: bool) -> Result<bool, TomlFault>
-    ensures { Reads result (demanded key.now holds) }
+///
+/// # Errors
+/// `Range` at that key where it is not met.
+fn ensure_in_range(alloc: Global, key: &str, holds: bool) -> Result<(), TomlFault>
+    ensures { Reads result (ensure_in_range key.now holds) }
 {
     if holds {
-        Ok(true)
+        Ok(())
     } else {
         Err(out_of_range(alloc, key))
     }
@@ -132,19 +136,19 @@ fn allows_senders(own: Flow, senders: u64) -> bool
 }
 
 /// Whether a role may have so many desks.
-fn allows_desks(role: Role, server: Flow, given: bool, desks: u64) -> bool
-    ensures { result ≡ allows_desks role server given desks }
+fn allows_desks(role: Role, server: Flow, has_senders_key: bool, desks: u64) -> bool
+    ensures { result ≡ allows_desks role server has_senders_key desks }
 {
-    desks == 0 || (matches!(role, Role::Accept) && !given && !is_none(server))
+    desks == 0 || (matches!(role, Role::Accept) && !has_senders_key && !is_none(server))
 }
 
 /// The credentials, none where the key is absent.
 #[tactic(auto, using(crate::proofs::Readings::credentials_le))]
 fn read_credentials(alloc: Global, keys: &Value) -> Result<Bytes, TomlFault>
-    ensures value { Reads result (defaulted (codes "credentials") [] credentials_of (view keys.now)) }
+    ensures value { Reads result (get_or_default (codes "credentials") [] credentials_of (view keys.now)) }
     ensures short { IfOk result (λ bytes. length bytes ≤ 2048) }
 {
-    defaulted::<Credentials>(alloc, (), keys, "credentials", Bytes::new(alloc))
+    get_or_default::<Credentials>(alloc, (), keys, "credentials", Bytes::new(alloc))
 }
 
 /// The keys of the session itself.
@@ -161,9 +165,9 @@ fn read_link(alloc: Global, role: Role, keys: &Value) -> Result<Link, TomlFault>
         KEEPALIVE.greatest,
     )?;
     let client = required::<Flows>(alloc, (), keys, "client_flow")?;
-    demanded(alloc, "client_flow", allows_client(role, client))?;
+    ensure_in_range(alloc, "client_flow", allows_client(role, client))?;
     let server = required::<Flows>(alloc, (), keys, "server_flow")?;
-    demanded(alloc, "server_flow", allows_server(role, server))?;
+    ensure_in_range(alloc, "server_flow", allows_server(role, server))?;
     let credentials = read_credentials(alloc, keys)?;
     Ok(Link {
         session,
@@ -185,12 +189,16 @@ fn read_trade(
     ensures value { Reads result (trade_of role client server (view keys.now)) }
     ensures range { IfOk result IsTradeInRange }
 {
-    let given = keys.get("senders").is_some();
+    let has_senders_key = keys.get("senders").is_some();
     let senders = natural_or(alloc, keys, "senders", SENDERS.least, SENDERS.greatest, 1)?;
     let own = own_flow(role, client, server);
-    demanded(alloc, "senders", allows_senders(own, senders))?;
+    ensure_in_range(alloc, "senders", allows_senders(own, senders))?;
     let desks = natural_or(alloc, keys, "desks", DESKS.least, DESKS.greatest, 0)?;
-    demanded(alloc, "desks", allows_desks(role, server, given, desks))?;
+    ensure_in_range(
+        alloc,
+        "desks",
+        allows_desks(role, server, has_senders_key, desks),
+    )?;
     let order_version = natural_or(
         alloc,
         keys,
@@ -222,7 +230,7 @@ fn read_table(alloc: Global, role: Role, keys: &Value) -> Result<Configuration, 
 {
     let link = read_link(alloc, role, keys)?;
     let trade = read_trade(alloc, role, link.client_flow, link.server_flow, keys)?;
-    only(
+    deny_unknown_keys(
         alloc,
         keys,
         &[
@@ -260,7 +268,7 @@ pub fn read_configuration(
     role: Role,
     text: &[u8],
 ) -> Result<Configuration, ConfigFault>
-    ensures told { Tells result (configuration_of_text role text.now) }
+    ensures exact { Tells result (configuration_of_text role text.now) }
     ensures too_long { text_limit < length text.now → result ≡ Err ConfigFault.TooLong }
     ensures link { IfOk result (λ c. IsLinkInRange c.link) }
     ensures trade { IfOk result (λ c. IsTradeInRange c.trade) }

@@ -8,7 +8,7 @@ pub fn configurations_keep_the_role()
     ensures law { ConfigurationsKeepTheRole }
 {}
 
-/// Of each table of a TOML document, the unknown key that is told is the least by its bytes that is not known.
+/// Of each table of a TOML document, the unknown key that is reported is the least by its bytes that is not known.
 pub fn unknown_key_is_least()
     ensures law { UnknownKeyIsLeast }
 {}

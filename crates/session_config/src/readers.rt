@@ -16,7 +16,7 @@ const CREDENTIALS_LIMIT: usize = 2048;
 pub struct Sessions;
 
 impl Reader for Sessions {
-    type Holder = ();
+    type Parent = ();
 
     type Made = [u8; 16];
 
@@ -24,7 +24,7 @@ impl Reader for Sessions {
 
     ghost spelled = { λ _. session_of };
 
-    fn read(alloc: Global, _holder: (), value: &Value) -> Result<[u8; 16], TomlFault> {
+    fn read(alloc: Global, _parent: (), value: &Value) -> Result<[u8; 16], TomlFault> {
         match value.as_str() {
             Some(text) => match Uuid::parse_str(text) {
                 Ok(id) => Ok(id.into_bytes()),
@@ -39,7 +39,7 @@ impl Reader for Sessions {
 pub struct Flows;
 
 impl Reader for Flows {
-    type Holder = ();
+    type Parent = ();
 
     type Made = Flow;
 
@@ -47,7 +47,7 @@ impl Reader for Flows {
 
     ghost spelled = { λ _. flow_of };
 
-    fn read(alloc: Global, _holder: (), value: &Value) -> Result<Flow, TomlFault> {
+    fn read(alloc: Global, _parent: (), value: &Value) -> Result<Flow, TomlFault> {
         match value.as_str() {
             Some("recoverable") => Ok(Flow::Recoverable),
             Some("idempotent") => Ok(Flow::Idempotent),
@@ -63,7 +63,7 @@ impl Reader for Flows {
 pub struct Credentials;
 
 impl Reader for Credentials {
-    type Holder = ();
+    type Parent = ();
 
     type Made = Bytes;
 
@@ -71,7 +71,7 @@ impl Reader for Credentials {
 
     ghost spelled = { λ _. credentials_of };
 
-    fn read(alloc: Global, _holder: (), value: &Value) -> Result<Bytes, TomlFault> {
+    fn read(alloc: Global, _parent: (), value: &Value) -> Result<Bytes, TomlFault> {
         let Some(text) = value.as_str() else {
             return Err(TomlFault::WrongKind(Path::new(alloc)));
         };

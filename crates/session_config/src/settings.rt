@@ -47,7 +47,7 @@ fn read_answer(alloc: Global, text: &[u8]) -> Result<Settings, TomlFault>
 /// `TooLong` exactly where the text is longer than `TEXT_LIMIT`, and else the first fault in the order in which
 /// its keys are visited.
 pub fn read_settings(alloc: Global, text: &[u8]) -> Result<Settings, ConfigFault>
-    ensures told { Tells result (settings_of_text text.now) }
+    ensures exact { Tells result (settings_of_text text.now) }
     ensures too_long { text_limit < length text.now → result ≡ Err ConfigFault.TooLong }
     ensures range { IfOk result IsInRange }
 {

@@ -24,7 +24,7 @@ no_plus b bs h =
 not_below : (n : ℕ) → 2 ^ 128 - 1 < n → nat_le n (2 ^ 63 - 1) ≡ false
 not_below n past = grind (arith, nat_tests)
 
--- what is told of digits that `parse` refuses
+-- what is answered of digits that `parse` refuses
 pub too_great : (bs : List ℕ) → 0 < length bs → are_digits bs ≡ true
     → ((IsNumeral 10 (without_leading_plus bs) × (digits_value 10 (without_leading_plus bs) < 2 ^ 128)) → ⊥)
     → Some (2 ^ 128 - 1) ≡ option_map (λ n. min n (2 ^ 128 - 1)) (wide_number bs)

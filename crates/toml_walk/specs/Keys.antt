@@ -16,13 +16,13 @@ module _ {A : Type 0} where
   abbrev pub required : List ℕ → (Data → Read A) → Data → Read A
   required key read keys = required_of key read (get key keys)
 
-  abbrev pub defaulted_of : List ℕ → A → (Data → Read A) → Option Data → Read A
-  defaulted_of key default read None = Ok default
-  defaulted_of key default read (Some d) = under (Key key) (read d)
+  abbrev pub get_or_default_of : List ℕ → A → (Data → Read A) → Option Data → Read A
+  get_or_default_of key default read None = Ok default
+  get_or_default_of key default read (Some d) = under (Key key) (read d)
 
   -- what lies at a key, or the default where the key is absent
-  abbrev pub defaulted : List ℕ → A → (Data → Read A) → Data → Read A
-  defaulted key default read keys = defaulted_of key default read (get key keys)
+  abbrev pub get_or_default : List ℕ → A → (Data → Read A) → Data → Read A
+  get_or_default key default read keys = get_or_default_of key default read (get key keys)
 
   abbrev pub optional_of : List ℕ → (Data → Read A) → Option Data → Read (Option A)
   optional_of key read None = Ok None
@@ -71,5 +71,5 @@ unless_unknown None = Ok tt
 unless_unknown (Some key) = Err (UnknownKey (Key key ∷ []))
 
 -- no key is there but the known ones
-abbrev pub only : List (List ℕ) → Data → Read (Unit {0})
-only known keys = unless_unknown (unknown_in known (as_table keys))
+abbrev pub deny_unknown_keys : List (List ℕ) → Data → Read (Unit {0})
+deny_unknown_keys known keys = unless_unknown (unknown_in known (as_table keys))

@@ -34,11 +34,11 @@ is_memory (WrongKind path) = false
 is_memory (UnknownKey path) = false
 is_memory (Range path) = false
 
--- a fault is the one that is told, unless memory ran out
+-- a fault is the expected one, unless memory ran out
 abbrev pub IsFault : TomlFault → TomlFault → Type 0
-IsFault fault told = is_memory fault ≡ false → told ≡ fault
+IsFault fault expected = is_memory fault ≡ false → expected ≡ fault
 
--- a result is what is told, unless memory ran out
+-- a result is the expected one, unless memory ran out
 abbrev pub Reads : {A : Type 0} → Result A TomlFault → Read A → Type 0
-Reads (Ok a) told = told ≡ Ok a
-Reads (Err fault) told = is_memory fault ≡ false → told ≡ Err fault
+Reads (Ok a) expected = expected ≡ Ok a
+Reads (Err fault) expected = is_memory fault ≡ false → expected ≡ Err fault

@@ -52,7 +52,7 @@ fn in_front(step: Step, path: Path) -> Result<Path, AllocError>
     Ok(Path::from(steps))
 }
 
-/// The fault as it is told from one step further out.
+/// The fault with its path from one step further out.
 pub fn deepened(step: Step, fault: TomlFault) -> TomlFault
     ensures { IsFault result (deepened step fault) }
 {

@@ -5,7 +5,7 @@ ghost use Rattle.sbe_value.specs.declared.path.Step.TheVariants.{Key};
 ghost use Rattle.toml.specs.View.{view, table_view};
 ghost use Rattle.toml_walk.specs.declared.fault.TomlFault.TheVariants.{Missing, Range};
 ghost use Rattle.toml_walk.specs.Reading.{IsFault, Reads, under};
-ghost use Rattle.toml_walk.specs.Keys.{defaulted, is_among, only, optional, required, unknown_member};
+ghost use Rattle.toml_walk.specs.Keys.{get_or_default, is_among, deny_unknown_keys, optional, required, unknown_member};
 ghost use Rattle.toml_walk.specs.Values.{name_of, natural_of, number_of, text_of};
 
 use crate::fault::{TomlFault, deepened};
@@ -50,7 +50,7 @@ pub fn out_of_range(alloc: Global, key: &str) -> TomlFault
     }
 }
 
-/// What was read from the value at a key, its fault told from the table.
+/// What was read from the value at a key, its fault with the path from the table.
 pub fn under_key<T>(alloc: Global, key: &str, inner: Result<T, TomlFault>) -> Result<T, TomlFault>
     ensures { Reads result (under (Key key.now) inner) }
 {
@@ -108,8 +108,8 @@ fn unknown_member<'a>(table: &'a Table, known: &[&str]) -> Option<&'a str>
 ///
 /// # Errors
 /// `UnknownKey` of the least other key by its bytes.
-pub fn only(alloc: Global, keys: &Value, known: &[&str]) -> Result<(), TomlFault>
-    ensures { Reads result (only (map (λ k. k.now) known.now) (view keys.now)) }
+pub fn deny_unknown_keys(alloc: Global, keys: &Value, known: &[&str]) -> Result<(), TomlFault>
+    ensures { Reads result (deny_unknown_keys (map (λ k. k.now) known.now) (view keys.now)) }
 {
     let Some(table) = keys.as_table() else {
         return Ok(());
@@ -133,7 +133,7 @@ pub fn natural_or(
     default: u64,
 ) -> Result<u64, TomlFault>
     requires { (least ≤ default) × (default ≤ greatest) }
-    ensures value { Reads result (defaulted key.now default (natural_of least greatest) (view keys.now)) }
+    ensures value { Reads result (get_or_default key.now default (natural_of least greatest) (view keys.now)) }
     ensures range { IfOk result (λ n. (least ≤ n) × (n ≤ greatest)) }
 {
     match keys.get(key) {

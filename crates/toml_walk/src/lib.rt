@@ -11,8 +11,9 @@ mod value;
 
 pub use document::read_document;
 pub use fault::{TomlFault, deepened};
-pub use keys::{missing, natural_at, natural_or, only, out_of_range, under_key};
+pub use keys::{deny_unknown_keys, missing, natural_at, natural_or, out_of_range, under_key};
 pub use reader::{
-    Names, Numbers, Reader, defaulted, list_or_empty, optional, read_list, required, required_list,
+    Names, Numbers, Reader, get_or_default, list_or_empty, optional, read_list, required,
+    required_list,
 };
 pub use value::{is_name, read_held, read_name, read_natural, read_number, read_text, wide_number};

@@ -5,7 +5,7 @@ ghost use Rattle.sbe_value.specs.declared.path.Step.TheVariants.{At};
 ghost use Rattle.toml.specs.Data.{Data};
 ghost use Rattle.toml.specs.View.{view, array_view};
 ghost use Rattle.toml_walk.specs.Reading.{Read, Reads, is_memory, under};
-ghost use Rattle.toml_walk.specs.Keys.{defaulted, elements, list_of, optional, required};
+ghost use Rattle.toml_walk.specs.Keys.{get_or_default, elements, list_of, optional, required};
 ghost use Rattle.toml_walk.specs.Values.{name_of, number_of};
 
 use crate::fault::{TomlFault, deepened};
@@ -17,28 +17,28 @@ use toml::Value;
 
 /// What a value by itself spells.
 pub trait Reader {
-    /// What the defaults inside depend on.
-    type Holder: Copy;
+    /// What the defaults inside depend on: what is known of the table around.
+    type Parent: Copy;
 
     /// What is made of a value.
     type Made: Drop;
 
     /// What a value spells.
-    ghost spelled: { Self.Holder → Data → Read Self.Made };
+    ghost spelled: { Self.Parent → Data → Read Self.Made };
 
     /// Reads a value.
     ///
     /// # Errors
     /// The first fault in the order in which its keys are visited.
-    fn read(alloc: Global, holder: Self::Holder, value: &Value) -> Result<Self::Made, TomlFault>
-        ensures { Reads result (spelled holder (view value.now)) };
+    fn read(alloc: Global, parent: Self::Parent, value: &Value) -> Result<Self::Made, TomlFault>
+        ensures { Reads result (spelled parent (view value.now)) };
 }
 
 /// Names: 1 to 64 letters, digits or `_`, the first no digit.
 pub struct Names;
 
 impl Reader for Names {
-    type Holder = ();
+    type Parent = ();
 
     type Made = Bytes;
 
@@ -46,7 +46,7 @@ impl Reader for Names {
 
     ghost spelled = { λ _. name_of };
 
-    fn read(alloc: Global, _holder: (), value: &Value) -> Result<Bytes, TomlFault> {
+    fn read(alloc: Global, _parent: (), value: &Value) -> Result<Bytes, TomlFault> {
         read_name(alloc, value)
     }
 }
@@ -55,7 +55,7 @@ impl Reader for Names {
 pub struct Numbers;
 
 impl Reader for Numbers {
-    type Holder = ();
+    type Parent = ();
 
     type Made = i128;
 
@@ -63,7 +63,7 @@ impl Reader for Numbers {
 
     ghost spelled = { λ _. number_of };
 
-    fn read(alloc: Global, _holder: (), value: &Value) -> Result<i128, TomlFault> {
+    fn read(alloc: Global, _parent: (), value: &Value) -> Result<i128, TomlFault> {
         read_number(alloc, value)
     }
 }
@@ -74,14 +74,14 @@ impl Reader for Numbers {
 /// `Missing` where the key is absent, and the faults of what lies at it.
 pub fn required<R: Reader>(
     alloc: Global,
-    holder: R::Holder,
+    parent: R::Parent,
     keys: &Value,
     key: &str,
 ) -> Result<R::Made, TomlFault>
-    ensures { Reads result (required key.now (R.spelled holder) (view keys.now)) }
+    ensures { Reads result (required key.now (R.spelled parent) (view keys.now)) }
 {
     match keys.get(key) {
-        Some(value) => under_key(alloc, key, R::read(alloc, holder, value)),
+        Some(value) => under_key(alloc, key, R::read(alloc, parent, value)),
         None => Err(missing(alloc, key)),
     }
 }
@@ -90,17 +90,17 @@ pub fn required<R: Reader>(
 ///
 /// # Errors
 /// The faults of what lies at the key.
-pub fn defaulted<R: Reader>(
+pub fn get_or_default<R: Reader>(
     alloc: Global,
-    holder: R::Holder,
+    parent: R::Parent,
     keys: &Value,
     key: &str,
     default: R::Made,
 ) -> Result<R::Made, TomlFault>
-    ensures { Reads result (defaulted key.now default (R.spelled holder) (view keys.now)) }
+    ensures { Reads result (get_or_default key.now default (R.spelled parent) (view keys.now)) }
 {
     match keys.get(key) {
-        Some(value) => under_key(alloc, key, R::read(alloc, holder, value)),
+        Some(value) => under_key(alloc, key, R::read(alloc, parent, value)),
         None => Ok(default),
     }
 }
@@ -111,28 +111,28 @@ pub fn defaulted<R: Reader>(
 /// The faults of what lies at the key.
 pub fn optional<R: Reader>(
     alloc: Global,
-    holder: R::Holder,
+    parent: R::Parent,
     keys: &Value,
     key: &str,
 ) -> Result<Option<R::Made>, TomlFault>
-    ensures { Reads result (optional key.now (R.spelled holder) (view keys.now)) }
+    ensures { Reads result (optional key.now (R.spelled parent) (view keys.now)) }
 {
     match keys.get(key) {
-        Some(value) => Ok(Some(under_key(alloc, key, R::read(alloc, holder, value))?)),
+        Some(value) => Ok(Some(under_key(alloc, key, R::read(alloc, parent, value))?)),
         None => Ok(None),
     }
 }
 
-/// An element at a place of a list, its fault told from the list.
+/// An element at a place of a list, its fault with the path from the list.
 fn read_at<R: Reader>(
     alloc: Global,
-    holder: R::Holder,
+    parent: R::Parent,
     at: u64,
     value: &Value,
 ) -> Result<R::Made, TomlFault>
-    ensures { Reads result (under (At at) (R.spelled holder (view value.now))) }
+    ensures { Reads result (under (At at) (R.spelled parent (view value.now))) }
 {
-    match R::read(alloc, holder, value) {
+    match R::read(alloc, parent, value) {
         Ok(made) => Ok(made),
         Err(fault) => Err(deepened(Step::At(at), fault)),
     }
@@ -144,18 +144,18 @@ fn read_at<R: Reader>(
 /// `WrongKind` with the empty path where the value is none, and the first fault of its elements.
 pub fn read_list<R: Reader>(
     alloc: Global,
-    holder: R::Holder,
+    parent: R::Parent,
     value: &Value,
 ) -> Result<Vec<R::Made>, TomlFault>
-    ensures ok { IfOk result (λ list. list_of (R.spelled holder) (view value.now) ≡ Ok list.items) }
-    ensures err { IfErr result (λ fault. is_memory fault ≡ false → list_of (R.spelled holder) (view value.now) ≡ Err fault) }
+    ensures ok { IfOk result (λ list. list_of (R.spelled parent) (view value.now) ≡ Ok list.items) }
+    ensures err { IfErr result (λ fault. is_memory fault ≡ false → list_of (R.spelled parent) (view value.now) ≡ Err fault) }
 {
     let Some(values) = value.as_array() else {
         return Err(TomlFault::WrongKind(Path::new(alloc)));
     };
     let mut list = Vec::with_capacity(alloc, values.len())?;
     for value in values {
-        let made = read_at::<R>(alloc, holder, list.len() as u64, value)?;
+        let made = read_at::<R>(alloc, parent, list.len() as u64, value)?;
         if list.push(made).is_err() {
             return Err(TomlFault::Memory);
         }
@@ -169,15 +169,15 @@ pub fn read_list<R: Reader>(
 /// `Missing` where the key is absent, `WrongKind` where no list lies at it, and the first fault of its elements.
 pub fn required_list<R: Reader>(
     alloc: Global,
-    holder: R::Holder,
+    parent: R::Parent,
     keys: &Value,
     key: &str,
 ) -> Result<Vec<R::Made>, TomlFault>
-    ensures ok { IfOk result (λ list. required key.now (list_of (R.spelled holder)) (view keys.now) ≡ Ok list.items) }
-    ensures err { IfErr result (λ fault. is_memory fault ≡ false → required key.now (list_of (R.spelled holder)) (view keys.now) ≡ Err fault) }
+    ensures ok { IfOk result (λ list. required key.now (list_of (R.spelled parent)) (view keys.now) ≡ Ok list.items) }
+    ensures err { IfErr result (λ fault. is_memory fault ≡ false → required key.now (list_of (R.spelled parent)) (view keys.now) ≡ Err fault) }
 {
     match keys.get(key) {
-        Some(value) => under_key(alloc, key, read_list::<R>(alloc, holder, value)),
+        Some(value) => under_key(alloc, key, read_list::<R>(alloc, parent, value)),
         None => Err(missing(alloc, key)),
     }
 }
@@ -188,15 +188,15 @@ pub fn required_list<R: Reader>(
 /// `WrongKind` where no list lies at the key, and the first fault of its elements.
 pub fn list_or_empty<R: Reader>(
     alloc: Global,
-    holder: R::Holder,
+    parent: R::Parent,
     keys: &Value,
     key: &str,
 ) -> Result<Vec<R::Made>, TomlFault>
-    ensures ok { IfOk result (λ list. defaulted key.now [] (list_of (R.spelled holder)) (view keys.now) ≡ Ok list.items) }
-    ensures err { IfErr result (λ fault. is_memory fault ≡ false → defaulted key.now [] (list_of (R.spelled holder)) (view keys.now) ≡ Err fault) }
+    ensures ok { IfOk result (λ list. get_or_default key.now [] (list_of (R.spelled parent)) (view keys.now) ≡ Ok list.items) }
+    ensures err { IfErr result (λ fault. is_memory fault ≡ false → get_or_default key.now [] (list_of (R.spelled parent)) (view keys.now) ≡ Err fault) }
 {
     match keys.get(key) {
-        Some(value) => under_key(alloc, key, read_list::<R>(alloc, holder, value)),
+        Some(value) => under_key(alloc, key, read_list::<R>(alloc, parent, value)),
         None => Ok(Vec::new(alloc)),
     }
 }

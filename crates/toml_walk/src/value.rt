@@ -86,7 +86,7 @@ fn are_digits(bytes: &[u8]) -> bool
 }
 
 /// The number that decimal digits spell, where they are some and it is above the greatest TOML integer;
-/// a number above the greatest `u128` is told as that one.
+/// a number above the greatest `u128` is answered as that one.
 pub fn wide_number(text: &str) -> Option<u128>
     ensures { result ≡ option_map (λ n. min n (2 ^ 128 - 1)) (wide_number text.now) }
 {

@@ -19,16 +19,16 @@ walk_groups-loop-at-preserved t c =
     let front : drop c.loop-at.at c.args.groups.now ≡ g ∷ drop (c.loop-at.at + 1) c.args.groups.now =
     front_at c.args.groups.now c.loop-at.at g c.loop-at-test.true c.index-groups-at.is in
     let done = c.in_ok-walk_group.ensures in
-    let floor = to_z w128 c.loop-at.floor-bits in
-    let kept : FitsSigned w128 c.max-floor.result = search rules in
+    let least_since = to_z w128 c.loop-at.least_since-bits in
+    let kept : FitsSigned w128 c.max-least_since.result = search rules in
     let came : FitsSigned w128 g.since = search rules in
-    let higher : to_z w128 (of_z w128 c.max-floor.result) ≡ int_max floor g.since =
-    to_z-of_z w128 c.max-floor.result kept
-    ∙ c.max-floor.ensures.value
-    ∙ ap (int_max floor) (to_z-of_z w128 g.since came) in
+    let higher : to_z w128 (of_z w128 c.max-least_since.result) ≡ int_max least_since g.since =
+    to_z-of_z w128 c.max-least_since.result kept
+    ∙ c.max-least_since.ensures.value
+    ∙ ap (int_max least_since) (to_z-of_z w128 g.since came) in
     record {
-      fault = groups_step schema schema.types c.loop-at.state.trail.items _ c.args.holder.now c.loop-at.names _ c.loop-at.state.ids _ floor _ c.loop-at.at g _ c.loop-at.state.fault _ _ done.trail done.names done.ids higher done.fault (ap (λ gs. folded schema c.loop-at.state.fault (walk_groups schema.types c.loop-at.state.trail.items c.args.holder.now c.loop-at.names c.loop-at.state.ids floor c.loop-at.at (groups_of gs))) (sym front) ∙ c.loop-at.invariant.fault);
+      fault = groups_step schema schema.types c.loop-at.state.parent_path.items _ c.args.parent.now c.loop-at.names _ c.loop-at.state.ids _ least_since _ c.loop-at.at g _ c.loop-at.state.fault _ _ done.parent_path done.names done.ids higher done.fault (ap (λ gs. folded schema c.loop-at.state.fault (walk_groups schema.types c.loop-at.state.parent_path.items c.args.parent.now c.loop-at.names c.loop-at.state.ids least_since c.loop-at.at (groups_of gs))) (sym front) ∙ c.loop-at.invariant.fault);
       names = ap (λ n. names_of_groups n (groups_of (drop (c.loop-at.at + 1) c.args.groups.now))) done.names ∙ ap (λ gs. names_of_groups c.loop-at.names (groups_of gs)) (sym front) ∙ c.loop-at.invariant.names;
       ids = ap (λ n. ids_of_groups n (groups_of (drop (c.loop-at.at + 1) c.args.groups.now))) done.ids ∙ ap (λ gs. ids_of_groups c.loop-at.state.ids (groups_of gs)) (sym front) ∙ c.loop-at.invariant.ids;
-      trail = done.trail ∙ c.loop-at.invariant.trail;
+      parent_path = done.parent_path ∙ c.loop-at.invariant.parent_path;
     }

@@ -19,8 +19,8 @@ abbrev pub invariant-walk_groups-loop-at : goal.invariant-walk_groups-loop-at
 invariant-walk_groups-loop-at l =
     let schema = l.index.schema.now in
     record {
-      fault : folded schema l.state.fault (walk_groups schema.types l.state.trail.items l.holder l.names l.state.ids l.floor l.at (groups_of (drop l.at l.groups))) ≡ folded schema l.fn.state.fault (walk_groups schema.types l.fn.state.trail.items l.holder l.fn.names l.fn.state.ids l.holder.since 0 (groups_of l.groups));
+      fault : folded schema l.state.fault (walk_groups schema.types l.state.parent_path.items l.parent l.names l.state.ids l.least_since l.at (groups_of (drop l.at l.groups))) ≡ folded schema l.fn.state.fault (walk_groups schema.types l.fn.state.parent_path.items l.parent l.fn.names l.fn.state.ids l.parent.since 0 (groups_of l.groups));
       names : names_of_groups l.names (groups_of (drop l.at l.groups)) ≡ names_of_groups l.fn.names (groups_of l.groups);
       ids : ids_of_groups l.state.ids (groups_of (drop l.at l.groups)) ≡ ids_of_groups l.fn.state.ids (groups_of l.groups);
-      trail : l.state.trail.items ≡ l.fn.state.trail.items;
+      parent_path : l.state.parent_path.items ≡ l.fn.state.parent_path.items;
     }

@@ -9,6 +9,6 @@ abbrev pub invariant-loop-at : goal.invariant-loop-at
 invariant-loop-at l =
     let schema = l.index.schema.now in
     record {
-      fault : folded schema l.state.fault (walk_members schema.types l.state.trail.items l.names l.end l.at (drop l.at l.members)) ≡ folded schema l.fn.state.fault (walk_members schema.types l.fn.state.trail.items set.empty 0 0 l.members);
-      trail : l.state.trail.items ≡ l.fn.state.trail.items;
+      fault : folded schema l.state.fault (walk_members schema.types l.state.parent_path.items l.names l.end l.at (drop l.at l.members)) ≡ folded schema l.fn.state.fault (walk_members schema.types l.fn.state.parent_path.items set.empty 0 0 l.members);
+      parent_path : l.state.parent_path.items ≡ l.fn.state.parent_path.items;
     }

@@ -12,5 +12,5 @@ loop-at-preserved c =
     front_at c.args.messages.now c.loop-at.at m c.loop-at-test.true c.index-messages-at.is in
     record {
       fault = messages_step schema schema.types c.loop-at.names c.walk_message.new.names c.loop-at.ids c.walk_message.new.ids c.loop-at.at m _ c.loop-at.state.fault c.walk_message.new.state.fault _ c.in_ok-walk_message.ensures.names c.in_ok-walk_message.ensures.ids c.in_ok-walk_message.ensures.fault (ap (λ ms. folded schema c.loop-at.state.fault (walk_messages schema.types c.loop-at.names c.loop-at.ids c.loop-at.at ms)) (sym front) ∙ c.loop-at.invariant.fault);
-      trail = c.in_ok-walk_message.ensures.trail;
+      parent_path = c.in_ok-walk_message.ensures.parent_path;
     }

@@ -10,5 +10,5 @@ invariant-loop-at l =
     let schema = l.index.schema.now in
     record {
       fault : folded schema l.state.fault (walk_messages schema.types l.names l.ids l.at (drop l.at l.messages)) ≡ folded schema l.fn.state.fault (walk_messages schema.types set.empty set.empty 0 l.messages);
-      trail : l.state.trail.items ≡ [];
+      parent_path : l.state.parent_path.items ≡ [];
     }

@@ -12,5 +12,5 @@ loop-at-preserved c =
     front_at c.args.types.now c.loop-at.at t c.loop-at-test.true c.index-types-at.is in
     record {
       fault = types_step schema schema.types c.loop-at.names c.walk_type.new.names c.loop-at.at t _ c.loop-at.state.fault c.walk_type.new.state.fault _ c.in_ok-walk_type.ensures.names c.in_ok-walk_type.ensures.fault (ap (λ ts. folded schema c.loop-at.state.fault (walk_types schema.types c.loop-at.names c.loop-at.at ts)) (sym front) ∙ c.loop-at.invariant.fault);
-      trail = c.in_ok-walk_type.ensures.trail;
+      parent_path = c.in_ok-walk_type.ensures.parent_path;
     }

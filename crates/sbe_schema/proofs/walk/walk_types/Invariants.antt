@@ -10,5 +10,5 @@ invariant-loop-at l =
     let schema = l.index.schema.now in
     record {
       fault : folded schema l.state.fault (walk_types schema.types l.names l.at (drop l.at l.types)) ≡ folded schema l.fn.state.fault (walk_types schema.types set.empty 0 l.types);
-      trail : l.state.trail.items ≡ [];
+      parent_path : l.state.parent_path.items ≡ [];
     }

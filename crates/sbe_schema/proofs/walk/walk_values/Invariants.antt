@@ -9,6 +9,6 @@ abbrev pub invariant-loop-at : goal.invariant-loop-at
 invariant-loop-at l =
     let schema = l.index.schema.now in
     record {
-      fault : folded schema l.state.fault (walk_values l.state.trail.items l.prim l.names l.numbers l.at (drop l.at l.values)) ≡ folded schema l.fn.state.fault (walk_values l.fn.state.trail.items l.prim set.empty set.empty 0 l.values);
-      trail : l.state.trail.items ≡ l.fn.state.trail.items;
+      fault : folded schema l.state.fault (walk_values l.state.parent_path.items l.prim l.names l.numbers l.at (drop l.at l.values)) ≡ folded schema l.fn.state.fault (walk_values l.fn.state.parent_path.items l.prim set.empty set.empty 0 l.values);
+      parent_path : l.state.parent_path.items ≡ l.fn.state.parent_path.items;
     }

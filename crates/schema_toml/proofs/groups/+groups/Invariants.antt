@@ -25,4 +25,4 @@ decreases-read_inside l = 4 * depth (view l.keys.now) + 1
 abbrev pub invariant-read_groups-loop-value : goal.invariant-read_groups-loop-value
 invariant-read_groups-loop-value l =
     (length l.groups.items ≡ l.value-index)
-    × (groups_of l.holder.since (view l.fn.value) ≡ (groups_from l.holder.since l.value-index (items_view (drop l.value-index l.value-items)) >>= (λ rest. Ok (behind l.groups.items rest))))
+    × (groups_of l.parent.since (view l.fn.value) ≡ (groups_from l.parent.since l.value-index (items_view (drop l.value-index l.value-items)) >>= (λ rest. Ok (behind l.groups.items rest))))

@@ -2,7 +2,7 @@
 
 /// The block that holds an element.
 #[derive(Debug, Clone, Copy, PartialEq, Eq)]
-pub struct Holder {
+pub struct Parent {
     /// How deep its group lies: 0 for a message's root block, 4 for every depth from 4 on.
     pub depth: u8,
     /// Since when it is there.
