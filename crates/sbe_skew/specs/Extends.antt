@@ -18,8 +18,8 @@ use Rattle.schema_types.specs.Groups.{GroupHead, GroupTree, no_groups, group}
 use Rattle.schema_types.specs.contracts.types.Presence as presence
 use Rattle.schema_types.specs.contracts.types.ConstantPartialEq.TheImpl as constant
 use Rattle.schema_types.specs.contracts.messages.DataDefPartialEq.TheImpl as datum
-use Rattle.sbe_schema.specs.declared.fault.Part.{Part}
-use Rattle.sbe_schema.specs.declared.fault.Part.TheVariants.{Messages, Fields, Groups, Data}
+use Rattle.sbe_schema.specs.declared.fault.TableArray.{TableArray}
+use Rattle.sbe_schema.specs.declared.fault.TableArray.TheVariants.{Messages, Fields, Groups, Data}
 use Rattle.sbe_schema.specs.Names.{same_name}
 use Rattle.sbe_schema.specs.Places.{key_of}
 use Rattle.sbe_skew.specs.declared.fault.SkewFault.{SkewFault}
@@ -70,7 +70,7 @@ pub record Extends (newer older : Schema) : Type 0 where
 
 -- ---- the first element, in the order of one schema, that the other has not in its place
 
-abbrev pub under : Part → ℕ → List Step → List Step
+abbrev pub under : TableArray → ℕ → List Step → List Step
 under part at path = Key (key_of part) ∷ At at ∷ path
 
 abbrev pub or_else : Option (List Step) → Option (List Step) → Option (List Step)

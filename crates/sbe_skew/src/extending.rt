@@ -8,7 +8,7 @@ use crate::fault::SkewFault;
 use crate::projecting::project_schema;
 use crate::same_types::is_same_type;
 use sbe_schema::{
-    Checked, DataDef, FieldDef, GroupDef, MessageDef, Part, Schema, TypeDef, part_key,
+    Checked, DataDef, FieldDef, GroupDef, MessageDef, Schema, TableArray, TypeDef, array_key,
 };
 use sbe_value::{Bytes, Path, Step};
 use std::alloc::{AllocError, Global};
@@ -81,10 +81,10 @@ struct Both<'a> {
 }
 
 // A place in a list, and a path behind it.
-fn path_under(alloc: Global, part: Part, at: u64, path: Path) -> Result<Path, AllocError>
+fn path_under(alloc: Global, part: TableArray, at: u64, path: Path) -> Result<Path, AllocError>
     ensures { IfOk result (λ whole. whole ≡ under part at path) }
 {
-    let key = Bytes::from_slice(alloc, part_key(part))?;
+    let key = Bytes::from_slice(alloc, array_key(part))?;
     let mut steps: Vec<Step> = path.into();
     steps.insert(0, Step::At(at))?;
     steps.insert(0, Step::Key(key))?;
@@ -92,7 +92,7 @@ fn path_under(alloc: Global, part: Part, at: u64, path: Path) -> Result<Path, Al
 }
 
 // A place in a list.
-fn path_at(alloc: Global, part: Part, at: u64) -> Result<Option<Path>, AllocError>
+fn path_at(alloc: Global, part: TableArray, at: u64) -> Result<Option<Path>, AllocError>
     ensures { IfOk result (λ path. path ≡ Some (under part at [])) }
 {
     Ok(Some(path_under(alloc, part, at, Path::new(alloc))?))
@@ -111,14 +111,14 @@ fn other_messages(
     match (messages, others) {
         ([m, messages @ ..], [n, others @ ..]) => {
             if !is_same_template(m, n) {
-                return path_at(alloc, Part::Messages, at);
+                return path_at(alloc, TableArray::Messages, at);
             }
             match other_parts(alloc, types, m, n)? {
-                Some(path) => Ok(Some(path_under(alloc, Part::Messages, at, path)?)),
+                Some(path) => Ok(Some(path_under(alloc, TableArray::Messages, at, path)?)),
                 None => other_messages(alloc, types, at + 1, messages, others),
             }
         }
-        ([_m, _messages @ ..], []) => path_at(alloc, Part::Messages, at),
+        ([_m, _messages @ ..], []) => path_at(alloc, TableArray::Messages, at),
         ([], _) => Ok(None),
     }
 }
@@ -162,14 +162,14 @@ fn other_groups(
     match (groups, others) {
         ([g, groups @ ..], [h, others @ ..]) => {
             if !is_same_head(g, h) {
-                return path_at(alloc, Part::Groups, at);
+                return path_at(alloc, TableArray::Groups, at);
             }
             match other_parts_of_group(alloc, types, g, h)? {
-                Some(path) => Ok(Some(path_under(alloc, Part::Groups, at, path)?)),
+                Some(path) => Ok(Some(path_under(alloc, TableArray::Groups, at, path)?)),
                 None => other_groups(alloc, types, at + 1, groups, others),
             }
         }
-        ([_g, _groups @ ..], []) => path_at(alloc, Part::Groups, at),
+        ([_g, _groups @ ..], []) => path_at(alloc, TableArray::Groups, at),
         ([], _) => Ok(None),
     }
 }
@@ -221,10 +221,10 @@ fn other_fields(
             if is_same_field(types, f, g) {
                 other_fields(alloc, types, at + 1, fields, others)
             } else {
-                path_at(alloc, Part::Fields, at)
+                path_at(alloc, TableArray::Fields, at)
             }
         }
-        ([_f, _fields @ ..], []) => path_at(alloc, Part::Fields, at),
+        ([_f, _fields @ ..], []) => path_at(alloc, TableArray::Fields, at),
         ([], _) => Ok(None),
     }
 }
@@ -255,10 +255,10 @@ fn other_data(
             if *d == *e {
                 other_data(alloc, at + 1, vars, others)
             } else {
-                path_at(alloc, Part::Data, at)
+                path_at(alloc, TableArray::Data, at)
             }
         }
-        ([_d, _vars @ ..], []) => path_at(alloc, Part::Data, at),
+        ([_d, _vars @ ..], []) => path_at(alloc, TableArray::Data, at),
         ([], _) => Ok(None),
     }
 }

@@ -4,10 +4,8 @@
 #![tactic(auto)]
 
 mod cases;
-mod numbers;
 mod samples;
-mod told;
-mod values;
+mod verdict;
 
 use std::{fs, io};
 

@@ -1,13 +1,14 @@
 //! A schema in a file of its own: its layout, the marks and data of its blocks,
 //! and whether its copy and its text, read back, are equal to it.
 
-use crate::told::fault_text;
+use crate::verdict::fault_text;
 use layout_text::message_lines;
 use lists::{Element, are_equal};
 use sbe_layout::{BlockPlan, MessagePlan, Plan};
 use sbe_schema::Schema;
 use schema_load::load;
-use schema_toml::{ConfigFault, print_schema, read_schema};
+use schema_print::print_schema;
+use schema_toml::{ConfigFault, read_schema};
 use std::alloc::{AllocError, Global};
 use std::rt::Files;
 use std::{fs, io};

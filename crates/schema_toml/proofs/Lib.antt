@@ -1,15 +1,1 @@
 pub mod Nested
-pub mod WithKeys
-pub mod Steps
-pub mod Puts
-pub mod Grouped
-pub mod WordsBack
-pub mod TypesBack
-pub mod MessagesBack
-pub mod SchemaBack
-pub mod Depths
-pub mod Sound
-pub mod Tails
-pub mod Strings
-pub mod Parsed
-pub mod Utf8

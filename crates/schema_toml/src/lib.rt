@@ -5,12 +5,10 @@
 mod fault;
 mod groups;
 mod messages;
-mod print;
 mod text;
 mod types;
 mod words;
 
 pub use fault::{ConfigFault, TEXT_LIMIT};
-pub use print::print_schema;
 pub use text::read_schema;
 pub use toml_walk::TomlFault;
