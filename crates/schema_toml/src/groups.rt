@@ -103,7 +103,7 @@ fn read_group(alloc: Global, parent: Parent, keys: &Value) -> Result<GroupDef, T
 }
 
 /// What a group says of itself before what lies in it.
-#[derive(Debug, Drop)]
+#[derive(Drop)]
 pub struct Start {
     name: Bytes,
     id: u16,
@@ -114,7 +114,7 @@ pub struct Start {
 }
 
 /// What lies in a group.
-#[derive(Debug, Drop)]
+#[derive(Drop)]
 pub struct Inside {
     fields: FieldDefs,
     groups: GroupDefs,

@@ -21,7 +21,7 @@ use toml_walk::{
 pub const GREATEST_ID: u64 = 65534;
 
 /// What holds an element, as far as the element's defaults depend on it.
-#[derive(Clone, Copy, Debug)]
+#[derive(Clone, Copy)]
 pub struct Parent {
     /// The version with which it came.
     pub since: i128,

@@ -112,7 +112,7 @@ impl Reader for Members {
 }
 
 /// What a type may be.
-#[derive(Clone, Copy, Debug, PartialEq, Eq)]
+#[derive(Clone, Copy)]
 pub enum Kind {
     /// A number or an array.
     Number,
