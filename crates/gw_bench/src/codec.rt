@@ -1,7 +1,7 @@
 //! Writing and reading each session message many times.
 //! Relies on `fixp_msgs`.
 
-ghost use Rattle.std.specs.Prelude.{◌≡◌, ◌<◌, ◌≤◌, ◌^◌, length};
+ghost use Rattle.std.specs.Prelude.{◌≡◌, ◌-◌, ◌<◌, ◌≤◌, ◌^◌, length};
 
 use crate::messages::{made, sum_of};
 use fixp_msgs::{FrameKind, kind, read, size, write};
@@ -19,8 +19,7 @@ const FRAMING: usize = 6;
 /// Writes the message of a template at the front, where there is room, and answers the frame's size.
 fn put(template: u16, number: u64, out: &mut [u8]) -> usize
     requires number { number < 2 ^ 64 - 1 }
-    ensures within { result ≤ length out.new }
-    ensures same { length out.new ≡ length out.old }
+    ensures within { result ≤ length out.old }
 {
     let message = made(template, number, &DATA);
     if size(&message) > out.len() {
@@ -31,13 +30,11 @@ fn put(template: u16, number: u64, out: &mut [u8]) -> usize
 
 /// Writes the message of a template so many times, with the numbers 0, 1 and so on, one frame behind another, and answers the
 /// sum of their sizes.
-pub fn write_many(template: u16, count: u64, buffer: &mut [u8]) -> u64
-    ensures same { length buffer.new ≡ length buffer.old }
-{
+pub fn write_many(template: u16, count: u64, buffer: &mut [u8]) -> u64 {
     let mut at = 0usize;
     let mut sum = 0u64;
     for number in 0..count {
-        if buffer.len() - at < MOST {
+        if at > buffer.len() || buffer.len() - at < MOST {
             at = 0;
         }
         let written = put(template, number, &mut buffer[at..]);

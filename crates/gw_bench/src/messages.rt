@@ -2,7 +2,7 @@
 //! read of it is a sum.
 //! Relies on `fixp_msgs`.
 
-ghost use Rattle.std.specs.Prelude.{◌≡◌, ◌<◌, ◌≤◌, ◌^◌, length};
+ghost use Rattle.std.specs.Prelude.{◌≡◌, ◌-◌, ◌<◌, ◌≤◌, ◌^◌, length};
 ghost use Rattle.fixp_msgs.specs.Message.{message_of};
 ghost use Rattle.fixp_msgs.specs.Canonical.{IsWritable};
 
@@ -19,72 +19,72 @@ const SESSION: [u8; 16] = [
 
 /// The message of a template, with this number in each field, as much of it as the field holds; a Terminate where no message
 /// has the template.
-pub fn made(template: u16, number: u64, data: &[u8]) -> SessionMsg<'_>
+pub fn made(template: u16, number: u64, datum: &[u8]) -> SessionMsg<'_>
     requires number { number < 2 ^ 64 - 1 }
-    requires data { length data.now ≤ 2048 }
+    requires datum { length datum.now ≤ 2048 }
     ensures writable { IsWritable (message_of result) }
 {
     match template {
-        1 => negotiate(number, data),
-        2 => negotiation_response(number, data),
-        3 => negotiation_reject(number, data),
-        4 => establish(number, data),
+        1 => negotiate(number, datum),
+        2 => negotiation_response(number, datum),
+        3 => negotiation_reject(number, datum),
+        4 => establish(number, datum),
         5 => establishment_ack(number),
-        6 => establishment_reject(number, data),
+        6 => establishment_reject(number, datum),
         7 => sequence(number),
         8 => SessionMsg::UnsequencedHeartbeat(UnsequencedHeartbeat),
         9 => retransmit_request(number),
         10 => retransmission(number),
-        11 => retransmit_reject(number, data),
+        11 => retransmit_reject(number, datum),
         12 => applied(number),
         13 => not_applied(number),
         14 => finished_sending(number),
         15 => SessionMsg::FinishedReceiving(FinishedReceiving {
             session_id: SESSION,
         }),
-        _ => terminate(number, data),
+        _ => terminate(number, datum),
     }
 }
 
-fn negotiate(number: u64, data: &[u8]) -> SessionMsg<'_>
-    requires data { length data.now ≤ 2048 }
+fn negotiate(number: u64, datum: &[u8]) -> SessionMsg<'_>
+    requires datum { length datum.now ≤ 2048 }
     ensures writable { IsWritable (message_of result) }
 {
     SessionMsg::Negotiate(Negotiate {
         session_id: SESSION,
         timestamp: number,
         client_flow: (number % 256) as u8,
-        credentials: data,
+        credentials: datum,
     })
 }
 
-fn negotiation_response(number: u64, data: &[u8]) -> SessionMsg<'_>
-    requires data { length data.now ≤ 2048 }
+fn negotiation_response(number: u64, datum: &[u8]) -> SessionMsg<'_>
+    requires datum { length datum.now ≤ 2048 }
     ensures writable { IsWritable (message_of result) }
 {
     SessionMsg::NegotiationResponse(NegotiationResponse {
         session_id: SESSION,
         request_timestamp: number,
         server_flow: (number % 256) as u8,
-        credentials: data,
+        credentials: datum,
     })
 }
 
-fn negotiation_reject(number: u64, data: &[u8]) -> SessionMsg<'_>
-    requires data { length data.now ≤ 2048 }
+fn negotiation_reject(number: u64, datum: &[u8]) -> SessionMsg<'_>
+    requires datum { length datum.now ≤ 2048 }
     ensures writable { IsWritable (message_of result) }
 {
     SessionMsg::NegotiationReject(NegotiationReject {
         session_id: SESSION,
         request_timestamp: number,
         code: (number % 256) as u8,
-        reason: data,
+        reason: datum,
     })
 }
 
-fn establish(number: u64, data: &[u8]) -> SessionMsg<'_>
+fn establish(number: u64, datum: &[u8]) -> SessionMsg<'_>
     requires number { number < 2 ^ 64 - 1 }
-    requires data { length data.now ≤ 2048 }
+    requires datum { length datum.now ≤ 2048 }
     ensures writable { IsWritable (message_of result) }
 {
     SessionMsg::Establish(Establish {
@@ -92,7 +92,7 @@ fn establish(number: u64, data: &[u8]) -> SessionMsg<'_>
         timestamp: number,
         keepalive: (number % 0x1_0000_0000) as u32,
         next_seq: Some(number),
-        credentials: data,
+        credentials: datum,
     })
 }
 
@@ -108,15 +108,15 @@ fn establishment_ack(number: u64) -> SessionMsg<'static>
     })
 }
 
-fn establishment_reject(number: u64, data: &[u8]) -> SessionMsg<'_>
-    requires data { length data.now ≤ 2048 }
+fn establishment_reject(number: u64, datum: &[u8]) -> SessionMsg<'_>
+    requires datum { length datum.now ≤ 2048 }
     ensures writable { IsWritable (message_of result) }
 {
     SessionMsg::EstablishmentReject(EstablishmentReject {
         session_id: SESSION,
         request_timestamp: number,
         code: (number % 256) as u8,
-        reason: data,
+        reason: datum,
     })
 }
 
@@ -148,15 +148,15 @@ fn retransmission(number: u64) -> SessionMsg<'static>
     })
 }
 
-fn retransmit_reject(number: u64, data: &[u8]) -> SessionMsg<'_>
-    requires data { length data.now ≤ 2048 }
+fn retransmit_reject(number: u64, datum: &[u8]) -> SessionMsg<'_>
+    requires datum { length datum.now ≤ 2048 }
     ensures writable { IsWritable (message_of result) }
 {
     SessionMsg::RetransmitReject(RetransmitReject {
         session_id: SESSION,
         request_timestamp: number,
         code: (number % 256) as u8,
-        reason: data,
+        reason: datum,
     })
 }
 
@@ -188,14 +188,14 @@ fn finished_sending(number: u64) -> SessionMsg<'static>
     })
 }
 
-fn terminate(number: u64, data: &[u8]) -> SessionMsg<'_>
-    requires data { length data.now ≤ 2048 }
+fn terminate(number: u64, datum: &[u8]) -> SessionMsg<'_>
+    requires datum { length datum.now ≤ 2048 }
     ensures writable { IsWritable (message_of result) }
 {
     SessionMsg::Terminate(Terminate {
         session_id: SESSION,
         code: (number % 256) as u8,
-        reason: data,
+        reason: datum,
     })
 }
 
