@@ -1,10 +1,13 @@
 //! Writing and reading each session message many times.
 //! Relies on `fixp_msgs`.
 
-ghost use Rattle.std.specs.Prelude.{◌≡◌, ◌-◌, ◌<◌, ◌≤◌, ◌^◌, length};
+ghost use Rattle.std.specs.Prelude.{◌-◌, ◌<◌, ◌≤◌, ◌^◌, length};
+ghost use Rattle.fixp_msgs.specs.Message.{message_of};
+ghost use Rattle.fixp_msgs.specs.Canonical.{IsWritable};
 
-use crate::messages::{made, sum_of};
-use fixp_msgs::{FrameKind, kind, read, size, write};
+use crate::messages;
+use crate::messages::sum_of;
+use fixp_msgs::{FrameKind, SessionMsg, kind, read, size, write};
 use sbe_prim::Order;
 
 /// The data of a message that has some.
@@ -16,16 +19,41 @@ const MOST: usize = 2100;
 /// The bytes before a frame's message.
 const FRAMING: usize = 6;
 
-/// Writes the message of a template at the front, where there is room, and answers the frame's size.
+/// Writes a message at the front, where there is room, and answers the frame's size.
+fn put_message(message: &SessionMsg<'_>, out: &mut [u8]) -> usize
+    requires writable { IsWritable (message_of message.now) }
+    ensures within { result ≤ length out.old }
+{
+    if size(message) > out.len() {
+        return 0;
+    }
+    write(message, out)
+}
+
+/// Writes the message of a template with this number in each field; none where no message has the template.
 fn put(template: u16, number: u64, out: &mut [u8]) -> usize
     requires number { number < 2 ^ 64 - 1 }
     ensures within { result ≤ length out.old }
 {
-    let message = made(template, number, &DATA);
-    if size(&message) > out.len() {
-        return 0;
+    match template {
+        1 => put_message(&messages::negotiate(number, &DATA), out),
+        2 => put_message(&messages::negotiation_response(number, &DATA), out),
+        3 => put_message(&messages::negotiation_reject(number, &DATA), out),
+        4 => put_message(&messages::establish(number, &DATA), out),
+        5 => put_message(&messages::establishment_ack(number), out),
+        6 => put_message(&messages::establishment_reject(number, &DATA), out),
+        7 => put_message(&messages::sequence(number), out),
+        8 => put_message(&messages::unsequenced_heartbeat(), out),
+        9 => put_message(&messages::retransmit_request(number), out),
+        10 => put_message(&messages::retransmission(number), out),
+        11 => put_message(&messages::retransmit_reject(number, &DATA), out),
+        12 => put_message(&messages::applied(number), out),
+        13 => put_message(&messages::not_applied(number), out),
+        14 => put_message(&messages::finished_sending(number), out),
+        15 => put_message(&messages::finished_receiving(), out),
+        16 => put_message(&messages::terminate(number, &DATA), out),
+        _ => 0,
     }
-    write(&message, out)
 }
 
 /// Writes the message of a template so many times, with the numbers 0, 1 and so on, one frame behind another, and answers the
@@ -74,9 +102,4 @@ pub fn read_many(frame: usize, count: u64, buffer: &[u8]) -> u64 {
         rest = others;
     }
     sum
-}
-
-/// The size of the frame of a template.
-pub fn frame_of(template: u16) -> usize {
-    size(&made(template, 0, &DATA))
 }

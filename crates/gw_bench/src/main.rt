@@ -5,7 +5,7 @@
 mod codec;
 mod messages;
 
-use codec::{frame_of, read_many, write_many};
+use codec::{read_many, write_many};
 use std::alloc::{AllocError, Global};
 use std::io;
 use std::rt::Env;
@@ -39,7 +39,7 @@ fn written(alloc: Global, template: u16, count: u64) -> Result<(u64, u64), Alloc
 /// What comes of reading a message so many times, of as many frames as the buffer holds.
 fn read_back(alloc: Global, template: u16, count: u64) -> Result<u64, AllocError> {
     let mut bytes = buffer(alloc)?;
-    let frame = frame_of(template);
+    let frame = write_many(template, 1, bytes.as_mut_slice()) as usize;
     let held = (ROOM / frame.max(1)).min(400);
     let _ = write_many(template, held as u64, bytes.as_mut_slice());
     let end = (held * frame).min(bytes.len());

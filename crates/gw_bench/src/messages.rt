@@ -1,5 +1,5 @@
-//! The sixteen session messages as a benchmark makes and reads them: each number of a message is the same one, and what is
-//! read of it is a sum.
+//! The sixteen session messages as a benchmark makes and reads them: each field of a message has the same number, as much of it
+//! as the field holds, and what is read of it is a sum.
 //! Relies on `fixp_msgs`.
 
 ghost use Rattle.std.specs.Prelude.{◌≡◌, ◌-◌, ◌<◌, ◌≤◌, ◌^◌, length};
@@ -17,36 +17,7 @@ const SESSION: [u8; 16] = [
     0x00, 0x11, 0x22, 0x33, 0x44, 0x55, 0x66, 0x77, 0x88, 0x99, 0xAA, 0xBB, 0xCC, 0xDD, 0xEE, 0xFF,
 ];
 
-/// The message of a template, with this number in each field, as much of it as the field holds; a Terminate where no message
-/// has the template.
-pub fn made(template: u16, number: u64, datum: &[u8]) -> SessionMsg<'_>
-    requires number { number < 2 ^ 64 - 1 }
-    requires datum { length datum.now ≤ 2048 }
-    ensures writable { IsWritable (message_of result) }
-{
-    match template {
-        1 => negotiate(number, datum),
-        2 => negotiation_response(number, datum),
-        3 => negotiation_reject(number, datum),
-        4 => establish(number, datum),
-        5 => establishment_ack(number),
-        6 => establishment_reject(number, datum),
-        7 => sequence(number),
-        8 => SessionMsg::UnsequencedHeartbeat(UnsequencedHeartbeat),
-        9 => retransmit_request(number),
-        10 => retransmission(number),
-        11 => retransmit_reject(number, datum),
-        12 => applied(number),
-        13 => not_applied(number),
-        14 => finished_sending(number),
-        15 => SessionMsg::FinishedReceiving(FinishedReceiving {
-            session_id: SESSION,
-        }),
-        _ => terminate(number, datum),
-    }
-}
-
-fn negotiate(number: u64, datum: &[u8]) -> SessionMsg<'_>
+pub fn negotiate(number: u64, datum: &[u8]) -> SessionMsg<'_>
     requires datum { length datum.now ≤ 2048 }
     ensures writable { IsWritable (message_of result) }
 {
@@ -58,7 +29,7 @@ fn negotiate(number: u64, datum: &[u8]) -> SessionMsg<'_>
     })
 }
 
-fn negotiation_response(number: u64, datum: &[u8]) -> SessionMsg<'_>
+pub fn negotiation_response(number: u64, datum: &[u8]) -> SessionMsg<'_>
     requires datum { length datum.now ≤ 2048 }
     ensures writable { IsWritable (message_of result) }
 {
@@ -70,7 +41,7 @@ fn negotiation_response(number: u64, datum: &[u8]) -> SessionMsg<'_>
     })
 }
 
-fn negotiation_reject(number: u64, datum: &[u8]) -> SessionMsg<'_>
+pub fn negotiation_reject(number: u64, datum: &[u8]) -> SessionMsg<'_>
     requires datum { length datum.now ≤ 2048 }
     ensures writable { IsWritable (message_of result) }
 {
@@ -82,7 +53,7 @@ fn negotiation_reject(number: u64, datum: &[u8]) -> SessionMsg<'_>
     })
 }
 
-fn establish(number: u64, datum: &[u8]) -> SessionMsg<'_>
+pub fn establish(number: u64, datum: &[u8]) -> SessionMsg<'_>
     requires number { number < 2 ^ 64 - 1 }
     requires datum { length datum.now ≤ 2048 }
     ensures writable { IsWritable (message_of result) }
@@ -96,7 +67,7 @@ fn establish(number: u64, datum: &[u8]) -> SessionMsg<'_>
     })
 }
 
-fn establishment_ack(number: u64) -> SessionMsg<'static>
+pub fn establishment_ack(number: u64) -> SessionMsg<'static>
     requires number { number < 2 ^ 64 - 1 }
     ensures writable { IsWritable (message_of result) }
 {
@@ -108,7 +79,7 @@ fn establishment_ack(number: u64) -> SessionMsg<'static>
     })
 }
 
-fn establishment_reject(number: u64, datum: &[u8]) -> SessionMsg<'_>
+pub fn establishment_reject(number: u64, datum: &[u8]) -> SessionMsg<'_>
     requires datum { length datum.now ≤ 2048 }
     ensures writable { IsWritable (message_of result) }
 {
@@ -120,13 +91,13 @@ fn establishment_reject(number: u64, datum: &[u8]) -> SessionMsg<'_>
     })
 }
 
-fn sequence(number: u64) -> SessionMsg<'static>
+pub fn sequence(number: u64) -> SessionMsg<'static>
     ensures writable { IsWritable (message_of result) }
 {
     SessionMsg::Sequence(Sequence { next_seq: number })
 }
 
-fn retransmit_request(number: u64) -> SessionMsg<'static>
+pub fn retransmit_request(number: u64) -> SessionMsg<'static>
     ensures writable { IsWritable (message_of result) }
 {
     SessionMsg::RetransmitRequest(RetransmitRequest {
@@ -137,7 +108,7 @@ fn retransmit_request(number: u64) -> SessionMsg<'static>
     })
 }
 
-fn retransmission(number: u64) -> SessionMsg<'static>
+pub fn retransmission(number: u64) -> SessionMsg<'static>
     ensures writable { IsWritable (message_of result) }
 {
     SessionMsg::Retransmission(Retransmission {
@@ -148,7 +119,7 @@ fn retransmission(number: u64) -> SessionMsg<'static>
     })
 }
 
-fn retransmit_reject(number: u64, datum: &[u8]) -> SessionMsg<'_>
+pub fn retransmit_reject(number: u64, datum: &[u8]) -> SessionMsg<'_>
     requires datum { length datum.now ≤ 2048 }
     ensures writable { IsWritable (message_of result) }
 {
@@ -160,7 +131,7 @@ fn retransmit_reject(number: u64, datum: &[u8]) -> SessionMsg<'_>
     })
 }
 
-fn applied(number: u64) -> SessionMsg<'static>
+pub fn applied(number: u64) -> SessionMsg<'static>
     ensures writable { IsWritable (message_of result) }
 {
     SessionMsg::Applied(Applied {
@@ -169,7 +140,7 @@ fn applied(number: u64) -> SessionMsg<'static>
     })
 }
 
-fn not_applied(number: u64) -> SessionMsg<'static>
+pub fn not_applied(number: u64) -> SessionMsg<'static>
     ensures writable { IsWritable (message_of result) }
 {
     SessionMsg::NotApplied(NotApplied {
@@ -178,7 +149,7 @@ fn not_applied(number: u64) -> SessionMsg<'static>
     })
 }
 
-fn finished_sending(number: u64) -> SessionMsg<'static>
+pub fn finished_sending(number: u64) -> SessionMsg<'static>
     requires number { number < 2 ^ 64 - 1 }
     ensures writable { IsWritable (message_of result) }
 {
@@ -188,7 +159,7 @@ fn finished_sending(number: u64) -> SessionMsg<'static>
     })
 }
 
-fn terminate(number: u64, datum: &[u8]) -> SessionMsg<'_>
+pub fn terminate(number: u64, datum: &[u8]) -> SessionMsg<'_>
     requires datum { length datum.now ≤ 2048 }
     ensures writable { IsWritable (message_of result) }
 {
@@ -197,6 +168,20 @@ fn terminate(number: u64, datum: &[u8]) -> SessionMsg<'_>
         code: (number % 256) as u8,
         reason: datum,
     })
+}
+
+pub fn finished_receiving() -> SessionMsg<'static>
+    ensures writable { IsWritable (message_of result) }
+{
+    SessionMsg::FinishedReceiving(FinishedReceiving {
+        session_id: SESSION,
+    })
+}
+
+pub fn unsequenced_heartbeat() -> SessionMsg<'static>
+    ensures writable { IsWritable (message_of result) }
+{
+    SessionMsg::UnsequencedHeartbeat(UnsequencedHeartbeat)
 }
 
 /// The sum of all numbers that a message has: its fields, the first and the last byte of the session's identifier, and the
