@@ -2,9 +2,6 @@
 //! What `gw_bench` does with messages is compared with this; it is no part of the product.
 use std::env;
 
-const SESSION: [u8; 16] = [
-    0x00, 0x11, 0x22, 0x33, 0x44, 0x55, 0x66, 0x77, 0x88, 0x99, 0xAA, 0xBB, 0xCC, 0xDD, 0xEE, 0xFF,
-];
 const DATA: &[u8] = b"password";
 const MOST: usize = 2100;
 const ROOM: usize = 65_536;
@@ -100,12 +97,12 @@ fn ends(id: &[u8]) -> u64 {
 }
 
 /// Writes the message of a template with this number in each field, and answers the frame's size.
-fn put(template: u16, n: u64, out: &mut [u8]) -> usize {
+fn put(template: u16, id: &[u8; 16], n: u64, out: &mut [u8]) -> usize {
     match template {
         1 => {
             let size = HEADERS + 25 + 2 + DATA.len();
             Encoder::wrap(out, size, 25, 1)
-                .bytes(&SESSION)
+                .bytes(id)
                 .u64(n)
                 .u8(n as u8)
                 .data(DATA);
@@ -114,7 +111,7 @@ fn put(template: u16, n: u64, out: &mut [u8]) -> usize {
         2 => {
             let size = HEADERS + 25 + 2 + DATA.len();
             Encoder::wrap(out, size, 25, 2)
-                .bytes(&SESSION)
+                .bytes(id)
                 .u64(n)
                 .u8(n as u8)
                 .data(DATA);
@@ -123,7 +120,7 @@ fn put(template: u16, n: u64, out: &mut [u8]) -> usize {
         3 => {
             let size = HEADERS + 25 + 2 + DATA.len();
             Encoder::wrap(out, size, 25, 3)
-                .bytes(&SESSION)
+                .bytes(id)
                 .u64(n)
                 .u8(n as u8)
                 .data(DATA);
@@ -132,7 +129,7 @@ fn put(template: u16, n: u64, out: &mut [u8]) -> usize {
         4 => {
             let size = HEADERS + 36 + 2 + DATA.len();
             Encoder::wrap(out, size, 36, 4)
-                .bytes(&SESSION)
+                .bytes(id)
                 .u64(n)
                 .u32(n as u32)
                 .optional(Some(n))
@@ -142,7 +139,7 @@ fn put(template: u16, n: u64, out: &mut [u8]) -> usize {
         5 => {
             let size = HEADERS + 36;
             Encoder::wrap(out, size, 36, 5)
-                .bytes(&SESSION)
+                .bytes(id)
                 .u64(n)
                 .u32(n as u32)
                 .optional(Some(n));
@@ -151,7 +148,7 @@ fn put(template: u16, n: u64, out: &mut [u8]) -> usize {
         6 => {
             let size = HEADERS + 25 + 2 + DATA.len();
             Encoder::wrap(out, size, 25, 6)
-                .bytes(&SESSION)
+                .bytes(id)
                 .u64(n)
                 .u8(n as u8)
                 .data(DATA);
@@ -170,7 +167,7 @@ fn put(template: u16, n: u64, out: &mut [u8]) -> usize {
         9 => {
             let size = HEADERS + 36;
             Encoder::wrap(out, size, 36, 9)
-                .bytes(&SESSION)
+                .bytes(id)
                 .u64(n)
                 .u64(n)
                 .u32(n as u32);
@@ -179,7 +176,7 @@ fn put(template: u16, n: u64, out: &mut [u8]) -> usize {
         10 => {
             let size = HEADERS + 36;
             Encoder::wrap(out, size, 36, 10)
-                .bytes(&SESSION)
+                .bytes(id)
                 .u64(n)
                 .u64(n)
                 .u32(n as u32);
@@ -188,7 +185,7 @@ fn put(template: u16, n: u64, out: &mut [u8]) -> usize {
         11 => {
             let size = HEADERS + 25 + 2 + DATA.len();
             Encoder::wrap(out, size, 25, 11)
-                .bytes(&SESSION)
+                .bytes(id)
                 .u64(n)
                 .u8(n as u8)
                 .data(DATA);
@@ -206,20 +203,18 @@ fn put(template: u16, n: u64, out: &mut [u8]) -> usize {
         }
         14 => {
             let size = HEADERS + 24;
-            Encoder::wrap(out, size, 24, 14)
-                .bytes(&SESSION)
-                .optional(Some(n));
+            Encoder::wrap(out, size, 24, 14).bytes(id).optional(Some(n));
             size
         }
         15 => {
             let size = HEADERS + 16;
-            Encoder::wrap(out, size, 16, 15).bytes(&SESSION);
+            Encoder::wrap(out, size, 16, 15).bytes(id);
             size
         }
         16 => {
             let size = HEADERS + 17 + 2 + DATA.len();
             Encoder::wrap(out, size, 17, 16)
-                .bytes(&SESSION)
+                .bytes(id)
                 .u8(n as u8)
                 .data(DATA);
             size
@@ -330,13 +325,13 @@ fn sum_of(message: &[u8]) -> Option<u64> {
     Some(sum)
 }
 
-fn write_many(template: u16, count: u64, buffer: &mut [u8]) -> u64 {
+fn write_many(template: u16, id: &[u8; 16], count: u64, buffer: &mut [u8]) -> u64 {
     let (mut at, mut sum) = (0, 0u64);
     for n in 0..count {
         if buffer.len() - at < MOST {
             at = 0;
         }
-        let written = put(template, n, &mut buffer[at..]);
+        let written = put(template, id, n, &mut buffer[at..]);
         at += written;
         sum = sum.wrapping_add(written as u64);
     }
@@ -363,17 +358,18 @@ fn main() {
     let words: Vec<String> = env::args().skip(1).collect();
     let template: u16 = words[1].parse().unwrap();
     let count: u64 = words[2].parse().unwrap();
+    let id = [(count % 256) as u8; 16];
     let mut buffer = vec![0u8; ROOM];
     if words[0] == "write" {
-        let sizes = write_many(template, count, &mut buffer);
+        let sizes = write_many(template, &id, count, &mut buffer);
         let bytes = buffer
             .iter()
             .fold(0u64, |sum, byte| sum.wrapping_add(u64::from(*byte)));
         println!("{sizes} {bytes}");
     } else {
-        let frame = put(template, 0, &mut buffer);
+        let frame = put(template, &id, 0, &mut buffer);
         let held = (ROOM / frame).min(400);
-        write_many(template, held as u64, &mut buffer);
+        write_many(template, &id, held as u64, &mut buffer);
         println!("{}", read_many(frame, count, &buffer[..held * frame]));
     }
 }

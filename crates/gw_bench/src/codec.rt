@@ -1,13 +1,10 @@
 //! Writing and reading each session message many times.
 //! Relies on `fixp_msgs`.
 
-ghost use Rattle.std.specs.Prelude.{◌-◌, ◌<◌, ◌≤◌, ◌^◌, length};
-ghost use Rattle.fixp_msgs.specs.Message.{message_of};
-ghost use Rattle.fixp_msgs.specs.Canonical.{IsWritable};
+ghost use Rattle.std.specs.Prelude.{◌≡◌, ◌-◌, ◌<◌, ◌≤◌, ◌^◌, length};
 
-use crate::messages;
-use crate::messages::sum_of;
-use fixp_msgs::{FrameKind, SessionMsg, kind, read, size, write};
+use crate::messages::{made, sum_of};
+use fixp_msgs::{FrameKind, kind, read, size, write};
 use sbe_prim::Order;
 
 /// The data of a message that has some.
@@ -19,53 +16,28 @@ const MOST: usize = 2100;
 /// The bytes before a frame's message.
 const FRAMING: usize = 6;
 
-/// Writes a message at the front, where there is room, and answers the frame's size.
-fn put_message(message: &SessionMsg<'_>, out: &mut [u8]) -> usize
-    requires writable { IsWritable (message_of message.now) }
-    ensures within { result ≤ length out.old }
-{
-    if size(message) > out.len() {
-        return 0;
-    }
-    write(message, out)
-}
-
-/// Writes the message of a template with this number in each field; none where no message has the template.
-fn put(template: u16, number: u64, out: &mut [u8]) -> usize
+/// Writes the message of a template at the front, where there is room, and answers the frame's size.
+fn put(template: u16, id: &[u8; 16], number: u64, out: &mut [u8]) -> usize
     requires number { number < 2 ^ 64 - 1 }
     ensures within { result ≤ length out.old }
 {
-    match template {
-        1 => put_message(&messages::negotiate(number, &DATA), out),
-        2 => put_message(&messages::negotiation_response(number, &DATA), out),
-        3 => put_message(&messages::negotiation_reject(number, &DATA), out),
-        4 => put_message(&messages::establish(number, &DATA), out),
-        5 => put_message(&messages::establishment_ack(number), out),
-        6 => put_message(&messages::establishment_reject(number, &DATA), out),
-        7 => put_message(&messages::sequence(number), out),
-        8 => put_message(&messages::unsequenced_heartbeat(), out),
-        9 => put_message(&messages::retransmit_request(number), out),
-        10 => put_message(&messages::retransmission(number), out),
-        11 => put_message(&messages::retransmit_reject(number, &DATA), out),
-        12 => put_message(&messages::applied(number), out),
-        13 => put_message(&messages::not_applied(number), out),
-        14 => put_message(&messages::finished_sending(number), out),
-        15 => put_message(&messages::finished_receiving(), out),
-        16 => put_message(&messages::terminate(number, &DATA), out),
-        _ => 0,
+    let message = made(template, id, number, &DATA);
+    if size(&message) > out.len() {
+        return 0;
     }
+    write(&message, out)
 }
 
 /// Writes the message of a template so many times, with the numbers 0, 1 and so on, one frame behind another, and answers the
 /// sum of their sizes.
-pub fn write_many(template: u16, count: u64, buffer: &mut [u8]) -> u64 {
+pub fn write_many(template: u16, id: &[u8; 16], count: u64, buffer: &mut [u8]) -> u64 {
     let mut at = 0usize;
     let mut sum = 0u64;
     for number in 0..count {
         if at > buffer.len() || buffer.len() - at < MOST {
             at = 0;
         }
-        let written = put(template, number, &mut buffer[at..]);
+        let written = put(template, id, number, &mut buffer[at..]);
         at += written;
         sum = sum.wrapping_add(written as u64);
     }

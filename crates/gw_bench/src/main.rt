@@ -20,6 +20,11 @@ fn buffer(alloc: Global) -> Result<Vec<u8>, AllocError> {
     Ok(bytes)
 }
 
+/// A session that is known when the program runs.
+fn session(count: u64) -> [u8; 16] {
+    [(count % 256) as u8; 16]
+}
+
 /// The sum of some bytes.
 fn sum_of_bytes(bytes: &[u8]) -> u64 {
     let mut sum = 0u64;
@@ -32,16 +37,17 @@ fn sum_of_bytes(bytes: &[u8]) -> u64 {
 /// What comes of writing a message so many times: the sum of the frames' sizes, and that of the bytes that stand then.
 fn written(alloc: Global, template: u16, count: u64) -> Result<(u64, u64), AllocError> {
     let mut bytes = buffer(alloc)?;
-    let sizes = write_many(template, count, bytes.as_mut_slice());
+    let sizes = write_many(template, &session(count), count, bytes.as_mut_slice());
     Ok((sizes, sum_of_bytes(bytes.as_slice())))
 }
 
 /// What comes of reading a message so many times, of as many frames as the buffer holds.
 fn read_back(alloc: Global, template: u16, count: u64) -> Result<u64, AllocError> {
     let mut bytes = buffer(alloc)?;
-    let frame = write_many(template, 1, bytes.as_mut_slice()) as usize;
+    let id = session(count);
+    let frame = write_many(template, &id, 1, bytes.as_mut_slice()) as usize;
     let held = (ROOM / frame.max(1)).min(400);
-    let _ = write_many(template, held as u64, bytes.as_mut_slice());
+    let _ = write_many(template, &id, held as u64, bytes.as_mut_slice());
     let end = (held * frame).min(bytes.len());
     Ok(read_many(frame, count, &bytes.as_slice()[..end]))
 }

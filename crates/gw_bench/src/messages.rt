@@ -12,54 +12,76 @@ use fixp_msgs::{
     RetransmitReject, RetransmitRequest, Sequence, SessionMsg, Terminate, UnsequencedHeartbeat,
 };
 
-/// The session of all messages.
-const SESSION: [u8; 16] = [
-    0x00, 0x11, 0x22, 0x33, 0x44, 0x55, 0x66, 0x77, 0x88, 0x99, 0xAA, 0xBB, 0xCC, 0xDD, 0xEE, 0xFF,
-];
+/// The message of a template and a session, with this number in each field, as much of it as the field holds; a Terminate where no message
+/// has the template.
+pub fn made<'a>(template: u16, id: &[u8; 16], number: u64, datum: &'a [u8]) -> SessionMsg<'a>
+    requires number { number < 2 ^ 64 - 1 }
+    requires datum { length datum.now ≤ 2048 }
+    ensures writable { IsWritable (message_of result) }
+{
+    match template {
+        1 => negotiate(id, number, datum),
+        2 => negotiation_response(id, number, datum),
+        3 => negotiation_reject(id, number, datum),
+        4 => establish(id, number, datum),
+        5 => establishment_ack(id, number),
+        6 => establishment_reject(id, number, datum),
+        7 => sequence(number),
+        8 => SessionMsg::UnsequencedHeartbeat(UnsequencedHeartbeat),
+        9 => retransmit_request(id, number),
+        10 => retransmission(id, number),
+        11 => retransmit_reject(id, number, datum),
+        12 => applied(number),
+        13 => not_applied(number),
+        14 => finished_sending(id, number),
+        15 => SessionMsg::FinishedReceiving(FinishedReceiving { session_id: *id }),
+        _ => terminate(id, number, datum),
+    }
+}
 
-pub fn negotiate(number: u64, datum: &[u8]) -> SessionMsg<'_>
+fn negotiate<'a>(id: &[u8; 16], number: u64, datum: &'a [u8]) -> SessionMsg<'a>
     requires datum { length datum.now ≤ 2048 }
     ensures writable { IsWritable (message_of result) }
 {
     SessionMsg::Negotiate(Negotiate {
-        session_id: SESSION,
+        session_id: *id,
         timestamp: number,
         client_flow: (number % 256) as u8,
         credentials: datum,
     })
 }
 
-pub fn negotiation_response(number: u64, datum: &[u8]) -> SessionMsg<'_>
+fn negotiation_response<'a>(id: &[u8; 16], number: u64, datum: &'a [u8]) -> SessionMsg<'a>
     requires datum { length datum.now ≤ 2048 }
     ensures writable { IsWritable (message_of result) }
 {
     SessionMsg::NegotiationResponse(NegotiationResponse {
-        session_id: SESSION,
+        session_id: *id,
         request_timestamp: number,
         server_flow: (number % 256) as u8,
         credentials: datum,
     })
 }
 
-pub fn negotiation_reject(number: u64, datum: &[u8]) -> SessionMsg<'_>
+fn negotiation_reject<'a>(id: &[u8; 16], number: u64, datum: &'a [u8]) -> SessionMsg<'a>
     requires datum { length datum.now ≤ 2048 }
     ensures writable { IsWritable (message_of result) }
 {
     SessionMsg::NegotiationReject(NegotiationReject {
-        session_id: SESSION,
+        session_id: *id,
         request_timestamp: number,
         code: (number % 256) as u8,
         reason: datum,
     })
 }
 
-pub fn establish(number: u64, datum: &[u8]) -> SessionMsg<'_>
+fn establish<'a>(id: &[u8; 16], number: u64, datum: &'a [u8]) -> SessionMsg<'a>
     requires number { number < 2 ^ 64 - 1 }
     requires datum { length datum.now ≤ 2048 }
     ensures writable { IsWritable (message_of result) }
 {
     SessionMsg::Establish(Establish {
-        session_id: SESSION,
+        session_id: *id,
         timestamp: number,
         keepalive: (number % 0x1_0000_0000) as u32,
         next_seq: Some(number),
@@ -67,71 +89,71 @@ pub fn establish(number: u64, datum: &[u8]) -> SessionMsg<'_>
     })
 }
 
-pub fn establishment_ack(number: u64) -> SessionMsg<'static>
+fn establishment_ack(id: &[u8; 16], number: u64) -> SessionMsg<'static>
     requires number { number < 2 ^ 64 - 1 }
     ensures writable { IsWritable (message_of result) }
 {
     SessionMsg::EstablishmentAck(EstablishmentAck {
-        session_id: SESSION,
+        session_id: *id,
         request_timestamp: number,
         keepalive: (number % 0x1_0000_0000) as u32,
         next_seq: Some(number),
     })
 }
 
-pub fn establishment_reject(number: u64, datum: &[u8]) -> SessionMsg<'_>
+fn establishment_reject<'a>(id: &[u8; 16], number: u64, datum: &'a [u8]) -> SessionMsg<'a>
     requires datum { length datum.now ≤ 2048 }
     ensures writable { IsWritable (message_of result) }
 {
     SessionMsg::EstablishmentReject(EstablishmentReject {
-        session_id: SESSION,
+        session_id: *id,
         request_timestamp: number,
         code: (number % 256) as u8,
         reason: datum,
     })
 }
 
-pub fn sequence(number: u64) -> SessionMsg<'static>
+fn sequence(number: u64) -> SessionMsg<'static>
     ensures writable { IsWritable (message_of result) }
 {
     SessionMsg::Sequence(Sequence { next_seq: number })
 }
 
-pub fn retransmit_request(number: u64) -> SessionMsg<'static>
+fn retransmit_request(id: &[u8; 16], number: u64) -> SessionMsg<'static>
     ensures writable { IsWritable (message_of result) }
 {
     SessionMsg::RetransmitRequest(RetransmitRequest {
-        session_id: SESSION,
+        session_id: *id,
         timestamp: number,
         from_seq: number,
         count: (number % 0x1_0000_0000) as u32,
     })
 }
 
-pub fn retransmission(number: u64) -> SessionMsg<'static>
+fn retransmission(id: &[u8; 16], number: u64) -> SessionMsg<'static>
     ensures writable { IsWritable (message_of result) }
 {
     SessionMsg::Retransmission(Retransmission {
-        session_id: SESSION,
+        session_id: *id,
         next_seq: number,
         request_timestamp: number,
         count: (number % 0x1_0000_0000) as u32,
     })
 }
 
-pub fn retransmit_reject(number: u64, datum: &[u8]) -> SessionMsg<'_>
+fn retransmit_reject<'a>(id: &[u8; 16], number: u64, datum: &'a [u8]) -> SessionMsg<'a>
     requires datum { length datum.now ≤ 2048 }
     ensures writable { IsWritable (message_of result) }
 {
     SessionMsg::RetransmitReject(RetransmitReject {
-        session_id: SESSION,
+        session_id: *id,
         request_timestamp: number,
         code: (number % 256) as u8,
         reason: datum,
     })
 }
 
-pub fn applied(number: u64) -> SessionMsg<'static>
+fn applied(number: u64) -> SessionMsg<'static>
     ensures writable { IsWritable (message_of result) }
 {
     SessionMsg::Applied(Applied {
@@ -140,7 +162,7 @@ pub fn applied(number: u64) -> SessionMsg<'static>
     })
 }
 
-pub fn not_applied(number: u64) -> SessionMsg<'static>
+fn not_applied(number: u64) -> SessionMsg<'static>
     ensures writable { IsWritable (message_of result) }
 {
     SessionMsg::NotApplied(NotApplied {
@@ -149,39 +171,25 @@ pub fn not_applied(number: u64) -> SessionMsg<'static>
     })
 }
 
-pub fn finished_sending(number: u64) -> SessionMsg<'static>
+fn finished_sending(id: &[u8; 16], number: u64) -> SessionMsg<'static>
     requires number { number < 2 ^ 64 - 1 }
     ensures writable { IsWritable (message_of result) }
 {
     SessionMsg::FinishedSending(FinishedSending {
-        session_id: SESSION,
+        session_id: *id,
         last_seq: Some(number),
     })
 }
 
-pub fn terminate(number: u64, datum: &[u8]) -> SessionMsg<'_>
+fn terminate<'a>(id: &[u8; 16], number: u64, datum: &'a [u8]) -> SessionMsg<'a>
     requires datum { length datum.now ≤ 2048 }
     ensures writable { IsWritable (message_of result) }
 {
     SessionMsg::Terminate(Terminate {
-        session_id: SESSION,
+        session_id: *id,
         code: (number % 256) as u8,
         reason: datum,
     })
-}
-
-pub fn finished_receiving() -> SessionMsg<'static>
-    ensures writable { IsWritable (message_of result) }
-{
-    SessionMsg::FinishedReceiving(FinishedReceiving {
-        session_id: SESSION,
-    })
-}
-
-pub fn unsequenced_heartbeat() -> SessionMsg<'static>
-    ensures writable { IsWritable (message_of result) }
-{
-    SessionMsg::UnsequencedHeartbeat(UnsequencedHeartbeat)
 }
 
 /// The sum of all numbers that a message has: its fields, the first and the last byte of the session's identifier, and the
