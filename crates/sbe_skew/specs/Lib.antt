@@ -2,3 +2,4 @@ pub mod Restricted
 pub mod Projected
 pub mod SameTypes
 pub mod Extends
+pub mod Absences

@@ -5,7 +5,10 @@ ghost use Rattle.schema_types.specs.declared.schema.Schema.{Schema};
 ghost use Rattle.sbe_value.specs.declared.message.Message.{Message};
 ghost use Rattle.sbe_schema.specs.Checked.{is_checked};
 ghost use Rattle.sbe_layout.specs.Plans.{plan_of, HasTemplate};
-ghost use Rattle.sbe_grammar.specs.Spelling.{Spells};
+ghost use Rattle.sbe_layout.specs.declared.plan.MessagePlan.{MessagePlan};
+ghost use Rattle.sbe_layout.specs.declared.plan.Plan.{Plan};
+ghost use Rattle.sbe_grammar.specs.Spelling.{Spells, SpellsBy};
+ghost use Rattle.sbe_skew.specs.Absences.{LaterAreAbsent};
 ghost use Rattle.sbe_skew.specs.Extends.{Extends};
 ghost use Rattle.sbe_skew.specs.Projected.{projected};
 ghost use Rattle.sbe_skew.specs.Restricted.{restricted};
@@ -30,4 +33,10 @@ pub fn older_reader()
     ensures law { (newer older : Schema) (bytes : List ℕ) (m : Message) → IsTrue (is_checked newer) → Extends newer older
         → HasTemplate m.template (plan_of older).messages → Spells (plan_of newer) bytes m
         → Spells (plan_of older) bytes (restricted (plan_of newer) m older.version) }
+{}
+
+/// A message has exactly those elements absent that came with a later version than the one in its header, at every depth.
+pub fn later_absent()
+    ensures law { (schema : Plan) (layout : MessagePlan) (bytes : List ℕ) (m : Message) (spelled : SpellsBy schema layout bytes m)
+        → LaterAreAbsent spelled.version layout.root m.root }
 {}

@@ -11,6 +11,6 @@ mod same_types;
 
 pub use extending::extends;
 pub use fault::SkewFault;
-pub use laws::{older_is_checked, older_reader, older_version};
+pub use laws::{later_absent, older_is_checked, older_reader, older_version};
 pub use projecting::project;
 pub use restricting::restrict;

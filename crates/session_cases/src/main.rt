@@ -1,10 +1,9 @@
-//! Cases of frames, of session messages and of the session machine: reads the frames of `frames.txt` and the cases of
+//! Cases of frames and of the session machine: reads the frames of `frames.txt` and the cases of
 //! `cases.txt`, and prints what each case shows. What it has to print stands in `stdout`, worked out by hand.
 #![tactic(auto)]
 
 mod ends;
 mod frames;
-mod messages;
 mod named;
 
 use crate::named::Named;
@@ -19,10 +18,6 @@ fn line_of(alloc: Global, named: Named<'_>, line: &str) -> Result<String, AllocE
         Some(("framer", word)) => frames::framer_line(alloc, named, word),
         Some(("pieces", rest)) => frames::pieces_line(alloc, named, rest),
         Some(("parts", words)) => frames::parts_line(alloc, named, words),
-        Some(("message", word)) => messages::message_line(alloc, named, word),
-        Some(("bytes", digits)) => messages::bytes_line(alloc, digits),
-        Some(("big", digits)) => messages::big_line(alloc, digits),
-        Some(("numbers", words)) => messages::numbers_line(alloc, named, words),
         Some(("server", words)) => ends::server_lines(alloc, named, words),
         _ => line.to_string(alloc),
     }

@@ -1,5 +1,7 @@
-//! The lines of a file of cases: `extends NEW OLD`, `project SCHEMA VERSION`, and `restrict NEW OLD HEX`, where the files
-//! hold schemas and the digits are one message without its framing header.
+//! The lines of a file of cases: `extends NEW OLD`, `project SCHEMA VERSION`, `restrict NEW OLD HEX` and `changed SCHEMA
+//! TEXT => OTHER ; ..`, where the files hold schemas and the digits are one message without its framing header. A changed
+//! schema has each text in place of the one before its arrow, where `none` is no text, and is compared with the schema as
+//! it was, both ways. A line that begins with `#` is a heading.
 
 use case_words::{bytes, halves, number};
 use layout_text::message_lines;
@@ -123,13 +125,49 @@ fn said_of_one<R: Files + AllocGlobal>(rt: &R, rest: &str) -> io::Result<String>
     }
 }
 
+/// A text with each change of a list made.
+fn text_changed(alloc: Global, text: &str, changes: &str) -> Result<String, AllocError> {
+    let mut text = text.to_string(alloc)?;
+    for change in changes.split(" ; ") {
+        if let Some((old, new)) = change.split_once(" => ") {
+            let new = if new == "none" { "" } else { new };
+            text = text.replace(alloc, old, new)?;
+        }
+    }
+    Ok(text)
+}
+
+/// What is said of two schemas, each compared as the newer one with the other.
+fn both_ways(alloc: Global, first: &str, second: &str) -> Result<String, AllocError> {
+    let loaded = (
+        load_checked(alloc, first.as_bytes()).ok(),
+        load_checked(alloc, second.as_bytes()).ok(),
+    );
+    let (Some(first), Some(second)) = loaded else {
+        return format!(in alloc; "no schema");
+    };
+    let newer = extended(alloc, &second, &first)?;
+    let older = extended(alloc, &first, &second)?;
+    format!(in alloc; "as the newer {newer}, as the older {older}")
+}
+
+/// What is said of a schema and the same with some changes.
+fn said_of_changed<R: Files + AllocGlobal>(rt: &R, rest: &str) -> io::Result<String> {
+    let alloc = rt.alloc();
+    let (file, changes) = halves(rest);
+    let text = fs::read_to_string(rt, file)?;
+    let changed = text_changed(alloc, text.as_str(), changes)?;
+    Ok(both_ways(alloc, text.as_str(), changed.as_str())?)
+}
+
 /// Prints a line of the file and what is said of it.
 pub fn print_case<R: Files + Print + AllocGlobal>(rt: &R, line: &str) -> io::Result<()> {
     let (kind, rest) = halves(line);
-    let told = if kind == "project" {
-        said_of_one(rt, rest)?
-    } else {
-        said_of_two(rt, kind, rest)?
+    let told = match kind {
+        "#" => return rt.println(line),
+        "project" => said_of_one(rt, rest)?,
+        "changed" => said_of_changed(rt, rest)?,
+        _ => said_of_two(rt, kind, rest)?,
     };
     println!(rt; "{line}: {told}")
 }

@@ -1,4 +1,4 @@
-//! The session messages as the profile's table spells them, read and written, and the numbers that they imply.
+//! The session messages as the profile's table spells them, read and written.
 
 ghost use Rattle.std.specs.Prelude.{◌≡◌, ◌≢◌, ◌≤◌, length, Some, IsTrue};
 ghost use Rattle.sbe_prim.specs.declared.Order.TheVariants.{Little};
@@ -8,9 +8,8 @@ ghost use Rattle.fixp_msgs.specs.Message.{message_of};
 ghost use Rattle.fixp_msgs.specs.Table.{null};
 ghost use Rattle.fixp_msgs.specs.Canonical.{IsWritable};
 
-use crate::named::Named;
 use case_words::bytes;
-use fixp_msgs::{Counter, FrameKind, SessionMsg, kind, read, size, write};
+use fixp_msgs::{FrameKind, SessionMsg, kind, read, size, write};
 use sbe_prim::Order;
 use std::alloc::{AllocError, Global};
 
@@ -18,7 +17,7 @@ use std::alloc::{AllocError, Global};
 const BEHIND: u8 = 0xA5;
 
 /// The message of a frame.
-fn message_in(frame: &[u8]) -> &[u8] {
+pub fn message_in(frame: &[u8]) -> &[u8] {
     match frame.split_at_checked(6) {
         Some((_, message)) => message,
         None => &[],
@@ -26,7 +25,7 @@ fn message_in(frame: &[u8]) -> &[u8] {
 }
 
 /// What reading a message says.
-fn answer(alloc: Global, message: &[u8]) -> Result<String, AllocError> {
+pub fn answer(alloc: Global, message: &[u8]) -> Result<String, AllocError> {
     if message.len() < 8 {
         return format!(in alloc; "no header");
     }
@@ -103,14 +102,36 @@ fn written(alloc: Global, frame: &[u8]) -> Result<String, AllocError> {
 
 /// The message of a frame as its fields, the size and the sameness of what is written of it, and the message without its
 /// last byte.
-pub fn message_line(alloc: Global, named: Named<'_>, word: &str) -> Result<String, AllocError> {
-    let frame = named.bytes(alloc, word)?;
-    let message = message_in(frame.as_slice());
+pub fn message_line(alloc: Global, name: &str, frame: &[u8]) -> Result<String, AllocError> {
+    let message = message_in(frame);
     let found = answer(alloc, message)?;
-    let written = written(alloc, frame.as_slice())?;
+    let written = written(alloc, frame)?;
     let (front, _) = message.split_at(message.len().saturating_sub(1));
     let cut = answer(alloc, front)?;
-    format!(in alloc; "{word}: {found}\n  written {written}, cut {cut}")
+    format!(in alloc; "{name}: {found}\n  written {written}, cut {cut}")
+}
+
+/// The frame whose message has this byte all over its block.
+fn filled(alloc: Global, frame: &[u8], byte: u8) -> Result<Vec<u8>, AllocError> {
+    let mut bytes = Vec::from_slice(alloc, frame)?;
+    if let [_, _, _, _, _, _, low, high, _, _, _, _, _, _, body @ ..] = bytes.as_mut_slice() {
+        let length = usize::from(u16::from_le_bytes([*low, *high]));
+        if let Some((block, _)) = body.split_at_mut_checked(length) {
+            block.fill(byte);
+        }
+    }
+    Ok(bytes)
+}
+
+/// The same of the frame whose message has this byte all over its block: its least or its greatest numbers.
+pub fn filled_line(
+    alloc: Global,
+    name: &str,
+    frame: &[u8],
+    byte: u8,
+) -> Result<String, AllocError> {
+    let frame = filled(alloc, frame, byte)?;
+    message_line(alloc, name, frame.as_slice())
 }
 
 /// What reading the bytes of a message says.
@@ -127,30 +148,4 @@ pub fn big_line(alloc: Global, digits: &str) -> Result<String, AllocError> {
         return format!(in alloc; "big {digits}: no header");
     }
     format!(in alloc; "big {digits}: {:?}", kind(Order::Big, message.as_slice()))
-}
-
-/// The implied number of a frame's message.
-fn number_told(
-    alloc: Global,
-    counter: &mut Counter,
-    named: Named<'_>,
-    word: &str,
-) -> Result<String, AllocError> {
-    let frame = named.bytes(alloc, word)?;
-    let message = message_in(frame.as_slice());
-    if message.len() < 8 {
-        return format!(in alloc; "\n  {word} no header");
-    }
-    let number = counter.see(Order::Little, message);
-    format!(in alloc; "\n  {word} {number:?}")
-}
-
-/// The implied number of each frame's message, over one connection.
-pub fn numbers_line(alloc: Global, named: Named<'_>, words: &str) -> Result<String, AllocError> {
-    let mut counter = Counter::new();
-    let mut line = format!(in alloc; "numbers")?;
-    for word in words.split(" ") {
-        line.push_str(number_told(alloc, &mut counter, named, word)?.as_str())?;
-    }
-    Ok(line)
 }

@@ -1,0 +1,102 @@
+//! Threads that append messages behind a Mutex, in the form of the journal and with its two writes and two syncs a message,
+//! on a disk in memory, hand-written and with no proof: what `gw_bench senders` does is compared with this. It is no part of
+//! the product.
+use std::env;
+use std::sync::Mutex;
+use std::thread;
+
+const PAYLOAD: usize = 62;
+const ENTRY: usize = 78;
+
+/// What is written, and what a sync has made last.
+struct Disk {
+    content: Vec<u8>,
+    synced: Vec<u8>,
+    pending: std::ops::Range<usize>,
+}
+
+impl Disk {
+    fn write_at(&mut self, at: usize, bytes: &[u8]) {
+        let end = at + bytes.len();
+        if end > self.content.len() {
+            self.content.resize(end, 0);
+        }
+        self.content[at..end].copy_from_slice(bytes);
+        let pending = &self.pending;
+        self.pending = if pending.is_empty() { at..end } else { pending.start.min(at)..pending.end.max(end) };
+    }
+
+    fn sync(&mut self) {
+        if self.content.len() > self.synced.len() {
+            self.synced.resize(self.content.len(), 0);
+        }
+        let pending = self.pending.clone();
+        self.synced[pending.clone()].copy_from_slice(&self.content[pending]);
+        self.pending = 0..0;
+    }
+}
+
+#[allow(dead_code)]
+struct Entry {
+    sender: u16,
+    number: u64,
+    payload: Vec<u8>,
+}
+
+/// An outbox: the entries, and the journal of them.
+struct Outbox {
+    disk: Disk,
+    end: usize,
+    entries: Vec<Entry>,
+    counts: [u64; 17],
+    most: usize,
+}
+
+impl Outbox {
+    fn accept(&mut self, sender: u16, payload: &[u8]) -> Option<u64> {
+        if self.entries.len() >= self.most {
+            return None;
+        }
+        let number = self.counts[sender as usize] + 1;
+        let mut record = Vec::with_capacity(17 + payload.len());
+        record.push(1);
+        record.extend_from_slice(&(10 + payload.len() as u32).to_le_bytes());
+        record.extend_from_slice(&sender.to_le_bytes());
+        record.extend_from_slice(&number.to_le_bytes());
+        record.extend_from_slice(payload);
+        record.push(0);
+        self.disk.write_at(self.end + 1, &record);
+        self.disk.sync();
+        self.disk.write_at(self.end, &[1]);
+        self.disk.sync();
+        self.end += record.len();
+        self.entries.push(Entry { sender, number, payload: payload.to_vec() });
+        self.counts[sender as usize] = number;
+        Some(self.entries.len() as u64)
+    }
+}
+
+fn main() {
+    let words: Vec<String> = env::args().skip(1).collect();
+    let threads: u16 = words[1].parse().unwrap();
+    let count: usize = words[2].parse().unwrap();
+    let most = threads as usize * count;
+    let room = 64 + most * ENTRY;
+    let mut disk = Disk { content: Vec::with_capacity(room), synced: Vec::with_capacity(room), pending: 0..0 };
+    disk.write_at(0, b"FIXPJRN1\0\0\0\0\0\0\0\0\0");
+    disk.sync();
+    let outbox = Mutex::new(Outbox { disk, end: 16, entries: Vec::new(), counts: [0; 17], most });
+    let mut payload = [0x2A; PAYLOAD];
+    payload[..10].copy_from_slice(&[0xEB, 0x50, 0x34, 0, 7, 0, 0x64, 0, 1, 0]);
+    thread::scope(|scope| {
+        for sender in 1..=threads {
+            let (outbox, payload) = (&outbox, &payload);
+            scope.spawn(move || {
+                for _ in 0..count {
+                    outbox.lock().unwrap().accept(sender, payload);
+                }
+            });
+        }
+    });
+    println!("{}", outbox.lock().unwrap().entries.len());
+}

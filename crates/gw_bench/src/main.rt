@@ -1,0 +1,110 @@
+//! Measurements: does what is measured so many times, and prints what came of it, so that no work can be left out.
+//! `codec COUNT` goes through all session messages; `write TEMPLATE COUNT` and `read TEMPLATE COUNT` through one.
+#![tactic(auto)]
+
+mod codec;
+mod messages;
+
+use codec::{read_many, write_many};
+use std::alloc::{AllocError, Global};
+use std::io;
+use std::rt::Env;
+
+/// The bytes of a buffer of frames.
+const ROOM: usize = 65_536;
+
+/// A buffer with room for frames.
+fn buffer(alloc: Global) -> Result<Vec<u8>, AllocError> {
+    let mut bytes = Vec::new(alloc);
+    bytes.resize(ROOM, 0)?;
+    Ok(bytes)
+}
+
+/// A session that is known when the program runs.
+fn session(count: u64) -> [u8; 16] {
+    [(count % 256) as u8; 16]
+}
+
+/// The sum of some bytes.
+fn sum_of_bytes(bytes: &[u8]) -> u64 {
+    let mut sum = 0u64;
+    for byte in bytes {
+        sum = sum.wrapping_add(u64::from(*byte));
+    }
+    sum
+}
+
+/// What comes of writing a message so many times: the sum of the frames' sizes, and that of the bytes that stand then.
+fn written(alloc: Global, template: u16, count: u64) -> Result<(u64, u64), AllocError> {
+    let mut bytes = buffer(alloc)?;
+    let sizes = write_many(template, &session(count), count, bytes.as_mut_slice());
+    Ok((sizes, sum_of_bytes(bytes.as_slice())))
+}
+
+/// What comes of reading a message so many times, of as many frames as the buffer holds.
+fn read_back(alloc: Global, template: u16, count: u64) -> Result<u64, AllocError> {
+    let mut bytes = buffer(alloc)?;
+    let id = session(count);
+    let frame = write_many(template, &id, 1, bytes.as_mut_slice()) as usize;
+    let held = (ROOM / frame.max(1)).min(400);
+    let _ = write_many(template, &id, held as u64, bytes.as_mut_slice());
+    let end = (held * frame).min(bytes.len());
+    Ok(read_many(frame, count, &bytes.as_slice()[..end]))
+}
+
+/// The numbers that a word spells; 0 where it spells none.
+fn number(word: &str) -> u64 {
+    word.parse::<u64>().unwrap_or(0)
+}
+
+/// The template that a word spells; 0 where it spells none.
+fn template_of(word: &str) -> u16 {
+    word.parse::<u16>().unwrap_or(0)
+}
+
+/// One line for a message.
+fn print_codec<R: Print + AllocGlobal>(rt: &R, template: u16, count: u64) -> io::Result<()> {
+    let (sizes, bytes) = written(rt.alloc(), template, count)?;
+    let sum = read_back(rt.alloc(), template, count)?;
+    println!(rt; "message {template}: {sizes} bytes written, their sum {bytes}, read {sum}")
+}
+
+/// The words behind the program's name.
+fn words_of<R: Env + AllocGlobal>(rt: &R) -> io::Result<Vec<String>> {
+    let mut args = std::env::args(rt)?;
+    let _ = args.next();
+    let mut words = Vec::new(rt.alloc());
+    for word in args {
+        words.push(word)?;
+    }
+    Ok(words)
+}
+
+fn main(rt: HostRuntime) -> io::Result<()> {
+    let words = words_of(&rt)?;
+    match words.as_slice() {
+        [kind, count] if kind.as_str() == "codec" => {
+            for template in 1..17u16 {
+                print_codec(&rt, template, number(count.as_str()))?;
+            }
+            Ok(())
+        }
+        [kind, template, count] if kind.as_str() == "write" => {
+            let (sizes, bytes) = written(
+                rt.alloc(),
+                template_of(template.as_str()),
+                number(count.as_str()),
+            )?;
+            println!(rt; "{sizes} {bytes}")
+        }
+        [kind, template, count] if kind.as_str() == "read" => {
+            let sum = read_back(
+                rt.alloc(),
+                template_of(template.as_str()),
+                number(count.as_str()),
+            )?;
+            println!(rt; "{sum}")
+        }
+        _ => println!(rt; "codec COUNT, write TEMPLATE COUNT or read TEMPLATE COUNT"),
+    }
+}
