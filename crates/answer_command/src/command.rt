@@ -7,7 +7,7 @@ ghost use Rattle.session_config.specs.Settings.{settings_of_text};
 ghost use Rattle.command_base.specs.Texts.{Judges, ReadsWithin};
 ghost use Rattle.command_base.specs.Causes.{NoneFell, IsCaused, faults_of};
 ghost use Rattle.command_base.specs.Contents.{content_of};
-ghost use Rattle.command_base.specs.Order.{KeepsBehindConfig, KeepsDisks, StopsAtConfig, FailsInOrder};
+ghost use Rattle.command_base.specs.Order.{IsOfStreams, KeepsBehindConfig, KeepsDisks, StopsAtConfig, FailsInOrder};
 ghost use Rattle.answer_command.specs.Promise.{GaveBy};
 
 use crate::acceptor::converse;
@@ -33,7 +33,7 @@ pub fn answer<R: Wait, S: Source, K: Sink, D: Disk>(
     ensures within { ReadsWithin (S.left outside.old.config) (S.left outside.new.config) (text_limit + 1) }
     ensures none_fell { NoneFell (faults_of S.faults K.faults D.faults outside.old) (faults_of S.faults K.faults D.faults outside.new) }
     ensures cause { IsCaused (faults_of S.faults K.faults D.faults outside.old) (faults_of S.faults K.faults D.faults outside.new) result }
-    ensures listed { result ≡ Status.Words → ⊥ }
+    ensures ends { IsOfStreams result }
 {
     match read_config::<S, Settings>(alloc, &mut outside.config) {
         Ok(settings) => converse(

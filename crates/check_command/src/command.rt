@@ -6,7 +6,7 @@ ghost use Rattle.schema_toml.specs.declared.fault.ConfigFault.{ConfigFault};
 ghost use Rattle.schema_load.specs.Load.{plan_of_text};
 ghost use Rattle.command_base.specs.Texts.{Judges, ReadsWithin};
 ghost use Rattle.command_base.specs.Causes.{NoneFell, IsCaused, faults_of};
-ghost use Rattle.command_base.specs.Order.{KeepsBehindConfig, KeepsDisks, StopsAtConfig, FailsInOrder};
+ghost use Rattle.command_base.specs.Order.{IsOfStreams, KeepsBehindConfig, KeepsDisks, StopsAtConfig, FailsInOrder};
 ghost use Rattle.check_command.specs.Layouts.{GaveLayout};
 
 use crate::layout::print_layout;
@@ -26,7 +26,7 @@ pub fn check<S: Source, K: Sink, D: Disk>(alloc: Global, outside: &mut Outside<S
     ensures within { ReadsWithin (S.left outside.old.config) (S.left outside.new.config) (text_limit + 1) }
     ensures none_fell { NoneFell (faults_of S.faults K.faults D.faults outside.old) (faults_of S.faults K.faults D.faults outside.new) }
     ensures cause { IsCaused (faults_of S.faults K.faults D.faults outside.old) (faults_of S.faults K.faults D.faults outside.new) result }
-    ensures listed { result ≡ Status.Words → ⊥ }
+    ensures ends { IsOfStreams result }
 {
     match read_config::<S, Checked>(alloc, &mut outside.config) {
         Ok(schema) => print_layout(alloc, &schema, &mut outside.out),

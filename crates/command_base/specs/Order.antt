@@ -4,7 +4,14 @@ use Rattle.std.specs.Prelude.{◌≡◌, ℕ, ◌⊎◌}
 use Rattle.gw_outside.specs.Faults.{HasRisen}
 use Rattle.command_base.specs.declared.outside.Outside.{Outside}
 use Rattle.command_base.specs.declared.status.Status.{Status}
-use Rattle.command_base.specs.declared.status.Status.TheVariants.{InputFault}
+use Rattle.command_base.specs.declared.status.Status.TheVariants.{Words, InputFault, JournalFault, JournalBad}
+
+-- the statuses of a command that opens no journal, once its words are listed
+abbrev pub IsOfStreams : Status → Type 0
+IsOfStreams Words = ⊥
+IsOfStreams JournalFault = ⊥
+IsOfStreams (JournalBad which cause) = ⊥
+IsOfStreams _ = Unit {0}
 
 -- the disks are as they were
 pub record KeepsDisks {S K D : Type 0} (before after : Outside S K D) : Type 0 where
