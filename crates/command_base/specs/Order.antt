@@ -25,6 +25,18 @@ pub record KeepsStreams {S K D : Type 0} (before after : Outside S K D) : Type 0
   pub wire : after.wire ≡ before.wire
   pub out : after.out ≡ before.out
 
+-- the statuses of a journal that could not be opened, or made
+abbrev pub IsOfJournals : Status → Type 0
+IsOfJournals JournalFault = Unit {0}
+IsOfJournals (JournalBad which cause) = Unit {0}
+IsOfJournals _ = ⊥
+
+-- what comes behind the journals is as it was
+pub record KeepsBehindJournals {S K D : Type 0} (before after : Outside S K D) : Type 0 where
+  pub input : after.input ≡ before.input
+  pub wire : after.wire ≡ before.wire
+  pub out : after.out ≡ before.out
+
 -- what comes behind the configuration is as it was
 pub record KeepsBehindConfig {S K D : Type 0} (before after : Outside S K D) : Type 0 where
   pub disks : KeepsDisks before after
