@@ -6,10 +6,10 @@ ghost use Rattle.hex.specs.Hex.{encode_lower};
 ghost use Rattle.sofh_frame.specs.Framing.{encoding_of};
 ghost use Rattle.answer_command.specs.Lines.{payload_of, deliver_line, line_of};
 
-use command_base::{push_decimal, push_hex};
 use fixp_end::Act;
 use sofh_frame::Order;
 use std::alloc::AllocError;
+use text_digits::{push_decimal, push_hex};
 
 /// The encoding type of a frame in hexadecimal (Simple Open Framing Header).
 fn encoding_digits(order: Order) -> &'static [u8]

@@ -1,17 +1,15 @@
 //! What every command stands on: the devices of a run, the statuses that it ends with and their causes, the reading of
-//! CONFIG, the beginning of outputs, digits, and the order of refusals. Relies on the contracts of devices, and on those of what
+//! CONFIG, the beginning of outputs, and the order of refusals. Relies on the contracts of devices, and on those of what
 //! reads a configuration's text.
 #![tactic(auto)]
 
 mod configured;
-mod digits;
 mod outputs;
 mod outside;
 mod status;
 mod text;
 
 pub use configured::{Configured, read_config};
-pub use digits::{push_decimal, push_hex};
 pub use jr_boxes::{JournalCause, Which};
 pub use outputs::begin;
 pub use outside::Outside;

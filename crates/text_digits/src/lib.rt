@@ -1,4 +1,5 @@
-//! Numbers and bytes as the digits of a line. Hexadecimal comes from `hex`, and decimal from `itoa`.
+//! Numbers and bytes as the digits of a line of text. Hexadecimal comes from `hex`, and decimal from `itoa`.
+#![tactic(auto)]
 
 ghost use Rattle.std.specs.Prelude.{◌≡◌, ◌≤◌, ◌^◌, ◌++◌, length, decimal, OnOk};
 ghost use Rattle.hex.specs.Hex.{encode_lower};
