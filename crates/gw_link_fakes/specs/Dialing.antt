@@ -1,5 +1,5 @@
 -- A dialer over tapes (this project's profile).
-use Rattle.std.specs.Prelude.{ℕ, Bool, true, false, ◌-◌, List, [], ◌∷◌, ◌++◌, length, map, drop, Option, Some, if◌then◌else◌}
+use Rattle.std.specs.Prelude.{ℕ, Bool, true, false, List, [], ◌∷◌, ◌++◌, length, map, drop, Option, Some, if◌then◌else◌}
 use Rattle.gw_links.specs.Links.{Carried}
 use Rattle.gw_links.specs.Dialers.{DialerTold}
 use Rattle.gw_link_fakes.specs.Tallies.{fails, met, new_tally}

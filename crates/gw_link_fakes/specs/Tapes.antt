@@ -1,5 +1,5 @@
 -- A tape: a link that gives bytes that were written down before, and keeps what it takes (this project's profile).
-use Rattle.std.specs.Prelude.{◌≡◌, ℕ, ◌-◌, Bool, true, List, [], ◌++◌, length, take, drop, if◌then◌else◌}
+use Rattle.std.specs.Prelude.{◌≡◌, ℕ, ◌-◌, true, List, [], ◌++◌, length, take, drop, if◌then◌else◌}
 use Rattle.gw_links.specs.Links.{Carried, LinkTold}
 use Rattle.gw_link_fakes.specs.Tallies.{fails, met, new_tally}
 use Rattle.gw_link_fakes.specs.declared.tally.Tally.{Tally}

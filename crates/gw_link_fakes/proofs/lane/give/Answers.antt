@@ -14,7 +14,7 @@ loop-place-preserved c =
     let there : place < length new = omega (arith, c.loop-place-test.true, c.min-count.ensures, c.len.ensures, c.args.lane.now.ok.0) in
     let waits : 0 < queue.len = omega (arith, queue.ok.0, ap length c.loop-place.invariant.rest, length-drop place new, there) in
     let is : c.unwrap_or.result ≡ get_or new place 0 =
-        c.unwrap_or.ensures ∙ ap (λ o. unwrap_or o 0) (c.pop_front.ensures.value 0 waits) ∙ ap (λ l. get_or l 0 0) c.loop-place.invariant.rest ∙ get_or-drop place new 0 0 ∙ ap (λ n. get_or new n 0) (add-zero place) in
+    c.unwrap_or.ensures ∙ ap (λ o. unwrap_or o 0) (c.pop_front.ensures.value 0 waits) ∙ ap (λ l. get_or l 0 0) c.loop-place.invariant.rest ∙ get_or-drop place new 0 0 ∙ ap (λ n. get_or new n 0) (add-zero place) in
     record {
       given = ap (λ l. set l place c.unwrap_or.result) c.loop-place.invariant.given ∙ filled_more old new place c.unwrap_or.result within there is;
       rest = c.pop_front.ensures.rest ∙ ap (drop 1) c.loop-place.invariant.rest ∙ drop-drop 1 place new;
