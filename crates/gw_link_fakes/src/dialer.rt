@@ -1,6 +1,6 @@
 //! A dialer in memory: it gives tapes in order, and keeps each one that comes back in its old place.
 
-ghost use Rattle.std.specs.Prelude.{◌≡◌, [], ◌+◌, ◌-◌, ◌<◌, ◌≤◌, ◌++◌, ◌∷◌, IsTrue, Some, IfOk, IfSome, OnErr, true, false, is_ok, is_some, length, not, map};
+ghost use Rattle.std.specs.Prelude.{◌≡◌, ◌↔◌, [], ◌+◌, ◌-◌, ◌<◌, ◌≤◌, ◌++◌, ◌∷◌, IsTrue, Some, IfOk, IsSome, IfSome, slice_index_or, OnErr, true, false, is_ok, is_some, length, not, map};
 ghost use Rattle.std.specs.List.{All};
 ghost use Rattle.gw_outside.specs.Faults.{HasCause};
 ghost use Rattle.gw_links.specs.Dialers.{IsLeft, dialed, returned};
@@ -65,7 +65,10 @@ impl MemDialer {
     }
 
     /// The link that came back as this one of all, counted from 0, or `None` where so many have not come back.
-    pub fn link(&self, place: usize) -> Option<&MemTape> {
+    pub fn link(&self, place: usize) -> Option<&MemTape>
+        ensures there { IsSome result ↔ (place < length self.now.back) }
+        ensures value { IfSome result (λ link. link.now ≡ slice_index_or self.now.back place link.now) }
+    {
         let place = self.left.checked_add(place)?;
         self.links.get(place)
     }
