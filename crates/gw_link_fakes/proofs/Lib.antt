@@ -1,0 +1,2 @@
+mod Dials
+mod Filling

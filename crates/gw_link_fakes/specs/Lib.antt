@@ -1,0 +1,4 @@
+pub mod Dialing
+pub mod Pipes
+pub mod Tallies
+pub mod Tapes

@@ -1,0 +1,2 @@
+mod EchoSteps
+pub mod Moving

@@ -1,0 +1,3 @@
+pub mod Dialers
+pub mod Echoes
+pub mod Links

@@ -1,0 +1,46 @@
+//! A dialer: one connection after another. What one tells of them is optional: memory tells it, sockets do not.
+
+ghost use Rattle.std.specs.Prelude.{◌≡◌, ℕ, Bool, true, false, Option, IsTrue, is_some, IfOk, IfSome, OnErr};
+ghost use Rattle.std.specs.Option.{option_map};
+ghost use Rattle.gw_outside.specs.Faults.{HasCause};
+ghost use Rattle.gw_links.specs.Links.{CarriedNothing};
+ghost use Rattle.gw_links.specs.Dialers.{DialerTold, IsLeft, dialed, returned};
+
+use crate::link::Link;
+use gw_outside::Failed;
+
+/// Connections, of which at most one is lent at a time.
+pub trait Dialer {
+    /// What carries the bytes of a connection.
+    type Link: Link;
+
+    /// How many connections are left, and what each link that came back had carried, or `None` where it does not tell them.
+    ghost told: { Self → Option DialerTold };
+
+    /// Whether a link that it gave has not come back yet.
+    ghost lent: { Self → Bool };
+
+    /// How many calls of `next` have failed; it never falls.
+    ghost faults: { Self → ℕ };
+
+    /// The next connection, or `None` exactly where none is left.
+    ///
+    /// # Errors
+    /// `Failed` where the dialer failed: it gave no connection, and has as many left as before.
+    fn next(&mut self) -> Result<Option<Self::Link>, Failed>
+        requires { lent self.old ≡ false }
+        ensures left { IfOk result (λ link. IfSome (told self.old) (λ t. IsLeft t.left link)) }
+        ensures told { told self.new ≡ option_map (dialed result) (told self.old) }
+        ensures fresh { IfOk result (λ link. IfSome link (λ l. CarriedNothing (Self.Link.carried l))) }
+        ensures tells { IfOk result (λ link. IfSome link (λ l. IsTrue (is_some (told self.old)) → IsTrue (is_some (Self.Link.carried l)))) }
+        ensures lent { IfOk result (λ link. lent self.new ≡ is_some link) }
+        ensures lent_none { OnErr result (lent self.new ≡ false) }
+        ensures cause { HasCause (faults self.old) (faults self.new) result };
+
+    /// Takes back the link that `next` gave last, at the end of its connection. It takes no memory and cannot fail.
+    fn back(&mut self, link: Self::Link)
+        requires { lent self.old ≡ true }
+        ensures told { told self.new ≡ option_map (returned (Self.Link.carried link)) (told self.old) }
+        ensures lent { lent self.new ≡ false }
+        ensures faults { faults self.new ≡ faults self.old };
+}

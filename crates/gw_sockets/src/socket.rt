@@ -1,0 +1,159 @@
+//! A socket as a link. A receive waits for a short while where nothing is there, and a send takes what the socket takes.
+
+ghost use Rattle.std.specs.Prelude.{◌≡◌, ◌<◌, ◌≤◌, length, IfOk};
+ghost use Rattle.gw_outside.specs.Faults.{HasRisen};
+ghost use Rattle.gw_links.specs.Links.{IsWithin};
+
+use crate::reason::SocketReason;
+use gw_links::{Got, Link};
+use gw_outside::Failed;
+use mio::net::TcpStream;
+use mio::{Events, Interest, Poll, Token};
+use std::alloc::Global;
+use std::io::{self, ErrorKind, Read, Write};
+use std::net::{self, Net};
+use std::time::Duration;
+
+/// How long a receive waits for bytes, in milliseconds.
+const WAIT: u64 = 10;
+
+/// One connection over a socket.
+#[derive(Drop)]
+pub struct SocketLink {
+    stream: TcpStream,
+    poll: Poll,
+    events: Events,
+    has_sent: bool,
+    reason: Option<SocketReason>,
+    faults: u64,
+}
+
+/// Reads what is there, again where a signal came between.
+fn read_now(stream: &mut TcpStream, into: &mut [u8]) -> io::Result<Got>
+    ensures count { IfOk result (λ got. IsWithin got (length into.new)) }
+{
+    for _ in 0..u64::MAX {
+        match stream.read(into) {
+            Ok(0) => return Ok(Got::End),
+            Ok(count) => return Ok(Got::Bytes(count)),
+            Err(error) if error.kind() == ErrorKind::WouldBlock => return Ok(Got::Quiet),
+            Err(error) if error.kind() == ErrorKind::Interrupted => {}
+            Err(error) => return Err(error),
+        }
+    }
+    Ok(Got::Quiet)
+}
+
+/// Writes what the socket takes now, again where a signal came between.
+fn write_now(stream: &mut TcpStream, bytes: &[u8]) -> io::Result<usize>
+    ensures count { IfOk result (λ n. n ≤ length bytes.now) }
+{
+    for _ in 0..u64::MAX {
+        match stream.write(bytes) {
+            Ok(count) => return Ok(count),
+            Err(error) if error.kind() == ErrorKind::WouldBlock => return Ok(0),
+            Err(error) if error.kind() == ErrorKind::Interrupted => {}
+            Err(error) => return Err(error),
+        }
+    }
+    Ok(0)
+}
+
+impl SocketLink {
+    /// A link over a connected socket, which sends small segments at once.
+    ///
+    /// # Errors
+    /// What the system says, and want of memory.
+    pub(crate) fn new<R: Net>(
+        rt: &R,
+        alloc: Global,
+        stream: net::TcpStream,
+    ) -> io::Result<SocketLink>
+        ensures fresh { IfOk result (λ link. link.faults ≡ 0) }
+    {
+        stream.set_nonblocking(true)?;
+        let mut stream = TcpStream::from_std(stream);
+        stream.set_nodelay(true)?;
+        let poll = Poll::new(rt)?;
+        let events = Events::with_capacity(alloc, 1)?;
+        poll.registry()
+            .register(&mut stream, Token(0), Interest::READABLE)?;
+        Ok(SocketLink {
+            stream,
+            poll,
+            events,
+            has_sent: false,
+            reason: None,
+            faults: 0,
+        })
+    }
+
+    /// Why the last call that failed did, if one has.
+    pub fn reason(&self) -> Option<SocketReason> {
+        self.reason
+    }
+
+    /// Receives, and waits where nothing is there and nothing was sent since the last wait.
+    fn receive(&mut self, into: &mut [u8]) -> io::Result<Got>
+        ensures count { IfOk result (λ got. IsWithin got (length into.new)) }
+        ensures faults { self.new.faults ≡ self.old.faults }
+    {
+        match read_now(&mut self.stream, into)? {
+            Got::Quiet => {}
+            got => return Ok(got),
+        }
+        if self.has_sent {
+            self.has_sent = false;
+            return Ok(Got::Quiet);
+        }
+        self.poll
+            .poll(&mut self.events, Some(Duration::from_millis(WAIT)))?;
+        read_now(&mut self.stream, into)
+    }
+
+    /// Keeps why a call failed, and counts it.
+    fn failed(&mut self, error: io::Error) -> Failed
+        ensures risen { HasRisen self.old.faults self.new.faults }
+        ensures grown { self.old.faults ≤ self.new.faults }
+    {
+        self.reason = Some(SocketReason::System(error));
+        self.faults = self.faults.saturating_add(1);
+        Failed
+    }
+}
+
+impl Link for SocketLink {
+    ghost use Rattle.std.specs.Prelude.{None, false};
+
+    ghost told = { λ l. None };
+
+    ghost carried = { λ l. None };
+
+    ghost eager = { false };
+
+    ghost Place = { Unit {0} };
+
+    ghost place = { λ l. tt };
+
+    ghost faults = { λ l. l.faults };
+
+    fn recv(&mut self, into: &mut [u8]) -> Result<Got, Failed> {
+        match self.receive(into) {
+            Ok(got) => Ok(got),
+            Err(error) => Err(self.failed(error)),
+        }
+    }
+
+    fn send(&mut self, bytes: &[u8]) -> Result<usize, Failed> {
+        if bytes.is_empty() {
+            return Ok(0);
+        }
+        match write_now(&mut self.stream, bytes) {
+            Ok(count) => {
+                self.has_sent = self.has_sent || count > 0;
+                Ok(count)
+            }
+            Err(error) => Err(self.failed(error)),
+        }
+    }
+}
