@@ -1,4 +1,4 @@
-use Rattle.std.proofs.Common.{◌≡◌, ◌+◌, refl, Err, sym, ap, ◌∙◌, subst, arith, slice_index_or, length}
+use Rattle.std.proofs.Common.{◌≡◌, ◌+◌, Err, sym, ap, ◌∙◌, subst, arith, length}
 use Rattle.std.specs.List.{HoldsAt}
 use Rattle.std.proofs.lemmas.List.{get_or_default}
 use Rattle.sender_plans.proofs.Lowest.{IsLowestUpTo, lowest_of, lowest_past, lowest_new, lowest_kept, lowest_same}

@@ -1,5 +1,4 @@
-use Rattle.std.proofs.Common.{refl, sym, ap, ◌∙◌, length, arith}
-use Rattle.sender_plans.specs.Runs.{plan_of}
+use Rattle.std.proofs.Common.{refl, ap, ◌∙◌, length, arith}
 use Rattle.sender_plans.proofs.Running.{ran_out, ran_refused, ran_on, ran_anew}
 use Rattle.sender_plans.proofs.sender.Sender.submit_rest.Goals as goal
 
