@@ -30,12 +30,14 @@ impl Meeting {
 
     /// Looks until sender 2 has called, and notes whether it has.
     fn wait(&self) {
-        for _ in 0..LOOKS {
+        for look in 0..LOOKS {
             if self.called.load(Ordering::SeqCst) == 1 {
                 self.met.store(1, Ordering::SeqCst);
                 return;
             }
-            yield_now();
+            if look % 4096 == 0 {
+                yield_now();
+            }
         }
     }
 }
