@@ -1,0 +1,2 @@
+mod Lowest
+mod Running

@@ -1,0 +1,13 @@
+//! Plans of senders, and the call that submits them through a gate, all senders at once. Relies on `gate_senders` for what
+//! each submit does and tells, and on std's threads.
+#![tactic(auto)]
+
+mod door;
+mod plan;
+mod run;
+mod sender;
+
+pub use door::{Door, OpenDoor};
+pub use plan::Plan;
+pub use run::run_senders;
+pub use sender::Sender;
