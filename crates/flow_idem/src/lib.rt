@@ -1,13 +1,12 @@
-// A library with one function.
+//! The receiving end of an idempotent flow: which numbers are jumped over, which are applied, and the runs of consecutive
+//! numbers that are still to be told as applied. It relies on the ranges of `fixp_msgs` and the growth of `session_model`.
 #![tactic(auto)]
 
-ghost use Rattle.std.specs.Prelude.{◌≡◌};
-ghost use Rattle.flow_idem.specs.Echo.{echo_of};
+mod applied;
+mod laws;
+mod runs;
+mod step;
 
-// The `ensures` clause is the contract: what `echo` returns is `echo_of` of its argument, a definition
-// in `specs/Echo.antt`, which a caller's clause can cite too.
-pub fn echo(x: usize) -> usize
-    ensures { result ≡ echo_of x }
-{
-    x
-}
+pub use applied::Applied;
+pub use laws::{follows_records, grows_idempotent, misses_the_jumps, runs_are_one, runs_are_whole};
+pub use step::{after_message, jump_of};
