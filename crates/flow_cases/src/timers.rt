@@ -14,5 +14,10 @@ pub fn timers_line(alloc: Global, words: &str) -> Result<String, AllocError> {
     if now < last {
         return format!(in alloc; "timers {words}: goes back");
     }
-    format!(in alloc; "timers {words}: due {}, silent {}, late {}", due(last, interval, now), silent(last, interval, now), late(last, now))
+    format!(in alloc;
+        "timers {words}: due {}, silent {}, late {}",
+        due(last, interval, now),
+        silent(last, interval, now),
+        late(last, now)
+    )
 }
