@@ -1,8 +1,9 @@
-//! Cases of the receiver of an idempotent flow and of the timers: reads the cases of `cases.txt`, and prints what each case
-//! shows. What it has to print stands in `stdout`, worked out by hand.
+//! Cases of the receiver of an idempotent flow, of the timers and of the checks of a handshake: reads the
+//! cases of `cases.txt`, and prints what each case shows. What it has to print stands in `stdout`, worked out by hand.
 #![tactic(auto)]
 
 mod flows;
+mod handshakes;
 mod timers;
 
 use std::alloc::{AllocError, Global};
@@ -13,6 +14,9 @@ fn line_of(alloc: Global, line: &str) -> Result<String, AllocError> {
     match line.split_once(": ") {
         Some(("timers", words)) => timers::timers_line(alloc, words),
         Some(("flow", words)) => flows::flow_line(alloc, words),
+        Some(("negotiate", words)) => handshakes::negotiate_line(alloc, words),
+        Some(("establish", words)) => handshakes::establish_line(alloc, words),
+        Some(("reply", words)) => handshakes::reply_line(alloc, words),
         _ => line.to_string(alloc),
     }
 }
