@@ -58,16 +58,21 @@ establish_answer cfg negotiated established id keepalive credentials =
 abbrev pub of_session : EndConfig → List ℕ → ShakeStep → Option ShakeStep
 of_session cfg id step = if bytes_eq id cfg.session then Some step else None
 
--- what an initiator does at a reply to its Negotiate or Establish; other messages are none. Where the session is negotiated
--- already, a duplicate is as good as a response; where it is not negotiated, it is to be negotiated anew
+-- a session that is negotiated already is as good as one that is negotiated now
+abbrev pub after_negotiation_reject : (code : ℕ) → ShakeStep
+after_negotiation_reject code = if code == negotiation_code negotiation.DuplicateId then steps.Establish else steps.Rejected 3 code
+
+-- a session of which the acceptor knows no negotiation is to be negotiated anew
+abbrev pub after_establishment_reject : (code : ℕ) → ShakeStep
+after_establishment_reject code = if code == establishment_code establishment.Unnegotiated then steps.Negotiate else steps.Rejected 6 code
+
+-- what an initiator does at a reply to its Negotiate or Establish; other messages are none
 abbrev pub reply_step : EndConfig → Message → Option ShakeStep
 reply_step cfg (negotiation_response id timestamp flow credentials) =
     of_session cfg id (if flow == flow_code cfg.peer_flow then steps.Establish else steps.Violate (OtherSession 2))
-reply_step cfg (negotiation_reject id timestamp code reason) =
-    of_session cfg id (if code == negotiation_code negotiation.DuplicateId then steps.Establish else steps.Rejected 3 code)
+reply_step cfg (negotiation_reject id timestamp code reason) = of_session cfg id (after_negotiation_reject code)
 reply_step cfg (establishment_ack id timestamp keepalive next) = of_session cfg id steps.Established
-reply_step cfg (establishment_reject id timestamp code reason) =
-    of_session cfg id (if code == establishment_code establishment.Unnegotiated then steps.Negotiate else steps.Rejected 6 code)
+reply_step cfg (establishment_reject id timestamp code reason) = of_session cfg id (after_establishment_reject code)
 reply_step cfg (negotiate id timestamp flow credentials) = None
 reply_step cfg (establish id timestamp keepalive next credentials) = None
 reply_step cfg (sequence next) = None

@@ -1,8 +1,8 @@
 //! What an initiator does at the replies to its Negotiate and its Establish.
 
 ghost use Rattle.std.specs.Prelude.{◌≡◌, Some, IsSome};
-ghost use Rattle.fixp_msgs.specs.Message.{message_of, negotiation_response, negotiation_reject, establishment_reject};
-ghost use Rattle.fixp_shake.specs.Handshake.{reply_step};
+ghost use Rattle.fixp_msgs.specs.Message.{message_of};
+ghost use Rattle.fixp_shake.specs.Handshake.{reply_step, after_negotiation_reject, after_establishment_reject};
 
 use crate::config::EndConfig;
 use crate::judging::{EstablishmentCode, NegotiationCode};
@@ -24,6 +24,28 @@ pub enum ShakeStep {
     Violate(Violation),
 }
 
+/// The step at a NegotiationReject with this code. A session that is negotiated already is as good as one negotiated now.
+fn after_negotiation_reject(code: u8) -> ShakeStep
+    ensures { result ≡ after_negotiation_reject code }
+{
+    if code == NegotiationCode::DuplicateId.code() {
+        ShakeStep::Establish
+    } else {
+        ShakeStep::Rejected { template: 3, code }
+    }
+}
+
+/// The step at an EstablishmentReject with this code. A session of which the acceptor knows no negotiation is negotiated anew.
+fn after_establishment_reject(code: u8) -> ShakeStep
+    ensures { result ≡ after_establishment_reject code }
+{
+    if code == EstablishmentCode::Unnegotiated.code() {
+        ShakeStep::Negotiate
+    } else {
+        ShakeStep::Rejected { template: 6, code }
+    }
+}
+
 /// The step at a reply of the configured session, which is a NegotiationResponse, a NegotiationReject, an EstablishmentAck or
 /// an EstablishmentReject. That the phase awaits it is looked at before.
 pub fn after_reply(cfg: &EndConfig, m: &SessionMsg<'_>) -> ShakeStep
@@ -38,27 +60,9 @@ pub fn after_reply(cfg: &EndConfig, m: &SessionMsg<'_>) -> ShakeStep
                 ShakeStep::Violate(Violation::OtherSession { template: 2 })
             }
         }
-        SessionMsg::NegotiationReject(reject) => {
-            if reject.code == NegotiationCode::DuplicateId.code() {
-                ShakeStep::Establish
-            } else {
-                ShakeStep::Rejected {
-                    template: 3,
-                    code: reject.code,
-                }
-            }
-        }
+        SessionMsg::NegotiationReject(reject) => after_negotiation_reject(reject.code),
         SessionMsg::EstablishmentAck(_) => ShakeStep::Established,
-        SessionMsg::EstablishmentReject(reject) => {
-            if reject.code == EstablishmentCode::Unnegotiated.code() {
-                ShakeStep::Negotiate
-            } else {
-                ShakeStep::Rejected {
-                    template: 6,
-                    code: reject.code,
-                }
-            }
-        }
+        SessionMsg::EstablishmentReject(reject) => after_establishment_reject(reject.code),
         SessionMsg::Negotiate(_)
         | SessionMsg::Establish(_)
         | SessionMsg::Sequence(_)
