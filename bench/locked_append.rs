@@ -1,5 +1,5 @@
 //! Threads that append messages behind a Mutex, in the form of the journal and with its two writes and two syncs a message,
-//! on a disk in memory, hand-written and with no proof: what `gw_bench senders` does is compared with this. It is no part of
+//! on a disk in memory, hand-written and with no proof: what `gw_bench sender` does is compared with this. It is no part of
 //! the product.
 use std::env;
 use std::sync::Mutex;
@@ -23,7 +23,11 @@ impl Disk {
         }
         self.content[at..end].copy_from_slice(bytes);
         let pending = &self.pending;
-        self.pending = if pending.is_empty() { at..end } else { pending.start.min(at)..pending.end.max(end) };
+        self.pending = if pending.is_empty() {
+            at..end
+        } else {
+            pending.start.min(at)..pending.end.max(end)
+        };
     }
 
     fn sync(&mut self) {
@@ -70,7 +74,11 @@ impl Outbox {
         self.disk.write_at(self.end, &[1]);
         self.disk.sync();
         self.end += record.len();
-        self.entries.push(Entry { sender, number, payload: payload.to_vec() });
+        self.entries.push(Entry {
+            sender,
+            number,
+            payload: payload.to_vec(),
+        });
         self.counts[sender as usize] = number;
         Some(self.entries.len() as u64)
     }
@@ -78,14 +86,24 @@ impl Outbox {
 
 fn main() {
     let words: Vec<String> = env::args().skip(1).collect();
-    let threads: u16 = words[1].parse().unwrap();
-    let count: usize = words[2].parse().unwrap();
+    let threads: u16 = words[0].parse().unwrap();
+    let count: usize = words[1].parse().unwrap();
     let most = threads as usize * count;
     let room = 64 + most * ENTRY;
-    let mut disk = Disk { content: Vec::with_capacity(room), synced: Vec::with_capacity(room), pending: 0..0 };
+    let mut disk = Disk {
+        content: Vec::with_capacity(room),
+        synced: Vec::with_capacity(room),
+        pending: 0..0,
+    };
     disk.write_at(0, b"FIXPJRN1\0\0\0\0\0\0\0\0\0");
     disk.sync();
-    let outbox = Mutex::new(Outbox { disk, end: 16, entries: Vec::new(), counts: [0; 17], most });
+    let outbox = Mutex::new(Outbox {
+        disk,
+        end: 16,
+        entries: Vec::new(),
+        counts: [0; 17],
+        most,
+    });
     let mut payload = [0x2A; PAYLOAD];
     payload[..10].copy_from_slice(&[0xEB, 0x50, 0x34, 0, 7, 0, 0x64, 0, 1, 0]);
     thread::scope(|scope| {

@@ -1,14 +1,18 @@
 //! Measurements: does what is measured so many times, and prints what came of it, so that no work can be left out.
-//! `codec COUNT` goes through all session messages; `write TEMPLATE COUNT` and `read TEMPLATE COUNT` through one.
+//! `codec COUNT` goes through all session messages; `write TEMPLATE COUNT` and `read TEMPLATE COUNT` through one. `sender COUNT`
+//! submits messages at a gate. `all COUNT` does each of these.
 #![tactic(auto)]
 
 mod codec;
 mod messages;
+mod senders;
 
 use codec::{read_many, write_many};
+use senders::submitted;
 use std::alloc::{AllocError, Global};
 use std::io;
 use std::rt::Env;
+use std::sync::Wait;
 
 /// The bytes of a buffer of frames.
 const ROOM: usize = 65_536;
@@ -80,15 +84,32 @@ fn words_of<R: Env + AllocGlobal>(rt: &R) -> io::Result<Vec<String>> {
     Ok(words)
 }
 
+/// All lines of all messages.
+fn print_all_codec<R: Print + AllocGlobal>(rt: &R, count: u64) -> io::Result<()> {
+    for template in 1..17u16 {
+        print_codec(rt, template, count)?;
+    }
+    Ok(())
+}
+
+/// The line of a sender at a gate.
+fn print_sender<R: Print + Wait + AllocGlobal>(rt: &R, count: u64) -> io::Result<()> {
+    match submitted(rt, count) {
+        Some(entries) => println!(rt; "{entries}"),
+        None => println!(rt; "no outbox"),
+    }
+}
+
 fn main(rt: HostRuntime) -> io::Result<()> {
     let words = words_of(&rt)?;
     match words.as_slice() {
-        [kind, count] if kind.as_str() == "codec" => {
-            for template in 1..17u16 {
-                print_codec(&rt, template, number(count.as_str()))?;
-            }
-            Ok(())
+        [kind, count] if kind.as_str() == "all" => {
+            let count = number(count.as_str());
+            print_all_codec(&rt, count)?;
+            print_sender(&rt, count)
         }
+        [kind, count] if kind.as_str() == "codec" => print_all_codec(&rt, number(count.as_str())),
+        [kind, count] if kind.as_str() == "sender" => print_sender(&rt, number(count.as_str())),
         [kind, template, count] if kind.as_str() == "write" => {
             let (sizes, bytes) = written(
                 rt.alloc(),
@@ -105,6 +126,8 @@ fn main(rt: HostRuntime) -> io::Result<()> {
             )?;
             println!(rt; "{sum}")
         }
-        _ => println!(rt; "codec COUNT, write TEMPLATE COUNT or read TEMPLATE COUNT"),
+        _ => println!(rt;
+            "all COUNT, codec COUNT, write TEMPLATE COUNT, read TEMPLATE COUNT or sender COUNT"
+        ),
     }
 }

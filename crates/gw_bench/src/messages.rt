@@ -12,8 +12,8 @@ use fixp_msgs::{
     RetransmitReject, RetransmitRequest, Sequence, SessionMsg, Terminate, UnsequencedHeartbeat,
 };
 
-/// The message of a template and a session, with this number in each field, as much of it as the field holds; a Terminate where no message
-/// has the template.
+/// The message of a template and a session, with this number in each field, as much of it as the field holds; a Terminate
+/// where no message has the template.
 pub fn made<'a>(template: u16, id: &[u8; 16], number: u64, datum: &'a [u8]) -> SessionMsg<'a>
     requires number { number < 2 ^ 64 - 1 }
     requires datum { length datum.now ≤ 2048 }
