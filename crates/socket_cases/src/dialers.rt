@@ -101,11 +101,8 @@ pub fn over<R: Net<Listener = TcpListener, Stream = TcpStream> + Clock + AllocGl
     let alloc = rt.alloc();
     let mut accepting = AcceptDialer::new(rt, alloc, "127.0.0.1:45626", 2);
     let mut connecting = ConnectDialer::new(rt, alloc, "127.0.0.1:45626", 2);
-    let mut shown = format!(in alloc; "over:")?;
-    for _ in 0..3 {
-        let connecting_is = is_over(&mut connecting);
-        let accepting_is = is_over(&mut accepting);
-        shown.push_str(format!(in alloc; " {connecting_is} {accepting_is}")?.as_str())?;
-    }
-    Ok(shown)
+    let first = [is_over(&mut connecting), is_over(&mut accepting)];
+    let second = [is_over(&mut connecting), is_over(&mut accepting)];
+    let third = [is_over(&mut connecting), is_over(&mut accepting)];
+    format!(in alloc; "over: {first:?} {second:?} {third:?}")
 }

@@ -1,4 +1,3 @@
-use Rattle.std.proofs.Common.{rules}
 use Rattle.link_cases.proofs.Unused.{one_more_unused}
 use Rattle.link_cases.proofs.dialers.tapes.Goals as goal
 
