@@ -1,0 +1,5 @@
+use Rattle.flow_idem.proofs.Told.{runs_are_one}
+use Rattle.flow_idem.proofs.laws.runs_are_one.Goals as goal
+
+pub returns : goal.returns
+returns c = record { law = runs_are_one }
