@@ -15,7 +15,7 @@ use Rattle.fixp_replies.specs.declared.act.Act.TheVariants.{Nothing, Apply, Peer
 use Rattle.fixp_replies.specs.declared.facts.Facts.{Facts}
 use Rattle.fixp_replies.specs.declared.facts.PeerFinish.{PeerFinish}
 use Rattle.fixp_replies.specs.declared.facts.PeerFinish.TheVariants as peer
-use Rattle.fixp_replies.specs.Facts.{Around, receiving, requesting, awaiting, is_coming, live_number, message_number, peer_last, awaits_gap}
+use Rattle.fixp_replies.specs.Facts.{Around, receiving, requesting, awaiting, live_number, message_number, peer_last, awaits_gap}
 use Rattle.fixp_replies.specs.Outcomes.{Outcome, Row, row, first_row, goes_on, accepts, breaks, ignores, skip_of, told_skip}
 use Rattle.fixp_replies.specs.Announcing.{Announced, announcement_rows}
 
@@ -42,7 +42,7 @@ numbered_rows x f =
 
 -- a live message behind the peer's finish
 abbrev pub is_after_finish : Facts → Bool
-is_after_finish f = is_some (peer_last f) && not (is_coming f.connection.requester)
+is_after_finish f = is_some (peer_last f) && not (request_is.is_coming f.connection.requester)
 
 -- An application message. One of a flow that is not recoverable is always the next
 abbrev pub application_rows : Around → Facts → List Row

@@ -3,11 +3,15 @@
 #![tactic(auto)]
 
 mod act;
+mod announcing;
 mod facts;
+mod guards;
+mod handshake;
 mod incoming;
 mod reply;
+mod standing;
 
 pub use act::{Act, Ending};
 pub use facts::{Around, Connection, EndState, Facts, OwnFinish, PeerFinish};
 pub use incoming::{Incoming, classify};
-pub use reply::{Outgoing, Reply};
+pub use reply::{Outgoing, Reply, Written};
