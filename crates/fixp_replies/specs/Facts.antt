@@ -1,11 +1,11 @@
 -- What a reply depends on: what stands around it, what is recorded, and what is known of the connection.
-use Rattle.std.specs.Prelude.{ℕ, ◌+◌, ◌&&◌, ◌||◌, Bool, true, false, max, List, Option, Some, None, is_none, if◌then◌else◌}
+use Rattle.std.specs.Prelude.{ℕ, ◌+◌, ◌&&◌, ◌||◌, Bool, true, false, List, Option, Some, None, is_none, if◌then◌else◌}
 use Rattle.std.specs.Str.{bytes_eq}
 use Rattle.fixp_msgs.specs.declared.numbering.Range.{Range}
 use Rattle.flow_recover.specs.Receiving as receiver_is
 use Rattle.flow_recover.specs.Receiving.{Receiving}
 use Rattle.flow_retrans.specs.declared.request.Request.{Request}
-use Rattle.flow_retrans.specs.declared.request.Request.TheVariants.{Nothing, Asked, Coming}
+use Rattle.flow_retrans.specs.declared.request.Request.TheVariants.{Nothing, Asked}
 use Rattle.flow_retrans.specs.Requests.{outstanding, first_of_gap}
 use Rattle.fixp_shake.specs.declared.config.Role.{Role}
 use Rattle.fixp_shake.specs.declared.config.Role.TheVariants.{Initiator, Acceptor}
@@ -83,19 +83,14 @@ negotiated f = record f { recorded = record f.recorded { negotiated = true } }
 abbrev pub awaiting : Facts → ℕ → Facts
 awaiting f next = record f { recorded = record f.recorded { inbox_next = next } }
 
--- a message that comes now is a live one: none of a retransmission is awaited
-abbrev pub is_coming : Request → Bool
-is_coming Nothing = false
-is_coming (Asked range) = false
-is_coming (Coming range next left) = true
-
 -- the number that the next live message of the peer's flow has: on a recoverable flow the one announced, else the inbox's next
 abbrev pub live_number : Around → Facts → ℕ
 live_number x f = if is_recoverable x.config.peer_flow then f.connection.receiver.live else f.recorded.inbox_next
 
--- the number that an announcement does not go below
+-- the number that an announcement does not go below: on a recoverable flow the greater of the inbox's next, which the receiver
+-- waits for, and the live number
 abbrev pub expected_number : Around → Facts → ℕ
-expected_number x f = max f.recorded.inbox_next (live_number x f)
+expected_number x f = if is_recoverable x.config.peer_flow then receiver_is.expected f.connection.receiver else f.recorded.inbox_next
 
 -- the number of the next application message, which inside a retransmission is the retransmission's
 abbrev pub message_number : Around → Facts → ℕ

@@ -8,6 +8,7 @@ use Rattle.flow_recover.specs.declared.receiver.Seen.TheVariants as seen_variant
 use Rattle.flow_recover.specs.Receiving as receiver_is
 use Rattle.flow_retrans.specs.declared.requester.BadStart.{BadStart}
 use Rattle.flow_retrans.specs.Requests as request_is
+use Rattle.fixp_shake.specs.declared.violation.Violation.{Violation}
 use Rattle.fixp_shake.specs.declared.violation.Violation.TheVariants.{NumberTooLarge, BadRetransmission, AfterFinish, FlowNone, MissingNext}
 use Rattle.fixp_shake.specs.Flows.{is_recoverable, is_sequenced, is_absent}
 use Rattle.fixp_replies.specs.declared.act.Act.{Act}
@@ -15,9 +16,9 @@ use Rattle.fixp_replies.specs.declared.act.Act.TheVariants.{Nothing, Apply, Peer
 use Rattle.fixp_replies.specs.declared.facts.Facts.{Facts}
 use Rattle.fixp_replies.specs.declared.facts.PeerFinish.{PeerFinish}
 use Rattle.fixp_replies.specs.declared.facts.PeerFinish.TheVariants as peer
-use Rattle.fixp_replies.specs.Facts.{Around, receiving, requesting, awaiting, is_coming, live_number, message_number, peer_last, awaits_gap}
-use Rattle.fixp_replies.specs.Outcomes.{Outcome, Row, row, first_row, goes_on, accepts, breaks, ignores, skip_of, told_skip}
-use Rattle.fixp_replies.specs.Announcing.{Announced, announcement_rows}
+use Rattle.fixp_replies.specs.Facts.{Around, receiving, requesting, awaiting, live_number, message_number, peer_last, awaits_gap}
+use Rattle.fixp_replies.specs.Outcomes.{Outcome, Row, row, goes_on, accepts, breaks, ignores, skip_of, told_skip}
+use Rattle.fixp_replies.specs.Announcing.{Announced, announcement_rows, refuses}
 
 -- a retransmission that does not match its request
 abbrev pub bad_retransmission : Around → Facts → Option BadStart → Outcome
@@ -42,7 +43,7 @@ numbered_rows x f =
 
 -- a live message behind the peer's finish
 abbrev pub is_after_finish : Facts → Bool
-is_after_finish f = is_some (peer_last f) && not (is_coming f.connection.requester)
+is_after_finish f = is_some (peer_last f) && not (request_is.is_coming f.connection.requester)
 
 -- An application message. One of a flow that is not recoverable is always the next
 abbrev pub application_rows : Around → Facts → List Row
@@ -70,13 +71,21 @@ answers_finish x f last =
 abbrev pub is_filled : Facts → Bool
 is_filled f = is_some (awaits_gap f.connection.peer_finish) && is_none (receiver_is.gap f.connection.receiver)
 
+-- behind the peer's finish no number but the one after its last is announced
+abbrev pub is_past_finish : Around → Facts → (next : ℕ) → Bool
+is_past_finish x f next = is_sequenced x.config.peer_flow && is_some (peer_last f) && not (next == unwrap_or (peer_last f) 0 + 1)
+
+-- the announcement of a Sequence was taken
+abbrev pub sequence_taken : Around → Announced → Outcome
+sequence_taken x a =
+    if is_filled a.facts then answers_finish x a.facts (unwrap_or (awaits_gap a.facts.connection.peer_finish) 0)
+    else goes_on x (skip_of a.skipped) (told_skip a.skipped) a.facts
+
 -- Sequence, where its announcement stands: behind the peer's finish it announces nothing new
 abbrev pub sequence_follows : Around → Facts → (next : ℕ) → Announced → Outcome
-sequence_follows x f next a = first_row (ignores f)
-    ( row (is_sequenced x.config.peer_flow && is_some (peer_last f) && not (next == unwrap_or (peer_last f) 0 + 1)) (breaks x f (AfterFinish (unwrap_or (peer_last f) 0) next))
-    ∷ row (is_filled a.facts) (answers_finish x a.facts (unwrap_or (awaits_gap a.facts.connection.peer_finish) 0))
-    ∷ row true (goes_on x (skip_of a.skipped) (told_skip a.skipped) a.facts)
-    ∷ [])
+sequence_follows x f next a =
+    if is_past_finish x f next then breaks x f (AfterFinish (unwrap_or (peer_last f) 0) next)
+    else sequence_taken x a
 
 -- it ends a retransmission that is whole, and is an announcement
 abbrev pub sequence_rows : Around → Facts → (next : ℕ) → List Row
@@ -108,12 +117,25 @@ retransmit_reject_rows x f = row true (breaks x f (BadRetransmission (first_aske
 abbrev pub finished_last : Around → Option ℕ → ℕ
 finished_last x last = if is_sequenced x.config.peer_flow then unwrap_or last 0 else 0
 
+abbrev pub is_last : Around → Facts → (last : ℕ) → Bool
+is_last x f last = last + 1 == live_number x f && last == unwrap_or (peer_last f) last
+
+abbrev pub finish_fault : Around → Facts → (last : Option ℕ) → Option Violation
+finish_fault x f last =
+    if is_absent x.config.peer_flow then Some (FlowNone 14)
+    else if is_sequenced x.config.peer_flow && is_none last then Some (MissingNext 14)
+    else if is_sequenced x.config.peer_flow && not (is_last x f (finished_last x last)) then Some (AfterFinish (finished_last x last) (live_number x f))
+    else None
+
+-- it is answered where no gap is left
+abbrev pub finished : Around → Facts → (last : ℕ) → Outcome
+finished x f last =
+    if is_some (receiver_is.gap f.connection.receiver)
+    then accepts x [] (peer_finished f (peer.Read last) f.recorded.peer_last)
+    else answers_finish x f last
+
 abbrev pub finished_sending_rows : Around → Facts → (last : Option ℕ) → List Row
 finished_sending_rows x f last =
-    row (is_absent x.config.peer_flow) (breaks x f (FlowNone 14))
-    ∷ row (is_sequenced x.config.peer_flow && is_none last) (breaks x f (MissingNext 14))
-    ∷ row (is_sequenced x.config.peer_flow && not (finished_last x last + 1 == live_number x f && finished_last x last == unwrap_or (peer_last f) (finished_last x last)))
-        (breaks x f (AfterFinish (finished_last x last) (live_number x f)))
-    ∷ row (is_some (receiver_is.gap f.connection.receiver)) (accepts x [] (peer_finished f (peer.Read (finished_last x last)) f.recorded.peer_last))
-    ∷ row true (answers_finish x f (finished_last x last))
+    row (is_some (finish_fault x f last)) (refuses x f (finish_fault x f last))
+    ∷ row true (finished x f (finished_last x last))
     ∷ []

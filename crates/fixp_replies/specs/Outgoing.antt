@@ -6,6 +6,7 @@ use Rattle.fixp_shake.specs.declared.config.EndConfig.{EndConfig}
 use Rattle.fixp_replies.specs.declared.reply.Outgoing.{Outgoing}
 use Rattle.fixp_replies.specs.declared.reply.Outgoing.TheVariants as outgoing
 use Rattle.fixp_replies.specs.declared.reply.Reply.{Reply}
+use Rattle.fixp_replies.specs.declared.facts.Facts.{Facts}
 use Rattle.fixp_replies.specs.Facts.{is_initiator}
 use Rattle.fixp_replies.specs.Outcomes.{Outcome}
 
@@ -34,8 +35,9 @@ messages_of cfg [] = []
 messages_of cfg (None ∷ later) = messages_of cfg later
 messages_of cfg (Some message ∷ later) = outgoing_message cfg message ∷ messages_of cfg later
 
-abbrev pub outcome_of : EndConfig → Reply → Outcome
-outcome_of cfg reply = record { act = reply.act; written = messages_of cfg reply.written; next = reply.next; ending = reply.ending; accepted = reply.accepted }
+-- a reply with the facts that it leaves
+abbrev pub outcome_of : EndConfig → Reply → Facts → Outcome
+outcome_of cfg reply next = record { act = reply.act; written = messages_of cfg reply.written; next = next; ending = reply.ending; accepted = reply.accepted }
 
 -- how many bytes the messages of one reply have at most: an initiator writes its credentials once
 abbrev pub reply_limit : EndConfig → ℕ

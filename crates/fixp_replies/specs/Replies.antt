@@ -1,8 +1,9 @@
 -- The reply table: what an end does about each message (FIXP 1.1, "Session lifecycle"; where the standard leaves a choice, and
 -- for every code, this project's profile).
-use Rattle.std.specs.Prelude.{ℕ, ◌&&◌, Bool, true, false, not, if◌then◌else◌, List, [], ◌∷◌, Option}
+use Rattle.std.specs.Prelude.{ℕ, ◌&&◌, Bool, true, false, not, if◌then◌else◌, List, [], ◌∷◌, Option, Some, None}
 use Rattle.fixp_msgs.specs.Message.{Message, negotiate, negotiation_response, negotiation_reject, establish, establishment_ack, establishment_reject, sequence, unsequenced_heartbeat, retransmit_request, retransmission, retransmit_reject, applied, not_applied, finished_sending, finished_receiving, terminate}
-use Rattle.fixp_shake.specs.declared.violation.Violation.TheVariants.{BadFrame, UnknownTemplate, OtherSession}
+use Rattle.fixp_shake.specs.declared.violation.Violation.{Violation}
+use Rattle.fixp_shake.specs.declared.violation.Violation.TheVariants.{BadFrame, UnknownTemplate, NotInPhase, OtherSession}
 use Rattle.fixp_shake.specs.Phases.{is_negotiating, is_establishing, is_established, is_closing}
 use Rattle.fixp_shake.specs.Flows.{is_idempotent}
 use Rattle.fixp_replies.specs.declared.act.Act.TheVariants.{Told}
@@ -45,6 +46,13 @@ template_of (unknown template) = template
 abbrev pub of_session : Around → Facts → (template : ℕ) (id : List ℕ) → List Row → List Row
 of_session x f template id rows = row (not (is_own x id)) (breaks x f (OtherSession template)) ∷ rows
 
+-- the rule that such a message breaks before its rows are looked at: it is another session's, or its phase does not await it
+abbrev pub misplaced : Around → Facts → (template : ℕ) (id : List ℕ) → (awaited : Bool) → Option Violation
+misplaced x f template id awaited =
+    if not (is_own x id) then Some (OtherSession template)
+    else if not awaited then Some (NotInPhase template f.connection.phase)
+    else None
+
 -- the rows of each message, in the order in which they are looked at; what none of them takes is out of phase
 abbrev pub rows_of : Around → Facts → Incoming → List Row
 rows_of x f (application payload) = within (is_established f.connection.phase) (application_rows x f)
@@ -68,6 +76,10 @@ rows_of x f wrong_order = row true (breaks x f (BadFrame x.at)) ∷ []
 rows_of x f too_short = row true (breaks x f (BadFrame x.at)) ∷ []
 rows_of x f (unknown template) = row true (breaks x f (UnknownTemplate template)) ∷ []
 
+-- the outcome of the first row that applies; where none does, the message is out of phase
+abbrev pub answer_of : Around → Facts → Incoming → Outcome
+answer_of x f incoming = first_row (not_in_phase x f (template_of incoming)) (rows_of x f incoming)
+
 -- a Terminate of this session
 abbrev pub terminates : Around → Incoming → Bool
 terminates x (session (terminate id code reason)) = is_own x id
@@ -78,7 +90,7 @@ abbrev pub reply_of : Around → Facts → Incoming → Outcome
 reply_of x f incoming =
     if is_closing f.connection.phase && not (terminates x incoming)
     then ignores f
-    else first_row (not_in_phase x f (template_of incoming)) (rows_of x f incoming)
+    else answer_of x f incoming
 
 -- the reply to bytes that are no frame, in any phase
 abbrev pub reply_to_bad_frame : Around → Facts → Outcome
