@@ -37,7 +37,7 @@ use Rattle.fixp_replies.specs.Facts.{Around, is_initiator, is_own, in_phase, rec
 use Rattle.fixp_replies.specs.Outcomes.{Outcome, Row, row, first_row, goes_on, accepts, rejects, ignores, ends_with, ends, breaks, not_in_phase, request_for, skip_of, told_skip, opening_negotiate, opening_establish}
 use Rattle.fixp_replies.specs.Announcing.{Announced, jumped_over, announced, announcement_fault, refuses, announcement_rows}
 use Rattle.fixp_replies.specs.Handshake.{awaits_client, serves_client, rejects_negotiate, rejects_establish, established, acknowledges, establish_rows, established_again_rows, establish_rows_in, shaken, rejected}
-use Rattle.fixp_replies.specs.Flowing.{bad_retransmission, counted, taken_as, finish_act, peer_finished, answers_finish, is_filled, sequence_follows, restarted, finished_last}
+use Rattle.fixp_replies.specs.Flowing.{bad_retransmission, counted, taken_as, finish_act, peer_finished, answers_finish, is_filled, sequence_follows, restarted, finished_last, finish_fault, finished}
 use Rattle.fixp_replies.specs.Serving.{request_answered, own_finishing}
 use Rattle.fixp_replies.specs.Replies.{template_of, of_session, rows_of, answer_of, terminates, reply_of}
 use Rattle.reply_laws.specs.Sound.{Sound, Advances, is_opening, MayWrite, WithinMost, KeepsSound, SoundGoesOn}
@@ -174,7 +174,7 @@ or_right : (a b : Bool) → b ≡ true → (a || b) ≡ true
 or_right true b e = refl
 or_right false b e = e
 
-chosen : Around → Facts → ℕ → Bool → Bool → Announced
+abbrev chosen : Around → Facts → ℕ → Bool → Bool → Announced
 chosen x f n recoverable idempotent =
     if recoverable then record { facts = receiving f (receiver_is.announced f.connection.receiver n); skipped = None }
     else if idempotent then record { facts = awaiting f n; skipped = jumped_over f.recorded.inbox_next n }
@@ -183,7 +183,6 @@ chosen x f n recoverable idempotent =
 announced_fits : (x : Around) (f : Facts) (template : ℕ) (next : Option ℕ) → Sound x.config f → announcement_fault x f template next ≡ None → Fits x f (announced x f next)
 announced_fits x f template next s e = by_flow (is_recoverable x.config.peer_flow) (is_idempotent x.config.peer_flow) refl refl
   where
-    unfolding chosen
     by_flow : (r i : Bool) → is_recoverable x.config.peer_flow ≡ r → is_idempotent x.config.peer_flow ≡ i → Fits x f (chosen x f (unwrap_or next 0) r i)
     by_flow true i rec idem = record {
       sound = record { waits = λ _. s.waits rec; even = λ t. absurd (true≢false (sym rec ∙ t)); unread = s.unread; credentials = s.credentials; sent = s.sent; role = s.role };
@@ -208,7 +207,6 @@ announced_fits x f template next s e = by_flow (is_recoverable x.config.peer_flo
 unmoved : (x : Around) (f : Facts) (next : Option ℕ) → is_recoverable x.config.peer_flow ≡ true → (announced x f next).facts.recorded.inbox_next ≡ f.recorded.inbox_next
 unmoved x f next rec = by_flow (is_recoverable x.config.peer_flow) (is_idempotent x.config.peer_flow) rec
   where
-    unfolding chosen
     by_flow : (r i : Bool) → r ≡ true → (chosen x f (unwrap_or next 0) r i).facts.recorded.inbox_next ≡ f.recorded.inbox_next
     by_flow true i e = refl
     by_flow false i e = absurd (true≢false (sym e))
@@ -337,9 +335,9 @@ finish_still : (recorded : Option ℕ) (last n : ℕ) → Advances (finish_act r
 finish_still None last n = refl
 finish_still (Some _) last n = refl
 
--- an end is not told twice apart: the facts behind it
-finished : (cfg : EndConfig) (f : Facts) (last : ℕ) (recorded : Option ℕ) → Sound cfg f → Sound cfg (peer_finished f (peer.Exchanged last) recorded)
-finished cfg f last recorded s = record { waits = s.waits; even = s.even; unread = λ _. refl; credentials = s.credentials; sent = s.sent; role = s.role }
+-- the finish is answered: the facts behind it
+finish_answered : (cfg : EndConfig) (f : Facts) (last : ℕ) (recorded : Option ℕ) → Sound cfg f → Sound cfg (peer_finished f (peer.Exchanged last) recorded)
+finish_answered cfg f last recorded s = record { waits = s.waits; even = s.even; unread = λ _. refl; credentials = s.credentials; sent = s.sent; role = s.role }
 
 finish_within : (recorded : Option ℕ) (last most : ℕ) → WithinMost most (finish_act recorded last)
 finish_within None last most = tt
@@ -348,7 +346,7 @@ finish_within (Some _) last most = tt
 answering : (x : Around) (f next : Facts) (last : ℕ) → Sound x.config next → next.recorded.sent ≡ f.recorded.sent → next.recorded.inbox_next ≡ f.recorded.inbox_next → KeepsSound x f (answers_finish x next last)
 answering x f next last s kept same =
     going x f (peer_finished next (peer.Exchanged last) (Some (unwrap_or next.recorded.peer_last last))) (finish_act next.recorded.peer_last last) (finished_receiving x.config.session ∷ [])
-        (finished x.config next last (Some (unwrap_or next.recorded.peer_last last)) s)
+        (finish_answered x.config next last (Some (unwrap_or next.recorded.peer_last last)) s)
         kept
         (subst (λ n. Advances (finish_act next.recorded.peer_last last) n next.recorded.inbox_next) same (finish_still next.recorded.peer_last last next.recorded.inbox_next))
         (finish_within next.recorded.peer_last last x.most)
@@ -534,19 +532,18 @@ session_rows x f (applied first count) s = (λ _. going x f f acts.Nothing [] s 
 session_rows x f (not_applied first count) s = (λ _. going x f f (acts.Told first count) [] s refl refl tt tt, λ _. (λ _. going x f f acts.Nothing [] s refl refl tt tt, λ _. tt))
 session_rows x f (finished_sending id last) s =
     own_rows (KeepsSound x f) x f 14 id _ (λ e. ending x f 2 e s) (all_within (KeepsSound x f) (is_established f.connection.phase) _ (λ _. (
-      λ _. ending x f 2 _ s,
-      λ _. (
-        λ _. ending x f 2 _ s,
-        λ _. (
-          λ _. ending x f 2 _ s,
-          λ _. (
-            λ g. going x f (peer_finished f (peer.Read (finished_last x last)) f.recorded.peer_last) acts.Nothing []
-                (record { waits = s.waits; even = s.even; unread = λ t. absurd (no_gap f.connection.receiver (s.even t) g); credentials = s.credentials; sent = s.sent; role = s.role }) refl refl tt tt,
-            λ _. (λ _. answering x f f (finished_last x last) s refl refl, λ _. tt),
-          ),
-        ),
-      ),
+      λ some. refused (finish_fault x f last) some,
+      λ _. (λ _. finishing (finished_last x last), λ _. tt),
     )))
+  where
+    refused : (v : Option Violation) → is_some v ≡ true → KeepsSound x f (refuses x f v)
+    refused None some = absurd (true≢false (sym some))
+    refused (Some v) some = ending x f 2 _ s
+    finishing : (n : ℕ) → KeepsSound x f (finished x f n)
+    finishing n = by_row (KeepsSound x f) (is_some (receiver_is.gap f.connection.receiver)) (accepts x [] (peer_finished f (peer.Read n) f.recorded.peer_last)) (answers_finish x f n)
+        (λ g. going x f (peer_finished f (peer.Read n) f.recorded.peer_last) acts.Nothing []
+            (record { waits = s.waits; even = s.even; unread = λ t. absurd (no_gap f.connection.receiver (s.even t) g); credentials = s.credentials; sent = s.sent; role = s.role }) refl refl tt tt)
+        (λ _. answering x f f n s refl refl)
 session_rows x f (finished_receiving id) s =
     own_rows (KeepsSound x f) x f 15 id _ (λ e. ending x f 2 e s) (all_within (KeepsSound x f) (is_established f.connection.phase) _ (λ _. (
       λ _. going x f (own_finishing f own.Exchanged) acts.Nothing [] (record { waits = s.waits; even = s.even; unread = s.unread; credentials = s.credentials; sent = s.sent; role = s.role }) refl refl tt tt,
