@@ -101,7 +101,7 @@ asked_sent f (Some g) = refl
 
 -- the connection goes on with facts that are sound
 going : (x : Around) (f next : Facts) (act : Act) (written : List Message) → Sound x.config next → next.recorded.sent ≡ f.recorded.sent
-    → Advances act f.recorded.inbox_next next.recorded.inbox_next → WithinMost x.most act → Writes x.config written → KeepsSound x f (goes_on x act written next)
+    → Advances act f.recorded.inbox_next next.recorded.inbox_next → WithinMost x.most act → Writes x.config written → KeepsSound x.config x.most f (goes_on x act written next)
 going x f next act written s same a w o = record {
   next = asked_sound x.config next (gap_to_ask next) s;
   sent = asked_sent next (gap_to_ask next) ∙ same;
@@ -111,26 +111,26 @@ going x f next act written s same a w o = record {
 }
 
 -- nothing changes
-staying : (x : Around) (f : Facts) (m : Message) → Sound x.config f → is_opening m ≡ false → IsWritable m → KeepsSound x f (rejects (m ∷ []) f)
+staying : (x : Around) (f : Facts) (m : Message) → Sound x.config f → is_opening m ≡ false → IsWritable m → KeepsSound x.config x.most f (rejects (m ∷ []) f)
 staying x f m s e w = record { next = s; sent = refl; advances = refl; within = tt; writes = plain x.config m e w }
 
 -- a reject without a reason
-rejecting_negotiate : (x : Around) (f : Facts) (id : List ℕ) (timestamp code : ℕ) → Sound x.config f → KeepsSound x f (rejects_negotiate f id timestamp code)
+rejecting_negotiate : (x : Around) (f : Facts) (id : List ℕ) (timestamp code : ℕ) → Sound x.config f → KeepsSound x.config x.most f (rejects_negotiate f id timestamp code)
 rejecting_negotiate x f id timestamp code s = staying x f (negotiation_reject id timestamp code []) s refl (record { numbers = (tt, (tt, (tt, tt))); datum = omega arith })
 
-rejecting_establish : (x : Around) (f : Facts) (id : List ℕ) (timestamp code : ℕ) → Sound x.config f → KeepsSound x f (rejects_establish f id timestamp code)
+rejecting_establish : (x : Around) (f : Facts) (id : List ℕ) (timestamp code : ℕ) → Sound x.config f → KeepsSound x.config x.most f (rejects_establish f id timestamp code)
 rejecting_establish x f id timestamp code s = staying x f (establishment_reject id timestamp code []) s refl (record { numbers = (tt, (tt, (tt, tt))); datum = omega arith })
 
-ignoring : (x : Around) (f : Facts) → Sound x.config f → KeepsSound x f (ignores f)
+ignoring : (x : Around) (f : Facts) → Sound x.config f → KeepsSound x.config x.most f (ignores f)
 ignoring x f s = record { next = s; sent = refl; advances = refl; within = tt; writes = tt }
 
-ending : (x : Around) (f : Facts) (code : ℕ) (e : Ending) → Sound x.config f → KeepsSound x f (ends x f code e)
+ending : (x : Around) (f : Facts) (code : ℕ) (e : Ending) → Sound x.config f → KeepsSound x.config x.most f (ends x f code e)
 ending x f code e s = record { next = s; sent = refl; advances = refl; within = tt; writes = writes_terminate x.config code }
 
-rejecting : (x : Around) (f : Facts) (e : Ending) → Sound x.config f → KeepsSound x f (ends_with x f [] e)
+rejecting : (x : Around) (f : Facts) (e : Ending) → Sound x.config f → KeepsSound x.config x.most f (ends_with x f [] e)
 rejecting x f e s = record { next = s; sent = refl; advances = refl; within = tt; writes = tt }
 
-bad : (x : Around) (f : Facts) (b : Option BadStart) → Sound x.config f → KeepsSound x f (bad_retransmission x f b)
+bad : (x : Around) (f : Facts) (b : Option BadStart) → Sound x.config f → KeepsSound x.config x.most f (bad_retransmission x f b)
 bad x f None s = ignoring x f s
 bad x f (Some b) s = ending x f 2 _ s
 
@@ -269,7 +269,7 @@ left_out cfg f rec s other =
       role = s.role;
     }
 
-taking : (x : Around) (f : Facts) → is_recoverable x.config.peer_flow ≡ true → Sound x.config f → receiver_is.number f.connection.receiver ≤ x.most → (s : Seen) → receiver_is.seen f.connection.receiver ≡ s → KeepsSound x f (taken_as x (counted f) s)
+taking : (x : Around) (f : Facts) → is_recoverable x.config.peer_flow ≡ true → Sound x.config f → receiver_is.number f.connection.receiver ≤ x.most → (s : Seen) → receiver_is.seen f.connection.receiver ≡ s → KeepsSound x.config x.most f (taken_as x (counted f) s)
 taking x f rec s top (Deliver n) is =
     let r = f.connection.receiver in
     let d = delivers r.next (receiver_is.number r) n is in
@@ -307,8 +307,8 @@ not_false : (b : Bool) → not b ≡ true → b ≡ false
 not_false true e = absurd (true≢false (sym e))
 not_false false e = refl
 
-message_rows : (x : Around) (f : Facts) (p : List ℕ) → Sound x.config f → AllRows (KeepsSound x f) (rows_of x f (application p))
-message_rows x f p s = all_within (KeepsSound x f) (is_established f.connection.phase) _ (λ _. (
+message_rows : (x : Around) (f : Facts) (p : List ℕ) → Sound x.config f → AllRows (KeepsSound x.config x.most f) (rows_of x f (application p))
+message_rows x f p s = all_within (KeepsSound x.config x.most f) (is_established f.connection.phase) _ (λ _. (
       λ _. ending x f 2 _ s,
       λ _. (
         λ _. ending x f 2 _ s,
@@ -343,7 +343,7 @@ finish_within : (recorded : Option ℕ) (last most : ℕ) → WithinMost most (f
 finish_within None last most = tt
 finish_within (Some _) last most = tt
 
-answering : (x : Around) (f next : Facts) (last : ℕ) → Sound x.config next → next.recorded.sent ≡ f.recorded.sent → next.recorded.inbox_next ≡ f.recorded.inbox_next → KeepsSound x f (answers_finish x next last)
+answering : (x : Around) (f next : Facts) (last : ℕ) → Sound x.config next → next.recorded.sent ≡ f.recorded.sent → next.recorded.inbox_next ≡ f.recorded.inbox_next → KeepsSound x.config x.most f (answers_finish x next last)
 answering x f next last s kept same =
     going x f (peer_finished next (peer.Exchanged last) (Some (unwrap_or next.recorded.peer_last last))) (finish_act next.recorded.peer_last last) (finished_receiving x.config.session ∷ [])
         (finish_answered x.config next last (Some (unwrap_or next.recorded.peer_last last)) s)
@@ -354,9 +354,9 @@ answering x f next last s kept same =
 
 -- Sequence, where its announcement stands
 following : (x : Around) (f ended : Facts) (next : ℕ) (a : Announced) → Sound x.config ended → ended.recorded.sent ≡ f.recorded.sent → ended.recorded.inbox_next ≡ f.recorded.inbox_next
-    → (is_recoverable x.config.peer_flow ≡ true → a.facts.recorded.inbox_next ≡ f.recorded.inbox_next) → Fits x f a → KeepsSound x f (sequence_follows x ended next a)
+    → (is_recoverable x.config.peer_flow ≡ true → a.facts.recorded.inbox_next ≡ f.recorded.inbox_next) → Fits x f a → KeepsSound x.config x.most f (sequence_follows x ended next a)
 following x f ended next a e kept same still fits =
-    all_rows (KeepsSound x f) (ignores ended) rows (record { next = e; sent = kept; advances = same; within = tt; writes = tt }) (
+    all_rows (KeepsSound x.config x.most f) (ignores ended) rows (record { next = e; sent = kept; advances = same; within = tt; writes = tt }) (
       λ _. record { next = e; sent = kept; advances = same; within = tt; writes = writes_terminate x.config 2 },
       λ _. (
         λ filled. by_flow (is_recoverable x.config.peer_flow) refl (and_left (is_some (awaits_gap a.facts.connection.peer_finish)) (is_none (receiver_is.gap a.facts.connection.receiver)) filled),
@@ -377,18 +377,18 @@ following x f ended next a e kept same still fits =
     and_left true q t = refl
     and_left false q t = absurd (true≢false (sym t))
     by_flow : (b : Bool) → is_recoverable x.config.peer_flow ≡ b → is_some (awaits_gap a.facts.connection.peer_finish) ≡ true
-        → KeepsSound x f (answers_finish x a.facts (unwrap_or (awaits_gap a.facts.connection.peer_finish) 0))
+        → KeepsSound x.config x.most f (answers_finish x a.facts (unwrap_or (awaits_gap a.facts.connection.peer_finish) 0))
     by_flow true r t = answering x f a.facts (unwrap_or (awaits_gap a.facts.connection.peer_finish) 0) fits.sound fits.sent (still r)
     by_flow false r t = absurd (none-some (awaits_gap a.facts.connection.peer_finish) t (fits.sound.unread r))
 
-answered : (x : Around) (f : Facts) (id : List ℕ) (timestamp : ℕ) (r : Result Range RetransmitCode) → Sound x.config f → KeepsSound x f (request_answered x f id timestamp r)
+answered : (x : Around) (f : Facts) (id : List ℕ) (timestamp : ℕ) (r : Result Range RetransmitCode) → Sound x.config f → KeepsSound x.config x.most f (request_answered x f id timestamp r)
 answered x f id timestamp (Ok range) s =
     going x f (serves f (Some range)) acts.Nothing (retransmission x.config.session range.from timestamp range.count ∷ []) (record { waits = s.waits; even = s.even; unread = s.unread; credentials = s.credentials; sent = s.sent; role = s.role }) refl refl tt
         (plain x.config (retransmission x.config.session range.from timestamp range.count) refl (record { numbers = (tt, (tt, (tt, (tt, tt)))); datum = tt }))
 answered x f id timestamp (Err code) s = staying x f (retransmit_reject id timestamp (code_of code) []) s refl (record { numbers = (tt, (tt, (tt, tt))); datum = omega arith })
 
 -- an initiator goes on with the handshake
-shaking : (x : Around) (f : Facts) → is_initiator x.config.role ≡ true → Sound x.config f → KeepsSound x f (shaken x f)
+shaking : (x : Around) (f : Facts) → is_initiator x.config.role ≡ true → Sound x.config f → KeepsSound x.config x.most f (shaken x f)
 shaking x f i s =
     going x f (in_phase (as_negotiated f) phases.Establishing) (if f.recorded.negotiated then acts.Nothing else acts.Negotiated) (opening_establish x f ∷ [])
         (record { waits = s.waits; even = s.even; unread = s.unread; credentials = s.credentials; sent = s.sent; role = λ t. absurd (true≢false (sym i ∙ t)) })
@@ -413,11 +413,11 @@ own_rows : (P : Outcome → Type 0) (x : Around) (f : Facts) (template : ℕ) (i
 own_rows P x f template id rows refuses all = (λ _. refuses _, λ _. all)
 
 establish_all : (x : Around) (f : Facts) (id : List ℕ) (timestamp keepalive : ℕ) (next : Option ℕ) (credentials : List ℕ) → Sound x.config f
-    → AllRows (KeepsSound x f) (establish_rows_in x f id timestamp keepalive next credentials)
+    → AllRows (KeepsSound x.config x.most f) (establish_rows_in x f id timestamp keepalive next credentials)
 establish_all x f id timestamp keepalive next credentials s = by_place (awaits_client x f) (serves_client x f)
   where
     P : Outcome → Type 0
-    P = KeepsSound x f
+    P = KeepsSound x.config x.most f
     acknowledged : (a : Announced) → Fits x f a → P (acknowledges x timestamp keepalive a)
     acknowledged a fits =
         going x f (established a.facts keepalive) (skip_of a.skipped) (establishment_ack x.config.session timestamp x.config.keepalive (announced_number x a.facts) ∷ told_skip a.skipped)
@@ -454,8 +454,8 @@ gap_tests next live g false t e some = true≢false (sym some)
 no_gap : (r : receiver_is.Receiving) → r.live ≡ r.next → is_some (receiver_is.gap r) ≡ true → ⊥
 no_gap r e some = gap_tests r.next r.live (record { from = r.next; count = r.live - r.next }) (nat_lt r.next r.live) refl e some
 
-session_rows : (x : Around) (f : Facts) (m : Message) → Sound x.config f → AllRows (KeepsSound x f) (rows_of x f (session m))
-session_rows x f (negotiate id timestamp flow credentials) s = all_within (KeepsSound x f) (awaits_client x f) _ (λ _. (
+session_rows : (x : Around) (f : Facts) (m : Message) → Sound x.config f → AllRows (KeepsSound x.config x.most f) (rows_of x f (session m))
+session_rows x f (negotiate id timestamp flow credentials) s = all_within (KeepsSound x.config x.most f) (awaits_client x f) _ (λ _. (
       λ _. rejecting_negotiate x f id timestamp 1 s,
       λ _. (
         λ _. rejecting_negotiate x f id timestamp 2 s,
@@ -474,40 +474,40 @@ session_rows x f (negotiate id timestamp flow credentials) s = all_within (Keeps
       ),
     ))
 session_rows x f (negotiation_response id timestamp flow credentials) s =
-    own_rows (KeepsSound x f) x f 2 id _ (λ e. ending x f 2 e s) (all_within (KeepsSound x f) (is_negotiating f.connection.phase) _ (λ n. (
+    own_rows (KeepsSound x.config x.most f) x f 2 id _ (λ e. ending x f 2 e s) (all_within (KeepsSound x.config x.most f) (is_negotiating f.connection.phase) _ (λ n. (
       λ _. ending x f 2 _ s,
       λ _. (λ _. shaking x f (awaits_as_initiator x.config f s (or_left (is_negotiating f.connection.phase) (is_establishing f.connection.phase) n)) s, λ _. tt),
     )))
 session_rows x f (negotiation_reject id timestamp code reason) s =
-    own_rows (KeepsSound x f) x f 3 id _ (λ e. ending x f 2 e s) (all_within (KeepsSound x f) (is_negotiating f.connection.phase) _ (λ n. (
+    own_rows (KeepsSound x.config x.most f) x f 3 id _ (λ e. ending x f 2 e s) (all_within (KeepsSound x.config x.most f) (is_negotiating f.connection.phase) _ (λ n. (
       λ _. shaking x f (awaits_as_initiator x.config f s (or_left (is_negotiating f.connection.phase) (is_establishing f.connection.phase) n)) s,
       λ _. (λ _. rejecting x f (endings.Rejected 3 code) s, λ _. tt),
     )))
 session_rows x f (establish id timestamp keepalive next credentials) s = establish_all x f id timestamp keepalive next credentials s
 session_rows x f (establishment_ack id timestamp keepalive next) s =
     let interval : ℕ = min 60000 (max 100 keepalive) in
-    own_rows (KeepsSound x f) x f 5 id _ (λ e. ending x f 2 e s) (all_within (KeepsSound x f) (is_establishing f.connection.phase) _ (λ _.
-        announced_rows (KeepsSound x f) x f 5 next (λ (a : Announced). goes_on x (skip_of a.skipped) (told_skip a.skipped) (established a.facts interval)) (λ code e. ending x f code e s)
+    own_rows (KeepsSound x.config x.most f) x f 5 id _ (λ e. ending x f 2 e s) (all_within (KeepsSound x.config x.most f) (is_establishing f.connection.phase) _ (λ _.
+        announced_rows (KeepsSound x.config x.most f) x f 5 next (λ (a : Announced). goes_on x (skip_of a.skipped) (told_skip a.skipped) (established a.facts interval)) (λ code e. ending x f code e s)
             (λ e. let fits = announced_fits x f 5 next s e in
                 going x f (established (announced x f next).facts interval) (skip_of (announced x f next).skipped) (told_skip (announced x f next).skipped)
                     (done x.config (announced x f next).facts interval fits.sound) fits.sent fits.advances fits.within (tells_not x.config (announced x f next).skipped))))
 session_rows x f (establishment_reject id timestamp code reason) s =
-    own_rows (KeepsSound x f) x f 6 id _ (λ e. ending x f 2 e s) (all_within (KeepsSound x f) (is_establishing f.connection.phase) _ (λ n. (
+    own_rows (KeepsSound x.config x.most f) x f 6 id _ (λ e. ending x f 2 e s) (all_within (KeepsSound x.config x.most f) (is_establishing f.connection.phase) _ (λ n. (
       λ _.
           let i = awaits_as_initiator x.config f s (or_right (is_negotiating f.connection.phase) (is_establishing f.connection.phase) n) in
           going x f (in_phase f phases.Negotiating) acts.Nothing (opening_negotiate x ∷ [])
               (record { waits = s.waits; even = s.even; unread = s.unread; credentials = s.credentials; sent = s.sent; role = λ t. absurd (true≢false (sym i ∙ t)) }) refl refl tt (writes_negotiate x i s.credentials),
       λ _. (λ _. rejecting x f (endings.Rejected 6 code) s, λ _. tt),
     )))
-session_rows x f (sequence next) s = all_within (KeepsSound x f) (is_established f.connection.phase) _ (λ _. (
+session_rows x f (sequence next) s = all_within (KeepsSound x.config x.most f) (is_established f.connection.phase) _ (λ _. (
       λ _. bad x f (request_is.sequence_fault f.connection.requester) s,
       λ _. after (requesting f (request_is.after_sequence f.connection.requester)) (same_but_requests x.config f (request_is.after_sequence f.connection.requester) s) refl refl,
     ))
   where
     after : (ended : Facts) → Sound x.config ended → ended.recorded.sent ≡ f.recorded.sent → ended.recorded.inbox_next ≡ f.recorded.inbox_next
-        → AllRows (KeepsSound x f) (announcement_rows x ended 7 (Some next) (sequence_follows x ended next))
+        → AllRows (KeepsSound x.config x.most f) (announcement_rows x ended 7 (Some next) (sequence_follows x ended next))
     after ended e kept same =
-        announced_rows (KeepsSound x f) x ended 7 (Some next) (sequence_follows x ended next)
+        announced_rows (KeepsSound x.config x.most f) x ended 7 (Some next) (sequence_follows x ended next)
             (λ code how. record { next = e; sent = kept; advances = same; within = tt; writes = writes_terminate x.config code })
             (λ none. let fits = announced_fits x ended 7 (Some next) e none in
                 following x f ended next (announced x ended (Some next)) e kept same (λ r. unmoved x ended (Some next) r ∙ same) (record {
@@ -517,44 +517,44 @@ session_rows x f (sequence next) s = all_within (KeepsSound x f) (is_established
                   within = fits.within;
                 }))
 session_rows x f unsequenced_heartbeat s = (λ _. going x f f acts.Nothing [] s refl refl tt tt, λ _. tt)
-session_rows x f (retransmit_request id timestamp first count) s = all_within (KeepsSound x f) (is_established f.connection.phase) _ (λ _. (
+session_rows x f (retransmit_request id timestamp first count) s = all_within (KeepsSound x.config x.most f) (is_established f.connection.phase) _ (λ _. (
       λ _. ending x f 4 _ s,
       λ _. (λ _. answered x f id timestamp (judged (is_own x id) (is_recoverable x.config.own_flow) first count f.recorded.sent) s, λ _. tt),
     ))
 session_rows x f (retransmission id next timestamp count) s =
-    own_rows (KeepsSound x f) x f 10 id _ (λ e. ending x f 2 e s) (all_within (KeepsSound x f) (is_established f.connection.phase) _ (λ _. (
+    own_rows (KeepsSound x.config x.most f) x f 10 id _ (λ e. ending x f 2 e s) (all_within (KeepsSound x.config x.most f) (is_established f.connection.phase) _ (λ _. (
       λ _. bad x f (request_is.start_fault (request_is.outstanding f.connection.requester) next count) s,
       λ _. (λ _. going x f (restarted f next count) acts.Nothing [] (record { waits = s.waits; even = s.even; unread = s.unread; credentials = s.credentials; sent = s.sent; role = s.role }) refl refl tt tt, λ _. tt),
     )))
 session_rows x f (retransmit_reject id timestamp code reason) s =
-    own_rows (KeepsSound x f) x f 11 id _ (λ e. ending x f 2 e s) (all_within (KeepsSound x f) (is_established f.connection.phase) _ (λ _. (λ _. ending x f 2 _ s, λ _. tt)))
+    own_rows (KeepsSound x.config x.most f) x f 11 id _ (λ e. ending x f 2 e s) (all_within (KeepsSound x.config x.most f) (is_established f.connection.phase) _ (λ _. (λ _. ending x f 2 _ s, λ _. tt)))
 session_rows x f (applied first count) s = (λ _. going x f f acts.Nothing [] s refl refl tt tt, λ _. tt)
 session_rows x f (not_applied first count) s = (λ _. going x f f (acts.Told first count) [] s refl refl tt tt, λ _. (λ _. going x f f acts.Nothing [] s refl refl tt tt, λ _. tt))
 session_rows x f (finished_sending id last) s =
-    own_rows (KeepsSound x f) x f 14 id _ (λ e. ending x f 2 e s) (all_within (KeepsSound x f) (is_established f.connection.phase) _ (λ _. (
+    own_rows (KeepsSound x.config x.most f) x f 14 id _ (λ e. ending x f 2 e s) (all_within (KeepsSound x.config x.most f) (is_established f.connection.phase) _ (λ _. (
       λ some. refused (finish_fault x f last) some,
       λ _. (λ _. finishing (finished_last x last), λ _. tt),
     )))
   where
-    refused : (v : Option Violation) → is_some v ≡ true → KeepsSound x f (refuses x f v)
+    refused : (v : Option Violation) → is_some v ≡ true → KeepsSound x.config x.most f (refuses x f v)
     refused None some = absurd (true≢false (sym some))
     refused (Some v) some = ending x f 2 _ s
-    finishing : (n : ℕ) → KeepsSound x f (finished x f n)
-    finishing n = by_row (KeepsSound x f) (is_some (receiver_is.gap f.connection.receiver)) (accepts x [] (peer_finished f (peer.Read n) f.recorded.peer_last)) (answers_finish x f n)
+    finishing : (n : ℕ) → KeepsSound x.config x.most f (finished x f n)
+    finishing n = by_row (KeepsSound x.config x.most f) (is_some (receiver_is.gap f.connection.receiver)) (accepts x [] (peer_finished f (peer.Read n) f.recorded.peer_last)) (answers_finish x f n)
         (λ g. going x f (peer_finished f (peer.Read n) f.recorded.peer_last) acts.Nothing []
             (record { waits = s.waits; even = s.even; unread = λ t. absurd (no_gap f.connection.receiver (s.even t) g); credentials = s.credentials; sent = s.sent; role = s.role }) refl refl tt tt)
         (λ _. answering x f f n s refl refl)
 session_rows x f (finished_receiving id) s =
-    own_rows (KeepsSound x f) x f 15 id _ (λ e. ending x f 2 e s) (all_within (KeepsSound x f) (is_established f.connection.phase) _ (λ _. (
+    own_rows (KeepsSound x.config x.most f) x f 15 id _ (λ e. ending x f 2 e s) (all_within (KeepsSound x.config x.most f) (is_established f.connection.phase) _ (λ _. (
       λ _. going x f (own_finishing f own.Exchanged) acts.Nothing [] (record { waits = s.waits; even = s.even; unread = s.unread; credentials = s.credentials; sent = s.sent; role = s.role }) refl refl tt tt,
       λ _. tt,
     )))
 session_rows x f (terminate id code reason) s =
     let answer : Row = row true (ends x f 1 (endings.PeerTerminated code)) in
-    let rest : AllRows (KeepsSound x f) (answer ∷ []) = (λ _. ending x f 1 _ s, λ _. tt) in
-    own_rows (KeepsSound x f) x f 16 id (answer ∷ []) (λ e. ending x f 2 e s) rest
+    let rest : AllRows (KeepsSound x.config x.most f) (answer ∷ []) = (λ _. ending x f 1 _ s, λ _. tt) in
+    own_rows (KeepsSound x.config x.most f) x f 16 id (answer ∷ []) (λ e. ending x f 2 e s) rest
 
-each_row : (x : Around) (f : Facts) (i : Incoming) → Sound x.config f → AllRows (KeepsSound x f) (rows_of x f i)
+each_row : (x : Around) (f : Facts) (i : Incoming) → Sound x.config f → AllRows (KeepsSound x.config x.most f) (rows_of x f i)
 each_row x f (application p) s = message_rows x f p s
 each_row x f (session m) s = session_rows x f m s
 each_row x f wrong_order s = (λ _. ending x f 2 _ s, λ _. tt)
@@ -563,6 +563,6 @@ each_row x f (unknown template) s = (λ _. ending x f 2 _ s, λ _. tt)
 
 pub sound_goes_on : SoundGoesOn
 sound_goes_on x f i s =
-    by_row (KeepsSound x f) (is_closing f.connection.phase && not (terminates x i)) (ignores f) (answer_of x f i)
+    by_row (KeepsSound x.config x.most f) (is_closing f.connection.phase && not (terminates x i)) (ignores f) (answer_of x f i)
         (λ _. ignoring x f s)
-        (λ _. all_rows (KeepsSound x f) (not_in_phase x f (template_of i)) (rows_of x f i) (ending x f 2 _ s) (each_row x f i s))
+        (λ _. all_rows (KeepsSound x.config x.most f) (not_in_phase x f (template_of i)) (rows_of x f i) (ending x f 2 _ s) (each_row x f i s))

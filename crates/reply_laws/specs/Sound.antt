@@ -68,12 +68,12 @@ WithinMost most (acts.Told from count) = ⊤
 WithinMost most acts.Ended = ⊤
 
 -- what an outcome keeps to
-pub record KeepsSound (x : Around) (f : Facts) (o : Outcome) : Type 0 where
-  pub next : Sound x.config o.next
+pub record KeepsSound (cfg : EndConfig) (most : ℕ) (f : Facts) (o : Outcome) : Type 0 where
+  pub next : Sound cfg o.next
   pub sent : o.next.recorded.sent ≡ f.recorded.sent
   pub advances : Advances o.act f.recorded.inbox_next o.next.recorded.inbox_next
-  pub within : WithinMost x.most o.act
-  pub writes : AllByRecursion (MayWrite x.config) o.written
+  pub within : WithinMost most o.act
+  pub writes : AllByRecursion (MayWrite cfg) o.written
 
 abbrev pub SoundGoesOn : Type 0
-SoundGoesOn = (x : Around) (f : Facts) (i : Incoming) → Sound x.config f → KeepsSound x f (reply_of x f i)
+SoundGoesOn = (x : Around) (f : Facts) (i : Incoming) → Sound x.config f → KeepsSound x.config x.most f (reply_of x f i)

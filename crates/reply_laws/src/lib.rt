@@ -2,6 +2,8 @@
 //! an empty body; its clause is a statement about the definitions that the table's code meets.
 #![tactic(auto)]
 
+mod machine;
 mod sound;
 
+pub use machine::calls_keep_sound;
 pub use sound::sound_goes_on;
