@@ -1,1 +1,3 @@
+pub mod Flows
+pub mod Phases
 pub mod Handshake

@@ -70,7 +70,7 @@ impl Receiver {
         ensures back { IfErr result (λ back. back ≡ record { announced = next_seq; expected = expected self.old }) }
         ensures same { OnErr result (self.new ≡ self.old) }
     {
-        let expected = self.next.max(self.live);
+        let expected = self.expected();
         if next_seq < expected {
             return Err(Back {
                 announced: next_seq,
@@ -87,6 +87,20 @@ impl Receiver {
         ensures { self.new ≡ retransmitted self.old first }
     {
         self.again = Some(first);
+    }
+
+    /// The least number that may be announced: the greater of the number that the inbox waits for and the live number.
+    pub fn expected(&self) -> u64
+        ensures { result ≡ expected self.now }
+    {
+        self.next.max(self.live)
+    }
+
+    /// The live number, which the next message outside a retransmission has.
+    pub fn live(&self) -> u64
+        ensures { result ≡ self.now.live }
+    {
+        self.live
     }
 
     /// The number of the next application message: the retransmission's inside one, else the live number.

@@ -1,6 +1,6 @@
 -- The requests of a recoverable receiver (FIXP 1.1, RetransmitRequest and Retransmission; one request at a time for at most
 -- 256 messages is this project's profile).
-use Rattle.std.specs.Prelude.{ℕ, ◌+◌, ◌-◌, ◌<◌, ◌==◌, ◌||◌, ◌^◌, ⊤, not, min, nat_lt, if◌then◌else◌, Option, Some, None}
+use Rattle.std.specs.Prelude.{ℕ, ◌+◌, ◌-◌, ◌<◌, ◌==◌, ◌||◌, ◌^◌, ⊤, Bool, true, false, not, min, nat_lt, if◌then◌else◌, Option, Some, None}
 use Rattle.fixp_msgs.specs.declared.numbering.Range.{Range}
 use Rattle.flow_retrans.specs.declared.requester.BadStart.{BadStart}
 use Rattle.flow_retrans.specs.declared.request.Request.{Request}
@@ -12,6 +12,12 @@ abbrev pub outstanding : Request → Option Range
 outstanding Nothing = None
 outstanding (Asked range) = Some range
 outstanding (Coming range next left) = Some range
+
+-- a Retransmission answers the request: the messages that come now are its
+abbrev pub is_coming : Request → Bool
+is_coming Nothing = false
+is_coming (Asked range) = false
+is_coming (Coming range next left) = true
 
 -- what is asked for of a gap: its first numbers, at most so many as one request may ask for
 abbrev pub first_of_gap : Range → Range

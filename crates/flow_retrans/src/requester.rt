@@ -2,7 +2,7 @@
 
 ghost use Rattle.std.specs.Prelude.{◌≡◌, ◌+◌, ◌<◌, ◌≤◌, ◌^◌, ◌↔◌, Some, None, IsNone, IsSome, IfErr, OnOk, OnErr};
 ghost use Rattle.flow_retrans.specs.declared.request.Request.TheVariants.{Nothing, Asked};
-ghost use Rattle.flow_retrans.specs.Requests.{outstanding, first_of_gap, start_fault, started, message_fault, sequence_fault, after_message, after_sequence};
+ghost use Rattle.flow_retrans.specs.Requests.{outstanding, is_coming, first_of_gap, start_fault, started, message_fault, sequence_fault, after_message, after_sequence};
 
 use crate::judging::REQUEST_LIMIT;
 use crate::request::Request;
@@ -56,6 +56,13 @@ impl Requester {
             Request::Asked(range) => Some(range),
             Request::Coming { range, .. } => Some(range),
         }
+    }
+
+    /// Whether a Retransmission answers the request: the messages that come now are its.
+    pub fn is_coming(&self) -> bool
+        ensures { result ≡ is_coming self.now }
+    {
+        matches!(self.request, Request::Coming { .. })
     }
 
     /// Asks for the first numbers of a gap, 256 at most, and gives what is asked for. While a request is outstanding it

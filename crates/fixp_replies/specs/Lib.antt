@@ -1,0 +1,11 @@
+pub mod Acts
+pub mod Incoming
+pub mod Facts
+pub mod Outcomes
+pub mod Announcing
+pub mod Handshake
+pub mod Flowing
+pub mod Serving
+pub mod Replies
+pub mod Events
+pub mod Outgoing

@@ -1,0 +1,247 @@
+//! What an end does at one event, and how such replies are made.
+
+ghost use Rattle.std.specs.Prelude.{◌≡◌, [], ◌∷◌, ◌++◌, ◌<◌, ◌^◌, IfSome};
+ghost use Rattle.fixp_replies.specs.Facts.{around_of, gap_to_ask, having_asked};
+ghost use Rattle.fixp_replies.specs.Outcomes.{timestamp, request_for, goes_on, accepts, rejects, ignores, ends_with, ends, breaks, not_in_phase, skip_of, told_skip};
+ghost use Rattle.fixp_replies.specs.Outgoing.{messages_of, outgoing_message, outcome_of};
+
+use crate::act::{Act, Ending};
+use crate::facts::{Around, Facts};
+use crate::standing::ends_as;
+use fixp_msgs::Range;
+use fixp_shake::Violation;
+
+/// A message that an end writes, of its session where it names none. Timestamps are the clock's milliseconds times 1,000,000,
+/// or repeat that of the request which is answered.
+#[derive(Clone, Copy, Debug, PartialEq, Eq)]
+pub enum Outgoing {
+    Negotiate {
+        timestamp: u64,
+    },
+    NegotiationResponse {
+        request_timestamp: u64,
+    },
+    /// It names the session of the request that it rejects.
+    NegotiationReject {
+        session_id: [u8; 16],
+        request_timestamp: u64,
+        code: u8,
+    },
+    Establish {
+        timestamp: u64,
+        next: Option<u64>,
+    },
+    EstablishmentAck {
+        request_timestamp: u64,
+        next: Option<u64>,
+    },
+    /// It names the session of the request that it rejects.
+    EstablishmentReject {
+        session_id: [u8; 16],
+        request_timestamp: u64,
+        code: u8,
+    },
+    Sequence {
+        next: u64,
+    },
+    UnsequencedHeartbeat,
+    RetransmitRequest {
+        timestamp: u64,
+        from: u64,
+        count: u32,
+    },
+    Retransmission {
+        request_timestamp: u64,
+        from: u64,
+        count: u32,
+    },
+    /// It names the session of the request that it rejects.
+    RetransmitReject {
+        session_id: [u8; 16],
+        request_timestamp: u64,
+        code: u8,
+    },
+    Applied {
+        from: u64,
+        count: u32,
+    },
+    NotApplied {
+        from: u64,
+        count: u32,
+    },
+    FinishedSending {
+        last: Option<u64>,
+    },
+    FinishedReceiving,
+    Terminate {
+        code: u8,
+    },
+}
+
+/// The messages of one reply, in order.
+pub type Written = [Option<Outgoing>; 3];
+
+/// What an end does at one event, beside what it makes of the facts.
+#[derive(Clone, Copy, Debug)]
+pub struct Reply {
+    /// What the caller is to do.
+    pub act: Act,
+    /// What is written once the act is done, in order.
+    pub written: Written,
+    /// The connection's ending, if this is it.
+    pub ending: Option<Ending>,
+    /// Whether the frame is accepted: it neither ends the connection nor is rejected nor ignored.
+    pub accepted: bool,
+}
+
+/// A gap is asked for where there is one and no request is open: the request.
+fn ask(around: &Around<'_>, facts: &mut Facts) -> Option<Outgoing>
+    requires { around.now.moment < 2 ^ 44 }
+    ensures request { messages_of around.now.config.now (result ∷ []) ≡ request_for (around_of around.now) (gap_to_ask facts.old) }
+    ensures asked { facts.new ≡ having_asked facts.old (gap_to_ask facts.old) }
+{
+    let Some(gap) = facts.connection.receiver.gap() else {
+        return None;
+    };
+    let Some(range) = facts.connection.requester.want(gap) else {
+        return None;
+    };
+    Some(Outgoing::RetransmitRequest {
+        timestamp: timestamp(around),
+        from: range.from,
+        count: range.count as u32,
+    })
+}
+
+/// The timestamp of a message that is written now.
+pub fn timestamp(around: &Around<'_>) -> u64
+    requires { around.now.moment < 2 ^ 44 }
+    ensures { result ≡ timestamp (around_of around.now) }
+{
+    around.moment * 1_000_000
+}
+
+impl Reply {
+    /// The connection goes on: the frame is accepted, and behind this message a gap is asked for, if there is one.
+    pub fn goes_on(
+        around: &Around<'_>,
+        facts: &mut Facts,
+        act: Act,
+        message: Option<Outgoing>,
+    ) -> Reply
+        requires { around.now.moment < 2 ^ 44 }
+        ensures { outcome_of around.now.config.now result facts.new ≡ goes_on (around_of around.now) act (messages_of around.now.config.now (message ∷ [])) facts.old }
+    {
+        let request = ask(around, facts);
+        Reply {
+            act,
+            written: [message, request, None],
+            ending: None,
+            accepted: true,
+        }
+    }
+
+    /// The frame is accepted, and the caller has nothing to do.
+    pub fn accepts(around: &Around<'_>, facts: &mut Facts, message: Option<Outgoing>) -> Reply
+        requires { around.now.moment < 2 ^ 44 }
+        ensures { outcome_of around.now.config.now result facts.new ≡ accepts (around_of around.now) (messages_of around.now.config.now (message ∷ [])) facts.old }
+    {
+        Reply::goes_on(around, facts, Act::Nothing, message)
+    }
+
+    /// The frame is accepted, and what its announcement jumps over is skipped, and told behind this message.
+    pub fn skips(
+        around: &Around<'_>,
+        facts: &mut Facts,
+        message: Option<Outgoing>,
+        skipped: Option<Range>,
+    ) -> Reply
+        requires moment { around.now.moment < 2 ^ 44 }
+        requires count { IfSome skipped (λ range. range.count < 2 ^ 32) }
+        ensures { outcome_of around.now.config.now result facts.new
+            ≡ goes_on (around_of around.now) (skip_of skipped) (messages_of around.now.config.now (message ∷ []) ++ told_skip skipped) facts.old }
+    {
+        let Some(range) = skipped else {
+            return Reply::accepts(around, facts, message);
+        };
+        let told = Outgoing::NotApplied {
+            from: range.from,
+            count: range.count as u32,
+        };
+        let request = ask(around, facts);
+        Reply {
+            act: Act::Skip {
+                from: range.from,
+                count: range.count,
+            },
+            written: [message, Some(told), request],
+            ending: None,
+            accepted: true,
+        }
+    }
+
+    /// The frame is rejected by this message, and the connection goes on as it was.
+    pub fn rejects(facts: &Facts, message: Outgoing) -> Reply
+        ensures { (cfg : _) → outcome_of cfg result facts.now ≡ rejects (outgoing_message cfg message ∷ []) facts.now }
+    {
+        let _unchanged = facts;
+        Reply {
+            act: Act::Nothing,
+            written: [Some(message), None, None],
+            ending: None,
+            accepted: false,
+        }
+    }
+
+    /// Nothing is done about the frame.
+    pub fn ignores(facts: &Facts) -> Reply
+        ensures { (cfg : _) → outcome_of cfg result facts.now ≡ ignores facts.now }
+    {
+        let _unchanged = facts;
+        Reply {
+            act: Act::Nothing,
+            written: [None, None, None],
+            ending: None,
+            accepted: false,
+        }
+    }
+
+    /// The connection ends, and this is written.
+    pub fn ends_with(
+        around: &Around<'_>,
+        facts: &Facts,
+        message: Option<Outgoing>,
+        ending: Ending,
+    ) -> Reply
+        ensures { outcome_of around.now.config.now result facts.now ≡ ends_with (around_of around.now) facts.now (messages_of around.now.config.now (message ∷ [])) ending }
+    {
+        Reply {
+            act: Act::Ended,
+            written: [message, None, None],
+            ending: Some(ends_as(around, facts, ending)),
+            accepted: false,
+        }
+    }
+
+    /// The connection ends with a Terminate.
+    pub fn ends(around: &Around<'_>, facts: &Facts, code: u8, ending: Ending) -> Reply
+        ensures { outcome_of around.now.config.now result facts.now ≡ ends (around_of around.now) facts.now code ending }
+    {
+        Reply::ends_with(around, facts, Some(Outgoing::Terminate { code }), ending)
+    }
+
+    /// The peer broke a rule: unspecified error.
+    pub fn breaks(around: &Around<'_>, facts: &Facts, violation: Violation) -> Reply
+        ensures { outcome_of around.now.config.now result facts.now ≡ breaks (around_of around.now) facts.now violation }
+    {
+        Reply::ends(around, facts, 2, Ending::Violation(violation))
+    }
+
+    /// The message does not belong into the phase.
+    pub fn not_in_phase(around: &Around<'_>, facts: &Facts, template: u16) -> Reply
+        ensures { outcome_of around.now.config.now result facts.now ≡ not_in_phase (around_of around.now) facts.now template }
+    {
+        let phase = facts.connection.phase;
+        Reply::breaks(around, facts, Violation::NotInPhase { template, phase })
+    }
+}
