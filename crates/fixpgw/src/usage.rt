@@ -13,6 +13,7 @@ const USAGE: &str =
   fixpgw answer CONFIG INPUT WIRE OUT   answers the recorded client in INPUT: replies to WIRE, messages to OUT
   fixpgw check CONFIG OUT               checks the schema in CONFIG, and prints its layout to OUT
   fixpgw format OUTBOX INBOX            makes the two journals of a new session
+  fixpgw journal OUTBOX INBOX OUT       prints both journals to OUT
   fixpgw COMMAND --help                 what a command takes and does
   fixpgw --help                         this text
   fixpgw --version                      the name and the version
@@ -44,12 +45,21 @@ Makes the two journals of a new session, without records. A file that is a journ
   OUTBOX   the journal of what is sent (made where it is missing; its first 17 bytes are written)
   INBOX    the journal of what is received (likewise; not touched where OUTBOX is refused)";
 
+const JOURNAL: &str = "usage: fixpgw journal OUTBOX INBOX OUT
+
+Prints both journals of a session, a line for each record. Nothing is printed where either is damaged or not one of its kind.
+
+  OUTBOX   the journal of what is sent (read, and kept to this process meanwhile)
+  INBOX    the journal of what is received (likewise)
+  OUT      the lines (written); - is standard output";
+
 /// The usage of a command, if there is such a command.
 fn usage_of(command: &str) -> Option<&'static str> {
     match command {
         "answer" => Some(ANSWER),
         "check" => Some(CHECK),
         "format" => Some(FORMAT),
+        "journal" => Some(JOURNAL),
         _ => None,
     }
 }

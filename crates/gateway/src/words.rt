@@ -12,6 +12,8 @@ pub enum Command {
     Check,
     /// `format OUTBOX INBOX`
     Format,
+    /// `journal OUTBOX INBOX OUT`
+    Journal,
 }
 
 /// The command of a listed form of words.
@@ -24,6 +26,7 @@ pub fn command_of(words: &[String]) -> Option<Command>
         }
         [command, _config, _out] if command.as_str() == "check" => Some(Command::Check),
         [command, _outbox, _inbox] if command.as_str() == "format" => Some(Command::Format),
+        [command, _outbox, _inbox, _out] if command.as_str() == "journal" => Some(Command::Journal),
         _ => None,
     }
 }
