@@ -37,7 +37,7 @@ fn plan(alloc: Global, sender: u8, length: u8) -> Result<Option<Plan>, AllocErro
 /// The plans of these lengths: sender 1's is the first one here, and the last one of the list.
 pub fn plans(alloc: Global, lengths: &[u8]) -> Result<Option<Vec<Plan>>, AllocError> {
     let mut list = Vec::new(alloc);
-    let mut sender = lengths.len() as u8;
+    let mut sender = u8::try_from(lengths.len()).unwrap_or(0);
     for length in lengths.iter().rev() {
         let Some(plan) = plan(alloc, sender, *length)? else {
             return Ok(None);
@@ -79,6 +79,9 @@ pub fn reopened(alloc: Global, outbox: Outbox<Log>, pick: Pick) -> Option<Outbox
 pub fn in_order(outbox: &mut Outbox<Log>) -> bool {
     let mut next = [0u8; 17];
     for number in 1..outbox.front() + 1 {
+        if number > outbox.front() {
+            return false;
+        }
         let Ok(entry) = outbox.stable(number) else {
             return false;
         };

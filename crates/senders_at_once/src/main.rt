@@ -1,6 +1,6 @@
 //! Cases of senders that submit their plans through one gate at once: that they run at once, plans of different lengths, limits
-//! that are reached, a disk that fails at each call in turn, and the mark that comes between. What it has to print stands in
-//! `stdout`, worked out by hand, and is the same whatever the threads' order.
+//! that are reached, and a disk that fails at each call in turn. What it has to print stands in `stdout`, worked out by hand,
+//! and is the same whatever the threads' order.
 #![tactic(auto)]
 
 mod boxes;

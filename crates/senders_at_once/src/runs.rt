@@ -1,6 +1,7 @@
 //! Runs of senders through a gate, and what became of each.
 ghost use Rattle.std.specs.Prelude.{◌≡◌, ◌≤◌, ◌+◌, vec_len, false};
 ghost use Rattle.jr_boxes.specs.Outbox.{is_broken};
+ghost use Rattle.senders_at_once.specs.Seats.{Seated};
 
 use crate::seats::{Log, seat, unseat};
 use gate_senders::Gate;
@@ -38,6 +39,20 @@ fn refusals(senders: &[Sender<Log>]) -> [Option<SubmitFault>; 4] {
     refused
 }
 
+/// Runs the senders at once.
+fn run_all<D: Door + Sync, R: Threads + Wait + Sync>(
+    gate: &Gate<Log>,
+    senders: &mut Vec<Sender<Log>>,
+    door: &D,
+    rt: &R,
+) -> Result<(), SubmitFault>
+    requires seated { Seated gate.now senders.old.items (vec_len senders.old + 1) }
+    ensures seated { Seated gate.now senders.new.items (vec_len senders.new + 1) }
+    ensures count { vec_len senders.new ≡ vec_len senders.old }
+{
+    run_senders(gate, senders.as_mut_slice(), door, rt)
+}
+
 /// Runs a sender for each plan, from the last plan on, at once. None where memory runs out.
 pub fn run<D: Door + Sync, R: Threads + Wait + Sync>(
     alloc: Global,
@@ -54,7 +69,7 @@ pub fn run<D: Door + Sync, R: Threads + Wait + Sync>(
         return None;
     };
     let mut senders = seat(&gate, &mut passes, plans, senders);
-    let answer = run_senders(&gate, senders.as_mut_slice(), door, rt);
+    let answer = run_all(&gate, &mut senders, door, rt);
     let done = told(senders.as_slice());
     let refused = refusals(senders.as_slice());
     unseat(&gate, senders, &mut passes);
