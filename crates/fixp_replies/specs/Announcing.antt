@@ -50,3 +50,9 @@ announcement_rows x f template next follows =
     row (is_some (announcement_fault x f template next)) (refuses x f (announcement_fault x f template next))
     ∷ row true (follows (announced x f next))
     ∷ []
+
+-- the same as one outcome
+abbrev pub announcement_answered : Around → Facts → (template : ℕ) (next : Option ℕ) → (Announced → Outcome) → Outcome
+announcement_answered x f template next follows =
+    if is_some (announcement_fault x f template next) then refuses x f (announcement_fault x f template next)
+    else follows (announced x f next)
