@@ -1,1 +1,1 @@
-mod Guards
+mod Conditions

@@ -3,7 +3,7 @@ use Rattle.fixp_shake.specs.Phases.{is_established}
 use Rattle.fixp_replies.specs.Facts.{around_of}
 use Rattle.fixp_replies.specs.Outcomes.{not_in_phase}
 use Rattle.fixp_replies.specs.Flowing.{application_rows}
-use Rattle.fixp_replies.proofs.Guards.{within_holds}
+use Rattle.fixp_replies.proofs.Conditions.{within_holds}
 use Rattle.fixp_replies.proofs.flowing.on_application.Goals as goal
 
 pub returns-then-is_established-clause-reply : goal.returns-then-is_established-clause-reply

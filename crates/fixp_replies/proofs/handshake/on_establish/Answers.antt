@@ -2,7 +2,7 @@ use Rattle.std.proofs.Common.{◌≡◌, true, false, sym, ◌∙◌}
 use Rattle.fixp_replies.specs.Facts.{around_of}
 use Rattle.fixp_replies.specs.Outcomes.{not_in_phase}
 use Rattle.fixp_replies.specs.Handshake.{awaits_client, serves_client, establish_rows, established_again_rows}
-use Rattle.fixp_replies.proofs.Guards.{first_of_two, second_of_two}
+use Rattle.fixp_replies.proofs.Conditions.{first_of_two, second_of_two}
 use Rattle.fixp_replies.proofs.handshake.on_establish.Goals as goal
 
 pub returns-then-awaits_client-clause-reply : goal.returns-then-awaits_client-clause-reply

@@ -3,7 +3,7 @@ use Rattle.fixp_shake.specs.Phases.{is_establishing}
 use Rattle.fixp_replies.specs.Facts.{around_of}
 use Rattle.fixp_replies.specs.Replies.{misplaced}
 use Rattle.fixp_replies.specs.Handshake.{establishment_ack_rows}
-use Rattle.fixp_replies.proofs.Guards.{guarded}
+use Rattle.fixp_replies.proofs.Conditions.{guarded}
 use Rattle.fixp_replies.proofs.handshake.on_establishment_ack.Goals as goal
 
 pub returns-in-Some-clause-reply : goal.returns-in-Some-clause-reply

@@ -2,7 +2,7 @@ use Rattle.std.proofs.Common.{◌≡◌, true, sym, ◌∙◌}
 use Rattle.fixp_replies.specs.Facts.{around_of}
 use Rattle.fixp_replies.specs.Outcomes.{not_in_phase}
 use Rattle.fixp_replies.specs.Handshake.{awaits_client, negotiate_rows}
-use Rattle.fixp_replies.proofs.Guards.{within_holds}
+use Rattle.fixp_replies.proofs.Conditions.{within_holds}
 use Rattle.fixp_replies.proofs.handshake.on_negotiate.Goals as goal
 
 pub returns-then-awaits_client-clause-reply : goal.returns-then-awaits_client-clause-reply
