@@ -1,5 +1,5 @@
 -- Rows behind a condition, and behind the session of their message.
-use Rattle.std.proofs.Common.{◌≡◌, ℕ, Bool, true, false, not, if◌then◌else◌, List, [], ◌∷◌, Option, Some, None, unwrap_or, refl, sym, ap, ◌∙◌}
+use Rattle.std.proofs.Common.{◌≡◌, ℕ, Bool, true, false, not, if◌then◌else◌, List, [], ◌∷◌, Some, None, unwrap_or, refl, sym, ap}
 use Rattle.fixp_shake.specs.declared.violation.Violation.{Violation}
 use Rattle.fixp_shake.specs.declared.violation.Violation.TheVariants.{OtherSession, NotInPhase}
 use Rattle.fixp_replies.specs.declared.facts.Facts.{Facts}

@@ -296,11 +296,7 @@ fn finished_last(around: &Around<'_>, last: Option<u64>) -> u64
     }
 }
 
-pub fn on_finished_sending(
-    around: &Around<'_>,
-    facts: &mut Facts,
-    m: &FinishedSending,
-) -> Reply
+pub fn on_finished_sending(around: &Around<'_>, facts: &mut Facts, m: &FinishedSending) -> Reply
     requires { around.now.moment < 2 ^ 44 }
     ensures reply { outcome_of around.now.config.now result facts.new
         ≡ answer_of (around_of around.now) facts.old (session (finished_sending m.now.session_id m.now.last_seq)) }

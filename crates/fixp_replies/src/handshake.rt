@@ -19,9 +19,7 @@ use fixp_msgs::{
     Establish, EstablishmentAck, EstablishmentReject, Negotiate, NegotiationReject,
     NegotiationResponse, Range,
 };
-use fixp_shake::{
-    Phase, Violation, is_established, is_establishing, is_idle, is_negotiating,
-};
+use fixp_shake::{Phase, Violation, is_established, is_establishing, is_idle, is_negotiating};
 
 /// Whether an acceptor waits for its client to open the connection.
 fn awaits_client(around: &Around<'_>, facts: &Facts) -> bool
@@ -287,11 +285,7 @@ pub fn on_negotiation_reject(
     }
 }
 
-pub fn on_establishment_ack(
-    around: &Around<'_>,
-    facts: &mut Facts,
-    m: &EstablishmentAck,
-) -> Reply
+pub fn on_establishment_ack(around: &Around<'_>, facts: &mut Facts, m: &EstablishmentAck) -> Reply
     requires moment { around.now.moment < 2 ^ 44 }
     requires most { around.now.most ≤ 2 ^ 24 }
     ensures reply { outcome_of around.now.config.now result facts.new

@@ -41,12 +41,7 @@ fn serve(around: &Around<'_>, facts: &mut Facts, m: &RetransmitRequest) -> Reply
 }
 
 /// A request is refused.
-fn refuse(
-    around: &Around<'_>,
-    facts: &Facts,
-    m: &RetransmitRequest,
-    code: RetransmitCode,
-) -> Reply
+fn refuse(around: &Around<'_>, facts: &Facts, m: &RetransmitRequest, code: RetransmitCode) -> Reply
     ensures reply { outcome_of around.now.config.now result facts.now
         ≡ request_answered (around_of around.now) facts.now m.now.session_id m.now.timestamp (Err code) }
     ensures small { written_limit around.now.config.now result.written ≤ 64 }
@@ -77,11 +72,7 @@ fn answer_request(around: &Around<'_>, facts: &mut Facts, m: &RetransmitRequest)
     }
 }
 
-pub fn on_retransmit_request(
-    around: &Around<'_>,
-    facts: &mut Facts,
-    m: &RetransmitRequest,
-) -> Reply
+pub fn on_retransmit_request(around: &Around<'_>, facts: &mut Facts, m: &RetransmitRequest) -> Reply
     requires { around.now.moment < 2 ^ 44 }
     ensures reply { outcome_of around.now.config.now result facts.new
         ≡ answer_of (around_of around.now) facts.old (session (retransmit_request m.now.session_id m.now.timestamp m.now.from_seq m.now.count)) }
@@ -116,11 +107,7 @@ pub fn on_not_applied(around: &Around<'_>, facts: &mut Facts, m: &NotApplied) ->
     Reply::goes_on(around, facts, told, None)
 }
 
-pub fn on_finished_receiving(
-    around: &Around<'_>,
-    facts: &mut Facts,
-    m: &FinishedReceiving,
-) -> Reply
+pub fn on_finished_receiving(around: &Around<'_>, facts: &mut Facts, m: &FinishedReceiving) -> Reply
     requires { around.now.moment < 2 ^ 44 }
     ensures reply { outcome_of around.now.config.now result facts.new
         ≡ answer_of (around_of around.now) facts.old (session (finished_receiving m.now.session_id)) }

@@ -1,4 +1,4 @@
-use Rattle.std.proofs.Common.{◌≡◌, sym, ap, ◌∙◌}
+use Rattle.std.proofs.Common.{sym, ap, ◌∙◌}
 use Rattle.fixp_shake.specs.Phases.{is_established}
 use Rattle.fixp_replies.specs.Facts.{around_of}
 use Rattle.fixp_replies.specs.Replies.{misplaced}
