@@ -1,5 +1,5 @@
 -- Announcements of the peer's next number (FIXP 1.1, NextSeqNo of Establish, EstablishmentAck and Sequence).
-use Rattle.std.specs.Prelude.{◌≡◌, ℕ, ◌≤◌, ◌+◌, ◌-◌, Bool, true, not, nat_lt, if◌then◌else◌, List, [], ◌∷◌, Option, Some, None, is_some, is_none, unwrap_or}
+use Rattle.std.specs.Prelude.{◌≡◌, ℕ, ◌≤◌, ◌+◌, ◌-◌, true, not, nat_lt, if◌then◌else◌, List, [], ◌∷◌, Option, Some, None, is_some, is_none, unwrap_or}
 use Rattle.fixp_msgs.specs.declared.numbering.Range.{Range}
 use Rattle.flow_recover.specs.Receiving as receiver_is
 use Rattle.fixp_shake.specs.declared.violation.Violation.{Violation}
@@ -50,3 +50,9 @@ announcement_rows x f template next follows =
     row (is_some (announcement_fault x f template next)) (refuses x f (announcement_fault x f template next))
     ∷ row true (follows (announced x f next))
     ∷ []
+
+-- the same as one outcome
+abbrev pub announcement_answered : Around → Facts → (template : ℕ) (next : Option ℕ) → (Announced → Outcome) → Outcome
+announcement_answered x f template next follows =
+    if is_some (announcement_fault x f template next) then refuses x f (announcement_fault x f template next)
+    else follows (announced x f next)

@@ -65,7 +65,7 @@ peer_finished f finish recorded = record f { recorded = record f.recorded { peer
 abbrev pub answers_finish : Around → Facts → (last : ℕ) → Outcome
 answers_finish x f last =
     goes_on x (finish_act f.recorded.peer_last last) (finished_receiving x.config.session ∷ [])
-        (peer_finished f (peer.Exchanged last) (Some (unwrap_or f.recorded.peer_last last)))
+    (peer_finished f (peer.Exchanged last) (Some (unwrap_or f.recorded.peer_last last)))
 
 -- the finish that waits for a gap is answered once the gap is filled
 abbrev pub is_filled : Facts → Bool
@@ -92,7 +92,7 @@ abbrev pub sequence_rows : Around → Facts → (next : ℕ) → List Row
 sequence_rows x f next =
     row (is_some (request_is.sequence_fault f.connection.requester)) (bad_retransmission x f (request_is.sequence_fault f.connection.requester))
     ∷ announcement_rows x (requesting f (request_is.after_sequence f.connection.requester)) 7 (Some next)
-        (sequence_follows x (requesting f (request_is.after_sequence f.connection.requester)) next)
+    (sequence_follows x (requesting f (request_is.after_sequence f.connection.requester)) next)
 
 -- Retransmission: it answers the request that is open
 abbrev pub restarted : Facts → (next count : ℕ) → Facts

@@ -1,13 +1,12 @@
 -- The rows of the handshake (FIXP 1.1, "Session negotiation" and "Session establishment"; the order of the checks and the
 -- codes are this project's profile).
-use Rattle.std.specs.Prelude.{ℕ, ◌==◌, ◌&&◌, ◌||◌, Bool, true, not, min, max, nat_lt, if◌then◌else◌, List, [], ◌∷◌, ◌++◌, Option}
+use Rattle.std.specs.Prelude.{ℕ, ◌==◌, ◌&&◌, ◌||◌, Bool, true, not, min, max, nat_lt, if◌then◌else◌, List, [], ◌∷◌, Option}
 use Rattle.std.specs.Str.{bytes_eq}
 use Rattle.fixp_msgs.specs.Flow.{flow_code}
 use Rattle.fixp_msgs.specs.Message.{negotiation_response, negotiation_reject, establishment_ack, establishment_reject}
 use Rattle.fixp_shake.specs.declared.phase.Phase.TheVariants.{Negotiating, Establishing, Established}
 use Rattle.fixp_shake.specs.declared.violation.Violation.TheVariants.{OtherSession}
 use Rattle.fixp_shake.specs.Phases.{is_idle, is_established}
-use Rattle.fixp_replies.specs.declared.act.Act.{Act}
 use Rattle.fixp_replies.specs.declared.act.Act.TheVariants.{Nothing, Negotiated}
 use Rattle.fixp_replies.specs.declared.act.Ending.TheVariants as endings
 use Rattle.fixp_replies.specs.declared.facts.Facts.{Facts}
@@ -48,8 +47,8 @@ established f interval = record f { connection = record f.connection { phase = E
 abbrev pub acknowledges : Around → (timestamp keepalive : ℕ) → Announced → Outcome
 acknowledges x timestamp keepalive a =
     goes_on x (skip_of a.skipped)
-        (establishment_ack x.config.session timestamp x.config.keepalive (announced_number x a.facts) ∷ told_skip a.skipped)
-        (established a.facts keepalive)
+    (establishment_ack x.config.session timestamp x.config.keepalive (announced_number x a.facts) ∷ told_skip a.skipped)
+    (established a.facts keepalive)
 
 -- Establish, at an acceptor that waits for its client: 2 unnegotiated, 5 keepalive interval, 6 credentials, and then its
 -- announcement

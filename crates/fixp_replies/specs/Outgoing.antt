@@ -1,5 +1,5 @@
 -- A reply of the code as an outcome of the reply table.
-use Rattle.std.specs.Prelude.{ℕ, ◌+◌, length, if◌then◌else◌, List, [], ◌∷◌, Option, Some, None}
+use Rattle.std.specs.Prelude.{ℕ, Bool, true, false, ◌+◌, length, if◌then◌else◌, List, [], ◌∷◌, Option, Some, None}
 use Rattle.fixp_msgs.specs.Flow.{flow_code}
 use Rattle.fixp_msgs.specs.Message.{Message, negotiate, negotiation_response, negotiation_reject, establish, establishment_ack, establishment_reject, sequence, unsequenced_heartbeat, retransmit_request, retransmission, retransmit_reject, applied, not_applied, finished_sending, finished_receiving, terminate}
 use Rattle.fixp_shake.specs.declared.config.EndConfig.{EndConfig}
@@ -7,7 +7,6 @@ use Rattle.fixp_replies.specs.declared.reply.Outgoing.{Outgoing}
 use Rattle.fixp_replies.specs.declared.reply.Outgoing.TheVariants as outgoing
 use Rattle.fixp_replies.specs.declared.reply.Reply.{Reply}
 use Rattle.fixp_replies.specs.declared.facts.Facts.{Facts}
-use Rattle.fixp_replies.specs.Facts.{is_initiator}
 use Rattle.fixp_replies.specs.Outcomes.{Outcome}
 
 -- an outgoing message: of the configured session, but a reject, which names that of the request that it rejects
@@ -39,6 +38,25 @@ messages_of cfg (Some message ∷ later) = outgoing_message cfg message ∷ mess
 abbrev pub outcome_of : EndConfig → Reply → Facts → Outcome
 outcome_of cfg reply next = record { act = reply.act; written = messages_of cfg reply.written; next = next; ending = reply.ending; accepted = reply.accepted }
 
--- how many bytes the messages of one reply have at most: an initiator writes its credentials once
+-- the messages that carry the credentials
+abbrev pub carries_credentials : Outgoing → Bool
+carries_credentials (outgoing.Negotiate timestamp) = true
+carries_credentials (outgoing.Establish timestamp next) = true
+carries_credentials _ = false
+
+-- how many bytes the frame of a message has at most
+abbrev pub frame_limit : EndConfig → Outgoing → ℕ
+frame_limit cfg message = 64 + (if carries_credentials message then length cfg.credentials else 0)
+
+-- and what stands in one place of a reply, and in all of them
+abbrev pub place_limit : EndConfig → Option Outgoing → ℕ
+place_limit cfg None = 0
+place_limit cfg (Some message) = frame_limit cfg message
+
+abbrev pub written_limit : EndConfig → List (Option Outgoing) → ℕ
+written_limit cfg [] = 0
+written_limit cfg (place ∷ later) = place_limit cfg place + written_limit cfg later
+
+-- how many bytes the messages of one reply have at most: the credentials are written once
 abbrev pub reply_limit : EndConfig → ℕ
-reply_limit cfg = 256 + (if is_initiator cfg.role then length cfg.credentials else 0)
+reply_limit cfg = 256 + length cfg.credentials

@@ -1,6 +1,6 @@
 -- The rows of the own flow, in Established: requests for what is to be sent again, and the answer to the own finish (FIXP 1.1,
 -- RetransmitRequest and FinishedReceiving; that one range is served at a time is this project's profile).
-use Rattle.std.specs.Prelude.{ℕ, Bool, true, List, [], ◌∷◌, Option, Some, is_some, Result, Ok, Err}
+use Rattle.std.specs.Prelude.{ℕ, true, List, [], ◌∷◌, Some, is_some, Result, Ok, Err}
 use Rattle.fixp_msgs.specs.declared.numbering.Range.{Range}
 use Rattle.fixp_msgs.specs.Message.{retransmission, retransmit_reject}
 use Rattle.flow_retrans.specs.declared.judging.RetransmitCode.{RetransmitCode}

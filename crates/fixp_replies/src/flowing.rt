@@ -4,12 +4,12 @@ ghost use Rattle.std.specs.Prelude.{◌≡◌, ℕ, ◌<◌, ◌≤◌, ◌^◌,
 ghost use Rattle.fixp_msgs.specs.Message.{sequence, retransmission, retransmit_reject, finished_sending};
 ghost use Rattle.fixp_shake.specs.Flows.{is_recoverable};
 ghost use Rattle.fixp_replies.specs.Facts.{around_of, message_number, awaits_gap};
-ghost use Rattle.fixp_replies.specs.Outcomes.{Outcome, first_row};
-ghost use Rattle.fixp_replies.specs.Announcing.{announcement_rows};
+ghost use Rattle.fixp_replies.specs.Outcomes.{first_row, not_in_phase};
+ghost use Rattle.fixp_replies.specs.Announcing.{announcement_answered};
 ghost use Rattle.fixp_replies.specs.Flowing.{bad_retransmission, numbered_rows, application_rows, is_after_finish, answers_finish, is_filled, is_past_finish, sequence_taken, sequence_follows, is_last, finish_fault, finished, finished_last};
 ghost use Rattle.fixp_replies.specs.Incoming.{application, session};
 ghost use Rattle.fixp_replies.specs.Replies.{answer_of};
-ghost use Rattle.fixp_replies.specs.Outgoing.{outcome_of};
+ghost use Rattle.fixp_replies.specs.Outgoing.{outcome_of, written_limit, reply_limit};
 
 use crate::act::Act;
 use crate::announcing::{announce, announcement_fault};
@@ -24,7 +24,8 @@ use flow_retrans::BadStart;
 
 /// A retransmission does not match its request.
 fn break_retransmission(around: &Around<'_>, facts: &Facts, bad: BadStart) -> Reply
-    ensures { outcome_of around.now.config.now result facts.now ≡ bad_retransmission (around_of around.now) facts.now (Some bad) }
+    ensures reply { outcome_of around.now.config.now result facts.now ≡ bad_retransmission (around_of around.now) facts.now (Some bad) }
+    ensures small { written_limit around.now.config.now result.written ≤ 64 }
 {
     let BadStart { expected, found } = bad;
     let violation = Violation::BadRetransmission { expected, found };
@@ -36,8 +37,9 @@ fn take_numbered(around: &Around<'_>, facts: &mut Facts) -> Reply
     requires moment { around.now.moment < 2 ^ 44 }
     requires number { message_number (around_of around.now) facts.old ≤ 2 ^ 24 }
     requires flow { is_recoverable around.now.config.now.peer_flow ≡ true }
-    ensures reply { (o : Outcome) → outcome_of around.now.config.now result facts.new ≡ first_row o (numbered_rows (around_of around.now) facts.old) }
+    ensures reply { outcome_of around.now.config.now result facts.new ≡ first_row (not_in_phase (around_of around.now) facts.old 0) (numbered_rows (around_of around.now) facts.old) }
     ensures sent { facts.new.recorded.sent ≡ facts.old.recorded.sent }
+    ensures small { written_limit around.now.config.now result.written ≤ reply_limit around.now.config.now }
 {
     if let Err(bad) = facts.connection.requester.on_app() {
         return break_retransmission(around, facts, bad);
@@ -62,8 +64,9 @@ fn is_after_finish(facts: &Facts) -> bool
 fn take_application(around: &Around<'_>, facts: &mut Facts) -> Reply
     requires moment { around.now.moment < 2 ^ 44 }
     requires most { around.now.most ≤ 2 ^ 24 }
-    ensures reply { (o : Outcome) → outcome_of around.now.config.now result facts.new ≡ first_row o (application_rows (around_of around.now) facts.old) }
+    ensures reply { outcome_of around.now.config.now result facts.new ≡ first_row (not_in_phase (around_of around.now) facts.old 0) (application_rows (around_of around.now) facts.old) }
     ensures sent { facts.new.recorded.sent ≡ facts.old.recorded.sent }
+    ensures small { written_limit around.now.config.now result.written ≤ reply_limit around.now.config.now }
 {
     if is_absent(around.config.peer_flow) {
         return Reply::breaks(around, facts, Violation::FlowNone { template: 0 });
@@ -93,6 +96,7 @@ pub fn on_application(around: &Around<'_>, facts: &mut Facts) -> Reply
     requires most { around.now.most ≤ 2 ^ 24 }
     ensures reply { (payload : List ℕ) → outcome_of around.now.config.now result facts.new ≡ answer_of (around_of around.now) facts.old (application payload) }
     ensures sent { facts.new.recorded.sent ≡ facts.old.recorded.sent }
+    ensures small { written_limit around.now.config.now result.written ≤ reply_limit around.now.config.now }
 {
     if is_established(facts.connection.phase) {
         take_application(around, facts)
@@ -123,6 +127,7 @@ fn answer_finish(around: &Around<'_>, facts: &mut Facts, last: u64) -> Reply
     requires { around.now.moment < 2 ^ 44 }
     ensures reply { outcome_of around.now.config.now result facts.new ≡ answers_finish (around_of around.now) facts.old last }
     ensures sent { facts.new.recorded.sent ≡ facts.old.recorded.sent }
+    ensures small { written_limit around.now.config.now result.written ≤ reply_limit around.now.config.now }
 {
     let act = match facts.recorded.peer_last {
         None => Act::PeerFinished { last },
@@ -150,6 +155,7 @@ fn follow_sequence(around: &Around<'_>, facts: &mut Facts, skipped: Option<Range
     ensures reply { outcome_of around.now.config.now result facts.new
         ≡ sequence_taken (around_of around.now) (record { facts = facts.old; skipped = skipped }) }
     ensures sent { facts.new.recorded.sent ≡ facts.old.recorded.sent }
+    ensures small { written_limit around.now.config.now result.written ≤ reply_limit around.now.config.now }
 {
     if is_filled(facts) {
         let last = awaits_gap(facts.connection.peer_finish).unwrap_or(0);
@@ -163,9 +169,10 @@ fn follow_sequence(around: &Around<'_>, facts: &mut Facts, skipped: Option<Range
 fn announce_in_flow(around: &Around<'_>, facts: &mut Facts, next: u64) -> Reply
     requires moment { around.now.moment < 2 ^ 44 }
     requires most { around.now.most ≤ 2 ^ 24 }
-    ensures reply { (o : Outcome) → outcome_of around.now.config.now result facts.new
-        ≡ first_row o (announcement_rows (around_of around.now) facts.old 7 (Some next) (sequence_follows (around_of around.now) facts.old next)) }
+    ensures reply { outcome_of around.now.config.now result facts.new
+        ≡ announcement_answered (around_of around.now) facts.old 7 (Some next) (sequence_follows (around_of around.now) facts.old next) }
     ensures sent { facts.new.recorded.sent ≡ facts.old.recorded.sent }
+    ensures small { written_limit around.now.config.now result.written ≤ reply_limit around.now.config.now }
 {
     if let Some(violation) = announcement_fault(around, facts, 7, Some(next)) {
         return Reply::breaks(around, facts, violation);
@@ -184,6 +191,7 @@ pub fn on_sequence(around: &Around<'_>, facts: &mut Facts, next: u64) -> Reply
     requires most { around.now.most ≤ 2 ^ 24 }
     ensures reply { outcome_of around.now.config.now result facts.new ≡ answer_of (around_of around.now) facts.old (session (sequence next)) }
     ensures sent { facts.new.recorded.sent ≡ facts.old.recorded.sent }
+    ensures small { written_limit around.now.config.now result.written ≤ reply_limit around.now.config.now }
 {
     if !is_established(facts.connection.phase) {
         return Reply::not_in_phase(around, facts, 7);
@@ -199,6 +207,7 @@ pub fn on_retransmission(around: &Around<'_>, facts: &mut Facts, m: &Retransmiss
     ensures reply { outcome_of around.now.config.now result facts.new
         ≡ answer_of (around_of around.now) facts.old (session (retransmission m.now.session_id m.now.next_seq m.now.request_timestamp m.now.count)) }
     ensures sent { facts.new.recorded.sent ≡ facts.old.recorded.sent }
+    ensures small { written_limit around.now.config.now result.written ≤ reply_limit around.now.config.now }
 {
     let awaited = is_established(facts.connection.phase);
     if let Some(violation) = out_of_place(around, facts, 10, &m.session_id, awaited) {
@@ -219,6 +228,7 @@ pub fn on_retransmit_reject(
     ensures reply { outcome_of around.now.config.now result facts.new
         ≡ answer_of (around_of around.now) facts.old (session (retransmit_reject m.now.session_id m.now.request_timestamp m.now.code m.now.reason.now)) }
     ensures sent { facts.new.recorded.sent ≡ facts.old.recorded.sent }
+    ensures small { written_limit around.now.config.now result.written ≤ reply_limit around.now.config.now }
 {
     let awaited = is_established(facts.connection.phase);
     if let Some(violation) = out_of_place(around, facts, 11, &m.session_id, awaited) {
@@ -265,6 +275,7 @@ fn finish(around: &Around<'_>, facts: &mut Facts, last: u64) -> Reply
     requires { around.now.moment < 2 ^ 44 }
     ensures reply { outcome_of around.now.config.now result facts.new ≡ finished (around_of around.now) facts.old last }
     ensures sent { facts.new.recorded.sent ≡ facts.old.recorded.sent }
+    ensures small { written_limit around.now.config.now result.written ≤ reply_limit around.now.config.now }
 {
     if facts.connection.receiver.gap().is_some() {
         facts.connection.peer_finish = PeerFinish::Read(last);
@@ -285,15 +296,12 @@ fn finished_last(around: &Around<'_>, last: Option<u64>) -> u64
     }
 }
 
-pub fn on_finished_sending(
-    around: &Around<'_>,
-    facts: &mut Facts,
-    m: &FinishedSending,
-) -> Reply
+pub fn on_finished_sending(around: &Around<'_>, facts: &mut Facts, m: &FinishedSending) -> Reply
     requires { around.now.moment < 2 ^ 44 }
     ensures reply { outcome_of around.now.config.now result facts.new
         ≡ answer_of (around_of around.now) facts.old (session (finished_sending m.now.session_id m.now.last_seq)) }
     ensures sent { facts.new.recorded.sent ≡ facts.old.recorded.sent }
+    ensures small { written_limit around.now.config.now result.written ≤ reply_limit around.now.config.now }
 {
     let awaited = is_established(facts.connection.phase);
     if let Some(violation) = out_of_place(around, facts, 14, &m.session_id, awaited) {

@@ -3,11 +3,11 @@
 ghost use Rattle.std.specs.Prelude.{◌≡◌, ◌<◌, ◌≤◌, ◌^◌, ◌∷◌, [], IfSome};
 ghost use Rattle.fixp_msgs.specs.Message.{negotiate, negotiation_response, negotiation_reject, establish, establishment_ack, establishment_reject};
 ghost use Rattle.fixp_replies.specs.Facts.{around_of, negotiated, in_phase};
-ghost use Rattle.fixp_replies.specs.Outcomes.{Outcome, first_row, not_in_phase, opening_negotiate, opening_establish};
+ghost use Rattle.fixp_replies.specs.Outcomes.{first_row, not_in_phase, opening_negotiate, opening_establish};
 ghost use Rattle.fixp_replies.specs.Handshake.{awaits_client, serves_client, negotiate_rows, rejects_negotiate, rejects_establish, established, acknowledges, establish_rows, established_again_rows, shaken, rejected};
 ghost use Rattle.fixp_replies.specs.Incoming.{session};
 ghost use Rattle.fixp_replies.specs.Replies.{answer_of};
-ghost use Rattle.fixp_replies.specs.Outgoing.{messages_of, outgoing_message, outcome_of};
+ghost use Rattle.fixp_replies.specs.Outgoing.{messages_of, outgoing_message, outcome_of, written_limit, reply_limit};
 
 use crate::act::{Act, Ending};
 use crate::announcing::{announce, announcement_fault};
@@ -19,9 +19,7 @@ use fixp_msgs::{
     Establish, EstablishmentAck, EstablishmentReject, Negotiate, NegotiationReject,
     NegotiationResponse, Range,
 };
-use fixp_shake::{
-    Phase, Violation, is_established, is_establishing, is_idle, is_negotiating,
-};
+use fixp_shake::{Phase, Violation, is_established, is_establishing, is_idle, is_negotiating};
 
 /// Whether an acceptor waits for its client to open the connection.
 fn awaits_client(around: &Around<'_>, facts: &Facts) -> bool
@@ -61,7 +59,8 @@ pub fn opening_establish(around: &Around<'_>, facts: &Facts) -> Outgoing
 
 /// A Negotiate is rejected.
 fn reject_negotiate(facts: &Facts, m: &Negotiate<'_>, code: u8) -> Reply
-    ensures { (cfg : _) → outcome_of cfg result facts.now ≡ rejects_negotiate facts.now m.now.session_id m.now.timestamp code }
+    ensures reply { (cfg : _) → outcome_of cfg result facts.now ≡ rejects_negotiate facts.now m.now.session_id m.now.timestamp code }
+    ensures small { (cfg : _) → written_limit cfg result.written ≤ 64 }
 {
     let reject = Outgoing::NegotiationReject {
         session_id: m.session_id,
@@ -74,9 +73,10 @@ fn reject_negotiate(facts: &Facts, m: &Negotiate<'_>, code: u8) -> Reply
 /// A Negotiate at an acceptor that waits for its client.
 fn judge_negotiate(around: &Around<'_>, facts: &mut Facts, m: &Negotiate<'_>) -> Reply
     requires { around.now.moment < 2 ^ 44 }
-    ensures reply { (o : Outcome) → outcome_of around.now.config.now result facts.new
-        ≡ first_row o (negotiate_rows (around_of around.now) facts.old m.now.session_id m.now.timestamp m.now.client_flow m.now.credentials.now) }
+    ensures reply { outcome_of around.now.config.now result facts.new
+        ≡ first_row (not_in_phase (around_of around.now) facts.old 1) (negotiate_rows (around_of around.now) facts.old m.now.session_id m.now.timestamp m.now.client_flow m.now.credentials.now) }
     ensures sent { facts.new.recorded.sent ≡ facts.old.recorded.sent }
+    ensures small { written_limit around.now.config.now result.written ≤ reply_limit around.now.config.now }
 {
     if !is_own(around, &m.session_id) {
         return reject_negotiate(facts, m, 1);
@@ -102,6 +102,7 @@ pub fn on_negotiate(around: &Around<'_>, facts: &mut Facts, m: &Negotiate<'_>) -
     ensures reply { outcome_of around.now.config.now result facts.new
         ≡ answer_of (around_of around.now) facts.old (session (negotiate m.now.session_id m.now.timestamp m.now.client_flow m.now.credentials.now)) }
     ensures sent { facts.new.recorded.sent ≡ facts.old.recorded.sent }
+    ensures small { written_limit around.now.config.now result.written ≤ reply_limit around.now.config.now }
 {
     if awaits_client(around, facts) {
         judge_negotiate(around, facts, m)
@@ -112,7 +113,8 @@ pub fn on_negotiate(around: &Around<'_>, facts: &mut Facts, m: &Negotiate<'_>) -
 
 /// An Establish is rejected.
 fn reject_establish(facts: &Facts, m: &Establish<'_>, code: u8) -> Reply
-    ensures { (cfg : _) → outcome_of cfg result facts.now ≡ rejects_establish facts.now m.now.session_id m.now.timestamp code }
+    ensures reply { (cfg : _) → outcome_of cfg result facts.now ≡ rejects_establish facts.now m.now.session_id m.now.timestamp code }
+    ensures small { (cfg : _) → written_limit cfg result.written ≤ 64 }
 {
     let reject = Outgoing::EstablishmentReject {
         session_id: m.session_id,
@@ -143,6 +145,7 @@ fn acknowledge(
     ensures reply { outcome_of around.now.config.now result facts.new
         ≡ acknowledges (around_of around.now) m.now.timestamp m.now.keepalive (record { facts = facts.old; skipped = skipped }) }
     ensures sent { facts.new.recorded.sent ≡ facts.old.recorded.sent }
+    ensures small { written_limit around.now.config.now result.written ≤ reply_limit around.now.config.now }
 {
     let acknowledgement = Outgoing::EstablishmentAck {
         request_timestamp: m.timestamp,
@@ -157,9 +160,10 @@ fn judge_establish(around: &Around<'_>, facts: &mut Facts, m: &Establish<'_>) ->
     requires moment { around.now.moment < 2 ^ 44 }
     requires most { around.now.most ≤ 2 ^ 24 }
     requires sent { facts.old.recorded.sent < 2 ^ 40 }
-    ensures reply { (o : Outcome) → outcome_of around.now.config.now result facts.new
-        ≡ first_row o (establish_rows (around_of around.now) facts.old m.now.session_id m.now.timestamp m.now.keepalive m.now.next_seq m.now.credentials.now) }
+    ensures reply { outcome_of around.now.config.now result facts.new
+        ≡ first_row (not_in_phase (around_of around.now) facts.old 4) (establish_rows (around_of around.now) facts.old m.now.session_id m.now.timestamp m.now.keepalive m.now.next_seq m.now.credentials.now) }
     ensures sent { facts.new.recorded.sent ≡ facts.old.recorded.sent }
+    ensures small { written_limit around.now.config.now result.written ≤ reply_limit around.now.config.now }
 {
     if !is_own(around, &m.session_id) || !facts.recorded.negotiated {
         return reject_establish(facts, m, 2);
@@ -179,8 +183,9 @@ fn judge_establish(around: &Around<'_>, facts: &mut Facts, m: &Establish<'_>) ->
 
 /// A further Establish, once it is established.
 fn reject_again(around: &Around<'_>, facts: &Facts, m: &Establish<'_>) -> Reply
-    ensures { (o : Outcome) → outcome_of around.now.config.now result facts.now
-        ≡ first_row o (established_again_rows (around_of around.now) facts.now m.now.session_id m.now.timestamp) }
+    ensures reply { outcome_of around.now.config.now result facts.now
+        ≡ first_row (not_in_phase (around_of around.now) facts.now 4) (established_again_rows (around_of around.now) facts.now m.now.session_id m.now.timestamp) }
+    ensures small { written_limit around.now.config.now result.written ≤ 64 }
 {
     if is_own(around, &m.session_id) {
         reject_establish(facts, m, 3)
@@ -196,6 +201,7 @@ pub fn on_establish(around: &Around<'_>, facts: &mut Facts, m: &Establish<'_>) -
     ensures reply { outcome_of around.now.config.now result facts.new
         ≡ answer_of (around_of around.now) facts.old (session (establish m.now.session_id m.now.timestamp m.now.keepalive m.now.next_seq m.now.credentials.now)) }
     ensures sent { facts.new.recorded.sent ≡ facts.old.recorded.sent }
+    ensures small { written_limit around.now.config.now result.written ≤ reply_limit around.now.config.now }
 {
     if awaits_client(around, facts) {
         judge_establish(around, facts, m)
@@ -212,6 +218,7 @@ fn shake(around: &Around<'_>, facts: &mut Facts) -> Reply
     requires sent { facts.old.recorded.sent < 2 ^ 40 }
     ensures reply { outcome_of around.now.config.now result facts.new ≡ shaken (around_of around.now) facts.old }
     ensures sent { facts.new.recorded.sent ≡ facts.old.recorded.sent }
+    ensures small { written_limit around.now.config.now result.written ≤ reply_limit around.now.config.now }
 {
     let act = if facts.recorded.negotiated {
         Act::Nothing
@@ -226,7 +233,8 @@ fn shake(around: &Around<'_>, facts: &mut Facts) -> Reply
 
 /// The handshake was rejected for good.
 fn rejected(around: &Around<'_>, facts: &Facts, template: u16, code: u8) -> Reply
-    ensures { outcome_of around.now.config.now result facts.now ≡ rejected (around_of around.now) facts.now template code }
+    ensures reply { outcome_of around.now.config.now result facts.now ≡ rejected (around_of around.now) facts.now template code }
+    ensures small { written_limit around.now.config.now result.written ≤ 64 }
 {
     Reply::ends_with(around, facts, None, Ending::Rejected { template, code })
 }
@@ -241,6 +249,7 @@ pub fn on_negotiation_response(
     ensures reply { outcome_of around.now.config.now result facts.new
         ≡ answer_of (around_of around.now) facts.old (session (negotiation_response m.now.session_id m.now.request_timestamp m.now.server_flow m.now.credentials.now)) }
     ensures sent { facts.new.recorded.sent ≡ facts.old.recorded.sent }
+    ensures small { written_limit around.now.config.now result.written ≤ reply_limit around.now.config.now }
 {
     let awaited = is_negotiating(facts.connection.phase);
     if let Some(violation) = out_of_place(around, facts, 2, &m.session_id, awaited) {
@@ -263,6 +272,7 @@ pub fn on_negotiation_reject(
     ensures reply { outcome_of around.now.config.now result facts.new
         ≡ answer_of (around_of around.now) facts.old (session (negotiation_reject m.now.session_id m.now.request_timestamp m.now.code m.now.reason.now)) }
     ensures sent { facts.new.recorded.sent ≡ facts.old.recorded.sent }
+    ensures small { written_limit around.now.config.now result.written ≤ reply_limit around.now.config.now }
 {
     let awaited = is_negotiating(facts.connection.phase);
     if let Some(violation) = out_of_place(around, facts, 3, &m.session_id, awaited) {
@@ -275,16 +285,13 @@ pub fn on_negotiation_reject(
     }
 }
 
-pub fn on_establishment_ack(
-    around: &Around<'_>,
-    facts: &mut Facts,
-    m: &EstablishmentAck,
-) -> Reply
+pub fn on_establishment_ack(around: &Around<'_>, facts: &mut Facts, m: &EstablishmentAck) -> Reply
     requires moment { around.now.moment < 2 ^ 44 }
     requires most { around.now.most ≤ 2 ^ 24 }
     ensures reply { outcome_of around.now.config.now result facts.new
         ≡ answer_of (around_of around.now) facts.old (session (establishment_ack m.now.session_id m.now.request_timestamp m.now.keepalive m.now.next_seq)) }
     ensures sent { facts.new.recorded.sent ≡ facts.old.recorded.sent }
+    ensures small { written_limit around.now.config.now result.written ≤ reply_limit around.now.config.now }
 {
     let awaited = is_establishing(facts.connection.phase);
     if let Some(violation) = out_of_place(around, facts, 5, &m.session_id, awaited) {
@@ -307,6 +314,7 @@ pub fn on_establishment_reject(
     ensures reply { outcome_of around.now.config.now result facts.new
         ≡ answer_of (around_of around.now) facts.old (session (establishment_reject m.now.session_id m.now.request_timestamp m.now.code m.now.reason.now)) }
     ensures sent { facts.new.recorded.sent ≡ facts.old.recorded.sent }
+    ensures small { written_limit around.now.config.now result.written ≤ reply_limit around.now.config.now }
 {
     let awaited = is_establishing(facts.connection.phase);
     if let Some(violation) = out_of_place(around, facts, 6, &m.session_id, awaited) {

@@ -17,7 +17,8 @@ mod standing;
 
 pub use act::{Act, Ending};
 pub use events::{
-    HANDSHAKE_LIMIT, begin, end_turn, heartbeat_due, lateness, link_ending, outbox_finished, tell_finish,
+    HANDSHAKE_LIMIT, begin, end_turn, heartbeat_due, lateness, link_ending, outbox_finished,
+    tell_finish,
 };
 pub use facts::{Around, Connection, EndState, Facts, OwnFinish, PeerFinish};
 pub use incoming::{Incoming, classify};

@@ -5,7 +5,7 @@ ghost use Rattle.fixp_msgs.specs.Message.{message_of, terminate};
 ghost use Rattle.fixp_replies.specs.Incoming.{session, incoming_of};
 ghost use Rattle.fixp_replies.specs.Facts.{around_of};
 ghost use Rattle.fixp_replies.specs.Replies.{answer_of, terminates, reply_of, reply_to_bad_frame};
-ghost use Rattle.fixp_replies.specs.Outgoing.{outcome_of};
+ghost use Rattle.fixp_replies.specs.Outgoing.{outcome_of, written_limit, reply_limit};
 
 use crate::act::Ending;
 use crate::facts::{Around, Facts};
@@ -24,8 +24,9 @@ use fixp_msgs::{SessionMsg, Terminate};
 use fixp_shake::{Violation, is_closing};
 
 fn on_terminate(around: &Around<'_>, facts: &Facts, m: &Terminate<'_>) -> Reply
-    ensures { outcome_of around.now.config.now result facts.now
+    ensures reply { outcome_of around.now.config.now result facts.now
         ≡ answer_of (around_of around.now) facts.now (session (terminate m.now.session_id m.now.code m.now.reason.now)) }
+    ensures small { written_limit around.now.config.now result.written ≤ 64 }
 {
     if is_own(around, &m.session_id) {
         Reply::ends(around, facts, 1, Ending::PeerTerminated { code: m.code })
@@ -40,6 +41,7 @@ fn on_session(around: &Around<'_>, facts: &mut Facts, m: &SessionMsg<'_>) -> Rep
     requires sent { facts.old.recorded.sent < 2 ^ 40 }
     ensures reply { outcome_of around.now.config.now result facts.new ≡ answer_of (around_of around.now) facts.old (session (message_of m.now)) }
     ensures sent { facts.new.recorded.sent ≡ facts.old.recorded.sent }
+    ensures small { written_limit around.now.config.now result.written ≤ reply_limit around.now.config.now }
 {
     match m {
         SessionMsg::Negotiate(m) => on_negotiate(around, facts, m),
@@ -79,6 +81,7 @@ fn answer(around: &Around<'_>, facts: &mut Facts, incoming: &Incoming<'_>) -> Re
     requires sent { facts.old.recorded.sent < 2 ^ 40 }
     ensures reply { outcome_of around.now.config.now result facts.new ≡ answer_of (around_of around.now) facts.old (incoming_of incoming.now) }
     ensures sent { facts.new.recorded.sent ≡ facts.old.recorded.sent }
+    ensures small { written_limit around.now.config.now result.written ≤ reply_limit around.now.config.now }
 {
     match incoming {
         Incoming::Application { .. } => on_application(around, facts),
@@ -99,6 +102,7 @@ pub fn reply_to(around: &Around<'_>, facts: &mut Facts, incoming: &Incoming<'_>)
     requires sent { facts.old.recorded.sent < 2 ^ 40 }
     ensures reply { outcome_of around.now.config.now result facts.new ≡ reply_of (around_of around.now) facts.old (incoming_of incoming.now) }
     ensures sent { facts.new.recorded.sent ≡ facts.old.recorded.sent }
+    ensures small { written_limit around.now.config.now result.written ≤ reply_limit around.now.config.now }
 {
     if is_closing(facts.connection.phase) && !terminates(around, incoming) {
         Reply::ignores(facts)
@@ -109,7 +113,8 @@ pub fn reply_to(around: &Around<'_>, facts: &mut Facts, incoming: &Incoming<'_>)
 
 /// The reply to bytes at this place that are no frame. The facts stay as they are.
 pub fn reply_to_bad_frame(around: &Around<'_>, facts: &Facts) -> Reply
-    ensures { outcome_of around.now.config.now result facts.now ≡ reply_to_bad_frame (around_of around.now) facts.now }
+    ensures reply { outcome_of around.now.config.now result facts.now ≡ reply_to_bad_frame (around_of around.now) facts.now }
+    ensures small { written_limit around.now.config.now result.written ≤ 64 }
 {
     Reply::breaks(around, facts, Violation::BadFrame { at: around.at })
 }

@@ -1,9 +1,9 @@
 //! What an end does at one event, and how such replies are made.
 
-ghost use Rattle.std.specs.Prelude.{◌≡◌, [], ◌∷◌, ◌++◌, ◌<◌, ◌^◌, IfSome};
+ghost use Rattle.std.specs.Prelude.{◌≡◌, [], ◌∷◌, ◌++◌, ◌+◌, ◌<◌, ◌≤◌, ◌^◌, Some, IfSome};
 ghost use Rattle.fixp_replies.specs.Facts.{around_of, gap_to_ask, having_asked};
 ghost use Rattle.fixp_replies.specs.Outcomes.{timestamp, request_for, goes_on, accepts, rejects, ignores, ends_with, ends, breaks, not_in_phase, skip_of, told_skip};
-ghost use Rattle.fixp_replies.specs.Outgoing.{messages_of, outgoing_message, outcome_of};
+ghost use Rattle.fixp_replies.specs.Outgoing.{messages_of, outgoing_message, place_limit, written_limit, outcome_of};
 
 use crate::act::{Act, Ending};
 use crate::facts::{Around, Facts};
@@ -99,6 +99,8 @@ fn ask(around: &Around<'_>, facts: &mut Facts) -> Option<Outgoing>
     requires { around.now.moment < 2 ^ 44 }
     ensures request { messages_of around.now.config.now (result ∷ []) ≡ request_for (around_of around.now) (gap_to_ask facts.old) }
     ensures asked { facts.new ≡ having_asked facts.old (gap_to_ask facts.old) }
+    ensures recorded { facts.new.recorded ≡ facts.old.recorded }
+    ensures small { place_limit around.now.config.now result ≤ 64 }
 {
     let Some(gap) = facts.connection.receiver.gap() else {
         return None;
@@ -130,7 +132,9 @@ impl Reply {
         message: Option<Outgoing>,
     ) -> Reply
         requires { around.now.moment < 2 ^ 44 }
-        ensures { outcome_of around.now.config.now result facts.new ≡ goes_on (around_of around.now) act (messages_of around.now.config.now (message ∷ [])) facts.old }
+        ensures reply { outcome_of around.now.config.now result facts.new ≡ goes_on (around_of around.now) act (messages_of around.now.config.now (message ∷ [])) facts.old }
+        ensures recorded { facts.new.recorded ≡ facts.old.recorded }
+        ensures small { written_limit around.now.config.now result.written ≤ place_limit around.now.config.now message + 64 }
     {
         let request = ask(around, facts);
         Reply {
@@ -144,7 +148,9 @@ impl Reply {
     /// The frame is accepted, and the caller has nothing to do.
     pub fn accepts(around: &Around<'_>, facts: &mut Facts, message: Option<Outgoing>) -> Reply
         requires { around.now.moment < 2 ^ 44 }
-        ensures { outcome_of around.now.config.now result facts.new ≡ accepts (around_of around.now) (messages_of around.now.config.now (message ∷ [])) facts.old }
+        ensures reply { outcome_of around.now.config.now result facts.new ≡ accepts (around_of around.now) (messages_of around.now.config.now (message ∷ [])) facts.old }
+        ensures recorded { facts.new.recorded ≡ facts.old.recorded }
+        ensures small { written_limit around.now.config.now result.written ≤ place_limit around.now.config.now message + 64 }
     {
         Reply::goes_on(around, facts, Act::Nothing, message)
     }
@@ -158,8 +164,10 @@ impl Reply {
     ) -> Reply
         requires moment { around.now.moment < 2 ^ 44 }
         requires count { IfSome skipped (λ range. range.count < 2 ^ 32) }
-        ensures { outcome_of around.now.config.now result facts.new
+        ensures reply { outcome_of around.now.config.now result facts.new
             ≡ goes_on (around_of around.now) (skip_of skipped) (messages_of around.now.config.now (message ∷ []) ++ told_skip skipped) facts.old }
+        ensures recorded { facts.new.recorded ≡ facts.old.recorded }
+        ensures small { written_limit around.now.config.now result.written ≤ place_limit around.now.config.now message + 128 }
     {
         let Some(range) = skipped else {
             return Reply::accepts(around, facts, message);
@@ -182,7 +190,8 @@ impl Reply {
 
     /// The frame is rejected by this message, and the connection goes on as it was.
     pub fn rejects(facts: &Facts, message: Outgoing) -> Reply
-        ensures { (cfg : _) → outcome_of cfg result facts.now ≡ rejects (outgoing_message cfg message ∷ []) facts.now }
+        ensures reply { (cfg : _) → outcome_of cfg result facts.now ≡ rejects (outgoing_message cfg message ∷ []) facts.now }
+        ensures small { (cfg : _) → written_limit cfg result.written ≤ place_limit cfg (Some message) }
     {
         let _unchanged = facts;
         Reply {
@@ -195,7 +204,8 @@ impl Reply {
 
     /// Nothing is done about the frame.
     pub fn ignores(facts: &Facts) -> Reply
-        ensures { (cfg : _) → outcome_of cfg result facts.now ≡ ignores facts.now }
+        ensures reply { (cfg : _) → outcome_of cfg result facts.now ≡ ignores facts.now }
+        ensures small { (cfg : _) → written_limit cfg result.written ≤ 0 }
     {
         let _unchanged = facts;
         Reply {
@@ -213,7 +223,8 @@ impl Reply {
         message: Option<Outgoing>,
         ending: Ending,
     ) -> Reply
-        ensures { outcome_of around.now.config.now result facts.now ≡ ends_with (around_of around.now) facts.now (messages_of around.now.config.now (message ∷ [])) ending }
+        ensures reply { outcome_of around.now.config.now result facts.now ≡ ends_with (around_of around.now) facts.now (messages_of around.now.config.now (message ∷ [])) ending }
+        ensures small { written_limit around.now.config.now result.written ≤ place_limit around.now.config.now message }
     {
         Reply {
             act: Act::Ended,
@@ -225,21 +236,24 @@ impl Reply {
 
     /// The connection ends with a Terminate.
     pub fn ends(around: &Around<'_>, facts: &Facts, code: u8, ending: Ending) -> Reply
-        ensures { outcome_of around.now.config.now result facts.now ≡ ends (around_of around.now) facts.now code ending }
+        ensures reply { outcome_of around.now.config.now result facts.now ≡ ends (around_of around.now) facts.now code ending }
+        ensures small { written_limit around.now.config.now result.written ≤ 64 }
     {
         Reply::ends_with(around, facts, Some(Outgoing::Terminate { code }), ending)
     }
 
     /// The peer broke a rule: unspecified error.
     pub fn breaks(around: &Around<'_>, facts: &Facts, violation: Violation) -> Reply
-        ensures { outcome_of around.now.config.now result facts.now ≡ breaks (around_of around.now) facts.now violation }
+        ensures reply { outcome_of around.now.config.now result facts.now ≡ breaks (around_of around.now) facts.now violation }
+        ensures small { written_limit around.now.config.now result.written ≤ 64 }
     {
         Reply::ends(around, facts, 2, Ending::Violation(violation))
     }
 
     /// The message does not belong into the phase.
     pub fn not_in_phase(around: &Around<'_>, facts: &Facts, template: u16) -> Reply
-        ensures { outcome_of around.now.config.now result facts.now ≡ not_in_phase (around_of around.now) facts.now template }
+        ensures reply { outcome_of around.now.config.now result facts.now ≡ not_in_phase (around_of around.now) facts.now template }
+        ensures small { written_limit around.now.config.now result.written ≤ 64 }
     {
         let phase = facts.connection.phase;
         Reply::breaks(around, facts, Violation::NotInPhase { template, phase })

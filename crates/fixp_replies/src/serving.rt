@@ -9,7 +9,7 @@ ghost use Rattle.fixp_replies.specs.Facts.{around_of, is_own};
 ghost use Rattle.fixp_replies.specs.Serving.{request_answered};
 ghost use Rattle.fixp_replies.specs.Incoming.{session};
 ghost use Rattle.fixp_replies.specs.Replies.{answer_of};
-ghost use Rattle.fixp_replies.specs.Outgoing.{outcome_of};
+ghost use Rattle.fixp_replies.specs.Outgoing.{outcome_of, written_limit, reply_limit};
 
 use crate::act::{Act, Ending};
 use crate::facts::{Around, Facts, OwnFinish};
@@ -26,6 +26,7 @@ fn serve(around: &Around<'_>, facts: &mut Facts, m: &RetransmitRequest) -> Reply
     ensures reply { outcome_of around.now.config.now result facts.new
         ≡ request_answered (around_of around.now) facts.old m.now.session_id m.now.timestamp (Ok (record { from = m.now.from_seq; count = m.now.count })) }
     ensures sent { facts.new.recorded.sent ≡ facts.old.recorded.sent }
+    ensures small { written_limit around.now.config.now result.written ≤ reply_limit around.now.config.now }
 {
     facts.connection.serving = Some(Range {
         from: m.from_seq,
@@ -40,14 +41,10 @@ fn serve(around: &Around<'_>, facts: &mut Facts, m: &RetransmitRequest) -> Reply
 }
 
 /// A request is refused.
-fn refuse(
-    around: &Around<'_>,
-    facts: &Facts,
-    m: &RetransmitRequest,
-    code: RetransmitCode,
-) -> Reply
-    ensures { outcome_of around.now.config.now result facts.now
+fn refuse(around: &Around<'_>, facts: &Facts, m: &RetransmitRequest, code: RetransmitCode) -> Reply
+    ensures reply { outcome_of around.now.config.now result facts.now
         ≡ request_answered (around_of around.now) facts.now m.now.session_id m.now.timestamp (Err code) }
+    ensures small { written_limit around.now.config.now result.written ≤ 64 }
 {
     let _config = around;
     let reject = Outgoing::RetransmitReject {
@@ -65,6 +62,7 @@ fn answer_request(around: &Around<'_>, facts: &mut Facts, m: &RetransmitRequest)
         ≡ request_answered (around_of around.now) facts.old m.now.session_id m.now.timestamp
         (judged (is_own (around_of around.now) m.now.session_id) (is_recoverable around.now.config.now.own_flow) m.now.from_seq m.now.count facts.old.recorded.sent) }
     ensures sent { facts.new.recorded.sent ≡ facts.old.recorded.sent }
+    ensures small { written_limit around.now.config.now result.written ≤ reply_limit around.now.config.now }
 {
     let own = is_own(around, &m.session_id);
     let recoverable = is_recoverable(around.config.own_flow);
@@ -74,15 +72,12 @@ fn answer_request(around: &Around<'_>, facts: &mut Facts, m: &RetransmitRequest)
     }
 }
 
-pub fn on_retransmit_request(
-    around: &Around<'_>,
-    facts: &mut Facts,
-    m: &RetransmitRequest,
-) -> Reply
+pub fn on_retransmit_request(around: &Around<'_>, facts: &mut Facts, m: &RetransmitRequest) -> Reply
     requires { around.now.moment < 2 ^ 44 }
     ensures reply { outcome_of around.now.config.now result facts.new
         ≡ answer_of (around_of around.now) facts.old (session (retransmit_request m.now.session_id m.now.timestamp m.now.from_seq m.now.count)) }
     ensures sent { facts.new.recorded.sent ≡ facts.old.recorded.sent }
+    ensures small { written_limit around.now.config.now result.written ≤ reply_limit around.now.config.now }
 {
     let phase = facts.connection.phase;
     if !is_established(phase) {
@@ -100,6 +95,7 @@ pub fn on_not_applied(around: &Around<'_>, facts: &mut Facts, m: &NotApplied) ->
     ensures reply { outcome_of around.now.config.now result facts.new
         ≡ answer_of (around_of around.now) facts.old (session (not_applied m.now.from_seq m.now.count)) }
     ensures sent { facts.new.recorded.sent ≡ facts.old.recorded.sent }
+    ensures small { written_limit around.now.config.now result.written ≤ reply_limit around.now.config.now }
 {
     if !is_idempotent(around.config.own_flow) {
         return Reply::accepts(around, facts, None);
@@ -111,15 +107,12 @@ pub fn on_not_applied(around: &Around<'_>, facts: &mut Facts, m: &NotApplied) ->
     Reply::goes_on(around, facts, told, None)
 }
 
-pub fn on_finished_receiving(
-    around: &Around<'_>,
-    facts: &mut Facts,
-    m: &FinishedReceiving,
-) -> Reply
+pub fn on_finished_receiving(around: &Around<'_>, facts: &mut Facts, m: &FinishedReceiving) -> Reply
     requires { around.now.moment < 2 ^ 44 }
     ensures reply { outcome_of around.now.config.now result facts.new
         ≡ answer_of (around_of around.now) facts.old (session (finished_receiving m.now.session_id)) }
     ensures sent { facts.new.recorded.sent ≡ facts.old.recorded.sent }
+    ensures small { written_limit around.now.config.now result.written ≤ reply_limit around.now.config.now }
 {
     let awaited = is_established(facts.connection.phase);
     if let Some(violation) = out_of_place(around, facts, 15, &m.session_id, awaited) {

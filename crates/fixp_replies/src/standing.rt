@@ -110,8 +110,7 @@ pub fn finishes_exchanged(around: &Around<'_>, facts: &Facts) -> bool
     ensures { result ≡ finishes_exchanged (around_of around.now) facts.now }
 {
     let shaken = is_shaken(facts.connection.phase);
-    (own_is_exchanged(facts.connection.own_finish)
-        || (is_absent(around.config.own_flow) && shaken))
+    (own_is_exchanged(facts.connection.own_finish) || (is_absent(around.config.own_flow) && shaken))
         && (peer_is_exchanged(facts.connection.peer_finish)
             || (is_absent(around.config.peer_flow) && shaken))
 }
