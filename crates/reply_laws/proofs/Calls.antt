@@ -82,38 +82,38 @@ calls_keep_sound s (frame incoming at now) h may =
     let o : Outcome = reply_of (around s at now) s.facts incoming in
     let k : KeepsSound s.config s.most s.facts o = sound_goes_on (around s at now) s.facts incoming h.facts in
     either StaysSound (is_record o.act) (record s { moment = now; last_received = now; room = s.room - 1; pending = Some o })
-        (reply_applied (record s { moment = now; last_received = now; room = s.room - 1 }) o now)
-        (λ _. record { facts = h.facts; pending = k })
-        (λ _. none_pending (reply_applied (record s { moment = now; last_received = now; room = s.room - 1 }) o now) k.next refl)
+    (reply_applied (record s { moment = now; last_received = now; room = s.room - 1 }) o now)
+    (λ _. record { facts = h.facts; pending = k })
+    (λ _. none_pending (reply_applied (record s { moment = now; last_received = now; room = s.room - 1 }) o now) k.next refl)
 calls_keep_sound s (bad_frame at now) h may = none_pending (after_bad_frame s at now) h.facts refl
 calls_keep_sound s (did now) h may = done_sound s s.pending now h h.pending
 calls_keep_sound s (tick now) h may =
     let x : Around = around s 0 now in
     let beat : State = wrote (record s { moment = now }) (bytes_of (heartbeats x s.facts s.last_sent s.unsent)) now in
     either StaysSound (is_some s.ending) (record s { moment = now }) (broken_by beat (lateness x s.facts s.start s.last_received) now)
-        (λ _. record { facts = h.facts; pending = h.pending })
-        (λ _. broken_sound beat (lateness x s.facts s.start s.last_received) now (record { facts = h.facts; pending = h.pending }))
+    (λ _. record { facts = h.facts; pending = h.pending })
+    (λ _. broken_sound beat (lateness x s.facts s.start s.last_received) now (record { facts = h.facts; pending = h.pending }))
 calls_keep_sound s (turn_done now) h may =
     let x : Around = around s 0 now in
     let m : Made = turn_ended x s.facts (runs_of s.untold) in
     let next : Sound s.config m.next = one_made (λ f. Sound s.config f) (closes x s.facts) _ _
-        (record { waits = h.facts.waits; even = h.facts.even; unread = h.facts.unread; credentials = h.facts.credentials; sent = h.facts.sent; role = λ _. refl }) h.facts in
+    (record { waits = h.facts.waits; even = h.facts.even; unread = h.facts.unread; credentials = h.facts.credentials; sent = h.facts.sent; role = λ _. refl }) h.facts in
     either StaysSound (is_some s.ending) (record s { moment = now }) (record (made (record s { moment = now }) m now) { untold = [] })
-        (λ _. record { facts = h.facts; pending = h.pending })
-        (λ _. none_pending (record (made (record s { moment = now }) m now) { untold = [] }) next may)
+    (λ _. record { facts = h.facts; pending = h.pending })
+    (λ _. none_pending (record (made (record s { moment = now }) m now) { untold = [] }) next may)
 calls_keep_sound s (closed last now) h may =
     let x : Around = around s 0 now in
     let m : Made = finish_told x s.facts last in
     let next : Sound s.config m.next = one_made (λ f. Sound s.config f) (tells_finish x s.facts last) _ _ (told_sound s.config s.facts last h.facts) (closed_sound s.config s.facts last h.facts) in
     either StaysSound (is_some s.ending) (record s { moment = now; facts = outbox_finished s.facts last }) (made (record s { moment = now }) m now)
-        (λ _. none_pending (record s { moment = now; facts = outbox_finished s.facts last }) (closed_sound s.config s.facts last h.facts) may)
-        (λ _. none_pending (made (record s { moment = now }) m now) next may)
+    (λ _. none_pending (record s { moment = now; facts = outbox_finished s.facts last }) (closed_sound s.config s.facts last h.facts) may)
+    (λ _. none_pending (made (record s { moment = now }) m now) next may)
 calls_keep_sound s link_end h may =
     either StaysSound (is_some s.ending) s (record s { ending = Some (link_ending (around s 0 s.moment) s.facts); pending = None })
-        (λ _. h) (λ _. none_pending (record s { ending = Some (link_ending (around s 0 s.moment) s.facts); pending = None }) h.facts refl)
+    (λ _. h) (λ _. none_pending (record s { ending = Some (link_ending (around s 0 s.moment) s.facts); pending = None }) h.facts refl)
 calls_keep_sound s (live payloads now) h may =
     none_pending (step s (live payloads now))
-        (record { waits = h.facts.waits; even = h.facts.even; unread = h.facts.unread; credentials = h.facts.credentials; sent = may.1; role = h.facts.role }) may.0
+    (record { waits = h.facts.waits; even = h.facts.even; unread = h.facts.unread; credentials = h.facts.credentials; sent = may.1; role = h.facts.role }) may.0
 calls_keep_sound s (again payloads now) h may = again_sound s s.facts.connection.serving payloads now h may
 calls_keep_sound s (taken count) h may = record { facts = h.facts; pending = h.pending }
 calls_keep_sound s reserve h may = record { facts = h.facts; pending = h.pending }

@@ -158,7 +158,7 @@ in_bounds x f template next e seq =
   where
     by_tests : (numbered missing large low : Bool)
         → (if not numbered then None else if missing then Some (MissingNext template) else if large then Some (NumberTooLarge (unwrap_or next 0))
-            else if low then Some (WentBack (unwrap_or next 0) (expected_number x f)) else None) ≡ None
+        else if low then Some (WentBack (unwrap_or next 0) (expected_number x f)) else None) ≡ None
         → numbered ≡ true → (large ≡ false) × (low ≡ false)
     by_tests true true large low e t = absurd cc
     by_tests true false true low e t = absurd cc
@@ -193,7 +193,7 @@ announced_fits x f template next s e = by_flow (is_recoverable x.config.peer_flo
     by_flow false true rec idem =
         let b = in_bounds x f template next e (or_right (is_recoverable x.config.peer_flow) (is_idempotent x.config.peer_flow) idem) in
         let low : f.recorded.inbox_next ≤ unwrap_or next 0 =
-            subst (λ (r : Bool). (if r then receiver_is.expected f.connection.receiver else f.recorded.inbox_next) ≤ unwrap_or next 0) rec b.0 in
+        subst (λ (r : Bool). (if r then receiver_is.expected f.connection.receiver else f.recorded.inbox_next) ≤ unwrap_or next 0) rec b.0 in
         let j = jumps x.most f.recorded.inbox_next (unwrap_or next 0) low b.1 in
         record {
           sound = record { waits = λ t. absurd (true≢false (sym t ∙ rec)); even = s.even; unread = s.unread; credentials = s.credentials; sent = s.sent; role = s.role };
@@ -274,15 +274,15 @@ taking x f rec s top (Deliver n) is =
     let r = f.connection.receiver in
     let d = delivers r.next (receiver_is.number r) n is in
     going x f (awaiting (counted f) (n + 1)) (acts.Apply n) []
-        (record {
-          waits = λ t. next_counted r.next r.live r.again ∙ (ap (λ b. if b then r.next + 1 else r.next) (eq-eqb (receiver_is.number r) r.next d.1) ∙ omega (arith, d.0, d.1));
-          even = λ t. absurd (true≢false (sym rec ∙ t));
-          unread = s.unread;
-          credentials = s.credentials;
-          sent = s.sent;
-          role = s.role;
-        })
-        refl (d.0 ∙ (d.1 ∙ s.waits rec), refl) (omega (arith, d.0, top)) tt
+    (record {
+      waits = λ t. next_counted r.next r.live r.again ∙ (ap (λ b. if b then r.next + 1 else r.next) (eq-eqb (receiver_is.number r) r.next d.1) ∙ omega (arith, d.0, d.1));
+      even = λ t. absurd (true≢false (sym rec ∙ t));
+      unread = s.unread;
+      credentials = s.credentials;
+      sent = s.sent;
+      role = s.role;
+    })
+    refl (d.0 ∙ (d.1 ∙ s.waits rec), refl) (omega (arith, d.0, top)) tt
 taking x f rec s top (Gap n) is =
     let r = f.connection.receiver in
     going x f (counted f) acts.Nothing [] (left_out x.config f rec s ((passes r.next (receiver_is.number r) n).0 is)) refl refl tt tt
@@ -309,26 +309,26 @@ not_false false e = refl
 
 message_rows : (x : Around) (f : Facts) (p : List ℕ) → Sound x.config f → AllRows (KeepsSound x.config x.most f) (rows_of x f (application p))
 message_rows x f p s = all_within (KeepsSound x.config x.most f) (is_established f.connection.phase) _ (λ _. (
+  λ _. ending x f 2 _ s,
+  λ _. (
+    λ _. ending x f 2 _ s,
+    λ _. (
       λ _. ending x f 2 _ s,
-      λ _. (
-        λ _. ending x f 2 _ s,
-        λ _. (
-          λ _. ending x f 2 _ s,
-          λ small. (
-            λ e. going x f (awaiting f (f.recorded.inbox_next + 1)) (acts.Apply f.recorded.inbox_next) []
-                (record { waits = λ t. absurd (true≢false (sym e ∙ ap not t)); even = s.even; unread = s.unread; credentials = s.credentials; sent = s.sent; role = s.role })
-                refl (refl, refl) (next_of x f (not_false (is_recoverable x.config.peer_flow) e) small) tt,
-            λ e. (
-              λ _. bad x f (request_is.message_fault f.connection.requester) s,
-              λ _. (
-                λ _. taking x f (not_true (is_recoverable x.config.peer_flow) e) s (number_of x f (not_true (is_recoverable x.config.peer_flow) e) small) (receiver_is.seen f.connection.receiver) refl,
-                λ _. tt,
-              ),
-            ),
+      λ small. (
+        λ e. going x f (awaiting f (f.recorded.inbox_next + 1)) (acts.Apply f.recorded.inbox_next) []
+            (record { waits = λ t. absurd (true≢false (sym e ∙ ap not t)); even = s.even; unread = s.unread; credentials = s.credentials; sent = s.sent; role = s.role })
+            refl (refl, refl) (next_of x f (not_false (is_recoverable x.config.peer_flow) e) small) tt,
+        λ e. (
+          λ _. bad x f (request_is.message_fault f.connection.requester) s,
+          λ _. (
+            λ _. taking x f (not_true (is_recoverable x.config.peer_flow) e) s (number_of x f (not_true (is_recoverable x.config.peer_flow) e) small) (receiver_is.seen f.connection.receiver) refl,
+            λ _. tt,
           ),
         ),
       ),
-    ))
+    ),
+  ),
+))
 
 -- the answer to the peer's finish
 finish_still : (recorded : Option ℕ) (last n : ℕ) → Advances (finish_act recorded last) n n
@@ -346,11 +346,11 @@ finish_within (Some _) last most = tt
 answering : (x : Around) (f next : Facts) (last : ℕ) → Sound x.config next → next.recorded.sent ≡ f.recorded.sent → next.recorded.inbox_next ≡ f.recorded.inbox_next → KeepsSound x.config x.most f (answers_finish x next last)
 answering x f next last s kept same =
     going x f (peer_finished next (peer.Exchanged last) (Some (unwrap_or next.recorded.peer_last last))) (finish_act next.recorded.peer_last last) (finished_receiving x.config.session ∷ [])
-        (finish_answered x.config next last (Some (unwrap_or next.recorded.peer_last last)) s)
-        kept
-        (subst (λ n. Advances (finish_act next.recorded.peer_last last) n next.recorded.inbox_next) same (finish_still next.recorded.peer_last last next.recorded.inbox_next))
-        (finish_within next.recorded.peer_last last x.most)
-        (writes_receiving x.config)
+    (finish_answered x.config next last (Some (unwrap_or next.recorded.peer_last last)) s)
+    kept
+    (subst (λ n. Advances (finish_act next.recorded.peer_last last) n next.recorded.inbox_next) same (finish_still next.recorded.peer_last last next.recorded.inbox_next))
+    (finish_within next.recorded.peer_last last x.most)
+    (writes_receiving x.config)
 
 -- Sequence, where its announcement stands
 following : (x : Around) (f ended : Facts) (next : ℕ) (a : Announced) → Sound x.config ended → ended.recorded.sent ≡ f.recorded.sent → ended.recorded.inbox_next ≡ f.recorded.inbox_next
@@ -373,9 +373,11 @@ following x f ended next a e kept same still fits =
         ∷ row (is_filled a.facts) (answers_finish x a.facts (unwrap_or (awaits_gap a.facts.connection.peer_finish) 0))
         ∷ row true (goes_on x (skip_of a.skipped) (told_skip a.skipped) a.facts)
         ∷ []
+
     and_left : (p q : Bool) → (p && q) ≡ true → p ≡ true
     and_left true q t = refl
     and_left false q t = absurd (true≢false (sym t))
+
     by_flow : (b : Bool) → is_recoverable x.config.peer_flow ≡ b → is_some (awaits_gap a.facts.connection.peer_finish) ≡ true
         → KeepsSound x.config x.most f (answers_finish x a.facts (unwrap_or (awaits_gap a.facts.connection.peer_finish) 0))
     by_flow true r t = answering x f a.facts (unwrap_or (awaits_gap a.facts.connection.peer_finish) 0) fits.sound fits.sent (still r)
@@ -384,19 +386,20 @@ following x f ended next a e kept same still fits =
 answered : (x : Around) (f : Facts) (id : List ℕ) (timestamp : ℕ) (r : Result Range RetransmitCode) → Sound x.config f → KeepsSound x.config x.most f (request_answered x f id timestamp r)
 answered x f id timestamp (Ok range) s =
     going x f (serves f (Some range)) acts.Nothing (retransmission x.config.session range.from timestamp range.count ∷ []) (record { waits = s.waits; even = s.even; unread = s.unread; credentials = s.credentials; sent = s.sent; role = s.role }) refl refl tt
-        (plain x.config (retransmission x.config.session range.from timestamp range.count) refl (record { numbers = (tt, (tt, (tt, (tt, tt)))); datum = tt }))
+    (plain x.config (retransmission x.config.session range.from timestamp range.count) refl (record { numbers = (tt, (tt, (tt, (tt, tt)))); datum = tt }))
 answered x f id timestamp (Err code) s = staying x f (retransmit_reject id timestamp (code_of code) []) s refl (record { numbers = (tt, (tt, (tt, tt))); datum = omega arith })
 
 -- an initiator goes on with the handshake
 shaking : (x : Around) (f : Facts) → is_initiator x.config.role ≡ true → Sound x.config f → KeepsSound x.config x.most f (shaken x f)
 shaking x f i s =
     going x f (in_phase (as_negotiated f) phases.Establishing) (if f.recorded.negotiated then acts.Nothing else acts.Negotiated) (opening_establish x f ∷ [])
-        (record { waits = s.waits; even = s.even; unread = s.unread; credentials = s.credentials; sent = s.sent; role = λ t. absurd (true≢false (sym i ∙ t)) })
-        refl (still f.recorded.negotiated) (within f.recorded.negotiated) (writes_establish x f i s.credentials s.sent)
+    (record { waits = s.waits; even = s.even; unread = s.unread; credentials = s.credentials; sent = s.sent; role = λ t. absurd (true≢false (sym i ∙ t)) })
+    refl (still f.recorded.negotiated) (within f.recorded.negotiated) (writes_establish x f i s.credentials s.sent)
   where
     still : (b : Bool) → Advances (if b then acts.Nothing else acts.Negotiated) f.recorded.inbox_next f.recorded.inbox_next
     still true = refl
     still false = refl
+
     within : (b : Bool) → WithinMost x.most (if b then acts.Nothing else acts.Negotiated)
     within true = tt
     within false = tt
@@ -418,12 +421,14 @@ establish_all x f id timestamp keepalive next credentials s = by_place (awaits_c
   where
     P : Outcome → Type 0
     P = KeepsSound x.config x.most f
+
     acknowledged : (a : Announced) → Fits x f a → P (acknowledges x timestamp keepalive a)
     acknowledged a fits =
         going x f (established a.facts keepalive) (skip_of a.skipped) (establishment_ack x.config.session timestamp x.config.keepalive (announced_number x a.facts) ∷ told_skip a.skipped)
-            (done x.config a.facts keepalive fits.sound) fits.sent fits.advances fits.within
-            (writes_behind x.config (establishment_ack x.config.session timestamp x.config.keepalive (announced_number x a.facts) ∷ []) (told_skip a.skipped)
-                (writes_ack x a.facts timestamp fits.sound.sent) (tells_not x.config a.skipped))
+        (done x.config a.facts keepalive fits.sound) fits.sent fits.advances fits.within
+        (writes_behind x.config (establishment_ack x.config.session timestamp x.config.keepalive (announced_number x a.facts) ∷ []) (told_skip a.skipped)
+        (writes_ack x a.facts timestamp fits.sound.sent) (tells_not x.config a.skipped))
+
     first : AllRows P (establish_rows x f id timestamp keepalive next credentials)
     first = (
       λ _. rejecting_establish x f id timestamp 2 s,
@@ -435,8 +440,10 @@ establish_all x f id timestamp keepalive next credentials s = by_place (awaits_c
         ),
       ),
     )
+
     again : AllRows P (established_again_rows x f id timestamp)
     again = (λ _. rejecting_establish x f id timestamp 2 s, λ _. (λ _. rejecting_establish x f id timestamp 3 s, λ _. tt))
+
     by_place : (a b : Bool)
         → AllRows P (if a then establish_rows x f id timestamp keepalive next credentials else if b then established_again_rows x f id timestamp else [])
     by_place true b = first
@@ -456,23 +463,23 @@ no_gap r e some = gap_tests r.next r.live (record { from = r.next; count = r.liv
 
 session_rows : (x : Around) (f : Facts) (m : Message) → Sound x.config f → AllRows (KeepsSound x.config x.most f) (rows_of x f (session m))
 session_rows x f (negotiate id timestamp flow credentials) s = all_within (KeepsSound x.config x.most f) (awaits_client x f) _ (λ _. (
-      λ _. rejecting_negotiate x f id timestamp 1 s,
+  λ _. rejecting_negotiate x f id timestamp 1 s,
+  λ _. (
+    λ _. rejecting_negotiate x f id timestamp 2 s,
+    λ _. (
+      λ _. rejecting_negotiate x f id timestamp 3 s,
       λ _. (
-        λ _. rejecting_negotiate x f id timestamp 2 s,
+        λ _. rejecting_negotiate x f id timestamp 4 s,
         λ _. (
-          λ _. rejecting_negotiate x f id timestamp 3 s,
-          λ _. (
-            λ _. rejecting_negotiate x f id timestamp 4 s,
-            λ _. (
-              λ _. going x f (as_negotiated f) acts.Negotiated (negotiation_response x.config.session timestamp (flow_code x.config.own_flow) [] ∷ [])
-                  (record { waits = s.waits; even = s.even; unread = s.unread; credentials = s.credentials; sent = s.sent; role = s.role }) refl refl tt
-                  (plain x.config (negotiation_response x.config.session timestamp (flow_code x.config.own_flow) []) refl (record { numbers = (tt, (tt, (tt, tt))); datum = omega arith })),
-              λ _. tt,
-            ),
-          ),
+          λ _. going x f (as_negotiated f) acts.Negotiated (negotiation_response x.config.session timestamp (flow_code x.config.own_flow) [] ∷ [])
+              (record { waits = s.waits; even = s.even; unread = s.unread; credentials = s.credentials; sent = s.sent; role = s.role }) refl refl tt
+              (plain x.config (negotiation_response x.config.session timestamp (flow_code x.config.own_flow) []) refl (record { numbers = (tt, (tt, (tt, tt))); datum = omega arith })),
+          λ _. tt,
         ),
       ),
-    ))
+    ),
+  ),
+))
 session_rows x f (negotiation_response id timestamp flow credentials) s =
     own_rows (KeepsSound x.config x.most f) x f 2 id _ (λ e. ending x f 2 e s) (all_within (KeepsSound x.config x.most f) (is_negotiating f.connection.phase) _ (λ n. (
       λ _. ending x f 2 _ s,
@@ -487,40 +494,40 @@ session_rows x f (establish id timestamp keepalive next credentials) s = establi
 session_rows x f (establishment_ack id timestamp keepalive next) s =
     let interval : ℕ = min 60000 (max 100 keepalive) in
     own_rows (KeepsSound x.config x.most f) x f 5 id _ (λ e. ending x f 2 e s) (all_within (KeepsSound x.config x.most f) (is_establishing f.connection.phase) _ (λ _.
-        announced_rows (KeepsSound x.config x.most f) x f 5 next (λ (a : Announced). goes_on x (skip_of a.skipped) (told_skip a.skipped) (established a.facts interval)) (λ code e. ending x f code e s)
-            (λ e. let fits = announced_fits x f 5 next s e in
-                going x f (established (announced x f next).facts interval) (skip_of (announced x f next).skipped) (told_skip (announced x f next).skipped)
-                    (done x.config (announced x f next).facts interval fits.sound) fits.sent fits.advances fits.within (tells_not x.config (announced x f next).skipped))))
+    announced_rows (KeepsSound x.config x.most f) x f 5 next (λ (a : Announced). goes_on x (skip_of a.skipped) (told_skip a.skipped) (established a.facts interval)) (λ code e. ending x f code e s)
+    (λ e. let fits = announced_fits x f 5 next s e in
+    going x f (established (announced x f next).facts interval) (skip_of (announced x f next).skipped) (told_skip (announced x f next).skipped)
+    (done x.config (announced x f next).facts interval fits.sound) fits.sent fits.advances fits.within (tells_not x.config (announced x f next).skipped))))
 session_rows x f (establishment_reject id timestamp code reason) s =
     own_rows (KeepsSound x.config x.most f) x f 6 id _ (λ e. ending x f 2 e s) (all_within (KeepsSound x.config x.most f) (is_establishing f.connection.phase) _ (λ n. (
       λ _.
           let i = awaits_as_initiator x.config f s (or_right (is_negotiating f.connection.phase) (is_establishing f.connection.phase) n) in
           going x f (in_phase f phases.Negotiating) acts.Nothing (opening_negotiate x ∷ [])
-              (record { waits = s.waits; even = s.even; unread = s.unread; credentials = s.credentials; sent = s.sent; role = λ t. absurd (true≢false (sym i ∙ t)) }) refl refl tt (writes_negotiate x i s.credentials),
+          (record { waits = s.waits; even = s.even; unread = s.unread; credentials = s.credentials; sent = s.sent; role = λ t. absurd (true≢false (sym i ∙ t)) }) refl refl tt (writes_negotiate x i s.credentials),
       λ _. (λ _. rejecting x f (endings.Rejected 6 code) s, λ _. tt),
     )))
 session_rows x f (sequence next) s = all_within (KeepsSound x.config x.most f) (is_established f.connection.phase) _ (λ _. (
-      λ _. bad x f (request_is.sequence_fault f.connection.requester) s,
-      λ _. after (requesting f (request_is.after_sequence f.connection.requester)) (same_but_requests x.config f (request_is.after_sequence f.connection.requester) s) refl refl,
-    ))
+  λ _. bad x f (request_is.sequence_fault f.connection.requester) s,
+  λ _. after (requesting f (request_is.after_sequence f.connection.requester)) (same_but_requests x.config f (request_is.after_sequence f.connection.requester) s) refl refl,
+))
   where
     after : (ended : Facts) → Sound x.config ended → ended.recorded.sent ≡ f.recorded.sent → ended.recorded.inbox_next ≡ f.recorded.inbox_next
         → AllRows (KeepsSound x.config x.most f) (announcement_rows x ended 7 (Some next) (sequence_follows x ended next))
     after ended e kept same =
         announced_rows (KeepsSound x.config x.most f) x ended 7 (Some next) (sequence_follows x ended next)
-            (λ code how. record { next = e; sent = kept; advances = same; within = tt; writes = writes_terminate x.config code })
-            (λ none. let fits = announced_fits x ended 7 (Some next) e none in
-                following x f ended next (announced x ended (Some next)) e kept same (λ r. unmoved x ended (Some next) r ∙ same) (record {
-                  sound = fits.sound;
-                  sent = fits.sent ∙ kept;
-                  advances = subst (λ k. Advances (skip_of (announced x ended (Some next)).skipped) k (announced x ended (Some next)).facts.recorded.inbox_next) same fits.advances;
-                  within = fits.within;
-                }))
+        (λ code how. record { next = e; sent = kept; advances = same; within = tt; writes = writes_terminate x.config code })
+        (λ none. let fits = announced_fits x ended 7 (Some next) e none in
+        following x f ended next (announced x ended (Some next)) e kept same (λ r. unmoved x ended (Some next) r ∙ same) (record {
+          sound = fits.sound;
+          sent = fits.sent ∙ kept;
+          advances = subst (λ k. Advances (skip_of (announced x ended (Some next)).skipped) k (announced x ended (Some next)).facts.recorded.inbox_next) same fits.advances;
+          within = fits.within;
+        }))
 session_rows x f unsequenced_heartbeat s = (λ _. going x f f acts.Nothing [] s refl refl tt tt, λ _. tt)
 session_rows x f (retransmit_request id timestamp first count) s = all_within (KeepsSound x.config x.most f) (is_established f.connection.phase) _ (λ _. (
-      λ _. ending x f 4 _ s,
-      λ _. (λ _. answered x f id timestamp (judged (is_own x id) (is_recoverable x.config.own_flow) first count f.recorded.sent) s, λ _. tt),
-    ))
+  λ _. ending x f 4 _ s,
+  λ _. (λ _. answered x f id timestamp (judged (is_own x id) (is_recoverable x.config.own_flow) first count f.recorded.sent) s, λ _. tt),
+))
 session_rows x f (retransmission id next timestamp count) s =
     own_rows (KeepsSound x.config x.most f) x f 10 id _ (λ e. ending x f 2 e s) (all_within (KeepsSound x.config x.most f) (is_established f.connection.phase) _ (λ _. (
       λ _. bad x f (request_is.start_fault (request_is.outstanding f.connection.requester) next count) s,
@@ -539,10 +546,11 @@ session_rows x f (finished_sending id last) s =
     refused : (v : Option Violation) → is_some v ≡ true → KeepsSound x.config x.most f (refuses x f v)
     refused None some = absurd (true≢false (sym some))
     refused (Some v) some = ending x f 2 _ s
+
     finishing : (n : ℕ) → KeepsSound x.config x.most f (finished x f n)
     finishing n = by_row (KeepsSound x.config x.most f) (is_some (receiver_is.gap f.connection.receiver)) (accepts x [] (peer_finished f (peer.Read n) f.recorded.peer_last)) (answers_finish x f n)
         (λ g. going x f (peer_finished f (peer.Read n) f.recorded.peer_last) acts.Nothing []
-            (record { waits = s.waits; even = s.even; unread = λ t. absurd (no_gap f.connection.receiver (s.even t) g); credentials = s.credentials; sent = s.sent; role = s.role }) refl refl tt tt)
+        (record { waits = s.waits; even = s.even; unread = λ t. absurd (no_gap f.connection.receiver (s.even t) g); credentials = s.credentials; sent = s.sent; role = s.role }) refl refl tt tt)
         (λ _. answering x f f n s refl refl)
 session_rows x f (finished_receiving id) s =
     own_rows (KeepsSound x.config x.most f) x f 15 id _ (λ e. ending x f 2 e s) (all_within (KeepsSound x.config x.most f) (is_established f.connection.phase) _ (λ _. (
@@ -564,5 +572,5 @@ each_row x f (unknown template) s = (λ _. ending x f 2 _ s, λ _. tt)
 pub sound_goes_on : SoundGoesOn
 sound_goes_on x f i s =
     by_row (KeepsSound x.config x.most f) (is_closing f.connection.phase && not (terminates x i)) (ignores f) (answer_of x f i)
-        (λ _. ignoring x f s)
-        (λ _. all_rows (KeepsSound x.config x.most f) (not_in_phase x f (template_of i)) (rows_of x f i) (ending x f 2 _ s) (each_row x f i s))
+    (λ _. ignoring x f s)
+    (λ _. all_rows (KeepsSound x.config x.most f) (not_in_phase x f (template_of i)) (rows_of x f i) (ending x f 2 _ s) (each_row x f i s))

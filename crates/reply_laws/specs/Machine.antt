@@ -86,7 +86,7 @@ made s m now = record (wrote s (bytes_of m.written) now) { facts = m.next }
 abbrev pub connected : State → ℕ → State
 connected s now =
     made (record s { begun = true; moment = now; ending = None; unsent = []; pending = None; start = now; last_sent = now; last_received = now; untold = [] })
-        (begun (around s 0 now) s.facts.recorded) now
+    (begun (around s 0 now) s.facts.recorded) now
 
 -- the numbers that are to be told at the turn's end once an act is done
 abbrev pub to_tell : EndConfig → Act → List ℕ
@@ -126,7 +126,7 @@ abbrev pub ticked : State → ℕ → State
 ticked s now =
     if is_some s.ending then record s { moment = now }
     else broken_by (wrote (record s { moment = now }) (bytes_of (heartbeats (around s 0 now) s.facts s.last_sent s.unsent)) now)
-        (lateness (around s 0 now) s.facts s.start s.last_received) now
+    (lateness (around s 0 now) s.facts s.start s.last_received) now
 
 -- a turn ended
 abbrev pub after_turn : State → ℕ → State
@@ -172,7 +172,7 @@ range_end f (Some _) = []
 abbrev pub sent_again : State → Range → List (List ℕ) → ℕ → State
 sent_again s r payloads now =
     record (wrote (record s { moment = now }) (payload_frames payloads ++ range_end s.facts (rest_of r (length payloads))) now)
-        { facts = serves s.facts (rest_of r (length payloads)) }
+    { facts = serves s.facts (rest_of r (length payloads)) }
 
 -- the phase, which is Ended exactly where the connection has ended
 abbrev pub phase_of : State → Phase
