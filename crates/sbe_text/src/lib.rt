@@ -12,7 +12,7 @@ mod print;
 mod token;
 mod values;
 
-pub use error::TextError;
+pub use error::{Refusal, TextError};
 pub use laws::printed_reads_back;
-pub use parse::parse_message;
+pub use parse::{first_message, parse_message, refused_line};
 pub use print::print_message;

@@ -1,0 +1,9 @@
+//! `decode`: recorded frames as lines of text, by the plan of a schema. Relies on the framing of a stream, on the decoder
+//! of messages and on their text.
+#![tactic(auto)]
+
+mod decode;
+mod decoder;
+mod frame;
+
+pub use decode::print_frames;

@@ -1,0 +1,31 @@
+-- Messages read in a row.
+use Rattle.std.proofs.Common.{◌≡◌, ◌≢◌, ℕ, List, [], ◌∷◌, ◌++◌, Ok, Err, refl, sym, ◌∙◌, ap, subst}
+use Rattle.sbe_value.specs.declared.message.Message.{Message}
+use Rattle.sbe_layout.specs.declared.plan.MessagePlan.{MessagePlan}
+use Rattle.sbe_text.specs.Reading.{read_message}
+use Rattle.encode_command.specs.Encoded.{BeginsWith, AreRead}
+
+-- one more at the end
+pub read-more : (plans : List MessagePlan) (ls : List (List ℕ)) (ms : List Message) (behind : List (List ℕ)) (m : Message) (rest : List (List ℕ))
+    → AreRead plans ls ms behind → read_message plans behind ≡ Ok (m, rest) → AreRead plans ls (ms ++ m ∷ []) rest
+read-more plans ls [] behind m rest same is = record { rest = rest; is = ap (read_message plans) same ∙ is; behind = refl }
+read-more plans ls (n ∷ ms) behind m rest read is = record { rest = read.rest; is = read.is; behind = read-more plans read.rest ms behind m rest read.behind is }
+
+-- what is read of the lines behind some messages
+pub record Others (plans : List MessagePlan) (ms all : List Message) (behind end : List (List ℕ)) : Type 0 where
+  pub more : List Message
+  pub joins : all ≡ ms ++ more
+  pub read : AreRead plans behind more end
+
+none-read : (plans : List MessagePlan) (ls : List (List ℕ)) (m : Message) (rest : List (List ℕ)) → ls ≡ [] → read_message plans ls ≡ Ok (m, rest) → ⊥
+none-read plans ls m rest none is = let e : read_message plans [] ≡ Ok (m, rest) = ap (read_message plans) (sym none) ∙ is in cc
+
+pub others : (plans : List MessagePlan) (ls : List (List ℕ)) (ms all : List Message) (behind : List (List ℕ)) → AreRead plans ls ms behind → AreRead plans ls all [] → Others plans ms all behind []
+others plans ls [] all behind same read = record { more = all; joins = refl; read = subst (λ l. AreRead plans l all []) same read }
+others plans ls (m ∷ ms) [] behind first none = absurd (none-read plans ls m first.rest none first.is)
+others plans ls (m ∷ ms) (n ∷ all) behind first second =
+    let both : Ok (m, first.rest) ≡ Ok (n, second.rest) = sym first.is ∙ second.is in
+    let same : first.rest ≡ second.rest = cc in
+    let same_message : m ≡ n = cc in
+    let o = others plans first.rest ms all behind first.behind (subst (λ l. AreRead plans l all []) (sym same) second.behind) in
+    record { more = o.more; joins = ap (λ l. n ∷ l) o.joins ∙ ap (λ x. x ∷ (ms ++ o.more)) (sym same_message); read = o.read }

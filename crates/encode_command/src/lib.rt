@@ -1,0 +1,10 @@
+//! `encode`: lines of text as frames of messages, by the plan of a schema. Relies on the text of messages and on their
+//! encoder.
+#![tactic(auto)]
+
+mod encode;
+mod frame;
+mod text;
+mod writing;
+
+pub use encode::write_frames;
