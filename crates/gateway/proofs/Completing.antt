@@ -2,13 +2,14 @@
 use Rattle.std.proofs.Common.{◌≡◌, ℕ, List, Result, Ok, Err, inl, inr, refl, subst}
 use Rattle.std.specs.Io.KnownBytes.{Appends}
 use Rattle.schema_toml.specs.declared.fault.ConfigFault.{ConfigFault}
-use Rattle.gateway.specs.declared.status.Status.{Status}
-use Rattle.gateway.specs.declared.status.Status.TheVariants.{Done, Words, Config, InputFault, OutputFault, JournalFault, JournalBad, Message, Memory}
+use Rattle.command_base.specs.declared.status.Status.{Status}
+use Rattle.command_base.specs.declared.status.Status.TheVariants.{Done, Words, Config, InputFault, OutputFault, JournalFault, JournalBad, Message, Memory}
 use Rattle.fixp_end.specs.declared.config.EndConfig.{EndConfig}
-use Rattle.gateway.specs.Answer.{Answer, IsAnswer, acceptor_of}
-use Rattle.gateway.specs.Promise.{Content, GaveWhole}
+use Rattle.answer_command.specs.Answer.{Answer, IsAnswer, acceptor_of}
+use Rattle.command_base.specs.Contents.{Content}
+use Rattle.answer_command.specs.Promise.{GaveWhole}
 use Rattle.gateway.specs.Completeness.{CheckCompletes, AnswerCompletes, Answered}
-use Rattle.gateway.proofs.Fronts.{one_answer}
+use Rattle.answer_command.proofs.Fronts.{one_answer}
 
 no_fault : {A : Type 0} (told : Result A ConfigFault) (a : A) (fault : ConfigFault) → told ≡ Ok a → told ≡ Err fault → ⊥
 no_fault told a fault good bad = cc

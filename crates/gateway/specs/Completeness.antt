@@ -9,14 +9,15 @@ use Rattle.session_config.specs.declared.settings.Settings.{Settings}
 use Rattle.session_config.specs.Settings.{settings_of_text}
 use Rattle.schema_load.specs.Load.{plan_of_text}
 use Rattle.gateway.specs.declared.words.Command.TheVariants as commands
-use Rattle.gateway.specs.declared.status.Status.{Status}
-use Rattle.gateway.specs.declared.status.Status.TheVariants.{Done, Memory}
-use Rattle.gateway.specs.Answer.{Answer, IsAnswer, acceptor_of}
-use Rattle.gateway.specs.Causes.{Counts, IsCaused}
-use Rattle.gateway.specs.Formats.{Disks, IsMade, Formats}
-use Rattle.gateway.specs.Layouts.{GaveLayout}
-use Rattle.gateway.specs.Promise.{Content}
-use Rattle.gateway.specs.Run.{JudgesBy, GaveBy}
+use Rattle.command_base.specs.declared.status.Status.{Status}
+use Rattle.command_base.specs.declared.status.Status.TheVariants.{Done, Memory}
+use Rattle.answer_command.specs.Answer.{Answer, IsAnswer, acceptor_of}
+use Rattle.command_base.specs.Causes.{Counts, IsCaused}
+use Rattle.command_base.specs.Contents.{Content, Disks}
+use Rattle.format_command.specs.Formats.{IsMade, Formats}
+use Rattle.check_command.specs.Layouts.{GaveLayout}
+use Rattle.answer_command.specs.Promise.{GaveBy}
+use Rattle.gateway.specs.Run.{JudgesBy}
 
 -- no count of faults rose
 pub record NoneRose (before after : Counts) : Type 0 where

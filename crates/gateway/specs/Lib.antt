@@ -1,13 +1,3 @@
-pub mod Codes
 pub mod Words
-pub mod Texts
-pub mod Lines
-pub mod Answer
-pub mod Progress
-pub mod Causes
-pub mod Order
-pub mod Promise
-pub mod Layouts
-pub mod Formats
 pub mod Run
 pub mod Completeness

@@ -7,77 +7,24 @@ ghost use Rattle.schema_load.specs.Load.{plan_of_text};
 ghost use Rattle.gateway.specs.declared.words.Command.{Command};
 ghost use Rattle.gateway.specs.declared.words.Command.TheVariants as commands;
 ghost use Rattle.gateway.specs.Words.{bytes_of, command_of};
-ghost use Rattle.gateway.specs.Texts.{ReadsWithin};
+ghost use Rattle.command_base.specs.Texts.{ReadsWithin};
 ghost use Rattle.schema_toml.specs.declared.fault.ConfigFault.{ConfigFault};
-ghost use Rattle.gateway.specs.Causes.{NoneFell, IsCaused, faults_of};
-ghost use Rattle.gateway.specs.Order.{IsRefused, KeepsBehindConfig, KeepsDisks, KeepsStreams, StopsAtConfig, FailsInOrder};
-ghost use Rattle.gateway.specs.Promise.{content_of};
-ghost use Rattle.gateway.specs.Layouts.{GaveLayout};
-ghost use Rattle.gateway.specs.Formats.{Formats, KeepsBehindHeader, disks_of};
-ghost use Rattle.gateway.specs.Run.{Judges, JudgesBy, GaveBy};
+ghost use Rattle.command_base.specs.Causes.{NoneFell, IsCaused, faults_of};
+ghost use Rattle.command_base.specs.Contents.{content_of, disks_of};
+ghost use Rattle.command_base.specs.Order.{KeepsBehindConfig, KeepsDisks, KeepsStreams, StopsAtConfig, FailsInOrder};
+ghost use Rattle.answer_command.specs.Promise.{GaveBy};
+ghost use Rattle.check_command.specs.Layouts.{GaveLayout};
+ghost use Rattle.format_command.specs.Formats.{Formats, KeepsBehindHeader};
+ghost use Rattle.gateway.specs.Run.{IsRefused, JudgesBy};
 
-use crate::answer::converse;
-use crate::check::print_layout;
-use crate::configured::read_config;
-use crate::format::format_journals;
-use crate::outside::Outside;
-use crate::status::Status;
 use crate::words::{Command, command_of};
+use answer_command::answer;
+use check_command::check;
+use command_base::{Outside, Status};
+use format_command::format_journals;
 use gw_outside::{Disk, Sink, Source};
-use sbe_schema::Checked;
-use session_config::Settings;
 use std::alloc::Global;
 use std::sync::Wait;
-
-/// `answer`: the acceptor's session over recorded bytes.
-fn answer<R: Wait, S: Source, K: Sink, D: Disk>(
-    rt: &R,
-    alloc: Global,
-    outside: &mut Outside<S, K, D>,
-) -> Status
-    ensures config_verdict { (text : List ℕ) → S.left outside.old.config ≡ Some text → JudgesBy commands.Answer text result }
-    ensures answer_output { (text input : List ℕ) → S.left outside.old.config ≡ Some text → S.left outside.old.input ≡ Some input →
-        GaveBy (settings_of_text text) input (content_of S.left K.taken outside.old) (content_of S.left K.taken outside.new) result }
-    ensures untouched_by_answer { KeepsDisks outside.old outside.new }
-    ensures refused { (fault : ConfigFault) → result ≡ Status.Config fault → KeepsBehindConfig outside.old outside.new }
-    ensures config_first { (text : List ℕ) → S.left outside.old.config ≡ Some text → IsRefused commands.Answer text → StopsAtConfig S.faults outside.old outside.new result }
-    ensures unread { result ≡ Status.InputFault → FailsInOrder S.faults outside.old outside.new }
-    ensures within { ReadsWithin (S.left outside.old.config) (S.left outside.new.config) (text_limit + 1) }
-    ensures none_fell { NoneFell (faults_of S.faults K.faults D.faults outside.old) (faults_of S.faults K.faults D.faults outside.new) }
-    ensures cause { IsCaused (faults_of S.faults K.faults D.faults outside.old) (faults_of S.faults K.faults D.faults outside.new) result }
-    ensures listed { result ≡ Status.Words → ⊥ }
-{
-    match read_config::<S, Settings>(alloc, &mut outside.config) {
-        Ok(settings) => converse(
-            rt,
-            alloc,
-            settings,
-            &mut outside.input,
-            &mut outside.wire,
-            &mut outside.out,
-        ),
-        Err(status) => status,
-    }
-}
-
-/// `check`: the layout of a schema.
-fn check<S: Source, K: Sink, D: Disk>(alloc: Global, outside: &mut Outside<S, K, D>) -> Status
-    ensures config_verdict { (text : List ℕ) → S.left outside.old.config ≡ Some text → JudgesBy commands.Check text result }
-    ensures check_output { (text : List ℕ) → S.left outside.old.config ≡ Some text → GaveLayout (plan_of_text text) (K.taken outside.old.out) (K.taken outside.new.out) result }
-    ensures untouched_by_check { (outside.new.input ≡ outside.old.input) × (outside.new.wire ≡ outside.old.wire) × KeepsDisks outside.old outside.new }
-    ensures refused { (fault : ConfigFault) → result ≡ Status.Config fault → KeepsBehindConfig outside.old outside.new }
-    ensures config_first { (text : List ℕ) → S.left outside.old.config ≡ Some text → IsRefused commands.Check text → StopsAtConfig S.faults outside.old outside.new result }
-    ensures unread { result ≡ Status.InputFault → FailsInOrder S.faults outside.old outside.new }
-    ensures within { ReadsWithin (S.left outside.old.config) (S.left outside.new.config) (text_limit + 1) }
-    ensures none_fell { NoneFell (faults_of S.faults K.faults D.faults outside.old) (faults_of S.faults K.faults D.faults outside.new) }
-    ensures cause { IsCaused (faults_of S.faults K.faults D.faults outside.old) (faults_of S.faults K.faults D.faults outside.new) result }
-    ensures listed { result ≡ Status.Words → ⊥ }
-{
-    match read_config::<S, Checked>(alloc, &mut outside.config) {
-        Ok(schema) => print_layout(alloc, &schema, &mut outside.out),
-        Err(status) => status,
-    }
-}
 
 /// Runs the command that the words name, over these devices, and gives them back with its status.
 ///

@@ -1,14 +1,8 @@
-//! Laws of the commands, facts about their definitions alone.
+//! Laws on what the clauses of `run` leave, facts about their definitions alone.
 
-ghost use Rattle.gateway.specs.Answer.{OneAnswer};
 ghost use Rattle.gateway.specs.Completeness.{AnswerCompletes, CheckCompletes, FormatCompletes};
 
 use gw_outside::Disk;
-
-/// The answer to an input is one: whatever bytes the input holds, no two answers meet the definition.
-pub fn one_answer()
-    ensures { OneAnswer }
-{}
 
 /// What the clauses of `run` say of `answer` leaves one end for a told configuration and input where no device
 /// failed: the whole answer was given, with its status, or memory ran out.

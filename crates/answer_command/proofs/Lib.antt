@@ -1,0 +1,5 @@
+mod Devices
+mod Hexadecimal
+mod Steps
+pub mod Fronts
+mod Rounds

@@ -1,0 +1,5 @@
+pub mod Codes
+pub mod Texts
+pub mod Contents
+pub mod Causes
+pub mod Order

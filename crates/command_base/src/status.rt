@@ -1,0 +1,111 @@
+//! How a command ended: the status that it prints and exits with.
+
+ghost use Rattle.std.specs.Prelude.{◌≡◌};
+
+use fixp_end::Violation;
+use jr_boxes::{JournalCause, Which};
+use sbe_encode::EncodeFault;
+use sbe_grammar::DecodeFault;
+use schema_toml::ConfigFault;
+use thiserror::Error;
+
+/// What is wrong with an input, and where: places are counted from 0 in bytes of the input, and frames, messages and lines
+/// from 1.
+#[derive(Debug, Drop, Error)]
+pub enum Bad {
+    /// The bytes at this place begin no frame.
+    #[error("no frame begins at byte {at}")]
+    Frame { at: u64 },
+    /// The input ends inside the frame at this place.
+    #[error("the input ends inside the frame at byte {at}")]
+    Cut { at: u64 },
+    /// The client broke a rule of the session by the frame at this place.
+    #[error("frame at byte {at}: {violation}")]
+    Session { at: u64, violation: Violation },
+    /// The frame at this place calls for a reply that is not built yet.
+    #[error("no reply is built yet for the frame at byte {at}")]
+    NotBuilt { at: u64 },
+    /// The frame of this number holds no message of the schema; this is its first fault.
+    #[error("frame {frame} holds no message of the schema")]
+    Decode { frame: u64, fault: DecodeFault },
+    /// The message of this number may not be written; this is its first fault.
+    #[error("message {message} may not be written")]
+    Encode { message: u64, fault: EncodeFault },
+    /// The line of this number is not one that may stand here.
+    #[error("line {line} may not stand here")]
+    Line { line: u64 },
+    /// The text is longer than the greatest that is read.
+    #[error("the text is too long")]
+    TooLong,
+}
+
+/// How a command ended.
+#[derive(Debug, Drop, Error)]
+pub enum Status {
+    /// The command did all of its work.
+    #[error("done")]
+    Done,
+    /// The words are none of the listed forms.
+    #[error("words: these are not the words of a command; --help lists them")]
+    Words,
+    /// CONFIG is none of the command's: the fault, and its place.
+    #[error("config: CONFIG is none of this command's")]
+    Config(ConfigFault),
+    /// CONFIG or INPUT could not be read.
+    #[error("input: CONFIG or INPUT could not be read")]
+    InputFault,
+    /// WIRE or OUT could not be written.
+    #[error("output: WIRE or OUT could not be written")]
+    OutputFault,
+    /// A call of a journal's disk failed.
+    #[error("journal: the disk of OUTBOX or INBOX failed")]
+    JournalFault,
+    /// A journal is none that the command can use.
+    #[error("journal: {cause}")]
+    JournalBad { which: Which, cause: JournalCause },
+    /// The input is wrong at some place.
+    #[error("input: {0}")]
+    Message(Bad),
+    /// Want of memory.
+    #[error("out of memory")]
+    Memory,
+}
+
+impl Status {
+    ghost use Rattle.std.specs.Prelude.{◌≡◌};
+    ghost use Rattle.command_base.specs.Codes.{code_of, name_of};
+
+    /// The number that the program exits with.
+    pub fn code(&self) -> u8
+        ensures { result ≡ code_of self.now }
+    {
+        match self {
+            Status::Done => 0,
+            Status::Words => 1,
+            Status::Config(_) => 2,
+            Status::InputFault => 3,
+            Status::OutputFault => 4,
+            Status::JournalFault => 5,
+            Status::JournalBad { .. } => 6,
+            Status::Message(_) => 12,
+            Status::Memory => 14,
+        }
+    }
+
+    /// The word that the status line gives.
+    pub fn name(&self) -> &'static str
+        ensures { result.now ≡ name_of self.now }
+    {
+        match self {
+            Status::Done => "done",
+            Status::Words => "words",
+            Status::Config(_) => "config",
+            Status::InputFault => "input-fault",
+            Status::OutputFault => "output-fault",
+            Status::JournalFault => "journal-fault",
+            Status::JournalBad { .. } => "journal-bad",
+            Status::Message(_) => "message",
+            Status::Memory => "memory",
+        }
+    }
+}
