@@ -1,8 +1,9 @@
 -- What `decode` promises of OUT, where the devices tell their content.
 use Rattle.std.specs.Prelude.{◌≡◌, ⊤, ℕ, Bool, true, false, Option, Some, Result, Ok, Err, List, [], ◌++◌}
-use Rattle.std.specs.Io.KnownBytes.{Appends, Consumes}
+use Rattle.std.specs.Io.KnownBytes.{Appends, Consumes, Keeps}
 use Rattle.gw_outside.specs.Faults.{TakesFront}
 use Rattle.sofh_frame.specs.Framing.{rest, first_of}
+use Rattle.schema_toml.specs.declared.fault.ConfigFault.{ConfigFault}
 use Rattle.sbe_layout.specs.declared.plan.Plan.{Plan}
 use Rattle.command_base.specs.declared.status.Status.{Status}
 use Rattle.command_base.specs.declared.status.Status.TheVariants.{Done, Message, InputFault, OutputFault, Memory}
@@ -68,3 +69,8 @@ as_round (Message wrong) = Err (Message wrong)
 as_round InputFault = Err InputFault
 as_round OutputFault = Err OutputFault
 as_round other = Err other
+
+-- what OUT gains in a run whose configuration says this
+abbrev pub GaveText : Result Plan ConfigFault → List ℕ → Option (List ℕ) → Option (List ℕ) → Status → Type 0
+GaveText (Err fault) input before after status = Keeps before after
+GaveText (Ok plan) input before after status = Gave (decoded plan input) before after status

@@ -2,8 +2,9 @@
 //! of messages and on their text.
 #![tactic(auto)]
 
+mod command;
 mod decode;
 mod decoder;
 mod frame;
 
-pub use decode::print_frames;
+pub use command::decode;

@@ -1,5 +1,5 @@
 -- Messages read in a row.
-use Rattle.std.proofs.Common.{◌≡◌, ◌≢◌, ℕ, List, [], ◌∷◌, ◌++◌, Ok, Err, refl, sym, ◌∙◌, ap, subst}
+use Rattle.std.proofs.Common.{◌≡◌, ◌≢◌, ℕ, List, [], ◌∷◌, ◌++◌, Ok, Err, refl, sym, ◌∙◌, ap, subst, append-nil}
 use Rattle.sbe_value.specs.declared.message.Message.{Message}
 use Rattle.sbe_layout.specs.declared.plan.MessagePlan.{MessagePlan}
 use Rattle.sbe_text.specs.Reading.{read_message}
@@ -29,3 +29,23 @@ others plans ls (m ∷ ms) (n ∷ all) behind first second =
     let same_message : m ≡ n = cc in
     let o = others plans first.rest ms all behind first.behind (subst (λ l. AreRead plans l all []) (sym same) second.behind) in
     record { more = o.more; joins = ap (λ l. n ∷ l) o.joins ∙ ap (λ x. x ∷ (ms ++ o.more)) (sym same_message); read = o.read }
+
+-- a text spells at most one list of messages
+pub one-row : (plans : List MessagePlan) (ls : List (List ℕ)) (ms all : List Message) → AreRead plans ls ms [] → AreRead plans ls all [] → ms ≡ all
+one-row plans ls ms all first second =
+    let o = others plans ls ms all [] first second in
+    sym (o.joins ∙ ap (λ l. ms ++ l) (none-more plans o.more o.read) ∙ append-nil ms)
+  where
+    none-more : (plans : List MessagePlan) (more : List Message) → AreRead plans [] more [] → more ≡ []
+    none-more plans [] read = refl
+    none-more plans (m ∷ more) read = absurd (none-read plans [] m read.rest refl read.is)
+
+-- and then no line of it is refused
+pub not-refused : (plans : List MessagePlan) (ls : List (List ℕ)) (ms all : List Message) (behind : List (List ℕ)) (left : ℕ) → AreRead plans ls ms behind → behind ≢ [] → read_message plans behind ≡ Err left → AreRead plans ls all [] → ⊥
+not-refused plans ls ms all behind left first some refused second =
+    let o = others plans ls ms all behind first second in
+    none-left plans o.more behind left some refused o.read
+  where
+    none-left : (plans : List MessagePlan) (more : List Message) (behind : List (List ℕ)) (left : ℕ) → behind ≢ [] → read_message plans behind ≡ Err left → AreRead plans behind more [] → ⊥
+    none-left plans [] behind left some refused read = some read
+    none-left plans (m ∷ more) behind left some refused read = let e : Ok (m, read.rest) ≡ Err left = sym read.is ∙ refused in cc

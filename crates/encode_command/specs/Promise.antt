@@ -1,8 +1,9 @@
 -- What `encode` promises of WIRE, where the devices tell their content.
-use Rattle.std.specs.Prelude.{◌≡◌, ⊤, ◌⊎◌, ℕ, ◌<◌, ◌≤◌, Option, Some, List, [], length}
-use Rattle.std.specs.Io.KnownBytes.{Appends}
+use Rattle.std.specs.Prelude.{◌≡◌, ⊤, ◌⊎◌, ℕ, ◌<◌, ◌≤◌, Option, Some, Result, Ok, Err, List, [], length}
+use Rattle.std.specs.Io.KnownBytes.{Appends, Keeps}
 use Rattle.gw_outside.specs.Faults.{TakesFront}
 use Rattle.sbe_value.specs.declared.message.Message.{Message}
+use Rattle.schema_toml.specs.declared.fault.ConfigFault.{ConfigFault}
 use Rattle.sbe_layout.specs.declared.plan.Plan.{Plan}
 use Rattle.command_base.specs.declared.status.Bad.TheVariants as bad
 use Rattle.command_base.specs.declared.status.Status.{Status}
@@ -64,3 +65,8 @@ Writes plan text before after (Wrong (bad.Encode number fault)) = GaveFrames pla
 Writes plan text before after OutputFault = GaveFront plan text before after
 Writes plan text before after Memory = GaveFront plan text before after
 Writes plan text before after _ = ⊥
+
+-- what WIRE gains in a run whose configuration says this
+abbrev pub GaveWire : Result Plan ConfigFault → List ℕ → Option (List ℕ) → Option (List ℕ) → Status → Type 0
+GaveWire (Err fault) text before after status = Keeps before after
+GaveWire (Ok plan) text before after status = Gave plan text before after status

@@ -2,9 +2,10 @@
 //! encoder.
 #![tactic(auto)]
 
+mod command;
 mod encode;
 mod frame;
 mod text;
 mod writing;
 
-pub use encode::write_frames;
+pub use command::encode;
