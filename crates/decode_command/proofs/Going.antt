@@ -1,6 +1,7 @@
 -- What a frame, less than a frame, and bytes that no frame begins with leave.
 use Rattle.std.proofs.Common.{◌≡◌, ℕ, ◌+◌, ◌<◌, ◌≤◌, List, [], ◌∷◌, ◌++◌, length, drop, Result, Ok, Err, refl, sym, ◌∙◌, ap, subst, arith, append_assoc, append-nil}
-use Rattle.std.proofs.lemmas.List.{drop-append-le}
+use Rattle.std.proofs.lemmas.List.{drop-append-le, length-drop}
+use Rattle.sbe_prim.specs.declared.Order.{Order}
 use Rattle.sofh_frame.specs.Framing.{Frame, spelled, First, frame, rest, bad_length, bad_encoding, first_of}
 use Rattle.sofh_frame.specs.Splits.{IsNoFrame, frames_of, tail_of}
 use Rattle.sofh_frame.proofs.FramingLemmas.{parts-frame, frame-append, bad_length-append, bad_encoding-append}
@@ -8,10 +9,10 @@ use Rattle.sbe_layout.specs.declared.plan.Plan.{Plan}
 use Rattle.command_base.specs.declared.status.Bad.{Bad}
 use Rattle.command_base.specs.declared.status.Bad.TheVariants as bad
 use Rattle.command_base.specs.declared.status.Status.{Status}
-use Rattle.command_base.specs.declared.status.Status.TheVariants.{Message}
+use Rattle.command_base.specs.declared.status.Status.TheVariants.{Done, Words, Config, InputFault, OutputFault, JournalFault, JournalBad, Message, Memory}
 use Rattle.decode_command.specs.declared.decoder.Decoder.{Decoder}
 use Rattle.decode_command.specs.Decoded.{Decoded, ends, behind, lines_of_frame, followed, next_number, next_place, status_at, frames_decoded, decoded_from}
-use Rattle.decode_command.specs.Progress.{goes_on, Keeps, Stops, Added, Wrong}
+use Rattle.decode_command.specs.Progress.{goes_on, Keeps, Stops, Added, Wrong, Prints, Took, Takes}
 use Rattle.decode_command.proofs.Splitting.{frames-frame, tail-frame, size-spelled, no-frames, all-tail}
 
 -- lines in front of lines
@@ -84,3 +85,35 @@ broken plan d (bad_encoding n) e is = λ left.
     let P : First → Type 0 = IsNoFrame in
     ap (behind d.lines.items) (from-none plan d.number d.place (d.framer.held ++ left) (subst P (sym more) tt) ∙ ap (λ first. ends (status_at d.place (d.framer.held ++ left) first)) more)
     ∙ behind-ends d.lines.items (Message (bad.Frame d.place))
+
+-- ---- as the code has it
+
+pub there : (held : List ℕ) (order : Order) (message : List ℕ) (size : ℕ) → first_of held ≡ frame order message size → size ≤ length held
+there held order message size e = (parts-frame held order message size e).there
+
+pub less : (held : List ℕ) (order : Order) (message : List ℕ) (size : ℕ) → first_of held ≡ frame order message size → length (drop size held) < length held
+less held order message size e =
+    let parts = parts-frame held order message size e in
+    omega (arith, length-drop size held, parts.least, parts.there)
+
+pub takes-ok : (plan : Plan) (old new : Decoder) (order : Order) (message : List ℕ) (size : ℕ) (mid : List ℕ) → first_of old.framer.held ≡ frame order message size
+    → Added (lines_of_frame plan old.number old.place (record { order = order; message = message })) old.lines.items mid → new.lines.items ≡ mid
+    → new.framer.held ≡ drop size old.framer.held → new.number ≡ next_number old.number → new.place ≡ next_place old.place size
+    → Took plan old new
+takes-ok plan old new order message size mid e added same held number place = record {
+  same = took plan old new (record { order = order; message = message }) size e (record { lines = added.lines; is = added.is; added = same ∙ added.added }) held number place;
+  less = rw held (less old.framer.held order message size e);
+}
+
+pub takes-err : (A : Type 0) (plan : Plan) (old new : Decoder) (order : Order) (message : List ℕ) (size : ℕ) (s : Status) → first_of old.framer.held ≡ frame order message size
+    → Prints {A = A} (lines_of_frame plan old.number old.place (record { order = order; message = message })) old.lines.items new.lines.items (Err s)
+    → Takes plan old new (Err s)
+takes-err A plan old new order message size (Message wrong) e is = stopped plan old new (record { order = order; message = message }) size wrong e is
+takes-err A plan old new order message size Memory e is = tt
+takes-err A plan old new order message size Done e is = absurd is
+takes-err A plan old new order message size Words e is = absurd is
+takes-err A plan old new order message size (Config fault) e is = absurd is
+takes-err A plan old new order message size InputFault e is = absurd is
+takes-err A plan old new order message size OutputFault e is = absurd is
+takes-err A plan old new order message size JournalFault e is = absurd is
+takes-err A plan old new order message size (JournalBad which cause) e is = absurd is

@@ -130,12 +130,12 @@ at-rest : (place : ℕ) (held : List ℕ) (plan : Plan) (before after : Streams)
 at-rest place [] plan before after d gave = gave
 at-rest place (byte ∷ bytes) plan before after d gave = gave
 
-pub finished : (plan : Plan) (before now after : Streams) (d : Decoder) → Stands plan before now d → IsIdle d → Consumes now.input after.input [] → IsAtEnd after.input → after.out ≡ now.out
-    → AfterRound plan before after d (as_round (status_at d.place d.framer.held (first_of d.framer.held)))
-finished plan before now after d s idle consumed end same =
+pub finished : (plan : Plan) (before now after : Streams) (d b : Decoder) → Stands plan before now d → IsIdle d → Consumes now.input after.input [] → IsAtEnd after.input → after.out ≡ now.out
+    → AfterRound plan before after b (as_round (status_at d.place d.framer.held (first_of d.framer.held)))
+finished plan before now after d b s idle consumed end same =
     let first = idle.waits in
-    subst (λ (f : First). AfterRound plan before after d (as_round (status_at d.place d.framer.held f))) (sym first)
-    (at-rest d.place d.framer.held plan before after d (λ input e.
+    subst (λ (f : First). AfterRound plan before after b (as_round (status_at d.place d.framer.held f))) (sym first)
+    (at-rest d.place d.framer.held plan before after b (λ input e.
     let t = told before.input after.input (s.read ++ []) input (Consumes-trans _ _ _ _ _ s.consumed consumed) e in
     let whole : input ≡ s.read ++ [] = t.1 ∙ ap (λ l. s.read ++ [] ++ l) (at_end after.input t.0 end t.2) ∙ append-nil (s.read ++ []) in
     let held_is : decoded_from plan d.number d.place (d.framer.held ++ []) ≡ ends (status_at d.place d.framer.held rest) =
@@ -164,3 +164,13 @@ stands-new plan before now d new same appended consumed = record {
   gained = appended;
   same = λ left. rw (new.held, new.lines, new.number, new.place) refl;
 }
+
+-- a piece was read into the room
+pub piece : (plan : Plan) (before : Streams) (input after out : Option (List ℕ)) (old d : Decoder) (count : ℕ) (into : List ℕ)
+    → Stands plan before (record { input = input; out = out }) old
+    → d.framer.held ≡ old.framer.held ++ take count (written_over old.framer.room into) → length into ≡ length old.framer.room
+    → d.lines ≡ old.lines → d.number ≡ old.number → d.place ≡ old.place → Consumes input after (take count into)
+    → Stands plan before (record { input = after; out = out }) d
+piece plan before input after out old d count into s held same lines number place consumed =
+    filled plan before (record { input = input; out = out }) old d (take count into) after s
+    (held ∙ ap (λ l. old.framer.held ++ take count l) (written_over-same old.framer.room into same)) lines number place consumed

@@ -9,7 +9,7 @@ ghost use Rattle.command_base.specs.Causes.{NoneFell, IsCaused, faults_of};
 ghost use Rattle.command_base.specs.Order.{IsOfStreams, KeepsBehindConfig, KeepsDisks, StopsAtConfig, FailsInOrder};
 ghost use Rattle.decode_command.specs.Promise.{GaveText};
 
-use crate::decode::print_frames;
+use crate::stream::print_frames;
 use command_base::{Outside, Status, read_config};
 use gw_outside::{Disk, Sink, Source};
 use sbe_layout::Plan;

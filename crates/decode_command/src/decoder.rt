@@ -1,7 +1,8 @@
 //! The frames of a stream, decoded one after another as far as they are there.
 
-ghost use Rattle.std.specs.Prelude.{◌≡◌, length};
+ghost use Rattle.std.specs.Prelude.{◌≡◌, ◌≤◌, length, drop};
 ghost use Rattle.sbe_layout.specs.Legal.{LegalPlan};
+ghost use Rattle.decode_command.specs.Decoded.{next_number, next_place};
 ghost use Rattle.decode_command.specs.Progress.{Takes, TakesAll};
 
 use crate::frame::{Placed, print_frame};
@@ -56,17 +57,31 @@ impl Decoder {
                     order,
                     message,
                 };
-                print_frame(alloc, plan, frame, &mut self.lines)?;
-                self.framer.drop_front(size);
-                self.number = self.number.saturating_add(1);
-                self.place = self.place.saturating_add(size as u64);
-                Ok(true)
+                match print_frame(alloc, plan, frame, &mut self.lines) {
+                    Ok(()) => {
+                        self.pass(size);
+                        Ok(true)
+                    }
+                    Err(status) => Err(status),
+                }
             }
             FirstFrame::Rest => Ok(false),
-            FirstFrame::BadLength(_) | FirstFrame::BadEncoding(_) => {
-                Err(Status::Message(Bad::Frame { at: self.place }))
-            }
+            FirstFrame::BadLength(_) => Err(Status::Message(Bad::Frame { at: self.place })),
+            FirstFrame::BadEncoding(_) => Err(Status::Message(Bad::Frame { at: self.place })),
         }
+    }
+
+    // Goes on behind a frame of this size.
+    fn pass(&mut self, size: usize)
+        requires { size ≤ length self.old.framer.held }
+        ensures held { self.new.framer.held ≡ drop size self.old.framer.held }
+        ensures lines { self.new.lines.items ≡ self.old.lines.items }
+        ensures number { self.new.number ≡ next_number self.old.number }
+        ensures place { self.new.place ≡ next_place self.old.place size }
+    {
+        self.framer.drop_front(size);
+        self.number = self.number.saturating_add(1);
+        self.place = self.place.saturating_add(size as u64);
     }
 
     /// Decodes the frames that are held, as far as they go.

@@ -3,7 +3,7 @@
 #![tactic(auto)]
 
 mod command;
-mod decode;
+mod stream;
 mod decoder;
 mod frame;
 

@@ -9,7 +9,7 @@ ghost use Rattle.command_base.specs.Causes.{NoneFell, IsCaused, faults_of};
 ghost use Rattle.command_base.specs.Order.{IsOfStreams, KeepsBehindConfig, KeepsDisks, StopsAtConfig, FailsInOrder};
 ghost use Rattle.encode_command.specs.Promise.{GaveWire};
 
-use crate::encode::write_frames;
+use crate::whole::write_frames;
 use command_base::{Outside, Status, read_config};
 use gw_outside::{Disk, Sink, Source};
 use sbe_layout::Plan;

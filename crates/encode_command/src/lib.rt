@@ -3,7 +3,7 @@
 #![tactic(auto)]
 
 mod command;
-mod encode;
+mod whole;
 mod frame;
 mod text;
 mod writing;

@@ -1,5 +1,9 @@
 -- What is read of lines leaves fewer of them.
-use Rattle.std.proofs.Common.{◌≡◌, ℕ, zero, suc, ◌+◌, ◌<◌, ◌≤◌, List, [], ◌∷◌, length, Option, Some, None, Ok, Err, refl, arith}
+use Rattle.std.proofs.Common.{◌≡◌, ℕ, zero, suc, ◌+◌, ◌<◌, ◌≤◌, List, [], ◌∷◌, length, Option, Some, None, Result, Ok, Err, refl, subst, arith}
+use Rattle.std.specs.Prelude.{IfOk}
+use Rattle.std.specs.Borrow.{Bor}
+use Rattle.sbe_text.specs.declared.error.Refusal.{Refusal}
+use Rattle.sbe_text.specs.Answers.{Gives}
 use Rattle.sbe_value.specs.declared.tree.Group.{Group}
 use Rattle.sbe_value.specs.declared.message.Message.{Message}
 use Rattle.sbe_value.specs.Trees.{GroupList, BlockList}
@@ -10,7 +14,7 @@ use Rattle.sbe_layout.specs.Trees.{PlanHead, PlanTree, no_plans, plan}
 use Rattle.sbe_grammar.specs.Reading.{Entry}
 use Rattle.sbe_text.specs.declared.token.Count.{Count}
 use Rattle.sbe_text.specs.declared.token.Count.TheVariants as count
-use Rattle.sbe_text.specs.Lines.{Read, next, taken, read_line, read_each}
+use Rattle.sbe_text.specs.Lines.{lines_in, Read, next, taken, read_line, read_each}
 use Rattle.sbe_text.specs.Tokens.{value_on}
 use Rattle.sbe_text.specs.Written.{before_in}
 use Rattle.sbe_text.specs.Reading.{read_element, read_item, read_datum, read_elements, repeated, entry_at, read_counted, read_group, read_groups, layout_on, read_body, read_message}
@@ -95,5 +99,11 @@ message-within messages ls n within =
 pub message-shorter : (messages : List MessagePlan) (ls : List (List ℕ)) (m : Message) (rest : List (List ℕ)) → read_message messages ls ≡ Ok (m, rest) → length rest < length ls
 message-shorter messages [] m rest e = absurd (cc)
 message-shorter messages (line ∷ ls) m rest e =
-    let within = rw e at message-within messages (line ∷ ls) (length ls) (omega arith) in
+    let within : Within (length ls) (read_message messages (line ∷ ls)) = message-within messages (line ∷ ls) (length ls) (omega arith) in
+    let short : length rest ≤ length ls = subst (Within (length ls)) e within in
     omega arith
+
+-- the same of what the reader answers
+pub gives-shorter : (messages : List MessagePlan) (text : List ℕ) (r : Result (Message × Bor (List ℕ)) Refusal) → Gives (λ x. (x.0, lines_in x.1.now)) r (read_message messages (lines_in text)) → IfOk r (λ x. length (lines_in x.1.now) < length (lines_in text))
+gives-shorter messages text (Ok x) told = message-shorter messages (lines_in text) x.0 (lines_in x.1.now) told
+gives-shorter messages text (Err e) told = tt

@@ -1,6 +1,6 @@
 use Rattle.std.proofs.Common.{◌≤◌}
 use Rattle.decode_command.specs.Promise.{Stands, IsIdle}
-use Rattle.decode_command.proofs.decode.print_frames.Given as goal
+use Rattle.decode_command.proofs.stream.print_frames.Given as goal
 
 abbrev pub invariant-loop : goal.invariant-loop
 invariant-loop g l =
