@@ -1,2 +1,4 @@
+pub mod Fronts
+pub mod Reading
 pub mod Rows
-pub mod Writing
+pub mod Steps

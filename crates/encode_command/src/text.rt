@@ -24,19 +24,15 @@ pub enum Unread {
 }
 
 // Adds the next bytes of the source, and tells how many: none at its end.
-fn add_piece<S: Source>(
-    source: &mut S,
-    piece: &mut [u8],
-    text: &mut Vec<u8>,
-) -> Result<usize, Unread>
-    requires piece { length piece.old ≡ PIECE }
-    requires least { length text.old.items ≤ text_limit }
+fn add_piece<S: Source>(source: &mut S, text: &mut Vec<u8>) -> Result<usize, Unread>
+    requires { length text.old.items ≤ text_limit }
     ensures added { IfOk result (λ count. (bytes : List ℕ) × (text.new.items ≡ text.old.items ++ bytes) × (length bytes ≡ count) × Consumes (S.left source.old) (S.left source.new) bytes) }
     ensures end { IfOk result (λ count. count ≡ 0 → IsAtEnd (S.left source.new)) }
     ensures most { OnOk result (length text.new.items ≤ text_limit + 1) }
     ensures counted { S.faults source.old ≤ S.faults source.new }
     ensures fault { IsErrOf result Unread.Source → HasRisen (S.faults source.old) (S.faults source.new) }
 {
+    let mut piece = [0; PIECE];
     let wanted = PIECE.min(LIMIT + 1 - text.len());
     let Ok(count) = source.pull(&mut piece[..wanted]) else {
         return Err(Unread::Source);
@@ -54,10 +50,9 @@ pub fn read_text<S: Source>(alloc: Global, source: &mut S) -> Result<Vec<u8>, Un
     ensures counted { S.faults source.old ≤ S.faults source.new }
     ensures fault { IsErrOf result Unread.Source → HasRisen (S.faults source.old) (S.faults source.new) }
 {
-    let mut piece = [0; PIECE];
     let mut text = Vec::new(alloc);
     while text.len() <= LIMIT {
-        if add_piece(source, &mut piece, &mut text)? == 0 {
+        if add_piece(source, &mut text)? == 0 {
             return Ok(text);
         }
     }

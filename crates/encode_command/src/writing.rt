@@ -27,8 +27,10 @@ pub fn read_all(alloc: Global, plan: &Plan, text: &[u8]) -> Result<(), Refusal>
 {
     let mut left = text;
     while !left.is_empty() {
-        let (_, rest) = first_message(alloc, plan, left)?;
-        left = rest;
+        match first_message(alloc, plan, left) {
+            Ok((_, rest)) => left = rest,
+            Err(refusal) => return Err(refusal),
+        }
     }
     Ok(())
 }
