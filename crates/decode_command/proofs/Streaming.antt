@@ -16,7 +16,7 @@ use Rattle.command_base.specs.declared.status.Status.{Status}
 use Rattle.command_base.specs.declared.status.Status.TheVariants.{Done, Message}
 use Rattle.decode_command.specs.declared.decoder.Decoder.{Decoder}
 use Rattle.decode_command.specs.Decoded.{Decoded, ends, behind, status_at, decoded_from, decoded}
-use Rattle.decode_command.specs.Progress.{goes_on, IsNew} 
+use Rattle.decode_command.specs.Progress.{goes_on, IsNew}
 use Rattle.decode_command.specs.Progress as progress
 use Rattle.decode_command.specs.Promise.{GaveDecoded, Streams, Stands, IsIdle, AfterRound, as_round}
 use Rattle.decode_command.proofs.Going.{behind-behind, from-none}
@@ -71,9 +71,9 @@ filled plan before now old d bytes input s held lines number place consumed = re
   consumed = Consumes-trans _ _ _ _ _ s.consumed consumed;
   gained = s.gained;
   same = λ left.
-  ap (decoded plan) (append_assoc s.read bytes left) ∙ s.same (bytes ++ left)
-  ∙ ap (λ h. behind s.printed (behind old.lines.items (decoded_from plan old.number old.place h))) (sym (append_assoc old.framer.held bytes left) ∙ ap (λ h. h ++ left) (sym held))
-  ∙ rw (lines, number, place) refl;
+      ap (decoded plan) (append_assoc s.read bytes left) ∙ s.same (bytes ++ left)
+      ∙ ap (λ h. behind s.printed (behind old.lines.items (decoded_from plan old.number old.place h))) (sym (append_assoc old.framer.held bytes left) ∙ ap (λ h. h ++ left) (sym held))
+      ∙ rw (lines, number, place) refl;
 }
 
 -- frames were taken
@@ -96,8 +96,8 @@ pushed plan before now old new out s appended none framer number place = record 
   consumed = s.consumed;
   gained = Appends-trans _ _ _ _ _ s.gained appended;
   same = λ left.
-  s.same left ∙ behind-behind s.printed old.lines.items (decoded_from plan old.number old.place (old.framer.held ++ left))
-  ∙ rw (none, framer, number, place) refl;
+      s.same left ∙ behind-behind s.printed old.lines.items (decoded_from plan old.number old.place (old.framer.held ++ left))
+      ∙ rw (none, framer, number, place) refl;
 }
 
 -- a push failed in the middle

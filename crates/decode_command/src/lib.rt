@@ -3,8 +3,8 @@
 #![tactic(auto)]
 
 mod command;
-mod stream;
 mod decoder;
 mod frame;
+mod stream;
 
 pub use command::decode;

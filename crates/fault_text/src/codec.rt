@@ -31,9 +31,7 @@ fn decode_fault(alloc: Global, fault: DecodeFault) -> Result<String, AllocError>
             needed,
         } => format!(in alloc; "block of {found} bytes, {needed} needed"),
         DecodeFault::ShortBlock { at, found, needed } => {
-            format!(in alloc;
-                "block of {found} bytes at byte {at} of the message, {needed} needed"
-            )
+            format!(in alloc; "block of {found} bytes at byte {at} of the message, {needed} needed")
         }
     }
 }

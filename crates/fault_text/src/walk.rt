@@ -22,15 +22,24 @@ pub enum Found<'a> {
 }
 
 fn place_of_item(plan: &BlockPlan, name: &[u8]) -> Option<usize> {
-    plan.items.as_slice().iter().position(|item| item.name.as_slice() == name)
+    plan.items
+        .as_slice()
+        .iter()
+        .position(|item| item.name.as_slice() == name)
 }
 
 fn place_of_group(plan: &BlockPlan, name: &[u8]) -> Option<usize> {
-    plan.groups.as_slice().iter().position(|group| group.name.as_slice() == name)
+    plan.groups
+        .as_slice()
+        .iter()
+        .position(|group| group.name.as_slice() == name)
 }
 
 fn place_of_datum(plan: &BlockPlan, name: &[u8]) -> Option<usize> {
-    plan.vars.as_slice().iter().position(|datum| datum.name.as_slice() == name)
+    plan.vars
+        .as_slice()
+        .iter()
+        .position(|datum| datum.name.as_slice() == name)
 }
 
 /// The element of a block with this name.
@@ -199,7 +208,10 @@ fn first_refused<'a>(alloc: Global, plan: &Plan, text: &'a [u8]) -> &'a [u8] {
 /// The layout that the first line of a message names.
 fn layout_on<'a>(plan: &'a Plan, line: &[u8]) -> Option<&'a MessagePlan> {
     let name = line.strip_prefix(b"message ")?;
-    plan.messages.as_slice().iter().find(|message| message.name.as_slice() == name)
+    plan.messages
+        .as_slice()
+        .iter()
+        .find(|message| message.name.as_slice() == name)
 }
 
 /// What is awaited at the line of this number, the first that is refused: an element by its path, `end`, or the line of a

@@ -43,7 +43,11 @@ pub fn lines_line<R: Wait>(
 ) -> Result<String, AllocError> {
     let (name, hex) = halves(words);
     let input = bytes(alloc, hex)?;
-    let outcome = ended(rt, alloc, case("decode C I O", schema_of(texts, name), input.as_slice()))?;
+    let outcome = ended(
+        rt,
+        alloc,
+        case("decode C I O", schema_of(texts, name), input.as_slice()),
+    )?;
     let text = std::str::from_utf8(outcome.out.taken()).unwrap_or("");
     let mut line = format!(in alloc; "lines {name}: status {}:", outcome.code)?;
     for part in text.lines() {
@@ -67,7 +71,11 @@ pub fn frames_line<R: Wait>(
         input.extend_from_slice(part.as_bytes())?;
         input.push(b'\n')?;
     }
-    let outcome = ended(rt, alloc, case("encode C I W", schema_of(texts, name), input.as_slice()))?;
+    let outcome = ended(
+        rt,
+        alloc,
+        case("encode C I W", schema_of(texts, name), input.as_slice()),
+    )?;
     let hex = digits(alloc, outcome.wire.taken())?;
     format!(in alloc; "frames {name}: status {}: {hex}", outcome.code)
 }
