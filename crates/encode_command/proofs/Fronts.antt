@@ -85,10 +85,10 @@ refused-by plan text left old new status.OutputFault short r nothing told = absu
 refused-by plan text left old new status.JournalFault short r nothing told = absurd told
 refused-by plan text left old new (status.JournalBad which cause) short r nothing told = absurd told
 
-pub line-refused : (plan : Plan) (input end_left : Option (List ℕ)) (read : List ℕ) (left : ℕ) (old new : Option (List ℕ)) (s : Status) → Consumes input end_left read → IsAtEnd end_left → length read ≤ text_limit → RefusesWith plan read left → Appends old new []
+pub line_refused : (plan : Plan) (input end_left : Option (List ℕ)) (read : List ℕ) (left : ℕ) (old new : Option (List ℕ)) (s : Status) → Consumes input end_left read → IsAtEnd end_left → length read ≤ text_limit → RefusesWith plan read left → Appends old new []
     → TellsLine (length (lines_in read) - left + 1) s → KeepsPromise plan input old new s
-line-refused plan input end_left read left old new s consumed end short r nothing told = λ text e.
+line_refused plan input end_left read left old new s consumed end short r nothing told = λ text e.
     subst (λ t. Gave plan t old new s) (sym (read-whole input end_left read text consumed end e)) (refused-by plan read left old new s short r nothing told)
 
-pub too-long : (plan : Plan) (input left : Option (List ℕ)) (read : List ℕ) (old new : Option (List ℕ)) → Consumes input left read → text_limit < length read → Appends old new [] → KeepsPromise plan input old new (status.Message bad.TooLong)
-too-long plan input left read old new consumed long nothing = λ text e. record { past = read-longer input left read text consumed long e; wire = nothing }
+pub too_long : (plan : Plan) (input left : Option (List ℕ)) (read : List ℕ) (old new : Option (List ℕ)) → Consumes input left read → text_limit < length read → Appends old new [] → KeepsPromise plan input old new (status.Message bad.TooLong)
+too_long plan input left read old new consumed long nothing = λ text e. record { past = read-longer input left read text consumed long e; wire = nothing }

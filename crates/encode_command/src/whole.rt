@@ -26,6 +26,7 @@ fn refused(text: &[u8], left: u64) -> Status
 
 /// Writes the frames of the messages that the text of the input spells, by the plan of a schema. The text is read whole
 /// before anything is written.
+#[tactic(auto, using(crate::proofs::Fronts::wrote, crate::proofs::Fronts::line_refused, crate::proofs::Fronts::too_long))]
 pub fn write_frames<S: Source, K: Sink>(
     alloc: Global,
     plan: &Plan,
