@@ -84,6 +84,12 @@ impl<'a> Run<'a> {
                 inbox: named("INBOX", word(words, 2)),
                 ..unnamed
             },
+            Command::Journal => Run {
+                out: named("OUT", word(words, 3)),
+                outbox: named("OUTBOX", word(words, 1)),
+                inbox: named("INBOX", word(words, 2)),
+                ..unnamed
+            },
         })
     }
 
@@ -109,7 +115,23 @@ impl<'a> Run<'a> {
     fn wanted(&self) -> Wanted {
         match self.command {
             Command::Answer => Wanted::Settings,
-            Command::Check | Command::Decode | Command::Encode | Command::Format => Wanted::Schema,
+            Command::Check
+            | Command::Decode
+            | Command::Encode
+            | Command::Format
+            | Command::Journal => Wanted::Schema,
+        }
+    }
+
+    /// How the files of journals are opened.
+    fn opening(&self) -> Opening {
+        match self.command {
+            Command::Format => Opening::Make,
+            Command::Answer
+            | Command::Check
+            | Command::Decode
+            | Command::Encode
+            | Command::Journal => Opening::Read,
         }
     }
 
@@ -233,8 +255,8 @@ fn run_with<'a, R: Wait + Files<File = File> + Print + AllocGlobal>(
         input: FileSource::new(rt, alloc, files.input.path, KEPT),
         wire: FileSink::new(rt, files.wire, apart.outputs),
         out,
-        out_disk: FileDisk::new(rt, files.outbox, apart.journals, Opening::Make),
-        in_disk: FileDisk::new(rt, files.inbox, apart.journals, Opening::Make),
+        out_disk: FileDisk::new(rt, files.outbox, apart.journals, files.opening()),
+        in_disk: FileDisk::new(rt, files.inbox, apart.journals, files.opening()),
     };
     let (status, outside) = run(rt, alloc, words, outside);
     let line = match files.line(rt, alloc, &status, &outside) {

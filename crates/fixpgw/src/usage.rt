@@ -15,6 +15,7 @@ const USAGE: &str =
   fixpgw decode CONFIG INPUT OUT        prints the messages in the frames of INPUT as text to OUT
   fixpgw encode CONFIG INPUT WIRE       writes the messages in the text of INPUT as frames to WIRE
   fixpgw format OUTBOX INBOX            makes the two journals of a new session
+  fixpgw journal OUTBOX INBOX OUT       prints both journals to OUT
   fixpgw COMMAND --help                 what a command takes and does
   fixpgw --help                         this text
   fixpgw --version                      the name and the version
@@ -62,6 +63,14 @@ Makes the two journals of a new session, without records. A file that is a journ
   OUTBOX   the journal of what is sent (made where it is missing; its first 17 bytes are written)
   INBOX    the journal of what is received (likewise; not touched where OUTBOX is refused)";
 
+const JOURNAL: &str = "usage: fixpgw journal OUTBOX INBOX OUT
+
+Prints both journals of a session, a line for each record. Nothing is printed where either is damaged or not one of its kind.
+
+  OUTBOX   the journal of what is sent (read, and kept to this process meanwhile)
+  INBOX    the journal of what is received (likewise)
+  OUT      the lines (written); - is standard output";
+
 /// The usage of a command, if there is such a command.
 fn usage_of(command: &str) -> Option<&'static str> {
     match command {
@@ -70,6 +79,7 @@ fn usage_of(command: &str) -> Option<&'static str> {
         "decode" => Some(DECODE),
         "encode" => Some(ENCODE),
         "format" => Some(FORMAT),
+        "journal" => Some(JOURNAL),
         _ => None,
     }
 }

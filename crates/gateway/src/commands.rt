@@ -11,12 +11,13 @@ ghost use Rattle.command_base.specs.Texts.{ReadsWithin};
 ghost use Rattle.schema_toml.specs.declared.fault.ConfigFault.{ConfigFault};
 ghost use Rattle.command_base.specs.Causes.{NoneFell, IsCaused, faults_of};
 ghost use Rattle.command_base.specs.Contents.{content_of, disks_of};
-ghost use Rattle.command_base.specs.Order.{KeepsBehindConfig, KeepsDisks, KeepsStreams, StopsAtConfig, FailsInOrder};
+ghost use Rattle.command_base.specs.Order.{IsOfJournals, KeepsBehindConfig, KeepsBehindJournals, KeepsDisks, KeepsStreams, StopsAtConfig, FailsInOrder};
 ghost use Rattle.answer_command.specs.Promise.{GaveBy};
 ghost use Rattle.check_command.specs.Layouts.{GaveLayout};
 ghost use Rattle.decode_command.specs.Promise.{GaveText};
 ghost use Rattle.encode_command.specs.Promise.{GaveWire};
 ghost use Rattle.format_command.specs.Formats.{Formats, KeepsBehindHeader};
+ghost use Rattle.journal_command.specs.Prints.{Prints};
 ghost use Rattle.gateway.specs.Run.{IsRefused, JudgesBy};
 
 use crate::words::{Command, command_of};
@@ -27,6 +28,7 @@ use decode_command::decode;
 use encode_command::encode;
 use format_command::format_journals;
 use gw_outside::{Disk, Sink, Source};
+use journal_command::journal;
 use std::alloc::Global;
 use std::sync::Wait;
 
@@ -38,8 +40,9 @@ use std::sync::Wait;
 /// gives OUT the lines of the layout: all of it at statuses 0 and 12, and a front of it where a device failed or memory
 /// ran out. `decode` gives OUT the lines of the messages whose frames INPUT has, up to the first fault, and `encode` gives
 /// WIRE the frames of the messages that the text of INPUT spells, up to the first that may not be written, and nothing where
-/// a line of the text is refused. `format` makes both disks journals without records, the outbox first, and refuses a disk that begins as a
-/// journal does.
+/// a line of the text is refused. `format` makes both disks journals without records, the outbox first, and refuses a disk
+/// that begins as a journal does. `journal` gives OUT the lines of the records that both disks hold, refuses a disk that holds
+/// none of its box, the outbox first, and gives both disks back as they were.
 pub fn run<R: Wait, S: Source, K: Sink, D: Disk>(
     rt: &R,
     alloc: Global,
@@ -64,23 +67,44 @@ pub fn run<R: Wait, S: Source, K: Sink, D: Disk>(
     ensures format_within { command_of (bytes_of words.now) ≡ Some commands.Format → KeepsBehindHeader D.may_leave outside.out_disk result.1.out_disk × KeepsBehindHeader D.may_leave outside.in_disk result.1.in_disk }
     ensures untouched_by_format { command_of (bytes_of words.now) ≡ Some commands.Format → KeepsStreams outside result.1 }
 
-    // The order of refusals: the words are `untouched`; then the configuration, before anything behind it is touched.
+    ensures journal_output { command_of (bytes_of words.now) ≡ Some commands.Journal → Prints D.told D.may_leave D.faults K.taken (disks_of outside) (disks_of result.1) outside.out result.1.out result.0 }
+    ensures journals_told { command_of (bytes_of words.now) ≡ Some commands.Journal → (D.told result.1.out_disk ≡ D.told outside.out_disk) × (D.told result.1.in_disk ≡ D.told outside.in_disk) }
+    ensures untouched_by_journal { command_of (bytes_of words.now) ≡ Some commands.Journal → (result.1.config ≡ outside.config) × (result.1.input ≡ outside.input) × (result.1.wire ≡ outside.wire) }
+
+    // The order of refusals: the words are `untouched`; then the configuration, before anything behind it is touched; then the
+    // journals, of which `format_output` and `journal_output` say that the outbox comes first.
     ensures refused { (fault : ConfigFault) → result.0 ≡ Status.Config fault → KeepsBehindConfig outside result.1 }
     ensures config_first { (command : Command) → command_of (bytes_of words.now) ≡ Some command → (text : List ℕ) → S.left outside.config ≡ Some text → IsRefused command text → StopsAtConfig S.faults outside result.1 result.0 }
     ensures unread { result.0 ≡ Status.InputFault → FailsInOrder S.faults outside result.1 }
+    ensures journals_first { IsOfJournals result.0 → KeepsBehindJournals outside result.1 }
 
     ensures within { ReadsWithin (S.left outside.config) (S.left result.1.config) (text_limit + 1) }
     ensures none_fell { NoneFell (faults_of S.faults K.faults D.faults outside) (faults_of S.faults K.faults D.faults result.1) }
     ensures cause { IsCaused (faults_of S.faults K.faults D.faults outside) (faults_of S.faults K.faults D.faults result.1) result.0 }
 {
     let mut outside = outside;
-    let status = match command_of(words) {
-        None => Status::Words,
-        Some(Command::Answer) => answer(rt, alloc, &mut outside),
-        Some(Command::Check) => check(alloc, &mut outside),
-        Some(Command::Decode) => decode(rt, alloc, &mut outside),
-        Some(Command::Encode) => encode(alloc, &mut outside),
-        Some(Command::Format) => format_journals(&mut outside.out_disk, &mut outside.in_disk),
-    };
-    (status, outside)
+    match command_of(words) {
+        None => (Status::Words, outside),
+        Some(Command::Answer) => {
+            let status = answer(rt, alloc, &mut outside);
+            (status, outside)
+        }
+        Some(Command::Check) => {
+            let status = check(alloc, &mut outside);
+            (status, outside)
+        }
+        Some(Command::Decode) => {
+            let status = decode(rt, alloc, &mut outside);
+            (status, outside)
+        }
+        Some(Command::Encode) => {
+            let status = encode(alloc, &mut outside);
+            (status, outside)
+        }
+        Some(Command::Format) => {
+            let status = format_journals(&mut outside.out_disk, &mut outside.in_disk);
+            (status, outside)
+        }
+        Some(Command::Journal) => journal(alloc, outside),
+    }
 }

@@ -1,8 +1,9 @@
 //! Laws on what the clauses of `run` leave, facts about their definitions alone.
 
 ghost use Rattle.gateway.specs.Completeness.{AnswerCompletes, CheckCompletes, DecodeCompletes, EncodeCompletes, FormatCompletes};
+ghost use Rattle.gateway.specs.Journals.{JournalCompletes};
 
-use gw_outside::Disk;
+use gw_outside::{Disk, Sink};
 
 /// What the clauses of `run` say of `answer` leaves one end for a told configuration and input where no device
 /// failed: the whole answer was given, with its status, or memory ran out.
@@ -32,4 +33,11 @@ pub fn encode_completes()
 /// device failed: both are journals without records, and the status is done.
 pub fn format_completes<D: Disk>()
     ensures { FormatCompletes D.told D.may_leave D.faults }
+{}
+
+/// What the clauses of `run` say of `journal` leaves one end for two told disks, where no device failed: the first of them
+/// that is no journal of its box is refused with its cause, and where both are, all lines were printed and the status is done;
+/// or memory ran out. Of what a disk tells one of these is found at most.
+pub fn journal_completes<K: Sink, D: Disk>()
+    ensures { JournalCompletes D.told D.may_leave D.faults K.taken }
 {}

@@ -16,6 +16,8 @@ pub enum Command {
     Encode,
     /// `format OUTBOX INBOX`
     Format,
+    /// `journal OUTBOX INBOX OUT`
+    Journal,
 }
 
 /// The command of a listed form of words.
@@ -30,6 +32,7 @@ pub fn command_of(words: &[String]) -> Option<Command>
         [command, _config, _input, _wire] if command.as_str() == "encode" => Some(Command::Encode),
         [command, _config, _out] if command.as_str() == "check" => Some(Command::Check),
         [command, _outbox, _inbox] if command.as_str() == "format" => Some(Command::Format),
+        [command, _outbox, _inbox, _out] if command.as_str() == "journal" => Some(Command::Journal),
         _ => None,
     }
 }
