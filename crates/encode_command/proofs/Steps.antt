@@ -58,10 +58,10 @@ written-more plan text left rest number before now after frames mid new h one p 
       pushed = h.pushed ++ p.bytes;
       gained = Appends-trans _ _ _ _ _ h.gained p.gained;
       same = λ more.
-      ap (written plan) (append_assoc h.messages (one.message ∷ []) more) ∙ h.same (one.message ∷ more)
-      ∙ ap (λ fault. behind (h.pushed ++ frames) (followed plan number one.message fault (written_from plan (number + 1) more))) one.frame.faultless
-      ∙ behind-behind (h.pushed ++ frames) f (written_from plan (number + 1) more)
-      ∙ ap (λ l. behind l (written_from plan (number + 1) more)) (append_assoc h.pushed frames f ∙ ap (λ l. h.pushed ++ l) (sym one.frame.added ∙ p.joins) ∙ sym (append_assoc h.pushed p.bytes new));
+          ap (written plan) (append_assoc h.messages (one.message ∷ []) more) ∙ h.same (one.message ∷ more)
+          ∙ ap (λ fault. behind (h.pushed ++ frames) (followed plan number one.message fault (written_from plan (number + 1) more))) one.frame.faultless
+          ∙ behind-behind (h.pushed ++ frames) f (written_from plan (number + 1) more)
+          ∙ ap (λ l. behind l (written_from plan (number + 1) more)) (append_assoc h.pushed frames f ∙ ap (λ l. h.pushed ++ l) (sym one.frame.added ∙ p.joins) ∙ sym (append_assoc h.pushed p.bytes new));
       counted = omega (arith, h.counted, one.shorter);
     }
 

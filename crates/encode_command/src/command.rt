@@ -16,10 +16,7 @@ use sbe_layout::Plan;
 use std::alloc::Global;
 
 /// `encode`: text as frames.
-pub fn encode<S: Source, K: Sink, D: Disk>(
-    alloc: Global,
-    outside: &mut Outside<S, K, D>,
-) -> Status
+pub fn encode<S: Source, K: Sink, D: Disk>(alloc: Global, outside: &mut Outside<S, K, D>) -> Status
     ensures config_verdict { (text : List ℕ) → S.left outside.old.config ≡ Some text → Judges result (plan_of_text text) }
     ensures encode_output { (text input : List ℕ) → S.left outside.old.config ≡ Some text → S.left outside.old.input ≡ Some input →
         GaveWire (plan_of_text text) input (K.taken outside.old.wire) (K.taken outside.new.wire) result }

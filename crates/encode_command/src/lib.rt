@@ -3,9 +3,9 @@
 #![tactic(auto)]
 
 mod command;
-mod whole;
 mod frame;
 mod text;
+mod whole;
 mod writing;
 
 pub use command::encode;
