@@ -32,6 +32,24 @@ fn malformed_message(
     }
 }
 
+/// Why no frame of a schema's messages begins with these bytes, if that can be told.
+pub fn refused_frame(alloc: Global, bytes: &[u8]) -> Result<Option<String>, AllocError> {
+    match next(bytes) {
+        FirstFrame::Frame { order, .. } => {
+            let encoding = match order {
+                Order::Little => 0xEB50u16,
+                Order::Big => 0x5BE0u16,
+            };
+            let text = format!(in alloc;
+                "the frame's encoding type is 0x{encoding:04x}, which is not of the schema's byte order"
+            )?;
+            Ok(Some(text))
+        }
+        FirstFrame::BadLength(_) | FirstFrame::BadEncoding(_) => malformed_frame(alloc, bytes),
+        FirstFrame::Rest => Ok(None),
+    }
+}
+
 /// Why the frame at the front of these bytes is malformed, if that can be told.
 pub fn malformed_frame(alloc: Global, bytes: &[u8]) -> Result<Option<String>, AllocError> {
     match next(bytes) {

@@ -1,10 +1,12 @@
 //! A run over the files that its words name.
 
+use crate::again::{place_of_frame, text_of_file};
 use crate::lines::{disk_line, input_line, journal_line, sink_line, source_line};
 use crate::report::Report;
-use fault_text::{Wanted, config_fault, file_name};
-use gateway::{Command, Outside, Status, Which, command_of, run};
+use fault_text::{Wanted, config_fault, decode_line, encode_line, file_name, text_line};
+use gateway::{Bad, Command, Outside, Status, Which, command_of, run};
 use gw_real::{FileDisk, FileSink, FileSource, Named, Opening, STANDARD_OUTPUT};
+use schema_load::load;
 use schema_toml::TEXT_LIMIT;
 use std::alloc::{AllocError, Global};
 use std::fs::File;
@@ -65,6 +67,18 @@ impl<'a> Run<'a> {
                 out: named("OUT", word(words, 2)),
                 ..unnamed
             },
+            Command::Decode => Run {
+                config: named("CONFIG", word(words, 1)),
+                input: named("INPUT", word(words, 2)),
+                out: named("OUT", word(words, 3)),
+                ..unnamed
+            },
+            Command::Encode => Run {
+                config: named("CONFIG", word(words, 1)),
+                input: named("INPUT", word(words, 2)),
+                wire: named("WIRE", word(words, 3)),
+                ..unnamed
+            },
             Command::Format => Run {
                 outbox: named("OUTBOX", word(words, 1)),
                 inbox: named("INBOX", word(words, 2)),
@@ -101,7 +115,11 @@ impl<'a> Run<'a> {
     fn wanted(&self) -> Wanted {
         match self.command {
             Command::Answer => Wanted::Settings,
-            Command::Check | Command::Format | Command::Journal => Wanted::Schema,
+            Command::Check
+            | Command::Decode
+            | Command::Encode
+            | Command::Format
+            | Command::Journal => Wanted::Schema,
         }
     }
 
@@ -109,13 +127,18 @@ impl<'a> Run<'a> {
     fn opening(&self) -> Opening {
         match self.command {
             Command::Format => Opening::Make,
-            Command::Answer | Command::Check | Command::Journal => Opening::Read,
+            Command::Answer
+            | Command::Check
+            | Command::Decode
+            | Command::Encode
+            | Command::Journal => Opening::Read,
         }
     }
 
     /// What is wrong, in a line; none where the status says all.
     fn line<R: Files<File = File> + AllocGlobal, P>(
         &self,
+        rt: &R,
         alloc: Global,
         status: &Status,
         outside: &Devices<'_, R, P>,
@@ -149,8 +172,48 @@ impl<'a> Run<'a> {
             Status::JournalBad { which, cause } => {
                 journal_line(alloc, self.journal(*which), *which, *cause)
             }
-            Status::Message(bad) => input_line(alloc, self.input, outside.input.kept(), bad),
+            Status::Message(bad) => match self.message_fault(rt, alloc, outside, bad)? {
+                Some(what) => {
+                    let file = file_name(alloc, self.input.role, self.input.path)?;
+                    Ok(Some(format!(in alloc; "{file}: {what}")?))
+                }
+                None => input_line(alloc, self.input, outside.input.kept(), bad),
+            },
             Status::Done | Status::Words | Status::Memory => Ok(None),
+        }
+    }
+
+    /// What is wrong with a message or a line of INPUT, as far as it can be read again.
+    fn message_fault<R: Files<File = File> + AllocGlobal, P>(
+        &self,
+        rt: &R,
+        alloc: Global,
+        outside: &Devices<'_, R, P>,
+        bad: &Bad,
+    ) -> Result<Option<String>, AllocError> {
+        if let Bad::Decode { frame, fault } = bad {
+            let place = place_of_frame(rt, alloc, self.input.path, *frame);
+            return Ok(Some(decode_line(alloc, *frame, place, *fault)?));
+        }
+        if !matches!(bad, Bad::Encode { .. } | Bad::Line { .. }) {
+            return Ok(None);
+        }
+        let Ok(plan) = load(alloc, outside.config.kept().bytes()) else {
+            return Ok(None);
+        };
+        let Some(text) = text_of_file(rt, alloc, self.input.path) else {
+            return Ok(None);
+        };
+        match bad {
+            Bad::Encode { message, fault } => Ok(Some(encode_line(
+                alloc,
+                &plan,
+                text.as_slice(),
+                *message,
+                fault,
+            )?)),
+            Bad::Line { line } => Ok(Some(text_line(alloc, &plan, text.as_slice(), *line)?)),
+            _ => Ok(None),
         }
     }
 
@@ -196,7 +259,7 @@ fn run_with<'a, R: Wait + Files<File = File> + Print + AllocGlobal>(
         in_disk: FileDisk::new(rt, files.inbox, apart.journals, files.opening()),
     };
     let (status, outside) = run(rt, alloc, words, outside);
-    let line = match files.line(alloc, &status, &outside) {
+    let line = match files.line(rt, alloc, &status, &outside) {
         Ok(line) => line,
         Err(_) => None,
     };

@@ -1,6 +1,6 @@
 //! What is wrong with a file of a run, in a line.
 
-use fault_text::{file_name, malformed_frame};
+use fault_text::{file_name, malformed_frame, refused_frame};
 use fixp_end::Violation;
 use gateway::{Bad, JournalCause, Which};
 use gw_real::{DiskReason, Kept, Named, Reason, STANDARD_OUTPUT};
@@ -108,6 +108,16 @@ pub fn input_line(
             Some(why) => format!(in alloc; "{file}: malformed frame at byte {at}: {why}")?,
             None => format!(in alloc; "{file}: malformed frame at byte {at}")?,
         }));
+    }
+    if let Bad::Frame { at } = bad {
+        let bytes = kept.from_place(*at);
+        return Ok(Some(match refused_frame(alloc, bytes)? {
+            Some(why) => format!(in alloc; "{file}: {bad}: {why}")?,
+            None => format!(in alloc; "{file}: {bad}")?,
+        }));
+    }
+    if let Bad::TooLong = bad {
+        return Ok(Some(format!(in alloc; "{file}: the text is longer than 67108864 bytes")?));
     }
     Ok(Some(format!(in alloc; "{file}: {bad}")?))
 }

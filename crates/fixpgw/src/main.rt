@@ -2,6 +2,7 @@
 //! the command run over them, prints its status and exits with it. What is between is the crate `gateway`.
 #![tactic(auto)]
 
+mod again;
 mod files;
 mod lines;
 mod report;

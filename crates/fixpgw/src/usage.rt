@@ -12,6 +12,8 @@ const USAGE: &str =
 
   fixpgw answer CONFIG INPUT WIRE OUT   answers the recorded client in INPUT: replies to WIRE, messages to OUT
   fixpgw check CONFIG OUT               checks the schema in CONFIG, and prints its layout to OUT
+  fixpgw decode CONFIG INPUT OUT        prints the messages in the frames of INPUT as text to OUT
+  fixpgw encode CONFIG INPUT WIRE       writes the messages in the text of INPUT as frames to WIRE
   fixpgw format OUTBOX INBOX            makes the two journals of a new session
   fixpgw journal OUTBOX INBOX OUT       prints both journals to OUT
   fixpgw COMMAND --help                 what a command takes and does
@@ -38,6 +40,22 @@ Checks a schema, and prints where everything stands in its messages.
   CONFIG   the schema, as TOML (read)
   OUT      the layout of its messages (written); - is standard output";
 
+const DECODE: &str = "usage: fixpgw decode CONFIG INPUT OUT
+
+Prints recorded messages as text.
+
+  CONFIG   the schema of the messages, as TOML (read)
+  INPUT    the messages in their frames (read)
+  OUT      the lines of each message (written); - is standard output";
+
+const ENCODE: &str = "usage: fixpgw encode CONFIG INPUT WIRE
+
+Writes messages from their text. Nothing is written where a line of the text is refused.
+
+  CONFIG   the schema of the messages, as TOML (read)
+  INPUT    the lines of the messages, as decode prints them (read)
+  WIRE     the messages in their frames (written)";
+
 const FORMAT: &str = "usage: fixpgw format OUTBOX INBOX
 
 Makes the two journals of a new session, without records. A file that is a journal already is refused.
@@ -58,6 +76,8 @@ fn usage_of(command: &str) -> Option<&'static str> {
     match command {
         "answer" => Some(ANSWER),
         "check" => Some(CHECK),
+        "decode" => Some(DECODE),
+        "encode" => Some(ENCODE),
         "format" => Some(FORMAT),
         "journal" => Some(JOURNAL),
         _ => None,

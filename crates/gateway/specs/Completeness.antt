@@ -1,5 +1,5 @@
 -- What is left for a run over told inputs in which no device failed: its work was done, or memory ran out.
-use Rattle.std.specs.Prelude.{◌≡◌, ◌≢◌, ◌⊎◌, ℕ, List, Option, Some, Ok, take}
+use Rattle.std.specs.Prelude.{◌≡◌, ◌≢◌, ◌⊎◌, ℕ, ◌^◌, ◌≤◌, List, length, Option, Some, Ok, take}
 use Rattle.std.specs.Io.KnownBytes.{Appends}
 use Rattle.gw_outside.specs.Faults.{HasRisen}
 use Rattle.jr_record.specs.Images.{magic}
@@ -16,6 +16,11 @@ use Rattle.command_base.specs.Causes.{Counts, IsCaused}
 use Rattle.command_base.specs.Contents.{Content, Disks}
 use Rattle.format_command.specs.Formats.{IsMade, Formats}
 use Rattle.check_command.specs.Layouts.{GaveLayout}
+use Rattle.sbe_value.specs.declared.message.Message.{Message}
+use Rattle.decode_command.specs.Decoded.{decoded}
+use Rattle.decode_command.specs.Promise.{GaveDecoded, GaveText}
+use Rattle.encode_command.specs.Encoded.{AreSpelled, written}
+use Rattle.encode_command.specs.Promise.{GaveWire}
 use Rattle.answer_command.specs.Promise.{GaveBy}
 use Rattle.gateway.specs.Run.{JudgesBy}
 
@@ -52,6 +57,26 @@ AnswerCompletes = (text input : List ℕ) (settings : Settings) (answer : Answer
     → settings_of_text text ≡ Ok settings → IsAnswer (acceptor_of settings) input answer
     → JudgesBy commands.Answer text status → GaveBy (settings_of_text text) input before after status → IsCaused old new status → NoneRose old new
     → (status ≡ Memory) ⊎ Answered answer before after status
+
+-- the same of `decode`: over a schema and an input it printed the lines up to the first fault, or memory ran out
+abbrev pub DecodeCompletes : Type 0
+DecodeCompletes = (text input : List ℕ) (plan : Plan) (before after : Option (List ℕ)) (old new : Counts) (status : Status)
+    → plan_of_text text ≡ Ok plan
+    → JudgesBy commands.Decode text status → GaveText (plan_of_text text) input before after status → IsCaused old new status → NoneRose old new
+    → (status ≡ Memory) ⊎ GaveDecoded (decoded plan input) before after status
+
+-- the frames of these messages were written, with the status that is told
+pub record WroteFrames (plan : Plan) (messages : List Message) (before after : Option (List ℕ)) (status : Status) : Type 0 where
+  pub status_is : status ≡ (written plan messages).status
+  pub wire : Appends before after (written plan messages).wire
+
+-- the same of `encode`: over a schema and a text of messages that is not too long it wrote their frames up to the first that may
+-- not be written, or memory ran out
+abbrev pub EncodeCompletes : Type 0
+EncodeCompletes = (text input : List ℕ) (plan : Plan) (messages : List Message) (before after : Option (List ℕ)) (old new : Counts) (status : Status)
+    → plan_of_text text ≡ Ok plan → AreSpelled plan input messages → length input ≤ 2 ^ 26
+    → JudgesBy commands.Encode text status → GaveWire (plan_of_text text) input before after status → IsCaused old new status → NoneRose old new
+    → (status ≡ Memory) ⊎ WroteFrames plan messages before after status
 
 -- a disk tells a content that does not begin with the magic
 pub record IsUnformatted {D : Type 0} (told : D → Option (List ℕ)) (disk : D) : Type 0 where

@@ -7,10 +7,12 @@ use Rattle.command_base.specs.Texts.{Judges}
 use Rattle.gateway.specs.declared.words.Command.{Command}
 use Rattle.gateway.specs.declared.words.Command.TheVariants as commands
 
--- `answer` reads the settings of a session, `check` a schema, and `format` and `journal` nothing
+-- `answer` reads the settings of a session, `check`, `decode` and `encode` a schema, and `format` and `journal` nothing
 abbrev pub JudgesBy : Command → List ℕ → Status → Type 0
 JudgesBy commands.Answer text status = Judges status (settings_of_text text)
 JudgesBy commands.Check text status = Judges status (plan_of_text text)
+JudgesBy commands.Decode text status = Judges status (plan_of_text text)
+JudgesBy commands.Encode text status = Judges status (plan_of_text text)
 JudgesBy commands.Format text status = Unit {0}
 JudgesBy commands.Journal text status = Unit {0}
 
@@ -18,5 +20,7 @@ JudgesBy commands.Journal text status = Unit {0}
 abbrev pub IsRefused : Command → List ℕ → Type 0
 IsRefused commands.Answer text = IsErr (settings_of_text text)
 IsRefused commands.Check text = IsErr (plan_of_text text)
+IsRefused commands.Decode text = IsErr (plan_of_text text)
+IsRefused commands.Encode text = IsErr (plan_of_text text)
 IsRefused commands.Format text = ⊥
 IsRefused commands.Journal text = ⊥

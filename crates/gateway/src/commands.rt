@@ -14,6 +14,8 @@ ghost use Rattle.command_base.specs.Contents.{content_of, disks_of};
 ghost use Rattle.command_base.specs.Order.{IsOfJournals, KeepsBehindConfig, KeepsBehindJournals, KeepsDisks, KeepsStreams, StopsAtConfig, FailsInOrder};
 ghost use Rattle.answer_command.specs.Promise.{GaveBy};
 ghost use Rattle.check_command.specs.Layouts.{GaveLayout};
+ghost use Rattle.decode_command.specs.Promise.{GaveText};
+ghost use Rattle.encode_command.specs.Promise.{GaveWire};
 ghost use Rattle.format_command.specs.Formats.{Formats, KeepsBehindHeader};
 ghost use Rattle.journal_command.specs.Prints.{Prints};
 ghost use Rattle.gateway.specs.Run.{IsRefused, JudgesBy};
@@ -22,6 +24,8 @@ use crate::words::{Command, command_of};
 use answer_command::answer;
 use check_command::check;
 use command_base::{Outside, Status};
+use decode_command::decode;
+use encode_command::encode;
 use format_command::format_journals;
 use gw_outside::{Disk, Sink, Source};
 use journal_command::journal;
@@ -34,9 +38,11 @@ use std::sync::Wait;
 /// refused, with its first fault, exactly where it has one, and then no device but CONFIG is touched. Where the devices
 /// tell their content, `answer` gives WIRE and OUT what the definition of the answer says of CONFIG and INPUT, and `check`
 /// gives OUT the lines of the layout: all of it at statuses 0 and 12, and a front of it where a device failed or memory
-/// ran out. `format` makes both disks journals without records, the outbox first, and refuses a disk that begins as a
-/// journal does. `journal` gives OUT the lines of the records that both disks hold, refuses a disk that holds none of its
-/// box, the outbox first, and gives both disks back as they were.
+/// ran out. `decode` gives OUT the lines of the messages whose frames INPUT has, up to the first fault, and `encode` gives
+/// WIRE the frames of the messages that the text of INPUT spells, up to the first that may not be written, and nothing where
+/// a line of the text is refused. `format` makes both disks journals without records, the outbox first, and refuses a disk
+/// that begins as a journal does. `journal` gives OUT the lines of the records that both disks hold, refuses a disk that holds
+/// none of its box, the outbox first, and gives both disks back as they were.
 pub fn run<R: Wait, S: Source, K: Sink, D: Disk>(
     rt: &R,
     alloc: Global,
@@ -51,6 +57,12 @@ pub fn run<R: Wait, S: Source, K: Sink, D: Disk>(
     ensures untouched_by_answer { command_of (bytes_of words.now) ≡ Some commands.Answer → KeepsDisks outside result.1 }
     ensures check_output { command_of (bytes_of words.now) ≡ Some commands.Check → (text : List ℕ) → S.left outside.config ≡ Some text → GaveLayout (plan_of_text text) (K.taken outside.out) (K.taken result.1.out) result.0 }
     ensures untouched_by_check { command_of (bytes_of words.now) ≡ Some commands.Check → (result.1.input ≡ outside.input) × (result.1.wire ≡ outside.wire) × KeepsDisks outside result.1 }
+    ensures decode_output { command_of (bytes_of words.now) ≡ Some commands.Decode → (text input : List ℕ) → S.left outside.config ≡ Some text → S.left outside.input ≡ Some input →
+        GaveText (plan_of_text text) input (K.taken outside.out) (K.taken result.1.out) result.0 }
+    ensures untouched_by_decode { command_of (bytes_of words.now) ≡ Some commands.Decode → (result.1.wire ≡ outside.wire) × KeepsDisks outside result.1 }
+    ensures encode_output { command_of (bytes_of words.now) ≡ Some commands.Encode → (text input : List ℕ) → S.left outside.config ≡ Some text → S.left outside.input ≡ Some input →
+        GaveWire (plan_of_text text) input (K.taken outside.wire) (K.taken result.1.wire) result.0 }
+    ensures untouched_by_encode { command_of (bytes_of words.now) ≡ Some commands.Encode → (result.1.out ≡ outside.out) × KeepsDisks outside result.1 }
     ensures format_output { command_of (bytes_of words.now) ≡ Some commands.Format → Formats D.told D.may_leave D.faults (disks_of outside) (disks_of result.1) result.0 }
     ensures format_within { command_of (bytes_of words.now) ≡ Some commands.Format → KeepsBehindHeader D.may_leave outside.out_disk result.1.out_disk × KeepsBehindHeader D.may_leave outside.in_disk result.1.in_disk }
     ensures untouched_by_format { command_of (bytes_of words.now) ≡ Some commands.Format → KeepsStreams outside result.1 }
@@ -79,6 +91,14 @@ pub fn run<R: Wait, S: Source, K: Sink, D: Disk>(
         }
         Some(Command::Check) => {
             let status = check(alloc, &mut outside);
+            (status, outside)
+        }
+        Some(Command::Decode) => {
+            let status = decode(rt, alloc, &mut outside);
+            (status, outside)
+        }
+        Some(Command::Encode) => {
+            let status = encode(alloc, &mut outside);
             (status, outside)
         }
         Some(Command::Format) => {

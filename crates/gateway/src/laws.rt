@@ -1,6 +1,6 @@
 //! Laws on what the clauses of `run` leave, facts about their definitions alone.
 
-ghost use Rattle.gateway.specs.Completeness.{AnswerCompletes, CheckCompletes, FormatCompletes};
+ghost use Rattle.gateway.specs.Completeness.{AnswerCompletes, CheckCompletes, DecodeCompletes, EncodeCompletes, FormatCompletes};
 ghost use Rattle.gateway.specs.Journals.{JournalCompletes};
 
 use gw_outside::{Disk, Sink};
@@ -15,6 +15,18 @@ pub fn answer_completes()
 /// all lines were printed and the status is done, or memory ran out.
 pub fn check_completes()
     ensures { CheckCompletes }
+{}
+
+/// What the clauses of `run` say of `decode` leaves one end for a told schema and input where no device failed: the lines
+/// of the messages up to the first fault were printed, with the status of that, or memory ran out.
+pub fn decode_completes()
+    ensures { DecodeCompletes }
+{}
+
+/// What the clauses of `run` say of `encode` leaves one end for a told schema, and a told text that spells messages and is
+/// not too long, where no device failed: their frames were written, up to the first that may not be, or memory ran out.
+pub fn encode_completes()
+    ensures { EncodeCompletes }
 {}
 
 /// What the clauses of `run` say of `format` leaves one end for two told disks that do not begin with the magic, where no

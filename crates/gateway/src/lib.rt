@@ -10,5 +10,8 @@ pub use answer_command::one_answer;
 pub use box_judge::one_verdict_of_box;
 pub use command_base::{Bad, JournalCause, Outside, Status, Which};
 pub use commands::run;
-pub use laws::{answer_completes, check_completes, format_completes, journal_completes};
+pub use laws::{
+    answer_completes, check_completes, decode_completes, encode_completes, format_completes,
+    journal_completes,
+};
 pub use words::{Command, command_of};

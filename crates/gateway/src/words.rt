@@ -10,6 +10,10 @@ pub enum Command {
     Answer,
     /// `check CONFIG OUT`
     Check,
+    /// `decode CONFIG INPUT OUT`
+    Decode,
+    /// `encode CONFIG INPUT WIRE`
+    Encode,
     /// `format OUTBOX INBOX`
     Format,
     /// `journal OUTBOX INBOX OUT`
@@ -24,6 +28,8 @@ pub fn command_of(words: &[String]) -> Option<Command>
         [command, _config, _input, _wire, _out] if command.as_str() == "answer" => {
             Some(Command::Answer)
         }
+        [command, _config, _input, _out] if command.as_str() == "decode" => Some(Command::Decode),
+        [command, _config, _input, _wire] if command.as_str() == "encode" => Some(Command::Encode),
         [command, _config, _out] if command.as_str() == "check" => Some(Command::Check),
         [command, _outbox, _inbox] if command.as_str() == "format" => Some(Command::Format),
         [command, _outbox, _inbox, _out] if command.as_str() == "journal" => Some(Command::Journal),

@@ -1,8 +1,9 @@
 //! The lines of the file of cases, and what each run is to give.
 
+use crate::coding::{frames_line, lines_line};
 use crate::devices::{Case, Failing, Outcome, ended};
-use crate::texts::{Answering, Checking};
-use case_words::number;
+use crate::texts::{Answering, Checking, Coding};
+use case_words::{halves, number};
 use std::alloc::{AllocError, Global};
 use std::sync::Wait;
 
@@ -85,28 +86,95 @@ fn check_line<R: Wait>(
     format!(in alloc; "check {numbers}: {told}")
 }
 
+fn decode_of<'a>(texts: &'a Coding, numbers: &str) -> Case<'a> {
+    case_of(
+        "decode C I O",
+        texts.orders.as_bytes(),
+        texts.frames.as_slice(),
+        numbers,
+    )
+}
+
+/// A run of `decode`.
+fn decode_line<R: Wait>(
+    rt: &R,
+    alloc: Global,
+    texts: &Coding,
+    numbers: &str,
+) -> Result<String, AllocError> {
+    let outcome = ended(rt, alloc, decode_of(texts, numbers))?;
+    let told = told(alloc, &outcome, &[], texts.text.as_bytes())?;
+    format!(in alloc; "decode {numbers}: {told}")
+}
+
+fn encode_of<'a>(texts: &'a Coding, numbers: &str) -> Case<'a> {
+    case_of(
+        "encode C I W",
+        texts.orders.as_bytes(),
+        texts.text.as_bytes(),
+        numbers,
+    )
+}
+
+/// A run of `encode`.
+fn encode_line<R: Wait>(
+    rt: &R,
+    alloc: Global,
+    texts: &Coding,
+    numbers: &str,
+) -> Result<String, AllocError> {
+    let outcome = ended(rt, alloc, encode_of(texts, numbers))?;
+    let told = told(alloc, &outcome, texts.frames.as_slice(), &[])?;
+    format!(in alloc; "encode {numbers}: {told}")
+}
+
 /// Whether a run gave all of WIRE and OUT.
-fn is_whole(outcome: &Outcome, texts: &Answering) -> bool {
-    outcome.code == 0
-        && outcome.wire.taken() == texts.wire.as_slice()
-        && outcome.out.taken() == texts.lines.as_bytes()
+fn is_whole(outcome: &Outcome, wire: &[u8], out: &[u8]) -> bool {
+    outcome.code == 0 && outcome.wire.taken() == wire && outcome.out.taken() == out
 }
 
 /// How many of the runs with INPUT in pieces of 1 to `most` bytes give the whole.
 fn pieces_line<R: Wait>(
     rt: &R,
     alloc: Global,
-    texts: &Answering,
+    case: Case<'_>,
     most: &str,
+    wire: &[u8],
+    out: &[u8],
 ) -> Result<String, AllocError> {
-    let case = answer_of(texts, "1 0 0 0 0 4096");
     let mut count = 0u64;
     for piece in 1..=number(most) as usize {
-        if is_whole(&ended(rt, alloc, Case { piece, ..case })?, texts) {
+        if is_whole(&ended(rt, alloc, Case { piece, ..case })?, wire, out) {
             count = count.saturating_add(1);
         }
     }
     format!(in alloc; "pieces of 1 to {most}: {count} give the whole")
+}
+
+/// The pieces of one command.
+fn pieces_of<R: Wait>(
+    rt: &R,
+    alloc: Global,
+    answering: &Answering,
+    coding: &Coding,
+    words: &str,
+) -> Result<String, AllocError> {
+    let numbers = "1 0 0 0 0 4096";
+    match halves(words) {
+        ("decode", most) => {
+            let case = decode_of(coding, numbers);
+            pieces_line(rt, alloc, case, most, &[], coding.text.as_bytes())
+        }
+        ("encode", most) => {
+            let case = encode_of(coding, numbers);
+            pieces_line(rt, alloc, case, most, coding.frames.as_slice(), &[])
+        }
+        (_, most) => {
+            let case = answer_of(answering, numbers);
+            let (wire, out) = (answering.wire.as_slice(), answering.lines.as_bytes());
+            pieces_line(rt, alloc, case, most, wire, out)
+        }
+    }
 }
 
 /// What a line of the file of cases shows.
@@ -115,12 +183,17 @@ pub fn line_of<R: Wait>(
     alloc: Global,
     answering: &Answering,
     checking: &Checking,
+    coding: &Coding,
     line: &str,
 ) -> Result<String, AllocError> {
     match line.split_once(": ") {
+        Some(("decode", numbers)) => decode_line(rt, alloc, coding, numbers),
+        Some(("encode", numbers)) => encode_line(rt, alloc, coding, numbers),
+        Some(("lines", words)) => lines_line(rt, alloc, coding, words),
+        Some(("frames", words)) => frames_line(rt, alloc, coding, words),
         Some(("answer", numbers)) => answer_line(rt, alloc, answering, numbers),
         Some(("check", numbers)) => check_line(rt, alloc, checking, numbers),
-        Some(("pieces", most)) => pieces_line(rt, alloc, answering, most),
+        Some(("pieces", words)) => pieces_of(rt, alloc, answering, coding, words),
         _ => line.to_string(alloc),
     }
 }

@@ -3,10 +3,11 @@
 #![tactic(auto)]
 
 mod cases;
+mod coding;
 mod devices;
 mod texts;
 
-use crate::texts::{Answering, Checking, read_answering, read_checking};
+use crate::texts::{Answering, Checking, Coding, read_answering, read_checking, read_coding};
 use std::sync::Wait;
 use std::{fs, io};
 
@@ -15,10 +16,11 @@ fn print_cases<R: Print + AllocGlobal + Wait>(
     rt: &R,
     answering: &Answering,
     checking: &Checking,
+    coding: &Coding,
     cases: &str,
 ) -> io::Result<()> {
     for line in cases.lines() {
-        rt.println(cases::line_of(rt, rt.alloc(), answering, checking, line)?)?;
+        rt.println(cases::line_of(rt, rt.alloc(), answering, checking, coding, line)?)?;
     }
     Ok(())
 }
@@ -26,6 +28,7 @@ fn print_cases<R: Print + AllocGlobal + Wait>(
 fn main(rt: HostRuntime) -> io::Result<()> {
     let answering = read_answering(&rt)?;
     let checking = read_checking(&rt)?;
+    let coding = read_coding(&rt)?;
     let cases = fs::read_to_string(&rt, "cases.txt")?;
-    print_cases(&rt, &answering, &checking, cases.as_str())
+    print_cases(&rt, &answering, &checking, &coding, cases.as_str())
 }

@@ -21,6 +21,17 @@ pub struct Checking {
     pub layout: String,
 }
 
+/// The schemas of messages, and orders as frames and as text.
+#[derive(Drop)]
+pub struct Coding {
+    pub orders: String,
+    pub older: String,
+    pub mix: String,
+    pub trade: String,
+    pub frames: Vec<u8>,
+    pub text: String,
+}
+
 /// The bytes that the lines of a text spell, one behind another.
 fn unhexed(alloc: Global, text: &str) -> Result<Vec<u8>, AllocError> {
     let mut all = Vec::new(alloc);
@@ -60,4 +71,25 @@ pub fn read_checking<R: Files + AllocGlobal>(rt: &R) -> io::Result<Checking> {
     let schema = fs::read_to_string(rt, "schema.toml")?;
     let layout = fs::read_to_string(rt, "layout.txt")?;
     Ok(Checking { schema, layout })
+}
+
+/// Reads the schemas and the orders of `decode` and `encode`.
+///
+/// # Errors
+/// A file that cannot be read, or want of memory.
+pub fn read_coding<R: Files + AllocGlobal>(rt: &R) -> io::Result<Coding> {
+    let orders = fs::read_to_string(rt, "orders.toml")?;
+    let older = fs::read_to_string(rt, "orders-v1.toml")?;
+    let mix = fs::read_to_string(rt, "mix.toml")?;
+    let trade = fs::read_to_string(rt, "trade.toml")?;
+    let frames = bytes_of_file(rt, "orders.hex")?;
+    let text = fs::read_to_string(rt, "orders.txt")?;
+    Ok(Coding {
+        orders,
+        older,
+        mix,
+        trade,
+        frames,
+        text,
+    })
 }

@@ -12,7 +12,9 @@ mod print;
 mod token;
 mod values;
 
-pub use error::TextError;
+pub use error::{Refusal, TextError};
 pub use laws::printed_reads_back;
-pub use parse::parse_message;
+pub use line::{count_lines, first_line};
+pub use parse::{first_message, parse_message, refused_line};
+pub use path::names_begin;
 pub use print::print_message;

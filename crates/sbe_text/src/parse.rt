@@ -1,7 +1,7 @@
 //! Reading a message from its lines. Each reader takes the text that is left,
 //! and gives what its first lines tell and the text behind them.
 
-ghost use Rattle.std.specs.Prelude.{◌≡◌, ◌+◌, ◌-◌, [], length, IfOk, codes};
+ghost use Rattle.std.specs.Prelude.{◌≡◌, ◌+◌, ◌-◌, ◌<◌, [], length, IfOk, codes};
 ghost use Rattle.std.specs.Option.{option_copied};
 ghost use Rattle.sbe_value.specs.Views.{groups_of, blocks_of};
 ghost use Rattle.sbe_layout.specs.Views.{head_of, plans_of};
@@ -43,8 +43,25 @@ fn parse(alloc: Global, plan: &Plan, lines: &[u8]) -> Result<Message, TextError>
     }
 }
 
-// The number of the line at which so many lines are left. No memory holds a text whose lines cannot be numbered.
-fn refused_line(lines: &[u8], left: u64) -> TextError
+/// The message at the front of a text, as [`parse_message`] reads it, and the text behind its line `end`. Messages in a row
+/// are read one after another in this way.
+///
+/// # Errors
+/// `Left` with how many lines are left at the first that is not as it has to be, and `Memory`.
+pub fn first_message<'a>(
+    alloc: Global,
+    plan: &Plan,
+    text: &'a [u8],
+) -> Result<(Message, &'a [u8]), Refusal>
+    ensures told { Gives (λ x. (x.0, lines_in x.1.now)) result (read_message plan.now.messages (lines_in text.now)) }
+    ensures shorter { IfOk result (λ x. length (lines_in x.1.now) < length (lines_in text.now)) }
+{
+    read_message(alloc, plan, text)
+}
+
+/// The number of the line of a text, from 1, at which so many lines are left.
+// No memory holds a text whose lines cannot be numbered.
+pub fn refused_line(lines: &[u8], left: u64) -> TextError
     ensures { Numbers result (length (lines_in lines.now) - left + 1) }
 {
     match count_lines(lines).saturating_sub(left).checked_add(1) {

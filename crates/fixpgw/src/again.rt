@@ -1,0 +1,87 @@
+//! INPUT, read once more to say what is wrong with it. Only a file is read again: what a pipe gave is gone.
+
+use gw_outside::Source;
+use gw_real::FileSource;
+use sofh_frame::{FirstFrame, Framer};
+use std::alloc::Global;
+use std::fs::File;
+use std::rt::Files;
+
+/// The most bytes of a text.
+const TEXT: usize = 1 << 26;
+
+/// How many bytes of a text are asked for at once.
+const PIECE: usize = 32_768;
+
+fn is_file<R: Files<File = File>>(rt: &R, path: &str) -> bool {
+    match rt.metadata(path) {
+        Ok(metadata) => metadata.is_file(),
+        Err(_) => false,
+    }
+}
+
+/// Reads on behind the bytes that a framer holds; false at the end, or where there is no room or the file cannot be read.
+fn read_on<S: Source>(source: &mut S, framer: &mut Framer) -> bool {
+    let room = framer.room();
+    if room.is_empty() {
+        return false;
+    }
+    match source.pull(room) {
+        Ok(0) | Err(_) => false,
+        Ok(count) => {
+            framer.filled(count);
+            true
+        }
+    }
+}
+
+/// The place of a frame in a file, in bytes from 0, by its number, from 1.
+pub fn place_of_frame<R: Files<File = File>>(
+    rt: &R,
+    alloc: Global,
+    path: &str,
+    number: u64,
+) -> Option<u64> {
+    if !is_file(rt, path) {
+        return None;
+    }
+    let mut source: FileSource<'_, R, File> = FileSource::new(rt, alloc, path, 0);
+    let mut framer = Framer::new(alloc).ok()?;
+    let mut place = 0u64;
+    let mut at = 1;
+    for _ in 0..u64::MAX {
+        match framer.peek() {
+            FirstFrame::Frame { .. } if at == number => return Some(place),
+            FirstFrame::Frame { size, .. } => {
+                framer.drop_front(size);
+                place = place.saturating_add(size as u64);
+                at += 1;
+            }
+            FirstFrame::Rest => {
+                if !read_on(&mut source, &mut framer) {
+                    return None;
+                }
+            }
+            FirstFrame::BadLength(_) | FirstFrame::BadEncoding(_) => return None,
+        }
+    }
+    None
+}
+
+/// The text of a file.
+pub fn text_of_file<R: Files<File = File>>(rt: &R, alloc: Global, path: &str) -> Option<Vec<u8>> {
+    if !is_file(rt, path) {
+        return None;
+    }
+    let mut source: FileSource<'_, R, File> = FileSource::new(rt, alloc, path, 0);
+    let mut piece = [0u8; PIECE];
+    let mut text = Vec::new(alloc);
+    for _ in 0..=TEXT {
+        match source.pull(&mut piece) {
+            Ok(0) => return Some(text),
+            Ok(count) => text.extend_from_slice(&piece[..count]).ok()?,
+            Err(_) => return None,
+        }
+    }
+    None
+}
