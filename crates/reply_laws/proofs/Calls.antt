@@ -1,6 +1,6 @@
 -- Each call of a session machine keeps its facts sound.
-use Rattle.std.proofs.Common.{◌≡◌, ◌≢◌, ℕ, ◌+◌, ◌-◌, ◌==◌, ◌&&◌, ◌||◌, ◌<◌, ◌^◌, Bool, true, false, not, if◌then◌else◌, List, [], ◌∷◌, ◌++◌, length, Option, Some, None, refl, sym, ap, subst, ◌∙◌, arith, true≢false}
-use Rattle.std.specs.Prelude.{⊤, is_some, is_none, IfSome}
+use Rattle.std.proofs.Common.{◌≡◌, ℕ, ◌-◌, ◌||◌, Bool, true, false, not, if◌then◌else◌, List, [], ◌∷◌, Option, Some, None, refl, sym, subst, ◌∙◌, true≢false}
+use Rattle.std.specs.Prelude.{is_some, IfSome}
 use Rattle.fixp_msgs.specs.declared.numbering.Range.{Range}
 use Rattle.flow_idem.specs.Runs.{runs_of}
 use Rattle.fixp_shake.specs.declared.config.EndConfig.{EndConfig}
@@ -8,18 +8,16 @@ use Rattle.fixp_shake.specs.declared.phase.Phase.{Phase}
 use Rattle.fixp_shake.specs.declared.phase.Phase.TheVariants as phases
 use Rattle.fixp_shake.specs.Phases.{is_negotiating, is_establishing}
 use Rattle.fixp_shake.specs.declared.violation.Violation.{Violation}
-use Rattle.fixp_replies.specs.declared.facts.EndState.{EndState}
 use Rattle.fixp_replies.specs.declared.facts.Facts.{Facts}
 use Rattle.fixp_replies.specs.declared.facts.OwnFinish.TheVariants as own
 use Rattle.fixp_replies.specs.Acts.{is_record}
-use Rattle.fixp_replies.specs.Incoming.{Incoming}
-use Rattle.fixp_replies.specs.Facts.{Around, is_initiator, connecting, in_phase, serves}
-use Rattle.fixp_replies.specs.Outcomes.{Outcome, breaks, opening_negotiate, opening_establish}
-use Rattle.fixp_replies.specs.Replies.{reply_of, reply_to_bad_frame}
+use Rattle.fixp_replies.specs.Facts.{Around, is_initiator, connecting}
+use Rattle.fixp_replies.specs.Outcomes.{Outcome, opening_negotiate, opening_establish}
+use Rattle.fixp_replies.specs.Replies.{reply_of}
 use Rattle.fixp_replies.specs.Events.{Made, begun, turn_ended, closes, outbox_finished, tells_finish, finish_told, lateness, heartbeats, link_ending}
 use Rattle.fixp_replies.specs.Serving.{own_finishing}
 use Rattle.reply_laws.specs.Sound.{Sound, KeepsSound}
-use Rattle.reply_laws.specs.Machine.{State, around, bytes_of, wrote, made, connected, reply_applied, after_frame, after_bad_frame, after_act, broken_by, ticked, after_turn, after_closed, link_ended, counted_sent, rest_of, Call, begin, frame, bad_frame, did, tick, turn_done, closed, link_end, live, again, taken, reserve, done_pending, served_again, step, StaysSound, MayCall, CallsKeepSound}
+use Rattle.reply_laws.specs.Machine.{State, around, bytes_of, wrote, made, connected, reply_applied, after_bad_frame, after_act, broken_by, begin, frame, bad_frame, did, tick, turn_done, closed, link_end, live, again, taken, reserve, done_pending, served_again, step, StaysSound, CallsKeepSound}
 use Rattle.reply_laws.proofs.Keeping.{sound_goes_on}
 
 -- one of two states

@@ -1,8 +1,7 @@
 -- Sound facts stay sound, row by row.
 use Rattle.std.proofs.Common.{◌≡◌, ◌≢◌, ℕ, ◌+◌, ◌-◌, ◌*◌, ◌<◌, ◌≤◌, ◌^◌, ◌==◌, ◌&&◌, ◌||◌, max, min, nat_lt, not, Bool, true, false, if◌then◌else◌, List, length, [], ◌∷◌, ◌++◌, Option, Some, None, refl, sym, ap, subst, ◌∙◌, arith, eqb-true, eq-eqb, true≢false}
-use Rattle.std.specs.Prelude.{⊤, is_some, is_none, unwrap_or, Result, Ok, Err}
+use Rattle.std.specs.Prelude.{is_some, is_none, unwrap_or, Result, Ok, Err}
 use Rattle.std.specs.List.{AllByRecursion}
-use Rattle.std.specs.Str.{bytes_eq}
 use Rattle.std.proofs.lemmas.Bool.{ltb-false}
 use Rattle.std.proofs.lemmas.Bool.Decides.{nat_tests}
 use Rattle.fixp_msgs.specs.declared.numbering.Range.{Range}
@@ -19,7 +18,6 @@ use Rattle.flow_retrans.specs.Requests as request_is
 use Rattle.fixp_msgs.specs.Canonical.{IsWritable}
 use Rattle.fixp_msgs.specs.Table.{null}
 use Rattle.fixp_shake.specs.declared.config.EndConfig.{EndConfig}
-use Rattle.fixp_shake.specs.declared.phase.Phase.{Phase}
 use Rattle.fixp_shake.specs.declared.phase.Phase.TheVariants as phases
 use Rattle.fixp_shake.specs.declared.violation.Violation.{Violation}
 use Rattle.fixp_shake.specs.declared.violation.Violation.TheVariants.{AfterFinish, MissingNext, NumberTooLarge, WentBack}
@@ -34,12 +32,12 @@ use Rattle.fixp_replies.specs.declared.facts.PeerFinish.TheVariants as peer
 use Rattle.fixp_replies.specs.declared.facts.OwnFinish.TheVariants as own
 use Rattle.fixp_replies.specs.Incoming.{Incoming, application, session, wrong_order, too_short, unknown}
 use Rattle.fixp_replies.specs.Facts.{Around, is_initiator, is_own, in_phase, receiving, requesting, serves, negotiated as as_negotiated, awaiting, gap_to_ask, having_asked, announced_number, expected_number, message_number, peer_last, awaits_gap}
-use Rattle.fixp_replies.specs.Outcomes.{Outcome, Row, row, first_row, goes_on, accepts, rejects, ignores, ends_with, ends, breaks, not_in_phase, request_for, skip_of, told_skip, opening_negotiate, opening_establish}
+use Rattle.fixp_replies.specs.Outcomes.{Outcome, Row, row, goes_on, accepts, rejects, ignores, ends_with, ends, breaks, not_in_phase, request_for, skip_of, told_skip, opening_negotiate, opening_establish}
 use Rattle.fixp_replies.specs.Announcing.{Announced, jumped_over, announced, announcement_fault, refuses, announcement_rows}
-use Rattle.fixp_replies.specs.Handshake.{awaits_client, serves_client, rejects_negotiate, rejects_establish, established, acknowledges, establish_rows, established_again_rows, establish_rows_in, shaken, rejected}
+use Rattle.fixp_replies.specs.Handshake.{awaits_client, serves_client, rejects_negotiate, rejects_establish, established, acknowledges, establish_rows, established_again_rows, establish_rows_in, shaken}
 use Rattle.fixp_replies.specs.Flowing.{bad_retransmission, counted, taken_as, finish_act, peer_finished, answers_finish, is_filled, sequence_follows, restarted, finished_last, finish_fault, finished}
 use Rattle.fixp_replies.specs.Serving.{request_answered, own_finishing}
-use Rattle.fixp_replies.specs.Replies.{template_of, of_session, rows_of, answer_of, terminates, reply_of}
+use Rattle.fixp_replies.specs.Replies.{template_of, of_session, rows_of, answer_of, terminates}
 use Rattle.reply_laws.specs.Sound.{Sound, Advances, is_opening, MayWrite, WithinMost, KeepsSound, SoundGoesOn}
 use Rattle.reply_laws.proofs.Rows.{AllRows, by_row, all_rows, all_within}
 
