@@ -1,5 +1,10 @@
 //! Messages with blocks of other lengths, with more bytes behind them, and with fewer.
 
+ghost use Rattle.std.specs.Prelude.{◌≡◌, ◌≤◌, length, IsTrue};
+ghost use Rattle.sbe_prim.specs.declared.Order.TheVariants.{Little};
+ghost use Rattle.fixp_msgs.specs.declared.frames.FrameKind.TheVariants.{Session};
+ghost use Rattle.fixp_msgs.specs.Header.{kind_of};
+
 use crate::messages::{answer, message_in};
 use fixp_msgs::{FrameKind, MsgFault, kind, read};
 use sbe_prim::Order;
@@ -60,8 +65,12 @@ fn read_alike(first: &[u8], second: &[u8]) -> bool {
     }
 }
 
-fn is_session(message: &[u8]) -> bool {
-    message.len() >= 8 && kind(Order::Little, message) == FrameKind::Session
+/// Whether it is a session message, so that it may be read.
+fn is_session(message: &[u8]) -> bool
+    ensures header { IsTrue result → 8 ≤ length message.now }
+    ensures session { IsTrue result → kind_of Little message.now ≡ Session }
+{
+    message.len() >= 8 && matches!(kind(Order::Little, message), FrameKind::Session)
 }
 
 /// How many of the fronts of a message that have its header and are shorter than it are too short.
