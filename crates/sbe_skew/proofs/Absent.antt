@@ -1,5 +1,6 @@
 -- Exactly the later elements of a message are absent.
-use Rattle.std.proofs.Common.{◌≡◌, ⊤, ℕ, ℤ, Bool, true, false, not, Option, Some, None, List, [], ◌∷◌, length, take, drop, refl, sym, ◌∙◌, ap, subst, if◌then◌else◌, ◌&&◌, ◌==◌}
+use Rattle.std.proofs.Common.{◌≡◌, ℕ, ℤ, Bool, true, false, not, Option, Some, None, List, [], ◌∷◌, length, take, drop, refl, sym, ◌∙◌, ap, subst, if◌then◌else◌, ◌&&◌, ◌==◌}
+use Rattle.std.specs.Prelude.{⊤}
 use Rattle.std.specs.Prelude.{IsTrue, nat_le}
 use Rattle.std.specs.Ordering.{int_eq}
 use Rattle.sbe_prim.specs.declared.Primitive.{Primitive}
