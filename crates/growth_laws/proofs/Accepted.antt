@@ -1,6 +1,6 @@
 -- Over accepted frames an inbox grows as the session model has it, row by row.
 use Rattle.std.proofs.Common.{◌≡◌, ℕ, ◌+◌, ◌==◌, ◌&&◌, ◌||◌, max, min, nat_lt, not, IsTrue, Bool, true, false, if◌then◌else◌, List, [], ◌∷◌, ◌++◌, map, Option, Some, None, option_to_list, refl, sym, ap, subst, ◌∙◌, arith, append-nil, append_assoc, eqb-true, eq-eqb, true≢false}
-use Rattle.std.specs.Prelude.{is_some, unwrap_or, Result, Ok, Err}
+use Rattle.std.specs.Prelude.{is_none, is_some, unwrap_or, Result, Ok, Err}
 use Rattle.std.specs.List.{AllByRecursion}
 use Rattle.std.proofs.lemmas.Grind.{flat_map-append}
 use Rattle.session_model.specs.Inbox.{Numbered, InboxRecord, apply, applied, skips, next_number}
@@ -24,7 +24,7 @@ use Rattle.flow_retrans.specs.Requests as request_is
 use Rattle.fixp_shake.specs.declared.phase.Phase.{Phase}
 use Rattle.fixp_shake.specs.declared.phase.Phase.TheVariants as phases
 use Rattle.fixp_shake.specs.declared.violation.Violation.{Violation}
-use Rattle.fixp_shake.specs.Flows.{is_recoverable}
+use Rattle.fixp_shake.specs.Flows.{is_sequenced, is_recoverable}
 use Rattle.fixp_shake.specs.Phases.{is_negotiating, is_establishing, is_established, is_closing, is_shaken}
 use Rattle.fixp_replies.specs.declared.act.Act.{Act}
 use Rattle.fixp_replies.specs.declared.act.Act.TheVariants as acts
@@ -34,16 +34,17 @@ use Rattle.fixp_replies.specs.declared.facts.Facts.{Facts}
 use Rattle.fixp_replies.specs.declared.facts.PeerFinish.TheVariants as peer
 use Rattle.fixp_replies.specs.declared.facts.OwnFinish.TheVariants as own
 use Rattle.fixp_replies.specs.Incoming.{Incoming, application, session, wrong_order, too_short, unknown}
-use Rattle.fixp_replies.specs.Facts.{Around, is_initiator, connecting, in_phase, requesting, serves, negotiated as as_negotiated, awaiting, awaits_gap, gap_to_ask, announced_number}
+use Rattle.fixp_replies.specs.Facts.{Around, is_initiator, connecting, in_phase, requesting, serves, negotiated as as_negotiated, awaiting, awaits_gap, gap_to_ask, announced_number, finishes_exchanged}
 use Rattle.fixp_replies.specs.Outcomes.{Outcome, Row, row, goes_on, accepts, ignores, ends, not_in_phase, request_for, skip_of, told_skip, opening_negotiate, opening_establish}
-use Rattle.fixp_replies.specs.Events.{Made}
+use Rattle.fixp_replies.specs.Events.{Made, applied_runs, outbox_finished, tells_finish}
+use Rattle.reply_laws.specs.Machine.{counted_sent}
 use Rattle.fixp_replies.specs.Announcing.{Announced, announced, announcement_fault, refuses, announcement_rows}
 use Rattle.fixp_replies.specs.Handshake.{awaits_client, serves_client, established, acknowledges, establish_rows, established_again_rows, establish_rows_in, shaken}
 use Rattle.fixp_replies.specs.Flowing.{bad_retransmission, counted, taken_as, finish_act, peer_finished, answers_finish, is_filled, is_past_finish, sequence_taken, sequence_follows, restarted, finished_last, finish_fault, finished}
 use Rattle.fixp_replies.specs.Serving.{request_answered, own_finishing}
 use Rattle.fixp_replies.specs.Replies.{reply_of, template_of, of_session, rows_of, answer_of, terminates}
 use Rattle.reply_laws.proofs.Rows.{AllRows, by_row, all_rows, all_within}
-use Rattle.growth_laws.specs.Accepting.{model_flow, records_of, event_of, next_message, AsksNothing, Agrees, GrowsBy, told_in, AcceptedFrameGrows, AcceptedFrameTells, AcceptedFramesGrow, AcceptedFramesTell, Arrived, Course, next_course, course_after, AllAccepted, events_of, beginning, written_after, outcome_at}
+use Rattle.growth_laws.specs.Accepting.{model_flow, records_of, event_of, next_message, AsksNothing, Agrees, GrowsBy, told_in, AcceptedFrameGrows, AcceptedFrameTells, AcceptedFramesGrow, AcceptedFramesTell, BeginsAgreeing, turn_end, outbox_finish, live, again, OwnKeepsAgreeing, Arrived, Course, next_course, course_after, AllAccepted, events_of, beginning, written_after, outcome_at}
 use Rattle.growth_laws.proofs.Growing.{announced_on, fault_on, in_order, gap_none, agrees_asked, unmoved, quiet_grows, recoverable_announced, announced_grows, message_grows}
 
 -- what an outcome leaves, where it is accepted: the inbox is grown, and what is skipped is told
@@ -604,8 +605,8 @@ begun_as x recorded initiates negotiated =
     else record { written = opening_negotiate x ∷ []; next = connecting recorded phases.Negotiating }
 
 -- a connection begins with nothing announced, and nothing asked for
-begins : (x : Around) (recorded : EndState) (inbox : List InboxRecord) (flow : Flow) → recorded.inbox_next ≡ next_number inbox → Agrees flow None (beginning x recorded inbox).facts inbox
-begins x recorded inbox flow e = by_role (is_initiator x.config.role) recorded.negotiated
+pub begins_agreeing : BeginsAgreeing
+begins_agreeing x recorded inbox flow e = by_role (is_initiator x.config.role) recorded.negotiated
   where
     fresh : (phase : Phase) → is_shaken phase ≡ false → Agrees flow None (connecting recorded phase) inbox
     fresh phase s = record {
@@ -621,7 +622,55 @@ begins x recorded inbox flow e = by_role (is_initiator x.config.role) recorded.n
     by_role false negotiated = fresh phases.Idle refl
 
 pub accepted_frames_grow : AcceptedFramesGrow
-accepted_frames_grow x recorded inbox arrived flow next same all = course_grows flow None (beginning x recorded inbox) arrived same (begins x recorded inbox flow next) all
+accepted_frames_grow x recorded inbox arrived flow next same all = course_grows flow None (beginning x recorded inbox) arrived same (begins_agreeing x recorded inbox flow next) all
 
 pub accepted_frames_tell : AcceptedFramesTell
-accepted_frames_tell x recorded inbox arrived flow next same all = course_tells flow None (beginning x recorded inbox) arrived same (begins x recorded inbox flow next) all
+accepted_frames_tell x recorded inbox arrived flow next same all = course_tells flow None (beginning x recorded inbox) arrived same (begins_agreeing x recorded inbox flow next) all
+
+abbrev turned : Around → Facts → List Range → Bool → Made
+turned x f runs closing =
+    if closing then record { written = applied_runs runs ++ terminate x.config.session 1 [] ∷ []; next = in_phase f phases.Closing }
+    else record { written = applied_runs runs; next = f }
+
+abbrev told_as_finished : Around → Facts → (last : ℕ) → Bool → Made
+told_as_finished x f last told =
+    if told
+    then record { written = finished_sending x.config.session (if is_sequenced x.config.own_flow then Some last else None) ∷ []; next = own_finishing (outbox_finished f last) own.Told }
+    else record { written = []; next = outbox_finished f last }
+
+-- facts that differ in nothing that is agreed on but the phase, where the handshake stays as it was
+alike : (flow : Flow) (c : Option ℕ) (f g : Facts) (inbox : List InboxRecord) → Agrees flow c f inbox → g.recorded.inbox_next ≡ f.recorded.inbox_next
+    → g.connection.receiver ≡ f.connection.receiver → g.connection.requester ≡ f.connection.requester → g.connection.peer_finish ≡ f.connection.peer_finish
+    → is_shaken g.connection.phase ≡ is_shaken f.connection.phase → Agrees flow c g inbox
+alike flow c f g inbox a next receiver requester finish phase = record {
+  recorded = next ∙ a.recorded;
+  waits = λ r. ap (λ k. k.next) receiver ∙ a.waits r;
+  quiet = λ r. let q = a.quiet r in record {
+    no_request = requester ∙ q.no_request;
+    no_gap = ap (λ k. k.live) receiver ∙ (q.no_gap ∙ sym (ap (λ k. k.next) receiver));
+    no_finish = ap awaits_gap finish ∙ q.no_finish;
+  };
+  stands = λ t. a.stands t ∙ (ap (λ b. if b then Some (next_message flow f) else None) (sym phase) ∙ ap (λ n. if is_shaken g.connection.phase then Some n else None) (same_number (is_recoverable flow)));
+}
+  where
+    same_number : (b : Bool) → (if b then receiver_is.number f.connection.receiver else f.recorded.inbox_next) ≡ (if b then receiver_is.number g.connection.receiver else g.recorded.inbox_next)
+    same_number true = ap (λ k. receiver_is.number k) (sym receiver)
+    same_number false = sym next
+
+pub own_keeps_agreeing : OwnKeepsAgreeing
+own_keeps_agreeing flow c f inbox (turn_end x runs) a = by_test (is_initiator x.config.role) (is_established f.connection.phase) refl (finishes_exchanged x f) (is_none f.connection.serving)
+  where
+    by_test : (b e : Bool) → is_established f.connection.phase ≡ e → (d n : Bool)
+        → Agrees flow c (turned x f runs (b && e && d && n)).next inbox
+    by_test true true e true true = alike flow c f (in_phase f phases.Closing) inbox a refl refl refl refl (sym (is_done f.connection.phase e))
+    by_test true true e true false = a
+    by_test true true e false n = a
+    by_test true false e d n = a
+    by_test false t e d n = a
+own_keeps_agreeing flow c f inbox (outbox_finish x last) a = by_test (tells_finish x f last)
+  where
+    by_test : (b : Bool) → Agrees flow c (told_as_finished x f last b).next inbox
+    by_test true = alike flow c f (own_finishing (outbox_finished f last) own.Told) inbox a refl refl refl refl refl
+    by_test false = alike flow c f (outbox_finished f last) inbox a refl refl refl refl refl
+own_keeps_agreeing flow c f inbox (live count) a = alike flow c f (counted_sent f count) inbox a refl refl refl refl refl
+own_keeps_agreeing flow c f inbox (again rest) a = alike flow c f (serves f rest) inbox a refl refl refl refl refl

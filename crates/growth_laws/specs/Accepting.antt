@@ -7,6 +7,7 @@ use Rattle.session_model.specs.Growth as model
 use Rattle.session_model.specs.Growth.{Grown}
 use Rattle.flow_recover.specs.Receiving.{number}
 use Rattle.flow_retrans.specs.declared.request.Request.TheVariants as requests
+use Rattle.fixp_msgs.specs.declared.numbering.Range as ranges
 use Rattle.fixp_msgs.specs.declared.flow.Flow.{Flow}
 use Rattle.fixp_msgs.specs.declared.flow.Flow.TheVariants as flows
 use Rattle.fixp_msgs.specs.Message.{Message, not_applied}
@@ -18,10 +19,11 @@ use Rattle.fixp_replies.specs.declared.act.Act.TheVariants as acts
 use Rattle.fixp_replies.specs.declared.facts.EndState.{EndState}
 use Rattle.fixp_replies.specs.declared.facts.Facts.{Facts}
 use Rattle.fixp_replies.specs.Incoming.{Incoming, application, session, wrong_order, too_short, unknown}
-use Rattle.fixp_replies.specs.Facts.{Around, awaits_gap}
+use Rattle.fixp_replies.specs.Facts.{Around, awaits_gap, serves}
 use Rattle.fixp_replies.specs.Outcomes.{Outcome}
-use Rattle.fixp_replies.specs.Events.{begun}
+use Rattle.fixp_replies.specs.Events.{begun, turn_ended, finish_told}
 use Rattle.fixp_replies.specs.Replies.{reply_of}
+use Rattle.reply_laws.specs.Machine.{counted_sent}
 
 -- the kind of a flow, in the words of the session model
 abbrev pub model_flow : Flow → model.Flow
@@ -130,6 +132,30 @@ AcceptedFramesGrow = (x : Around) (recorded : EndState) (inbox : List InboxRecor
     → AllByRecursion (λ (a : Arrived). a.around.config.peer_flow ≡ flow) arrived
     → AllAccepted (beginning x recorded inbox) arrived
     → Grown (model_flow flow) None (events_of arrived) inbox (course_after (beginning x recorded inbox) arrived).inbox
+
+-- a connection begins, in either role, with facts that agree with its inbox, and nothing announced
+abbrev pub BeginsAgreeing : Type 0
+BeginsAgreeing = (x : Around) (recorded : EndState) (inbox : List InboxRecord) (flow : Flow)
+    → recorded.inbox_next ≡ next_number inbox → Agrees flow None (beginning x recorded inbox).facts inbox
+
+-- what an end does of its own between frames: a turn ends, the outbox's finish is told, entries are sent live, or some of a
+-- range are sent again
+pub data Own : Type 0 where
+  turn_end : Around → (runs : List ranges.Range) → Own
+  outbox_finish : Around → (last : ℕ) → Own
+  live : (count : ℕ) → Own
+  again : (rest : Option ranges.Range) → Own
+
+abbrev pub facts_after : Facts → Own → Facts
+facts_after f (turn_end x runs) = (turn_ended x f runs).next
+facts_after f (outbox_finish x last) = (finish_told x f last).next
+facts_after f (live count) = counted_sent f count
+facts_after f (again rest) = serves f rest
+
+-- it leaves facts that agree with the same inbox
+abbrev pub OwnKeepsAgreeing : Type 0
+OwnKeepsAgreeing = (flow : Flow) (c : Option ℕ) (f : Facts) (inbox : List InboxRecord) (o : Own)
+    → Agrees flow c f inbox → Agrees flow c (facts_after f o) inbox
 
 -- the ranges that messages tell to be not applied
 abbrev pub told_by : Message → List Range

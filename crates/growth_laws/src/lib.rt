@@ -7,4 +7,5 @@ mod laws;
 
 pub use laws::{
     accepted_frame_grows, accepted_frame_tells, accepted_frames_grow, accepted_frames_tell,
+    begins_agreeing, own_keeps_agreeing,
 };
