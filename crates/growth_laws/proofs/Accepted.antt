@@ -44,7 +44,7 @@ use Rattle.fixp_replies.specs.Flowing.{bad_retransmission, counted, taken_as, fi
 use Rattle.fixp_replies.specs.Serving.{request_answered, own_finishing}
 use Rattle.fixp_replies.specs.Replies.{reply_of, template_of, of_session, rows_of, answer_of, terminates}
 use Rattle.reply_laws.proofs.Rows.{AllRows, by_row, all_rows, all_within}
-use Rattle.growth_laws.specs.Accepting.{model_flow, records_of, event_of, next_message, AsksNothing, Agrees, GrowsBy, told_in, AcceptedFrameGrows, AcceptedFrameTells, AcceptedFramesGrow, AcceptedFramesTell, BeginsAgreeing, turn_end, outbox_finish, live, again, OwnKeepsAgreeing, Arrived, Course, next_course, course_after, AllAccepted, events_of, beginning, written_after, outcome_at}
+use Rattle.growth_laws.specs.Accepting.{model_flow, records_of, event_of, next_message, AsksNothing, Agrees, GrowsBy, told_in, AcceptedFrameGrows, AcceptedFrameTells, AcceptedFramesGrow, AcceptedFramesTell, BeginsAgreeing, turn_end, outbox_finish, live, again, OwnKeepsAgreeing, Happening, frame, between, IsOnFlow, Course, next_course, course_after, AllAccepted, events_of, beginning, written_after}
 use Rattle.growth_laws.proofs.Growing.{announced_on, fault_on, in_order, gap_none, agrees_asked, unmoved, quiet_grows, recoverable_announced, announced_grows, message_grows}
 
 -- what an outcome leaves, where it is accepted: the inbox is grown, and what is skipped is told
@@ -571,32 +571,12 @@ accepted_frame_grows x f i c inbox a t = (leaves x f i c inbox a).grows t
 pub accepted_frame_tells : AcceptedFrameTells
 accepted_frame_tells x f i c inbox a t = (leaves x f i c inbox a).tells t
 
--- over frames that are all accepted
-course_grows : (flow : Flow) (c : Option ℕ) (s : Course) (arrived : List Arrived) → AllByRecursion (λ (a : Arrived). a.around.config.peer_flow ≡ flow) arrived
-    → Agrees flow c s.facts s.inbox → AllAccepted s arrived → Grown (model_flow flow) c (events_of arrived) s.inbox (course_after s arrived).inbox
-course_grows flow c s [] same a all = subst (λ i. Grown (model_flow flow) c [] s.inbox i) (append-nil s.inbox) (unmoved flow c s.facts s.inbox [] a refl refl)
-course_grows flow c s (here ∷ later) same a all =
-    let es = option_to_list (event_of here.incoming) in
-    let g = subst (λ k. Agrees k c s.facts s.inbox → GrowsBy k c s.inbox es (records_of (outcome_at s here).act here.incoming) (outcome_at s here).next) same.0
-    (λ b. accepted_frame_grows here.around s.facts here.incoming c s.inbox b all.0) a in
-    growth_goes_on (model_flow flow) c es (events_of later) s.inbox (next_course s here).inbox (course_after s (here ∷ later)).inbox g.grown
-    (course_grows flow (standing c es) (next_course s here) later same.1 g.agrees all.1)
-
-course_tells : (flow : Flow) (c : Option ℕ) (s : Course) (arrived : List Arrived) → AllByRecursion (λ (a : Arrived). a.around.config.peer_flow ≡ flow) arrived
-    → Agrees flow c s.facts s.inbox → AllAccepted s arrived → skips (course_after s arrived).inbox ≡ skips s.inbox ++ told_in (written_after s arrived)
-course_tells flow c s [] same a all = sym (append-nil (skips s.inbox))
-course_tells flow c s (here ∷ later) same a all =
-    let o = outcome_at s here in
-    let es = option_to_list (event_of here.incoming) in
-    let g = subst (λ k. Agrees k c s.facts s.inbox → GrowsBy k c s.inbox es (records_of o.act here.incoming) o.next) same.0
-    (λ b. accepted_frame_grows here.around s.facts here.incoming c s.inbox b all.0) a in
-    let t : told_in o.written ≡ skips (records_of o.act here.incoming) =
-    accepted_frame_tells here.around s.facts here.incoming c s.inbox (subst (λ k. Agrees k c s.facts s.inbox) (sym same.0) a) all.0 in
-    course_tells flow (standing c es) (next_course s here) later same.1 g.agrees all.1
-    ∙ (ap (λ rs. rs ++ told_in (written_after (next_course s here) later)) (skips-append s.inbox (records_of o.act here.incoming))
-    ∙ (append_assoc (skips s.inbox) (skips (records_of o.act here.incoming)) (told_in (written_after (next_course s here) later))
-    ∙ ap (λ rs. skips s.inbox ++ rs)
-    (ap (λ rs. rs ++ told_in (written_after (next_course s here) later)) (sym t) ∙ sym (flat_map-append _ o.written (written_after (next_course s here) later)))))
+-- one frame, where the flow is this one
+grows_on : (x : Around) (s : Course) (i : Incoming) (c : Option ℕ) (flow : Flow) → x.config.peer_flow ≡ flow → Agrees flow c s.facts s.inbox → IsTrue (reply_of x s.facts i).accepted
+    → GrowsBy flow c s.inbox (option_to_list (event_of i)) (records_of (reply_of x s.facts i).act i) (reply_of x s.facts i).next
+grows_on x s i c flow same a t =
+    subst (λ k. Agrees k c s.facts s.inbox → GrowsBy k c s.inbox (option_to_list (event_of i)) (records_of (reply_of x s.facts i).act i) (reply_of x s.facts i).next) same
+    (λ b. accepted_frame_grows x s.facts i c s.inbox b t) a
 
 abbrev begun_as : Around → EndState → (initiates negotiated : Bool) → Made
 begun_as x recorded initiates negotiated =
@@ -620,12 +600,6 @@ begins_agreeing x recorded inbox flow e = by_role (is_initiator x.config.role) r
     by_role true true = fresh phases.Establishing refl
     by_role true false = fresh phases.Negotiating refl
     by_role false negotiated = fresh phases.Idle refl
-
-pub accepted_frames_grow : AcceptedFramesGrow
-accepted_frames_grow x recorded inbox arrived flow next same all = course_grows flow None (beginning x recorded inbox) arrived same (begins_agreeing x recorded inbox flow next) all
-
-pub accepted_frames_tell : AcceptedFramesTell
-accepted_frames_tell x recorded inbox arrived flow next same all = course_tells flow None (beginning x recorded inbox) arrived same (begins_agreeing x recorded inbox flow next) all
 
 abbrev turned : Around → Facts → List Range → Bool → Made
 turned x f runs closing =
@@ -674,3 +648,33 @@ own_keeps_agreeing flow c f inbox (outbox_finish x last) a = by_test (tells_fini
     by_test false = alike flow c f (outbox_finished f last) inbox a refl refl refl refl refl
 own_keeps_agreeing flow c f inbox (live count) a = alike flow c f (counted_sent f count) inbox a refl refl refl refl refl
 own_keeps_agreeing flow c f inbox (again rest) a = alike flow c f (serves f rest) inbox a refl refl refl refl refl
+
+-- over frames that are all accepted
+course_grows : (flow : Flow) (c : Option ℕ) (s : Course) (happenings : List Happening) → AllByRecursion (IsOnFlow flow) happenings
+    → Agrees flow c s.facts s.inbox → AllAccepted s happenings → Grown (model_flow flow) c (events_of happenings) s.inbox (course_after s happenings).inbox
+course_grows flow c s [] same a all = subst (λ i. Grown (model_flow flow) c [] s.inbox i) (append-nil s.inbox) (unmoved flow c s.facts s.inbox [] a refl refl)
+course_grows flow c s (frame x i ∷ later) same a all =
+    let g = grows_on x s i c flow same.0 a all.0 in
+    growth_goes_on (model_flow flow) c (option_to_list (event_of i)) (events_of later) s.inbox (next_course s (frame x i)).inbox (course_after s (frame x i ∷ later)).inbox g.grown
+    (course_grows flow (standing c (option_to_list (event_of i))) (next_course s (frame x i)) later same.1 g.agrees all.1)
+course_grows flow c s (between o ∷ later) same a all = course_grows flow c (next_course s (between o)) later same.1 (own_keeps_agreeing flow c s.facts s.inbox o a) all.1
+
+course_tells : (flow : Flow) (c : Option ℕ) (s : Course) (happenings : List Happening) → AllByRecursion (IsOnFlow flow) happenings
+    → Agrees flow c s.facts s.inbox → AllAccepted s happenings → skips (course_after s happenings).inbox ≡ skips s.inbox ++ told_in (written_after s happenings)
+course_tells flow c s [] same a all = sym (append-nil (skips s.inbox))
+course_tells flow c s (frame x i ∷ later) same a all =
+    let o = reply_of x s.facts i in
+    let behind = next_course s (frame x i) in
+    let g = grows_on x s i c flow same.0 a all.0 in
+    let t : told_in o.written ≡ skips (records_of o.act i) = accepted_frame_tells x s.facts i c s.inbox (subst (λ k. Agrees k c s.facts s.inbox) (sym same.0) a) all.0 in
+    course_tells flow (standing c (option_to_list (event_of i))) behind later same.1 g.agrees all.1
+    ∙ (ap (λ rs. rs ++ told_in (written_after behind later)) (skips-append s.inbox (records_of o.act i))
+    ∙ (append_assoc (skips s.inbox) (skips (records_of o.act i)) (told_in (written_after behind later))
+    ∙ ap (λ rs. skips s.inbox ++ rs) (ap (λ rs. rs ++ told_in (written_after behind later)) (sym t) ∙ sym (flat_map-append _ o.written (written_after behind later)))))
+course_tells flow c s (between o ∷ later) same a all = course_tells flow c (next_course s (between o)) later same.1 (own_keeps_agreeing flow c s.facts s.inbox o a) all.1
+
+pub accepted_frames_grow : AcceptedFramesGrow
+accepted_frames_grow x recorded inbox happenings flow next same all = course_grows flow None (beginning x recorded inbox) happenings same (begins_agreeing x recorded inbox flow next) all
+
+pub accepted_frames_tell : AcceptedFramesTell
+accepted_frames_tell x recorded inbox happenings flow next same all = course_tells flow None (beginning x recorded inbox) happenings same (begins_agreeing x recorded inbox flow next) all

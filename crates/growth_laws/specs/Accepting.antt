@@ -20,7 +20,6 @@ use Rattle.fixp_replies.specs.declared.facts.EndState.{EndState}
 use Rattle.fixp_replies.specs.declared.facts.Facts.{Facts}
 use Rattle.fixp_replies.specs.Incoming.{Incoming, application, session, wrong_order, too_short, unknown}
 use Rattle.fixp_replies.specs.Facts.{Around, awaits_gap, serves}
-use Rattle.fixp_replies.specs.Outcomes.{Outcome}
 use Rattle.fixp_replies.specs.Events.{begun, turn_ended, finish_told}
 use Rattle.fixp_replies.specs.Replies.{reply_of}
 use Rattle.reply_laws.specs.Machine.{counted_sent}
@@ -89,55 +88,6 @@ AcceptedFrameGrows = (x : Around) (f : Facts) (i : Incoming) (c : Option ℕ) (i
     → Agrees x.config.peer_flow c f inbox → IsTrue (reply_of x f i).accepted
     → GrowsBy x.config.peer_flow c inbox (option_to_list (event_of i)) (records_of (reply_of x f i).act i) (reply_of x f i).next
 
--- a frame of a connection: its message, classified, and what stands around the reply to it
-pub record Arrived : Type 0 where
-  pub around : Around
-  pub incoming : Incoming
-
--- how far a connection has come: the facts, and the records of the inbox, each made stable before the next frame
-pub record Course : Type 0 where
-  pub facts : Facts
-  pub inbox : List InboxRecord
-
-abbrev pub outcome_at : Course → Arrived → Outcome
-outcome_at s a = reply_of a.around s.facts a.incoming
-
-abbrev pub next_course : Course → Arrived → Course
-next_course s a = record { facts = (outcome_at s a).next; inbox = s.inbox ++ records_of (outcome_at s a).act a.incoming }
-
-abbrev pub course_after : Course → List Arrived → Course
-course_after s [] = s
-course_after s (a ∷ later) = course_after (next_course s a) later
-
--- each frame is accepted where the connection has come to
-abbrev pub AllAccepted : Course → List Arrived → Type 0
-AllAccepted s [] = ⊤
-AllAccepted s (a ∷ later) = IsTrue (outcome_at s a).accepted × AllAccepted (next_course s a) later
-
--- the events of some frames
-abbrev pub events_of : List Arrived → List Event
-events_of arrived = flat_map (λ (a : Arrived). option_to_list (event_of a.incoming)) arrived
-
--- the beginning of a connection over an inbox, where this is recorded
-abbrev pub beginning : Around → EndState → List InboxRecord → Course
-beginning x recorded inbox = record { facts = (begun x recorded).next; inbox = inbox }
-
--- over the accepted frames of a connection the inbox grows as the session model has it of the peer's flow, over the events of
--- those frames: on a recoverable flow what is applied has consecutive numbers and reaches as far as the chain of what came, on
--- an idempotent one each message is applied and each skip is the jump of one announcement, on an unsequenced one each message
--- is applied, and without a flow nothing is
-abbrev pub AcceptedFramesGrow : Type 0
-AcceptedFramesGrow = (x : Around) (recorded : EndState) (inbox : List InboxRecord) (arrived : List Arrived) (flow : Flow)
-    → recorded.inbox_next ≡ next_number inbox
-    → AllByRecursion (λ (a : Arrived). a.around.config.peer_flow ≡ flow) arrived
-    → AllAccepted (beginning x recorded inbox) arrived
-    → Grown (model_flow flow) None (events_of arrived) inbox (course_after (beginning x recorded inbox) arrived).inbox
-
--- a connection begins, in either role, with facts that agree with its inbox, and nothing announced
-abbrev pub BeginsAgreeing : Type 0
-BeginsAgreeing = (x : Around) (recorded : EndState) (inbox : List InboxRecord) (flow : Flow)
-    → recorded.inbox_next ≡ next_number inbox → Agrees flow None (beginning x recorded inbox).facts inbox
-
 -- what an end does of its own between frames: a turn ends, the outbox's finish is told, entries are sent live, or some of a
 -- range are sent again
 pub data Own : Type 0 where
@@ -157,6 +107,67 @@ abbrev pub OwnKeepsAgreeing : Type 0
 OwnKeepsAgreeing = (flow : Flow) (c : Option ℕ) (f : Facts) (inbox : List InboxRecord) (o : Own)
     → Agrees flow c f inbox → Agrees flow c (facts_after f o) inbox
 
+-- what happens on a connection: a frame comes, with its message, classified, and what stands around the reply to it; or the end
+-- does something of its own
+pub data Happening : Type 0 where
+  frame : Around → Incoming → Happening
+  between : Own → Happening
+
+-- how far a connection has come: the facts, and the records of the inbox, each made stable before the next frame
+pub record Course : Type 0 where
+  pub facts : Facts
+  pub inbox : List InboxRecord
+
+abbrev pub next_course : Course → Happening → Course
+next_course s (frame x i) = record { facts = (reply_of x s.facts i).next; inbox = s.inbox ++ records_of (reply_of x s.facts i).act i }
+next_course s (between o) = record { facts = facts_after s.facts o; inbox = s.inbox }
+
+abbrev pub course_after : Course → List Happening → Course
+course_after s [] = s
+course_after s (h ∷ later) = course_after (next_course s h) later
+
+-- a frame is accepted where the connection has come to
+abbrev pub IsAccepted : Course → Happening → Type 0
+IsAccepted s (frame x i) = IsTrue (reply_of x s.facts i).accepted
+IsAccepted s (between o) = ⊤
+
+abbrev pub AllAccepted : Course → List Happening → Type 0
+AllAccepted s [] = ⊤
+AllAccepted s (h ∷ later) = IsAccepted s h × AllAccepted (next_course s h) later
+
+-- the flow of the peer, in the configuration around each frame
+abbrev pub IsOnFlow : Flow → Happening → Type 0
+IsOnFlow flow (frame x i) = x.config.peer_flow ≡ flow
+IsOnFlow flow (between o) = ⊤
+
+-- the events of the frames
+abbrev pub events_at : Happening → List Event
+events_at (frame x i) = option_to_list (event_of i)
+events_at (between o) = []
+
+abbrev pub events_of : List Happening → List Event
+events_of happenings = flat_map events_at happenings
+
+-- the beginning of a connection over an inbox, where this is recorded
+abbrev pub beginning : Around → EndState → List InboxRecord → Course
+beginning x recorded inbox = record { facts = (begun x recorded).next; inbox = inbox }
+
+-- a connection begins, in either role, with facts that agree with its inbox, and nothing announced
+abbrev pub BeginsAgreeing : Type 0
+BeginsAgreeing = (x : Around) (recorded : EndState) (inbox : List InboxRecord) (flow : Flow)
+    → recorded.inbox_next ≡ next_number inbox → Agrees flow None (beginning x recorded inbox).facts inbox
+
+-- over the accepted frames of a connection, whatever the end does of its own between them, the inbox grows as the session model
+-- has it of the peer's flow, over the events of those frames: on a recoverable flow what is applied has consecutive numbers and
+-- reaches as far as the chain of what came, on an idempotent one each message is applied and each skip is the jump of one
+-- announcement, on an unsequenced one each message is applied, and without a flow nothing is
+abbrev pub AcceptedFramesGrow : Type 0
+AcceptedFramesGrow = (x : Around) (recorded : EndState) (inbox : List InboxRecord) (happenings : List Happening) (flow : Flow)
+    → recorded.inbox_next ≡ next_number inbox
+    → AllByRecursion (IsOnFlow flow) happenings
+    → AllAccepted (beginning x recorded inbox) happenings
+    → Grown (model_flow flow) None (events_of happenings) inbox (course_after (beginning x recorded inbox) happenings).inbox
+
 -- the ranges that messages tell to be not applied
 abbrev pub told_by : Message → List Range
 told_by (not_applied from count) = record { first = from; count = count } ∷ []
@@ -171,15 +182,19 @@ AcceptedFrameTells = (x : Around) (f : Facts) (i : Incoming) (c : Option ℕ) (i
     → Agrees x.config.peer_flow c f inbox → IsTrue (reply_of x f i).accepted
     → told_in (reply_of x f i).written ≡ skips (records_of (reply_of x f i).act i)
 
--- what is written in reply to some frames
-abbrev pub written_after : Course → List Arrived → List Message
-written_after s [] = []
-written_after s (a ∷ later) = (outcome_at s a).written ++ written_after (next_course s a) later
+-- what is written in reply to the frames
+abbrev pub replies_to : Course → Happening → List Message
+replies_to s (frame x i) = (reply_of x s.facts i).written
+replies_to s (between o) = []
 
--- over the accepted frames of a connection the ranges told to be not applied are those that the inbox skips, in order
+abbrev pub written_after : Course → List Happening → List Message
+written_after s [] = []
+written_after s (h ∷ later) = replies_to s h ++ written_after (next_course s h) later
+
+-- over the accepted frames of a connection the ranges told to be not applied in reply are those that the inbox skips, in order
 abbrev pub AcceptedFramesTell : Type 0
-AcceptedFramesTell = (x : Around) (recorded : EndState) (inbox : List InboxRecord) (arrived : List Arrived) (flow : Flow)
+AcceptedFramesTell = (x : Around) (recorded : EndState) (inbox : List InboxRecord) (happenings : List Happening) (flow : Flow)
     → recorded.inbox_next ≡ next_number inbox
-    → AllByRecursion (λ (a : Arrived). a.around.config.peer_flow ≡ flow) arrived
-    → AllAccepted (beginning x recorded inbox) arrived
-    → skips (course_after (beginning x recorded inbox) arrived).inbox ≡ skips inbox ++ told_in (written_after (beginning x recorded inbox) arrived)
+    → AllByRecursion (IsOnFlow flow) happenings
+    → AllAccepted (beginning x recorded inbox) happenings
+    → skips (course_after (beginning x recorded inbox) happenings).inbox ≡ skips inbox ++ told_in (written_after (beginning x recorded inbox) happenings)
