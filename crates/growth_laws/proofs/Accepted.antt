@@ -28,6 +28,7 @@ use Rattle.fixp_shake.specs.Flows.{is_sequenced, is_recoverable}
 use Rattle.fixp_shake.specs.Phases.{is_negotiating, is_establishing, is_established, is_closing, is_shaken}
 use Rattle.fixp_replies.specs.declared.act.Act.{Act}
 use Rattle.fixp_replies.specs.declared.act.Act.TheVariants as acts
+use Rattle.fixp_replies.specs.declared.act.Ending.{Ending}
 use Rattle.fixp_replies.specs.declared.act.Ending.TheVariants as endings
 use Rattle.fixp_replies.specs.declared.facts.EndState.{EndState}
 use Rattle.fixp_replies.specs.declared.facts.Facts.{Facts}
@@ -44,17 +45,19 @@ use Rattle.fixp_replies.specs.Flowing.{bad_retransmission, counted, taken_as, fi
 use Rattle.fixp_replies.specs.Serving.{request_answered, own_finishing}
 use Rattle.fixp_replies.specs.Replies.{reply_of, template_of, of_session, rows_of, answer_of, terminates}
 use Rattle.reply_laws.proofs.Rows.{AllRows, by_row, all_rows, all_within}
-use Rattle.growth_laws.specs.Accepting.{model_flow, records_of, event_of, next_message, AsksNothing, Agrees, GrowsBy, told_in, AcceptedFrameGrows, AcceptedFrameTells, AcceptedFramesGrow, AcceptedFramesTell, BeginsAgreeing, turn_end, outbox_finish, live, again, OwnKeepsAgreeing, Happening, frame, between, IsOnFlow, Course, next_course, course_after, AllAccepted, events_of, beginning, written_after}
+use Rattle.growth_laws.specs.Accepting.{model_flow, records_of, event_of, next_message, AsksNothing, Agrees, GrowsBy, told_in, AcceptedFrameGrows, RefusedFrameSpares, FrameTells, FramesGrow, FramesTell, BeginsAgreeing, turn_end, outbox_finish, live, again, OwnKeepsAgreeing, Happening, frame, between, IsOnFlow, Course, next_course, course_after, events_at, accepted_events, beginning, written_after}
 use Rattle.growth_laws.proofs.Growing.{announced_on, fault_on, in_order, gap_none, agrees_asked, unmoved, quiet_grows, recoverable_announced, announced_grows, message_grows}
 
--- what an outcome leaves, where it is accepted: the inbox is grown, and what is skipped is told
+-- what an outcome leaves: where it is accepted the inbox is grown, and else it stays; and what is skipped is told
 record Leaves (flow : Flow) (c : Option ℕ) (inbox : List InboxRecord) (i : Incoming) (o : Outcome) : Type 0 where
   grows : IsTrue o.accepted → GrowsBy flow c inbox (option_to_list (event_of i)) (records_of o.act i) o.next
-  tells : IsTrue o.accepted → told_in o.written ≡ skips (records_of o.act i)
+  spares : o.accepted ≡ false → (records_of o.act i ≡ []) × Agrees flow c o.next inbox
+  tells : told_in o.written ≡ skips (records_of o.act i)
 
 -- an outcome that is not accepted
-refused : (flow : Flow) (c : Option ℕ) (inbox : List InboxRecord) (i : Incoming) (o : Outcome) → o.accepted ≡ false → Leaves flow c inbox i o
-refused flow c inbox i o e = record { grows = λ t. absurd (true≢false (sym t ∙ e)); tells = λ t. absurd (true≢false (sym t ∙ e)) }
+refused : (flow : Flow) (c : Option ℕ) (inbox : List InboxRecord) (i : Incoming) (o : Outcome) → o.accepted ≡ false → records_of o.act i ≡ [] → told_in o.written ≡ []
+    → Agrees flow c o.next inbox → Leaves flow c inbox i o
+refused flow c inbox i o e none told a = record { grows = λ t. absurd (true≢false (sym t ∙ e)); spares = λ _. (none, a); tells = told ∙ sym (ap (λ rs. skips rs) none) }
 
 asks_no_range : (x : Around) (g : Option Range) → told_in (request_for x g) ≡ []
 asks_no_range x None = refl
@@ -68,16 +71,17 @@ going : (flow : Flow) (c : Option ℕ) (inbox : List InboxRecord) (i : Incoming)
     → GrowsBy flow c inbox (option_to_list (event_of i)) (records_of act i) f → told_in written ≡ skips (records_of act i) → Leaves flow c inbox i (goes_on x act written f)
 going flow c inbox i x act written f g told = record {
   grows = λ _. record { grown = g.grown; agrees = agrees_asked flow (standing c (option_to_list (event_of i))) f (inbox ++ records_of act i) g.agrees };
-  tells = λ _. told_asking x written (gap_to_ask f) ∙ told;
+  spares = λ e. absurd (true≢false e);
+  tells = told_asking x written (gap_to_ask f) ∙ told;
 }
 
-bad : (flow : Flow) (c : Option ℕ) (inbox : List InboxRecord) (i : Incoming) (x : Around) (f : Facts) (b : Option BadStart) → Leaves flow c inbox i (bad_retransmission x f b)
-bad flow c inbox i x f None = refused flow c inbox i (bad_retransmission x f None) refl
-bad flow c inbox i x f (Some b) = refused flow c inbox i (bad_retransmission x f (Some b)) refl
+bad : (flow : Flow) (c : Option ℕ) (inbox : List InboxRecord) (i : Incoming) (x : Around) (f : Facts) (b : Option BadStart) → Agrees flow c f inbox → Leaves flow c inbox i (bad_retransmission x f b)
+bad flow c inbox i x f None a = refused flow c inbox i (bad_retransmission x f None) refl refl refl a
+bad flow c inbox i x f (Some b) a = refused flow c inbox i (bad_retransmission x f (Some b)) refl refl refl a
 
-refusing : (flow : Flow) (c : Option ℕ) (inbox : List InboxRecord) (i : Incoming) (x : Around) (f : Facts) (v : Option Violation) → Leaves flow c inbox i (refuses x f v)
-refusing flow c inbox i x f None = refused flow c inbox i (refuses x f None) refl
-refusing flow c inbox i x f (Some v) = refused flow c inbox i (refuses x f (Some v)) refl
+refusing : (flow : Flow) (c : Option ℕ) (inbox : List InboxRecord) (i : Incoming) (x : Around) (f : Facts) → Agrees flow c f inbox → (v : Option Violation) → Leaves flow c inbox i (refuses x f v)
+refusing flow c inbox i x f a None = refused flow c inbox i (refuses x f None) refl refl refl a
+refusing flow c inbox i x f a (Some v) = refused flow c inbox i (refuses x f (Some v)) refl refl refl a
 
 some-none : {A : Type 0} (o : Option A) → is_some o ≡ false → o ≡ None
 some-none None e = refl
@@ -90,8 +94,8 @@ announced_rows : (P : Outcome → Type 0) (x : Around) (f : Facts) (template : �
 announced_rows P x f template next follows refuse takes =
     (λ _. refuse (announcement_fault x f template next), λ none. (λ _. takes (some-none (announcement_fault x f template next) none), λ _. tt))
 
-own_rows : (P : Outcome → Type 0) (x : Around) (f : Facts) (template : ℕ) (id : List ℕ) (rows : List Row) → ((o : Outcome) → o.accepted ≡ false → P o) → AllRows P rows → AllRows P (of_session x f template id rows)
-own_rows P x f template id rows out all = (λ _. out _ refl, λ _. all)
+own_rows : (P : Outcome → Type 0) (x : Around) (f : Facts) (template : ℕ) (id : List ℕ) (rows : List Row) → ((e : Ending) → P (ends x f 2 e)) → AllRows P rows → AllRows P (of_session x f template id rows)
+own_rows P x f template id rows out all = (λ _. out _, λ _. all)
 
 -- phases
 is_done : (p : Phase) → is_established p ≡ true → is_shaken p ≡ true
@@ -169,9 +173,6 @@ establish_all x f id timestamp keepalive next credentials c inbox a = by_place (
     P : Outcome → Type 0
     P = Leaves x.config.peer_flow c inbox i
 
-    out : (o : Outcome) → o.accepted ≡ false → P o
-    out = refused x.config.peer_flow c inbox i
-
     acknowledged : announcement_fault x f 4 next ≡ None → P (acknowledges x timestamp keepalive (announced x f next))
     acknowledged none =
         going x.config.peer_flow c inbox i x (skip_of (announced x f next).skipped)
@@ -181,16 +182,16 @@ establish_all x f id timestamp keepalive next credentials c inbox a = by_place (
 
     by_place : (p q : Bool) → AllRows P (if p then establish_rows x f id timestamp keepalive next credentials else if q then established_again_rows x f id timestamp else [])
     by_place true q = (
-      λ _. out _ refl,
+      λ _. refused x.config.peer_flow c inbox i _ refl refl refl a,
       λ _. (
-        λ _. out _ refl,
+        λ _. refused x.config.peer_flow c inbox i _ refl refl refl a,
         λ _. (
-          λ _. out _ refl,
-          λ _. announced_rows P x f 4 next (acknowledges x timestamp keepalive) (refusing x.config.peer_flow c inbox i x f) acknowledged,
+          λ _. refused x.config.peer_flow c inbox i _ refl refl refl a,
+          λ _. announced_rows P x f 4 next (acknowledges x timestamp keepalive) (refusing x.config.peer_flow c inbox i x f a) acknowledged,
         ),
       ),
     )
-    by_place false true = (λ _. out _ refl, λ _. (λ _. out _ refl, λ _. tt))
+    by_place false true = (λ _. refused x.config.peer_flow c inbox i _ refl refl refl a, λ _. (λ _. refused x.config.peer_flow c inbox i _ refl refl refl a, λ _. tt))
     by_place false false = tt
 
 -- facts that differ in nothing that is agreed on
@@ -222,7 +223,7 @@ answered_agrees flow c f inbox last recorded a = record {
 sequence_all : (flow : Flow) (x : Around) (f : Facts) (next : ℕ) (c : Option ℕ) (inbox : List InboxRecord) → Agrees flow c f inbox → is_shaken f.connection.phase ≡ true
     → fault_on flow x.most f 7 (Some next) ≡ None → Leaves flow c inbox (session (sequence next)) (sequence_follows x f next (announced_on flow f (Some next)))
 sequence_all flow x f next c inbox a settled none =
-    by_row P (is_past_finish x f next) _ (sequence_taken x (announced_on flow f (Some next))) (λ _. refused flow c inbox i _ refl)
+    by_row P (is_past_finish x f next) _ (sequence_taken x (announced_on flow f (Some next))) (λ _. refused flow c inbox i _ refl refl refl a)
     (λ _. by_row P (is_filled (announced_on flow f (Some next)).facts) (answers_finish x (announced_on flow f (Some next)).facts (unwrap_or (awaits_gap (announced_on flow f (Some next)).facts.connection.peer_finish) 0)) _ (filled flow a none)
     (λ _. going flow c inbox i x (skip_of (announced_on flow f (Some next)).skipped) (told_skip (announced_on flow f (Some next)).skipped) (announced_on flow f (Some next)).facts
     (announced_grows flow x.most 7 c inbox i in_flow (Some next) f (announced_on flow f (Some next)).facts a none
@@ -372,16 +373,16 @@ message_rows x f p c inbox a =
     let i = application p in
     let flow = x.config.peer_flow in
     all_within (Leaves flow c inbox i) (is_established f.connection.phase) _ (λ done. (
-      λ _. refused flow c inbox i _ refl,
+      λ _. refused flow c inbox i _ refl refl refl a,
       λ present. (
-        λ _. refused flow c inbox i _ refl,
+        λ _. refused flow c inbox i _ refl refl refl a,
         λ _. (
-          λ _. refused flow c inbox i _ refl,
+          λ _. refused flow c inbox i _ refl refl refl a,
           λ _. (
             λ other. going flow c inbox i x (acts.Apply f.recorded.inbox_next) [] (awaiting f (f.recorded.inbox_next + 1))
                 (message_grows flow c inbox p f a (not_false (is_recoverable flow) other) present (is_done f.connection.phase done)) refl,
             λ rec. (
-              λ _. bad flow c inbox i x f (request_is.message_fault f.connection.requester),
+              λ _. bad flow c inbox i x f (request_is.message_fault f.connection.requester) a,
               λ _. (λ _. taken_all flow x f p c inbox (not_true (is_recoverable flow) rec) (is_done f.connection.phase done) a, λ _. tt),
             ),
           ),
@@ -425,7 +426,7 @@ answered x f i id timestamp (Ok range) c inbox none a =
     unchanged x.config.peer_flow c inbox i x acts.Nothing (retransmission x.config.session range.from timestamp range.count ∷ []) f (serves f (Some range)) none a
     (record { recorded = a.recorded; waits = a.waits; quiet = λ r. let q = a.quiet r in record { no_request = q.no_request; no_gap = q.no_gap; no_finish = q.no_finish }; stands = a.stands })
     refl refl refl
-answered x f i id timestamp (Err code) c inbox none a = refused x.config.peer_flow c inbox i _ refl
+answered x f i id timestamp (Err code) c inbox none a = refused x.config.peer_flow c inbox i _ refl refl refl a
 
 ended_agrees : (flow : Flow) (c : Option ℕ) (f : Facts) (inbox : List InboxRecord) → Agrees flow c f inbox → Agrees flow c (requesting f (request_is.after_sequence f.connection.requester)) inbox
 ended_agrees flow c f inbox a = record {
@@ -448,15 +449,14 @@ session_rows : (x : Around) (f : Facts) (m : Message) (c : Option ℕ) (inbox : 
     → AllRows (Leaves x.config.peer_flow c inbox (session m)) (rows_of x f (session m))
 session_rows x f (negotiate id timestamp flow credentials) c inbox a =
     let i = session (negotiate id timestamp flow credentials) in
-    let out = refused x.config.peer_flow c inbox i in
     all_within (Leaves x.config.peer_flow c inbox i) (awaits_client x f) _ (λ _. (
-      λ _. out _ refl,
+      λ _. refused x.config.peer_flow c inbox i _ refl refl refl a,
       λ _. (
-        λ _. out _ refl,
+        λ _. refused x.config.peer_flow c inbox i _ refl refl refl a,
         λ _. (
-          λ _. out _ refl,
+          λ _. refused x.config.peer_flow c inbox i _ refl refl refl a,
           λ _. (
-            λ _. out _ refl,
+            λ _. refused x.config.peer_flow c inbox i _ refl refl refl a,
             λ _. (
               λ _. unchanged x.config.peer_flow c inbox i x acts.Negotiated (negotiation_response x.config.session timestamp (flow_code x.config.own_flow) [] ∷ []) f (as_negotiated f) refl a
                   (record { recorded = a.recorded; waits = a.waits; quiet = λ r. let q = a.quiet r in record { no_request = q.no_request; no_gap = q.no_gap; no_finish = q.no_finish }; stands = a.stands }) refl refl refl,
@@ -468,53 +468,50 @@ session_rows x f (negotiate id timestamp flow credentials) c inbox a =
     ))
 session_rows x f (negotiation_response id timestamp flow credentials) c inbox a =
     let i = session (negotiation_response id timestamp flow credentials) in
-    let out = refused x.config.peer_flow c inbox i in
-    own_rows (Leaves x.config.peer_flow c inbox i) x f 2 id _ out (all_within (Leaves x.config.peer_flow c inbox i) (is_negotiating f.connection.phase) _ (λ n. (
-      λ _. out _ refl,
+    own_rows (Leaves x.config.peer_flow c inbox i) x f 2 id _ (λ e. refused x.config.peer_flow c inbox i _ refl refl refl a) (all_within (Leaves x.config.peer_flow c inbox i) (is_negotiating f.connection.phase) _ (λ n. (
+      λ _. refused x.config.peer_flow c inbox i _ refl refl refl a,
       λ _. (λ _. shaking x.config.peer_flow c inbox i x f refl a (not_negotiated f.connection.phase n), λ _. tt),
     )))
 session_rows x f (negotiation_reject id timestamp code reason) c inbox a =
     let i = session (negotiation_reject id timestamp code reason) in
-    let out = refused x.config.peer_flow c inbox i in
-    own_rows (Leaves x.config.peer_flow c inbox i) x f 3 id _ out (all_within (Leaves x.config.peer_flow c inbox i) (is_negotiating f.connection.phase) _ (λ n. (
+    own_rows (Leaves x.config.peer_flow c inbox i) x f 3 id _ (λ e. refused x.config.peer_flow c inbox i _ refl refl refl a) (all_within (Leaves x.config.peer_flow c inbox i) (is_negotiating f.connection.phase) _ (λ n. (
       λ _. shaking x.config.peer_flow c inbox i x f refl a (not_negotiated f.connection.phase n),
-      λ _. (λ _. out _ refl, λ _. tt),
+      λ _. (λ _. refused x.config.peer_flow c inbox i _ refl refl refl a, λ _. tt),
     )))
 session_rows x f (establish id timestamp keepalive next credentials) c inbox a = establish_all x f id timestamp keepalive next credentials c inbox a
 session_rows x f (establishment_ack id timestamp keepalive next) c inbox a =
     let i = session (establishment_ack id timestamp keepalive next) in
     let interval : ℕ = min 60000 (max 100 keepalive) in
-    own_rows (Leaves x.config.peer_flow c inbox i) x f 5 id _ (refused x.config.peer_flow c inbox i) (all_within (Leaves x.config.peer_flow c inbox i) (is_establishing f.connection.phase) _ (λ _.
-    announced_rows (Leaves x.config.peer_flow c inbox i) x f 5 next (λ (d : Announced). goes_on x (skip_of d.skipped) (told_skip d.skipped) (established d.facts interval)) (refusing x.config.peer_flow c inbox i x f)
+    own_rows (Leaves x.config.peer_flow c inbox i) x f 5 id _ (λ e. refused x.config.peer_flow c inbox i _ refl refl refl a) (all_within (Leaves x.config.peer_flow c inbox i) (is_establishing f.connection.phase) _ (λ _.
+    announced_rows (Leaves x.config.peer_flow c inbox i) x f 5 next (λ (d : Announced). goes_on x (skip_of d.skipped) (told_skip d.skipped) (established d.facts interval)) (refusing x.config.peer_flow c inbox i x f a)
     (λ none. going x.config.peer_flow c inbox i x (skip_of (announced x f next).skipped) (told_skip (announced x f next).skipped) (established (announced x f next).facts interval)
     (handshaken x f 5 c inbox i next interval refl a none) (told_as (announced x f next).skipped i))))
 session_rows x f (establishment_reject id timestamp code reason) c inbox a =
     let i = session (establishment_reject id timestamp code reason) in
-    let out = refused x.config.peer_flow c inbox i in
-    own_rows (Leaves x.config.peer_flow c inbox i) x f 6 id _ out (all_within (Leaves x.config.peer_flow c inbox i) (is_establishing f.connection.phase) _ (λ n. (
+    own_rows (Leaves x.config.peer_flow c inbox i) x f 6 id _ (λ e. refused x.config.peer_flow c inbox i _ refl refl refl a) (all_within (Leaves x.config.peer_flow c inbox i) (is_establishing f.connection.phase) _ (λ n. (
       λ _. unchanged x.config.peer_flow c inbox i x acts.Nothing (opening_negotiate x ∷ []) f (in_phase f phases.Negotiating) refl a
           (still_shaking x.config.peer_flow c f (in_phase f phases.Negotiating) inbox a (not_established f.connection.phase n) refl refl refl refl refl) refl refl refl,
-      λ _. (λ _. out _ refl, λ _. tt),
+      λ _. (λ _. refused x.config.peer_flow c inbox i _ refl refl refl a, λ _. tt),
     )))
 session_rows x f (sequence next) c inbox a =
     let i = session (sequence next) in
     let ended = requesting f (request_is.after_sequence f.connection.requester) in
     all_within (Leaves x.config.peer_flow c inbox i) (is_established f.connection.phase) _ (λ done. (
-      λ _. bad x.config.peer_flow c inbox i x f (request_is.sequence_fault f.connection.requester),
-      λ _. announced_rows (Leaves x.config.peer_flow c inbox i) x ended 7 (Some next) (sequence_follows x ended next) (refusing x.config.peer_flow c inbox i x ended)
+      λ _. bad x.config.peer_flow c inbox i x f (request_is.sequence_fault f.connection.requester) a,
+      λ _. announced_rows (Leaves x.config.peer_flow c inbox i) x ended 7 (Some next) (sequence_follows x ended next) (refusing x.config.peer_flow c inbox i x ended (ended_agrees x.config.peer_flow c f inbox a))
           (λ none. sequence_all x.config.peer_flow x ended next c inbox (ended_agrees x.config.peer_flow c f inbox a) (is_done f.connection.phase done) none),
     ))
 session_rows x f unsequenced_heartbeat c inbox a = (λ _. unchanged x.config.peer_flow c inbox (session unsequenced_heartbeat) x acts.Nothing [] f f refl a a refl refl refl, λ _. tt)
 session_rows x f (retransmit_request id timestamp first count) c inbox a =
     let i = session (retransmit_request id timestamp first count) in
     all_within (Leaves x.config.peer_flow c inbox i) (is_established f.connection.phase) _ (λ _. (
-      λ _. refused x.config.peer_flow c inbox i _ refl,
+      λ _. refused x.config.peer_flow c inbox i _ refl refl refl a,
       λ _. (λ _. answered x f i id timestamp _ c inbox refl a, λ _. tt),
     ))
 session_rows x f (retransmission id next timestamp count) c inbox a =
     let i = session (retransmission id next timestamp count) in
-    own_rows (Leaves x.config.peer_flow c inbox i) x f 10 id _ (refused x.config.peer_flow c inbox i) (all_within (Leaves x.config.peer_flow c inbox i) (is_established f.connection.phase) _ (λ done. (
-      λ _. bad x.config.peer_flow c inbox i x f (request_is.start_fault (request_is.outstanding f.connection.requester) next count),
+    own_rows (Leaves x.config.peer_flow c inbox i) x f 10 id _ (λ e. refused x.config.peer_flow c inbox i _ refl refl refl a) (all_within (Leaves x.config.peer_flow c inbox i) (is_established f.connection.phase) _ (λ done. (
+      λ _. bad x.config.peer_flow c inbox i x f (request_is.start_fault (request_is.outstanding f.connection.requester) next count) a,
       λ asked. (
         λ _. going x.config.peer_flow c inbox i x acts.Nothing [] (restarted f next count) (restarted_grows x.config.peer_flow c inbox f next count a (is_done f.connection.phase done) asked) refl,
         λ _. tt,
@@ -522,8 +519,8 @@ session_rows x f (retransmission id next timestamp count) c inbox a =
     )))
 session_rows x f (retransmit_reject id timestamp code reason) c inbox a =
     let i = session (retransmit_reject id timestamp code reason) in
-    own_rows (Leaves x.config.peer_flow c inbox i) x f 11 id _ (refused x.config.peer_flow c inbox i) (all_within (Leaves x.config.peer_flow c inbox i) (is_established f.connection.phase) _ (λ _.
-    (λ _. refused x.config.peer_flow c inbox i _ refl, λ _. tt)))
+    own_rows (Leaves x.config.peer_flow c inbox i) x f 11 id _ (λ e. refused x.config.peer_flow c inbox i _ refl refl refl a) (all_within (Leaves x.config.peer_flow c inbox i) (is_established f.connection.phase) _ (λ _.
+    (λ _. refused x.config.peer_flow c inbox i _ refl refl refl a, λ _. tt)))
 session_rows x f (applied_message first count) c inbox a = (λ _. unchanged x.config.peer_flow c inbox (session (applied_message first count)) x acts.Nothing [] f f refl a a refl refl refl, λ _. tt)
 session_rows x f (not_applied first count) c inbox a =
     let i = session (not_applied first count) in (
@@ -532,13 +529,13 @@ session_rows x f (not_applied first count) c inbox a =
     )
 session_rows x f (finished_sending id last) c inbox a =
     let i = session (finished_sending id last) in
-    own_rows (Leaves x.config.peer_flow c inbox i) x f 14 id _ (refused x.config.peer_flow c inbox i) (all_within (Leaves x.config.peer_flow c inbox i) (is_established f.connection.phase) _ (λ _. (
-      λ _. refusing x.config.peer_flow c inbox i x f (finish_fault x f last),
+    own_rows (Leaves x.config.peer_flow c inbox i) x f 14 id _ (λ e. refused x.config.peer_flow c inbox i _ refl refl refl a) (all_within (Leaves x.config.peer_flow c inbox i) (is_established f.connection.phase) _ (λ _. (
+      λ _. refusing x.config.peer_flow c inbox i x f a (finish_fault x f last),
       λ _. (λ _. finishing x f i (finished_last x last) c inbox refl a, λ _. tt),
     )))
 session_rows x f (finished_receiving id) c inbox a =
     let i = session (finished_receiving id) in
-    own_rows (Leaves x.config.peer_flow c inbox i) x f 15 id _ (refused x.config.peer_flow c inbox i) (all_within (Leaves x.config.peer_flow c inbox i) (is_established f.connection.phase) _ (λ _. (
+    own_rows (Leaves x.config.peer_flow c inbox i) x f 15 id _ (λ e. refused x.config.peer_flow c inbox i _ refl refl refl a) (all_within (Leaves x.config.peer_flow c inbox i) (is_established f.connection.phase) _ (λ _. (
       λ _. unchanged x.config.peer_flow c inbox i x acts.Nothing [] f (own_finishing f own.Exchanged) refl a
           (record { recorded = a.recorded; waits = a.waits; quiet = λ r. let q = a.quiet r in record { no_request = q.no_request; no_gap = q.no_gap; no_finish = q.no_finish }; stands = a.stands }) refl refl refl,
       λ _. tt,
@@ -546,37 +543,32 @@ session_rows x f (finished_receiving id) c inbox a =
 session_rows x f (terminate id code reason) c inbox a =
     let i = session (terminate id code reason) in
     let answer : Row = row true (ends x f 1 (endings.PeerTerminated code)) in
-    let rest : AllRows (Leaves x.config.peer_flow c inbox i) (answer ∷ []) = (λ _. refused x.config.peer_flow c inbox i answer.outcome refl, λ _. tt) in
-    own_rows (Leaves x.config.peer_flow c inbox i) x f 16 id (answer ∷ []) (refused x.config.peer_flow c inbox i) rest
+    let rest : AllRows (Leaves x.config.peer_flow c inbox i) (answer ∷ []) = (λ _. refused x.config.peer_flow c inbox i answer.outcome refl refl refl a, λ _. tt) in
+    own_rows (Leaves x.config.peer_flow c inbox i) x f 16 id (answer ∷ []) (λ e. refused x.config.peer_flow c inbox i _ refl refl refl a) rest
 
 each_row : (x : Around) (f : Facts) (i : Incoming) (c : Option ℕ) (inbox : List InboxRecord) → Agrees x.config.peer_flow c f inbox
     → AllRows (Leaves x.config.peer_flow c inbox i) (rows_of x f i)
 each_row x f (application p) c inbox a = message_rows x f p c inbox a
 each_row x f (session m) c inbox a = session_rows x f m c inbox a
-each_row x f wrong_order c inbox a = (λ _. refused x.config.peer_flow c inbox wrong_order _ refl, λ _. tt)
-each_row x f too_short c inbox a = (λ _. refused x.config.peer_flow c inbox too_short _ refl, λ _. tt)
-each_row x f (unknown template) c inbox a = (λ _. refused x.config.peer_flow c inbox (unknown template) _ refl, λ _. tt)
+each_row x f wrong_order c inbox a = (λ _. refused x.config.peer_flow c inbox wrong_order _ refl refl refl a, λ _. tt)
+each_row x f too_short c inbox a = (λ _. refused x.config.peer_flow c inbox too_short _ refl refl refl a, λ _. tt)
+each_row x f (unknown template) c inbox a = (λ _. refused x.config.peer_flow c inbox (unknown template) _ refl refl refl a, λ _. tt)
 
 leaves : (x : Around) (f : Facts) (i : Incoming) (c : Option ℕ) (inbox : List InboxRecord) → Agrees x.config.peer_flow c f inbox
     → Leaves x.config.peer_flow c inbox i (reply_of x f i)
 leaves x f i c inbox a =
-    let out = refused x.config.peer_flow c inbox i in
     by_row (Leaves x.config.peer_flow c inbox i) (is_closing f.connection.phase && not (terminates x i)) (ignores f) (answer_of x f i)
-    (λ _. out (ignores f) refl)
-    (λ _. all_rows (Leaves x.config.peer_flow c inbox i) (not_in_phase x f (template_of i)) (rows_of x f i) (out _ refl) (each_row x f i c inbox a))
+    (λ _. refused x.config.peer_flow c inbox i (ignores f) refl refl refl a)
+    (λ _. all_rows (Leaves x.config.peer_flow c inbox i) (not_in_phase x f (template_of i)) (rows_of x f i) (refused x.config.peer_flow c inbox i _ refl refl refl a) (each_row x f i c inbox a))
 
 pub accepted_frame_grows : AcceptedFrameGrows
 accepted_frame_grows x f i c inbox a t = (leaves x f i c inbox a).grows t
 
-pub accepted_frame_tells : AcceptedFrameTells
-accepted_frame_tells x f i c inbox a t = (leaves x f i c inbox a).tells t
+pub refused_frame_spares : RefusedFrameSpares
+refused_frame_spares x f i c inbox a t = (leaves x f i c inbox a).spares t
 
--- one frame, where the flow is this one
-grows_on : (x : Around) (s : Course) (i : Incoming) (c : Option ℕ) (flow : Flow) → x.config.peer_flow ≡ flow → Agrees flow c s.facts s.inbox → IsTrue (reply_of x s.facts i).accepted
-    → GrowsBy flow c s.inbox (option_to_list (event_of i)) (records_of (reply_of x s.facts i).act i) (reply_of x s.facts i).next
-grows_on x s i c flow same a t =
-    subst (λ k. Agrees k c s.facts s.inbox → GrowsBy k c s.inbox (option_to_list (event_of i)) (records_of (reply_of x s.facts i).act i) (reply_of x s.facts i).next) same
-    (λ b. accepted_frame_grows x s.facts i c s.inbox b t) a
+pub frame_tells : FrameTells
+frame_tells x f i c inbox a = (leaves x f i c inbox a).tells
 
 abbrev begun_as : Around → EndState → (initiates negotiated : Bool) → Made
 begun_as x recorded initiates negotiated =
@@ -649,32 +641,50 @@ own_keeps_agreeing flow c f inbox (outbox_finish x last) a = by_test (tells_fini
 own_keeps_agreeing flow c f inbox (live count) a = alike flow c f (counted_sent f count) inbox a refl refl refl refl refl
 own_keeps_agreeing flow c f inbox (again rest) a = alike flow c f (serves f rest) inbox a refl refl refl refl refl
 
--- over frames that are all accepted
+-- what any frame leaves, where the flow is this one
+leaves_on : (x : Around) (s : Course) (i : Incoming) (c : Option ℕ) (flow : Flow) → x.config.peer_flow ≡ flow → Agrees flow c s.facts s.inbox → Leaves flow c s.inbox i (reply_of x s.facts i)
+leaves_on x s i c flow same a = subst (λ k. Agrees k c s.facts s.inbox → Leaves k c s.inbox i (reply_of x s.facts i)) same (leaves x s.facts i c s.inbox) a
+
+-- a frame grows the inbox by its event where it is accepted, and else by none
+grown_at : (x : Around) (s : Course) (i : Incoming) (c : Option ℕ) (flow : Flow) → Agrees flow c s.facts s.inbox → Leaves flow c s.inbox i (reply_of x s.facts i)
+    → GrowsBy flow c s.inbox (events_at s (frame x i)) (records_of (reply_of x s.facts i).act i) (reply_of x s.facts i).next
+grown_at x s i c flow a l = by_test (reply_of x s.facts i).accepted refl
+  where
+    o : Outcome
+    o = reply_of x s.facts i
+
+    by_test : (b : Bool) → o.accepted ≡ b → GrowsBy flow c s.inbox (if b then option_to_list (event_of i) else []) (records_of o.act i) o.next
+    by_test true e = l.grows e
+    by_test false e =
+        let none = l.spares e in
+        quiet_grows flow c s.inbox (records_of o.act i) s.facts o.next a none.1 (ap (λ rs. applied rs) none.0) (ap (λ rs. skips rs) none.0)
+
 course_grows : (flow : Flow) (c : Option ℕ) (s : Course) (happenings : List Happening) → AllByRecursion (IsOnFlow flow) happenings
-    → Agrees flow c s.facts s.inbox → AllAccepted s happenings → Grown (model_flow flow) c (events_of happenings) s.inbox (course_after s happenings).inbox
-course_grows flow c s [] same a all = subst (λ i. Grown (model_flow flow) c [] s.inbox i) (append-nil s.inbox) (unmoved flow c s.facts s.inbox [] a refl refl)
-course_grows flow c s (frame x i ∷ later) same a all =
-    let g = grows_on x s i c flow same.0 a all.0 in
-    growth_goes_on (model_flow flow) c (option_to_list (event_of i)) (events_of later) s.inbox (next_course s (frame x i)).inbox (course_after s (frame x i ∷ later)).inbox g.grown
-    (course_grows flow (standing c (option_to_list (event_of i))) (next_course s (frame x i)) later same.1 g.agrees all.1)
-course_grows flow c s (between o ∷ later) same a all = course_grows flow c (next_course s (between o)) later same.1 (own_keeps_agreeing flow c s.facts s.inbox o a) all.1
+    → Agrees flow c s.facts s.inbox → Grown (model_flow flow) c (accepted_events s happenings) s.inbox (course_after s happenings).inbox
+course_grows flow c s [] same a = subst (λ i. Grown (model_flow flow) c [] s.inbox i) (append-nil s.inbox) (unmoved flow c s.facts s.inbox [] a refl refl)
+course_grows flow c s (frame x i ∷ later) same a =
+    let g = grown_at x s i c flow a (leaves_on x s i c flow same.0 a) in
+    let behind = next_course s (frame x i) in
+    growth_goes_on (model_flow flow) c (events_at s (frame x i)) (accepted_events behind later) s.inbox behind.inbox (course_after s (frame x i ∷ later)).inbox g.grown
+    (course_grows flow (standing c (events_at s (frame x i))) behind later same.1 g.agrees)
+course_grows flow c s (between o ∷ later) same a = course_grows flow c (next_course s (between o)) later same.1 (own_keeps_agreeing flow c s.facts s.inbox o a)
 
 course_tells : (flow : Flow) (c : Option ℕ) (s : Course) (happenings : List Happening) → AllByRecursion (IsOnFlow flow) happenings
-    → Agrees flow c s.facts s.inbox → AllAccepted s happenings → skips (course_after s happenings).inbox ≡ skips s.inbox ++ told_in (written_after s happenings)
-course_tells flow c s [] same a all = sym (append-nil (skips s.inbox))
-course_tells flow c s (frame x i ∷ later) same a all =
+    → Agrees flow c s.facts s.inbox → skips (course_after s happenings).inbox ≡ skips s.inbox ++ told_in (written_after s happenings)
+course_tells flow c s [] same a = sym (append-nil (skips s.inbox))
+course_tells flow c s (frame x i ∷ later) same a =
     let o = reply_of x s.facts i in
     let behind = next_course s (frame x i) in
-    let g = grows_on x s i c flow same.0 a all.0 in
-    let t : told_in o.written ≡ skips (records_of o.act i) = accepted_frame_tells x s.facts i c s.inbox (subst (λ k. Agrees k c s.facts s.inbox) (sym same.0) a) all.0 in
-    course_tells flow (standing c (option_to_list (event_of i))) behind later same.1 g.agrees all.1
+    let l = leaves_on x s i c flow same.0 a in
+    let g = grown_at x s i c flow a l in
+    course_tells flow (standing c (events_at s (frame x i))) behind later same.1 g.agrees
     ∙ (ap (λ rs. rs ++ told_in (written_after behind later)) (skips-append s.inbox (records_of o.act i))
     ∙ (append_assoc (skips s.inbox) (skips (records_of o.act i)) (told_in (written_after behind later))
-    ∙ ap (λ rs. skips s.inbox ++ rs) (ap (λ rs. rs ++ told_in (written_after behind later)) (sym t) ∙ sym (flat_map-append _ o.written (written_after behind later)))))
-course_tells flow c s (between o ∷ later) same a all = course_tells flow c (next_course s (between o)) later same.1 (own_keeps_agreeing flow c s.facts s.inbox o a) all.1
+    ∙ ap (λ rs. skips s.inbox ++ rs) (ap (λ rs. rs ++ told_in (written_after behind later)) (sym l.tells) ∙ sym (flat_map-append _ o.written (written_after behind later)))))
+course_tells flow c s (between o ∷ later) same a = course_tells flow c (next_course s (between o)) later same.1 (own_keeps_agreeing flow c s.facts s.inbox o a)
 
-pub accepted_frames_grow : AcceptedFramesGrow
-accepted_frames_grow x recorded inbox happenings flow next same all = course_grows flow None (beginning x recorded inbox) happenings same (begins_agreeing x recorded inbox flow next) all
+pub frames_grow : FramesGrow
+frames_grow x recorded inbox happenings flow next same = course_grows flow None (beginning x recorded inbox) happenings same (begins_agreeing x recorded inbox flow next)
 
-pub accepted_frames_tell : AcceptedFramesTell
-accepted_frames_tell x recorded inbox happenings flow next same all = course_tells flow None (beginning x recorded inbox) happenings same (begins_agreeing x recorded inbox flow next) all
+pub frames_tell : FramesTell
+frames_tell x recorded inbox happenings flow next same = course_tells flow None (beginning x recorded inbox) happenings same (begins_agreeing x recorded inbox flow next)

@@ -88,6 +88,12 @@ AcceptedFrameGrows = (x : Around) (f : Facts) (i : Incoming) (c : Option ℕ) (i
     → Agrees x.config.peer_flow c f inbox → IsTrue (reply_of x f i).accepted
     → GrowsBy x.config.peer_flow c inbox (option_to_list (event_of i)) (records_of (reply_of x f i).act i) (reply_of x f i).next
 
+-- a frame that is not accepted adds nothing to the inbox, and leaves facts that agree with it
+abbrev pub RefusedFrameSpares : Type 0
+RefusedFrameSpares = (x : Around) (f : Facts) (i : Incoming) (c : Option ℕ) (inbox : List InboxRecord)
+    → Agrees x.config.peer_flow c f inbox → (reply_of x f i).accepted ≡ false
+    → (records_of (reply_of x f i).act i ≡ []) × Agrees x.config.peer_flow c (reply_of x f i).next inbox
+
 -- what an end does of its own between frames: a turn ends, the outbox's finish is told, entries are sent live, or some of a
 -- range are sent again
 pub data Own : Type 0 where
@@ -126,27 +132,19 @@ abbrev pub course_after : Course → List Happening → Course
 course_after s [] = s
 course_after s (h ∷ later) = course_after (next_course s h) later
 
--- a frame is accepted where the connection has come to
-abbrev pub IsAccepted : Course → Happening → Type 0
-IsAccepted s (frame x i) = IsTrue (reply_of x s.facts i).accepted
-IsAccepted s (between o) = ⊤
-
-abbrev pub AllAccepted : Course → List Happening → Type 0
-AllAccepted s [] = ⊤
-AllAccepted s (h ∷ later) = IsAccepted s h × AllAccepted (next_course s h) later
-
 -- the flow of the peer, in the configuration around each frame
 abbrev pub IsOnFlow : Flow → Happening → Type 0
 IsOnFlow flow (frame x i) = x.config.peer_flow ≡ flow
 IsOnFlow flow (between o) = ⊤
 
--- the events of the frames
-abbrev pub events_at : Happening → List Event
-events_at (frame x i) = option_to_list (event_of i)
-events_at (between o) = []
+-- the events of the frames that are accepted, each where the connection has come to
+abbrev pub events_at : Course → Happening → List Event
+events_at s (frame x i) = if (reply_of x s.facts i).accepted then option_to_list (event_of i) else []
+events_at s (between o) = []
 
-abbrev pub events_of : List Happening → List Event
-events_of happenings = flat_map events_at happenings
+abbrev pub accepted_events : Course → List Happening → List Event
+accepted_events s [] = []
+accepted_events s (h ∷ later) = events_at s h ++ accepted_events (next_course s h) later
 
 -- the beginning of a connection over an inbox, where this is recorded
 abbrev pub beginning : Around → EndState → List InboxRecord → Course
@@ -157,16 +155,15 @@ abbrev pub BeginsAgreeing : Type 0
 BeginsAgreeing = (x : Around) (recorded : EndState) (inbox : List InboxRecord) (flow : Flow)
     → recorded.inbox_next ≡ next_number inbox → Agrees flow None (beginning x recorded inbox).facts inbox
 
--- over the accepted frames of a connection, whatever the end does of its own between them, the inbox grows as the session model
--- has it of the peer's flow, over the events of those frames: on a recoverable flow what is applied has consecutive numbers and
+-- over any frames of a connection, and whatever the end does of its own between them, the inbox grows as the session model has
+-- it of the peer's flow, over the events of the accepted ones: on a recoverable flow what is applied has consecutive numbers and
 -- reaches as far as the chain of what came, on an idempotent one each message is applied and each skip is the jump of one
 -- announcement, on an unsequenced one each message is applied, and without a flow nothing is
-abbrev pub AcceptedFramesGrow : Type 0
-AcceptedFramesGrow = (x : Around) (recorded : EndState) (inbox : List InboxRecord) (happenings : List Happening) (flow : Flow)
+abbrev pub FramesGrow : Type 0
+FramesGrow = (x : Around) (recorded : EndState) (inbox : List InboxRecord) (happenings : List Happening) (flow : Flow)
     → recorded.inbox_next ≡ next_number inbox
     → AllByRecursion (IsOnFlow flow) happenings
-    → AllAccepted (beginning x recorded inbox) happenings
-    → Grown (model_flow flow) None (events_of happenings) inbox (course_after (beginning x recorded inbox) happenings).inbox
+    → Grown (model_flow flow) None (accepted_events (beginning x recorded inbox) happenings) inbox (course_after (beginning x recorded inbox) happenings).inbox
 
 -- the ranges that messages tell to be not applied
 abbrev pub told_by : Message → List Range
@@ -176,11 +173,10 @@ told_by _ = []
 abbrev pub told_in : List Message → List Range
 told_in messages = flat_map told_by messages
 
--- a frame that is accepted is answered by one NotApplied for each range that it skips, and by no other
-abbrev pub AcceptedFrameTells : Type 0
-AcceptedFrameTells = (x : Around) (f : Facts) (i : Incoming) (c : Option ℕ) (inbox : List InboxRecord)
-    → Agrees x.config.peer_flow c f inbox → IsTrue (reply_of x f i).accepted
-    → told_in (reply_of x f i).written ≡ skips (records_of (reply_of x f i).act i)
+-- a frame is answered by one NotApplied for each range that it skips, and by no other
+abbrev pub FrameTells : Type 0
+FrameTells = (x : Around) (f : Facts) (i : Incoming) (c : Option ℕ) (inbox : List InboxRecord)
+    → Agrees x.config.peer_flow c f inbox → told_in (reply_of x f i).written ≡ skips (records_of (reply_of x f i).act i)
 
 -- what is written in reply to the frames
 abbrev pub replies_to : Course → Happening → List Message
@@ -191,10 +187,9 @@ abbrev pub written_after : Course → List Happening → List Message
 written_after s [] = []
 written_after s (h ∷ later) = replies_to s h ++ written_after (next_course s h) later
 
--- over the accepted frames of a connection the ranges told to be not applied in reply are those that the inbox skips, in order
-abbrev pub AcceptedFramesTell : Type 0
-AcceptedFramesTell = (x : Around) (recorded : EndState) (inbox : List InboxRecord) (happenings : List Happening) (flow : Flow)
+-- over any frames of a connection the ranges told to be not applied in reply are those that the inbox skips, in order
+abbrev pub FramesTell : Type 0
+FramesTell = (x : Around) (recorded : EndState) (inbox : List InboxRecord) (happenings : List Happening) (flow : Flow)
     → recorded.inbox_next ≡ next_number inbox
     → AllByRecursion (IsOnFlow flow) happenings
-    → AllAccepted (beginning x recorded inbox) happenings
     → skips (course_after (beginning x recorded inbox) happenings).inbox ≡ skips inbox ++ told_in (written_after (beginning x recorded inbox) happenings)

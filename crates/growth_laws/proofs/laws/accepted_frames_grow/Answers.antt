@@ -1,5 +1,0 @@
-use Rattle.growth_laws.proofs.Accepted.{accepted_frames_grow}
-use Rattle.growth_laws.proofs.laws.accepted_frames_grow.Goals as goal
-
-pub returns : goal.returns
-returns c = record { law = accepted_frames_grow }
