@@ -1,0 +1,49 @@
+//! The replies of the table to sound facts: they keep the facts sound, and what they write may be written.
+
+ghost use Rattle.std.specs.Prelude.{◌≡◌, ◌+◌, ◌<◌, ◌≤◌, ◌^◌, ◌∷◌, [], length};
+ghost use Rattle.std.specs.List.{AllByRecursion};
+ghost use Rattle.fixp_replies.specs.Facts.{around_of};
+ghost use Rattle.fixp_replies.specs.Events.{begun};
+ghost use Rattle.fixp_replies.specs.Incoming.{incoming_of};
+ghost use Rattle.fixp_replies.specs.Outcomes.{breaks};
+ghost use Rattle.fixp_replies.specs.Outgoing.{messages_of, outcome_of, reply_limit, written_limit};
+ghost use Rattle.fixp_replies.specs.Replies.{reply_of, reply_to_bad_frame};
+ghost use Rattle.reply_laws.specs.Sound.{Sound, KeepsSound, MayWrite};
+
+use fixp_replies::{Around, Facts, Incoming, Outgoing, Reply, begin, reply_to, reply_to_bad_frame};
+use reply_laws::sound_goes_on;
+
+/// The reply to a frame.
+pub fn reply_to_frame(around: &Around<'_>, facts: &mut Facts, incoming: &Incoming<'_>) -> Reply
+    requires moment { around.now.moment < 2 ^ 44 }
+    requires most { around.now.most ≤ 2 ^ 24 }
+    requires sound { Sound around.now.config.now facts.old }
+    ensures reply { outcome_of around.now.config.now result facts.new ≡ reply_of (around_of around.now) facts.old (incoming_of incoming.now) }
+    ensures keeps { KeepsSound around.now.config.now around.now.most facts.old (outcome_of around.now.config.now result facts.new) }
+    ensures small { written_limit around.now.config.now result.written ≤ reply_limit around.now.config.now }
+{
+    sound_goes_on();
+    reply_to(around, facts, incoming)
+}
+
+/// The reply to bytes that are no frame.
+pub fn reply_to_no_frame(around: &Around<'_>, facts: &Facts) -> Reply
+    requires sound { Sound around.now.config.now facts.now }
+    ensures reply { outcome_of around.now.config.now result facts.now ≡ reply_to_bad_frame (around_of around.now) facts.now }
+    ensures keeps { KeepsSound around.now.config.now around.now.most facts.now (outcome_of around.now.config.now result facts.now) }
+    ensures small { written_limit around.now.config.now result.written ≤ reply_limit around.now.config.now }
+{
+    reply_to_bad_frame(around, facts)
+}
+
+/// The first message of a connection, if the end begins it.
+pub fn begin_connection(around: &Around<'_>, facts: &mut Facts) -> Option<Outgoing>
+    requires moment { around.now.moment < 2 ^ 44 }
+    requires sound { Sound around.now.config.now facts.old }
+    ensures made { record { written = messages_of around.now.config.now (result ∷ []); next = facts.new } ≡ begun (around_of around.now) facts.old.recorded }
+    ensures sound { Sound around.now.config.now facts.new }
+    ensures recorded { facts.new.recorded ≡ facts.old.recorded }
+    ensures writes { AllByRecursion (MayWrite around.now.config.now) (messages_of around.now.config.now (result ∷ [])) }
+{
+    begin(around, facts)
+}
