@@ -8,14 +8,16 @@ ghost use Rattle.fixp_replies.specs.Outgoing.{outcome_of, reply_limit, written_l
 ghost use Rattle.reply_laws.specs.Sound.{KeepsSound};
 
 use crate::output::Output;
-use crate::sound::{begin_connection, reply_to_frame, reply_to_no_frame};
+use crate::sound::{
+    beat, begin_connection, break_connection, finish_sending, reply_to_frame, reply_to_no_frame,
+};
 use crate::telling::take_act;
 use crate::writing::{write_place, write_reply};
 use fixp_msgs::Range;
 use fixp_replies::{
-    Act, Around, Connection, EndState, Ending, Facts, Reply, classify, link_ending,
+    Act, Around, Connection, EndState, Ending, Facts, Reply, classify, lateness, link_ending, outbox_finished,
 };
-use fixp_shake::{EndConfig, Phase};
+use fixp_shake::{EndConfig, Phase, Violation};
 use flow_idem::Applied;
 use sbe_prim::Order;
 use std::alloc::{AllocError, Global};
@@ -75,8 +77,9 @@ impl Model for End {
 }
 
 impl End {
-    ghost use Rattle.fixp_replies.specs.Replies.{reply_to_bad_frame};
-    ghost use Rattle.reply_laws.specs.Machine.{fresh, connected, around, reply_applied, after_bad_frame, after_act, link_ended, phase_of};
+    ghost use Rattle.fixp_replies.specs.Events.{heartbeats, lateness};
+    ghost use Rattle.fixp_replies.specs.Outcomes.{breaks};
+    ghost use Rattle.reply_laws.specs.Machine.{fresh, connected, around, wrote, bytes_of, broken_by, ticked, after_closed, reply_applied, after_bad_frame, after_act, link_ended, phase_of};
     ghost use Rattle.fixp_machine.specs.Answers.{AnswersFrame};
 
     /// A new end that has begun no connection. `most` is the greatest number of an application message.
@@ -245,6 +248,57 @@ impl End {
         }
     }
 
+    /// The clock ticked: a heartbeat that is due is written, if no output is unsent, and then a connection ends whose handshake
+    /// takes too long, or whose peer is silent.
+    pub fn on_tick(&mut self, now: u64)
+        requires begun { self.old.begun ≡ true }
+        requires output { length self.old.unsent ≤ 5100000 }
+        requires time { (self.old.moment ≤ now) × (now < 2 ^ 44) }
+        ensures ticks { self.new ≡ ticked self.old now }
+    {
+        self.moment = now;
+        if self.ending.is_some() {
+            return;
+        }
+        self.write_heartbeat();
+        let violation = lateness(
+            &self.around(0, now),
+            &self.facts,
+            self.start,
+            self.last_received,
+        );
+        self.end_broken(violation);
+    }
+
+    /// The outbox has its Finish behind `last` entries, which may be told again: it is told to the peer once on each connection,
+    /// where all of them were sent.
+    pub fn closed(&mut self, last: u64, now: u64)
+        requires done { self.old.pending ≡ None }
+        requires output { length self.old.unsent ≤ 5100000 }
+        requires time { (self.old.moment ≤ now) × (now < 2 ^ 44) }
+        ensures finish { self.new ≡ after_closed self.old last now }
+    {
+        self.moment = now;
+        let around = Around {
+            config: &self.config,
+            most: self.most,
+            at: 0,
+            moment: now,
+        };
+        if self.ending.is_some() {
+            outbox_finished(&mut self.facts, last);
+            return;
+        }
+        let finish = finish_sending(&around, &mut self.facts, last);
+        write_place(
+            &self.config,
+            &mut self.output,
+            &mut self.last_sent,
+            finish,
+            now,
+        );
+    }
+
     /// No more bytes come: the connection ends, if it has not ended.
     pub fn on_link_end(&mut self)
         requires { self.old.begun ≡ true }
@@ -340,5 +394,51 @@ impl End {
         self.facts = next;
         self.ending = reply.ending;
         self.pending = None;
+    }
+
+    /// Writes the heartbeat that is due at the last moment, if one is.
+    fn write_heartbeat(&mut self)
+        requires output { length self.old.unsent ≤ 5100000 }
+        ensures wrote { self.new ≡ wrote self.old (bytes_of (heartbeats (around self.old 0 self.old.moment) self.old.facts self.old.last_sent self.old.unsent)) self.old.moment }
+        ensures small { length self.new.unsent ≤ 5100000 }
+    {
+        if !self.output.unsent().is_empty() {
+            return;
+        }
+        let moment = self.moment;
+        let around = Around {
+            config: &self.config,
+            most: self.most,
+            at: 0,
+            moment,
+        };
+        let due = beat(&around, &self.facts, self.last_sent);
+        write_place(
+            &self.config,
+            &mut self.output,
+            &mut self.last_sent,
+            due,
+            moment,
+        );
+    }
+
+    /// Ends the connection at the last moment, if its peer broke a rule.
+    fn end_broken(&mut self, violation: Option<Violation>)
+        requires output { length self.old.unsent ≤ 5100000 }
+        ensures ends { self.new ≡ broken_by self.old violation self.old.moment }
+    {
+        if let Some(violation) = violation {
+            self.end_by(violation);
+        }
+    }
+
+    /// Ends the connection at the last moment, whose peer broke a rule.
+    fn end_by(&mut self, violation: Violation)
+        requires output { length self.old.unsent ≤ 5100000 }
+        ensures ends { self.new ≡ reply_applied self.old (breaks (around self.old 0 self.old.moment) self.old.facts violation) self.old.moment }
+    {
+        let facts = self.facts;
+        let reply = break_connection(&self.around(0, self.moment), &facts, violation);
+        self.apply_reply(reply, facts);
     }
 }

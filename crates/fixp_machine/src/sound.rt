@@ -3,14 +3,18 @@
 ghost use Rattle.std.specs.Prelude.{◌≡◌, ◌+◌, ◌<◌, ◌≤◌, ◌^◌, ◌∷◌, [], length};
 ghost use Rattle.std.specs.List.{AllByRecursion};
 ghost use Rattle.fixp_replies.specs.Facts.{around_of};
-ghost use Rattle.fixp_replies.specs.Events.{begun};
+ghost use Rattle.fixp_replies.specs.Events.{begun, heartbeats, finish_told};
 ghost use Rattle.fixp_replies.specs.Incoming.{incoming_of};
 ghost use Rattle.fixp_replies.specs.Outcomes.{breaks};
 ghost use Rattle.fixp_replies.specs.Outgoing.{messages_of, outcome_of, reply_limit, written_limit};
 ghost use Rattle.fixp_replies.specs.Replies.{reply_of, reply_to_bad_frame};
 ghost use Rattle.reply_laws.specs.Sound.{Sound, KeepsSound, MayWrite};
 
-use fixp_replies::{Around, Facts, Incoming, Outgoing, Reply, begin, reply_to, reply_to_bad_frame};
+use fixp_replies::{
+    Around, Facts, Incoming, Outgoing, Reply, begin, heartbeat_due, reply_to, reply_to_bad_frame,
+    tell_finish,
+};
+use fixp_shake::Violation;
 use reply_laws::sound_goes_on;
 
 /// The reply to a frame.
@@ -46,4 +50,35 @@ pub fn begin_connection(around: &Around<'_>, facts: &mut Facts) -> Option<Outgoi
     ensures writes { AllByRecursion (MayWrite around.now.config.now) (messages_of around.now.config.now (result ∷ [])) }
 {
     begin(around, facts)
+}
+
+/// The end of a connection whose peer broke a rule.
+pub fn break_connection(around: &Around<'_>, facts: &Facts, violation: Violation) -> Reply
+    requires sound { Sound around.now.config.now facts.now }
+    ensures reply { outcome_of around.now.config.now result facts.now ≡ breaks (around_of around.now) facts.now violation }
+    ensures keeps { KeepsSound around.now.config.now around.now.most facts.now (outcome_of around.now.config.now result facts.now) }
+    ensures small { written_limit around.now.config.now result.written ≤ reply_limit around.now.config.now }
+{
+    Reply::breaks(around, facts, violation)
+}
+
+/// The heartbeat that is due where nothing waits to be sent, if one is.
+pub fn beat(around: &Around<'_>, facts: &Facts, last_sent: u64) -> Option<Outgoing>
+    requires sound { Sound around.now.config.now facts.now }
+    requires order { last_sent ≤ around.now.moment }
+    ensures beats { messages_of around.now.config.now (result ∷ []) ≡ heartbeats (around_of around.now) facts.now last_sent [] }
+    ensures writes { AllByRecursion (MayWrite around.now.config.now) (messages_of around.now.config.now (result ∷ [])) }
+{
+    heartbeat_due(around, facts, last_sent)
+}
+
+/// The outbox has its finish behind this many entries: the message that tells it, where it is to be written now.
+pub fn finish_sending(around: &Around<'_>, facts: &mut Facts, last: u64) -> Option<Outgoing>
+    requires sound { Sound around.now.config.now facts.old }
+    ensures made { record { written = messages_of around.now.config.now (result ∷ []); next = facts.new } ≡ finish_told (around_of around.now) facts.old last }
+    ensures sound { Sound around.now.config.now facts.new }
+    ensures inbox { facts.new.recorded.inbox_next ≡ facts.old.recorded.inbox_next }
+    ensures writes { AllByRecursion (MayWrite around.now.config.now) (messages_of around.now.config.now (result ∷ [])) }
+{
+    tell_finish(around, facts, last)
 }
