@@ -1,5 +1,5 @@
 -- The outbox's finish keeps facts sound, and the inbox's next number.
-use Rattle.std.proofs.Common.{◌≡◌, ℕ, Bool, true, false, if◌then◌else◌, Option, Some, None, [], ◌∷◌, refl}
+use Rattle.std.proofs.Common.{◌≡◌, ℕ, Bool, true, false, if◌then◌else◌, Some, None, [], ◌∷◌, refl}
 use Rattle.fixp_msgs.specs.Message.{finished_sending}
 use Rattle.fixp_shake.specs.Flows.{is_sequenced}
 use Rattle.fixp_replies.specs.declared.facts.Facts.{Facts}

@@ -5,6 +5,7 @@
 mod machine;
 mod messages;
 mod output;
+mod runs;
 mod sound;
 mod telling;
 mod writing;

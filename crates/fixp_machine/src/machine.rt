@@ -8,6 +8,7 @@ ghost use Rattle.fixp_replies.specs.Outgoing.{outcome_of, reply_limit, written_l
 ghost use Rattle.reply_laws.specs.Sound.{KeepsSound};
 
 use crate::output::Output;
+use crate::runs::write_turn;
 use crate::sound::{
     beat, begin_connection, break_connection, finish_sending, reply_to_frame, reply_to_no_frame,
 };
@@ -15,7 +16,8 @@ use crate::telling::take_act;
 use crate::writing::{write_place, write_reply};
 use fixp_msgs::Range;
 use fixp_replies::{
-    Act, Around, Connection, EndState, Ending, Facts, Reply, classify, lateness, link_ending, outbox_finished,
+    Act, Around, Connection, EndState, Ending, Facts, Reply, classify, lateness, link_ending,
+    outbox_finished,
 };
 use fixp_shake::{EndConfig, Phase, Violation};
 use flow_idem::Applied;
@@ -79,7 +81,7 @@ impl Model for End {
 impl End {
     ghost use Rattle.fixp_replies.specs.Events.{heartbeats, lateness};
     ghost use Rattle.fixp_replies.specs.Outcomes.{breaks};
-    ghost use Rattle.reply_laws.specs.Machine.{fresh, connected, around, wrote, bytes_of, broken_by, ticked, after_closed, reply_applied, after_bad_frame, after_act, link_ended, phase_of};
+    ghost use Rattle.reply_laws.specs.Machine.{fresh, connected, around, wrote, bytes_of, broken_by, ticked, after_closed, after_turn, reply_applied, after_bad_frame, after_act, link_ended, phase_of};
     ghost use Rattle.fixp_machine.specs.Answers.{AnswersFrame};
 
     /// A new end that has begun no connection. `most` is the greatest number of an application message.
@@ -268,6 +270,35 @@ impl End {
             self.last_received,
         );
         self.end_broken(violation);
+    }
+
+    /// A turn ended: the numbers that an idempotent flow applied in it are told, each run of consecutive ones once, and behind
+    /// them an initiator closes a connection on which both finishes are exchanged.
+    pub fn turn_done(&mut self, now: u64)
+        requires done { self.old.pending ≡ None }
+        requires output { length self.old.unsent ≤ 2000000 }
+        requires few { length self.old.untold ≤ 10000 }
+        requires time { (self.old.moment ≤ now) × (now < 2 ^ 44) }
+        ensures turn { self.new ≡ after_turn self.old now }
+    {
+        self.moment = now;
+        if self.ending.is_some() {
+            return;
+        }
+        let around = Around {
+            config: &self.config,
+            most: self.most,
+            at: 0,
+            moment: now,
+        };
+        write_turn(
+            &around,
+            &mut self.facts,
+            &self.applied,
+            &mut self.output,
+            &mut self.last_sent,
+        );
+        self.applied.forget_runs();
     }
 
     /// The outbox has its Finish behind `last` entries, which may be told again: it is told to the peer once on each connection,

@@ -1,9 +1,10 @@
 //! The replies of the table to sound facts: they keep the facts sound, and what they write may be written.
 
-ghost use Rattle.std.specs.Prelude.{◌≡◌, ◌+◌, ◌<◌, ◌≤◌, ◌^◌, ◌∷◌, [], length};
+ghost use Rattle.std.specs.Prelude.{◌≡◌, ◌+◌, ◌<◌, ◌≤◌, ◌^◌, ◌∷◌, ◌++◌, [], length, List};
 ghost use Rattle.std.specs.List.{AllByRecursion};
+ghost use Rattle.fixp_msgs.specs.declared.numbering.Range.{Range};
 ghost use Rattle.fixp_replies.specs.Facts.{around_of};
-ghost use Rattle.fixp_replies.specs.Events.{begun, heartbeats, finish_told};
+ghost use Rattle.fixp_replies.specs.Events.{begun, heartbeats, finish_told, applied_runs, turn_ended};
 ghost use Rattle.fixp_replies.specs.Incoming.{incoming_of};
 ghost use Rattle.fixp_replies.specs.Outcomes.{breaks};
 ghost use Rattle.fixp_replies.specs.Outgoing.{messages_of, outcome_of, reply_limit, written_limit};
@@ -11,8 +12,8 @@ ghost use Rattle.fixp_replies.specs.Replies.{reply_of, reply_to_bad_frame};
 ghost use Rattle.reply_laws.specs.Sound.{Sound, KeepsSound, MayWrite};
 
 use fixp_replies::{
-    Around, Facts, Incoming, Outgoing, Reply, begin, heartbeat_due, reply_to, reply_to_bad_frame,
-    tell_finish,
+    Around, Facts, Incoming, Outgoing, Reply, begin, end_turn, heartbeat_due, reply_to,
+    reply_to_bad_frame, tell_finish,
 };
 use fixp_shake::Violation;
 use reply_laws::sound_goes_on;
@@ -81,4 +82,15 @@ pub fn finish_sending(around: &Around<'_>, facts: &mut Facts, last: u64) -> Opti
     ensures writes { AllByRecursion (MayWrite around.now.config.now) (messages_of around.now.config.now (result ∷ [])) }
 {
     tell_finish(around, facts, last)
+}
+
+/// The end of a turn: the Terminate by which an initiator closes the connection, if it does.
+pub fn finish_turn(around: &Around<'_>, facts: &mut Facts) -> Option<Outgoing>
+    requires sound { Sound around.now.config.now facts.old }
+    ensures made { (runs : List Range) → record { written = applied_runs runs ++ messages_of around.now.config.now (result ∷ []); next = facts.new } ≡ turn_ended (around_of around.now) facts.old runs }
+    ensures sound { Sound around.now.config.now facts.new }
+    ensures recorded { facts.new.recorded ≡ facts.old.recorded }
+    ensures writes { AllByRecursion (MayWrite around.now.config.now) (messages_of around.now.config.now (result ∷ [])) }
+{
+    end_turn(around, facts)
 }

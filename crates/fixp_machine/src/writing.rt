@@ -59,7 +59,7 @@ fn write_large(config: &EndConfig, output: &mut Output, message: Outgoing)
 }
 
 /// Writes a message, and gives the moment of the last frame written.
-fn write_message(config: &EndConfig, output: &mut Output, message: Outgoing)
+pub fn write_message(config: &EndConfig, output: &mut Output, message: Outgoing)
     requires credentials { length config.now.credentials ≤ 2048 }
     requires writable { IsWritable (outgoing_message config.now message) }
     requires room { length output.old + frame_limit config.now message ≤ 5242880 }
