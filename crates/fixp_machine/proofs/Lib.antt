@@ -1,0 +1,5 @@
+pub mod Begun
+pub mod Written
+pub mod Told
+pub mod RunLemmas
+pub mod Turn

@@ -1,0 +1,475 @@
+//! One end: its state, the beginning of a connection, and its frames.
+
+ghost use Rattle.std.specs.Prelude.{◌≡◌, ℕ, ◌+◌, ◌^◌, ◌<◌, ◌≤◌, [], length, drop, true, false, IsSome, IfSome, IfOk, OnOk, OnErr, None};
+ghost use Rattle.fixp_msgs.specs.declared.flow.Flow.TheVariants.{Recoverable};
+ghost use Rattle.fixp_replies.specs.Facts.{around_of};
+ghost use Rattle.fixp_replies.specs.Acts.{is_record};
+ghost use Rattle.fixp_replies.specs.Outgoing.{outcome_of, reply_limit, written_limit};
+ghost use Rattle.reply_laws.specs.Sound.{KeepsSound};
+
+use crate::output::Output;
+use crate::runs::write_turn;
+use crate::sound::{
+    beat, begin_connection, break_connection, finish_sending, reply_to_frame, reply_to_no_frame,
+};
+use crate::telling::take_act;
+use crate::writing::{write_place, write_reply};
+use fixp_msgs::Range;
+use fixp_replies::{
+    Act, Around, Connection, EndState, Ending, Facts, Reply, classify, lateness, link_ending,
+    outbox_finished,
+};
+use fixp_shake::{EndConfig, Phase, Violation};
+use flow_idem::Applied;
+use sbe_prim::Order;
+use std::alloc::{AllocError, Global};
+use std::marker::Model;
+
+/// How many frames `End::reserve` makes room for.
+const RESERVED_FRAMES: u8 = 16;
+
+/// One end of a session, over any number of connections one after another.
+#[derive(Debug, Drop)]
+pub struct End {
+    config: EndConfig,
+    most: u64,
+    begun: bool,
+    moment: u64,
+    facts: Facts,
+    ending: Option<Ending>,
+    output: Output,
+    pending: Option<Reply>,
+    /// The facts from the pending reply on.
+    next: Facts,
+    room: u8,
+    start: u64,
+    last_sent: u64,
+    last_received: u64,
+    applied: Applied,
+}
+
+impl Model for End {
+    ghost use Rattle.std.specs.Prelude.{◌≤◌, IfSome};
+    ghost use Rattle.std.specs.Option.{option_map};
+    ghost use Rattle.fixp_replies.specs.Outgoing.{outcome_of};
+    ghost use Rattle.reply_laws.specs.Machine.{State};
+    ghost use Rattle.fixp_replies.specs.Outgoing.{reply_limit, written_limit};
+    ghost use Rattle.fixp_machine.specs.Keeping.{Keeps};
+
+    ghost Value = { State };
+
+    ghost view = { λ e. record {
+      config = e.config;
+      most = e.most;
+      begun = e.begun;
+      moment = e.moment;
+      facts = e.facts;
+      ending = e.ending;
+      unsent = e.output;
+      pending = option_map (λ reply. outcome_of e.config reply e.next) e.pending;
+      room = e.room;
+      start = e.start;
+      last_sent = e.last_sent;
+      last_received = e.last_received;
+      untold = e.applied.untold;
+    } };
+
+    ghost invariant = { λ e. Keeps e.config e.most e.moment e.facts (option_map (λ reply. outcome_of e.config reply e.next) e.pending) e.room e.start e.last_sent e.last_received e.applied
+        × IfSome e.pending (λ reply. written_limit e.config reply.written ≤ reply_limit e.config) };
+}
+
+impl End {
+    ghost use Rattle.fixp_replies.specs.Events.{heartbeats, lateness};
+    ghost use Rattle.fixp_replies.specs.Outcomes.{breaks};
+    ghost use Rattle.reply_laws.specs.Machine.{fresh, connected, around, wrote, bytes_of, broken_by, ticked, after_closed, after_turn, reply_applied, after_bad_frame, after_act, link_ended, phase_of};
+    ghost use Rattle.fixp_machine.specs.Answers.{AnswersFrame};
+
+    /// A new end that has begun no connection. `most` is the greatest number of an application message.
+    ///
+    /// # Errors
+    /// Want of memory for the output of 5,242,880 bytes, or for what is to be told.
+    pub fn new(
+        alloc: Global,
+        config: EndConfig,
+        state: EndState,
+        most: u64,
+    ) -> Result<End, AllocError>
+        requires keepalive { (100 ≤ config.keepalive) × (config.keepalive ≤ 60000) }
+        requires credentials { length config.credentials ≤ 2048 }
+        requires most { most ≤ 2 ^ 24 }
+        requires first { 1 ≤ state.inbox_next }
+        requires numbered { config.peer_flow ≡ Recoverable → state.inbox_next + 1 < 2 ^ 64 }
+        requires sent { state.sent < 2 ^ 40 }
+        ensures { IfOk result (λ e. e ≡ fresh config state most) }
+    {
+        let output = Output::new(alloc)?;
+        let applied = Applied::new(alloc, state.inbox_next)?;
+        let facts = Facts {
+            recorded: state,
+            connection: Connection::new(&state, Phase::Idle),
+        };
+        let next = facts;
+        Ok(End {
+            config,
+            most,
+            begun: false,
+            moment: 0,
+            facts,
+            ending: None,
+            output,
+            pending: None,
+            next,
+            room: 0,
+            start: 0,
+            last_sent: 0,
+            last_received: 0,
+            applied,
+        })
+    }
+
+    /// A connection begins at the moment `now` in milliseconds, and an initiator writes its first message. What the connection
+    /// before left unsent is dropped.
+    pub fn begin(&mut self, now: u64)
+        requires over { self.old.begun ≡ true → IsSome self.old.ending }
+        requires time { (self.old.moment ≤ now) × (now < 2 ^ 44) }
+        ensures { self.new ≡ connected self.old now }
+    {
+        let around = Around {
+            config: &self.config,
+            most: self.most,
+            at: 0,
+            moment: now,
+        };
+        let opening = begin_connection(&around, &mut self.facts);
+        self.begun = true;
+        self.moment = now;
+        self.ending = None;
+        self.output.clear();
+        self.pending = None;
+        self.start = now;
+        self.last_sent = now;
+        self.last_received = now;
+        self.applied.forget_runs();
+        write_place(
+            &self.config,
+            &mut self.output,
+            &mut self.last_sent,
+            opening,
+            now,
+        );
+    }
+
+    /// Makes room for 16 frames.
+    ///
+    /// # Errors
+    /// Want of memory: nothing has changed.
+    pub fn reserve(&mut self) -> Result<(), AllocError>
+        requires done { self.old.pending ≡ None }
+        ensures ok { OnOk result (self.new ≡ record self.old { room = 16 }) }
+        ensures err { OnErr result (self.new ≡ self.old) }
+    {
+        self.applied.reserve()?;
+        self.room = RESERVED_FRAMES;
+        Ok(())
+    }
+
+    /// Answers a frame of the connection. `message` begins with its SBE header, `at` is the frame's place in the connection's
+    /// bytes, and `now` the moment in milliseconds. Where the act is a record, the caller makes it stable and then calls `did`,
+    /// which writes the reply; any other reply is written at once.
+    pub fn on_frame(&mut self, order: Order, message: &[u8], at: u64, now: u64) -> Act
+        requires header { 8 ≤ length message.now }
+        requires most { length message.now ≤ 16384 }
+        requires begun { self.old.begun ≡ true }
+        requires open { self.old.ending ≡ None }
+        requires done { self.old.pending ≡ None }
+        requires room { 0 < self.old.room }
+        requires output { length self.old.unsent ≤ 1000000 }
+        requires time { (self.old.moment ≤ now) × (now < 2 ^ 44) }
+        ensures reply { AnswersFrame self.old self.new order message.now at now result }
+        ensures small { length self.new.unsent ≤ length self.old.unsent + reply_limit self.old.config }
+    {
+        let mut next = self.facts;
+        let reply = reply_to_frame(&self.around(at, now), &mut next, &classify(order, message));
+        self.moment = now;
+        self.last_received = now;
+        self.room -= 1;
+        let act = reply.act;
+        if act.is_record() {
+            self.next = next;
+            self.pending = Some(reply);
+        } else {
+            self.apply_reply(reply, next);
+        }
+        act
+    }
+
+    /// Answers bytes at the place `at` of the connection that are no frame.
+    pub fn on_bad_frame(&mut self, at: u64, now: u64)
+        requires begun { self.old.begun ≡ true }
+        requires open { self.old.ending ≡ None }
+        requires done { self.old.pending ≡ None }
+        requires output { length self.old.unsent ≤ 5100000 }
+        requires time { (self.old.moment ≤ now) × (now < 2 ^ 44) }
+        ensures reply { self.new ≡ after_bad_frame self.old at now }
+        ensures small { length self.new.unsent ≤ length self.old.unsent + reply_limit self.old.config }
+    {
+        let facts = self.facts;
+        let reply = reply_to_no_frame(&self.around(at, now), &facts);
+        self.moment = now;
+        self.last_received = now;
+        self.apply_reply(reply, facts);
+    }
+
+    /// The act of the last frame is stable: its reply takes effect.
+    pub fn did(&mut self, now: u64)
+        requires pending { IsSome self.old.pending }
+        requires output { length self.old.unsent ≤ 5100000 }
+        requires time { (self.old.moment ≤ now) × (now < 2 ^ 44) }
+        ensures reply { IfSome self.old.pending (λ outcome. self.new ≡ after_act self.old outcome now) }
+        ensures small { length self.new.unsent ≤ length self.old.unsent + reply_limit self.old.config }
+    {
+        self.moment = now;
+        if let Some(reply) = self.pending {
+            let next = self.next;
+            take_act(
+                &mut self.applied,
+                &self.config,
+                reply.act,
+                next.recorded.inbox_next,
+            );
+            write_reply(
+                &self.config,
+                &mut self.output,
+                &mut self.last_sent,
+                reply.written,
+                now,
+            );
+            self.facts = next;
+            self.ending = reply.ending;
+            self.pending = None;
+        }
+    }
+
+    /// The clock ticked: a heartbeat that is due is written, if no output is unsent, and then a connection ends whose handshake
+    /// takes too long, or whose peer is silent.
+    pub fn on_tick(&mut self, now: u64)
+        requires begun { self.old.begun ≡ true }
+        requires output { length self.old.unsent ≤ 5100000 }
+        requires time { (self.old.moment ≤ now) × (now < 2 ^ 44) }
+        ensures ticks { self.new ≡ ticked self.old now }
+    {
+        self.moment = now;
+        if self.ending.is_some() {
+            return;
+        }
+        self.write_heartbeat();
+        let violation = lateness(
+            &self.around(0, now),
+            &self.facts,
+            self.start,
+            self.last_received,
+        );
+        self.end_broken(violation);
+    }
+
+    /// A turn ended: the numbers that an idempotent flow applied in it are told, each run of consecutive ones once, and behind
+    /// them an initiator closes a connection on which both finishes are exchanged.
+    pub fn turn_done(&mut self, now: u64)
+        requires done { self.old.pending ≡ None }
+        requires output { length self.old.unsent ≤ 2000000 }
+        requires few { length self.old.untold ≤ 10000 }
+        requires time { (self.old.moment ≤ now) × (now < 2 ^ 44) }
+        ensures turn { self.new ≡ after_turn self.old now }
+    {
+        self.moment = now;
+        if self.ending.is_some() {
+            return;
+        }
+        let around = Around {
+            config: &self.config,
+            most: self.most,
+            at: 0,
+            moment: now,
+        };
+        write_turn(
+            &around,
+            &mut self.facts,
+            &self.applied,
+            &mut self.output,
+            &mut self.last_sent,
+        );
+        self.applied.forget_runs();
+    }
+
+    /// The outbox has its Finish behind `last` entries, which may be told again: it is told to the peer once on each connection,
+    /// where all of them were sent.
+    pub fn closed(&mut self, last: u64, now: u64)
+        requires done { self.old.pending ≡ None }
+        requires output { length self.old.unsent ≤ 5100000 }
+        requires time { (self.old.moment ≤ now) × (now < 2 ^ 44) }
+        ensures finish { self.new ≡ after_closed self.old last now }
+    {
+        self.moment = now;
+        let around = Around {
+            config: &self.config,
+            most: self.most,
+            at: 0,
+            moment: now,
+        };
+        if self.ending.is_some() {
+            outbox_finished(&mut self.facts, last);
+            return;
+        }
+        let finish = finish_sending(&around, &mut self.facts, last);
+        write_place(
+            &self.config,
+            &mut self.output,
+            &mut self.last_sent,
+            finish,
+            now,
+        );
+    }
+
+    /// No more bytes come: the connection ends, if it has not ended.
+    pub fn on_link_end(&mut self)
+        requires { self.old.begun ≡ true }
+        ensures { self.new ≡ link_ended self.old }
+    {
+        if self.ending.is_none() {
+            let ending = link_ending(&self.around(0, self.moment), &self.facts);
+            self.ending = Some(ending);
+            self.pending = None;
+        }
+    }
+
+    /// What is still to be sent again of the range that the peer asked for.
+    pub fn serving(&self) -> Option<Range>
+        ensures { result ≡ self.now.facts.connection.serving }
+    {
+        self.facts.connection.serving
+    }
+
+    /// How many entries of the outbox were sent or begun.
+    pub fn sent(&self) -> u64
+        ensures { result ≡ self.now.facts.recorded.sent }
+    {
+        self.facts.recorded.sent
+    }
+
+    /// The bytes that were written and not taken yet.
+    pub fn out(&self) -> &[u8]
+        ensures { result.now ≡ self.now.unsent }
+    {
+        self.output.unsent()
+    }
+
+    /// The link took bytes from the front of `out`.
+    pub fn taken(&mut self, count: usize)
+        requires { count ≤ length self.old.unsent }
+        ensures { self.new ≡ record self.old { unsent = drop count self.old.unsent } }
+    {
+        self.output.take_front(count);
+    }
+
+    /// The phase of the connection.
+    pub fn phase(&self) -> Phase
+        ensures { result ≡ phase_of self.now }
+    {
+        match self.ending {
+            Some(_) => Phase::Ended,
+            None => self.facts.connection.phase,
+        }
+    }
+
+    /// How the connection ended, if it has.
+    pub fn ending(&self) -> Option<Ending>
+        ensures { result ≡ self.now.ending }
+    {
+        self.ending
+    }
+
+    /// What stands around an event at this place and moment.
+    fn around(&self, at: u64, now: u64) -> Around<'_>
+        ensures { around_of result ≡ around self.now at now }
+    {
+        Around {
+            config: &self.config,
+            most: self.most,
+            at,
+            moment: now,
+        }
+    }
+
+    /// A reply without a record takes effect at the last moment, with the facts that it leaves.
+    fn apply_reply(&mut self, reply: Reply, next: Facts)
+        requires act { is_record reply.act ≡ false }
+        requires keeps { KeepsSound self.old.config self.old.most self.old.facts (outcome_of self.old.config reply next) }
+        requires small { written_limit self.old.config reply.written ≤ reply_limit self.old.config }
+        requires output { length self.old.unsent ≤ 5100000 }
+        ensures applied { self.new ≡ reply_applied self.old (outcome_of self.old.config reply next) self.old.moment }
+        ensures small { length self.new.unsent ≤ length self.old.unsent + reply_limit self.old.config }
+    {
+        take_act(
+            &mut self.applied,
+            &self.config,
+            reply.act,
+            next.recorded.inbox_next,
+        );
+        write_reply(
+            &self.config,
+            &mut self.output,
+            &mut self.last_sent,
+            reply.written,
+            self.moment,
+        );
+        self.facts = next;
+        self.ending = reply.ending;
+        self.pending = None;
+    }
+
+    /// Writes the heartbeat that is due at the last moment, if one is.
+    fn write_heartbeat(&mut self)
+        requires output { length self.old.unsent ≤ 5100000 }
+        ensures wrote { self.new ≡ wrote self.old (bytes_of (heartbeats (around self.old 0 self.old.moment) self.old.facts self.old.last_sent self.old.unsent)) self.old.moment }
+        ensures small { length self.new.unsent ≤ 5100000 }
+    {
+        if !self.output.unsent().is_empty() {
+            return;
+        }
+        let moment = self.moment;
+        let around = Around {
+            config: &self.config,
+            most: self.most,
+            at: 0,
+            moment,
+        };
+        let due = beat(&around, &self.facts, self.last_sent);
+        write_place(
+            &self.config,
+            &mut self.output,
+            &mut self.last_sent,
+            due,
+            moment,
+        );
+    }
+
+    /// Ends the connection at the last moment, if its peer broke a rule.
+    fn end_broken(&mut self, violation: Option<Violation>)
+        requires output { length self.old.unsent ≤ 5100000 }
+        ensures ends { self.new ≡ broken_by self.old violation self.old.moment }
+    {
+        if let Some(violation) = violation {
+            self.end_by(violation);
+        }
+    }
+
+    /// Ends the connection at the last moment, whose peer broke a rule.
+    fn end_by(&mut self, violation: Violation)
+        requires output { length self.old.unsent ≤ 5100000 }
+        ensures ends { self.new ≡ reply_applied self.old (breaks (around self.old 0 self.old.moment) self.old.facts violation) self.old.moment }
+    {
+        let facts = self.facts;
+        let reply = break_connection(&self.around(0, self.moment), &facts, violation);
+        self.apply_reply(reply, facts);
+    }
+}
