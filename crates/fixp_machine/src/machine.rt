@@ -9,6 +9,7 @@ ghost use Rattle.reply_laws.specs.Sound.{KeepsSound};
 
 use crate::output::Output;
 use crate::runs::write_turn;
+use crate::sending::write_entries;
 use crate::sound::{
     beat, begin_connection, break_connection, finish_sending, reply_to_frame, reply_to_no_frame,
 };
@@ -21,6 +22,7 @@ use fixp_replies::{
 };
 use fixp_shake::{EndConfig, Phase, Violation};
 use flow_idem::Applied;
+use jr_boxes::Stable;
 use sbe_prim::Order;
 use std::alloc::{AllocError, Global};
 use std::marker::Model;
@@ -81,8 +83,11 @@ impl Model for End {
 impl End {
     ghost use Rattle.fixp_replies.specs.Events.{heartbeats, lateness};
     ghost use Rattle.fixp_replies.specs.Outcomes.{breaks};
-    ghost use Rattle.reply_laws.specs.Machine.{fresh, connected, around, wrote, bytes_of, broken_by, ticked, after_closed, after_turn, reply_applied, after_bad_frame, after_act, link_ended, phase_of};
+    ghost use Rattle.reply_laws.specs.Machine.{fresh, connected, around, wrote, bytes_of, broken_by, ticked, after_closed, after_turn, payload_frames, sent_live, reply_applied, after_bad_frame, after_act, link_ended, phase_of};
+    ghost use Rattle.fixp_shake.specs.Flows.{is_absent};
+    ghost use Rattle.fixp_shake.specs.Phases.{is_established};
     ghost use Rattle.fixp_machine.specs.Answers.{AnswersFrame};
+    ghost use Rattle.fixp_machine.specs.Sending.{AreFrom, payloads_of};
 
     /// A new end that has begun no connection. `most` is the greatest number of an application message.
     ///
@@ -347,6 +352,24 @@ impl End {
         ensures { result ≡ self.now.facts.connection.serving }
     {
         self.facts.connection.serving
+    }
+
+    /// Sends entries live: those behind the last that was sent.
+    pub fn send_live(&mut self, entries: &[Stable], now: u64)
+        requires done { self.old.pending ≡ None }
+        requires open { self.old.ending ≡ None }
+        requires established { is_established self.old.facts.connection.phase ≡ true }
+        requires flow { is_absent self.old.config.own_flow ≡ false }
+        requires free { self.old.facts.connection.serving ≡ None }
+        requires numbered { AreFrom (self.old.facts.recorded.sent + 1) entries.now }
+        requires last { self.old.facts.recorded.sent + length entries.now < 2 ^ 40 }
+        requires output { length self.old.unsent + length (payload_frames (payloads_of entries.now)) ≤ 5000000 }
+        requires time { (self.old.moment ≤ now) × (now < 2 ^ 44) }
+        ensures live { self.new ≡ sent_live self.old (payloads_of entries.now) now }
+    {
+        self.moment = now;
+        write_entries(&mut self.output, &mut self.last_sent, entries, now);
+        self.facts.recorded.sent += entries.len() as u64;
     }
 
     /// How many entries of the outbox were sent or begun.
