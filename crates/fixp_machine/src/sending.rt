@@ -1,10 +1,11 @@
 //! The frames of an outbox's entries, at the end of an end's output.
 
-ghost use Rattle.std.specs.Prelude.{◌≡◌, ◌+◌, ◌<◌, ◌≤◌, ◌++◌, ◌∷◌, [], length, take};
+ghost use Rattle.std.specs.Prelude.{◌≡◌, ◌+◌, ◌<◌, ◌≤◌, ◌^◌, ◌++◌, ◌∷◌, [], length, take};
 ghost use Rattle.fixp_machine.specs.Sending.{payloads_of};
-ghost use Rattle.reply_laws.specs.Machine.{payload_frames, sent_at};
+ghost use Rattle.reply_laws.specs.Machine.{payload_frames, sent_at, rest_of};
 
 use crate::output::Output;
+use fixp_msgs::Range;
 use jr_boxes::Stable;
 
 /// Writes the frame of an entry.
@@ -40,4 +41,19 @@ pub fn write_entries(output: &mut Output, last_sent: &mut u64, entries: &[Stable
     if before < output.unsent().len() {
         *last_sent = now;
     }
+}
+
+/// What is left of a range once `count` of its messages were sent again.
+pub fn rest_of(range: Range, count: u64) -> Option<Range>
+    requires within { count ≤ range.count }
+    requires ranged { range.from + count < 2 ^ 64 }
+    ensures { result ≡ rest_of range count }
+{
+    if range.count == count {
+        return None;
+    }
+    Some(Range {
+        from: range.from + count,
+        count: range.count - count,
+    })
 }
