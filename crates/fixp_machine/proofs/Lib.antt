@@ -3,3 +3,4 @@ pub mod Written
 pub mod Told
 pub mod RunLemmas
 pub mod Turn
+pub mod Frames

@@ -6,6 +6,7 @@ mod machine;
 mod messages;
 mod output;
 mod runs;
+mod sending;
 mod sound;
 mod telling;
 mod writing;

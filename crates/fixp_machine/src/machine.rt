@@ -1,6 +1,6 @@
 //! One end: its state, the beginning of a connection, and its frames.
 
-ghost use Rattle.std.specs.Prelude.{◌≡◌, ℕ, ◌+◌, ◌^◌, ◌<◌, ◌≤◌, [], length, drop, true, false, IsSome, IfSome, IfOk, OnOk, OnErr, None};
+ghost use Rattle.std.specs.Prelude.{◌≡◌, ℕ, ◌+◌, ◌^◌, ◌<◌, ◌≤◌, [], length, drop, ◌++◌, true, false, IsSome, IfSome, IfOk, OnOk, OnErr, None};
 ghost use Rattle.fixp_msgs.specs.declared.flow.Flow.TheVariants.{Recoverable};
 ghost use Rattle.fixp_replies.specs.Facts.{around_of};
 ghost use Rattle.fixp_replies.specs.Acts.{is_record};
@@ -9,6 +9,7 @@ ghost use Rattle.reply_laws.specs.Sound.{KeepsSound};
 
 use crate::output::Output;
 use crate::runs::write_turn;
+use crate::sending::{rest_of, write_entries};
 use crate::sound::{
     beat, begin_connection, break_connection, finish_sending, reply_to_frame, reply_to_no_frame,
 };
@@ -16,11 +17,12 @@ use crate::telling::take_act;
 use crate::writing::{write_place, write_reply};
 use fixp_msgs::Range;
 use fixp_replies::{
-    Act, Around, Connection, EndState, Ending, Facts, Reply, classify, lateness, link_ending,
-    outbox_finished,
+    Act, Around, Connection, EndState, Ending, Facts, Outgoing, Reply, classify, lateness,
+    link_ending, outbox_finished,
 };
 use fixp_shake::{EndConfig, Phase, Violation};
 use flow_idem::Applied;
+use jr_boxes::Stable;
 use sbe_prim::Order;
 use std::alloc::{AllocError, Global};
 use std::marker::Model;
@@ -81,8 +83,11 @@ impl Model for End {
 impl End {
     ghost use Rattle.fixp_replies.specs.Events.{heartbeats, lateness};
     ghost use Rattle.fixp_replies.specs.Outcomes.{breaks};
-    ghost use Rattle.reply_laws.specs.Machine.{fresh, connected, around, wrote, bytes_of, broken_by, ticked, after_closed, after_turn, reply_applied, after_bad_frame, after_act, link_ended, phase_of};
+    ghost use Rattle.reply_laws.specs.Machine.{fresh, connected, around, wrote, bytes_of, broken_by, ticked, after_closed, after_turn, payload_frames, range_end, rest_of, sent_again, sent_live, reply_applied, after_bad_frame, after_act, link_ended, phase_of};
+    ghost use Rattle.fixp_shake.specs.Flows.{is_absent};
+    ghost use Rattle.fixp_shake.specs.Phases.{is_established};
     ghost use Rattle.fixp_machine.specs.Answers.{AnswersFrame};
+    ghost use Rattle.fixp_machine.specs.Sending.{AreFrom, payloads_of};
 
     /// A new end that has begun no connection. `most` is the greatest number of an application message.
     ///
@@ -349,6 +354,46 @@ impl End {
         self.facts.connection.serving
     }
 
+    /// Sends entries live: those behind the last that was sent.
+    pub fn send_live(&mut self, entries: &[Stable], now: u64)
+        requires done { self.old.pending ≡ None }
+        requires open { self.old.ending ≡ None }
+        requires established { is_established self.old.facts.connection.phase ≡ true }
+        requires flow { is_absent self.old.config.own_flow ≡ false }
+        requires free { self.old.facts.connection.serving ≡ None }
+        requires numbered { AreFrom (self.old.facts.recorded.sent + 1) entries.now }
+        requires last { self.old.facts.recorded.sent + length entries.now < 2 ^ 40 }
+        requires output { length self.old.unsent + length (payload_frames (payloads_of entries.now)) ≤ 5000000 }
+        requires time { (self.old.moment ≤ now) × (now < 2 ^ 44) }
+        ensures live { self.new ≡ sent_live self.old (payloads_of entries.now) now }
+    {
+        self.moment = now;
+        write_entries(&mut self.output, &mut self.last_sent, entries, now);
+        self.facts.recorded.sent += entries.len() as u64;
+    }
+
+    /// Sends entries of the range that is served again, from its front. Behind the last of them a Sequence tells the number of
+    /// the next live one.
+    pub fn send_again(&mut self, entries: &[Stable], now: u64)
+        requires done { self.old.pending ≡ None }
+        requires open { self.old.ending ≡ None }
+        requires front { IfSome self.old.facts.connection.serving (λ r. AreFrom r.from entries.now) }
+        requires some { IsSome self.old.facts.connection.serving }
+        requires within { IfSome self.old.facts.connection.serving (λ r. length entries.now ≤ r.count) }
+        requires ranged { IfSome self.old.facts.connection.serving (λ r. r.from + length entries.now < 2 ^ 64) }
+        requires output { length self.old.unsent + length (payload_frames (payloads_of entries.now)) ≤ 5000000 }
+        requires time { (self.old.moment ≤ now) × (now < 2 ^ 44) }
+        ensures again { IfSome self.old.facts.connection.serving (λ r. self.new ≡ sent_again self.old r (payloads_of entries.now) now) }
+    {
+        self.moment = now;
+        let Some(range) = self.facts.connection.serving else {
+            return;
+        };
+        let rest = rest_of(range, entries.len() as u64);
+        self.write_range(entries, rest);
+        self.facts.connection.serving = rest;
+    }
+
     /// How many entries of the outbox were sent or begun.
     pub fn sent(&self) -> u64
         ensures { result ≡ self.now.facts.recorded.sent }
@@ -471,5 +516,24 @@ impl End {
         let facts = self.facts;
         let reply = break_connection(&self.around(0, self.moment), &facts, violation);
         self.apply_reply(reply, facts);
+    }
+
+    /// Writes entries of a range at the last moment, and behind the last of it the number of the next live one.
+    fn write_range(&mut self, entries: &[Stable], rest: Option<Range>)
+        requires output { length self.old.unsent + length (payload_frames (payloads_of entries.now)) ≤ 5000000 }
+        ensures wrote { self.new ≡ wrote self.old (payload_frames (payloads_of entries.now) ++ range_end self.old.facts rest) self.old.moment }
+    {
+        let moment = self.moment;
+        write_entries(&mut self.output, &mut self.last_sent, entries, moment);
+        if rest.is_none() {
+            let next = self.facts.recorded.sent + 1;
+            write_place(
+                &self.config,
+                &mut self.output,
+                &mut self.last_sent,
+                Some(Outgoing::Sequence { next }),
+                moment,
+            );
+        }
     }
 }

@@ -1,0 +1,12 @@
+-- Entries that are sent: their payloads, and their numbers.
+use Rattle.std.specs.Prelude.{◌≡◌, ℕ, List, map, length}
+use Rattle.session_model.specs.Inbox.{Numbered}
+use Rattle.session_model.specs.Journal.{counts_from}
+
+-- of numbered messages, their payloads
+abbrev pub payloads_of : List Numbered → List (List ℕ)
+payloads_of = map (λ (m : Numbered). m.payload)
+
+-- they have consecutive numbers from this one on
+abbrev pub AreFrom : ℕ → List Numbered → Type 0
+AreFrom first messages = map (λ (m : Numbered). m.number) messages ≡ counts_from first (length messages)
