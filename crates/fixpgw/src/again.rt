@@ -48,14 +48,14 @@ pub fn place_of_frame<R: Files<File = File>>(
     let mut source: FileSource<'_, R, File> = FileSource::new(rt, alloc, path, 0);
     let mut framer = Framer::new(alloc).ok()?;
     let mut place = 0u64;
-    let mut at = 1;
+    let mut at = 1u64;
     for _ in 0..u64::MAX {
         match framer.peek() {
             FirstFrame::Frame { .. } if at == number => return Some(place),
             FirstFrame::Frame { size, .. } => {
                 framer.drop_front(size);
                 place = place.saturating_add(size as u64);
-                at += 1;
+                at = at.saturating_add(1);
             }
             FirstFrame::Rest => {
                 if !read_on(&mut source, &mut framer) {

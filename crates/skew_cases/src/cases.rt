@@ -139,11 +139,10 @@ fn text_changed(alloc: Global, text: &str, changes: &str) -> Result<String, Allo
 
 /// What is said of two schemas, each compared as the newer one with the other.
 fn both_ways(alloc: Global, first: &str, second: &str) -> Result<String, AllocError> {
-    let loaded = (
-        load_checked(alloc, first.as_bytes()).ok(),
-        load_checked(alloc, second.as_bytes()).ok(),
-    );
-    let (Some(first), Some(second)) = loaded else {
+    let Ok(first) = load_checked(alloc, first.as_bytes()) else {
+        return format!(in alloc; "no schema");
+    };
+    let Ok(second) = load_checked(alloc, second.as_bytes()) else {
         return format!(in alloc; "no schema");
     };
     let newer = extended(alloc, &second, &first)?;
