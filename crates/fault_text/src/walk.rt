@@ -161,6 +161,13 @@ fn awaited_datum(
     Ok(None)
 }
 
+/// Whether a block has any elements.
+fn has_elements(plan: &BlockPlan) -> bool {
+    !(plan.items.as_slice().is_empty()
+        && plan.groups.as_slice().is_empty()
+        && plan.vars.as_slice().is_empty())
+}
+
 /// The path of the element of a block that is awaited at the line that is looked for.
 fn awaited_element(
     alloc: Global,
@@ -179,14 +186,17 @@ fn awaited_element(
         let Some(line) = cursor.next() else {
             return path_to(alloc, before, &group.name);
         };
-        for at in 0..entries_on(line) {
+        // entries without elements have no lines
+        let lined = if has_elements(&group.block) {
+            entries_on(line)
+        } else {
+            0
+        };
+        for at in 0..lined {
             let inner = names_begin(alloc, before, group, at as u128)?;
             let path = awaited_element(alloc, depth - 1, inner.as_slice(), &group.block, cursor)?;
             if path.is_some() {
                 return Ok(path);
-            }
-            if cursor.before == 0 {
-                break;
             }
         }
     }
