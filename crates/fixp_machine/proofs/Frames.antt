@@ -2,9 +2,12 @@
 use Rattle.std.proofs.Common.{◌≡◌, ℕ, zero, suc, ◌+◌, ◌<◌, ◌≤◌, List, [], ◌∷◌, ◌++◌, length, take, get_or, refl, sym, ap, ◌∙◌, append_assoc, append-nil, length-append, arith}
 use Rattle.std.proofs.lemmas.List.{take_more}
 use Rattle.std.proofs.lemmas.Grind.{flat_map-append}
+use Rattle.std.specs.List.{All}
+use Rattle.std.proofs.lemmas.List.Elements.{All-head, All-tail}
 use Rattle.session_model.specs.Inbox.{Numbered}
+use Rattle.jr_record.specs.Records.{IsPayload}
 use Rattle.reply_laws.specs.Machine.{payload_frame, payload_frames}
-use Rattle.fixp_machine.specs.Sending.{payloads_of}
+use Rattle.fixp_machine.specs.Sending.{FramesFit, payloads_of}
 
 payloads-append : (first second : List Numbered) → payloads_of (first ++ second) ≡ payloads_of first ++ payloads_of second
 payloads-append [] second = refl
@@ -50,4 +53,13 @@ frames_within es i d h = omega (
   ap (λ (bytes : List ℕ). length bytes) (frames_more es i d h),
   length-append (payload_frames (payloads_of (take i es))) (payload_frames ((get_or es i d).payload ∷ [])),
   frame_size (get_or es i d).payload,
+)
+
+pub frames_fit : FramesFit
+frames_fit [] all = omega (arith)
+frames_fit (e ∷ es) all = omega (
+  arith,
+  length-append (payload_frame e.payload) (payload_frames (payloads_of es)),
+  (All-head (λ (m : Numbered). IsPayload m.payload) e es all).1,
+  frames_fit es (All-tail (λ (m : Numbered). IsPayload m.payload) e es all),
 )

@@ -14,3 +14,4 @@ mod writing;
 pub use fixp_replies::{Act, EndState, Ending};
 pub use fixp_shake::{EndConfig, Flow, Phase, Role, Violation};
 pub use machine::End;
+pub use sending::frames_fit;

@@ -1,12 +1,17 @@
 //! The frames of an outbox's entries, at the end of an end's output.
 
 ghost use Rattle.std.specs.Prelude.{◌≡◌, ◌+◌, ◌<◌, ◌≤◌, ◌^◌, ◌++◌, ◌∷◌, [], length, take};
-ghost use Rattle.fixp_machine.specs.Sending.{payloads_of};
+ghost use Rattle.fixp_machine.specs.Sending.{FramesFit, payloads_of};
 ghost use Rattle.reply_laws.specs.Machine.{payload_frames, sent_at, rest_of};
 
 use crate::output::Output;
 use fixp_msgs::Range;
 use jr_boxes::Stable;
+
+/// How many bytes the frames of entries have at most.
+pub fn frames_fit()
+    ensures law { FramesFit }
+{}
 
 /// Writes the frame of an entry.
 fn append_entry(output: &mut Output, entry: &Stable)
