@@ -1,6 +1,7 @@
 //! The gate: senders submit messages at once, each by its pass, and the connection fetches what is stable.
-ghost use Rattle.std.specs.Prelude.{◌≡◌, ◌≢◌, ℕ, ◌+◌, ◌<◌, ◌≤◌, ◌^◌, true, false, length, Err, IfOk, IfErr, IfSome, IfNone, OnOk, IsErrOf};
+ghost use Rattle.std.specs.Prelude.{◌≡◌, ◌≢◌, ℕ, ◌+◌, ◌<◌, ◌≤◌, ◌^◌, true, false, length, Err, IfOk, IfErr, IfSome, IfNone, OnOk, IsErrOf, All};
 ghost use Rattle.fixp_msgs.specs.Payload.{IsApplication};
+ghost use Rattle.jr_record.specs.Records.{IsPayload};
 ghost use Rattle.jr_boxes.specs.Outbox.{is_broken};
 ghost use Rattle.jr_boxes.specs.declared.faults.SubmitFault.TheVariants as submit;
 ghost use Rattle.jr_boxes.specs.declared.faults.CloseFault.TheVariants as closing;
@@ -156,6 +157,7 @@ impl<J: Journal> Gate<J> {
         ensures free { IsFree pass.new }
         ensures turn { TakesTurn (known pass.old) (known pass.new) }
         ensures given { IfOk result (λ list. list.items ≡ messages (known pass.new).seen from most) }
+        ensures sizes { IfOk result (λ list. All (λ m. IsPayload m.payload) list.items) }
         ensures same { ((known pass.new).mine ≡ (known pass.old).mine) × ((known pass.new).ended ≡ (known pass.old).ended) }
         ensures fault { IsErrOf result fetching.Fault → HasFailed (known pass.old).faults (known pass.new).faults }
         ensures broken { result ≡ Err fetching.Broken → (known pass.new).opening.faults < (known pass.new).faults }

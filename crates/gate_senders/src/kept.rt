@@ -1,8 +1,8 @@
 //! An outbox under the turn lock, with the history that is told of it.
-ghost use Rattle.std.specs.Prelude.{◌≡◌, ◌≢◌, ◌↔◌, ℕ, ◌+◌, ◌-◌, ◌<◌, ◌≤◌, ◌^◌, true, false, [], ◌∷◌, length, slice_get, Some, Err, IfOk, IfErr, OnOk, IsErrOf, IsTrue};
+ghost use Rattle.std.specs.Prelude.{◌≡◌, ◌≢◌, ◌↔◌, ℕ, ◌+◌, ◌-◌, ◌<◌, ◌≤◌, ◌^◌, true, false, [], ◌∷◌, length, slice_get, Some, Err, IfOk, IfErr, OnOk, IsErrOf, IsTrue, All};
 ghost use Rattle.session_model.specs.Journal.{History, entries_of, payloads};
 ghost use Rattle.fixp_msgs.specs.Payload.{IsApplication};
-ghost use Rattle.jr_record.specs.Records.{IsSender};
+ghost use Rattle.jr_record.specs.Records.{IsPayload, IsSender};
 ghost use Rattle.jr_boxes.specs.Outbox.{StandsFor, HoldsBox, is_broken};
 ghost use Rattle.jr_boxes.specs.Outboxes.{with_entry, with_mark};
 ghost use Rattle.jr_boxes.specs.declared.faults.SubmitFault.TheVariants as submit;
@@ -103,6 +103,7 @@ impl<J: Journal> Kept<J> {
         requires least { 1 ≤ number }
         requires within { number ≤ length (told_by self.old).history.made }
         ensures number { IfOk result (λ s. s.number ≡ number) }
+        ensures size { IfOk result (λ s. IsPayload s.payload) }
         ensures payload { IfOk result (λ s. slice_get (payloads (told_by self.old).history.made) (number - 1) ≡ Some s.payload) }
         ensures whole { OnOk result ((told_by self.new).broken ≢ true) }
         ensures same { (told_by self.new).history ≡ (told_by self.old).history }
@@ -122,6 +123,7 @@ impl<J: Journal> Kept<J> {
     ) -> Result<Vec<Stable>, FetchFault>
         requires least { 1 ≤ from }
         ensures given { IfOk result (λ list. list.items ≡ messages (told_by self.old).history from most) }
+        ensures sizes { IfOk result (λ list. All (λ m. IsPayload m.payload) list.items) }
         ensures same { (told_by self.new).history ≡ (told_by self.old).history }
         ensures sound { StaysSound (told_by self.old) (told_by self.new) }
         ensures fault { IsErrOf result fetching.Fault → HasFailed (told_by self.old).faults (told_by self.new).faults }

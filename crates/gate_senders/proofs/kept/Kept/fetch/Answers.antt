@@ -1,6 +1,9 @@
-use Rattle.std.proofs.Common.{◌≡◌, ◌⊎◌, ◌+◌, ◌-◌, ◌≤◌, ◌^◌, min, suc, length, List, [], ◌∷◌, ◌++◌, take, drop, slice_get, Some, sym, ap, ◌∙◌, arith}
+use Rattle.std.proofs.Common.{◌≡◌, ◌⊎◌, ◌+◌, ◌-◌, ◌≤◌, ◌^◌, min, suc, length, List, [], ◌∷◌, ◌++◌, take, drop, slice_get, Some, sym, ap, subst, ◌∙◌, arith}
+use Rattle.std.specs.List.{All}
+use Rattle.std.proofs.lemmas.List.Elements.{All-push}
 use Rattle.session_model.specs.Journal.{History, payloads}
 use Rattle.session_model.specs.Inbox.{Numbered}
+use Rattle.jr_record.specs.Records.{IsPayload}
 use Rattle.gate_senders.specs.Kept.{numbered_from}
 use Rattle.gate_senders.specs.Told.{told_by}
 use Rattle.gate_senders.proofs.Fetching.{message_on, in_rest, all_taken, ends, stays}
@@ -22,6 +25,8 @@ loop-number-preserved g c =
       same = c.stable.ensures.same ∙ at.invariant.same;
       given = c.in-Ok.ensures.items ∙ ap (λ (ms : List Numbered). ms ++ c.in_ok-entry.entry ∷ []) at.invariant.given ∙ sym more
           ∙ ap (λ j. numbered_from from (take j (drop (from - 1) made))) next;
+      sizes = subst (All (λ (m : Numbered). IsPayload m.payload)) (sym c.in-Ok.ensures.items)
+          (All-push (λ (m : Numbered). IsPayload m.payload) at.list.items c.in_ok-entry.entry at.invariant.sizes c.in_ok-entry.ensures.size);
       sound = stays (told_by c.args.self.now) (told_by at.self) (told_by c.stable.new.self) at.invariant.sound at.invariant.broken c.stable.ensures.sound;
       broken = λ b. absurd (c.in_ok-entry.ensures.whole b);
     }

@@ -1,4 +1,7 @@
 use Rattle.std.proofs.Common.{◌≡◌, ◌-◌, true, take, drop}
+use Rattle.std.specs.List.{All}
+use Rattle.session_model.specs.Inbox.{Numbered}
+use Rattle.jr_record.specs.Records.{IsPayload}
 use Rattle.gate_senders.specs.Kept.{numbered_from, StaysSound}
 use Rattle.gate_senders.specs.Told.{told_by}
 use Rattle.gate_senders.proofs.kept.Kept.fetch.Given as goal
@@ -7,6 +10,7 @@ abbrev pub invariant-loop-number : goal.invariant-loop-number
 invariant-loop-number g l = record {
   same : (told_by l.self).history ≡ (told_by l.fn.self).history;
   given : l.list.items ≡ numbered_from l.from (take (l.number - l.from) (drop (l.from - 1) (told_by l.fn.self).history.made));
+  sizes : All (λ (m : Numbered). IsPayload m.payload) l.list.items;
   sound : StaysSound (told_by l.fn.self) (told_by l.self);
   broken : (told_by l.self).broken ≡ true → (told_by l.fn.self).broken ≡ true;
 }
