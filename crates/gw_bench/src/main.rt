@@ -1,6 +1,7 @@
 //! Measurements: does what is measured so many times, and prints what came of it, so that no work can be left out.
 //! `codec COUNT` goes through all session messages; `write TEMPLATE COUNT` and `read TEMPLATE COUNT` through one.
-//! `senders SENDERS COUNT` has so many senders submit so many messages each at a gate, at once. `all COUNT` does each of these.
+//! `senders SENDERS COUNT` has so many senders submit so many messages each at a gate, at once; `plans SENDERS COUNT` only makes
+//! their messages and the outbox. `all COUNT` goes through all messages and has four senders submit.
 #![tactic(auto)]
 
 mod codec;
@@ -93,13 +94,14 @@ fn print_all_codec<R: Print + AllocGlobal>(rt: &R, count: u64) -> io::Result<()>
     Ok(())
 }
 
-/// The line of so many senders at a gate.
+/// The line of so many senders at a gate, which are to run or not.
 fn print_senders<R: Print + Threads + Wait + Sync + AllocGlobal>(
     rt: &R,
     senders: u16,
     count: u64,
+    run: bool,
 ) -> io::Result<()> {
-    match submitted(rt, senders, count) {
+    match submitted(rt, senders, count, run) {
         Some(entries) => println!(rt; "{entries}"),
         None => println!(rt; "no outbox"),
     }
@@ -111,11 +113,12 @@ fn main(rt: HostRuntime) -> io::Result<()> {
         [kind, count] if kind.as_str() == "all" => {
             let count = number(count.as_str());
             print_all_codec(&rt, count)?;
-            print_senders(&rt, 4, count)
+            print_senders(&rt, 4, count, true)
         }
         [kind, count] if kind.as_str() == "codec" => print_all_codec(&rt, number(count.as_str())),
-        [kind, senders, count] if kind.as_str() == "senders" => {
-            print_senders(&rt, small(senders.as_str()), number(count.as_str()))
+        [kind, senders, count] if kind.as_str() == "senders" || kind.as_str() == "plans" => {
+            let run = kind.as_str() == "senders";
+            print_senders(&rt, small(senders.as_str()), number(count.as_str()), run)
         }
         [kind, template, count] if kind.as_str() == "write" => {
             let (sizes, bytes) = written(
@@ -134,7 +137,7 @@ fn main(rt: HostRuntime) -> io::Result<()> {
             println!(rt; "{sum}")
         }
         _ => println!(rt;
-            "all COUNT, codec COUNT, write TEMPLATE COUNT, read TEMPLATE COUNT or senders SENDERS COUNT"
+            "all COUNT, codec COUNT, write TEMPLATE COUNT, read TEMPLATE COUNT, senders SENDERS COUNT or plans SENDERS COUNT"
         ),
     }
 }

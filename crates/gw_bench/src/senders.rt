@@ -71,12 +71,13 @@ fn fresh(alloc: Global, entries: u64) -> Option<Outbox<Log>>
     Outbox::open(alloc, journal, limits).ok()
 }
 
-/// So many senders, 16 at most, submit so many messages each, at once. The number of entries that the outbox has then; none
-/// where it is not to be had.
+/// Makes the plans of so many senders, 16 at most, with so many messages each, and an outbox. Where they are to run, they submit
+/// them, at once. The number of entries that the outbox has then; none where it is not to be had.
 pub fn submitted<R: Threads + Wait + Sync + AllocGlobal>(
     rt: &R,
     senders: u16,
     many: u64,
+    run: bool,
 ) -> Option<u64> {
     let alloc = rt.alloc();
     if senders > 16 || many > MOST {
@@ -89,7 +90,9 @@ pub fn submitted<R: Threads + Wait + Sync + AllocGlobal>(
         return None;
     };
     let mut senders = seat(&gate, &mut passes, plans, seats);
-    let _ = run_seated(&gate, &mut senders, &OpenDoor, rt);
+    if run {
+        let _ = run_seated(&gate, &mut senders, &OpenDoor, rt);
+    }
     unseat(&gate, senders, &mut passes);
     Some(gate.close(passes).front())
 }

@@ -123,16 +123,13 @@ pub fn give_last<J: Journal>(
     requires behind { HasBehind gate.now passes.old (senders + 1) (senders + 1) }
     ensures behind { HasBehind gate.now passes.new senders (senders + 1) }
 {
-    let _ = (gate, senders);
+    let _ = gate;
+    let _ = senders;
     passes.give(pass);
 }
 
 /// Gives the passes of the senders back.
-pub fn unseat<J: Journal>(
-    gate: &Gate<J>,
-    mut senders: Vec<Sender<J>>,
-    passes: &mut Passes<Kept<J>>,
-)
+pub fn unseat<J: Journal>(gate: &Gate<J>, mut senders: Vec<Sender<J>>, passes: &mut Passes<Kept<J>>)
     requires seated { Seated gate.now senders.items (vec_len senders + 1) }
     requires behind { HasBehind gate.now passes.old (vec_len senders) (vec_len senders + 1) }
     requires few { vec_len senders ≤ 16 }

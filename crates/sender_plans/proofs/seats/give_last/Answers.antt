@@ -4,7 +4,9 @@ use Rattle.sender_plans.proofs.Seating.{put_back}
 use Rattle.sender_plans.proofs.seats.give_last.Goals as goal
 
 pub give-requires : goal.give-requires
-give-requires g c = c.requires.behind.none c.args.pass.number (λ b. omega (arith, b.past, b.up_to))
+give-requires g c =
+    let at : c.args.pass.number ≡ c.args.senders + 1 = sym c.args.pass.numbered ∙ c.requires.number in
+    (omega arith, c.requires.behind.none c.args.pass.number (λ b. omega (arith, at, b.past, b.up_to)))
 
 pub returns : goal.returns
 returns g c =
