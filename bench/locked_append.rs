@@ -1,6 +1,6 @@
-//! Threads that append messages behind a Mutex, in the form of the journal and with its two writes and two syncs a message,
-//! on a disk in memory, hand-written and with no proof: what `gw_bench sender` does is compared with this. It is no part of
-//! the product.
+//! Threads that append the messages of their plans behind a Mutex, in the form of the journal and with its two writes and two
+//! syncs a message, on a disk in memory, hand-written and with no proof: what `gw_bench senders` does is compared with this.
+//! It is no part of the product.
 use std::env;
 use std::sync::Mutex;
 use std::thread;
@@ -106,11 +106,16 @@ fn main() {
     });
     let mut payload = [0x2A; PAYLOAD];
     payload[..10].copy_from_slice(&[0xEB, 0x50, 0x34, 0, 7, 0, 0x64, 0, 1, 0]);
+    let plans: Vec<Vec<Vec<u8>>> = (0..threads)
+        .map(|_| (0..count).map(|_| payload.to_vec()).collect())
+        .collect();
+    // with a third word the plans and the outbox are made, and nothing is appended
+    let run = words.len() < 3;
     thread::scope(|scope| {
-        for sender in 1..=threads {
-            let (outbox, payload) = (&outbox, &payload);
+        for (plan, sender) in plans.iter().zip(1..).filter(|_| run) {
+            let outbox = &outbox;
             scope.spawn(move || {
-                for _ in 0..count {
+                for payload in plan {
                     outbox.lock().unwrap().accept(sender, payload);
                 }
             });

@@ -73,6 +73,8 @@ impl<J: Journal> Kept<J> {
         requires sound { is_broken outbox ≡ false }
         ensures outbox { outbox_of result ≡ outbox }
     {
+        // An outbox that is not broken holds a history.
+        let _ = outbox.broken();
         let told = Told::of::<Outbox<J>, Holding>(&outbox);
         Kept { outbox, told }
     }

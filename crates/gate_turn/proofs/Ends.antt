@@ -23,7 +23,7 @@ one_of n h = omega (arith, h.from_one, h.up_to)
 
 -- a lock with its first pass alone
 pub begins : {T : Type 0} (tells : T → Account) (value : T) (stored : ℕ) → stored ≡ length (tells value).history.made → (tells value).broken ≢ true
-    → Turns tells (tells value) (opening (0 ∷ 0 ∷ stored ∷ []) (Some value ∷ []) (new_part 1 1 (tells value) ∷ []))
+    → Turns tells (tells value) (opening (0 ∷ 0 ∷ stored ∷ 0 ∷ []) (Some value ∷ []) (new_part 1 1 (tells value) ∷ []))
 begins tells value stored count whole = let a = tells value in record {
   part = λ _. new_part 1 1 a;
   seat = λ _. 0;
@@ -33,7 +33,8 @@ begins tells value stored count whole = let a = tells value in record {
   top = a.faults;
   next = 0;
   now = 0;
-  words = ap (λ k. 0 ∷ 0 ∷ k ∷ []) count;
+  asleep = 0;
+  words = ap (λ k. 0 ∷ 0 ∷ k ∷ 0 ∷ []) count;
   some_made = le_refl 1;
   few = omega arith;
   first = refl;
@@ -254,6 +255,7 @@ module _ {T : Type 0} (tells : T → Account) (opened : Account) where
         top = r.top;
         next = r.next;
         now = r.now;
+        asleep = r.asleep;
         words = r.words;
         some_made = omega arith;
         few = omega arith;
@@ -359,6 +361,7 @@ module _ {T : Type 0} (tells : T → Account) (opened : Account) where
         top = r.top;
         next = r.next;
         now = r.now;
+        asleep = r.asleep;
         words = r.words;
         some_made = r.some_made;
         few = r.few;

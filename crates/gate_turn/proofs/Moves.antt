@@ -10,7 +10,7 @@ use Rattle.atomic_table.proofs.Lists.{set_again, one_turn}
 use Rattle.session_model.specs.Journal.{History, BeginsHistory, entries_of}
 use Rattle.gate_turn.specs.Views.{Account, Part, View, marks_newly, part_of, drawn, got, counted, gave, looked_at}
 use Rattle.gate_turn.specs.Rule.{In, Stands, Queued, Fits, Grown, Sound, Home, Out, Turns}
-use Rattle.gate_turn.specs.Steps.{Found, Returns, Mine, Drew, LookedAt, Gets, Served, Published, GaveOn}
+use Rattle.gate_turn.specs.Steps.{Found, Returns, Mine, Drew, Noted, LookedAt, Gets, Served, Published, GaveOn}
 use Rattle.gate_turn.proofs.Puts.{put, seated_put, tickets_few, queued_same, queued_draws, queued_leaves, put_each}
 use Rattle.gate_turn.proofs.Histories.{begins_self, Goes, goes, goes_nowhere}
 use Rattle.gate_turn.proofs.Layers.{refits, fits_others, fits_counted, grown_put, turn_put, holder_is, turn_begins, turn_goes_on, turn_ends}
@@ -41,7 +41,7 @@ module _ {T : Type 0} (tells : T → Account) (opening : Account) where
     top : ℕ
     next : ℕ
     now : ℕ
-    words_are : words ≡ (next % 2 ^ 64) ∷ (now % 2 ^ 64) ∷ length log.made ∷ []
+    words_are : words ≡ (next % 2 ^ 64) ∷ (now % 2 ^ 64) ∷ length log.made ∷ r.asleep ∷ []
     number : q.number ≡ p.number
     made_is : q.made ≡ p.made
     goes_on : Goes p.number r.log log
@@ -62,6 +62,7 @@ module _ {T : Type 0} (tells : T → Account) (opening : Account) where
     top = m.top;
     next = m.next;
     now = m.now;
+    asleep = r.asleep;
     words = m.words_are;
     some_made = r.some_made;
     few = r.few;
@@ -107,7 +108,7 @@ module _ {T : Type 0} (tells : T → Account) (opening : Account) where
           top = r.top;
           next = r.next + 1;
           now = r.now;
-          words_are = ap (λ ws. set ws 0 ((get_or ws 0 0 + 1) % 2 ^ 64)) r.words ∙ ap (λ k. k ∷ (r.now % 2 ^ 64) ∷ length r.log.made ∷ []) (counts_on r.next);
+          words_are = ap (λ ws. set ws 0 ((get_or ws 0 0 + 1) % 2 ^ 64)) r.words ∙ ap (λ k. k ∷ (r.now % 2 ^ 64) ∷ length r.log.made ∷ r.asleep ∷ []) (counts_on r.next);
           number = refl;
           made_is = refl;
           goes_on = goes_nowhere p.number r.log r.log refl;
@@ -261,7 +262,7 @@ module _ {T : Type 0} (tells : T → Account) (opening : Account) where
           top = r.top;
           next = r.next;
           now = r.now;
-          words_are = ap (λ ws. set ws 2 stored) r.words ∙ ap (λ k. (r.next % 2 ^ 64) ∷ (r.now % 2 ^ 64) ∷ k ∷ []) count;
+          words_are = ap (λ ws. set ws 2 stored) r.words ∙ ap (λ k. (r.next % 2 ^ 64) ∷ (r.now % 2 ^ 64) ∷ k ∷ r.asleep ∷ []) count;
           number = refl;
           made_is = refl;
           goes_on = on;
@@ -297,7 +298,7 @@ module _ {T : Type 0} (tells : T → Account) (opening : Account) where
           top = a.faults;
           next = r.next;
           now = r.now + 1;
-          words_are = ap (λ ws. set ws 1 ((get_or ws 1 0 + 1) % 2 ^ 64)) r.words ∙ ap (λ k. (r.next % 2 ^ 64) ∷ k ∷ length r.log.made ∷ []) (counts_on r.now);
+          words_are = ap (λ ws. set ws 1 ((get_or ws 1 0 + 1) % 2 ^ 64)) r.words ∙ ap (λ k. (r.next % 2 ^ 64) ∷ k ∷ length r.log.made ∷ r.asleep ∷ []) (counts_on r.now);
           number = refl;
           made_is = refl;
           goes_on = goes_nowhere p.number r.log r.log refl;
@@ -320,6 +321,38 @@ module _ {T : Type 0} (tells : T → Account) (opening : Account) where
         }),
         λ other e. (ap (λ x. gave (tells x) p ∷ []) (one_slot value other (sym slot ∙ e)), ap (λ c. rest c) slot),
       )
+
+  -- it is noted whether somebody may sleep, by any pass
+  pub notes : (slots id stored : ℕ) (me : Mine T) → Allows Rule slots id me 3 (λ _. stored) (λ _ w. Noted (step slots 3 stored 0 none) me stored w)
+  notes slots id stored me s r _ there _ = (
+    me.0,
+    keeps,
+    tt,
+    subst Rule (λ i. record { words = set s.words 3 stored; homes = s.homes; views = sym (set_again s.views id me.0 there) i }) noted,
+    refl,
+  )
+    where
+      noted : Rule (record { words = set s.words 3 stored; homes = s.homes; views = s.views })
+      noted = record {
+        part = r.part;
+        seat = r.seat;
+        place = r.place;
+        made = r.made;
+        log = r.log;
+        top = r.top;
+        next = r.next;
+        now = r.now;
+        asleep = stored;
+        words = ap (λ ws. set ws 3 stored) r.words;
+        some_made = r.some_made;
+        few = r.few;
+        first = r.first;
+        seated = r.seated;
+        queued = r.queued;
+        each = r.each;
+        grown = r.grown;
+        turn = r.turn;
+      }
 
   -- the number of entries is read by a pass that waits, has the turn, or does neither
   pub looks : (slots id : ℕ) (me : Mine T) → me.0 ≡ part_of me.0 ∷ [] → Allows Rule slots id me 2 (λ n. n) (λ found w. LookedAt (step slots 2 0 0 none) me found w)

@@ -1,5 +1,6 @@
 -- The rule of the turn lock: what holds of its words, of the value where it is at home, and of all views, between any two steps.
--- The words are the next ticket and the ticket that is served, both modulo 2^64, and the number of entries. The slot has the value.
+-- The words are the next ticket and the ticket that is served, both modulo 2^64, the number of entries, and whether somebody may
+-- sleep, of which the rule says nothing. The slot has the value.
 use Rattle.std.specs.Prelude.{◌≡◌, ◌≢◌, ◌⊎◌, ℕ, zero, suc, ◌+◌, ◌%◌, ◌^◌, ◌<◌, ◌≤◌, true, List, [], ◌∷◌, ◌++◌, length, Option, Some, None}
 use Rattle.std.specs.List.{AllByRecursion}
 use mathlib.Core.Option.{none, some}
@@ -102,7 +103,8 @@ module _ {T : Type 0} (tells : T → Account) where
     pub top : ℕ
     pub next : ℕ
     pub now : ℕ
-    pub words : s.words ≡ (next % 2 ^ 64) ∷ (now % 2 ^ 64) ∷ length log.made ∷ []
+    pub asleep : ℕ
+    pub words : s.words ≡ (next % 2 ^ 64) ∷ (now % 2 ^ 64) ∷ length log.made ∷ asleep ∷ []
     pub some_made : 1 ≤ made
     pub few : made ≤ 18
     pub first : (part 1).made ≡ made

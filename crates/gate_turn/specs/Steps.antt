@@ -78,6 +78,10 @@ module _ {T : Type 0} where
   abbrev pub Drew : Step (Option T) → Mine T → ℕ → Mine T → Type 0
   Drew st m found w = (t : ℕ) × (found ≡ t % 2 ^ 64) × (w.0 ≡ drawn t (part_of m.0) ∷ []) × (w.1 ≡ m.1)
 
+  -- it was noted whether somebody may sleep
+  abbrev pub Noted : Step (Option T) → Mine T → ℕ → Mine T → Type 0
+  Noted st m stored w = w ≡ m
+
   -- the number of entries was read
   abbrev pub LookedAt : Step (Option T) → Mine T → ℕ → Mine T → Type 0
   LookedAt st m found w = ((part_of m.0).looked ≤ found) × (w.0 ≡ looked_at found (part_of m.0) ∷ []) × (w.1 ≡ m.1)

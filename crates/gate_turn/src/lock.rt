@@ -20,6 +20,9 @@ pub(crate) const SERVING: usize = 1;
 /// The word that has the number of entries.
 pub(crate) const COUNT: usize = 2;
 
+/// The word that is 1 where somebody may sleep who has drawn no ticket.
+pub(crate) const ASLEEP: usize = 3;
+
 /// The one slot, which has the value while no pass has the turn.
 pub(crate) const SLOT: usize = 0;
 
@@ -31,7 +34,7 @@ pub struct Held<T> {
 /// A value at which callers take turns, by tickets.
 pub struct TurnLock<T: Logged> {
     pub(crate) table: Table<Option<T>, View, Snapshot<T>, Turning<T>, Global>,
-    ghost shape: { (table.shared.table_id.words ≡ 3) × (table.shared.table_id.slots ≡ 1) },
+    ghost shape: { (table.shared.table_id.words ≡ 4) × (table.shared.table_id.slots ≡ 1) },
 }
 
 impl<T: Logged> TurnLock<T> {
@@ -59,7 +62,7 @@ impl<T: Logged> TurnLock<T> {
         Ok((lock, passes))
     }
 
-    /// Waits for the turn of the pass, and takes the value out.
+    /// Waits for the turn of the pass, and takes the value out. Who runs may get it before those who sleep.
     pub fn enter<R: Wait>(&self, pass: &mut Pass<T>, rt: &R) -> Held<T>
         requires own { IsPassOf self.now pass.old }
         requires free { IsFree pass.old }

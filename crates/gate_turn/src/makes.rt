@@ -28,7 +28,7 @@ impl<T: Logged> TurnLock<T> {
         let key = Snapshot::of(&value);
         let count = value.length();
         let slots = Self::one_slot(alloc, value)?;
-        match Table::new(alloc, &[0, 0, count], slots, &key) {
+        match Table::new(alloc, &[0, 0, count, 0], slots, &key) {
             Ok((table, seat)) => Ok((TurnLock { table }, seat)),
             Err(Refused { slots }) => Err(Self::out_of_slot(slots)),
         }

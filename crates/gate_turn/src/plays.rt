@@ -1,5 +1,5 @@
 //! What each kind of step on the lock's words tells its pass.
-ghost use Rattle.gate_turn.specs.Steps.{Drew, LookedAt, Served, Published, GaveOn};
+ghost use Rattle.gate_turn.specs.Steps.{Drew, Noted, LookedAt, Served, Published, GaveOn};
 
 use crate::logged::Logged;
 use crate::rule::View;
@@ -32,6 +32,13 @@ pub(crate) struct Draws;
 
 impl<T> Play<Option<T>, View> for Draws {
     ghost then = { Drew };
+}
+
+/// It is noted whether somebody may sleep.
+pub(crate) struct Notes;
+
+impl<T> Play<Option<T>, View> for Notes {
+    ghost then = { Noted };
 }
 
 /// The ticket that is served is read.

@@ -1,6 +1,7 @@
 //! Measurements: does what is measured so many times, and prints what came of it, so that no work can be left out.
-//! `codec COUNT` goes through all session messages; `write TEMPLATE COUNT` and `read TEMPLATE COUNT` through one. `sender COUNT`
-//! submits messages at a gate. `all COUNT` does each of these.
+//! `codec COUNT` goes through all session messages; `write TEMPLATE COUNT` and `read TEMPLATE COUNT` through one.
+//! `senders SENDERS COUNT` has so many senders submit so many messages each at a gate, at once; `plans SENDERS COUNT` only makes
+//! their messages and the outbox. `all COUNT` goes through all messages and has four senders submit.
 #![tactic(auto)]
 
 mod codec;
@@ -13,6 +14,7 @@ use std::alloc::{AllocError, Global};
 use std::io;
 use std::rt::Env;
 use std::sync::Wait;
+use std::thread::Threads;
 
 /// The bytes of a buffer of frames.
 const ROOM: usize = 65_536;
@@ -61,8 +63,8 @@ fn number(word: &str) -> u64 {
     word.parse::<u64>().unwrap_or(0)
 }
 
-/// The template that a word spells; 0 where it spells none.
-fn template_of(word: &str) -> u16 {
+/// The number of 16 bits that a word spells; 0 where it spells none.
+fn small(word: &str) -> u16 {
     word.parse::<u16>().unwrap_or(0)
 }
 
@@ -92,9 +94,14 @@ fn print_all_codec<R: Print + AllocGlobal>(rt: &R, count: u64) -> io::Result<()>
     Ok(())
 }
 
-/// The line of a sender at a gate.
-fn print_sender<R: Print + Wait + AllocGlobal>(rt: &R, count: u64) -> io::Result<()> {
-    match submitted(rt, count) {
+/// The line of so many senders at a gate, which are to run or not.
+fn print_senders<R: Print + Threads + Wait + Sync + AllocGlobal>(
+    rt: &R,
+    senders: u16,
+    count: u64,
+    run: bool,
+) -> io::Result<()> {
+    match submitted(rt, senders, count, run) {
         Some(entries) => println!(rt; "{entries}"),
         None => println!(rt; "no outbox"),
     }
@@ -106,14 +113,17 @@ fn main(rt: HostRuntime) -> io::Result<()> {
         [kind, count] if kind.as_str() == "all" => {
             let count = number(count.as_str());
             print_all_codec(&rt, count)?;
-            print_sender(&rt, count)
+            print_senders(&rt, 4, count, true)
         }
         [kind, count] if kind.as_str() == "codec" => print_all_codec(&rt, number(count.as_str())),
-        [kind, count] if kind.as_str() == "sender" => print_sender(&rt, number(count.as_str())),
+        [kind, senders, count] if kind.as_str() == "senders" || kind.as_str() == "plans" => {
+            let run = kind.as_str() == "senders";
+            print_senders(&rt, small(senders.as_str()), number(count.as_str()), run)
+        }
         [kind, template, count] if kind.as_str() == "write" => {
             let (sizes, bytes) = written(
                 rt.alloc(),
-                template_of(template.as_str()),
+                small(template.as_str()),
                 number(count.as_str()),
             )?;
             println!(rt; "{sizes} {bytes}")
@@ -121,13 +131,13 @@ fn main(rt: HostRuntime) -> io::Result<()> {
         [kind, template, count] if kind.as_str() == "read" => {
             let sum = read_back(
                 rt.alloc(),
-                template_of(template.as_str()),
+                small(template.as_str()),
                 number(count.as_str()),
             )?;
             println!(rt; "{sum}")
         }
         _ => println!(rt;
-            "all COUNT, codec COUNT, write TEMPLATE COUNT, read TEMPLATE COUNT or sender COUNT"
+            "all COUNT, codec COUNT, write TEMPLATE COUNT, read TEMPLATE COUNT, senders SENDERS COUNT or plans SENDERS COUNT"
         ),
     }
 }

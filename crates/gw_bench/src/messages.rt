@@ -196,53 +196,47 @@ fn terminate<'a>(id: &[u8; 16], number: u64, datum: &'a [u8]) -> SessionMsg<'a>
 /// length of its data.
 pub fn sum_of(message: &SessionMsg<'_>) -> u64 {
     match message {
-        SessionMsg::Negotiate(m) => ends(&m.session_id)
-            .wrapping_add(m.timestamp)
-            .wrapping_add(u64::from(m.client_flow))
-            .wrapping_add(m.credentials.len() as u64),
-        SessionMsg::NegotiationResponse(m) => ends(&m.session_id)
-            .wrapping_add(m.request_timestamp)
-            .wrapping_add(u64::from(m.server_flow))
-            .wrapping_add(m.credentials.len() as u64),
-        SessionMsg::NegotiationReject(m) => ends(&m.session_id)
-            .wrapping_add(m.request_timestamp)
-            .wrapping_add(u64::from(m.code))
-            .wrapping_add(m.reason.len() as u64),
-        SessionMsg::Establish(m) => ends(&m.session_id)
-            .wrapping_add(m.timestamp)
-            .wrapping_add(u64::from(m.keepalive))
-            .wrapping_add(m.next_seq.unwrap_or(0))
-            .wrapping_add(m.credentials.len() as u64),
-        SessionMsg::EstablishmentAck(m) => ends(&m.session_id)
-            .wrapping_add(m.request_timestamp)
-            .wrapping_add(u64::from(m.keepalive))
+        SessionMsg::Negotiate(m) => sum(&m.session_id, m.timestamp, m.client_flow, m.credentials),
+        SessionMsg::NegotiationResponse(m) => {
+            sum(&m.session_id, m.request_timestamp, m.server_flow, m.credentials)
+        }
+        SessionMsg::NegotiationReject(m) => {
+            sum(&m.session_id, m.request_timestamp, m.code, m.reason)
+        }
+        SessionMsg::Establish(m) => sum(&m.session_id, m.timestamp, m.keepalive, m.credentials)
             .wrapping_add(m.next_seq.unwrap_or(0)),
-        SessionMsg::EstablishmentReject(m) => ends(&m.session_id)
-            .wrapping_add(m.request_timestamp)
-            .wrapping_add(u64::from(m.code))
-            .wrapping_add(m.reason.len() as u64),
+        SessionMsg::EstablishmentAck(m) => {
+            sum(&m.session_id, m.request_timestamp, m.keepalive, &[])
+                .wrapping_add(m.next_seq.unwrap_or(0))
+        }
+        SessionMsg::EstablishmentReject(m) => {
+            sum(&m.session_id, m.request_timestamp, m.code, m.reason)
+        }
         SessionMsg::Sequence(m) => m.next_seq,
         SessionMsg::UnsequencedHeartbeat(_) => 0,
-        SessionMsg::RetransmitRequest(m) => ends(&m.session_id)
-            .wrapping_add(m.timestamp)
-            .wrapping_add(m.from_seq)
-            .wrapping_add(u64::from(m.count)),
-        SessionMsg::Retransmission(m) => ends(&m.session_id)
-            .wrapping_add(m.next_seq)
-            .wrapping_add(m.request_timestamp)
-            .wrapping_add(u64::from(m.count)),
-        SessionMsg::RetransmitReject(m) => ends(&m.session_id)
-            .wrapping_add(m.request_timestamp)
-            .wrapping_add(u64::from(m.code))
-            .wrapping_add(m.reason.len() as u64),
+        SessionMsg::RetransmitRequest(m) => {
+            sum(&m.session_id, m.timestamp, m.count, &[]).wrapping_add(m.from_seq)
+        }
+        SessionMsg::Retransmission(m) => {
+            sum(&m.session_id, m.request_timestamp, m.count, &[]).wrapping_add(m.next_seq)
+        }
+        SessionMsg::RetransmitReject(m) => {
+            sum(&m.session_id, m.request_timestamp, m.code, m.reason)
+        }
         SessionMsg::Applied(m) => m.from_seq.wrapping_add(u64::from(m.count)),
         SessionMsg::NotApplied(m) => m.from_seq.wrapping_add(u64::from(m.count)),
         SessionMsg::FinishedSending(m) => ends(&m.session_id).wrapping_add(m.last_seq.unwrap_or(0)),
         SessionMsg::FinishedReceiving(m) => ends(&m.session_id),
-        SessionMsg::Terminate(m) => ends(&m.session_id)
-            .wrapping_add(u64::from(m.code))
-            .wrapping_add(m.reason.len() as u64),
+        SessionMsg::Terminate(m) => sum(&m.session_id, 0, m.code, m.reason),
     }
+}
+
+/// The sum of an identifier's ends, a moment, a code or a count, and the length of data.
+fn sum<N: Into<u64>>(id: &[u8; 16], moment: u64, number: N, datum: &[u8]) -> u64 {
+    ends(id)
+        .wrapping_add(moment)
+        .wrapping_add(number.into())
+        .wrapping_add(datum.len() as u64)
 }
 
 /// The first and the last byte of an identifier.

@@ -1,23 +1,19 @@
-//! A sender at a gate: it submits its messages into an outbox on a disk in memory.
-//! Relies on `gate_senders`.
+//! Senders at a gate: each submits its plan, all at once, into an outbox on a disk in memory.
+//! Relies on `sender_plans`.
 
-ghost use Rattle.std.specs.Prelude.{◌≡◌, ◌≢◌, ℕ, ◌≤◌, ◌^◌, false, None, Some, IfSome};
-ghost use Rattle.fixp_msgs.specs.Payload.{IsApplication};
+ghost use Rattle.std.specs.Prelude.{◌≡◌, ◌≤◌, ◌^◌, false, vec_len, IfSome};
 ghost use Rattle.jr_boxes.specs.Outbox.{is_broken};
-ghost use Rattle.gate_turn.specs.Places.{known};
-ghost use Rattle.gate_turn.specs.Listed.{pass_at};
-ghost use Rattle.gate_turn.specs.Calls.{IsFree};
-ghost use Rattle.gate_senders.specs.Gate.{senders_of, IsPassAt, IsSenderAt, HasBackAt, MadeAt};
 
-use fixp_msgs::is_application;
-use gate_senders::{Gate, Kept};
-use gate_turn::{Pass, Passes};
+use gate_senders::Gate;
 use gw_fakes::MemDisk;
+use gw_outside::{Bytes, Payloads};
 use jr_boxes::Outbox;
 use jr_log::{LogJournal, format};
 use jr_record::Limits;
+use sender_plans::{OpenDoor, Plan, run_seated, seat, unseat};
 use std::alloc::Global;
 use std::sync::Wait;
+use std::thread::Threads;
 
 /// A journal on a disk in memory.
 type Log = LogJournal<MemDisk>;
@@ -28,7 +24,7 @@ const PAYLOAD: usize = 62;
 /// The bytes that an entry of such a payload takes in a journal, with its gate.
 const ENTRY: u64 = 78;
 
-/// The most entries of an outbox.
+/// The most messages of a sender.
 const MOST: u64 = 1 << 20;
 
 /// An application message: schema 100, template 7, and bytes behind the header.
@@ -39,65 +35,32 @@ fn message() -> [u8; PAYLOAD] {
     bytes
 }
 
-/// Submits a message so many times, and gives the pass back.
-fn submit_all<R: Wait>(
-    rt: &R,
-    gate: &Gate<Log>,
-    mut pass: Pass<Kept<Log>>,
-    message: &[u8],
-    many: u64,
-) -> Pass<Kept<Log>>
-    requires own { IsSenderAt gate.now pass }
-    requires free { IsFree pass }
-    requires payload { IsApplication message.now }
-    ensures own { IsPassAt gate.entry.now result }
-    ensures free { IsFree result }
-    ensures kept { ((known result).number ≡ (known pass).number) × ((known result).made ≡ (known pass).made) }
-{
+/// The plan of a sender: so many messages. None where memory runs out.
+fn plan(alloc: Global, many: u64) -> Option<Plan> {
+    let message = message();
+    let mut payloads = Payloads::new(alloc);
     for _ in 0..many {
-        let _ = gate.submit(&mut pass, message, rt);
+        payloads
+            .push(Bytes::from_slice(alloc, &message).ok()?)
+            .ok()?;
     }
-    pass
+    Plan::of(payloads).ok()
 }
 
-/// The pass of a number that the list has.
-fn taken(gate: &Gate<Log>, passes: &mut Passes<Kept<Log>>, number: u16) -> Pass<Kept<Log>>
-    requires back { HasBackAt gate.now passes.old number }
-    ensures there { Some result ≡ pass_at passes.old number }
-    ensures own { IsPassAt gate.now result }
-    ensures free { IsFree result }
-    ensures gone { pass_at passes.new number ≡ None }
-    ensures others { (n : ℕ) → n ≢ number → pass_at passes.new n ≡ pass_at passes.old n }
+/// A plan for each of so many senders. None where memory runs out.
+fn plans(alloc: Global, senders: u16, many: u64) -> Option<Vec<Plan>>
+    ensures count { IfSome result (λ plans. vec_len plans ≡ senders) }
 {
-    let Some(pass) = passes.take(number) else {
-        unreachable!()
-    };
-    pass
-}
-
-/// The only sender submits a message so many times. The outbox comes out.
-fn alone<R: Wait>(
-    rt: &R,
-    gate: Gate<Log>,
-    mut passes: Passes<Kept<Log>>,
-    message: &[u8],
-    many: u64,
-) -> Outbox<Log>
-    requires made { MadeAt gate passes 2 }
-    requires senders { senders_of gate ≡ 1 }
-    requires payload { IsApplication message.now }
-{
-    let first = taken(&gate, &mut passes, 1);
-    let second = taken(&gate, &mut passes, 2);
-    let back = submit_all(rt, &gate, first, message, many);
-    passes.give(back);
-    passes.give(second);
-    gate.close(passes)
+    let mut plans = Vec::with_capacity(alloc, usize::from(senders)).ok()?;
+    for _ in 0..senders {
+        plans.push_reserved(plan(alloc, many)?);
+    }
+    Some(plans)
 }
 
 /// An outbox on a formatted disk in memory with room for so many entries; none where it is not to be had.
 fn fresh(alloc: Global, entries: u64) -> Option<Outbox<Log>>
-    requires few { entries ≤ 2 ^ 20 }
+    requires few { entries ≤ 2 ^ 24 }
     ensures sound { IfSome result (λ box. is_broken box ≡ false) }
 {
     let bytes = 64 + entries * ENTRY;
@@ -108,17 +71,28 @@ fn fresh(alloc: Global, entries: u64) -> Option<Outbox<Log>>
     Outbox::open(alloc, journal, limits).ok()
 }
 
-/// A sender submits so many messages, and the number of entries that the outbox has then; none where it is not to be had.
-pub fn submitted<R: Wait + AllocGlobal>(rt: &R, many: u64) -> Option<u64> {
+/// Makes the plans of so many senders, 16 at most, with so many messages each, and an outbox. Where they are to run, they submit
+/// them, at once. The number of entries that the outbox has then; none where it is not to be had.
+pub fn submitted<R: Threads + Wait + Sync + AllocGlobal>(
+    rt: &R,
+    senders: u16,
+    many: u64,
+    run: bool,
+) -> Option<u64> {
     let alloc = rt.alloc();
-    let message = message();
-    if many > MOST || !is_application(&message) {
+    if senders > 16 || many > MOST {
         return None;
     }
-    let outbox = fresh(alloc, many)?;
-    let Ok((gate, passes)) = Gate::new(alloc, outbox, 1) else {
+    let plans = plans(alloc, senders, many)?;
+    let outbox = fresh(alloc, u64::from(senders) * many)?;
+    let seats = Vec::with_capacity(alloc, plans.len()).ok()?;
+    let Ok((gate, mut passes)) = Gate::new(alloc, outbox, senders) else {
         return None;
     };
-    let outbox = alone(rt, gate, passes, &message, many);
-    Some(outbox.front())
+    let mut senders = seat(&gate, &mut passes, plans, seats);
+    if run {
+        let _ = run_seated(&gate, &mut senders, &OpenDoor, rt);
+    }
+    unseat(&gate, senders, &mut passes);
+    Some(gate.close(passes).front())
 }

@@ -221,9 +221,10 @@ impl<J: Journal> Outbox<J> {
         self.tally.closed
     }
 
-    /// Whether a call of its disk has failed since the opening of its journal.
+    /// Whether a call of its disk has failed since the opening of its journal. While none has, it holds a history.
     pub fn broken(&self) -> bool
         ensures value { result ≡ is_broken self.now }
+        ensures held { result ≡ false → ∥ ((h : History) × HoldsBox self.now h []) ∥₁ }
     {
         self.journal.broken()
     }

@@ -18,12 +18,13 @@ pub const GATE: u8 = 1;
 /// The closed byte: no record stands behind it.
 pub const CLOSED: u8 = 0;
 
-/// The records with their gates, and the closed byte behind them.
-pub fn gated(alloc: Global, records: &[Record]) -> Result<Bytes, AllocError>
+/// The records with their gates, and the closed byte behind them, in the memory of `spare`, whose bytes are dropped.
+pub fn gated(alloc: Global, records: &[Record], mut spare: Vec<u8>) -> Result<Bytes, AllocError>
     requires legal { AllByRecursion IsRecord records.now }
     ensures bytes { IfOk result (λ bytes. bytes ≡ with_gates spelled records.now ++ 0 ∷ []) }
 {
-    let mut bytes = Bytes::new(alloc);
+    spare.clear();
+    let mut bytes = Bytes::from(spare);
     let mut rest = records;
     while let [r, after @ ..] = rest {
         bytes.push(GATE)?;

@@ -16,6 +16,7 @@ use jr_record::{
     AppendFault, FetchFault, Journal, Limits, OpenFault, Record, one_verdict, record_size,
 };
 use std::alloc::Global;
+use std::mem;
 
 /// A journal on one disk, which keeps its records in memory.
 #[derive(Drop)]
@@ -26,6 +27,9 @@ pub struct LogJournal<D: Disk> {
     records: Vec<Record>,
     size: u64,
     broken: bool,
+    /// Memory for the bytes of an append, and for its list of records, kept from the last one. What they have counts for nothing.
+    spare: Vec<u8>,
+    batch: Vec<Record>,
     ghost legal: { AllByRecursion IsRecord records.items } by { legal_prop records.items },
     ghost sized: { journal_size records.items ≡ size },
     ghost small: { size ≤ 2 ^ 41 },
@@ -68,6 +72,8 @@ impl<D: Disk> LogJournal<D> {
                 records: found.records,
                 size: found.size,
                 broken: false,
+                spare: Vec::new(alloc),
+                batch: Vec::new(alloc),
             }),
             Err(fault) => Err((disk, fault)),
         }
@@ -111,7 +117,8 @@ impl<D: Disk> LogJournal<D> {
     {
         let mut batch = batch;
         self.records.reserve(batch.len())?;
-        let bytes = gated(self.alloc, batch.as_slice())?;
+        let spare = mem::replace(&mut self.spare, Vec::new(self.alloc));
+        let bytes = gated(self.alloc, batch.as_slice(), spare)?;
         // Broken until each call of the disk has done its part.
         self.broken = true;
         write_behind(&mut self.disk, self.size - 1, bytes.as_slice())?;
@@ -121,6 +128,8 @@ impl<D: Disk> LogJournal<D> {
         }
         self.size += bytes.len() as u64 - 1;
         self.broken = false;
+        self.spare = Vec::from(bytes);
+        self.batch = batch;
         Ok(())
     }
 }
@@ -159,7 +168,8 @@ impl<D: Disk> Journal for LogJournal<D> {
         if !r.is_control() && self.size + record_size(r) > self.limits.bytes {
             return Err(AppendFault::Full { bytes: self.size });
         }
-        let mut batch = Vec::with_capacity(self.alloc, 1)?;
+        let mut batch = mem::replace(&mut self.batch, Vec::new(self.alloc));
+        batch.clear();
         batch.push(r.copy(self.alloc)?)?;
         self.add(batch)?;
         Ok(())

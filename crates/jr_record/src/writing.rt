@@ -1,6 +1,6 @@
 //! The bytes of a record: how many they are, and how they are written.
 
-ghost use Rattle.std.specs.Prelude.{◌≡◌, ◌+◌, ◌≤◌, ◌<◌, ◌^◌, [], ◌∷◌, ◌++◌, length, IfOk, OnOk, OnErr};
+ghost use Rattle.std.specs.Prelude.{◌≡◌, ◌+◌, ◌≤◌, ◌<◌, ◌^◌, [], ◌∷◌, ◌++◌, length, vec_len, vec_capacity, OnOk, OnErr};
 ghost use Rattle.std.specs.Int.{w32, to_le_bytes};
 ghost use Rattle.jr_record.specs.Records.{IsRecord, spelled, kind_of, body_of};
 ghost use Rattle.jr_record.specs.Images.{record_size as size_of};
@@ -8,6 +8,7 @@ ghost use Rattle.jr_record.specs.Images.{record_size as size_of};
 use crate::record::Record;
 use gw_outside::Bytes;
 use std::alloc::{AllocError, Global};
+use std::mem;
 
 /// The bytes of the kind and of the length in front of a record's body.
 const FRONT: u64 = 5;
@@ -22,7 +23,7 @@ pub fn record_size(r: &Record) -> u64
     1 + FRONT + body_size(r)
 }
 
-/// Writes a record behind the bytes of `out`.
+/// Writes a record behind the bytes of `out`. Memory for all of it is taken first, where `out` lacks it.
 ///
 /// # Errors
 /// Want of memory; `out` is as it was.
@@ -31,42 +32,62 @@ pub fn write_record(alloc: Global, r: &Record, out: &mut Bytes) -> Result<(), Al
     ensures ok { OnOk result (out.new ≡ out.old ++ spelled r.now) }
     ensures err { OnErr result (out.new ≡ out.old) }
 {
-    let bytes = spelling(alloc, r)?;
-    out.extend_from_slice(bytes.as_slice())
+    let mut bytes = Vec::from(mem::replace(out, Bytes::new(alloc)));
+    let written = match bytes.reserve((FRONT + body_size(r)) as usize) {
+        Ok(()) => {
+            put_record(r, &mut bytes);
+            Ok(())
+        }
+        Err(full) => Err(full),
+    };
+    *out = Bytes::from(bytes);
+    written
 }
 
-/// The bytes of a record.
-fn spelling(alloc: Global, r: &Record) -> Result<Bytes, AllocError>
+/// Writes a record behind bytes that have room for it.
+fn put_record(r: &Record, out: &mut Vec<u8>)
     requires legal { IsRecord r.now }
-    ensures spelled { IfOk result (λ bytes. bytes ≡ spelled r.now) }
+    requires room { vec_len out.old + length (spelled r.now) ≤ vec_capacity out.old }
+    ensures items { out.new.items ≡ out.old.items ++ spelled r.now }
 {
-    let mut bytes = Bytes::new(alloc);
-    bytes.push(kind(r))?;
-    bytes.extend_from_slice(&(body_size(r) as u32).to_le_bytes())?;
-    write_body(r, &mut bytes)?;
-    Ok(bytes)
+    out.push_reserved(kind(r));
+    put(out, &(body_size(r) as u32).to_le_bytes());
+    put_body(r, out);
 }
 
-/// Writes a record's body behind the bytes of `out`; an error leaves a beginning of it there.
-fn write_body(r: &Record, out: &mut Bytes) -> Result<(), AllocError>
-    ensures ok { OnOk result (out.new ≡ out.old ++ body_of r.now) }
+/// Writes a record's body behind bytes that have room for it.
+fn put_body(r: &Record, out: &mut Vec<u8>)
+    requires room { vec_len out.old + length (body_of r.now) ≤ vec_capacity out.old }
+    ensures items { out.new.items ≡ out.old.items ++ body_of r.now }
 {
     match r {
         Record::Entry { sender, k, payload } => {
-            out.extend_from_slice(&sender.to_le_bytes())?;
-            out.extend_from_slice(&k.to_le_bytes())?;
-            out.extend_from_slice(payload.as_slice())
+            put(out, &sender.to_le_bytes());
+            put(out, &k.to_le_bytes());
+            put(out, payload.as_slice());
         }
         Record::Apply { number, payload } => {
-            out.extend_from_slice(&number.to_le_bytes())?;
-            out.extend_from_slice(payload.as_slice())
+            put(out, &number.to_le_bytes());
+            put(out, payload.as_slice());
         }
         Record::Skip { from, count } => {
-            out.extend_from_slice(&from.to_le_bytes())?;
-            out.extend_from_slice(&count.to_le_bytes())
+            put(out, &from.to_le_bytes());
+            put(out, &count.to_le_bytes());
         }
-        Record::Negotiated | Record::Finish => Ok(()),
-        Record::PeerFinished { last } => out.extend_from_slice(&last.to_le_bytes()),
+        Record::Negotiated | Record::Finish => {}
+        Record::PeerFinished { last } => put(out, &last.to_le_bytes()),
+    }
+}
+
+/// Writes more bytes behind some that have room for them.
+fn put(out: &mut Vec<u8>, more: &[u8])
+    requires room { vec_len out.old + length more.now ≤ vec_capacity out.old }
+    ensures items { out.new.items ≡ out.old.items ++ more.now }
+    ensures len { vec_len out.new ≡ vec_len out.old + length more.now }
+    ensures room { vec_capacity out.old ≤ vec_capacity out.new }
+{
+    if out.extend_from_slice(more).is_err() {
+        unreachable!()
     }
 }
 

@@ -1,2 +1,3 @@
 mod Lowest
 mod Running
+pub mod Seating

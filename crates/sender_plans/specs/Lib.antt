@@ -1,3 +1,4 @@
 pub mod Plans
 pub mod Sent
 pub mod Runs
+pub mod Seats

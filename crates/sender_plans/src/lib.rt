@@ -5,9 +5,11 @@
 mod door;
 mod plan;
 mod run;
+mod seats;
 mod sender;
 
 pub use door::{Door, OpenDoor};
 pub use plan::Plan;
 pub use run::run_senders;
+pub use seats::{give_last, run_seated, seat, take_last, unseat};
 pub use sender::Sender;

@@ -2,7 +2,7 @@
 ghost use Rattle.std.specs.Prelude.{◌≡◌, false, IfSome};
 ghost use Rattle.jr_boxes.specs.Outbox.{is_broken};
 
-use crate::seats::Log;
+use crate::runs::Log;
 use gw_fakes::{MemDisk, Pick};
 use gw_outside::{Bytes, Payloads};
 use jr_boxes::Outbox;

@@ -1,7 +1,7 @@
 //! The cases.
 use crate::boxes::{WIDE, fresh, in_order, plans, reopened};
-use crate::doors::Meeting;
-use crate::runs::{Ran, run};
+use crate::doors::{Closing, Meeting};
+use crate::runs::{Ran, run, run_finished};
 use gw_fakes::Pick;
 use jr_boxes::SubmitFault;
 use jr_record::Limits;
@@ -101,6 +101,40 @@ pub fn limits<R: Threads + Wait + Sync>(
         "{answer:?}, done {} in all, {} entries, in order {ordered}",
         all_done(&done),
         outbox.front()
+    )
+}
+
+/// Two senders, and the Finish, which is added while they submit: not before sender 1 calls for its message 11, and before its
+/// message 40. What was told of stands in the outbox as it is opened again, and its Finish is last.
+pub fn finishing<R: Threads + Wait + Sync>(alloc: Global, rt: &R) -> Result<String, AllocError> {
+    let door = Closing::new(11, 40);
+    let Some(plans) = plans(alloc, &[100, 200])? else {
+        return format!(in alloc; "no plans");
+    };
+    if plans.len() != 2 {
+        return format!(in alloc; "no plans");
+    }
+    let Some(outbox) = fresh(alloc, WIDE, None) else {
+        return format!(in alloc; "no outbox");
+    };
+    let Some((ran, finished)) = run_finished(alloc, outbox, plans, &door, rt) else {
+        return format!(in alloc; "no gate");
+    };
+    let [first, second, ..] = ran.refused;
+    let whole = if ran.done[1] == 200 {
+        second.is_none()
+    } else {
+        second == Some(SubmitFault::Closed)
+    };
+    let Some(mut outbox) = reopened(alloc, ran.outbox, Pick::Old) else {
+        return format!(in alloc; "not opened again");
+    };
+    let stands = outbox.mine(1) == ran.done[0] && outbox.mine(2) == ran.done[1];
+    let ordered = in_order(&mut outbox);
+    format!(in alloc;
+        "finish {finished:?}, sender 1 {first:?}, told 10 to 39: {}, sender 2 done or closed: {whole}, what was told stands: {stands}, in order {ordered}, the Finish stands last: {}",
+        ran.done[0] >= 10 && ran.done[0] < 40,
+        outbox.closed() && outbox.front() == outbox.mine(1) + outbox.mine(2)
     )
 }
 

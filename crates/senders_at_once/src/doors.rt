@@ -4,10 +4,23 @@ use std::sync::Wait;
 use std::sync::atomic::{AtomicU64, Ordering};
 use std::thread::yield_now;
 
-/// How often sender 1 looks whether sender 2 has called.
+/// How often a thread looks whether another has come.
 const LOOKS: u64 = 1 << 26;
 
-/// A door at which sender 1 waits, before its first submit, until sender 2 has called. It does not wait for ever.
+/// Looks until the other has come, and says whether it has. It does not wait for ever.
+fn has_come(other: &AtomicU64) -> bool {
+    for look in 0..LOOKS {
+        if other.load(Ordering::SeqCst) == 1 {
+            return true;
+        }
+        if look % 4096 == 0 {
+            yield_now();
+        }
+    }
+    false
+}
+
+/// A door at which sender 1 waits, before its first submit, until sender 2 has called.
 #[derive(Drop)]
 pub struct Meeting {
     called: AtomicU64,
@@ -27,19 +40,6 @@ impl Meeting {
     pub fn met(&self) -> bool {
         self.met.load(Ordering::SeqCst) == 1
     }
-
-    /// Looks until sender 2 has called, and notes whether it has.
-    fn wait(&self) {
-        for look in 0..LOOKS {
-            if self.called.load(Ordering::SeqCst) == 1 {
-                self.met.store(1, Ordering::SeqCst);
-                return;
-            }
-            if look % 4096 == 0 {
-                yield_now();
-            }
-        }
-    }
 }
 
 impl Door for Meeting {
@@ -47,8 +47,51 @@ impl Door for Meeting {
         if sender == 2 {
             self.called.store(1, Ordering::SeqCst);
         }
-        if sender == 1 && k == 1 {
-            self.wait();
+        if sender == 1 && k == 1 && has_come(&self.called) {
+            self.met.store(1, Ordering::SeqCst);
+        }
+    }
+}
+
+/// A door that lets the Finish be added while senders submit: not before sender 1 calls for message `opens_at`. Sender 1 waits
+/// for it before message `closed_at`.
+#[derive(Drop)]
+pub struct Closing {
+    opens_at: u64,
+    closed_at: u64,
+    open: AtomicU64,
+    finished: AtomicU64,
+}
+
+impl Closing {
+    /// The door with these two places in the plan of sender 1.
+    pub fn new(opens_at: u64, closed_at: u64) -> Closing {
+        Closing {
+            opens_at,
+            closed_at,
+            open: AtomicU64::new(0),
+            finished: AtomicU64::new(0),
+        }
+    }
+
+    /// Waits until the Finish may be added.
+    pub fn wait(&self) {
+        let _ = has_come(&self.open);
+    }
+
+    /// Says that it was added.
+    pub fn tell(&self) {
+        self.finished.store(1, Ordering::SeqCst);
+    }
+}
+
+impl Door for Closing {
+    fn before<R: Wait>(&self, sender: u16, k: u64, _rt: &R) {
+        if sender == 1 && k == self.opens_at {
+            self.open.store(1, Ordering::SeqCst);
+        }
+        if sender == 1 && k == self.closed_at {
+            let _ = has_come(&self.finished);
         }
     }
 }

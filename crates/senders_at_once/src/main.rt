@@ -7,7 +7,6 @@ mod boxes;
 mod cases;
 mod doors;
 mod runs;
-mod seats;
 
 use gw_fakes::Pick;
 use jr_record::Limits;
@@ -50,6 +49,7 @@ fn main(rt: HostRuntime) -> io::Result<()> {
         bytes: 500,
     };
     println!(rt; "{}", cases::limits(alloc, small, &rt)?)?;
+    println!(rt; "{}", cases::finishing(alloc, &rt)?)?;
     for pick in [Pick::Old, Pick::Kept, Pick::Noise] {
         print_failing(&rt, pick)?;
     }

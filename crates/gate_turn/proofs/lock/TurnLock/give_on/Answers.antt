@@ -21,8 +21,8 @@ store-requires g c =
           c.length-count.ensures.exact,
     )
 
-pub fetch_add-requires : goal.fetch_add-requires
-fetch_add-requires g c =
+pub fetch_add-served-requires : goal.fetch_add-served-requires
+fetch_add-served-requires g c =
     let put = c.exchange-before.ensures in
     let a : Account = g.T.Logged.tells c.args.value in
     let slot = ap (λ m. m.1) put.3 ∙ ap (λ r. (0, Some c.args.value) ∷ rest r) c.requires.slot in
@@ -45,9 +45,9 @@ returns g c =
     let slot = ap (λ m. m.1) put.3 ∙ ap (λ r. (0, Some c.args.value) ∷ rest r) c.requires.slot in
     let stored = c.store.ensures.2 c.args.value slot in
     let view = stored.0 ∙ ap (λ (v : View). counted a.history (part_of v) ∷ []) (ap (λ m. m.0) put.3) in
-    let given = c.fetch_add.ensures.2 c.args.value (stored.1 ∙ slot) in
+    let given = c.fetch_add-served.ensures.2 c.args.value (stored.1 ∙ slot) in
     record {
-      own = c.fetch_add.ensures.0 ∙ (c.store.ensures.0 ∙ put.0);
-      slot = given.1;
-      left = given.0 ∙ ap (λ (v : View). gave a (part_of v) ∷ []) view;
+      own = c.wake.ensures.own ∙ (c.fetch_add-served.ensures.0 ∙ (c.store.ensures.0 ∙ put.0));
+      slot = ap (λ m. m.1) c.wake.ensures.me ∙ given.1;
+      left = ap (λ m. m.0) c.wake.ensures.me ∙ given.0 ∙ ap (λ (v : View). gave a (part_of v) ∷ []) view;
     }

@@ -1,12 +1,12 @@
 use Rattle.std.proofs.Common.{◌≡◌, ◌+◌, length, sym, ap, ◌∙◌, subst, arith}
 use Rattle.std.specs.Prelude.{vec_len}
 use Rattle.gate_turn.specs.Listed.{pass_at, known_if}
-use Rattle.senders_at_once.specs.Seats.{Seated, HasBehind}
-use Rattle.senders_at_once.proofs.Seating.{all_behind, taken_out, none_seated, one_more_seated}
-use Rattle.senders_at_once.proofs.seats.seat.Goals as goal
+use Rattle.sender_plans.specs.Seats.{Seated, HasBehind}
+use Rattle.sender_plans.proofs.Seating.{all_behind, taken_out, none_seated, one_more_seated}
+use Rattle.sender_plans.proofs.seats.seat.Goals as goal
 
 pub loop-place-init : goal.loop-place-init
-loop-place-init c = record {
+loop-place-init g c = record {
   left = omega arith;
   count = c.args.senders.ok.0 ∙ ap length c.requires.empty;
   room = c.requires.room;
@@ -15,7 +15,7 @@ loop-place-init c = record {
 }
 
 pub loop-place-preserved : goal.loop-place-preserved
-loop-place-preserved c =
+loop-place-preserved g c =
     let at = c.loop-place.invariant in
     let made = vec_len c.args.plans + 1 in
     let s = c.seated.result in

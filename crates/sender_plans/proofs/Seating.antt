@@ -1,5 +1,5 @@
 -- Passes that go from the list to senders, and back.
-use Rattle.std.proofs.Common.{◌≡◌, ◌≢◌, ⊎_elim, ℕ, ◌+◌, ◌<◌, ◌≤◌, List, [], ◌∷◌, ◌++◌, length, slice_index_or, All, Option, Some, None, refl, sym, ap, ◌∙◌, subst, arith, length-append}
+use Rattle.std.proofs.Common.{◌≡◌, ◌≢◌, ⊎_elim, ℕ, ◌+◌, ◌<◌, ◌≤◌, List, [], ◌∷◌, ◌++◌, length, slice_index_or, All, Option, Some, None, refl, sym, ap, ◌∙◌, subst, arith, le_refl, length-append}
 use Rattle.std.proofs.lemmas.Option.{none-some, same_Some}
 use Rattle.std.proofs.lemmas.List.{get_or_append_left, get_or_push}
 use Rattle.std.proofs.lemmas.List.Elements.{All-push}
@@ -19,7 +19,7 @@ use Rattle.gate_senders.specs.declared.gate.Gate.{Gate}
 use Rattle.gate_senders.specs.declared.kept.Kept.{Kept}
 use Rattle.sender_plans.specs.Runs.{IsReady, RanEach}
 use Rattle.sender_plans.specs.declared.sender.Sender.{Sender}
-use Rattle.senders_at_once.specs.Seats.{IsBehind, Seated, HasBehind}
+use Rattle.sender_plans.specs.Seats.{IsBehind, Seated, HasBehind}
 
 module _ {J : Type 0} {G : Ghosts J} (gate : Gate J G) (made : ℕ) where
   -- all are in the list
@@ -29,6 +29,10 @@ module _ {J : Type 0} {G : Ghosts J} (gate : Gate J G) (made : ℕ) where
     none = λ n out. m.others n (λ h. out (record { past = omega (arith, h.from_one); up_to = h.up_to }));
     first = λ _. ap (λ (p : Part). p.made) (m.each 1 (record { from_one = omega arith; up_to = some })).1;
   }
+
+  -- the list has the one behind the senders'
+  pub last_back : (passes : Passes (Kept J G)) (k : ℕ) → k + 1 ≡ made → HasBehind gate passes k made → HasBackAt gate passes made
+  last_back passes k last h = h.each made (record { past = omega (arith, last); up_to = le_refl made })
 
   -- one was taken out
   pub taken_out : (old new : Passes (Kept J G)) (k : ℕ) → pass_at new (k + 1) ≡ None → ((n : ℕ) → n ≢ k + 1 → pass_at new n ≡ pass_at old n)

@@ -1,11 +1,11 @@
 use Rattle.std.proofs.Common.{◌≡◌, ◌+◌, ◌≤◌}
 use Rattle.std.specs.Prelude.{vec_len, vec_capacity}
 use Rattle.gate_senders.specs.Gate.{senders_of}
-use Rattle.senders_at_once.specs.Seats.{Seated, HasBehind}
-use Rattle.senders_at_once.proofs.seats.seat.Given as goal
+use Rattle.sender_plans.specs.Seats.{Seated, HasBehind}
+use Rattle.sender_plans.proofs.seats.seat.Given as goal
 
 abbrev pub invariant-loop-place : goal.invariant-loop-place
-invariant-loop-place l = record {
+invariant-loop-place g l = record {
   left : vec_len l.plans + l.place ≡ vec_len l.fn.plans;
   count : vec_len l.senders ≡ l.place;
   room : vec_len l.fn.plans ≤ vec_capacity l.senders;

@@ -1,11 +1,11 @@
 use Rattle.std.proofs.Common.{◌≡◌, ◌+◌, length, sym, ap, ◌∙◌, subst, arith}
 use Rattle.std.specs.Prelude.{vec_len}
-use Rattle.senders_at_once.specs.Seats.{Seated, HasBehind}
-use Rattle.senders_at_once.proofs.Seating.{put_back, all_back, last_seated}
-use Rattle.senders_at_once.proofs.seats.unseat.Goals as goal
+use Rattle.sender_plans.specs.Seats.{Seated, HasBehind}
+use Rattle.sender_plans.proofs.Seating.{put_back, all_back, last_seated}
+use Rattle.sender_plans.proofs.seats.unseat.Goals as goal
 
 pub loop-preserved : goal.loop-preserved
-loop-preserved c =
+loop-preserved g c =
     let at = c.loop.invariant in
     let made = vec_len c.args.senders + 1 in
     let rest = c.pop.new.self in
@@ -22,7 +22,7 @@ loop-preserved c =
     }
 
 pub returns : goal.returns
-returns c =
+returns g c =
     let at = c.loop.invariant in
     let made = vec_len c.args.senders + 1 in
     let none : vec_len c.loop.senders ≡ 0 = omega (arith, at.left, c.loop-test.false, c.len-end.ensures) in

@@ -1,0 +1,6 @@
+use Rattle.std.proofs.Common.{rules}
+use Rattle.gate_turn.proofs.Moves.{notes}
+use Rattle.gate_turn.proofs.lock.TurnLock.wake.Goals as goal
+
+pub store-requires : goal.store-requires
+store-requires g c = (c.requires.own, search rules, notes g.T.Logged.tells _ _ _ _ _)

@@ -1,0 +1,17 @@
+use Rattle.std.proofs.Common.{◌≡◌, ◌+◌, sym, ◌∙◌, arith, le_refl}
+use Rattle.sender_plans.specs.Seats.{IsBehind}
+use Rattle.sender_plans.proofs.Seating.{put_back}
+use Rattle.sender_plans.proofs.seats.give_last.Goals as goal
+
+pub give-requires : goal.give-requires
+give-requires g c =
+    let at : c.args.pass.number ≡ c.args.senders + 1 = sym c.args.pass.numbered ∙ c.requires.number in
+    (omega arith, c.requires.behind.none c.args.pass.number (λ b. omega (arith, at, b.past, b.up_to)))
+
+pub returns : goal.returns
+returns g c =
+    let at : c.args.pass.number ≡ c.args.senders + 1 = sym c.args.pass.numbered ∙ c.requires.number in
+    record {
+      behind = put_back c.args.gate.now (c.args.senders + 1) c.args.passes.now c.give.new.self c.args.senders c.args.pass (le_refl (c.args.senders + 1)) at c.requires.own c.requires.free
+          (λ e. absurd (omega (arith, e, c.requires.some))) c.give.ensures.there c.give.ensures.others c.requires.behind;
+    }
