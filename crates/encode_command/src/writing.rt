@@ -149,7 +149,7 @@ pub fn write_all<K: Sink>(
     frames: &mut Vec<u8>,
     wire: &mut K,
 ) -> Status
-    requires made { IsMade plan.now text.now place.entry frames.old.items }
+    requires made { IsMade plan.now text.now place frames.old.items }
     requires short { length text.now ≤ text_limit }
     ensures writes { Writes plan.now text.now (K.taken wire.old) (K.taken wire.new) result }
     ensures counted { K.faults wire.old ≤ K.faults wire.new }

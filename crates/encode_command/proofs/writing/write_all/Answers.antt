@@ -36,8 +36,8 @@ returns-in-Err-Fault-clause-writes g c =
     c.loop-left.frames.items c.write_message.new.frames.items c.in-Err-Fault.fault c.loop-left.invariant.written c.requires.made.spelled
     (rw c.in-Err-Fault.field-0-is at c.in-Err-Fault.ensures) (rw c.as_slice.ensures.value at c.in-Ok-push_all.ensures.ok))
 
-pub returns-in-Err-Memory-clause-writes : goal.returns-in-Err-Memory-clause-writes
-returns-in-Err-Memory-clause-writes g c =
+pub returns-in-Err-Line-clause-writes : goal.returns-in-Err-Line-clause-writes
+returns-in-Err-Line-clause-writes g c =
     front-kept c.args.plan.now c.args.text.now c.loop-left.left.now c.loop-left.number (g.K.Sink.taken c.args.wire.now) (g.K.Sink.taken c.loop-left.wire)
     c.loop-left.frames.items c.loop-left.invariant.written c.requires.made.spelled
 
