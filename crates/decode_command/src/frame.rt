@@ -1,6 +1,6 @@
 //! The lines of one frame.
 
-ghost use Rattle.std.specs.Prelude.{◌≡◌, ◌++◌, Ok, OnOk};
+ghost use Rattle.std.specs.Prelude.{◌≡◌, Ok};
 ghost use Rattle.sbe_layout.specs.Legal.{LegalPlan};
 ghost use Rattle.sbe_grammar.specs.Fits.{Fits};
 ghost use Rattle.sbe_text.specs.Written.{lines_of_message};
@@ -12,9 +12,9 @@ use sbe_decode::{DecodeError, decode};
 use sbe_grammar::read_fits;
 use sbe_layout::Plan;
 use sbe_prim::Order;
-use sbe_text::print_message;
+use sbe_text::write_lines;
 use sbe_value::Message;
-use std::alloc::{AllocError, Global};
+use std::alloc::Global;
 
 /// A frame of the input.
 #[derive(Clone, Copy)]
@@ -76,21 +76,8 @@ fn print_decoded(
     requires { Fits plan.now message.now }
     ensures { Prints (Ok (lines_of_message plan.now message.now)) lines.old.items lines.new.items result }
 {
-    match append_lines(alloc, plan, message, lines) {
+    match write_lines(alloc, plan, message, lines) {
         Ok(()) => Ok(()),
         Err(_) => Err(Status::Memory),
     }
-}
-
-fn append_lines(
-    alloc: Global,
-    plan: &Plan,
-    message: &Message,
-    lines: &mut Vec<u8>,
-) -> Result<(), AllocError>
-    requires { Fits plan.now message.now }
-    ensures { OnOk result (lines.new.items ≡ lines.old.items ++ lines_of_message plan.now message.now) }
-{
-    let text = print_message(alloc, plan, message)?;
-    lines.extend_from_slice(text.as_slice())
 }

@@ -12,6 +12,12 @@ pub read-more : (plans : List MessagePlan) (ls : List (List ℕ)) (ms : List Mes
 read-more plans ls [] behind m rest same is = record { rest = rest; is = ap (read_message plans) same ∙ is; behind = refl }
 read-more plans ls (n ∷ ms) behind m rest read is = record { rest = read.rest; is = read.is; behind = read-more plans read.rest ms behind m rest read.behind is }
 
+-- messages behind messages
+pub read-on : (plans : List MessagePlan) (ls : List (List ℕ)) (ms others : List Message) (behind end : List (List ℕ))
+    → AreRead plans ls ms behind → AreRead plans behind others end → AreRead plans ls (ms ++ others) end
+read-on plans ls [] others behind end same more = subst (λ l. AreRead plans l others end) (sym same) more
+read-on plans ls (m ∷ ms) others behind end first more = record { rest = first.rest; is = first.is; behind = read-on plans first.rest ms others behind end first.behind more }
+
 -- what is read of the lines behind some messages
 pub record Others (plans : List MessagePlan) (ms all : List Message) (behind end : List (List ℕ)) : Type 0 where
   pub more : List Message

@@ -1,5 +1,5 @@
 -- What is written of messages, one after another.
-use Rattle.std.proofs.Common.{◌≡◌, ℕ, ◌+◌, ◌<◌, ◌≤◌, List, [], ◌∷◌, ◌++◌, length, take, Option, Some, None, Ok, Err, refl, sym, ◌∙◌, ap, subst, arith, append_assoc, append-nil, length-append}
+use Rattle.std.proofs.Common.{◌≡◌, ◌≢◌, ℕ, ◌+◌, ◌<◌, ◌≤◌, List, [], ◌∷◌, ◌++◌, length, take, Option, Some, None, Ok, Err, refl, sym, ◌∙◌, ap, subst, arith, append_assoc, append-nil, length-append}
 use Rattle.std.proofs.lemmas.List.{take-append-le}
 use Rattle.std.proofs.Math.Seq.{take-append-add}
 use Rattle.std.specs.Io.KnownBytes.{Appends}
@@ -10,14 +10,18 @@ use Rattle.sbe_value.specs.declared.message.Message.{Message}
 use Rattle.sbe_layout.specs.declared.plan.Plan.{Plan}
 use Rattle.sbe_encode.specs.declared.fault.EncodeFault.{EncodeFault}
 use Rattle.sbe_encode.specs.Faults.{encode_fault}
+use Rattle.sbe_text.specs.declared.error.Refusal.{Refusal}
+use Rattle.sbe_text.specs.declared.error.Refusal.TheVariants.{Left, Memory}
 use Rattle.sbe_text.specs.Lines.{lines_in}
+use Rattle.sbe_text.specs.Reading.{read_message}
 use Rattle.command_base.specs.declared.status.Bad.TheVariants as bad
 use Rattle.command_base.specs.declared.status.Status.{Status}
 use Rattle.command_base.specs.declared.status.Status.TheVariants as status
 use Rattle.encode_command.specs.Encoded.{AreRead, AreSpelled, frame_of, Written, behind, followed, written, written_from}
-use Rattle.encode_command.specs.Progress.{Spelled, WroteOne, WroteNone, Pushed, HasWritten}
+use Rattle.encode_command.specs.Progress.{HasMade, HasRead, Reads, RefusesWith, Spelled, WroteOne, WroteNone, Pushed, HasWritten}
 use Rattle.encode_command.specs.Promise.{GaveFrames, GaveFront}
-use Rattle.encode_command.proofs.Rows.{read-more, Others, others}
+use Rattle.encode_command.proofs.Rows.{read-more, read-on, Others, others}
+use Rattle.encode_command.proofs.Reading.{some-lines}
 
 behind-behind : (one other : List ℕ) (w : Written) → behind one (behind other w) ≡ behind (one ++ other) w
 behind-behind one other w = ap (λ l. record { wire = l; status = w.status }) (sym (append_assoc one other w.wire))
@@ -89,6 +93,33 @@ no-part now frames = record { count = 0; within = omega arith; appended = Append
 pub front-kept : (plan : Plan) (text left : List ℕ) (number : ℕ) (before now : Option (List ℕ)) (frames : List ℕ) → HasWritten plan text left number before now frames → Spelled plan text
     → GaveFront plan text before now
 front-kept plan text left number before now frames h s = front-part plan text left number before now now frames h s (no-part now frames)
+
+-- nothing of the frames with the one more was pushed
+pub made-more : (plan : Plan) (text left rest : List ℕ) (number : ℕ) (frames new : List ℕ)
+    → HasMade plan text left number frames → WroteOne plan left rest frames new → HasMade plan text rest (number + 1) new
+made-more plan text left rest number frames new h one = λ now.
+    written-more plan text left rest number now now now frames new new (h now) one (record { bytes = []; joins = refl; gained = Appends-nil now })
+
+made-read : (plan : Plan) (text left : List ℕ) (number : ℕ) (frames : List ℕ) → HasMade plan text left number frames → HasRead plan text left
+made-read plan text left number frames h = record { messages = (h None).messages; read = (h None).read }
+
+-- the rest of the text is messages, or has a line that is refused, and so is or has the whole
+pub made-spelled : (plan : Plan) (text left : List ℕ) (number : ℕ) (frames : List ℕ) → HasMade plan text left number frames → Spelled plan left → Spelled plan text
+made-spelled plan text left number frames h s =
+    let r = made-read plan text left number frames h in
+    record { messages = r.messages ++ s.messages; read = read-on plan.messages (lines_in text) r.messages s.messages (lines_in left) [] r.read s.read }
+
+pub made-refused : (A B : Type 0) (plan : Plan) (text left : List ℕ) (number : ℕ) (frames : List ℕ) (e : Refusal) → HasMade plan text left number frames → Reads {A = A} plan left (Err e) → Reads {A = B} plan text (Err e)
+made-refused A B plan text left number frames (Left n) h s =
+    let r = made-read plan text left number frames h in
+    record { messages = r.messages ++ s.messages; behind = s.behind; read = read-on plan.messages (lines_in text) r.messages s.messages (lines_in left) s.behind r.read s.read; more = s.more; refused = s.refused }
+made-refused A B plan text left number frames Memory h s = tt
+
+-- the line of a message is refused behind those that were read
+pub made-none : (plan : Plan) (text left : List ℕ) (number : ℕ) (frames : List ℕ) (lines : ℕ) → HasMade plan text left number frames → left ≢ [] → read_message plan.messages (lines_in left) ≡ Err lines → RefusesWith plan text lines
+made-none plan text left number frames lines h some told =
+    let r = made-read plan text left number frames h in
+    record { messages = r.messages; behind = lines_in left; read = r.read; more = some-lines left some; refused = told }
 
 -- a part of the frames with the one more was pushed
 pub front-one : (plan : Plan) (text left rest : List ℕ) (number : ℕ) (before now after : Option (List ℕ)) (frames mid : List ℕ)

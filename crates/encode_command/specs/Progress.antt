@@ -16,6 +16,9 @@ use Rattle.sbe_text.specs.Reading.{read_message}
 use Rattle.command_base.specs.declared.status.Bad.TheVariants as bad
 use Rattle.command_base.specs.declared.status.Status.{Status}
 use Rattle.command_base.specs.declared.status.Status.TheVariants as status
+use Rattle.encode_command.specs.declared.writing.Place.{Place}
+use Rattle.encode_command.specs.declared.writing.Stop.{Stop}
+use Rattle.encode_command.specs.declared.writing.Stop.TheVariants as stop
 use Rattle.encode_command.specs.Encoded.{AreRead, AreSpelled, frame_of, behind, written, written_from}
 
 -- a text is messages in a row
@@ -69,10 +72,11 @@ pub record WroteNone (plan : Plan) (left : List ℕ) (fault : EncodeFault) (old 
   pub read : read_message plan.messages (lines_in left) ≡ Ok (message, rest)
   pub faulty : Faulty plan message fault old new
 
-abbrev pub WritesOne : Plan → List ℕ → List ℕ → List ℕ → Result (Bor (List ℕ)) EncodeError → Type 0
+abbrev pub WritesOne : Plan → List ℕ → List ℕ → List ℕ → Result (Bor (List ℕ)) Stop → Type 0
 WritesOne plan left old new (Ok rest) = WroteOne plan left rest.now old new
-WritesOne plan left old new (Err (error.Fault fault)) = WroteNone plan left fault old new
-WritesOne plan left old new (Err error.Memory) = ⊤
+WritesOne plan left old new (Err (stop.Line lines)) = read_message plan.messages (lines_in left) ≡ Err lines
+WritesOne plan left old new (Err (stop.Fault fault)) = WroteNone plan left fault old new
+WritesOne plan left old new (Err stop.Memory) = ⊤
 
 -- bytes that waited were pushed, from the front on
 pub record Pushed (before after : Option (List ℕ)) (old new : List ℕ) : Type 0 where
@@ -88,6 +92,23 @@ pub record HasWritten (plan : Plan) (text left : List ℕ) (number : ℕ) (befor
   pub gained : Appends before now pushed
   pub same : (more : List Message) → written plan (messages ++ more) ≡ behind (pushed ++ frames) (written_from plan number more)
   pub counted : number + length (lines_in left) ≤ length (lines_in text) + 1
+
+-- the frames of the messages read so far wait, and none of them is pushed
+abbrev pub HasMade : Plan → List ℕ → List ℕ → ℕ → List ℕ → Type 0
+HasMade plan text left number frames = (now : Option (List ℕ)) → HasWritten plan text left number now now frames
+
+abbrev pub MakesFront : Plan → List ℕ → List ℕ → Result Place Refusal → Type 0
+MakesFront plan text frames (Ok place) = HasMade plan text place.left.now place.number frames
+MakesFront plan text frames (Err refusal) = Reads {A = Place} plan text (Err refusal)
+
+-- the whole text is messages, and the frames of those at its front wait
+pub record IsMade (plan : Plan) (text : List ℕ) (place : Place) (frames : List ℕ) : Type 0 where
+  pub spelled : Spelled plan text
+  pub front : HasMade plan text place.left.now place.number frames
+
+abbrev pub Makes : Plan → List ℕ → List ℕ → Result Place Refusal → Type 0
+Makes plan text frames (Ok place) = IsMade plan text place frames
+Makes plan text frames (Err refusal) = Reads {A = Place} plan text (Err refusal)
 
 -- the line of this number is refused, unless memory ran out
 abbrev pub TellsLine : ℕ → Status → Type 0

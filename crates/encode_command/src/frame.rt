@@ -4,10 +4,10 @@ ghost use Rattle.std.specs.Prelude.{◌≡◌, ◌≤◌, ◌++◌, length, OnOk
 ghost use Rattle.sofh_frame.specs.Framing.{encoding_of, spelled};
 ghost use Rattle.encode_command.specs.Progress.{AddsFrame};
 
-use sbe_encode::{EncodeError, encode};
+use sbe_encode::{EncodeError, encode_into};
 use sbe_layout::Plan;
 use sbe_prim::Order;
-use sbe_value::{Bytes, Message};
+use sbe_value::Message;
 use std::alloc::{AllocError, Global};
 
 /// The size of a frame's header in bytes: 4 of its length and 2 of its encoding type (Simple Open Framing Header).
@@ -23,21 +23,21 @@ fn encoding_of(order: Order) -> u16
     }
 }
 
-/// Adds the frame of a message behind other bytes.
+/// Adds the frame of a message behind other bytes. The message is written into `room` first, what that had is dropped.
 ///
 /// # Errors
-/// The first fault of a message that may not be written, and want of memory; nothing is added then.
+/// The first fault of a message that may not be written, and nothing is added then; and want of memory.
 pub fn add_frame(
     alloc: Global,
     plan: &Plan,
     message: &Message,
+    room: &mut Vec<u8>,
     frames: &mut Vec<u8>,
 ) -> Result<(), EncodeError>
     ensures { AddsFrame plan.now message.now frames.old.items frames.new.items result }
 {
-    let mut bytes = Bytes::new(alloc);
-    encode(alloc, plan, message, &mut bytes)?;
-    add_bytes(plan.order, bytes.as_slice(), frames)?;
+    encode_into(alloc, plan, message, room)?;
+    add_bytes(plan.order, room.as_slice(), frames)?;
     Ok(())
 }
 

@@ -7,7 +7,7 @@ ghost use Rattle.gw_outside.specs.Faults.{HasRisen};
 ghost use Rattle.encode_command.specs.Promise.{IsEncodeEnd, KeepsPromise};
 
 use crate::text::{LIMIT, Unread, read_text};
-use crate::writing::{read_all, write_all};
+use crate::writing::{make_frames, write_all};
 use command_base::{Bad, Status, begin};
 use gw_outside::{Sink, Source};
 use sbe_layout::Plan;
@@ -51,8 +51,9 @@ pub fn write_frames<S: Source, K: Sink>(
     if text.len() > LIMIT {
         return Status::Message(Bad::TooLong);
     }
-    match read_all(alloc, plan, text.as_slice()) {
-        Ok(()) => write_all(alloc, plan, text.as_slice(), wire),
+    let mut frames = Vec::new(alloc);
+    match make_frames(alloc, plan, text.as_slice(), &mut frames) {
+        Ok(place) => write_all(alloc, plan, text.as_slice(), place, &mut frames, wire),
         Err(Refusal::Left(left)) => refused(text.as_slice(), left),
         Err(Refusal::Memory) => Status::Memory,
     }

@@ -1,16 +1,16 @@
 //! The messages of a text, one after another: whether all of them can be read, and their frames. Only one message is in
-//! memory at a time, beside the text and a piece of the output.
+//! memory at a time, beside the text and frames of about its size.
 
-ghost use Rattle.std.specs.Prelude.{◌≡◌, ◌≤◌, length, OnOk, OnErr};
+ghost use Rattle.std.specs.Prelude.{◌≡◌, ◌≤◌, [], length, OnOk, OnErr};
 ghost use Rattle.gw_outside.specs.Faults.{HasCause, HasRisen, TakesFront};
-ghost use Rattle.encode_command.specs.Progress.{Pushed, Reads, Spelled, WritesOne};
+ghost use Rattle.encode_command.specs.Progress.{IsMade, Makes, MakesFront, Pushed, Reads, WritesOne};
 ghost use Rattle.encode_command.specs.Encoded.{text_limit};
 ghost use Rattle.encode_command.specs.Promise.{Writes};
 
 use crate::frame::add_frame;
 use command_base::{Bad, Status};
 use gw_outside::{Failed, Sink, push_all};
-use sbe_encode::EncodeError;
+use sbe_encode::{EncodeError, EncodeFault};
 use sbe_layout::Plan;
 use sbe_text::{Refusal, first_message};
 use std::alloc::Global;
@@ -18,11 +18,8 @@ use std::alloc::Global;
 /// How many bytes of frames wait at least before they are pushed.
 const PIECE: usize = 32_768;
 
-/// Reads all messages of a text, and keeps none of them.
-///
-/// # Errors
-/// `Left` with how many lines are left at the first that is refused, and `Memory`.
-pub fn read_all(alloc: Global, plan: &Plan, text: &[u8]) -> Result<(), Refusal>
+// Reads all messages of a text, and keeps none of them.
+fn read_all(alloc: Global, plan: &Plan, text: &[u8]) -> Result<(), Refusal>
     ensures { Reads plan.now text.now result }
 {
     let mut left = text;
@@ -35,21 +32,96 @@ pub fn read_all(alloc: Global, plan: &Plan, text: &[u8]) -> Result<(), Refusal>
     Ok(())
 }
 
-// Reads the message at the front of a text, adds its frame, and gives the text behind it.
+/// Why no frame is made of the message at the front of a text.
+#[derive(Debug, Drop)]
+pub enum Stop {
+    /// A line is refused, at which so many are left.
+    Line(u64),
+    /// The message may not be written.
+    Fault(EncodeFault),
+    /// There is not enough memory.
+    Memory,
+}
+
+// Adds the frame of the message at the front of a text, and gives the text behind it.
 fn write_message<'a>(
     alloc: Global,
     plan: &Plan,
     left: &'a [u8],
+    room: &mut Vec<u8>,
     frames: &mut Vec<u8>,
-) -> Result<&'a [u8], EncodeError>
+) -> Result<&'a [u8], Stop>
     ensures { WritesOne plan.now left.now frames.old.items frames.new.items result }
 {
-    // A text that was read once is read again.
-    let Ok((message, rest)) = first_message(alloc, plan, left) else {
-        return Err(EncodeError::Memory);
-    };
-    add_frame(alloc, plan, &message, frames)?;
-    Ok(rest)
+    match first_message(alloc, plan, left) {
+        Ok((message, rest)) => match add_frame(alloc, plan, &message, room, frames) {
+            Ok(()) => Ok(rest),
+            Err(EncodeError::Fault(fault)) => Err(Stop::Fault(fault)),
+            Err(EncodeError::Memory) => Err(Stop::Memory),
+        },
+        Err(Refusal::Left(lines)) => Err(Stop::Line(lines)),
+        Err(Refusal::Memory) => Err(Stop::Memory),
+    }
+}
+
+/// How far the frames of a text are made.
+#[derive(Clone, Copy, Debug)]
+pub struct Place<'a> {
+    /// The text from the next message on.
+    pub left: &'a [u8],
+    /// The number of that message, from 1.
+    pub number: u64,
+}
+
+// Makes the frames of the messages at the front of a text: as long as they take no more memory than the text does, and up to
+// the first message that may not be written.
+fn make_front<'a>(
+    alloc: Global,
+    plan: &Plan,
+    text: &'a [u8],
+    frames: &mut Vec<u8>,
+) -> Result<Place<'a>, Refusal>
+    requires empty { frames.old.items ≡ [] }
+    requires short { length text.now ≤ text_limit }
+    ensures { MakesFront plan.now text.now frames.new.items result }
+{
+    let mut room = Vec::new(alloc);
+    let mut number = 1;
+    let mut left = text;
+    while !left.is_empty() && frames.len() <= text.len() {
+        match write_message(alloc, plan, left, &mut room, frames) {
+            Ok(rest) => {
+                number += 1;
+                left = rest;
+            }
+            Err(Stop::Line(lines)) => return Err(Refusal::Left(lines)),
+            Err(Stop::Fault(_)) => return Ok(Place { left, number }),
+            Err(Stop::Memory) => return Err(Refusal::Memory),
+        }
+    }
+    Ok(Place { left, number })
+}
+
+/// Reads all messages of a text, and makes the frames of those at its front. The others are read to see that no line of the
+/// text is refused, and not kept: one line may stand for a block of 16,384 bytes.
+///
+/// # Errors
+/// `Left` with how many lines are left at the first that is refused, and `Memory`.
+pub fn make_frames<'a>(
+    alloc: Global,
+    plan: &Plan,
+    text: &'a [u8],
+    frames: &mut Vec<u8>,
+) -> Result<Place<'a>, Refusal>
+    requires empty { frames.old.items ≡ [] }
+    requires short { length text.now ≤ text_limit }
+    ensures { Makes plan.now text.now frames.new.items result }
+{
+    let place = make_front(alloc, plan, text, frames)?;
+    match read_all(alloc, plan, place.left) {
+        Ok(()) => Ok(place),
+        Err(refusal) => Err(refusal),
+    }
 }
 
 // Pushes the frames that wait, where they are enough.
@@ -67,27 +139,36 @@ fn push_full<K: Sink>(wire: &mut K, frames: &mut Vec<u8>) -> Result<(), Failed>
     Ok(())
 }
 
-/// Writes the frames of the messages of a text, up to the first that may not be written. The text can be read.
-pub fn write_all<K: Sink>(alloc: Global, plan: &Plan, text: &[u8], wire: &mut K) -> Status
-    requires spelled { Spelled plan.now text.now }
+/// Pushes the frames that wait, and writes those of the messages from a place on, up to the first that may not be written.
+/// The text can be read.
+pub fn write_all<K: Sink>(
+    alloc: Global,
+    plan: &Plan,
+    text: &[u8],
+    place: Place<'_>,
+    frames: &mut Vec<u8>,
+    wire: &mut K,
+) -> Status
+    requires made { IsMade plan.now text.now place frames.old.items }
     requires short { length text.now ≤ text_limit }
     ensures writes { Writes plan.now text.now (K.taken wire.old) (K.taken wire.new) result }
     ensures counted { K.faults wire.old ≤ K.faults wire.new }
     ensures cause { result ≡ Status.OutputFault → HasRisen (K.faults wire.old) (K.faults wire.new) }
 {
-    let mut frames = Vec::new(alloc);
-    let mut number = 1;
-    let mut left = text;
+    let _ = text;
+    let mut room = Vec::new(alloc);
+    let mut number = place.number;
+    let mut left = place.left;
     while !left.is_empty() {
-        match write_message(alloc, plan, left, &mut frames) {
+        match write_message(alloc, plan, left, &mut room, frames) {
             Ok(rest) => {
-                let Ok(()) = push_full(wire, &mut frames) else {
+                let Ok(()) = push_full(wire, frames) else {
                     return Status::OutputFault;
                 };
                 number += 1;
                 left = rest;
             }
-            Err(EncodeError::Fault(fault)) => {
+            Err(Stop::Fault(fault)) => {
                 let Ok(()) = push_all(wire, frames.as_slice()) else {
                     return Status::OutputFault;
                 };
@@ -96,7 +177,8 @@ pub fn write_all<K: Sink>(alloc: Global, plan: &Plan, text: &[u8], wire: &mut K)
                     fault,
                 });
             }
-            Err(EncodeError::Memory) => return Status::Memory,
+            // A text that was read once is read again.
+            Err(Stop::Line(_)) | Err(Stop::Memory) => return Status::Memory,
         }
     }
     let Ok(()) = push_all(wire, frames.as_slice()) else {

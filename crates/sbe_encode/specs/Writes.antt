@@ -17,12 +17,3 @@ pub record Appends (before after bytes : List ℕ) (told : Option EncodeFault) :
 abbrev pub Writes : {A : Type 0} → Result A EncodeError → List ℕ → List ℕ → List ℕ → Option EncodeFault → Type 0
 Writes (Ok done) before after bytes told = Appends before after bytes told
 Writes (Err e) before after bytes told = Tells e told
-
--- the bytes, and there is no fault
-pub record IsMade (made bytes : List ℕ) (told : Option EncodeFault) : Type 0 where
-  pub faultless : told ≡ None
-  pub whole : made ≡ bytes
-
-abbrev pub Makes : Result (List ℕ) EncodeError → List ℕ → Option EncodeFault → Type 0
-Makes (Ok made) bytes told = IsMade made bytes told
-Makes (Err e) bytes told = Tells e told

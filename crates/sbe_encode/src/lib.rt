@@ -14,4 +14,4 @@ mod shape;
 
 pub use fault::{EncodeError, EncodeFault};
 pub use laws::{canonical_reads_back, faultless_where_writable};
-pub use message::encode;
+pub use message::{encode, encode_into};

@@ -1,11 +1,11 @@
 //! Writing a message by a plan.
 
-ghost use Rattle.std.specs.Prelude.{◌≡◌, ◌++◌, None, Some, Err, OnOk, OnErr, length};
+ghost use Rattle.std.specs.Prelude.{◌≡◌, ◌++◌, [], None, Some, Err, OnOk, OnErr, length};
 ghost use Rattle.sbe_grammar.specs.Canonical.{canonical, header_bytes, message_bytes};
 ghost use Rattle.sbe_encode.specs.declared.fault.EncodeFault.{EncodeFault};
 ghost use Rattle.sbe_encode.specs.declared.fault.EncodeError.TheVariants.{Fault};
 ghost use Rattle.sbe_encode.specs.Faults.{encode_fault, header_fault, layout_fault, length_fault};
-ghost use Rattle.sbe_encode.specs.Writes.{Writes, Makes};
+ghost use Rattle.sbe_encode.specs.Writes.{Writes};
 
 use crate::blocks::write_block;
 use crate::bytes::{can_count, write_count};
@@ -32,26 +32,48 @@ pub fn encode(
     ensures fault { (f : EncodeFault) → result ≡ Err (Fault f) → encode_fault plan.now message.now ≡ Some f }
     ensures refused { OnErr result (out.new ≡ out.old) }
 {
-    let bytes = encoded(alloc, plan, message)?;
+    let mut bytes = Vec::new(alloc);
+    encode_into(alloc, plan, message, &mut bytes)?;
     out.extend_from_slice(bytes.as_slice())?;
     Ok(())
 }
 
-// The bytes of a message.
-fn encoded(alloc: Global, plan: &Plan, message: &Message) -> Result<Bytes, EncodeError>
-    ensures { Makes result (canonical plan.now message.now) (encode_fault plan.now message.now) }
+/// The bytes that [`encode`] writes, in a buffer whose room serves one message after another: what it had is dropped. After a
+/// refusal it may hold anything.
+pub fn encode_into(
+    alloc: Global,
+    plan: &Plan,
+    message: &Message,
+    bytes: &mut Vec<u8>,
+) -> Result<(), EncodeError>
+    ensures ok { OnOk result (bytes.new.items ≡ canonical plan.now message.now) }
+    ensures faultless { OnOk result (encode_fault plan.now message.now ≡ None) }
+    ensures fault { (f : EncodeFault) → result ≡ Err (Fault f) → encode_fault plan.now message.now ≡ Some f }
+{
+    bytes.clear();
+    write_short(alloc, plan, message, bytes)
+}
+
+// Writes a message that is not too long.
+fn write_short(
+    alloc: Global,
+    plan: &Plan,
+    message: &Message,
+    out: &mut Vec<u8>,
+) -> Result<(), EncodeError>
+    requires { out.old.items ≡ [] }
+    ensures { Writes result [] out.new.items (canonical plan.now message.now) (encode_fault plan.now message.now) }
 {
     let Some(layout) = plan.messages.find(message.template) else {
         return Err(shape_here(alloc));
     };
-    let mut bytes = Vec::new(alloc);
-    write_message(alloc, plan, layout, message, &mut bytes)?;
-    if bytes.len() > LONGEST {
+    write_message(alloc, plan, layout, message, out)?;
+    if out.len() > LONGEST {
         return Err(EncodeError::Fault(EncodeFault::TooLong {
-            length: bytes.len() as u64,
+            length: out.len() as u64,
         }));
     }
-    Ok(Bytes::from(bytes))
+    Ok(())
 }
 
 // Writes a message by its layout, whatever its length.

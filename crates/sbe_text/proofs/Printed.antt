@@ -206,9 +206,9 @@ mutual
   groups_back (entries bs gs) no_plans before rest w n f h = absurd (false≢true f)
   groups_back (entries bs gs) (plan g inner more) before rest w n f h =
       let words = group_words g inner more n in
-      let many = both_left (nat_le (count_of_blocks bs) (2 ^ 128 - 1)) (are_blocks bs && are_groups gs) h in
-      let held = both_right (nat_le (count_of_blocks bs) (2 ^ 128 - 1)) (are_blocks bs && are_groups gs) h in
-      let small : count_of_blocks bs ≤ 2 ^ 128 - 1 = at_most_of (count_of_blocks bs) (2 ^ 128 - 1) many in
+      let many = both_left (nat_le (count_of_blocks bs) (2 ^ 127 - 1)) (are_blocks bs && are_groups gs) h in
+      let held = both_right (nat_le (count_of_blocks bs) (2 ^ 127 - 1)) (are_blocks bs && are_groups gs) h in
+      let small : count_of_blocks bs ≤ 2 ^ 127 - 1 = at_most_of (count_of_blocks bs) (2 ^ 127 - 1) many in
       let left = lines_of_groups before gs more ++ rest in
       let behind_line = lines_of_entries before 0 bs g inner ++ left in
       ap (λ text. read_groups before (plan g inner more) (lines_in text)) (three (element_line before g.name (decimal (count_of_blocks bs))) (lines_of_entries before 0 bs g inner) (lines_of_groups before gs more) rest)

@@ -22,7 +22,7 @@ use Rattle.sbe_value.specs.declared.datum.Datum.TheVariants as datum
 use Rattle.sbe_grammar.specs.Fits.{Form, number, text, raw, has_form}
 use Rattle.sbe_text.specs.declared.token.Count.TheVariants as count
 use Rattle.sbe_text.specs.Written.{are_plain, quoted, raw_text, value_text, datum_text}
-use Rattle.sbe_text.specs.Tokens.{decoded, plain, either_of, at_most, exactly, behind, in_front, also, value_on, is_digit, are_digits, natural_of, number_of, positive, negative, raw_of, quoted_of, characters_of, present_of, value_of, datum_of, count_of}
+use Rattle.sbe_text.specs.Tokens.{decoded, plain, either_of, at_most, exactly, behind, in_front, also, value_on, is_digit, are_digits, held, natural_of, number_of, positive, negative, raw_of, quoted_of, characters_of, present_of, value_of, datum_of, count_of}
 use Rattle.sbe_text.specs.Held.{are_bytes, is_number, is_item, is_datum}
 
 pub both_left : (a b : Bool) → (a && b) ≡ true → a ≡ true
@@ -148,11 +148,11 @@ number_back : (z : ℤ) → is_number z ≡ true → number_of (signed_decimal z
 number_back (pos n) h =
     let small : n ≤ 2 ^ 127 - 1 = at_most_of n (2 ^ 127 - 1) h in
     let held : nat_le n (2 ^ 128 - 1) ≡ true = at_most_test n (2 ^ 128 - 1) (omega arith) in
-    unsigned_back (decimal n) n (first_digit n (omega arith)) (natural_back n held) ∙ ap (λ t. if t then Some (pos n) else None) h
+    unsigned_back (decimal n) n (first_digit n (omega arith)) (natural_back n held) ∙ ap (λ t. option_map pos (if t then Some n else None)) h
 number_back (negsuc n) h =
     let small : n ≤ 2 ^ 127 - 1 = at_most_of n (2 ^ 127 - 1) h in
     let held : nat_le (suc n) (2 ^ 128 - 1) ≡ true = at_most_test (suc n) (2 ^ 128 - 1) (omega arith) in
-    ap (λ o. also o negative) (natural_back (suc n) held) ∙ ap (λ t. if t then Some (negsuc n) else None) h
+    ap (λ o. also o negative) (natural_back (suc n) held) ∙ ap (λ t. option_map negsuc (if t then Some n else None)) h
 
 number_no_word : (z : ℤ) → is_number z ≡ true → (w : ℕ) (ws : List ℕ) → is_digit w ≡ false → (45 == w) ≡ false → bytes_eq (signed_decimal z) (w ∷ ws) ≡ false
 number_no_word (pos n) h w ws e f =
@@ -215,8 +215,10 @@ pub datum_back : (v : Datum) → is_datum v ≡ true → datum_of (datum_text v)
 datum_back datum.Absent h = refl
 datum_back (datum.Present bs) h = ap (option_map datum.Present) (raw_back bs h)
 
-pub count_back : (n : ℕ) → nat_le n (2 ^ 128 - 1) ≡ true → count_of (decimal n) ≡ Some (count.Entries n)
+pub count_back : (n : ℕ) → nat_le n (2 ^ 127 - 1) ≡ true → count_of (decimal n) ≡ Some (count.Entries n)
 count_back n h =
-    let small : n ≤ 2 ^ 128 - 1 = at_most_of n (2 ^ 128 - 1) h in
-    ap (λ t. if t then Some count.Absent else option_map count.Entries (natural_of (decimal n))) (digits_no_word (decimal n) 97 (codes "bsent") (first_digit n (omega arith)) refl)
-    ∙ ap (option_map count.Entries) (natural_back n h)
+    let small : n ≤ 2 ^ 127 - 1 = at_most_of n (2 ^ 127 - 1) h in
+    let natural : nat_le n (2 ^ 128 - 1) ≡ true = at_most_test n (2 ^ 128 - 1) (omega arith) in
+    ap (λ t. if t then Some count.Absent else option_map count.Entries (also (natural_of (decimal n)) held)) (digits_no_word (decimal n) 97 (codes "bsent") (first_digit n (omega arith)) refl)
+    ∙ ap (λ o. option_map count.Entries (also o held)) (natural_back n natural)
+    ∙ ap (λ t. option_map count.Entries (if t then Some n else None)) h

@@ -13,7 +13,7 @@ use Rattle.sbe_layout.specs.declared.plan.MessagePlan.{MessagePlan}
 use Rattle.sbe_layout.specs.declared.plan.Plan.{Plan}
 use Rattle.sbe_layout.specs.Trees.{PlanTree, no_plans, plan}
 
--- ---- values are those of the types of the program: bytes, numbers of 128 bits, counts of at most 128 bits
+-- ---- values are those of the types of the program: bytes, and numbers and counts that 128 bits with a sign hold
 
 abbrev pub are_bytes : List ℕ → Bool
 are_bytes [] = true
@@ -47,7 +47,7 @@ abbrev mutual
   pub are_groups : GroupList → Bool
   are_groups no_groups = true
   are_groups (absent gs) = are_groups gs
-  are_groups (entries bs gs) = nat_le (count_of_blocks bs) (2 ^ 128 - 1) && (are_blocks bs && are_groups gs)
+  are_groups (entries bs gs) = nat_le (count_of_blocks bs) (2 ^ 127 - 1) && (are_blocks bs && are_groups gs)
 
   pub are_blocks : BlockList → Bool
   are_blocks no_blocks = true

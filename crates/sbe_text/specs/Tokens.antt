@@ -54,13 +54,17 @@ natural_of (byte ∷ bytes) =
     then Some (digits_value 10 (byte ∷ bytes))
     else None
 
+-- a number that 128 bits with a sign hold
+abbrev pub held : ℕ → Option ℕ
+held n = if nat_le n (2 ^ 127 - 1) then Some n else None
+
 abbrev pub positive : ℕ → Option ℤ
-positive n = if nat_le n (2 ^ 127 - 1) then Some (pos n) else None
+positive n = option_map pos (held n)
 
 -- -(n + 1) is written negsuc n
 abbrev pub negative : ℕ → Option ℤ
 negative zero = None
-negative (suc n) = if nat_le n (2 ^ 127 - 1) then Some (negsuc n) else None
+negative (suc n) = option_map negsuc (held n)
 
 -- a number of 128 bits with a sign: it has a `-` (45) where it is negative
 abbrev pub number_of : List ℕ → Option ℤ
@@ -115,4 +119,4 @@ datum_of line = if bytes_eq line (codes "absent") then Some datum.Absent else op
 
 -- what the line of a group tells: that it is absent, or the number of its entries
 abbrev pub count_of : List ℕ → Option Count
-count_of line = if bytes_eq line (codes "absent") then Some count.Absent else option_map count.Entries (natural_of line)
+count_of line = if bytes_eq line (codes "absent") then Some count.Absent else option_map count.Entries (also (natural_of line) held)

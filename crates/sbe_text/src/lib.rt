@@ -17,4 +17,4 @@ pub use laws::printed_reads_back;
 pub use line::{count_lines, first_line};
 pub use parse::{first_message, parse_message, refused_line};
 pub use path::names_begin;
-pub use print::print_message;
+pub use print::{print_message, write_lines};

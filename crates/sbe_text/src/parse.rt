@@ -13,7 +13,7 @@ ghost use Rattle.sbe_text.specs.Reading.{read_item, read_datum, read_elements, r
 
 use crate::error::{Refusal, TextError};
 use crate::line::{count_lines, first_line, refused};
-use crate::path::names_begin;
+use crate::path::begin_names;
 use crate::token::{Count, behind, datum, entry_count, value, value_on};
 use sbe_layout::{BlockPlan, DataPlan, GroupPlan, ItemPlan, MessagePlan, MessagePlans, Plan};
 use sbe_value::{Block, Blocks, Bytes, Datum, Datums, Group, Groups, Item, Items, Message};
@@ -302,9 +302,10 @@ fn read_entries<'a>(
     ensures { Gives (λ x. (blocks_of x.0.items, lines_in x.1.now)) result (read_entries before.now (head_of plan.now) (λ path. read_groups path plan.now.block.groups) count (lines_in left.now)) }
 {
     let mut entries = room_for(alloc, &plan.block, count)?;
+    let mut inner = Vec::new(alloc);
     let mut left = left;
     for at in 0..count {
-        let inner = names_begin(alloc, before, plan, at)?;
+        begin_names(before, plan, at, &mut inner)?;
         let (entry, rest) = read_block(alloc, inner.as_slice(), &plan.block, left)?;
         entries.push(entry)?;
         left = rest;

@@ -1,10 +1,10 @@
 //! What stands before the names in an entry of a group.
 
-ghost use Rattle.std.specs.Prelude.{◌≡◌, IfOk};
+ghost use Rattle.std.specs.Prelude.{◌≡◌, ◌++◌, decimal, IfOk, OnOk};
 ghost use Rattle.sbe_layout.specs.Views.{head_of};
 ghost use Rattle.sbe_text.specs.Written.{before_in};
 
-use itoa::Buffer;
+use crate::values::write_natural;
 use sbe_layout::GroupPlan;
 use sbe_value::Bytes;
 use std::alloc::{AllocError, Global};
@@ -18,11 +18,24 @@ pub fn names_begin(
 ) -> Result<Bytes, AllocError>
     ensures { IfOk result (λ inner. inner ≡ before_in before.now (head_of g.now) at) }
 {
-    let mut digits = Buffer::new();
-    let mut inner = Bytes::from_slice(alloc, before)?;
+    let mut inner = Vec::new(alloc);
+    begin_names(before, g, at, &mut inner)?;
+    Ok(Bytes::from(inner))
+}
+
+/// The same in a buffer, whose room serves one entry after another: what it had is dropped.
+pub fn begin_names(
+    before: &[u8],
+    g: &GroupPlan,
+    at: u128,
+    inner: &mut Vec<u8>,
+) -> Result<(), AllocError>
+    ensures { OnOk result (inner.new.items ≡ before_in before.now (head_of g.now) at) }
+{
+    inner.clear();
+    inner.extend_from_slice(before)?;
     inner.extend_from_slice(g.name.as_slice())?;
     inner.push(b'[')?;
-    inner.extend_from_slice(digits.format(at).as_bytes())?;
-    inner.extend_from_slice(b"].")?;
-    Ok(inner)
+    write_natural(at, inner)?;
+    inner.extend_from_slice(b"].")
 }

@@ -1,5 +1,5 @@
-//! The lines of a message. All are written into one text. What stands before
-//! the names of an entry, its path and a dot, is made once an entry.
+//! The lines of a message. All are written straight into one text. What stands before
+//! the names of an entry, its path and a dot, is made once an entry, in room that all entries of its group share.
 
 ghost use Rattle.std.specs.Prelude.{◌≡◌, [], ◌∷◌, ◌++◌, codes, decimal, IfOk, OnOk};
 ghost use Rattle.sbe_value.specs.Trees.{count_of_blocks};
@@ -8,9 +8,8 @@ ghost use Rattle.sbe_layout.specs.Views.{head_of, plans_of};
 ghost use Rattle.sbe_grammar.specs.Fits.{Fits};
 ghost use Rattle.sbe_text.specs.Written.{value_text, datum_text, element_line, before_in, lines_of_items, lines_of_data, lines_of_groups, lines_of_entries, message_line, lines_of_message};
 
-use crate::path::names_begin;
-use crate::values::{write_datum, write_value};
-use itoa::Buffer;
+use crate::path::begin_names;
+use crate::values::{write_datum, write_natural, write_value};
 use sbe_layout::{BlockPlan, DataPlan, GroupPlan, ItemPlan, Plan};
 use sbe_value::{Block, Blocks, Bytes, Datum, Group, Item, Lines, Message};
 use std::alloc::{AllocError, Global};
@@ -24,23 +23,36 @@ pub fn print_message(alloc: Global, plan: &Plan, message: &Message) -> Result<Li
     requires fits { Fits plan.now message.now }
     ensures lines { IfOk result (λ lines. lines ≡ lines_of_message plan.now message.now) }
 {
-    let mut lines = Lines::new(alloc);
+    let mut lines = Vec::new(alloc);
+    write_lines(alloc, plan, message, &mut lines)?;
+    Ok(Lines::from(lines))
+}
+
+/// Adds the lines that [`print_message`] makes of a message.
+pub fn write_lines(
+    alloc: Global,
+    plan: &Plan,
+    message: &Message,
+    lines: &mut Vec<u8>,
+) -> Result<(), AllocError>
+    requires fits { Fits plan.now message.now }
+    ensures lines { OnOk result (lines.new.items ≡ lines.old.items ++ lines_of_message plan.now message.now) }
+{
     let Some(layout) = plan.messages.find(message.template) else {
         unreachable!()
     };
-    write_name(layout.name.as_slice(), &mut lines)?;
-    write_block(alloc, b"", &layout.root, &message.root, &mut lines)?;
-    lines.extend_from_slice(b"end\n")?;
-    Ok(lines)
+    write_name(layout.name.as_slice(), lines)?;
+    write_block(alloc, b"", &layout.root, &message.root, lines)?;
+    lines.extend_from_slice(b"end\n")
 }
 
 // Writes the line of a message itself.
-fn write_name(name: &[u8], lines: &mut Lines) -> Result<(), AllocError>
-    ensures { OnOk result (lines.new ≡ lines.old ++ message_line name.now) }
+fn write_name(name: &[u8], lines: &mut Vec<u8>) -> Result<(), AllocError>
+    ensures { OnOk result (lines.new.items ≡ lines.old.items ++ message_line name.now) }
 {
     lines.extend_from_slice(b"message ")?;
     lines.extend_from_slice(name)?;
-    lines.push(b'\n')
+    lines.extend_from_slice(b"\n")
 }
 
 // Writes the lines of the elements of a block.
@@ -50,9 +62,9 @@ fn write_block(
     before: &[u8],
     plan: &BlockPlan,
     block: &Block,
-    lines: &mut Lines,
+    lines: &mut Vec<u8>,
 ) -> Result<(), AllocError>
-    ensures { OnOk result (lines.new ≡ lines.old
+    ensures { OnOk result (lines.new.items ≡ lines.old.items
         ++ lines_of_items before.now block.now.items plan.now.items
         ++ lines_of_groups before.now block.now.groups plan.now.groups
         ++ lines_of_data before.now block.now.vars plan.now.vars) }
@@ -72,9 +84,9 @@ fn write_items(
     before: &[u8],
     plans: &[ItemPlan],
     items: &[Item],
-    lines: &mut Lines,
+    lines: &mut Vec<u8>,
 ) -> Result<(), AllocError>
-    ensures { OnOk result (lines.new ≡ lines.old ++ lines_of_items before.now items.now plans.now) }
+    ensures { OnOk result (lines.new.items ≡ lines.old.items ++ lines_of_items before.now items.now plans.now) }
 {
     let mut left = items;
     for plan in plans {
@@ -91,18 +103,18 @@ fn write_item(
     before: &[u8],
     plan: &ItemPlan,
     item: &Item,
-    lines: &mut Lines,
+    lines: &mut Vec<u8>,
 ) -> Result<(), AllocError>
-    ensures { OnOk result (lines.new ≡ lines.old ++ element_line before.now plan.now.name (value_text item.now)) }
+    ensures { OnOk result (lines.new.items ≡ lines.old.items ++ element_line before.now plan.now.name (value_text item.now)) }
 {
     write_path(before, &plan.name, lines)?;
     write_value(item, lines)?;
-    lines.push(b'\n')
+    lines.extend_from_slice(b"\n")
 }
 
 // Writes the path of an element, and what stands before its value.
-fn write_path(before: &[u8], name: &Bytes, lines: &mut Lines) -> Result<(), AllocError>
-    ensures { OnOk result (lines.new ≡ lines.old ++ before.now ++ name.now ++ codes " = ") }
+fn write_path(before: &[u8], name: &Bytes, lines: &mut Vec<u8>) -> Result<(), AllocError>
+    ensures { OnOk result (lines.new.items ≡ lines.old.items ++ before.now ++ name.now ++ codes " = ") }
 {
     lines.extend_from_slice(before)?;
     lines.extend_from_slice(name.as_slice())?;
@@ -113,9 +125,9 @@ fn write_data(
     before: &[u8],
     plans: &[DataPlan],
     vars: &[Datum],
-    lines: &mut Lines,
+    lines: &mut Vec<u8>,
 ) -> Result<(), AllocError>
-    ensures { OnOk result (lines.new ≡ lines.old ++ lines_of_data before.now vars.now plans.now) }
+    ensures { OnOk result (lines.new.items ≡ lines.old.items ++ lines_of_data before.now vars.now plans.now) }
 {
     let mut left = vars;
     for plan in plans {
@@ -137,9 +149,9 @@ fn write_groups(
     before: &[u8],
     plans: &[GroupPlan],
     groups: &[Group],
-    lines: &mut Lines,
+    lines: &mut Vec<u8>,
 ) -> Result<(), AllocError>
-    ensures { OnOk result (lines.new ≡ lines.old ++ lines_of_groups before.now (groups_of groups.now) (plans_of plans.now)) }
+    ensures { OnOk result (lines.new.items ≡ lines.old.items ++ lines_of_groups before.now (groups_of groups.now) (plans_of plans.now)) }
 {
     let mut left = groups;
     for g in plans {
@@ -163,24 +175,24 @@ fn write_entries(
     before: &[u8],
     g: &GroupPlan,
     blocks: &Blocks,
-    lines: &mut Lines,
+    lines: &mut Vec<u8>,
 ) -> Result<(), AllocError>
-    ensures { OnOk result (lines.new ≡ lines.old
+    ensures { OnOk result (lines.new.items ≡ lines.old.items
         ++ decimal (count_of_blocks blocks.now) ++ 10 ∷ []
         ++ lines_of_entries before.now 0 blocks.now (head_of g.now) g.now.block.groups) }
 {
     write_count(blocks.len(), lines)?;
+    let mut inner = Vec::new(alloc);
     for (at, block) in blocks.as_slice().iter().enumerate() {
-        let inner = names_begin(alloc, before, g, at as u128)?;
+        begin_names(before, g, at as u128, &mut inner)?;
         write_block(alloc, inner.as_slice(), &g.block, block, lines)?;
     }
     Ok(())
 }
 
-fn write_count(count: usize, lines: &mut Lines) -> Result<(), AllocError>
-    ensures { OnOk result (lines.new ≡ lines.old ++ decimal count ++ 10 ∷ []) }
+fn write_count(count: usize, lines: &mut Vec<u8>) -> Result<(), AllocError>
+    ensures { OnOk result (lines.new.items ≡ lines.old.items ++ decimal count ++ 10 ∷ []) }
 {
-    let mut digits = Buffer::new();
-    lines.extend_from_slice(digits.format(count).as_bytes())?;
-    lines.push(b'\n')
+    write_natural(count as u128, lines)?;
+    lines.extend_from_slice(b"\n")
 }

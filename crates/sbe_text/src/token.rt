@@ -7,7 +7,7 @@ ghost use Rattle.sbe_schema.specs.Kinds.{is_char};
 ghost use Rattle.std.specs.Option.{option_copied};
 ghost use Rattle.std.specs.Str.Parse.{digits_value};
 ghost use Rattle.sbe_grammar.specs.Fits.{form_of, is_optional, number, raw, text as text_form};
-ghost use Rattle.sbe_text.specs.Tokens.{behind, in_front, value_on, are_digits, natural_of, positive, negative, number_of, raw_of, quoted_of, characters_of, present_of, value_of, datum_of, count_of};
+ghost use Rattle.sbe_text.specs.Tokens.{behind, in_front, value_on, are_digits, held, natural_of, positive, negative, number_of, raw_of, quoted_of, characters_of, present_of, value_of, datum_of, count_of};
 
 use crate::values::are_plain;
 use hex::FromHexError;
@@ -169,7 +169,7 @@ pub fn entry_count(text: &[u8]) -> Option<Count>
     if is_absent(text) {
         return Some(Count::Absent);
     }
-    Some(Count::Entries(natural(text)?))
+    Some(Count::Entries(held(natural(text)?)?))
 }
 
 // A number with a `-` where it is negative.
@@ -182,14 +182,21 @@ fn number(text: &[u8]) -> Option<i128>
     }
 }
 
-fn positive(magnitude: u128) -> Option<i128>
-    ensures { result ≡ positive magnitude }
+// A number that 128 bits with a sign hold.
+fn held(magnitude: u128) -> Option<u128>
+    ensures { result ≡ held magnitude }
 {
     if magnitude <= i128::MAX as u128 {
-        Some(magnitude as i128)
+        Some(magnitude)
     } else {
         None
     }
+}
+
+fn positive(magnitude: u128) -> Option<i128>
+    ensures { result ≡ positive magnitude }
+{
+    Some(held(magnitude)? as i128)
 }
 
 fn negative(magnitude: u128) -> Option<i128>
@@ -198,8 +205,8 @@ fn negative(magnitude: u128) -> Option<i128>
     if magnitude == 0 {
         return None;
     }
-    let before = positive(magnitude - 1)?;
-    Some(-1 - before)
+    let before = held(magnitude - 1)?;
+    Some(-1 - before as i128)
 }
 
 // Decimal digits without a leading zero, of a number that 128 bits hold.

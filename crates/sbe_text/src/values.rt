@@ -1,24 +1,22 @@
 //! The texts of values: what stands behind the `=` of a line.
 
-ghost use Rattle.std.specs.Prelude.{◌≡◌, ◌<◌, ◌++◌, OnOk, slice_index, codes};
+ghost use Rattle.std.specs.Prelude.{◌≡◌, ◌<◌, ◌++◌, OnOk, slice_index, codes, decimal};
+ghost use Rattle.std.specs.Fmt.{signed_decimal};
 ghost use Rattle.hex.specs.Hex.{lower_digits, encode_lower};
 ghost use Rattle.sbe_text.specs.Written.{is_plain, are_plain, raw_text, value_text, datum_text};
 
 use itoa::Buffer;
-use sbe_value::{Datum, Item, Lines};
+use sbe_value::{Datum, Item};
 use std::alloc::AllocError;
 
 const DIGITS: [u8; 16] = *b"0123456789abcdef";
 
 /// Writes the text of an item's value.
-pub fn write_value(item: &Item, lines: &mut Lines) -> Result<(), AllocError>
-    ensures { OnOk result (lines.new ≡ lines.old ++ value_text item.now) }
+pub fn write_value(item: &Item, lines: &mut Vec<u8>) -> Result<(), AllocError>
+    ensures { OnOk result (lines.new.items ≡ lines.old.items ++ value_text item.now) }
 {
     match item {
-        Item::Num(number) => {
-            let mut digits = Buffer::new();
-            lines.extend_from_slice(digits.format(*number).as_bytes())
-        }
+        Item::Num(number) => write_number(*number, lines),
         Item::Null => lines.extend_from_slice(b"null"),
         Item::Absent => lines.extend_from_slice(b"absent"),
         Item::Text(text) => write_text(text.as_slice(), lines),
@@ -26,9 +24,31 @@ pub fn write_value(item: &Item, lines: &mut Lines) -> Result<(), AllocError>
     }
 }
 
+// Writes a number in decimal. Few are wider than 64 bits, and the digits of those that are not cost less.
+fn write_number(number: i128, lines: &mut Vec<u8>) -> Result<(), AllocError>
+    ensures { OnOk result (lines.new.items ≡ lines.old.items ++ signed_decimal number) }
+{
+    let mut digits = Buffer::new();
+    match i64::try_from(number) {
+        Ok(short) => lines.extend_from_slice(digits.format(short).as_bytes()),
+        Err(_) => lines.extend_from_slice(digits.format(number).as_bytes()),
+    }
+}
+
+/// Writes a number without a sign in decimal.
+pub fn write_natural(number: u128, lines: &mut Vec<u8>) -> Result<(), AllocError>
+    ensures { OnOk result (lines.new.items ≡ lines.old.items ++ decimal number) }
+{
+    let mut digits = Buffer::new();
+    match u64::try_from(number) {
+        Ok(short) => lines.extend_from_slice(digits.format(short).as_bytes()),
+        Err(_) => lines.extend_from_slice(digits.format(number).as_bytes()),
+    }
+}
+
 /// Writes the text of a datum.
-pub fn write_datum(datum: &Datum, lines: &mut Lines) -> Result<(), AllocError>
-    ensures { OnOk result (lines.new ≡ lines.old ++ datum_text datum.now) }
+pub fn write_datum(datum: &Datum, lines: &mut Vec<u8>) -> Result<(), AllocError>
+    ensures { OnOk result (lines.new.items ≡ lines.old.items ++ datum_text datum.now) }
 {
     match datum {
         Datum::Absent => lines.extend_from_slice(b"absent"),
@@ -37,15 +57,15 @@ pub fn write_datum(datum: &Datum, lines: &mut Lines) -> Result<(), AllocError>
 }
 
 // Writes an array of characters between quotes, or as raw bytes where some may not stand there.
-fn write_text(text: &[u8], lines: &mut Lines) -> Result<(), AllocError>
-    ensures { OnOk result (lines.new ≡ lines.old ++ value_text (Item.Text text.now)) }
+fn write_text(text: &[u8], lines: &mut Vec<u8>) -> Result<(), AllocError>
+    ensures { OnOk result (lines.new.items ≡ lines.old.items ++ value_text (Item.Text text.now)) }
 {
     if !are_plain(text) {
         return write_raw(text, lines);
     }
     lines.push(b'"')?;
     lines.extend_from_slice(text)?;
-    lines.push(b'"')
+    lines.extend_from_slice(b"\"")
 }
 
 /// Whether all bytes may stand between quotes.
@@ -69,13 +89,16 @@ fn is_plain(byte: u8) -> bool
 
 // Writes bytes in lower-case hexadecimal behind an `x`.
 #[tactic(auto, unfolding(hex::specs::Hex::encode_with))]
-fn write_raw(bytes: &[u8], lines: &mut Lines) -> Result<(), AllocError>
-    ensures { OnOk result (lines.new ≡ lines.old ++ raw_text bytes.now) }
+fn write_raw(bytes: &[u8], lines: &mut Vec<u8>) -> Result<(), AllocError>
+    ensures { OnOk result (lines.new.items ≡ lines.old.items ++ raw_text bytes.now) }
 {
     lines.push(b'x')?;
     for byte in bytes {
-        lines.push(DIGITS[usize::from(*byte / 16)])?;
-        lines.push(DIGITS[usize::from(*byte % 16)])?;
+        let pair = [
+            DIGITS[usize::from(*byte / 16)],
+            DIGITS[usize::from(*byte % 16)],
+        ];
+        lines.extend_from_slice(&pair)?;
     }
     Ok(())
 }

@@ -31,14 +31,14 @@ pub read_entries-returns-in_err-entry : goal.read_entries-returns-in_err-entry
 read_entries-returns-in_err-entry t c =
     let g = c.args.plan.now in
     let p = err_from_is_err_and c.from_residual-in_err-entry.result c.from_residual-in_err-entry.ensures.1 in
-    let path : c.as_slice.result.now ≡ before_in c.args.before.now (head_of g) c.loop-at.at = c.as_slice.ensures ∙ c.in_ok-inner.ensures in
+    let path : c.as_slice.result.now ≡ before_in c.args.before.now (head_of g) c.loop-at.at = c.as_slice.ensures.value ∙ c.in_ok-begin_names.ensures in
     let P : List ℕ → Type 0 = λ before. Fails c.in_err-entry.field-0.0 (read_elements before g.block.items (read_groups before g.block.groups) g.block.vars (lines_in c.loop-at.left.now)) in
     rw (p.1, p.2) (entries_fail (entry_at c.args.before.now (head_of g) (λ before. read_groups before g.block.groups)) c.loop-at.entries.items c.args.count c.loop-at.at (lines_in c.loop-at.left.now) c.in_err-entry.field-0.0 _ c.loop-at-test.true (subst P path c.in_err-entry.ensures) c.loop-at.invariant)
 
 pub read_entries-loop-at-preserved : goal.read_entries-loop-at-preserved
 read_entries-loop-at-preserved t c =
     let g = c.args.plan.now in
-    let path : c.as_slice.result.now ≡ before_in c.args.before.now (head_of g) c.loop-at.at = c.as_slice.ensures ∙ c.in_ok-inner.ensures in
+    let path : c.as_slice.result.now ≡ before_in c.args.before.now (head_of g) c.loop-at.at = c.as_slice.ensures.value ∙ c.in_ok-begin_names.ensures in
     let P : List ℕ → Type 0 = λ before. read_elements before g.block.items (read_groups before g.block.groups) g.block.vars (lines_in c.loop-at.left.now) ≡ Ok (entry_of c.in_ok-entry.entry, lines_in c.in_ok-entry.rest.now) in
     rw c.in_ok-push.ensures.items (entries_step (entry_at c.args.before.now (head_of g) (λ before. read_groups before g.block.groups)) c.loop-at.entries.items c.in_ok-entry.entry c.args.count c.loop-at.at (lines_in c.loop-at.left.now) (lines_in c.in_ok-entry.rest.now) _ c.loop-at-test.true (subst P path c.in_ok-entry.ensures) c.loop-at.invariant)
 

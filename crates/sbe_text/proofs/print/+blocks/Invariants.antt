@@ -17,9 +17,9 @@ decreases-write_block l = 3 * weight_of l.plan.now.groups + 1
 -- what is written, followed by the lines of the groups that are left, is all
 abbrev pub invariant-write_groups-loop-g : goal.invariant-write_groups-loop-g
 invariant-write_groups-loop-g l =
-    l.lines ++ lines_of_groups l.before (groups_of l.left) (plans_of (drop l.g-index l.plans)) ≡ l.initial.lines ++ lines_of_groups l.before (groups_of l.groups) (plans_of l.plans)
+    l.lines.items ++ lines_of_groups l.before (groups_of l.left) (plans_of (drop l.g-index l.plans)) ≡ l.initial.lines.items ++ lines_of_groups l.before (groups_of l.groups) (plans_of l.plans)
 
 -- what is written, followed by the lines of the entries that are left, is all
 abbrev pub invariant-write_entries-loop-at : goal.invariant-write_entries-loop-at
 invariant-write_entries-loop-at l =
-    l.lines ++ lines_of_entries l.before l.at (blocks_of (drop l.at l.block-items)) (head_of l.g) l.g.block.groups ≡ l.initial.lines ++ lines_of_entries l.before 0 (blocks_of l.block-items) (head_of l.g) l.g.block.groups
+    l.lines.items ++ lines_of_entries l.before l.at (blocks_of (drop l.at l.block-items)) (head_of l.g) l.g.block.groups ≡ l.initial.lines.items ++ lines_of_entries l.before 0 (blocks_of l.block-items) (head_of l.g) l.g.block.groups
