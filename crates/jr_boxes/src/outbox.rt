@@ -4,7 +4,7 @@ ghost use Rattle.std.specs.Prelude.{◌≡◌, ◌↔◌, ◌⊎◌, ℕ, ◌+�
 ghost use Rattle.gw_outside.specs.Faults.{HasRisen};
 ghost use Rattle.session_model.specs.Journal.{Entry, History, IsEntry, entries_of, entry, finish};
 ghost use Rattle.fixp_msgs.specs.Payload.{IsApplication};
-ghost use Rattle.jr_record.specs.Records.{IsSender};
+ghost use Rattle.jr_record.specs.Records.{IsPayload, IsSender};
 ghost use Rattle.jr_record.specs.Journals.{Unchanged as SameJournal, is_broken_after_read};
 ghost use Rattle.jr_record.specs.declared.record.Record.{Record};
 ghost use Rattle.jr_record.specs.declared.record.Record.TheVariants as kinds;
@@ -178,6 +178,7 @@ impl<J: Journal> Outbox<J> {
         requires least { 1 ≤ number }
         requires within { number ≤ front_of self.old }
         ensures number { IfOk result (λ s. s.number ≡ number) }
+        ensures size { IfOk result (λ s. IsPayload s.payload) }
         ensures payload { IfOk result (λ s. (h : History) → StandsFor self.old h → IsEntry h.made number s.payload) }
 
         ensures broken { (result ≡ Err fetch.Broken) ↔ (is_broken self.old ≡ true) }

@@ -1,6 +1,7 @@
 //! An entry that is on the disk, and may be sent.
 
 ghost use Rattle.std.specs.Prelude.{◌≡◌, ◌<◌, ◌^◌};
+ghost use Rattle.jr_record.specs.Records.{IsPayload};
 
 use gw_outside::Bytes;
 use std::marker::Model;
@@ -16,18 +17,20 @@ pub struct Stable {
 impl Model for Stable {
     ghost use Rattle.std.specs.Prelude.{◌<◌, ◌^◌};
     ghost use Rattle.session_model.specs.Inbox.{Numbered};
+    ghost use Rattle.jr_record.specs.Records.{IsPayload};
 
     ghost Value = { Numbered };
 
     ghost view = { λ s. record { number = s.number; payload = s.payload } };
 
-    ghost invariant = { λ s. s.number < 2 ^ 40 };
+    ghost invariant = { λ s. (s.number < 2 ^ 40) × IsPayload s.payload };
 }
 
 impl Stable {
     /// The entry of this number.
     pub(crate) fn new(number: u64, payload: Bytes) -> Stable
         requires few { number < 2 ^ 40 }
+        requires size { IsPayload payload }
         ensures number { result.number ≡ number }
         ensures payload { result.payload ≡ payload }
     {
@@ -42,16 +45,18 @@ impl Stable {
         self.number
     }
 
-    /// Its payload.
+    /// Its payload, of 10 to 16,386 bytes.
     pub fn payload(&self) -> &[u8]
         ensures value { result.now ≡ self.now.payload }
+        ensures size { IsPayload self.now.payload }
     {
         self.payload.as_slice()
     }
 
-    /// Gives its payload.
+    /// Gives its payload, of 10 to 16,386 bytes.
     pub fn into_payload(self) -> Bytes
         ensures value { result ≡ self.payload }
+        ensures size { IsPayload result }
     {
         self.payload
     }

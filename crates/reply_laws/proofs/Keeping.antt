@@ -148,7 +148,7 @@ jumps most next n h top = by_test (nat_lt next n) refl
     by_test false t = let low : n ≤ next = ltb-false next n t in (omega (arith, h, low), tt)
 
 -- an announcement that breaks no rule is within its bounds
-in_bounds : (x : Around) (f : Facts) (template : ℕ) (next : Option ℕ) → announcement_fault x f template next ≡ None → is_sequenced x.config.peer_flow ≡ true
+pub in_bounds : (x : Around) (f : Facts) (template : ℕ) (next : Option ℕ) → announcement_fault x f template next ≡ None → is_sequenced x.config.peer_flow ≡ true
     → (expected_number x f ≤ unwrap_or next 0) × (unwrap_or next 0 ≤ x.most + 1)
 in_bounds x f template next e seq =
     let t = by_tests (is_sequenced x.config.peer_flow) (is_none next) (nat_lt (x.most + 1) (unwrap_or next 0)) (nat_lt (unwrap_or next 0) (expected_number x f)) e seq in
@@ -168,7 +168,7 @@ or_left : (a b : Bool) → a ≡ true → (a || b) ≡ true
 or_left true b e = refl
 or_left false b e = absurd (true≢false (sym e))
 
-or_right : (a b : Bool) → b ≡ true → (a || b) ≡ true
+pub or_right : (a b : Bool) → b ≡ true → (a || b) ≡ true
 or_right true b e = refl
 or_right false b e = e
 
@@ -209,15 +209,15 @@ unmoved x f next rec = by_flow (is_recoverable x.config.peer_flow) (is_idempoten
     by_flow true i e = refl
     by_flow false i e = absurd (true≢false (sym e))
 
-none-some : {A : Type 0} (o : Option A) → is_some o ≡ true → o ≡ None → ⊥
+pub none-some : {A : Type 0} (o : Option A) → is_some o ≡ true → o ≡ None → ⊥
 none-some None t e = true≢false (sym t)
 none-some (Some a) t e = true≢false (sym t ∙ ap is_some e)
 
-some-none : {A : Type 0} (o : Option A) → is_some o ≡ false → o ≡ None
+pub some-none : {A : Type 0} (o : Option A) → is_some o ≡ false → o ≡ None
 some-none None e = refl
 some-none (Some a) e = absurd (true≢false e)
 
-announced_rows : (P : Outcome → Type 0) (x : Around) (f : Facts) (template : ℕ) (next : Option ℕ) (follows : Announced → Outcome)
+pub announced_rows : (P : Outcome → Type 0) (x : Around) (f : Facts) (template : ℕ) (next : Option ℕ) (follows : Announced → Outcome)
     → ((code : ℕ) (e : Ending) → P (ends x f code e))
     → (announcement_fault x f template next ≡ None → P (follows (announced x f next)))
     → AllRows P (announcement_rows x f template next follows)
@@ -288,7 +288,7 @@ taking x f rec s top (Repeat n) is =
     let r = f.connection.receiver in
     going x f (counted f) acts.Nothing [] (left_out x.config f rec s ((passes r.next (receiver_is.number r) n).1 is)) refl refl tt tt
 
-not_true : (b : Bool) → not b ≡ false → b ≡ true
+pub not_true : (b : Bool) → not b ≡ false → b ≡ true
 not_true true e = refl
 not_true false e = absurd (true≢false e)
 
@@ -301,7 +301,7 @@ next_of : (x : Around) (f : Facts) → is_recoverable x.config.peer_flow ≡ fal
 next_of x f rec e =
     subst (λ (b : Bool). (if b then receiver_is.number f.connection.receiver else f.recorded.inbox_next) ≤ x.most) rec (ltb-false x.most (message_number x f) e)
 
-not_false : (b : Bool) → not b ≡ true → b ≡ false
+pub not_false : (b : Bool) → not b ≡ true → b ≡ false
 not_false true e = absurd (true≢false (sym e))
 not_false false e = refl
 
@@ -410,7 +410,7 @@ awaits_as_initiator cfg f s t = by_role (is_initiator cfg.role) refl
     by_role true e = e
     by_role false e = absurd (true≢false (sym t ∙ s.role e))
 
-own_rows : (P : Outcome → Type 0) (x : Around) (f : Facts) (template : ℕ) (id : List ℕ) (rows : List Row) → ((e : Ending) → P (ends x f 2 e)) → AllRows P rows → AllRows P (of_session x f template id rows)
+pub own_rows : (P : Outcome → Type 0) (x : Around) (f : Facts) (template : ℕ) (id : List ℕ) (rows : List Row) → ((e : Ending) → P (ends x f 2 e)) → AllRows P rows → AllRows P (of_session x f template id rows)
 own_rows P x f template id rows refuses all = (λ _. refuses _, λ _. all)
 
 establish_all : (x : Around) (f : Facts) (id : List ℕ) (timestamp keepalive : ℕ) (next : Option ℕ) (credentials : List ℕ) → Sound x.config f
@@ -456,7 +456,7 @@ gap_tests : (next live : ℕ) (g : Range) (b : Bool) → nat_lt next live ≡ b 
 gap_tests next live g true t e some = grind (arith, nat_tests)
 gap_tests next live g false t e some = true≢false (sym some)
 
-no_gap : (r : receiver_is.Receiving) → r.live ≡ r.next → is_some (receiver_is.gap r) ≡ true → ⊥
+pub no_gap : (r : receiver_is.Receiving) → r.live ≡ r.next → is_some (receiver_is.gap r) ≡ true → ⊥
 no_gap r e some = gap_tests r.next r.live (record { from = r.next; count = r.live - r.next }) (nat_lt r.next r.live) refl e some
 
 session_rows : (x : Around) (f : Facts) (m : Message) → Sound x.config f → AllRows (KeepsSound x.config x.most f) (rows_of x f (session m))

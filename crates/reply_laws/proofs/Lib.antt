@@ -1,3 +1,4 @@
 pub mod Rows
 pub mod Keeping
 pub mod Calls
+pub mod Moving
