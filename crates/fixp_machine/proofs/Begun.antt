@@ -1,5 +1,5 @@
 -- A connection begins with sound facts.
-use Rattle.std.proofs.Common.{◌≡◌, ◌||◌, Bool, true, false, not, if◌then◌else◌, [], ◌∷◌, refl, sym, ◌∙◌, true≢false}
+use Rattle.std.proofs.Common.{◌≡◌, ◌||◌, Bool, true, false, not, if◌then◌else◌, [], ◌∷◌, refl, sym, ◌∙◌, true≢false, None}
 use Rattle.fixp_shake.specs.declared.config.EndConfig.{EndConfig}
 use Rattle.fixp_shake.specs.declared.phase.Phase.{Phase}
 use Rattle.fixp_shake.specs.declared.phase.Phase.TheVariants as phases
@@ -28,3 +28,11 @@ begun_sound x f s = by_case (is_initiator x.config.role) f.recorded.negotiated r
     by_case false n e = connecting_sound x.config f phases.Idle s (λ _. refl)
     by_case true true e = connecting_sound x.config f phases.Establishing s (λ t. absurd (true≢false (sym e ∙ t)))
     by_case true false e = connecting_sound x.config f phases.Negotiating s (λ t. absurd (true≢false (sym e ∙ t)))
+
+pub begun_free : (x : Around) (f : Facts) → (begun x f.recorded).next.connection.serving ≡ None
+begun_free x f = by_case (is_initiator x.config.role) f.recorded.negotiated
+  where
+    by_case : (i n : Bool) → (begun_as x f i n).next.connection.serving ≡ None
+    by_case false n = refl
+    by_case true true = refl
+    by_case true false = refl

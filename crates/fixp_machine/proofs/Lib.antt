@@ -1,4 +1,6 @@
 pub mod Begun
+pub mod Limits
+pub mod Doing
 pub mod Written
 pub mod Told
 pub mod RunLemmas

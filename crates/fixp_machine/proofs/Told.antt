@@ -1,4 +1,4 @@
--- The outbox's finish keeps facts sound, and the inbox's next number.
+-- The outbox's finish keeps facts sound, what else is recorded, and what is served.
 use Rattle.std.proofs.Common.{◌≡◌, ℕ, Bool, true, false, if◌then◌else◌, Some, None, [], ◌∷◌, refl}
 use Rattle.fixp_msgs.specs.Message.{finished_sending}
 use Rattle.fixp_shake.specs.Flows.{is_sequenced}
@@ -22,9 +22,16 @@ told_sound x f last s = by_case (tells_finish x f last)
     by_case true = record { waits = s.waits; even = s.even; unread = s.unread; credentials = s.credentials; sent = s.sent; role = s.role }
     by_case false = record { waits = s.waits; even = s.even; unread = s.unread; credentials = s.credentials; sent = s.sent; role = s.role }
 
-pub told_inbox : (x : Around) (f : Facts) (last : ℕ) → (finish_told x f last).next.recorded.inbox_next ≡ f.recorded.inbox_next
-told_inbox x f last = by_case (tells_finish x f last)
+pub told_recorded : (x : Around) (f : Facts) (last : ℕ) → (finish_told x f last).next.recorded ≡ record f.recorded { finish = Some last }
+told_recorded x f last = by_case (tells_finish x f last)
   where
-    by_case : (b : Bool) → (told_as x f last b).next.recorded.inbox_next ≡ f.recorded.inbox_next
+    by_case : (b : Bool) → (told_as x f last b).next.recorded ≡ record f.recorded { finish = Some last }
+    by_case true = refl
+    by_case false = refl
+
+pub told_serving : (x : Around) (f : Facts) (last : ℕ) → (finish_told x f last).next.connection.serving ≡ f.connection.serving
+told_serving x f last = by_case (tells_finish x f last)
+  where
+    by_case : (b : Bool) → (told_as x f last b).next.connection.serving ≡ f.connection.serving
     by_case true = refl
     by_case false = refl

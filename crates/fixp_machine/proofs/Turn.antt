@@ -11,6 +11,7 @@ use Rattle.fixp_replies.specs.Facts.{Around, in_phase}
 use Rattle.fixp_replies.specs.Events.{Made, applied_runs, closes, turn_ended}
 use Rattle.reply_laws.specs.Machine.{bytes_of, sent_at}
 use Rattle.reply_laws.specs.Sound.{Sound, MayWrite}
+use Rattle.fixp_machine.proofs.Limits.{ArePlain}
 
 abbrev turn_as : Around → Facts → List Range → Bool → Made
 turn_as x f runs b =
@@ -31,6 +32,20 @@ turn_recorded x f runs = by_case (closes x f)
     by_case : (b : Bool) → (turn_as x f runs b).next.recorded ≡ f.recorded
     by_case true = refl
     by_case false = refl
+
+pub turn_serving : (x : Around) (f : Facts) (runs : List Range) → (turn_ended x f runs).next.connection.serving ≡ f.connection.serving
+turn_serving x f runs = by_case (closes x f)
+  where
+    by_case : (b : Bool) → (turn_as x f runs b).next.connection.serving ≡ f.connection.serving
+    by_case true = refl
+    by_case false = refl
+
+pub turn_is_plain : (x : Around) (f : Facts) → ArePlain (turn_ended x f []).written
+turn_is_plain x f = by_case (closes x f)
+  where
+    by_case : (b : Bool) → ArePlain (turn_as x f [] b).written
+    by_case true = (refl, tt)
+    by_case false = tt
 
 pub turn_writes : (x : Around) (f : Facts) → AllByRecursion (MayWrite x.config) (turn_ended x f []).written
 turn_writes x f = by_case (closes x f)

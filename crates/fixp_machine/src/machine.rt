@@ -1,11 +1,12 @@
 //! One end: its state, the beginning of a connection, and its frames.
 
-ghost use Rattle.std.specs.Prelude.{◌≡◌, ℕ, ◌+◌, ◌^◌, ◌<◌, ◌≤◌, [], length, drop, ◌++◌, true, false, IsSome, IfSome, IfOk, OnOk, OnErr, None};
+ghost use Rattle.std.specs.Prelude.{◌≡◌, ℕ, ◌+◌, ◌*◌, ◌^◌, ◌<◌, ◌≤◌, [], length, drop, ◌++◌, true, false, is_some, IsSome, IfSome, IfOk, OnOk, OnErr, Some, None};
 ghost use Rattle.fixp_msgs.specs.declared.flow.Flow.TheVariants.{Recoverable};
 ghost use Rattle.fixp_replies.specs.Facts.{around_of};
 ghost use Rattle.fixp_replies.specs.Acts.{is_record};
 ghost use Rattle.fixp_replies.specs.Outgoing.{outcome_of, reply_limit, written_limit};
 ghost use Rattle.reply_laws.specs.Sound.{KeepsSound};
+ghost use Rattle.fixp_machine.specs.Doing.{Serves};
 
 use crate::output::Output;
 use crate::runs::write_turn;
@@ -86,7 +87,11 @@ impl End {
     ghost use Rattle.reply_laws.specs.Machine.{fresh, connected, around, wrote, bytes_of, broken_by, ticked, after_closed, after_turn, payload_frames, range_end, rest_of, sent_again, sent_live, reply_applied, after_bad_frame, after_act, link_ended, phase_of};
     ghost use Rattle.fixp_shake.specs.Flows.{is_absent};
     ghost use Rattle.fixp_shake.specs.Phases.{is_established};
+    ghost use Rattle.fixp_msgs.specs.Numbering.{payload_of};
+    ghost use Rattle.fixp_msgs.specs.Payload.{IsApplication};
+    ghost use Rattle.reply_laws.specs.Fitting.{CanTake, WasSent, recorded_after};
     ghost use Rattle.fixp_machine.specs.Answers.{AnswersFrame};
+    ghost use Rattle.fixp_machine.specs.Doing.{Stays, Waits, recorded_once_done};
     ghost use Rattle.fixp_machine.specs.Sending.{AreFrom, payloads_of};
 
     /// A new end that has begun no connection. `most` is the greatest number of an application message.
@@ -137,7 +142,9 @@ impl End {
     pub fn begin(&mut self, now: u64)
         requires over { self.old.begun ≡ true → IsSome self.old.ending }
         requires time { (self.old.moment ≤ now) × (now < 2 ^ 44) }
-        ensures { self.new ≡ connected self.old now }
+        ensures begun { self.new ≡ connected self.old now }
+        ensures recorded { self.new.facts.recorded ≡ self.old.facts.recorded }
+        ensures small { length self.new.unsent ≤ reply_limit self.old.config }
     {
         let around = Around {
             config: &self.config,
@@ -191,6 +198,13 @@ impl End {
         requires output { length self.old.unsent ≤ 1000000 }
         requires time { (self.old.moment ≤ now) × (now < 2 ^ 44) }
         ensures reply { AnswersFrame self.old self.new order message.now at now result }
+        ensures takes { CanTake self.old.config.peer_flow self.old.most self.old.facts.recorded (IsApplication (payload_of (record { order = order; message = message.now }))) result }
+        ensures recorded { recorded_once_done self.new ≡ recorded_after result self.old.facts.recorded }
+        ensures waits { is_record result ≡ true → Waits self.old self.new }
+        ensures pending { is_some self.new.pending ≡ is_record result }
+        ensures stays { Stays self.old self.new now }
+        ensures room { self.new.room + 1 ≡ self.old.room }
+        ensures untold { self.new.untold ≡ self.old.untold }
         ensures small { length self.new.unsent ≤ length self.old.unsent + reply_limit self.old.config }
     {
         let mut next = self.facts;
@@ -231,6 +245,11 @@ impl End {
         requires output { length self.old.unsent ≤ 5100000 }
         requires time { (self.old.moment ≤ now) × (now < 2 ^ 44) }
         ensures reply { IfSome self.old.pending (λ outcome. self.new ≡ after_act self.old outcome now) }
+        ensures recorded { self.new.facts.recorded ≡ recorded_once_done self.old }
+        ensures done { self.new.pending ≡ None }
+        ensures stays { Stays self.old self.new now }
+        ensures room { self.new.room ≡ self.old.room }
+        ensures untold { length self.new.untold ≤ length self.old.untold + 1 }
         ensures small { length self.new.unsent ≤ length self.old.unsent + reply_limit self.old.config }
     {
         self.moment = now;
@@ -262,6 +281,12 @@ impl End {
         requires output { length self.old.unsent ≤ 5100000 }
         requires time { (self.old.moment ≤ now) × (now < 2 ^ 44) }
         ensures ticks { self.new ≡ ticked self.old now }
+        ensures facts { self.new.facts ≡ self.old.facts }
+        ensures done { self.old.pending ≡ None → self.new.pending ≡ None }
+        ensures stays { Stays self.old self.new now }
+        ensures room { self.new.room ≡ self.old.room }
+        ensures untold { self.new.untold ≡ self.old.untold }
+        ensures small { length self.new.unsent ≤ length self.old.unsent + reply_limit self.old.config }
     {
         self.moment = now;
         if self.ending.is_some() {
@@ -285,6 +310,12 @@ impl End {
         requires few { length self.old.untold ≤ 10000 }
         requires time { (self.old.moment ≤ now) × (now < 2 ^ 44) }
         ensures turn { self.new ≡ after_turn self.old now }
+        ensures recorded { self.new.facts.recorded ≡ self.old.facts.recorded }
+        ensures serving { self.new.facts.connection.serving ≡ self.old.facts.connection.serving }
+        ensures done { self.new.pending ≡ None }
+        ensures stays { Stays self.old self.new now }
+        ensures told { self.old.ending ≡ None → self.new.untold ≡ [] }
+        ensures small { length self.new.unsent ≤ length self.old.unsent + 64 * (length self.old.untold + 1) }
     {
         self.moment = now;
         if self.ending.is_some() {
@@ -313,6 +344,12 @@ impl End {
         requires output { length self.old.unsent ≤ 5100000 }
         requires time { (self.old.moment ≤ now) × (now < 2 ^ 44) }
         ensures finish { self.new ≡ after_closed self.old last now }
+        ensures recorded { self.new.facts.recorded ≡ record self.old.facts.recorded { finish = Some last } }
+        ensures serving { self.new.facts.connection.serving ≡ self.old.facts.connection.serving }
+        ensures done { self.new.pending ≡ None }
+        ensures stays { Stays self.old self.new now }
+        ensures untold { self.new.untold ≡ self.old.untold }
+        ensures small { length self.new.unsent ≤ length self.old.unsent + reply_limit self.old.config }
     {
         self.moment = now;
         let around = Around {
@@ -338,7 +375,9 @@ impl End {
     /// No more bytes come: the connection ends, if it has not ended.
     pub fn on_link_end(&mut self)
         requires { self.old.begun ≡ true }
-        ensures { self.new ≡ link_ended self.old }
+        ensures ended { self.new ≡ link_ended self.old }
+        ensures facts { self.new.facts ≡ self.old.facts }
+        ensures stays { Stays self.old self.new self.old.moment }
     {
         if self.ending.is_none() {
             let ending = link_ending(&self.around(0, self.moment), &self.facts);
@@ -349,7 +388,8 @@ impl End {
 
     /// What is still to be sent again of the range that the peer asked for.
     pub fn serving(&self) -> Option<Range>
-        ensures { result ≡ self.now.facts.connection.serving }
+        ensures value { result ≡ self.now.facts.connection.serving }
+        ensures sent { IfSome result (WasSent self.now.facts.recorded.sent) }
     {
         self.facts.connection.serving
     }
@@ -366,6 +406,7 @@ impl End {
         requires output { length self.old.unsent + length (payload_frames (payloads_of entries.now)) ≤ 5000000 }
         requires time { (self.old.moment ≤ now) × (now < 2 ^ 44) }
         ensures live { self.new ≡ sent_live self.old (payloads_of entries.now) now }
+        ensures small { length self.new.unsent ≡ length self.old.unsent + length (payload_frames (payloads_of entries.now)) }
     {
         self.moment = now;
         write_entries(&mut self.output, &mut self.last_sent, entries, now);
@@ -384,6 +425,9 @@ impl End {
         requires output { length self.old.unsent + length (payload_frames (payloads_of entries.now)) ≤ 5000000 }
         requires time { (self.old.moment ≤ now) × (now < 2 ^ 44) }
         ensures again { IfSome self.old.facts.connection.serving (λ r. self.new ≡ sent_again self.old r (payloads_of entries.now) now) }
+        ensures recorded { self.new.facts.recorded ≡ self.old.facts.recorded }
+        ensures stays { Stays self.old self.new now }
+        ensures small { length self.new.unsent ≤ length self.old.unsent + length (payload_frames (payloads_of entries.now)) + 64 }
     {
         self.moment = now;
         let Some(range) = self.facts.connection.serving else {
@@ -449,10 +493,12 @@ impl End {
     fn apply_reply(&mut self, reply: Reply, next: Facts)
         requires act { is_record reply.act ≡ false }
         requires keeps { KeepsSound self.old.config self.old.most self.old.facts (outcome_of self.old.config reply next) }
+        requires serves { Serves next }
         requires small { written_limit self.old.config reply.written ≤ reply_limit self.old.config }
         requires output { length self.old.unsent ≤ 5100000 }
         ensures applied { self.new ≡ reply_applied self.old (outcome_of self.old.config reply next) self.old.moment }
-        ensures small { length self.new.unsent ≤ length self.old.unsent + reply_limit self.old.config }
+        ensures untold { self.new.untold ≡ self.old.untold }
+        ensures small { length self.new.unsent ≤ length self.old.unsent + written_limit self.old.config reply.written }
     {
         take_act(
             &mut self.applied,
@@ -477,6 +523,7 @@ impl End {
         requires output { length self.old.unsent ≤ 5100000 }
         ensures wrote { self.new ≡ wrote self.old (bytes_of (heartbeats (around self.old 0 self.old.moment) self.old.facts self.old.last_sent self.old.unsent)) self.old.moment }
         ensures small { length self.new.unsent ≤ 5100000 }
+        ensures short { length self.new.unsent ≤ length self.old.unsent + 64 }
     {
         if !self.output.unsent().is_empty() {
             return;
@@ -502,6 +549,12 @@ impl End {
     fn end_broken(&mut self, violation: Option<Violation>)
         requires output { length self.old.unsent ≤ 5100000 }
         ensures ends { self.new ≡ broken_by self.old violation self.old.moment }
+        ensures facts { self.new.facts ≡ self.old.facts }
+        ensures done { self.old.pending ≡ None → self.new.pending ≡ None }
+        ensures stays { Stays self.old self.new self.old.moment }
+        ensures room { self.new.room ≡ self.old.room }
+        ensures untold { self.new.untold ≡ self.old.untold }
+        ensures short { length self.new.unsent ≤ length self.old.unsent + 64 }
     {
         if let Some(violation) = violation {
             self.end_by(violation);
@@ -512,6 +565,8 @@ impl End {
     fn end_by(&mut self, violation: Violation)
         requires output { length self.old.unsent ≤ 5100000 }
         ensures ends { self.new ≡ reply_applied self.old (breaks (around self.old 0 self.old.moment) self.old.facts violation) self.old.moment }
+        ensures untold { self.new.untold ≡ self.old.untold }
+        ensures short { length self.new.unsent ≤ length self.old.unsent + 64 }
     {
         let facts = self.facts;
         let reply = break_connection(&self.around(0, self.moment), &facts, violation);
@@ -522,6 +577,7 @@ impl End {
     fn write_range(&mut self, entries: &[Stable], rest: Option<Range>)
         requires output { length self.old.unsent + length (payload_frames (payloads_of entries.now)) ≤ 5000000 }
         ensures wrote { self.new ≡ wrote self.old (payload_frames (payloads_of entries.now) ++ range_end self.old.facts rest) self.old.moment }
+        ensures short { length self.new.unsent ≤ length self.old.unsent + length (payload_frames (payloads_of entries.now)) + 64 }
     {
         let moment = self.moment;
         write_entries(&mut self.output, &mut self.last_sent, entries, moment);

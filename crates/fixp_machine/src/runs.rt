@@ -36,7 +36,7 @@ fn append_runs(config: &EndConfig, output: &mut Output, applied: &Applied)
     requires few { length applied.now.untold ≤ 10000 }
     requires room { length output.old ≤ 2000000 }
     ensures bytes { output.new ≡ output.old ++ bytes_of (applied_runs (runs_of applied.now.untold)) }
-    ensures short { length output.new ≤ length output.old + 640000 }
+    ensures short { length output.new ≤ length output.old + 64 * length applied.now.untold }
 {
     for place in 0..applied.run_count() {
         append_run(config, output, applied.run(place));
@@ -57,7 +57,7 @@ fn write_runs(
     ensures bytes { output.new ≡ output.old ++ bytes_of (applied_runs (runs_of applied.now.untold)) }
     ensures sent { last_sent.new ≡ sent_at last_sent.old (bytes_of (applied_runs (runs_of applied.now.untold))) now }
     ensures within { last_sent.old ≤ now → last_sent.new ≤ now }
-    ensures short { length output.new ≤ length output.old + 640000 }
+    ensures short { length output.new ≤ length output.old + 64 * length applied.now.untold }
 {
     let before = output.unsent().len();
     append_runs(config, output, applied);
@@ -83,6 +83,8 @@ pub fn write_turn(
     ensures next { facts.new ≡ (turn_ended (around_of around.now) facts.old (runs_of applied.now.untold)).next }
     ensures sound { Sound around.now.config.now facts.new }
     ensures recorded { facts.new.recorded ≡ facts.old.recorded }
+    ensures serving { facts.new.connection.serving ≡ facts.old.connection.serving }
+    ensures short { length output.new ≤ length output.old + 64 * (length applied.now.untold + 1) }
 {
     write_runs(around.config, output, last_sent, applied, around.moment);
     let closing = finish_turn(around, facts);

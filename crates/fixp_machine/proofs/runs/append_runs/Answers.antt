@@ -18,4 +18,4 @@ loop-place-preserved c = record {
 }
 
 pub returns-clause-short : goal.returns-clause-short
-returns-clause-short c = omega (arith, c.loop-place.invariant.short, c.loop-place.invariant.within, runs_are_few c.args.applied.now.untold, c.requires.few)
+returns-clause-short c = omega (arith, c.loop-place.invariant.short, c.loop-place.invariant.within, runs_are_few c.args.applied.now.untold)

@@ -5,7 +5,8 @@ use Rattle.fixp_replies.specs.declared.facts.Facts.{Facts}
 use Rattle.fixp_replies.specs.Facts.{around_of}
 use Rattle.fixp_replies.specs.Events.{Made}
 use Rattle.reply_laws.specs.Sound.{Sound, MayWrite}
-use Rattle.fixp_machine.proofs.Turn.{turn_sound, turn_recorded, turn_writes}
+use Rattle.fixp_machine.proofs.Turn.{turn_sound, turn_recorded, turn_serving, turn_is_plain, turn_writes}
+use Rattle.fixp_machine.proofs.Limits.{ArePlain, plain_is_small}
 use Rattle.fixp_machine.proofs.sound.finish_turn.Goals as goal
 
 pub returns-clause-sound : goal.returns-clause-sound
@@ -18,3 +19,10 @@ returns-clause-recorded c = ap (λ (m : Made). m.next.recorded) (c.end_turn.ensu
 pub returns-clause-writes : goal.returns-clause-writes
 returns-clause-writes c = subst (λ (ms : List Message). AllByRecursion (MayWrite c.args.around.now.config.now) ms) (sym (ap (λ (m : Made). m.written) (c.end_turn.ensures [])))
     (turn_writes (around_of c.args.around.now) c.args.facts.now)
+
+pub returns-clause-serving : goal.returns-clause-serving
+returns-clause-serving c = ap (λ (m : Made). m.next.connection.serving) (c.end_turn.ensures []) ∙ turn_serving (around_of c.args.around.now) c.args.facts.now []
+
+pub returns-clause-small : goal.returns-clause-small
+returns-clause-small c = plain_is_small c.args.around.now.config.now c.end_turn.result
+    (subst ArePlain (sym (ap (λ (m : Made). m.written) (c.end_turn.ensures []))) (turn_is_plain (around_of c.args.around.now) c.args.facts.now))
