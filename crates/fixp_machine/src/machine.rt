@@ -460,6 +460,20 @@ impl End {
         self.output.take_front(count);
     }
 
+    /// Its configuration.
+    pub fn config(&self) -> &EndConfig
+        ensures { result.now ≡ self.now.config }
+    {
+        &self.config
+    }
+
+    /// The last moment that it was told, in milliseconds.
+    pub fn moment(&self) -> u64
+        ensures { result ≡ self.now.moment }
+    {
+        self.moment
+    }
+
     /// The phase of the connection.
     pub fn phase(&self) -> Phase
         ensures { result ≡ phase_of self.now }

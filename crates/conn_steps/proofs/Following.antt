@@ -1,0 +1,132 @@
+-- Frames that are answered one after another, as the line, the inbox and the news go on over them.
+use Rattle.std.proofs.Common.{◌≡◌, ℕ, ◌+◌, ◌*◌, ◌<◌, ◌≤◌, Bool, false, List, [], ◌∷◌, ◌++◌, drop, length, refl, sym, ap, subst, ◌∙◌, arith, append_assoc, append-nil, length-append}
+use Rattle.session_model.specs.Inbox.{InboxRecord}
+use Rattle.sofh_frame.specs.Framing.{Frame, BeginsWith}
+use Rattle.fixp_replies.specs.Incoming.{IsIncoming}
+use Rattle.reply_laws.specs.Machine.{State, step}
+use Rattle.reply_laws.specs.Machine as calls
+use Rattle.jr_record.specs.declared.journal.Journal.{Ghosts}
+use Rattle.jr_boxes.specs.declared.inbox.Inbox.{Inbox}
+use Rattle.jr_boxes.specs.Inbox.{HoldsBox}
+use Rattle.conn_turns.specs.declared.news.NewsItem.{NewsItem}
+use Rattle.conn_turns.specs.declared.answer.TurnFault.{TurnFault}
+use Rattle.conn_turns.specs.Lines.{Line, TakenFrame, size_of, MayTake, IsNext, IsTaken, AreTaken, line_after, lines_after}
+use Rattle.conn_turns.specs.Frames.{adds, tells, added, told}
+use Rattle.conn_turns.proofs.Taking.{lines_more, taken_more, added_more, told_more}
+use Rattle.conn_steps.specs.Agreeing.{IsInTurn, KeepsOwn}
+use Rattle.conn_steps.specs.Settling.{Gains, Refuses, SameKind}
+use Rattle.conn_steps.specs.Taking.{AnsweredFrame, RefusedAct, TookFrame, RefusedFrame, TookFrames, CutFrames, refused_by}
+
+-- a line is its four parts
+pub line_is : (a b : Line) → a.machine ≡ b.machine → a.held ≡ b.held → a.place ≡ b.place → a.over ≡ b.over → a ≡ b
+line_is a b machine held place over =
+    ap (λ (m : State). record { machine = m; held = a.held; place = a.place; over = a.over }) machine
+    ∙ (ap (λ (h : List ℕ). record { machine = b.machine; held = h; place = a.place; over = a.over }) held
+    ∙ (ap (λ (n : ℕ). record { machine = b.machine; held = b.held; place = n; over = a.over }) place
+    ∙ ap (λ (o : Bool). record { machine = b.machine; held = b.held; place = b.place; over = o }) over))
+
+-- a frame at the front of what is held
+next_is : (l : Line) (f : Frame) (size : ℕ) (t : TakenFrame) → MayTake l.machine → BeginsWith l.held f size → t.frame ≡ f → t.at ≡ l.place → IsIncoming t.frame.order t.frame.message t.incoming → IsNext l t
+next_is l f size t may begins frame at is = record {
+  may = may;
+  begins = subst (λ (x : Frame). BeginsWith l.held x (size_of x)) (sym frame) (subst (λ (n : ℕ). BeginsWith l.held f n) begins.counts begins);
+  at = at;
+  is = is;
+}
+
+-- what an in-turn machine keeps with fewer frames before it
+pub in_turn_less : (m : State) (now more fewer : ℕ) → fewer ≤ more → IsInTurn m now more → IsInTurn m now fewer
+in_turn_less m now more fewer less h = record {
+  begun = h.begun;
+  done = h.done;
+  time = h.time;
+  room = omega (arith, h.room, less);
+  credentials = h.credentials;
+  unsent = omega (arith, h.unsent, less);
+  untold = omega (arith, h.untold, less);
+}
+
+pub keeps_self : (m : State) → KeepsOwn m m
+keeps_self m = record { config = refl; most = refl; sent = refl; finish = refl }
+
+pub keeps_on : (a b c : State) → KeepsOwn a b → KeepsOwn b c → KeepsOwn a c
+keeps_on a b c first second = record { config = second.config ∙ first.config; most = second.most ∙ first.most; sent = second.sent ∙ first.sent; finish = second.finish ∙ first.finish }
+
+module _ {J : Type 0} {G : Ghosts J} where
+  -- a frame that was answered, once its bytes are dropped
+  pub took : (now size : ℕ) (old new : Line) (f : Frame) (box after : Inbox J G) (news later : List NewsItem) → MayTake old.machine → BeginsWith old.held f size
+      → AnsweredFrame now old.machine new.machine f old.place box after news later → new.held ≡ drop size old.held → new.place ≡ old.place + size → new.over ≡ old.over
+      → TookFrame now old new box after news later
+  unfolding line_after adds tells
+  took now size old new f box after news later may begins a held place over = record {
+    frame = t;
+    taken = record { next = next_is old f size t may begins refl refl a.is; recorded = a.record_is };
+    line = line_is new (line_after now old t) a.machine (held ∙ ap (λ (n : ℕ). drop n old.held) begins.counts) (place ∙ ap (λ (n : ℕ). old.place + n) begins.counts) over;
+    gains = a.gains;
+    news_are = a.news_are;
+  }
+    where
+      t : TakenFrame
+      t = record { at = old.place; frame = f; incoming = a.incoming; recorded = a.recorded }
+
+  -- a frame whose act was refused
+  pub was_refused : (now size : ℕ) (old new : Line) (f : Frame) (box after : Inbox J G) (news later : List NewsItem) (fault : TurnFault) → MayTake old.machine → BeginsWith old.held f size
+      → RefusedAct now old.machine new.machine f old.place box after news later fault → new.held ≡ old.held → new.place ≡ old.place → new.over ≡ old.over
+      → RefusedFrame now old new box after news later fault
+  unfolding adds
+  was_refused now size old new f box after news later fault may begins a held place over = record {
+    frame = record { at = old.place; frame = f; incoming = a.incoming; recorded = false };
+    next = next_is old f size (record { at = old.place; frame = f; incoming = a.incoming; recorded = false }) may begins refl refl a.is;
+    line = line_is new (record old { machine = step old.machine (calls.frame a.incoming old.place now) }) a.machine held place over;
+    refuses = a.refuses;
+    news_are = a.news_are;
+  }
+
+  -- none was taken yet
+  pub took_none : (now : ℕ) (l : Line) (box : Inbox J G) (news : List NewsItem) → TookFrames now 0 l l box box news news
+  took_none now l box news = record {
+    frames = [];
+    many = refl;
+    taken = tt;
+    line = refl;
+    gains = λ i h. subst (λ (rs : List InboxRecord). HoldsBox box rs []) (sym (append-nil i)) h;
+    news_are = sym (append-nil news);
+  }
+
+  -- one more was taken
+  pub took_more : (now count : ℕ) (old mid new : Line) (box first second : Inbox J G) (news sooner later : List NewsItem) → TookFrames now count old mid box first news sooner
+      → TookFrame now mid new first second sooner later → TookFrames now (count + 1) old new box second news later
+  took_more now count old mid new box first second news sooner later many one =
+      let t = one.frame in
+      let same : mid ≡ lines_after now old many.frames = many.line in
+      record {
+        frames = many.frames ++ t ∷ [];
+        many = length-append many.frames (t ∷ []) ∙ ap (λ (n : ℕ). n + 1) many.many;
+        taken = taken_more now old many.frames t many.taken (subst (λ (l : Line). IsTaken now l t) same one.taken);
+        line = one.line ∙ (ap (λ (l : Line). line_after now l t) same ∙ sym (lines_more now old many.frames t));
+        gains = λ i h. subst (λ (rs : List InboxRecord). HoldsBox second rs [])
+            (append_assoc i (added now old many.frames) (adds now mid t)
+            ∙ ap (λ (rs : List InboxRecord). i ++ rs) (ap (λ (l : Line). added now old many.frames ++ adds now l t) same ∙ sym (added_more now old many.frames t)))
+            (one.gains (i ++ added now old many.frames) (many.gains i h));
+        news_are = one.news_are ∙ (ap (λ (ns : List NewsItem). ns ++ tells now mid t) many.news_are
+            ∙ (append_assoc news (told now old many.frames) (tells now mid t)
+            ∙ ap (λ (ns : List NewsItem). news ++ ns) (ap (λ (l : Line). told now old many.frames ++ tells now l t) same ∙ sym (told_more now old many.frames t))));
+      }
+
+  -- the next one was refused
+  pub cut_behind : (now count : ℕ) (old mid new : Line) (box first second : Inbox J G) (news sooner later : List NewsItem) (fault : TurnFault) → TookFrames now count old mid box first news sooner
+      → count < 16 → RefusedFrame now mid new first second sooner later fault → CutFrames now old new box second news later fault
+  cut_behind now count old mid new box first second news sooner later fault many few one =
+      let t = one.frame in
+      let same : mid ≡ lines_after now old many.frames = many.line in
+      record {
+        frames = many.frames;
+        few = omega (arith, many.many, few);
+        taken = many.taken;
+        refused = t;
+        next = subst (λ (l : Line). IsNext l t) same one.next;
+        line = one.line ∙ ap (λ (l : Line). record l { machine = step l.machine (calls.frame t.incoming t.at now) }) same;
+        refuses = λ i h. subst (λ (l : Line). HoldsBox second (i ++ added now old many.frames) (refused_by fault (adds now l t))) same
+            (one.refuses (i ++ added now old many.frames) (many.gains i h));
+        news_are = one.news_are ∙ many.news_are;
+      }

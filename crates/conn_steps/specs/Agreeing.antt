@@ -1,0 +1,33 @@
+-- What holds between the machine, the inbox and the outbox's pass at a turn's start and at its end (this project's profile).
+use Rattle.std.specs.Prelude.{◌≡◌, ℕ, ◌+◌, ◌*◌, ◌^◌, ◌<◌, ◌≤◌, true, List, [], length, None, IfSome}
+use Rattle.jr_record.specs.declared.journal.Journal.{Ghosts}
+use Rattle.jr_boxes.specs.declared.inbox.Inbox.{Inbox}
+use Rattle.jr_boxes.specs.Inbox.{next_of, is_negotiated, peer_last_of, flow_of, limits_of}
+use Rattle.reply_laws.specs.Machine.{State}
+
+-- The machine between its calls, so many frames before a turn's frames end: no act is still to be done, no moment lies ahead,
+-- there is room for the frames, and what is unsent and untold is little
+pub record IsInTurn (m : State) (now frames : ℕ) : Type 0 where
+  pub begun : m.begun ≡ true
+  pub done : m.pending ≡ None
+  pub time : m.moment ≤ now
+  pub room : frames ≤ m.room
+  pub credentials : length m.config.credentials ≤ 2048
+  pub unsent : length m.unsent + frames * 5000 ≤ 100000
+  pub untold : length m.untold + frames ≤ 16
+
+-- of the own flow, and of what the machine was made with, nothing changed
+pub record KeepsOwn (old new : State) : Type 0 where
+  pub config : new.config ≡ old.config
+  pub most : new.most ≡ old.most
+  pub sent : new.facts.recorded.sent ≡ old.facts.recorded.sent
+  pub finish : new.facts.recorded.finish ≡ old.facts.recorded.finish
+
+module _ {J : Type 0} {G : Ghosts J} where
+  -- the inbox is of the peer's flow, it can take every number that the machine takes, and it records what the machine knows of it
+  pub record Agrees (m : State) (box : Inbox J G) : Type 0 where
+    pub flow : flow_of box ≡ m.config.peer_flow
+    pub most : m.most ≤ (limits_of box).entries
+    pub next : next_of box ≡ m.facts.recorded.inbox_next
+    pub negotiated : is_negotiated box ≡ m.facts.recorded.negotiated
+    pub peer_last : peer_last_of box ≡ m.facts.recorded.peer_last

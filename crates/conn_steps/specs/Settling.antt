@@ -1,0 +1,77 @@
+-- What an act is to an inbox, and what becomes of the inbox as its record is made stable (this project's profile).
+use Rattle.std.specs.Prelude.{◌≡◌, ℕ, ◌+◌, ◌<◌, ◌≤◌, true, List, [], ◌∷◌, ◌++◌, Option, None}
+use Rattle.session_model.specs.Inbox.{InboxRecord}
+use Rattle.sbe_prim.specs.declared.Order.{Order}
+use Rattle.fixp_msgs.specs.Numbering.{payload_of}
+use Rattle.fixp_msgs.specs.Payload.{IsApplication}
+use Rattle.fixp_replies.specs.declared.act.Act.{Act}
+use Rattle.fixp_replies.specs.declared.facts.EndState.{EndState}
+use Rattle.fixp_replies.specs.Incoming.{Incoming, application}
+use Rattle.reply_laws.specs.Fitting.{CanTake, recorded_after}
+use Rattle.growth_laws.specs.Accepting.{records_of}
+use Rattle.jr_record.specs.declared.journal.Journal.{Ghosts}
+use Rattle.jr_record.specs.declared.faults.AppendFault.{AppendFault}
+use Rattle.jr_record.specs.declared.faults.AppendFault.TheVariants as append
+use Rattle.jr_boxes.specs.declared.inbox.Inbox.{Inbox}
+use Rattle.gw_outside.specs.Faults.{HasRisen}
+use Rattle.jr_record.specs.Images.{record_size}
+use Rattle.jr_boxes.specs.Inboxes.{record_of}
+use Rattle.jr_boxes.specs.Inbox.{HoldsBox, next_of, is_negotiated, peer_last_of, flow_of, limits_of, size_of, faults_of, is_broken}
+use Rattle.conn_turns.specs.declared.news.NewsItem.{NewsItem}
+use Rattle.conn_turns.specs.News.{told_by}
+
+-- the payload of a frame's message, were it an application message
+abbrev pub payload_at : Order → List ℕ → List ℕ
+payload_at order message = payload_of (record { order = order; message = message })
+
+-- the records that an act adds, and what it tells, where the frame has this message
+abbrev pub records_at : Act → Order → List ℕ → List InboxRecord
+records_at act order message = records_of act (application (payload_at order message))
+
+abbrev pub told_at : Act → Order → List ℕ → List NewsItem
+told_at act order message = told_by act (application (payload_at order message))
+
+-- which of some records may stand in what a stop leaves, where their append was refused so: after a failed call of the disk all
+abbrev pub refused_by : AppendFault → List InboxRecord → List InboxRecord
+refused_by append.Broken records = []
+refused_by (append.Full bytes) records = []
+refused_by append.Memory records = []
+refused_by append.Fault records = records
+
+module _ {J : Type 0} {G : Ghosts J} where
+  -- what an inbox records of the facts that outlive a connection; of the outbox it records nothing
+  abbrev pub recorded_in : Inbox J G → EndState
+  recorded_in box = record { negotiated = is_negotiated box; inbox_next = next_of box; peer_last = peer_last_of box; sent = 0; finish = None }
+
+  -- the inbox can take the act of a frame with this message
+  abbrev pub Takes : Inbox J G → Act → Order → List ℕ → Type 0
+  Takes box act order message = CanTake (flow_of box) (limits_of box).entries (recorded_in box) (IsApplication (payload_at order message)) act
+
+  -- it is an inbox of the same flow and the same limits
+  pub record SameKind (old new : Inbox J G) : Type 0 where
+    pub flow : flow_of new ≡ flow_of old
+    pub limits : limits_of new ≡ limits_of old
+
+  -- whichever list it held, it holds that list and these records
+  abbrev pub Gains : Inbox J G → Inbox J G → List InboxRecord → Type 0
+  Gains old new records = (i : List InboxRecord) → HoldsBox old i [] → HoldsBox new (i ++ records) []
+
+  -- whichever list it held, it holds that list, and a stop may leave a beginning of these records behind it
+  abbrev pub Refuses : Inbox J G → Inbox J G → List InboxRecord → Type 0
+  Refuses old new records = (i : List InboxRecord) → HoldsBox old i [] → HoldsBox new i records
+
+  -- an act is settled: its records stand in the inbox, which records what is recorded after it, and what it tells was told
+  pub record Settled (old new : Inbox J G) (news later : List NewsItem) (act : Act) (records : List InboxRecord) (told : List NewsItem) : Type 0 where
+    pub gains : Gains old new records
+    pub recorded : recorded_in new ≡ recorded_after act (recorded_in old)
+    pub news_are : later ≡ news ++ told
+
+  -- it was refused: nothing was told. After a failed call of the disk a stop may leave its records; at Broken the inbox is broken,
+  -- and at Full its journal has so many bytes that a record is past its limit
+  pub record Refused (old new : Inbox J G) (news later : List NewsItem) (records : List InboxRecord) (fault : AppendFault) : Type 0 where
+    pub refuses : Refuses old new (refused_by fault records)
+    pub news_are : later ≡ news
+    pub risen : fault ≡ append.Fault → HasRisen (faults_of old) (faults_of new)
+    pub broken : fault ≡ append.Broken → is_broken new ≡ true
+    pub full : (bytes : ℕ) → fault ≡ append.Full bytes → bytes ≡ size_of new
+    pub past : (bytes : ℕ) (r : InboxRecord) → fault ≡ append.Full bytes → records ≡ r ∷ [] → (limits_of new).bytes < bytes + record_size (record_of r)

@@ -1,0 +1,72 @@
+//! A frame is answered: by the machine, and with its record in the inbox.
+
+ghost use Rattle.std.specs.Prelude.{◌≡◌, ℕ, ◌+◌, ◌^◌, ◌<◌, ◌≤◌, length, true, Ok, Err, IfErr, OnOk};
+ghost use Rattle.jr_boxes.specs.Inbox.{faults_of, is_broken, size_of, count_of};
+ghost use Rattle.conn_turns.specs.News.{items_of};
+ghost use Rattle.conn_turns.specs.Lines.{MayTake};
+ghost use Rattle.conn_steps.specs.Settling.{SameKind, Refused};
+ghost use Rattle.conn_steps.specs.Agreeing.{IsInTurn, Agrees, KeepsOwn};
+ghost use Rattle.conn_steps.specs.Taking.{AnsweredFrame, RefusedAct, Blames, fault_of};
+
+use crate::records::settle;
+use conn_turns::{News, TurnFault};
+use fixp_machine::End;
+use jr_boxes::Inbox;
+use jr_record::{AppendFault, Journal};
+use sbe_prim::Order;
+use std::alloc::Global;
+
+/// A refusal of the inbox, as a turn answers it.
+fn refusal<J: Journal>(inbox: &Inbox<J>, fault: AppendFault) -> TurnFault
+    ensures { result ≡ fault_of (count_of inbox.now) fault }
+{
+    match fault {
+        AppendFault::Broken => TurnFault::Broken,
+        AppendFault::Full { bytes } => TurnFault::Full {
+            entries: inbox.count(),
+            bytes,
+        },
+        AppendFault::Memory => TurnFault::Memory,
+        AppendFault::Fault => TurnFault::Inbox,
+    }
+}
+
+/// Answers a frame: the machine replies to it, the record of its act is made stable, and then its reply is written.
+///
+/// # Errors
+/// Where the record was refused, or memory for what is to be told.
+pub fn answer_frame<J: Journal>(
+    alloc: Global,
+    end: &mut End,
+    inbox: &mut Inbox<J>,
+    news: &mut News,
+    order: Order,
+    message: &[u8],
+    at: u64,
+    now: u64,
+) -> Result<(), TurnFault>
+    requires header { 8 ≤ length message.now }
+    requires most { length message.now ≤ 16384 }
+    requires may { MayTake end.old }
+    requires in_turn { IsInTurn end.old now 1 }
+    requires time { now < 2 ^ 44 }
+    requires agrees { Agrees end.old inbox.old }
+    ensures answered { OnOk result (AnsweredFrame now end.old end.new (record { order = order; message = message.now }) at inbox.old inbox.new (items_of news.old) (items_of news.new)) }
+    ensures refused { IfErr result (RefusedAct now end.old end.new (record { order = order; message = message.now }) at inbox.old inbox.new (items_of news.old) (items_of news.new)) }
+    ensures in_turn { (frames : ℕ) → IsInTurn end.old now (frames + 1) → OnOk result (IsInTurn end.new now frames) }
+    ensures agrees { OnOk result (Agrees end.new inbox.new) }
+    ensures own { OnOk result (KeepsOwn end.old end.new) }
+    ensures blames { IfErr result (Blames inbox.old inbox.new) }
+    ensures kind { SameKind inbox.old inbox.new }
+    ensures never_falls { faults_of inbox.old ≤ faults_of inbox.new }
+{
+    let act = end.on_frame(order, message, at, now);
+    if let Err(fault) = settle(alloc, inbox, news, act, order, message) {
+        return Err(refusal(inbox, fault));
+    }
+    if !act.is_record() {
+        return Ok(());
+    }
+    end.did(now);
+    Ok(())
+}

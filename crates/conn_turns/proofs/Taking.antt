@@ -1,0 +1,56 @@
+-- Frames that are taken one after another: what they make of the line, and what one more adds.
+use Rattle.std.proofs.Common.{◌≡◌, ℕ, ◌+◌, List, [], ◌∷◌, ◌++◌, length, refl, sym, ap, ◌∙◌, arith, append_assoc, append-nil, length-append}
+use Rattle.session_model.specs.Inbox.{InboxRecord}
+use Rattle.sofh_frame.specs.Framing.{Frame, header_of, spelled}
+use Rattle.sofh_frame.specs.Splits.{spelled_all, place_behind}
+use Rattle.reply_laws.specs.Machine.{State, Call, step, run}
+use Rattle.conn_turns.specs.declared.news.NewsItem.{NewsItem}
+use Rattle.conn_turns.specs.Lines.{Line, TakenFrame, size_of, frame_calls, IsTaken, line_after, lines_after, AreTaken}
+use Rattle.conn_turns.specs.Frames.{adds, tells, added, told}
+use Rattle.conn_turns.specs.Turns.{calls_of_frames}
+use Rattle.conn_turns.specs.Laws.{frames_in, Joins}
+
+pub run_append : (m : State) (first later : List Call) → run m (first ++ later) ≡ run (run m first) later
+run_append m [] later = refl
+run_append m (call ∷ first) later = run_append (step m call) first later
+
+length-spelled : (f : Frame) → length (spelled f) ≡ size_of f
+unfolding header_of
+length-spelled f = length-append (header_of f) f.message
+
+pub frames_join : (now : ℕ) (l : Line) (frames : List TakenFrame) → AreTaken now l frames → Joins l frames (lines_after now l frames)
+unfolding line_after
+frames_join now l [] next = record { bytes = refl; each = tt; place = omega arith; over = refl }
+frames_join now l (t ∷ later) next =
+    let behind : Joins (line_after now l t) later (lines_after now (line_after now l t) later) = frames_join now (line_after now l t) later next.1 in
+    record {
+      bytes = next.0.next.begins.spells ∙ (ap (λ bytes. spelled t.frame ++ bytes) behind.bytes ∙ sym (append_assoc (spelled t.frame) (spelled_all (frames_in later)) _));
+      each = (next.0.next.begins.admissible, behind.each);
+      place = omega (arith, behind.place, length-append (spelled t.frame) (spelled_all (frames_in later)), length-spelled t.frame);
+      over = behind.over;
+    }
+
+pub frames_make_calls : (now : ℕ) (l : Line) (frames : List TakenFrame) → (lines_after now l frames).machine ≡ run l.machine (calls_of_frames now frames)
+unfolding line_after
+frames_make_calls now l [] = refl
+frames_make_calls now l (t ∷ later) =
+    frames_make_calls now (line_after now l t) later ∙ sym (run_append l.machine (frame_calls now t) (calls_of_frames now later))
+
+-- one more frame
+pub lines_more : (now : ℕ) (l : Line) (frames : List TakenFrame) (t : TakenFrame) → lines_after now l (frames ++ t ∷ []) ≡ line_after now (lines_after now l frames) t
+lines_more now l [] t = refl
+lines_more now l (x ∷ later) t = lines_more now (line_after now l x) later t
+
+pub taken_more : (now : ℕ) (l : Line) (frames : List TakenFrame) (t : TakenFrame) → AreTaken now l frames → IsTaken now (lines_after now l frames) t → AreTaken now l (frames ++ t ∷ [])
+taken_more now l [] t next here = (here, tt)
+taken_more now l (x ∷ later) t next here = (next.0, taken_more now (line_after now l x) later t next.1 here)
+
+pub added_more : (now : ℕ) (l : Line) (frames : List TakenFrame) (t : TakenFrame) → added now l (frames ++ t ∷ []) ≡ added now l frames ++ adds now (lines_after now l frames) t
+added_more now l [] t = append-nil (adds now l t)
+added_more now l (x ∷ later) t =
+    ap (λ rs. adds now l x ++ rs) (added_more now (line_after now l x) later t) ∙ sym (append_assoc (adds now l x) (added now (line_after now l x) later) _)
+
+pub told_more : (now : ℕ) (l : Line) (frames : List TakenFrame) (t : TakenFrame) → told now l (frames ++ t ∷ []) ≡ told now l frames ++ tells now (lines_after now l frames) t
+told_more now l [] t = append-nil (tells now l t)
+told_more now l (x ∷ later) t =
+    ap (λ ns. tells now l x ++ ns) (told_more now (line_after now l x) later t) ∙ sym (append_assoc (tells now l x) (told now (line_after now l x) later) _)

@@ -1,0 +1,51 @@
+-- What the frames of a turn add to the inbox, and what they tell.
+use Rattle.std.specs.Prelude.{◌≡◌, ◌⊎◌, ℕ, ◌&&◌, Bool, true, false, not, nat_lt, IsTrue, List, [], ◌∷◌, ◌++◌, is_some, is_none}
+use Rattle.session_model.specs.Inbox.{InboxRecord}
+use Rattle.sofh_frame.specs.Framing.{First, frame, rest, bad_length, bad_encoding, first_of}
+use Rattle.growth_laws.specs.Accepting.{records_of}
+use Rattle.conn_turns.specs.declared.news.NewsItem.{NewsItem}
+use Rattle.conn_turns.specs.News.{told_by}
+use Rattle.conn_turns.specs.Lines.{Line, TakenFrame, reply_at, line_after}
+
+-- what the act of a frame adds to the inbox, and what it tells
+unfoldable pub adds : ℕ → Line → TakenFrame → List InboxRecord
+adds now l t = records_of (reply_at now l t).act t.incoming
+
+unfoldable pub tells : ℕ → Line → TakenFrame → List NewsItem
+tells now l t = told_by (reply_at now l t).act t.incoming
+
+-- the same of frames, one after another
+abbrev pub added : ℕ → Line → List TakenFrame → List InboxRecord
+added now l [] = []
+added now l (t ∷ later) = adds now l t ++ added now (line_after now l t) later
+
+abbrev pub told : ℕ → Line → List TakenFrame → List NewsItem
+told now l [] = []
+told now l (t ∷ later) = tells now l t ++ told now (line_after now l t) later
+
+-- what stands at the front of bytes is a whole frame; or bytes that no frame begins with
+abbrev pub is_whole : First → Bool
+is_whole (frame order message size) = true
+is_whole rest = false
+is_whole (bad_length n) = false
+is_whole (bad_encoding encoding) = false
+
+abbrev pub is_bad : First → Bool
+is_bad (frame order message size) = false
+is_bad rest = false
+is_bad (bad_length n) = true
+is_bad (bad_encoding encoding) = true
+
+-- behind so many frames no further one is taken: the turn has its 16, the connection has ended, a range is served, or no whole
+-- frame is left
+abbrev pub IsDone : ℕ → Line → Type 0
+IsDone count l =
+    (count ≡ 16) ⊎ (IsTrue (is_some l.machine.ending) ⊎ (IsTrue (is_some l.machine.facts.connection.serving) ⊎ (is_whole (first_of l.held) ≡ false)))
+
+-- behind so many frames the machine is told of bytes that no frame begins with
+abbrev pub is_broken : ℕ → Line → Bool
+is_broken count l = nat_lt count 16 && is_none l.machine.ending && is_none l.machine.facts.connection.serving && is_bad (first_of l.held)
+
+-- the machine is told that the link has ended: it has, and no whole frame is left
+abbrev pub is_link_over : Line → Bool
+is_link_over l = l.over && not (is_whole (first_of l.held))

@@ -1,0 +1,26 @@
+-- What follows of the frames that a turn takes.
+use Rattle.std.specs.Prelude.{◌≡◌, ℕ, ◌+◌, List, [], ◌∷◌, ◌++◌, map, length}
+use Rattle.std.specs.List.{AllByRecursion}
+use Rattle.sofh_frame.specs.Framing.{Frame, IsFrame}
+use Rattle.sofh_frame.specs.Splits.{spelled_all, place_behind}
+use Rattle.reply_laws.specs.Machine.{run}
+use Rattle.conn_turns.specs.Lines.{Line, TakenFrame, lines_after, AreTaken}
+use Rattle.conn_turns.specs.Turns.{calls_of_frames}
+
+abbrev pub frames_in : List TakenFrame → List Frame
+frames_in = map (λ (t : TakenFrame). t.frame)
+
+-- what is held is the bytes of the frames, each of which is admissible, and what is held behind them; and the places are those
+-- of the bytes
+pub record Joins (l : Line) (frames : List TakenFrame) (behind : Line) : Type 0 where
+  pub bytes : l.held ≡ spelled_all (frames_in frames) ++ behind.held
+  pub each : AllByRecursion IsFrame (frames_in frames)
+  pub place : behind.place ≡ l.place + place_behind (frames_in frames)
+  pub over : behind.over ≡ l.over
+
+abbrev pub FramesJoin : Type 0
+FramesJoin = (now : ℕ) (l : Line) (frames : List TakenFrame) → AreTaken now l frames → Joins l frames (lines_after now l frames)
+
+-- the machine behind the frames is what their calls make of it
+abbrev pub FramesMakeCalls : Type 0
+FramesMakeCalls = (now : ℕ) (l : Line) (frames : List TakenFrame) → (lines_after now l frames).machine ≡ run l.machine (calls_of_frames now frames)

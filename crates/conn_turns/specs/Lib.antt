@@ -1,0 +1,6 @@
+pub mod Lines
+pub mod News
+pub mod Frames
+pub mod Turns
+pub mod Exact
+pub mod Laws

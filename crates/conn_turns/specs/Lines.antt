@@ -1,0 +1,73 @@
+-- A connection as one end sees it between its turns, and the frames that a turn takes of what it read (this project's profile).
+use Rattle.std.specs.Prelude.{◌≡◌, ℕ, ◌+◌, Bool, if◌then◌else◌, List, [], ◌∷◌, drop, length, None}
+use Rattle.sofh_frame.specs.Framing.{Frame, BeginsWith}
+use Rattle.fixp_replies.specs.Acts.{is_record}
+use Rattle.fixp_replies.specs.Incoming.{Incoming, IsIncoming}
+use Rattle.fixp_replies.specs.Outcomes.{Outcome}
+use Rattle.fixp_replies.specs.Replies.{reply_of}
+use Rattle.reply_laws.specs.Machine.{State, Call, did, run, around}
+use Rattle.reply_laws.specs.Machine as calls
+
+-- the session machine; the bytes read of which no frame was taken yet; the place of the first of them among all bytes of the
+-- connection; and whether the link has given its end
+pub record Line : Type 0 where
+  pub machine : State
+  pub held : List ℕ
+  pub place : ℕ
+  pub over : Bool
+
+-- a frame that a turn took: its place, its message in its byte order, what that is to an end, and whether its act is a record,
+-- which was made stable and then told to be done
+pub record TakenFrame : Type 0 where
+  pub at : ℕ
+  pub frame : Frame
+  pub incoming : Incoming
+  pub recorded : Bool
+
+-- how many bytes a frame takes: 6 of its header, and its message (Simple Open Framing Header)
+abbrev pub size_of : Frame → ℕ
+size_of f = 6 + length f.message
+
+-- the machine's reply to a frame
+abbrev pub reply_at : ℕ → Line → TakenFrame → Outcome
+reply_at now l t = reply_of (around l.machine t.at now) l.machine.facts t.incoming
+
+-- the machine is told of a frame, and then that its act is done, where that is a record
+abbrev pub frame_calls : ℕ → TakenFrame → List Call
+frame_calls now t = calls.frame t.incoming t.at now ∷ (if t.recorded then did now ∷ [] else [])
+
+-- a further frame may be taken: the connection has not ended, and no range is served
+pub record MayTake (m : State) : Type 0 where
+  pub goes_on : m.ending ≡ None
+  pub free : m.facts.connection.serving ≡ None
+
+-- the frame stands at the front of what is held, and may be taken
+pub record IsNext (l : Line) (t : TakenFrame) : Type 0 where
+  pub may : MayTake l.machine
+  pub begins : BeginsWith l.held t.frame (size_of t.frame)
+  pub at : t.at ≡ l.place
+  pub is : IsIncoming t.frame.order t.frame.message t.incoming
+
+-- and its act is a record exactly where it was told to be done
+pub record IsTaken (now : ℕ) (l : Line) (t : TakenFrame) : Type 0 where
+  pub next : IsNext l t
+  pub recorded : t.recorded ≡ is_record (reply_at now l t).act
+
+-- what the line is once it was taken, and its act is done
+unfoldable pub line_after : ℕ → Line → TakenFrame → Line
+line_after now l t = record {
+  machine = run l.machine (frame_calls now t);
+  held = drop (size_of t.frame) l.held;
+  place = l.place + size_of t.frame;
+  over = l.over;
+}
+
+-- the same of frames, one after another
+abbrev pub lines_after : ℕ → Line → List TakenFrame → Line
+lines_after now l [] = l
+lines_after now l (t ∷ later) = lines_after now (line_after now l t) later
+
+-- each frame is the next one where those before it were taken
+abbrev pub AreTaken : ℕ → Line → List TakenFrame → Type 0
+AreTaken now l [] = Unit {0}
+AreTaken now l (t ∷ later) = IsTaken now l t × AreTaken now (line_after now l t) later

@@ -1,0 +1,27 @@
+-- What a turn tells beside its answer: what was delivered, and what the peer did not apply (this project's profile).
+use Rattle.std.specs.Prelude.{ℕ, ◌<◌, List, [], ◌∷◌, vec_len, vec_capacity}
+use Rattle.fixp_replies.specs.declared.act.Act.{Act}
+use Rattle.fixp_replies.specs.declared.act.Act.TheVariants as acts
+use Rattle.fixp_replies.specs.Incoming.{Incoming}
+use Rattle.growth_laws.specs.Accepting.{payload_in}
+use Rattle.conn_turns.specs.declared.news.News.{News}
+use Rattle.conn_turns.specs.declared.news.NewsItem.{NewsItem}
+use Rattle.conn_turns.specs.declared.news.NewsItem.TheVariants as items
+
+-- the items, in order
+abbrev pub items_of : News → List NewsItem
+items_of news = news.items.items
+
+-- there is room for one more
+abbrev pub HasRoom : News → Type 0
+HasRoom news = vec_len news.items < vec_capacity news.items
+
+-- what an act tells once it is done: a message that is applied is delivered, and a NotApplied that was read is handed on
+abbrev pub told_by : Act → Incoming → List NewsItem
+told_by acts.Nothing i = []
+told_by (acts.Apply number) i = items.Delivered number (payload_in i) ∷ []
+told_by (acts.Skip from count) i = []
+told_by acts.Negotiated i = []
+told_by (acts.PeerFinished last) i = []
+told_by (acts.Told from count) i = items.NotApplied from count ∷ []
+told_by acts.Ended i = []

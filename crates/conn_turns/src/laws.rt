@@ -1,0 +1,14 @@
+//! Laws over the frames that a turn takes.
+
+ghost use Rattle.conn_turns.specs.Laws.{FramesJoin, FramesMakeCalls};
+
+/// The bytes that were held are those of the frames that were taken, and those held behind them; and each frame stands at the
+/// place that the bytes before it make.
+pub fn frames_join()
+    ensures law { FramesJoin }
+{}
+
+/// What becomes of the machine over the frames that were taken is what their calls make of it.
+pub fn frames_make_calls()
+    ensures law { FramesMakeCalls }
+{}

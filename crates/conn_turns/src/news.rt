@@ -1,0 +1,70 @@
+//! What a turn tells beside its answer.
+
+ghost use Rattle.std.specs.Prelude.{◌≡◌, [], ◌∷◌, ◌++◌, OnOk};
+
+use gw_outside::Bytes;
+use std::alloc::{AllocError, Global};
+
+/// One piece of news.
+#[derive(Debug, Drop)]
+pub enum NewsItem {
+    /// The peer's message of this number was applied: it stands in the inbox.
+    Delivered { number: u64, payload: Bytes },
+    /// The peer told that it did not apply these numbers of ours.
+    NotApplied { from: u64, count: u64 },
+}
+
+/// What a turn delivered and was told, in order.
+#[derive(Debug, Drop)]
+pub struct News {
+    items: Vec<NewsItem>,
+}
+
+impl News {
+    ghost use Rattle.conn_turns.specs.News.{items_of, HasRoom};
+
+    /// No news; it takes no memory until something is added.
+    pub fn new(alloc: Global) -> News
+        ensures { items_of result ≡ [] }
+    {
+        News {
+            items: Vec::new(alloc),
+        }
+    }
+
+    /// The items, in order.
+    pub fn items(&self) -> &[NewsItem]
+        ensures { result.now ≡ items_of self.now }
+    {
+        self.items.as_slice()
+    }
+
+    /// Forgets all.
+    pub fn clear(&mut self)
+        ensures { items_of self.new ≡ [] }
+    {
+        self.items.clear();
+    }
+
+    /// Makes room for one more item.
+    ///
+    /// # Errors
+    /// Want of memory.
+    pub fn reserve(&mut self) -> Result<(), AllocError>
+        ensures same { items_of self.new ≡ items_of self.old }
+        ensures room { OnOk result (HasRoom self.new) }
+    {
+        self.items.reserve(1)
+    }
+
+    /// Adds an item at the end, for which there is room.
+    pub fn push(&mut self, item: NewsItem)
+        requires { HasRoom self.old }
+        ensures { items_of self.new ≡ items_of self.old ++ item ∷ [] }
+    {
+        match self.items.push(item) {
+            Ok(()) => {}
+            Err(_) => unreachable!(),
+        }
+    }
+}
