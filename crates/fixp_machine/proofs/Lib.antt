@@ -6,3 +6,5 @@ pub mod Told
 pub mod RunLemmas
 pub mod Turn
 pub mod Frames
+pub mod OneClass
+mod Outcomes

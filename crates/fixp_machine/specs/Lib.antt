@@ -2,3 +2,4 @@ pub mod Answers
 pub mod Doing
 pub mod Keeping
 pub mod Sending
+pub mod Laws
