@@ -198,16 +198,26 @@ pub fn sum_of(message: &SessionMsg<'_>) -> u64 {
     match message {
         SessionMsg::Negotiate(m) => sum(&m.session_id, m.timestamp, m.client_flow, m.credentials),
         SessionMsg::NegotiationResponse(m) => {
-            sum(&m.session_id, m.request_timestamp, m.server_flow, m.credentials)
+            sum(
+                &m.session_id,
+                m.request_timestamp,
+                m.server_flow,
+                m.credentials,
+            )
         }
         SessionMsg::NegotiationReject(m) => {
             sum(&m.session_id, m.request_timestamp, m.code, m.reason)
         }
-        SessionMsg::Establish(m) => sum(&m.session_id, m.timestamp, m.keepalive, m.credentials)
-            .wrapping_add(m.next_seq.unwrap_or(0)),
+        SessionMsg::Establish(m) => sum(
+            &m.session_id,
+            m.timestamp,
+            m.keepalive,
+            m.credentials,
+        ).wrapping_add(m.next_seq.unwrap_or(0)),
         SessionMsg::EstablishmentAck(m) => {
-            sum(&m.session_id, m.request_timestamp, m.keepalive, &[])
-                .wrapping_add(m.next_seq.unwrap_or(0))
+            sum(&m.session_id, m.request_timestamp, m.keepalive, &[]).wrapping_add(
+                m.next_seq.unwrap_or(0),
+            )
         }
         SessionMsg::EstablishmentReject(m) => {
             sum(&m.session_id, m.request_timestamp, m.code, m.reason)
