@@ -129,11 +129,7 @@ fn main(rt: HostRuntime) -> io::Result<()> {
             println!(rt; "{sizes} {bytes}")
         }
         [kind, template, count] if kind.as_str() == "read" => {
-            let sum = read_back(
-                rt.alloc(),
-                small(template.as_str()),
-                number(count.as_str()),
-            )?;
+            let sum = read_back(rt.alloc(), small(template.as_str()), number(count.as_str()))?;
             println!(rt; "{sum}")
         }
         _ => println!(rt;

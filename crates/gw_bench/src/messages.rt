@@ -198,22 +198,39 @@ pub fn sum_of(message: &SessionMsg<'_>) -> u64 {
     match message {
         SessionMsg::Negotiate(m) => sum(&m.session_id, m.timestamp, m.client_flow, m.credentials),
         SessionMsg::NegotiationResponse(m) => {
-            sum(&m.session_id, m.request_timestamp, m.server_flow, m.credentials)
+            sum(
+                &m.session_id,
+                m.request_timestamp,
+                m.server_flow,
+                m.credentials,
+            )
         }
         SessionMsg::NegotiationReject(m) => {
             sum(&m.session_id, m.request_timestamp, m.code, m.reason)
         }
-        SessionMsg::Establish(m) => sum(&m.session_id, m.timestamp, m.keepalive, m.credentials)
-            .wrapping_add(m.next_seq.unwrap_or(0)),
+        SessionMsg::Establish(m) => sum(
+            &m.session_id,
+            m.timestamp,
+            m.keepalive,
+            m.credentials,
+        ).wrapping_add(m.next_seq.unwrap_or(0)),
         SessionMsg::EstablishmentAck(m) => {
-            sum(&m.session_id, m.request_timestamp, m.keepalive, &[])
-                .wrapping_add(m.next_seq.unwrap_or(0))
+            sum(&m.session_id, m.request_timestamp, m.keepalive, &[]).wrapping_add(
+                m.next_seq.unwrap_or(0),
+            )
         }
         SessionMsg::EstablishmentReject(m) => {
             sum(&m.session_id, m.request_timestamp, m.code, m.reason)
         }
+        SessionMsg::Terminate(m) => sum(&m.session_id, 0, m.code, m.reason),
+        _ => sum_of_flow(message),
+    }
+}
+
+/// The same of a message that is neither of a handshake nor a Terminate.
+fn sum_of_flow(message: &SessionMsg<'_>) -> u64 {
+    match message {
         SessionMsg::Sequence(m) => m.next_seq,
-        SessionMsg::UnsequencedHeartbeat(_) => 0,
         SessionMsg::RetransmitRequest(m) => {
             sum(&m.session_id, m.timestamp, m.count, &[]).wrapping_add(m.from_seq)
         }
@@ -227,7 +244,7 @@ pub fn sum_of(message: &SessionMsg<'_>) -> u64 {
         SessionMsg::NotApplied(m) => m.from_seq.wrapping_add(u64::from(m.count)),
         SessionMsg::FinishedSending(m) => ends(&m.session_id).wrapping_add(m.last_seq.unwrap_or(0)),
         SessionMsg::FinishedReceiving(m) => ends(&m.session_id),
-        SessionMsg::Terminate(m) => sum(&m.session_id, 0, m.code, m.reason),
+        _ => 0,
     }
 }
 

@@ -25,7 +25,7 @@ const PAYLOAD: usize = 62;
 const ENTRY: u64 = 78;
 
 /// The most messages of a sender.
-const MOST: u64 = 1 << 20;
+const MOST: u64 = 1 << 19;
 
 /// An application message: schema 100, template 7, and bytes behind the header.
 fn message() -> [u8; PAYLOAD] {
@@ -60,7 +60,7 @@ fn plans(alloc: Global, senders: u16, many: u64) -> Option<Vec<Plan>>
 
 /// An outbox on a formatted disk in memory with room for so many entries; none where it is not to be had.
 fn fresh(alloc: Global, entries: u64) -> Option<Outbox<Log>>
-    requires few { entries ≤ 2 ^ 24 }
+    requires few { entries ≤ 2 ^ 23 }
     ensures sound { IfSome result (λ box. is_broken box ≡ false) }
 {
     let bytes = 64 + entries * ENTRY;
