@@ -75,6 +75,10 @@ const ZEROS: [u8; 64] = [0; 64];
 pub fn write_zeros(count: u128, out: &mut Vec<u8>) -> Result<(), AllocError>
     ensures { OnOk result (out.new.items ≡ out.old.items ++ zeros count) }
 {
+    // most values stand right behind one another
+    if count == 0 {
+        return Ok(());
+    }
     let mut left = count;
     while left >= 64 {
         out.extend_from_slice(&ZEROS)?;

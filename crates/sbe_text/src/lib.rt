@@ -9,12 +9,14 @@ mod line;
 mod parse;
 mod path;
 mod print;
+mod spare;
 mod token;
 mod values;
 
 pub use error::{Refusal, TextError};
 pub use laws::printed_reads_back;
 pub use line::{count_lines, first_line};
-pub use parse::{first_message, parse_message, refused_line};
+pub use parse::{first_message, next_message, parse_message, refused_line};
 pub use path::names_begin;
 pub use print::{print_message, write_lines};
+pub use spare::Spare;

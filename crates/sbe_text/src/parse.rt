@@ -14,6 +14,7 @@ ghost use Rattle.sbe_text.specs.Reading.{read_item, read_datum, read_elements, r
 use crate::error::{Refusal, TextError};
 use crate::line::{count_lines, first_line, refused};
 use crate::path::begin_names;
+use crate::spare::Spare;
 use crate::token::{Count, behind, datum, entry_count, value, value_on};
 use sbe_layout::{BlockPlan, DataPlan, GroupPlan, ItemPlan, MessagePlan, MessagePlans, Plan};
 use sbe_value::{Block, Blocks, Bytes, Datum, Datums, Group, Groups, Item, Items, Message};
@@ -36,7 +37,8 @@ pub fn parse_message(alloc: Global, plan: &Plan, lines: &[u8]) -> Result<Message
 fn parse(alloc: Global, plan: &Plan, lines: &[u8]) -> Result<Message, TextError>
     ensures { Tells result (message_of_text plan.now lines.now) }
 {
-    match read_whole(alloc, plan, lines) {
+    let mut spare = Spare::new(alloc);
+    match read_whole(alloc, &mut spare, plan, lines) {
         Ok(message) => Ok(message),
         Err(Refusal::Left(left)) => Err(refused_line(lines, left)),
         Err(Refusal::Memory) => Err(TextError::Memory),
@@ -56,7 +58,24 @@ pub fn first_message<'a>(
     ensures told { Gives (λ x. (x.0, lines_in x.1.now)) result (read_message plan.now.messages (lines_in text.now)) }
     ensures shorter { IfOk result (λ x. length (lines_in x.1.now) < length (lines_in text.now)) }
 {
-    read_message(alloc, plan, text)
+    let mut spare = Spare::new(alloc);
+    next_message(alloc, &mut spare, plan, text)
+}
+
+/// The same, with room of messages before it, which [`Spare::keep`] kept.
+///
+/// # Errors
+/// As [`first_message`].
+pub fn next_message<'a>(
+    alloc: Global,
+    spare: &mut Spare,
+    plan: &Plan,
+    text: &'a [u8],
+) -> Result<(Message, &'a [u8]), Refusal>
+    ensures told { Gives (λ x. (x.0, lines_in x.1.now)) result (read_message plan.now.messages (lines_in text.now)) }
+    ensures shorter { IfOk result (λ x. length (lines_in x.1.now) < length (lines_in text.now)) }
+{
+    read_message(alloc, spare, plan, text)
 }
 
 /// The number of the line of a text, from 1, at which so many lines are left.
@@ -71,10 +90,15 @@ pub fn refused_line(lines: &[u8], left: u64) -> TextError
 }
 
 // The message that a whole text spells.
-fn read_whole(alloc: Global, plan: &Plan, text: &[u8]) -> Result<Message, Refusal>
+fn read_whole(
+    alloc: Global,
+    spare: &mut Spare,
+    plan: &Plan,
+    text: &[u8],
+) -> Result<Message, Refusal>
     ensures { Gives (λ m. m) result (alone (read_message plan.now.messages (lines_in text.now))) }
 {
-    let (message, rest) = read_message(alloc, plan, text)?;
+    let (message, rest) = read_message(alloc, spare, plan, text)?;
     match first_line(rest) {
         None => Ok(message),
         Some(_) => Err(refused(rest)),
@@ -84,13 +108,14 @@ fn read_whole(alloc: Global, plan: &Plan, text: &[u8]) -> Result<Message, Refusa
 // The message at the front of a text.
 fn read_message<'a>(
     alloc: Global,
+    spare: &mut Spare,
     plan: &Plan,
     left: &'a [u8],
 ) -> Result<(Message, &'a [u8]), Refusal>
     ensures { Gives (λ x. (x.0, lines_in x.1.now)) result (read_message plan.now.messages (lines_in left.now)) }
 {
     let (layout, rest) = read_layout(&plan.messages, left)?;
-    let (root, rest) = read_block(alloc, b"", &layout.root, rest)?;
+    let (root, rest) = read_block(alloc, spare, b"", &layout.root, rest)?;
     let rest = read_end(rest)?;
     Ok((
         Message {
@@ -178,13 +203,14 @@ fn read_item<'a>(
 
 fn read_items<'a>(
     alloc: Global,
+    spare: &mut Spare,
     before: &[u8],
     plans: &[ItemPlan],
     left: &'a [u8],
 ) -> Result<(Vec<Item>, &'a [u8]), Refusal>
     ensures { Gives (λ x. (x.0.items, lines_in x.1.now)) result (read_each (read_item before.now) plans.now (lines_in left.now)) }
 {
-    let mut items = Vec::with_capacity(alloc, plans.len())?;
+    let mut items = spare.room(alloc, plans.len())?;
     let mut left = left;
     for plan in plans {
         let (item, rest) = read_item(alloc, before, plan, left)?;
@@ -231,14 +257,15 @@ fn read_data<'a>(
 #[cycle(groups)]
 fn read_block<'a>(
     alloc: Global,
+    spare: &mut Spare,
     before: &[u8],
     plan: &BlockPlan,
     left: &'a [u8],
 ) -> Result<(Block, &'a [u8]), Refusal>
     ensures { Gives (λ x. (entry_of x.0, lines_in x.1.now)) result (read_elements before.now plan.now.items (read_groups before.now plan.now.groups) plan.now.vars (lines_in left.now)) }
 {
-    let (items, left) = read_items(alloc, before, plan.items.as_slice(), left)?;
-    let (groups, left) = read_groups(alloc, before, plan.groups.as_slice(), left)?;
+    let (items, left) = read_items(alloc, spare, before, plan.items.as_slice(), left)?;
+    let (groups, left) = read_groups(alloc, spare, before, plan.groups.as_slice(), left)?;
     let (vars, left) = read_data(alloc, before, plan.vars.as_slice(), left)?;
     Ok((
         Block {
@@ -253,6 +280,7 @@ fn read_block<'a>(
 #[cycle(groups)]
 fn read_groups<'a>(
     alloc: Global,
+    spare: &mut Spare,
     before: &[u8],
     plans: &[GroupPlan],
     left: &'a [u8],
@@ -262,7 +290,7 @@ fn read_groups<'a>(
     let mut groups = Vec::with_capacity(alloc, plans.len())?;
     let mut left = left;
     for plan in plans {
-        let (group, rest) = read_group(alloc, before, plan, left)?;
+        let (group, rest) = read_group(alloc, spare, before, plan, left)?;
         groups.push(group)?;
         left = rest;
     }
@@ -273,6 +301,7 @@ fn read_groups<'a>(
 #[cycle(groups)]
 fn read_group<'a>(
     alloc: Global,
+    spare: &mut Spare,
     before: &[u8],
     plan: &GroupPlan,
     left: &'a [u8],
@@ -284,7 +313,7 @@ fn read_group<'a>(
         None => Err(refused(left)),
         Some(Count::Absent) => Ok((Group::Absent, rest)),
         Some(Count::Entries(count)) => {
-            let (entries, rest) = read_entries(alloc, before, plan, count, rest)?;
+            let (entries, rest) = read_entries(alloc, spare, before, plan, count, rest)?;
             Ok((Group::Entries(Blocks::from(entries)), rest))
         }
     }
@@ -294,6 +323,7 @@ fn read_group<'a>(
 #[cycle(groups)]
 fn read_entries<'a>(
     alloc: Global,
+    spare: &mut Spare,
     before: &[u8],
     plan: &GroupPlan,
     count: u128,
@@ -306,7 +336,7 @@ fn read_entries<'a>(
     let mut left = left;
     for at in 0..count {
         begin_names(before, plan, at, &mut inner)?;
-        let (entry, rest) = read_block(alloc, inner.as_slice(), &plan.block, left)?;
+        let (entry, rest) = read_block(alloc, spare, inner.as_slice(), &plan.block, left)?;
         entries.push(entry)?;
         left = rest;
     }

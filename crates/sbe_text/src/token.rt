@@ -231,9 +231,32 @@ fn are_digits(text: &[u8]) -> bool
     true
 }
 
-// The number of decimal digits, where 128 bits hold it.
-#[tactic(auto, using(crate::proofs::Numerals::digits_grow, crate::proofs::Numerals::digits_next, crate::proofs::Numerals::digits_left))]
+// The number of decimal digits, where 128 bits hold it. Most are held by 64 bits, whose digits cost a part of the others'.
 fn digits_value(digits: &[u8]) -> Option<u128>
+    requires { are_digits digits.now ≡ true }
+    ensures { result ≡ (if nat_le (digits_value 10 digits.now) (2 ^ 128 - 1) then Some (digits_value 10 digits.now) else None) }
+{
+    match short_value(digits) {
+        Some(number) => Some(u128::from(number)),
+        None => long_value(digits),
+    }
+}
+
+#[tactic(auto, using(crate::proofs::Numerals::digits_grow, crate::proofs::Numerals::digits_next, crate::proofs::Numerals::digits_left))]
+fn short_value(digits: &[u8]) -> Option<u64>
+    requires { are_digits digits.now ≡ true }
+    ensures { result ≡ (if nat_le (digits_value 10 digits.now) (2 ^ 64 - 1) then Some (digits_value 10 digits.now) else None) }
+{
+    let mut number = 0u64;
+    for digit in digits {
+        let value = u64::from(digit.saturating_sub(b'0'));
+        number = number.checked_mul(10)?.checked_add(value)?;
+    }
+    Some(number)
+}
+
+#[tactic(auto, using(crate::proofs::Numerals::digits_grow, crate::proofs::Numerals::digits_next, crate::proofs::Numerals::digits_left))]
+fn long_value(digits: &[u8]) -> Option<u128>
     requires { are_digits digits.now ≡ true }
     ensures { result ≡ (if nat_le (digits_value 10 digits.now) (2 ^ 128 - 1) then Some (digits_value 10 digits.now) else None) }
 {

@@ -1,7 +1,7 @@
 use Rattle.std.proofs.Common.{◌≡◌, ◌∙◌, ◌-◌, ◌^◌, sym, arith}
 use Rattle.std.specs.Str.Parse.{digits_value}
 use Rattle.sbe_text.proofs.Numerals.{digits_done, held_number}
-use Rattle.sbe_text.proofs.token.digits_value.Goals as goal
+use Rattle.sbe_text.proofs.token.long_value.Goals as goal
 
 pub returns : goal.returns
 returns c =

@@ -1,7 +1,7 @@
 use Rattle.std.proofs.Common.{◌≡◌, ◌≤◌, ◌-◌, ◌^◌, true, drop}
 use Rattle.std.specs.Str.Parse.{digits_value_after, digits_value}
 use Rattle.sbe_text.specs.Tokens.{are_digits}
-use Rattle.sbe_text.proofs.token.digits_value.Given as goal
+use Rattle.sbe_text.proofs.token.long_value.Given as goal
 
 -- the digits that are left, behind the number so far, are those of the whole
 abbrev pub invariant-loop-digit : goal.invariant-loop-digit
