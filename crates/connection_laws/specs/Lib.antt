@@ -1,0 +1,4 @@
+pub mod Writing
+pub mod Courses
+pub mod Standing
+pub mod Connections
