@@ -1,5 +1,5 @@
 -- What an end writes on a connection: its session messages and entries of its outbox, and what these carry of its own flow.
-use Rattle.std.specs.Prelude.{◌≡◌, ℕ, ◌+◌, ◌≤◌, ◌||◌, Bool, true, false, if◌then◌else◌, List, [], ◌∷◌, ◌++◌, map, length, Option, Some, None, option_to_list, is_some, IsTrue}
+use Rattle.std.specs.Prelude.{◌≡◌, ℕ, ◌+◌, ◌≤◌, ◌||◌, Bool, true, false, if◌then◌else◌, List, [], ◌∷◌, ◌++◌, map, length, Option, Some, None, option_to_list, is_some, IsSome, IsTrue}
 use Rattle.std.specs.List.{flat_map}
 use Rattle.session_model.specs.Inbox.{Range}
 use Rattle.session_model.specs.Events.{Event, announce, handshake, in_flow, BeginsWithHandshake}
@@ -130,10 +130,11 @@ pub data WritesOwn (x : Around) (f : Facts) (o : Outcome) : Type 0 where
   shakes : Shakes x f o → WritesOwn x f o
   resends : Resends x f o → WritesOwn x f o
 
--- before the handshake is done nothing is heard of the peer's flow but its announcement, which ends the handshake
+-- Before the handshake is done nothing is heard of the peer's flow but its announcement, and with that the handshake is done
 pub record HearsHandshake (f : Facts) (i : Incoming) (o : Outcome) : Type 0 where
   pub opens : IsTrue o.accepted → is_shaken f.connection.phase ≡ false → BeginsWithHandshake (option_to_list (event_of i))
   pub unheard : IsTrue o.accepted → is_shaken o.next.connection.phase ≡ false → event_of i ≡ None
+  pub done : is_shaken f.connection.phase ≡ false → is_shaken o.next.connection.phase ≡ true → IsTrue o.accepted × IsSome (event_of i)
 
 abbrev pub FrameWrites : Type 0
 FrameWrites = (x : Around) (f : Facts) (i : Incoming) → WritesOwn x f (reply_of x f i)

@@ -1,13 +1,8 @@
-// A library with one function.
+//! Laws of a connection: over any list of calls of a session machine, what is applied of the peer's flow, what is written of the
+//! own one, and what is told. Each function has an empty body; its clause is a statement about the definitions that the
+//! machine's code meets.
 #![tactic(auto)]
 
-ghost use Rattle.std.specs.Prelude.{◌≡◌};
-ghost use Rattle.connection_laws.specs.Echo.{echo_of};
+mod replying;
 
-// The `ensures` clause is the contract: what `echo` returns is `echo_of` of its argument, a definition
-// in `specs/Echo.antt`, which a caller's clause can cite too.
-pub fn echo(x: usize) -> usize
-    ensures { result ≡ echo_of x }
-{
-    x
-}
+pub use replying::{frame_hears, frame_writes};

@@ -44,6 +44,7 @@ use Rattle.fixp_replies.specs.Handshake.{awaits_client, serves_client, establish
 use Rattle.fixp_replies.specs.Flowing.{bad_retransmission, counted, taken_as, finish_act, peer_finished, answers_finish, is_filled, is_past_finish, sequence_taken, sequence_follows, restarted, finished_last, finish_fault, finished}
 use Rattle.fixp_replies.specs.Serving.{request_answered, own_finishing}
 use Rattle.fixp_replies.specs.Replies.{reply_of, template_of, of_session, rows_of, answer_of, terminates}
+use Rattle.reply_laws.proofs.Calls.{begun_as}
 use Rattle.reply_laws.proofs.Rows.{AllRows, by_row, all_rows, all_within, announced_rows, own_rows}
 use Rattle.reply_laws.proofs.Tests.{not_true, not_false, none-some, delivers, passes}
 use Rattle.growth_laws.specs.Accepting.{model_flow, records_of, event_of, next_message, AsksNothing, Agrees, GrowsBy, told_in, AcceptedFrameGrows, RefusedFrameSpares, FrameTells, BeginsAgreeing, turn_end, outbox_finish, live, again, OwnKeepsAgreeing}
@@ -85,10 +86,10 @@ refusing flow c inbox i x f a None = refused flow c inbox i (refuses x f None) r
 refusing flow c inbox i x f a (Some v) = refused flow c inbox i (refuses x f (Some v)) refl refl refl a
 
 -- phases
-is_done : (p : Phase) → is_established p ≡ true → is_shaken p ≡ true
+pub is_done : (p : Phase) → is_established p ≡ true → is_shaken p ≡ true
 is_done p e = ap (λ b. b || is_closing p) e
 
-not_negotiated : (p : Phase) → is_negotiating p ≡ true → is_shaken p ≡ false
+pub not_negotiated : (p : Phase) → is_negotiating p ≡ true → is_shaken p ≡ false
 not_negotiated phases.Idle e = absurd (true≢false (sym e))
 not_negotiated phases.Negotiating e = refl
 not_negotiated phases.Establishing e = absurd (true≢false (sym e))
@@ -96,7 +97,7 @@ not_negotiated phases.Established e = absurd (true≢false (sym e))
 not_negotiated phases.Closing e = absurd (true≢false (sym e))
 not_negotiated phases.Ended e = absurd (true≢false (sym e))
 
-not_established : (p : Phase) → is_establishing p ≡ true → is_shaken p ≡ false
+pub not_established : (p : Phase) → is_establishing p ≡ true → is_shaken p ≡ false
 not_established phases.Idle e = absurd (true≢false (sym e))
 not_established phases.Negotiating e = absurd (true≢false (sym e))
 not_established phases.Establishing e = refl
@@ -526,12 +527,6 @@ refused_frame_spares x f i c inbox a t = (leaves x f i c inbox a).spares t
 
 pub frame_tells : FrameTells
 frame_tells x f i c inbox a = (leaves x f i c inbox a).tells
-
-abbrev begun_as : Around → EndState → (initiates negotiated : Bool) → Made
-begun_as x recorded initiates negotiated =
-    if not initiates then record { written = []; next = connecting recorded phases.Idle }
-    else if negotiated then record { written = opening_establish x (connecting recorded phases.Establishing) ∷ []; next = connecting recorded phases.Establishing }
-    else record { written = opening_negotiate x ∷ []; next = connecting recorded phases.Negotiating }
 
 -- a connection begins with nothing announced, and nothing asked for
 pub begins_agreeing : BeginsAgreeing

@@ -1,0 +1,4 @@
+pub mod Replied
+pub mod Owned
+pub mod Going
+pub mod Lived
