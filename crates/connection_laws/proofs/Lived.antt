@@ -25,10 +25,10 @@ use Rattle.fixp_shake.specs.Flows.{is_sequenced, is_absent}
 use Rattle.fixp_replies.specs.Acts.{is_record}
 use Rattle.growth_laws.specs.Accepting.{model_flow, payload_in, records_of}
 use Rattle.connection_laws.specs.Writing.{Piece, events_written, ranges_told}
-use Rattle.connection_laws.specs.Courses.{Waiting, Course, inbox_of, reply_to, accepted_by}
+use Rattle.connection_laws.specs.Courses.{Waiting, Course, inbox_of, beginning, reply_to, accepted_by, course_after, Continues}
 use Rattle.connection_laws.specs.Standing.{OwnFlow, Stands}
-use Rattle.connection_laws.specs.Connections.{WasTaken, connection_of, served_by, refused_by, OpenedBefore, ConnectionKept, RefusedKept, sent_part, WritingGoesOn, PartIsWritten}
-use Rattle.connection_laws.proofs.Going.{begins_behind, waiting_grows}
+use Rattle.connection_laws.specs.Connections.{WasTaken, connection_of, served_by, refused_by, OpenedBefore, ConnectionKept, RefusedKept, ConnectionServes, sent_part, WritingGoesOn, PartIsWritten}
+use Rattle.connection_laws.proofs.Going.{begins_behind, waiting_grows, calls_go_on, calls_keep, connection_begins}
 
 -- the events of the first frames are the first events
 first_written : (whole output : List Piece) → IsPrefix whole output → IsPrefix (events_written whole) (events_written output)
@@ -188,3 +188,14 @@ part_is_written model.recoverable opened h n written w = w
 part_is_written model.idempotent opened h n written w = w
 part_is_written model.unsequenced opened h n written w = rising_stays_rising (take n h) h (length opened) (flat_map messages written) (prefix_take n h) w
 part_is_written model.no_flow opened h n written w = w
+
+pub connection_serves : ConnectionServes
+connection_serves opened h s inbox now calls whole drained next enough low all t =
+    let d : Course = course_after c calls in
+    let k : Continues c d = calls_go_on h c calls all in
+    subst (λ cfg. KeepsConnections (model_flow cfg.own_flow) (model_flow cfg.peer_flow) opened h (served_by d whole drained)) k.config
+    (connection_kept opened h d whole drained (calls_keep h c calls (connection_begins h s inbox now next enough) all)
+    (λ u. subst (λ n. length opened ≤ n) (sym k.sent_before) (low (ap (λ cfg. cfg.own_flow) (sym k.config) ∙ u))) t)
+  where
+    c : Course
+    c = beginning s inbox now

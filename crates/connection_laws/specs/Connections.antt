@@ -2,14 +2,16 @@
 use Rattle.std.specs.Prelude.{◌≡◌, ℕ, ◌≤◌, Bool, true, List, [], ◌∷◌, ◌++◌, length, take, Some}
 use mathlib.Core.List.{IsPrefix}
 use Rattle.session_model.specs.Journal.{Entry}
+use Rattle.session_model.specs.Inbox.{InboxRecord, next_number}
 use Rattle.session_model.specs.Events.{Event}
 use Rattle.session_model.specs.Growth as model
 use Rattle.session_model.specs.Lives.{Connection, Served, Writes, KeepsConnections}
 use Rattle.fixp_msgs.specs.declared.flow.Flow.TheVariants as flows
+use Rattle.reply_laws.specs.Machine.{State, Call}
 use Rattle.growth_laws.specs.Accepting.{model_flow, records_of}
 use Rattle.connection_laws.specs.Writing.{Piece, events_written, ranges_told}
-use Rattle.connection_laws.specs.Courses.{Waiting, Course, inbox_of, reply_to, accepted_by}
-use Rattle.connection_laws.specs.Standing.{Stands}
+use Rattle.connection_laws.specs.Courses.{Waiting, Course, inbox_of, beginning, reply_to, accepted_by, course_after}
+use Rattle.connection_laws.specs.Standing.{Stands, AllMayStand}
 
 -- of the frames written the link took these whole, the first of them; it took all, where the connection is drained
 pub record WasTaken (c : Course) (whole : List Piece) (drained : Bool) : Type 0 where
@@ -55,6 +57,14 @@ abbrev pub RefusedKept : Type 0
 RefusedKept = (opened h : List Entry) (c : Course) (w : Waiting) (whole : List Piece) (drained : Bool)
     → Stands h c → c.waiting ≡ Some w → OpenedBefore c opened → WasTaken c whole drained
     → KeepsConnections (model_flow c.state.config.own_flow) (model_flow c.state.config.peer_flow) opened h (refused_by c w whole drained)
+
+-- So whatever calls come on a connection from its beginning on, where each may come, it is one that a life may have served
+abbrev pub ConnectionServes : Type 0
+ConnectionServes = (opened h : List Entry) (s : State) (inbox : List InboxRecord) (now : ℕ) (calls : List Call) (whole : List Piece) (drained : Bool)
+    → s.facts.recorded.inbox_next ≡ next_number inbox → s.facts.recorded.sent ≤ length h
+    → (s.config.own_flow ≡ flows.Unsequenced → length opened ≤ s.facts.recorded.sent)
+    → AllMayStand h (beginning s inbox now) calls → WasTaken (course_after (beginning s inbox now) calls) whole drained
+    → KeepsConnections (model_flow s.config.own_flow) (model_flow s.config.peer_flow) opened h (served_by (course_after (beginning s inbox now) calls) whole drained)
 
 -- the entries in which what was written of a flow stands, where so many were sent: on a flow without numbers those alone
 abbrev pub sent_part : model.Flow → ℕ → List Entry → List Entry

@@ -1,5 +1,6 @@
 -- How a connection goes over the calls of its end: what is accepted of the peer's flow, what is added to the inbox, what is written.
 use Rattle.std.specs.Prelude.{◌≡◌, ℕ, Bool, true, false, if◌then◌else◌, List, [], ◌∷◌, ◌++◌, take, Option, Some, None, option_to_list}
+use mathlib.Core.List.{IsPrefix}
 use Rattle.session_model.specs.Inbox.{InboxRecord}
 use Rattle.session_model.specs.Events.{Event}
 use Rattle.fixp_replies.specs.Acts.{is_record}
@@ -89,6 +90,16 @@ next_course c call = called c call
 abbrev pub course_after : Course → List Call → Course
 course_after c [] = c
 course_after c (call ∷ later) = course_after (next_course c call) later
+
+-- what a connection has come to begins what it comes to later: it goes on from the same beginning, with the same configuration
+pub record Continues (c d : Course) : Type 0 where
+  pub config : d.state.config ≡ c.state.config
+  pub start : d.start ≡ c.start
+  pub sent_before : d.sent_before ≡ c.sent_before
+  pub accepted : IsPrefix c.accepted d.accepted
+  pub added : IsPrefix c.added d.added
+  pub output : IsPrefix c.output d.output
+  pub taken : IsPrefix c.taken d.taken
 
 -- a connection has come to the state to which the calls bring the machine
 abbrev pub StateIsRun : Type 0

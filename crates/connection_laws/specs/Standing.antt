@@ -16,7 +16,7 @@ use Rattle.fixp_replies.specs.Acts.{is_record}
 use Rattle.reply_laws.specs.Machine.{State, Call, begin, frame, bad_frame, did, tick, turn_done, closed, link_end, live, again, taken, reserve, MayCall}
 use Rattle.growth_laws.specs.Accepting.{model_flow, records_of, Agrees}
 use Rattle.connection_laws.specs.Writing.{bytes_written, events_written, ranges_told, writes, is_reached}
-use Rattle.connection_laws.specs.Courses.{Waiting, Course, inbox_of, beginning, reply_to, accepted_by, next_course, course_after}
+use Rattle.connection_laws.specs.Courses.{Waiting, Course, inbox_of, beginning, reply_to, accepted_by, next_course, course_after, Continues}
 
 -- the number that the own flow announces: the next live one; a flow without numbers has none
 abbrev pub number_told : Flow → Facts → Option ℕ
@@ -132,6 +132,10 @@ CallKeeps = (h : List Entry) (c : Course) (call : Call) → Stands h c → MaySt
 -- and so does any list of calls
 abbrev pub CallsKeep : Type 0
 CallsKeep = (h : List Entry) (c : Course) (calls : List Call) → Stands h c → AllMayStand h c calls → Stands h (course_after c calls)
+
+-- what it has come to goes on
+abbrev pub CallsGoOn : Type 0
+CallsGoOn = (h : List Entry) (c : Course) (calls : List Call) → AllMayStand h c calls → Continues c (course_after c calls)
 
 -- it stands over any outbox that begins with these entries
 abbrev pub StandsLonger : Type 0
