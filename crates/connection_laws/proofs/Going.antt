@@ -1,22 +1,17 @@
 -- A connection that begins stands, and each call that may come on it keeps it standing.
-use Rattle.std.proofs.Common.{◌≡◌, ℕ, ◌+◌, ◌-◌, ◌≤◌, ◌<◌, ◌==◌, ◌&&◌, ◌||◌, nat_lt, not, Bool, true, false, if◌then◌else◌, IsTrue, IfSome, IsSome, List, [], ◌∷◌, ◌++◌, map, length, take, drop, Option, Some, None, option_map, option_to_list, refl, sym, ap, subst, ◌∙◌, arith, append-nil, append_assoc, length-append, eqb-true, true≢false}
+use Rattle.std.proofs.Common.{◌≡◌, ℕ, ◌+◌, ◌-◌, ◌≤◌, ◌==◌, ◌&&◌, ◌||◌, Bool, true, false, if◌then◌else◌, IsTrue, IfSome, IsSome, List, [], ◌∷◌, ◌++◌, map, length, take, drop, Option, Some, None, option_map, option_to_list, refl, sym, ap, subst, ◌∙◌, arith, append-nil, append_assoc, length-append, true≢false}
 use Rattle.std.specs.Prelude.{is_none, is_some}
-use Rattle.std.specs.List.{AllByRecursion, flat_map}
-use Rattle.std.proofs.lemmas.Bool.Decides.{nat_tests}
 use Rattle.std.proofs.lemmas.Grind.{flat_map-append}
 use Rattle.std.proofs.lemmas.List.{take-append-drop}
-use mathlib.Core.List.{IsPrefix}
 use Rattle.session_model.specs.Journal.{Entry}
-use Rattle.session_model.specs.Inbox.{InboxRecord, applied, skips, next_number}
-use Rattle.session_model.specs.Events.{Event, announce, handshake, in_flow, message, standing, BeginsWithHandshake}
+use Rattle.session_model.specs.Inbox.{InboxRecord, applied, skips}
+use Rattle.session_model.specs.Events.{Event, announce, in_flow, message, standing, BeginsWithHandshake}
 use Rattle.session_model.specs.Growth.{Grown}
 use Rattle.session_model.proofs.Inboxes.{skips-append}
-use Rattle.session_model.proofs.Lists.{prefix_trans}
 use Rattle.session_model.proofs.Numbering.{standing-append}
 use Rattle.session_model.proofs.Through.{growth_goes_on}
 use Rattle.fixp_msgs.specs.Canonical.{frame_bytes}
 use Rattle.fixp_msgs.specs.Message.{Message, sequence, unsequenced_heartbeat, finished_sending, terminate}
-use Rattle.fixp_msgs.specs.Numbering.{announcement_of}
 use Rattle.fixp_msgs.specs.declared.flow.Flow.{Flow}
 use Rattle.fixp_msgs.specs.declared.flow.Flow.TheVariants as flows
 use Rattle.fixp_msgs.specs.declared.numbering.Range.{Range}
@@ -29,49 +24,25 @@ use Rattle.fixp_shake.specs.Phases.{is_establishing, is_established, is_shaken}
 use Rattle.fixp_replies.specs.declared.facts.EndState.{EndState}
 use Rattle.fixp_replies.specs.declared.facts.Facts.{Facts}
 use Rattle.fixp_replies.specs.Acts.{is_record}
-use Rattle.fixp_replies.specs.Events.{Made, begun, heartbeat, heartbeats, is_due, lateness, applied_runs, turn_ended, closes, outbox_finished, tells_finish, finish_told, link_ending}
+use Rattle.fixp_replies.specs.Events.{Made, begun, heartbeat, heartbeats, is_due, lateness, applied_runs, turn_ended, outbox_finished, tells_finish, finish_told, link_ending}
 use Rattle.fixp_replies.specs.Facts.{Around, is_initiator, connecting, in_phase, serves, finishes_exchanged}
 use Rattle.fixp_replies.specs.Incoming.{Incoming}
 use Rattle.fixp_replies.specs.Serving.{own_finishing}
 use Rattle.fixp_replies.specs.declared.facts.OwnFinish.TheVariants as finishes
-use Rattle.fixp_replies.specs.Outcomes.{Outcome, breaks}
-use Rattle.fixp_replies.specs.Replies.{reply_of, reply_to_bad_frame}
-use Rattle.reply_laws.specs.Machine.{State, Call, begin, frame, bad_frame, did, tick, turn_done, closed, link_end, live, again, taken, reserve, around, bytes_of, wrote, made, connected, reply_applied, after_frame, after_bad_frame, after_act, broken_by, ticked, after_turn, after_closed, link_ended, payload_frame, payload_frames, counted_sent, sent_live, rest_of, range_end, sent_again, done_pending, served_again, step, run}
+use Rattle.fixp_replies.specs.Outcomes.{Outcome}
+use Rattle.fixp_replies.specs.Replies.{reply_to_bad_frame}
+use Rattle.reply_laws.specs.Machine.{State, begin, frame, bad_frame, did, tick, turn_done, closed, link_end, live, again, taken, reserve, around, bytes_of, wrote, made, reply_applied, after_bad_frame, after_act, broken_by, ticked, after_turn, after_closed, link_ended, payload_frames, counted_sent, sent_live, rest_of, range_end, sent_again, done_pending, served_again}
 use Rattle.reply_laws.proofs.Calls.{begun_as}
 use Rattle.growth_laws.specs.Accepting as accepting
 use Rattle.growth_laws.specs.Accepting.{model_flow, event_of, records_of, Agrees, GrowsBy, told_in, turn_end, outbox_finish}
 use Rattle.growth_laws.proofs.Growing.{quiet_grows, unmoved}
 use Rattle.growth_laws.proofs.Accepted.{accepted_frame_grows, refused_frame_spares, frame_tells, begins_agreeing, own_keeps_agreeing, alike, is_done}
-use Rattle.connection_laws.specs.Writing.{events_in, writes, written_again, said_with, Piece, said, said_all, entries, bytes_written, events_written, ranges_told, said_breaking, range_closed, is_reached, SameOwn, nothing, shakes, resends, WritesOwn, HearsHandshake}
-use Rattle.connection_laws.specs.Courses.{Waiting, Course, inbox_of, beginning, reply_to, accepted_by, still_waiting, counting, called, next_framed, next_done, next_course, course_after, Continues, StateIsRun}
-use Rattle.connection_laws.specs.Standing.{number_told, next_written, number_at, OwnFlow, Stands, AreEntries, IsOpen, MayGoLive, MayGoAgain, MayStand, AllMayStand, ConnectionBegins, CallKeeps, CallsKeep, CallsGoOn, StandsLonger, WaitingGrows}
+use Rattle.connection_laws.specs.Writing.{events_in, written_again, said_with, Piece, said, said_all, entries, bytes_written, events_written, ranges_told, said_breaking, range_closed, is_reached, SameOwn, nothing, shakes, resends, WritesOwn, HearsHandshake}
+use Rattle.connection_laws.specs.Courses.{Waiting, Course, inbox_of, reply_to, accepted_by, still_waiting, next_done, next_course}
+use Rattle.connection_laws.specs.Standing.{number_at, OwnFlow, Stands, AreEntries, IsOpen, MayGoLive, MayGoAgain, ConnectionBegins, CallKeeps, CallsKeep, StandsLonger, WaitingGrows}
 use Rattle.connection_laws.proofs.Replied.{still_own, frame_writes, frame_hears}
 use Rattle.connection_laws.proofs.Owned.{stays_own, shakes_own, announces_own, replies_own, entries_reach, entries_own, longer_own}
-
--- what session messages and entries say, as pieces
-bytes_said : (ms : List Message) → bytes_written (said_all ms) ≡ bytes_of ms
-bytes_said [] = refl
-bytes_said (m ∷ ms) = ap (λ bs. frame_bytes m ++ bs) (bytes_said ms)
-
-events_said : (ms : List Message) → events_written (said_all ms) ≡ events_in ms
-events_said [] = refl
-events_said (m ∷ ms) = ap (λ es. option_to_list (announcement_of m) ++ es) (events_said ms)
-
-told_said : (ms : List Message) → ranges_told (said_all ms) ≡ told_in ms
-told_said [] = refl
-told_said (m ∷ ms) = ap (λ rs. accepting.told_by m ++ rs) (told_said ms)
-
-bytes_entries : (ps : List (List ℕ)) → bytes_written (entries ps) ≡ payload_frames ps
-bytes_entries [] = refl
-bytes_entries (p ∷ ps) = ap (λ bs. payload_frame p ++ bs) (bytes_entries ps)
-
-events_entries : (ps : List (List ℕ)) → events_written (entries ps) ≡ map message ps
-events_entries [] = refl
-events_entries (p ∷ ps) = ap (λ es. message p ∷ es) (events_entries ps)
-
-told_entries : (ps : List (List ℕ)) → ranges_told (entries ps) ≡ []
-told_entries [] = refl
-told_entries (p ∷ ps) = told_entries ps
+use Rattle.connection_laws.proofs.Pieces.{bytes_said, events_said, told_said, bytes_entries, events_entries, told_entries}
 
 -- the frame that waits stays, where its outcome stays pending
 waits_still : (p : Option Outcome) (w : Option Waiting) (f : Waiting → Outcome) → p ≡ option_map f w → p ≡ option_map f (still_waiting p w)
@@ -262,15 +233,15 @@ framed h c incoming at now st open_now = by_test (is_record o.act) refl
     pended = record c.state { moment = now; last_received = now; room = c.state.room - 1; pending = Some o }
 
     by_test : (b : Bool) → is_record o.act ≡ b → Stands h (
-      if b then record c { state = if b then pended else reply_applied got o now; waiting = Some w; output = c.output ++ (if b then [] else said_all o.written) }
-      else record c {
-        state = if b then pended else reply_applied got o now;
-        accepted = c.accepted ++ accepted_by o incoming;
-        added = c.added ++ records_of o.act incoming;
-        waiting = None;
-        output = c.output ++ (if b then [] else said_all o.written);
-      }
-    )
+        if b then record c { state = if b then pended else reply_applied got o now; waiting = Some w; output = c.output ++ (if b then [] else said_all o.written) }
+        else record c {
+          state = if b then pended else reply_applied got o now;
+          accepted = c.accepted ++ accepted_by o incoming;
+          added = c.added ++ records_of o.act incoming;
+          waiting = None;
+          output = c.output ++ (if b then [] else said_all o.written);
+        }
+        )
     by_test true e = moved h c pended (Some w) [] st (record {
       config = refl;
       begun = open_now.begun;
@@ -500,9 +471,9 @@ turns_quietly : (x : Around) (f : Facts) (runs : List Range) → Quiet f (turn_e
 turns_quietly x f runs = by_test (is_initiator x.config.role) (is_established f.connection.phase) (finishes_exchanged x f) (is_none f.connection.serving) refl
   where
     by_closing : (b : Bool) → (b ≡ true → is_established f.connection.phase ≡ true) → Quiet f (
-      if b then record { written = applied_runs runs ++ terminate x.config.session 1 [] ∷ []; next = in_phase f phases.Closing }
-      else record { written = applied_runs runs; next = f }
-    )
+        if b then record { written = applied_runs runs ++ terminate x.config.session 1 [] ∷ []; next = in_phase f phases.Closing }
+        else record { written = applied_runs runs; next = f }
+        )
     by_closing true e =
         let q = applied_quietly runs in record {
           own = record { sent = refl; serving = refl; stays = λ _. refl; reached = λ _. or_right (is_establishing f.connection.phase) (is_shaken f.connection.phase) (is_done f.connection.phase (e refl)) };
@@ -517,9 +488,9 @@ turns_quietly x f runs = by_test (is_initiator x.config.role) (is_established f.
     by_closing false e = let q = applied_quietly runs in record { own = still_own f; same = refl; events = q.0; told = q.1 }
 
     by_test : (i e d n : Bool) → is_established f.connection.phase ≡ e → Quiet f (
-      if i && e && d && n then record { written = applied_runs runs ++ terminate x.config.session 1 [] ∷ []; next = in_phase f phases.Closing }
-      else record { written = applied_runs runs; next = f }
-    )
+        if i && e && d && n then record { written = applied_runs runs ++ terminate x.config.session 1 [] ∷ []; next = in_phase f phases.Closing }
+        else record { written = applied_runs runs; next = f }
+        )
     by_test true true d n t = by_closing _ (λ _. t)
     by_test true false d n t = by_closing false (λ k. absurd (true≢false (sym k)))
     by_test false e d n t = by_closing false (λ k. absurd (true≢false (sym k)))
@@ -528,10 +499,10 @@ finishes_quietly : (x : Around) (f : Facts) (last : ℕ) → Quiet f (finish_tol
 finishes_quietly x f last = by_test (tells_finish x f last)
   where
     by_test : (b : Bool) → Quiet f (
-      if b
-      then record { written = finished_sending x.config.session (if is_sequenced x.config.own_flow then Some last else None) ∷ []; next = own_finishing (outbox_finished f last) finishes.Told }
-      else record { written = []; next = outbox_finished f last }
-    )
+        if b
+        then record { written = finished_sending x.config.session (if is_sequenced x.config.own_flow then Some last else None) ∷ []; next = own_finishing (outbox_finished f last) finishes.Told }
+        else record { written = []; next = outbox_finished f last }
+        )
     by_test true = record { own = record { sent = refl; serving = refl; stays = λ t. t; reached = λ t. t }; same = refl; events = refl; told = refl }
     by_test false = record { own = record { sent = refl; serving = refl; stays = λ t. t; reached = λ t. t }; same = refl; events = refl; told = refl }
 
@@ -793,167 +764,3 @@ pub waiting_grows : WaitingGrows
 waiting_grows h c w st e =
     growth_goes_on (model_flow c.state.config.peer_flow) None c.accepted (accepted_by (reply_to c.state w) w.incoming) c.start (inbox_of c) (inbox_of c ++ records_of (reply_to c.state w).act w.incoming) st.grown
     (frame_grows c.state w (standing None c.accepted) (inbox_of c) st.agrees).grown
-
-pub state_is_run : StateIsRun
-state_is_run c [] = refl
-state_is_run c (call ∷ later) = state_is_run (next_course c call) later ∙ ap (λ s. run s later) (stepped call)
-  where
-    by_record : (b : Bool) (first second : Course) (s : State) → first.state ≡ s → second.state ≡ s → (if b then first else second).state ≡ s
-    by_record true first second s e f = e
-    by_record false first second s e f = f
-
-    by_pending : (p : Option Outcome) (w : Option Waiting) (k : Course) → (next_done k p w).state ≡ k.state
-    by_pending None w k = refl
-    by_pending (Some o) None k = refl
-    by_pending (Some o) (Some w) k = refl
-
-    stepped : (k : Call) → (next_course c k).state ≡ step c.state k
-    stepped (begin now) = refl
-    stepped (frame incoming at now) = by_record (is_record (reply_of (around c.state at now) c.state.facts incoming).act) _ _ (step c.state (frame incoming at now)) refl refl
-    stepped (bad_frame at now) = refl
-    stepped (did now) = by_pending c.state.pending c.waiting _
-    stepped (tick now) = refl
-    stepped (turn_done now) = refl
-    stepped (closed last now) = refl
-    stepped link_end = refl
-    stepped (live ps now) = refl
-    stepped (again ps now) = refl
-    stepped (taken count) = refl
-    stepped reserve = refl
-
--- what a call adds is behind what was there
-begins_same : {A : Type 0} (xs : List A) → IsPrefix xs xs
-begins_same xs = ([], append-nil xs)
-
-begins_with : {A : Type 0} (xs ys : List A) → IsPrefix xs (xs ++ ys)
-begins_with xs ys = (ys, refl)
-
-continues_same : (c : Course) → Continues c c
-continues_same c = record { config = refl; start = refl; sent_before = refl; accepted = begins_same c.accepted; added = begins_same c.added; output = begins_same c.output; taken = begins_same c.taken }
-
-continues_on : (b c d : Course) → Continues b c → Continues c d → Continues b d
-continues_on b c d p q = record {
-  config = q.config ∙ p.config;
-  start = q.start ∙ p.start;
-  sent_before = q.sent_before ∙ p.sent_before;
-  accepted = prefix_trans b.accepted c.accepted d.accepted p.accepted q.accepted;
-  added = prefix_trans b.added c.added d.added p.added q.added;
-  output = prefix_trans b.output c.output d.output p.output q.output;
-  taken = prefix_trans b.taken c.taken d.taken p.taken q.taken;
-}
-
--- the configuration stays at each call
-same_config : (s : State) (call : Call) → (step s call).config ≡ s.config
-same_config s (begin now) = refl
-same_config s (frame incoming at now) = by_record (is_record (reply_of (around s at now) s.facts incoming).act)
-  where
-    by_record : (b : Bool) → (
-      if b then record s { moment = now; last_received = now; room = s.room - 1; pending = Some (reply_of (around s at now) s.facts incoming) }
-      else reply_applied (record s { moment = now; last_received = now; room = s.room - 1 }) (reply_of (around s at now) s.facts incoming) now
-    ).config ≡ s.config
-    by_record true = refl
-    by_record false = refl
-same_config s (bad_frame at now) = refl
-same_config s (did now) = by_pending s.pending
-  where
-    by_pending : (p : Option Outcome) → (done_pending s p now).config ≡ s.config
-    by_pending None = refl
-    by_pending (Some o) = refl
-same_config s (tick now) = by_test (is_some s.ending) (lateness (around s 0 now) s.facts s.start s.last_received)
-  where
-    beat : State
-    beat = wrote (record s { moment = now }) (bytes_of (heartbeats (around s 0 now) s.facts s.last_sent s.unsent)) now
-
-    by_test : (b : Bool) (v : Option Violation) → (if b then record s { moment = now } else broken_by beat v now).config ≡ s.config
-    by_test true v = refl
-    by_test false None = refl
-    by_test false (Some v) = refl
-same_config s (turn_done now) = by_test (is_some s.ending)
-  where
-    by_test : (b : Bool) → (if b then record s { moment = now } else record (made (record s { moment = now }) (turn_ended (around s 0 now) s.facts (runs_of s.untold)) now) { untold = [] }).config ≡ s.config
-    by_test true = refl
-    by_test false = refl
-same_config s (closed last now) = by_test (is_some s.ending)
-  where
-    by_test : (b : Bool) → (if b then record s { moment = now; facts = outbox_finished s.facts last } else made (record s { moment = now }) (finish_told (around s 0 now) s.facts last) now).config ≡ s.config
-    by_test true = refl
-    by_test false = refl
-same_config s link_end = by_test (is_some s.ending)
-  where
-    by_test : (b : Bool) → (if b then s else record s { ending = Some (link_ending (around s 0 s.moment) s.facts); pending = None }).config ≡ s.config
-    by_test true = refl
-    by_test false = refl
-same_config s (live ps now) = refl
-same_config s (again ps now) = by_range s.facts.connection.serving
-  where
-    by_range : (r : Option Range) → (served_again s r ps now).config ≡ s.config
-    by_range None = refl
-    by_range (Some r) = refl
-same_config s (taken count) = refl
-same_config s reserve = refl
-
-continues_called : (c : Course) (call : Call) → Continues c (called c call)
-continues_called c call = record {
-  config = same_config c.state call;
-  start = refl;
-  sent_before = refl;
-  accepted = begins_same c.accepted;
-  added = begins_same c.added;
-  output = begins_with c.output (writes c.state call);
-  taken = begins_same c.taken;
-}
-
-continues_counting : (c d : Course) (o : Outcome) (i : Incoming) → Continues c d → Continues c (counting d o i)
-continues_counting c d o i k = record {
-  config = k.config;
-  start = k.start;
-  sent_before = k.sent_before;
-  accepted = prefix_trans c.accepted d.accepted (d.accepted ++ accepted_by o i) k.accepted (begins_with d.accepted (accepted_by o i));
-  added = prefix_trans c.added d.added (d.added ++ records_of o.act i) k.added (begins_with d.added (records_of o.act i));
-  output = k.output;
-  taken = k.taken;
-}
-
-goes_one : (h : List Entry) (c : Course) (call : Call) → MayStand h c.state call → Continues c (next_course c call)
-goes_one h c (begin now) may = absurd may.comes
-goes_one h c (frame incoming at now) may = by_record (is_record o.act)
-  where
-    o : Outcome
-    o = reply_of (around c.state at now) c.state.facts incoming
-
-    k : Continues c (called c (frame incoming at now))
-    k = continues_called c (frame incoming at now)
-
-    waits : Course
-    waits = record (called c (frame incoming at now)) { waiting = Some (record { incoming = incoming; at = at; moment = now }) }
-
-    by_record : (b : Bool) → Continues c (if b then waits else counting (called c (frame incoming at now)) o incoming)
-    by_record true = record { config = k.config; start = k.start; sent_before = k.sent_before; accepted = k.accepted; added = k.added; output = k.output; taken = k.taken }
-    by_record false = continues_counting c (called c (frame incoming at now)) o incoming k
-goes_one h c (did now) may = by_pending c.state.pending c.waiting
-  where
-    by_pending : (p : Option Outcome) (w : Option Waiting) → Continues c (next_done (called c (did now)) p w)
-    by_pending None w = continues_called c (did now)
-    by_pending (Some o) None = continues_called c (did now)
-    by_pending (Some o) (Some w) = continues_counting c (called c (did now)) o w.incoming (continues_called c (did now))
-goes_one h c (taken count) may = record {
-  config = refl;
-  start = refl;
-  sent_before = refl;
-  accepted = begins_same c.accepted;
-  added = begins_same c.added;
-  output = begins_with c.output [];
-  taken = begins_with c.taken (take count c.state.unsent);
-}
-goes_one h c (bad_frame at now) may = continues_called c (bad_frame at now)
-goes_one h c (tick now) may = continues_called c (tick now)
-goes_one h c (turn_done now) may = continues_called c (turn_done now)
-goes_one h c (closed last now) may = continues_called c (closed last now)
-goes_one h c link_end may = continues_called c link_end
-goes_one h c (live ps now) may = continues_called c (live ps now)
-goes_one h c (again ps now) may = continues_called c (again ps now)
-goes_one h c reserve may = continues_called c reserve
-
-pub calls_go_on : CallsGoOn
-calls_go_on h c [] all = continues_same c
-calls_go_on h c (call ∷ later) all = continues_on c (next_course c call) (course_after (next_course c call) later) (goes_one h c call all.0) (calls_go_on h (next_course c call) later all.1)

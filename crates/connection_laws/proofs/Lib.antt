@@ -1,4 +1,6 @@
 pub mod Replied
 pub mod Owned
+pub mod Pieces
 pub mod Going
+pub mod Continuing
 pub mod Lived

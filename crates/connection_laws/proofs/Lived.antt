@@ -1,15 +1,15 @@
 -- A connection that stands, in the words of the session model.
-use Rattle.std.proofs.Common.{◌≡◌, ℕ, ◌+◌, ◌-◌, ◌≤◌, Bool, true, false, List, [], ◌∷◌, ◌++◌, length, take, Option, Some, None, IfSome, IsTrue, refl, sym, ap, subst, ◌∙◌, arith, append-nil, append_assoc, length-append, true≢false}
+use Rattle.std.proofs.Common.{◌≡◌, ℕ, ◌≤◌, Bool, true, List, [], ◌∷◌, ◌++◌, length, take, None, IfSome, IsTrue, refl, sym, ap, subst, ◌∙◌, arith, append-nil, length-append, true≢false}
 use Rattle.std.specs.List.{AllByRecursion, flat_map}
 use Rattle.std.proofs.lemmas.Grind.{flat_map-append}
 use Rattle.std.proofs.lemmas.List.{take_all, length-take, take-take, take-append-le}
 use mathlib.Core.List.{IsPrefix}
 use Rattle.session_model.specs.Journal.{Entry}
-use Rattle.session_model.specs.Inbox.{InboxRecord, skips}
+use Rattle.session_model.specs.Inbox.{InboxRecord}
 use Rattle.session_model.specs.Events.{Event, messages, TrueOfJournal, Rising, HandshakeFirst, BeginsWithHandshake}
 use Rattle.session_model.specs.Growth as model
 use Rattle.session_model.specs.Growth.{Grown, GrownThrough}
-use Rattle.session_model.specs.Lives.{IsImage, first_events, count_events, Writes, ReportsSkips, KeepsConnections}
+use Rattle.session_model.specs.Lives.{IsImage, first_events, Writes, ReportsSkips, KeepsConnections}
 use Rattle.session_model.proofs.Handshakes.{handshake_splits}
 use Rattle.session_model.proofs.Images.{image_of_none, image_of_one}
 use Rattle.session_model.proofs.Lists.{prefix_take, all_append, all_weaker}
@@ -25,10 +25,11 @@ use Rattle.fixp_shake.specs.Flows.{is_sequenced, is_absent}
 use Rattle.fixp_replies.specs.Acts.{is_record}
 use Rattle.growth_laws.specs.Accepting.{model_flow, payload_in, records_of}
 use Rattle.connection_laws.specs.Writing.{Piece, events_written, ranges_told}
-use Rattle.connection_laws.specs.Courses.{Waiting, Course, inbox_of, beginning, reply_to, accepted_by, course_after, Continues}
+use Rattle.connection_laws.specs.Courses.{Course, inbox_of, beginning, reply_to, accepted_by, course_after, Continues}
 use Rattle.connection_laws.specs.Standing.{OwnFlow, Stands}
-use Rattle.connection_laws.specs.Connections.{WasTaken, connection_of, served_by, refused_by, OpenedBefore, ConnectionKept, RefusedKept, ConnectionServes, sent_part, WritingGoesOn, PartIsWritten}
-use Rattle.connection_laws.proofs.Going.{begins_behind, waiting_grows, calls_go_on, calls_keep, connection_begins}
+use Rattle.connection_laws.specs.Connections.{WasTaken, connection_of, served_by, ConnectionKept, RefusedKept, ConnectionServes, sent_part, WritingGoesOn, PartIsWritten}
+use Rattle.connection_laws.proofs.Continuing.{calls_go_on}
+use Rattle.connection_laws.proofs.Going.{begins_behind, waiting_grows, calls_keep, connection_begins}
 
 -- the events of the first frames are the first events
 first_written : (whole output : List Piece) → IsPrefix whole output → IsPrefix (events_written whole) (events_written output)

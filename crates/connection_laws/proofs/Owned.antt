@@ -1,26 +1,24 @@
 -- What each piece that is written makes of the own flow.
-use Rattle.std.proofs.Common.{◌≡◌, ℕ, ◌+◌, ◌-◌, ◌≤◌, ◌<◌, ◌||◌, Bool, true, false, if◌then◌else◌, List, [], ◌∷◌, ◌++◌, map, length, take, get_or, slice_get, Option, Some, None, option_map, refl, sym, ap, subst, ◌∙◌, arith, append-nil, length-append, true≢false}
+use Rattle.std.proofs.Common.{◌≡◌, ℕ, ◌+◌, ◌-◌, ◌≤◌, ◌<◌, ◌||◌, Bool, true, false, if◌then◌else◌, List, [], ◌∷◌, ◌++◌, map, length, take, get_or, slice_get, Option, Some, None, refl, sym, ap, subst, ◌∙◌, arith, append-nil, length-append, true≢false}
 use Rattle.std.specs.List.{AllByRecursion}
 use Rattle.std.proofs.lemmas.List.{length-take, take-take, take-map, get_or-take, take-append-le}
 use Rattle.std.proofs.lemmas.Option.{slice_get_within, slice_get_read, get_or_from_slice_get}
 use mathlib.Core.List.{IsPrefix}
 use Rattle.session_model.specs.Journal.{Entry, IsEntry, payloads}
-use Rattle.session_model.specs.Inbox.{Numbered}
-use Rattle.session_model.specs.Events.{Announcer, Event, announce, handshake, in_flow, message, standing, numbered, announced, messages, TrueOfJournal, Rising, IsHandshake, HandshakeFirst}
+use Rattle.session_model.specs.Events.{Announcer, Event, announce, handshake, in_flow, message, standing, messages, TrueOfJournal, Rising, HandshakeFirst}
 use Rattle.session_model.proofs.Handshakes.{OnlyHandshake, handshake_splits}
-use Rattle.session_model.proofs.Journals.{entry_within, entry_stays}
+use Rattle.session_model.proofs.Journals.{entry_within}
 use Rattle.session_model.proofs.Lists.{all_weaker, all_append, prefix_take, prefix_length}
 use Rattle.session_model.proofs.Numbering.{standing-append, messages-append}
-use Rattle.session_model.proofs.Truth.{true_splits, true_stays_true, rising_stays_rising, rising_goes_on}
+use Rattle.session_model.proofs.Truth.{true_splits, true_stays_true, rising_goes_on}
 use Rattle.fixp_msgs.specs.declared.flow.Flow.{Flow}
 use Rattle.fixp_msgs.specs.declared.flow.Flow.TheVariants as flows
-use Rattle.fixp_msgs.specs.declared.numbering.Range.{Range}
 use Rattle.fixp_shake.specs.Flows.{is_recoverable, is_sequenced, is_absent}
 use Rattle.fixp_shake.specs.Phases.{is_establishing, is_shaken}
 use Rattle.fixp_replies.specs.declared.facts.Facts.{Facts}
 use Rattle.fixp_replies.specs.Facts.{Around}
 use Rattle.fixp_replies.specs.Outcomes.{Outcome}
-use Rattle.connection_laws.specs.Writing.{events_in, is_reached, SameOwn, Shakes, Resends, WritesOwn, nothing, shakes, resends}
+use Rattle.connection_laws.specs.Writing.{events_in, SameOwn, WritesOwn, nothing, shakes, resends}
 use Rattle.connection_laws.specs.Standing.{number_told, number_at, next_written, to_stand, OwnFlow, AreEntries}
 
 same_next : (f g : Facts) → g.recorded.sent ≡ f.recorded.sent → g.connection.serving ≡ f.connection.serving → next_written g ≡ next_written f
@@ -90,9 +88,11 @@ shakes_own own h before f g written n sent serving o =
       free = λ _. none;
       reached = λ _. begun_by written e;
       served = λ _. none;
-      true_of = λ t. (true_splits h None written (e ∷ [])).1 (o.true_of t,
+      true_of = λ t. (true_splits h None written (e ∷ [])).1 (
+        o.true_of t,
         subst (λ k. TrueOfJournal h (standing None written) (announce handshake k ∷ [])) (sym (numbered_told own f t))
-            (let enough = o.enough in announces_true h (standing None written) handshake (f.recorded.sent + 1) (omega arith) (omega arith)));
+            (let enough = o.enough in announces_true h (standing None written) handshake (f.recorded.sent + 1) (omega arith) (omega arith)),
+      );
       stands = λ t. standing-append None written (e ∷ []) ∙ (numbered_told own f t ∙ (ap Some (sym next) ∙ sym (stands_begun g (written ++ e ∷ []) (begun_by written e))));
       grows = λ u. subst (λ k. before ≤ k) (sym sent) (o.grows u);
       rises = λ u. subst (λ ms. Rising (take g.recorded.sent h) before ms) (sym (no_messages written handshake (number_told own f))) (subst (λ k. Rising (take k h) before (messages written)) (sym sent) (o.rises u));

@@ -1,10 +1,10 @@
 -- What each reply writes of the own flow, and what it hears of the peer's before the handshake is done, row by row.
-use Rattle.std.proofs.Common.{◌≡◌, ℕ, ◌+◌, ◌<◌, ◌≤◌, ◌==◌, ◌&&◌, ◌||◌, max, min, nat_lt, not, IsTrue, Bool, true, false, if◌then◌else◌, List, [], ◌∷◌, ◌++◌, Option, Some, None, option_to_list, refl, sym, ap, subst, ◌∙◌, arith, append-nil, true≢false}
-use Rattle.std.specs.Prelude.{is_none, is_some, IsSome, unwrap_or, Result, Ok, Err}
+use Rattle.std.proofs.Common.{◌≡◌, ℕ, ◌+◌, ◌≤◌, ◌==◌, ◌&&◌, ◌||◌, max, min, nat_lt, not, IsTrue, Bool, true, false, if◌then◌else◌, List, [], ◌∷◌, ◌++◌, Option, Some, None, option_to_list, refl, sym, ap, subst, ◌∙◌, arith, append-nil, true≢false}
+use Rattle.std.specs.Prelude.{is_some, IsSome, unwrap_or, Result, Ok, Err}
 use Rattle.std.proofs.lemmas.Bool.{ltb-false}
 use Rattle.std.proofs.lemmas.Bool.Decides.{nat_tests}
 use Rattle.std.proofs.lemmas.Grind.{flat_map-append}
-use Rattle.session_model.specs.Events.{Event, announce, handshake, in_flow, BeginsWithHandshake}
+use Rattle.session_model.specs.Events.{announce, handshake, BeginsWithHandshake}
 use Rattle.fixp_msgs.specs.declared.numbering.Range.{Range}
 use Rattle.fixp_msgs.specs.Flow.{flow_code}
 use Rattle.fixp_msgs.specs.Message.{Message, negotiate, negotiation_response, negotiation_reject, establish, establishment_ack, establishment_reject, sequence, unsequenced_heartbeat, retransmit_request, retransmission, retransmit_reject, applied, not_applied, finished_sending, finished_receiving, terminate}
@@ -13,7 +13,7 @@ use Rattle.flow_recover.specs.declared.receiver.Seen.TheVariants.{Deliver, Gap, 
 use Rattle.flow_recover.specs.Receiving as receiver_is
 use Rattle.flow_retrans.specs.declared.requester.BadStart.{BadStart}
 use Rattle.flow_retrans.specs.declared.judging.RetransmitCode.{RetransmitCode}
-use Rattle.flow_retrans.specs.Judging.{judged, is_outside, request_limit}
+use Rattle.flow_retrans.specs.Judging.{judged, request_limit}
 use Rattle.flow_retrans.specs.declared.judging.RetransmitCode.TheVariants.{OutOfRange, InvalidSession, RequestLimitExceeded}
 use Rattle.flow_retrans.specs.Requests as request_is
 use Rattle.fixp_shake.specs.declared.phase.Phase.{Phase}
@@ -23,16 +23,14 @@ use Rattle.fixp_shake.specs.Flows.{is_recoverable, is_idempotent, is_sequenced}
 use Rattle.fixp_shake.specs.Phases.{is_idle, is_negotiating, is_establishing, is_established, is_closing, is_shaken}
 use Rattle.fixp_replies.specs.declared.act.Act.{Act}
 use Rattle.fixp_replies.specs.declared.act.Act.TheVariants as acts
-use Rattle.fixp_replies.specs.declared.act.Ending.{Ending}
 use Rattle.fixp_replies.specs.declared.act.Ending.TheVariants as endings
 use Rattle.fixp_replies.specs.declared.facts.Facts.{Facts}
-use Rattle.fixp_replies.specs.declared.facts.PeerFinish.{PeerFinish}
 use Rattle.fixp_replies.specs.declared.facts.PeerFinish.TheVariants as peer
 use Rattle.fixp_replies.specs.declared.facts.OwnFinish.TheVariants as own
 use Rattle.fixp_replies.specs.Incoming.{Incoming, application, session, wrong_order, too_short, unknown}
 use Rattle.fixp_replies.specs.Facts.{Around, is_initiator, is_own, in_phase, receiving, requesting, serves, negotiated as as_negotiated, awaiting, awaits_gap, gap_to_ask, having_asked, announced_number}
 use Rattle.fixp_replies.specs.Outcomes.{Outcome, Row, row, goes_on, accepts, ignores, ends, not_in_phase, request_for, skip_of, told_skip, opening_negotiate, opening_establish}
-use Rattle.fixp_replies.specs.Announcing.{Announced, jumped_over, announced, announcement_fault, refuses}
+use Rattle.fixp_replies.specs.Announcing.{Announced, jumped_over, announced, refuses}
 use Rattle.fixp_replies.specs.Handshake.{awaits_client, serves_client, established, acknowledges, establish_rows, established_again_rows, establish_rows_in, shaken}
 use Rattle.fixp_replies.specs.Flowing.{bad_retransmission, counted, taken_as, finish_act, peer_finished, answers_finish, is_filled, is_past_finish, sequence_taken, sequence_follows, restarted, finished_last, finish_fault, finished}
 use Rattle.fixp_replies.specs.Serving.{request_answered, own_finishing}
@@ -41,7 +39,7 @@ use Rattle.reply_laws.proofs.Rows.{AllRows, by_row, all_rows, all_within, announ
 use Rattle.reply_laws.proofs.Tests.{some-none}
 use Rattle.growth_laws.specs.Accepting.{event_of}
 use Rattle.growth_laws.proofs.Accepted.{is_done, not_negotiated, not_established}
-use Rattle.connection_laws.specs.Writing.{events_in, is_reached, SameOwn, Shakes, Resends, WritesOwn, nothing, shakes, resends, HearsHandshake, FrameWrites, FrameHears}
+use Rattle.connection_laws.specs.Writing.{events_in, is_reached, SameOwn, WritesOwn, nothing, shakes, resends, HearsHandshake, FrameWrites, FrameHears}
 
 -- what holds of each reply
 record Replies (x : Around) (f : Facts) (i : Incoming) (o : Outcome) : Type 0 where

@@ -1,5 +1,5 @@
 -- What holds of a connection at every moment, and when a call may come on it.
-use Rattle.std.specs.Prelude.{◌≡◌, ⊤, ℕ, ◌+◌, ◌≤◌, Bool, true, false, if◌then◌else◌, List, [], ◌∷◌, ◌++◌, length, take, Option, Some, None, option_map, IfSome, IsSome, IsTrue}
+use Rattle.std.specs.Prelude.{◌≡◌, ⊤, ℕ, ◌+◌, ◌≤◌, true, false, if◌then◌else◌, List, [], ◌∷◌, ◌++◌, length, take, Option, Some, None, option_map, IfSome, IsSome, IsTrue}
 use Rattle.std.specs.List.{AllByRecursion}
 use mathlib.Core.List.{IsPrefix}
 use Rattle.session_model.specs.Journal.{Entry, IsEntry}
@@ -15,7 +15,7 @@ use Rattle.fixp_replies.specs.declared.facts.Facts.{Facts}
 use Rattle.fixp_replies.specs.Acts.{is_record}
 use Rattle.reply_laws.specs.Machine.{State, Call, begin, frame, bad_frame, did, tick, turn_done, closed, link_end, live, again, taken, reserve, MayCall}
 use Rattle.growth_laws.specs.Accepting.{model_flow, records_of, Agrees}
-use Rattle.connection_laws.specs.Writing.{bytes_written, events_written, ranges_told, writes, is_reached}
+use Rattle.connection_laws.specs.Writing.{bytes_written, events_written, ranges_told, is_reached}
 use Rattle.connection_laws.specs.Courses.{Waiting, Course, inbox_of, beginning, reply_to, accepted_by, next_course, course_after, Continues}
 
 -- the number that the own flow announces: the next live one; a flow without numbers has none

@@ -1,13 +1,11 @@
 -- Over accepted frames an inbox grows as the session model has it, row by row.
-use Rattle.std.proofs.Common.{◌≡◌, ℕ, ◌+◌, ◌==◌, ◌&&◌, ◌||◌, max, min, nat_lt, not, IsTrue, Bool, true, false, if◌then◌else◌, List, [], ◌∷◌, ◌++◌, map, Option, Some, None, option_to_list, refl, sym, ap, subst, ◌∙◌, arith, append-nil, append_assoc, eqb-true, eq-eqb, true≢false}
+use Rattle.std.proofs.Common.{◌≡◌, ℕ, ◌+◌, ◌==◌, ◌&&◌, ◌||◌, max, min, not, IsTrue, Bool, true, false, if◌then◌else◌, List, [], ◌∷◌, ◌++◌, map, Option, Some, None, option_to_list, refl, sym, ap, subst, ◌∙◌, arith, append-nil, eq-eqb, true≢false}
 use Rattle.std.specs.Prelude.{is_none, is_some, unwrap_or, Result, Ok, Err}
-use Rattle.std.specs.List.{AllByRecursion}
 use Rattle.std.proofs.lemmas.Grind.{flat_map-append}
 use Rattle.session_model.specs.Inbox.{Numbered, InboxRecord, apply, applied, skips, next_number}
 use Rattle.session_model.specs.Events.{Event, announce, handshake, in_flow, standing}
-use Rattle.session_model.specs.Growth.{Grown, GrownRecoverable}
-use Rattle.session_model.proofs.Inboxes.{next_number-append, skips-append}
-use Rattle.session_model.proofs.Through.{growth_goes_on}
+use Rattle.session_model.specs.Growth.{GrownRecoverable}
+use Rattle.session_model.proofs.Inboxes.{next_number-append}
 use Rattle.fixp_msgs.specs.declared.numbering.Range.{Range}
 use Rattle.fixp_msgs.specs.declared.flow.Flow.{Flow}
 use Rattle.fixp_msgs.specs.declared.flow.Flow.TheVariants as flows
@@ -28,9 +26,7 @@ use Rattle.fixp_shake.specs.Flows.{is_sequenced, is_recoverable}
 use Rattle.fixp_shake.specs.Phases.{is_negotiating, is_establishing, is_established, is_closing, is_shaken}
 use Rattle.fixp_replies.specs.declared.act.Act.{Act}
 use Rattle.fixp_replies.specs.declared.act.Act.TheVariants as acts
-use Rattle.fixp_replies.specs.declared.act.Ending.{Ending}
 use Rattle.fixp_replies.specs.declared.act.Ending.TheVariants as endings
-use Rattle.fixp_replies.specs.declared.facts.EndState.{EndState}
 use Rattle.fixp_replies.specs.declared.facts.Facts.{Facts}
 use Rattle.fixp_replies.specs.declared.facts.PeerFinish.TheVariants as peer
 use Rattle.fixp_replies.specs.declared.facts.OwnFinish.TheVariants as own
@@ -39,16 +35,16 @@ use Rattle.fixp_replies.specs.Facts.{Around, is_initiator, connecting, in_phase,
 use Rattle.fixp_replies.specs.Outcomes.{Outcome, Row, row, goes_on, accepts, ignores, ends, not_in_phase, request_for, skip_of, told_skip, opening_negotiate, opening_establish}
 use Rattle.fixp_replies.specs.Events.{Made, applied_runs, outbox_finished, tells_finish}
 use Rattle.reply_laws.specs.Machine.{counted_sent}
-use Rattle.fixp_replies.specs.Announcing.{Announced, announced, announcement_fault, refuses, announcement_rows}
+use Rattle.fixp_replies.specs.Announcing.{Announced, announced, announcement_fault, refuses}
 use Rattle.fixp_replies.specs.Handshake.{awaits_client, serves_client, established, acknowledges, establish_rows, established_again_rows, establish_rows_in, shaken}
 use Rattle.fixp_replies.specs.Flowing.{bad_retransmission, counted, taken_as, finish_act, peer_finished, answers_finish, is_filled, is_past_finish, sequence_taken, sequence_follows, restarted, finished_last, finish_fault, finished}
 use Rattle.fixp_replies.specs.Serving.{request_answered, own_finishing}
-use Rattle.fixp_replies.specs.Replies.{reply_of, template_of, of_session, rows_of, answer_of, terminates}
+use Rattle.fixp_replies.specs.Replies.{reply_of, template_of, rows_of, answer_of, terminates}
 use Rattle.reply_laws.proofs.Calls.{begun_as}
 use Rattle.reply_laws.proofs.Rows.{AllRows, by_row, all_rows, all_within, announced_rows, own_rows}
 use Rattle.reply_laws.proofs.Tests.{not_true, not_false, none-some, delivers, passes}
-use Rattle.growth_laws.specs.Accepting.{model_flow, records_of, event_of, next_message, AsksNothing, Agrees, GrowsBy, told_in, AcceptedFrameGrows, RefusedFrameSpares, FrameTells, BeginsAgreeing, turn_end, outbox_finish, live, again, OwnKeepsAgreeing}
-use Rattle.growth_laws.proofs.Growing.{announced_on, fault_on, in_order, gap_none, agrees_asked, unmoved, quiet_grows, recoverable_announced, announced_grows, message_grows}
+use Rattle.growth_laws.specs.Accepting.{records_of, event_of, next_message, AsksNothing, Agrees, GrowsBy, told_in, AcceptedFrameGrows, RefusedFrameSpares, FrameTells, BeginsAgreeing, turn_end, outbox_finish, live, again, OwnKeepsAgreeing}
+use Rattle.growth_laws.proofs.Growing.{announced_on, fault_on, in_order, gap_none, agrees_asked, quiet_grows, recoverable_announced, announced_grows, message_grows}
 
 -- what an outcome leaves: where it is accepted the inbox is grown, and else it stays; and what is skipped is told
 record Leaves (flow : Flow) (c : Option ℕ) (inbox : List InboxRecord) (i : Incoming) (o : Outcome) : Type 0 where

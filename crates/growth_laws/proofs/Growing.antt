@@ -3,7 +3,6 @@ use Rattle.std.proofs.Common.{◌≡◌, ℕ, ◌+◌, ◌-◌, ◌≤◌, max, 
 use Rattle.std.specs.Prelude.{is_some, is_none, unwrap_or}
 use Rattle.std.specs.List.{AllByRecursion}
 use Rattle.std.proofs.lemmas.Bool.{ltb-false}
-use Rattle.std.proofs.lemmas.Bool.Decides.{nat_tests}
 use Rattle.session_model.specs.Journal.{counts_from}
 use Rattle.session_model.specs.Inbox.{InboxRecord, apply, applied, skips, settled, numbers_of, payloads_of, next_number, past_greatest}
 use Rattle.session_model.specs.Events.{Announcer, Event, announce, numbered}

@@ -1,6 +1,6 @@
 -- What an end accepts over the frames of one connection: the events of the peer's flow, and the records that it adds to the inbox.
-use Rattle.std.specs.Prelude.{◌≡◌, ℕ, true, false, IsTrue, ⊤, if◌then◌else◌, List, [], ◌∷◌, ◌++◌, Option, Some, None, option_to_list}
-use Rattle.std.specs.List.{flat_map, AllByRecursion}
+use Rattle.std.specs.Prelude.{◌≡◌, ℕ, true, false, IsTrue, if◌then◌else◌, List, [], ◌∷◌, ◌++◌, Option, Some, None, option_to_list}
+use Rattle.std.specs.List.{flat_map}
 use Rattle.session_model.specs.Inbox.{Range, InboxRecord, skips, next_number}
 use Rattle.session_model.specs.Events.{Event, standing}
 use Rattle.session_model.specs.Growth as model

@@ -1,9 +1,8 @@
 -- Sound facts stay sound, row by row.
-use Rattle.std.proofs.Common.{◌≡◌, ◌≢◌, ℕ, ◌+◌, ◌-◌, ◌*◌, ◌<◌, ◌≤◌, ◌^◌, ◌==◌, ◌&&◌, ◌||◌, max, min, nat_lt, not, Bool, true, false, if◌then◌else◌, List, length, [], ◌∷◌, ◌++◌, Option, Some, None, refl, sym, ap, subst, ◌∙◌, arith, eqb-true, eq-eqb, true≢false}
+use Rattle.std.proofs.Common.{◌≡◌, ◌≢◌, ℕ, ◌+◌, ◌-◌, ◌*◌, ◌<◌, ◌≤◌, ◌^◌, ◌==◌, ◌&&◌, ◌||◌, max, min, nat_lt, not, Bool, true, false, if◌then◌else◌, List, length, [], ◌∷◌, ◌++◌, Option, Some, None, refl, sym, ap, subst, ◌∙◌, arith, eq-eqb, true≢false}
 use Rattle.std.specs.Prelude.{is_some, is_none, unwrap_or, Result, Ok, Err}
 use Rattle.std.specs.List.{AllByRecursion}
 use Rattle.std.proofs.lemmas.Bool.{ltb-false}
-use Rattle.std.proofs.lemmas.Bool.Decides.{nat_tests}
 use Rattle.fixp_msgs.specs.declared.numbering.Range.{Range}
 use Rattle.fixp_msgs.specs.Flow.{flow_code}
 use Rattle.fixp_msgs.specs.Message.{Message, negotiate, negotiation_response, negotiation_reject, establish, establishment_ack, establishment_reject, sequence, unsequenced_heartbeat, retransmit_request, retransmission, retransmit_reject, applied, not_applied, finished_sending, finished_receiving, terminate}
@@ -37,10 +36,10 @@ use Rattle.fixp_replies.specs.Announcing.{Announced, jumped_over, announced, ann
 use Rattle.fixp_replies.specs.Handshake.{awaits_client, serves_client, rejects_negotiate, rejects_establish, established, acknowledges, establish_rows, established_again_rows, establish_rows_in, shaken}
 use Rattle.fixp_replies.specs.Flowing.{bad_retransmission, counted, taken_as, finish_act, peer_finished, answers_finish, is_filled, sequence_follows, restarted, finished_last, finish_fault, finished}
 use Rattle.fixp_replies.specs.Serving.{request_answered, own_finishing}
-use Rattle.fixp_replies.specs.Replies.{template_of, of_session, rows_of, answer_of, terminates}
+use Rattle.fixp_replies.specs.Replies.{template_of, rows_of, answer_of, terminates}
 use Rattle.reply_laws.specs.Sound.{Sound, Advances, is_opening, MayWrite, WithinMost, KeepsSound, SoundGoesOn}
 use Rattle.reply_laws.proofs.Rows.{AllRows, by_row, all_rows, all_within, announced_rows, own_rows}
-use Rattle.reply_laws.proofs.Tests.{not_true, not_false, none-some, some-none, delivers, passes, no_gap}
+use Rattle.reply_laws.proofs.Tests.{not_true, not_false, none-some, delivers, passes, no_gap}
 
 abbrev Writes : EndConfig → List Message → Type 0
 Writes cfg ms = AllByRecursion (MayWrite cfg) ms
