@@ -1,4 +1,6 @@
 pub mod Writing
+pub mod Framed
 pub mod Courses
 pub mod Standing
 pub mod Connections
+pub mod Samples

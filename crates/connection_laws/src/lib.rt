@@ -5,12 +5,14 @@
 
 mod connections;
 mod replying;
+mod samples;
 mod standing;
 
 pub use connections::{
     connection_kept, connection_serves, part_is_written, refused_kept, writing_goes_on,
 };
-pub use replying::{frame_hears, frame_writes};
+pub use replying::{frame_hears, frame_writes, pieces_are_frames};
+pub use samples::course_sample;
 pub use standing::{
     call_keeps, calls_go_on, calls_keep, connection_begins, stands_longer, state_is_run,
     waiting_grows,
