@@ -39,7 +39,7 @@ use Rattle.growth_laws.proofs.Growing.{quiet_grows, unmoved}
 use Rattle.growth_laws.proofs.Accepted.{accepted_frame_grows, refused_frame_spares, frame_tells, begins_agreeing, own_keeps_agreeing, alike, is_done}
 use Rattle.connection_laws.specs.Writing.{events_in, written_again, said_with, Piece, said, said_all, entries, bytes_written, events_written, ranges_told, said_breaking, range_closed, is_reached, SameOwn, nothing, shakes, resends, WritesOwn, HearsHandshake}
 use Rattle.connection_laws.specs.Courses.{Waiting, Course, inbox_of, reply_to, accepted_by, still_waiting, next_done, next_course}
-use Rattle.connection_laws.specs.Standing.{number_at, OwnFlow, Stands, AreEntries, IsOpen, MayGoLive, MayGoAgain, ConnectionBegins, CallKeeps, CallsKeep, StandsLonger, WaitingGrows}
+use Rattle.connection_laws.specs.Standing.{number_at, OwnFlow, Stands, AreEntries, IsOpen, MayGoLive, MayGoAgain, ConnectionBegins, BeginsAgain, CallKeeps, CallsKeep, StandsLonger, WaitingGrows}
 use Rattle.connection_laws.proofs.Replied.{still_own, frame_writes, frame_hears}
 use Rattle.connection_laws.proofs.Owned.{stays_own, shakes_own, announces_own, replies_own, entries_reach, entries_own, longer_own}
 use Rattle.connection_laws.proofs.Pieces.{bytes_said, events_said, told_said, bytes_entries, events_entries, told_entries}
@@ -744,6 +744,9 @@ connection_begins h s inbox now next enough =
       tells = told_said (begun x recorded).written ∙ o.told;
       bytes = bytes_said (begun x recorded).written;
     }
+
+pub begins_again : BeginsAgain
+begins_again h c now st = connection_begins h c.state (inbox_of c) now st.agrees.recorded st.own.enough
 
 pub stands_longer : StandsLonger
 stands_longer h longer c begins st = record {

@@ -54,8 +54,9 @@ pub record OwnFlow (own : Flow) (h : List Entry) (before : ℕ) (f : Facts) (wri
   pub absent : is_absent own ≡ true → messages written ≡ []
 
 -- A connection stands. The inbox has grown over what was accepted, and the facts agree with it. What was accepted begins with
--- the handshake, and nothing was before it is done. A pending outcome is the reply to the frame that waits, and its act is a record. The own flow holds. Told are
--- exactly the ranges that were skipped. And what was written are the bytes that the link took and those that are unsent
+-- the handshake, and is nothing before that is done. A pending outcome is the reply to the frame that waits, and its act is a
+-- record. The own flow is as it has to be. Told are exactly the ranges that were skipped. And what was written are the bytes
+-- that the link took and those that are unsent
 pub record Stands (h : List Entry) (c : Course) : Type 0 where
   pub begun : c.state.begun ≡ true
   pub grown : Grown (model_flow c.state.config.peer_flow) None c.accepted c.start (inbox_of c)
@@ -124,6 +125,10 @@ AllMayStand h c (call ∷ later) = MayStand h c.state call × AllMayStand h (nex
 abbrev pub ConnectionBegins : Type 0
 ConnectionBegins = (h : List Entry) (s : State) (inbox : List InboxRecord) (now : ℕ)
     → s.facts.recorded.inbox_next ≡ next_number inbox → s.facts.recorded.sent ≤ length h → Stands h (beginning s inbox now)
+
+-- so does one that begins behind another, over what that has left
+abbrev pub BeginsAgain : Type 0
+BeginsAgain = (h : List Entry) (c : Course) (now : ℕ) → Stands h c → Stands h (next_course c (begin now))
 
 -- each call that may come on a connection keeps it standing
 abbrev pub CallKeeps : Type 0

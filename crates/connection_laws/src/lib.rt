@@ -14,6 +14,6 @@ pub use connections::{
 pub use replying::{frame_hears, frame_writes, pieces_are_frames};
 pub use samples::course_sample;
 pub use standing::{
-    call_keeps, calls_go_on, calls_keep, connection_begins, stands_longer, state_is_run,
-    waiting_grows,
+    begins_again, call_keeps, calls_go_on, calls_keep, connection_begins, stands_longer,
+    state_is_run, waiting_grows,
 };

@@ -1,7 +1,7 @@
 //! What holds of a connection at every moment, whatever calls come.
 
 ghost use Rattle.connection_laws.specs.Courses.{StateIsRun};
-ghost use Rattle.connection_laws.specs.Standing.{ConnectionBegins, CallKeeps, CallsKeep, CallsGoOn, StandsLonger, WaitingGrows};
+ghost use Rattle.connection_laws.specs.Standing.{ConnectionBegins, BeginsAgain, CallKeeps, CallsKeep, CallsGoOn, StandsLonger, WaitingGrows};
 
 /// A connection comes to the state to which its calls bring the machine.
 pub fn state_is_run()
@@ -11,6 +11,11 @@ pub fn state_is_run()
 /// A connection that begins stands: nothing is accepted, and its first message is accounted for.
 pub fn connection_begins()
     ensures law { ConnectionBegins }
+{}
+
+/// So does a connection that begins behind another, over what that has left.
+pub fn begins_again()
+    ensures law { BeginsAgain }
 {}
 
 /// Each call that may come on a connection keeps it standing.
