@@ -98,6 +98,26 @@ moved h c s w ps st m = record {
   bytes = written_so_far c.output ps c.taken c.state.unsent s.unsent st.bytes m.bytes;
 }
 
+-- the facts stay
+resting : (h : List Entry) (c : Course) (s : State) (w : Option Waiting) (ps : List Piece) → Stands h c → s.config ≡ c.state.config → s.facts ≡ c.state.facts → s.begun ≡ true
+    → s.pending ≡ option_map (reply_to s) w → IfSome w (ActIsRecord s) → OwnFlow c.state.config.own_flow h c.sent_before c.state.facts (events_written c.output ++ events_written ps)
+    → ranges_told ps ≡ [] → s.unsent ≡ c.state.unsent ++ bytes_written ps → Moves h c s w ps
+resting h c s w ps st config facts began pends records own tells bytes = record {
+  config = config;
+  begun = began;
+  agrees = subst (λ f. Agrees c.state.config.peer_flow (standing None c.accepted) f (inbox_of c)) (sym facts) st.agrees;
+  same = ap (λ (f : Facts). is_shaken f.connection.phase) facts;
+  pends = pends;
+  records = records;
+  own = subst (λ f. OwnFlow c.state.config.own_flow h c.sent_before f (events_written c.output ++ events_written ps)) (sym facts) own;
+  tells = tells;
+  bytes = bytes;
+}
+
+-- nothing is written of the own flow
+unsaid : (h : List Entry) (c : Course) → Stands h c → OwnFlow c.state.config.own_flow h c.sent_before c.state.facts (events_written c.output ++ [])
+unsaid h c st = subst (λ es. OwnFlow c.state.config.own_flow h c.sent_before c.state.facts es) (sym (append-nil (events_written c.output))) st.own
+
 -- what a reply makes of the inbox
 frame_grows : (s : State) (w : Waiting) (c : Option ℕ) (inbox : List InboxRecord) → Agrees s.config.peer_flow c s.facts inbox
     → GrowsBy s.config.peer_flow c inbox (accepted_by (reply_to s w) w.incoming) (records_of (reply_to s w).act w.incoming) (reply_to s w).next
@@ -242,17 +262,7 @@ framed h c incoming at now st open_now = by_test (is_record o.act) refl
           output = c.output ++ (if b then [] else said_all o.written);
         }
         )
-    by_test true e = moved h c pended (Some w) [] st (record {
-      config = refl;
-      begun = open_now.begun;
-      agrees = st.agrees;
-      same = refl;
-      pends = refl;
-      records = e;
-      own = subst (λ es. OwnFlow c.state.config.own_flow h c.sent_before c.state.facts es) (sym (append-nil (events_written c.output))) st.own;
-      tells = refl;
-      bytes = sym (append-nil c.state.unsent);
-    })
+    by_test true e = moved h c pended (Some w) [] st (resting h c pended (Some w) [] st refl refl open_now.begun refl e (unsaid h c st) refl (sym (append-nil c.state.unsent)))
     by_test false e = took h c w (reply_applied got o now) st refl open_now.begun refl refl refl
 
 -- the act of the frame that waits is done
@@ -281,17 +291,9 @@ done h c now st some = by_case c.state.pending c.waiting refl refl some
 -- bytes came that are no frame
 unframed : (h : List Entry) (c : Course) (at now : ℕ) → Stands h c → IsOpen c.state → Stands h (next_course c (bad_frame at now))
 unframed h c at now st open_now =
-    moved h c (after_bad_frame c.state at now) None (said_all (reply_to_bad_frame (around c.state at now) c.state.facts).written) st (record {
-      config = refl;
-      begun = open_now.begun;
-      agrees = st.agrees;
-      same = refl;
-      pends = refl;
-      records = tt;
-      own = subst (λ es. OwnFlow c.state.config.own_flow h c.sent_before c.state.facts es) (sym (append-nil (events_written c.output))) st.own;
-      tells = refl;
-      bytes = ap (λ bs. c.state.unsent ++ bs) (sym (bytes_said (reply_to_bad_frame (around c.state at now) c.state.facts).written));
-    })
+    let said_of : List Message = (reply_to_bad_frame (around c.state at now) c.state.facts).written in
+    let s : State = after_bad_frame c.state at now in
+    moved h c s None (said_all said_of) st (resting h c s None (said_all said_of) st refl refl open_now.begun refl tt (unsaid h c st) refl (ap (λ bs. c.state.unsent ++ bs) (sym (bytes_said said_of))))
 
 -- the heartbeat is an announcement of the next number, on a flow with numbers
 beats : (x : Around) (h : List Entry) (before : ℕ) (f : Facts) (written : List Event) (last_sent : ℕ) (unsent : List ℕ) → OwnFlow x.config.own_flow h before f written
@@ -367,39 +369,9 @@ ticking h c now st = moved h c (ticked c.state now) (still_waiting (ticked c.sta
 
     by_test : (b : Bool) (v : Option Violation) → Moves h c (if b then record c.state { moment = now } else broken_by beat v now)
         (still_waiting (if b then record c.state { moment = now } else broken_by beat v now).pending c.waiting) (if b then [] else says v)
-    by_test true v = record {
-      config = refl;
-      begun = st.begun;
-      agrees = st.agrees;
-      same = refl;
-      pends = waits_still c.state.pending c.waiting (reply_to c.state) st.pends;
-      records = records_still c.state.pending c.waiting (ActIsRecord c.state) st.records;
-      own = subst (λ es. OwnFlow c.state.config.own_flow h c.sent_before f es) (sym (append-nil (events_written c.output))) st.own;
-      tells = refl;
-      bytes = sym (append-nil c.state.unsent);
-    }
-    by_test false None = record {
-      config = refl;
-      begun = st.begun;
-      agrees = st.agrees;
-      same = refl;
-      pends = waits_still c.state.pending c.waiting (reply_to c.state) st.pends;
-      records = records_still c.state.pending c.waiting (ActIsRecord c.state) st.records;
-      own = owned None;
-      tells = told None;
-      bytes = sym (append-nil (c.state.unsent ++ bytes_of hb)) ∙ bytes None;
-    }
-    by_test false (Some v) = record {
-      config = refl;
-      begun = st.begun;
-      agrees = st.agrees;
-      same = refl;
-      pends = refl;
-      records = tt;
-      own = owned (Some v);
-      tells = told (Some v);
-      bytes = bytes (Some v);
-    }
+    by_test true v = resting h c (record c.state { moment = now }) _ [] st refl refl st.begun (waits_still c.state.pending c.waiting (reply_to c.state) st.pends) (records_still c.state.pending c.waiting (ActIsRecord c.state) st.records) (unsaid h c st) refl (sym (append-nil c.state.unsent))
+    by_test false None = resting h c beat _ (says None) st refl refl st.begun (waits_still c.state.pending c.waiting (reply_to c.state) st.pends) (records_still c.state.pending c.waiting (ActIsRecord c.state) st.records) (owned None) (told None) (sym (append-nil (c.state.unsent ++ bytes_of hb)) ∙ bytes None)
+    by_test false (Some v) = resting h c (broken_by beat (Some v) now) _ (says (Some v)) st refl refl st.begun refl tt (owned (Some v)) (told (Some v)) (bytes (Some v))
 
 -- no more bytes come
 ending_link : (h : List Entry) (c : Course) → Stands h c → Stands h (next_course c link_end)
@@ -408,36 +380,15 @@ ending_link h c st = moved h c (link_ended c.state) (still_waiting (link_ended c
     over : State
     over = record c.state { ending = Some (link_ending (around c.state 0 c.state.moment) c.state.facts); pending = None }
 
-    own : OwnFlow c.state.config.own_flow h c.sent_before c.state.facts (events_written c.output ++ [])
-    own = subst (λ es. OwnFlow c.state.config.own_flow h c.sent_before c.state.facts es) (sym (append-nil (events_written c.output))) st.own
-
     by_test : (b : Bool) → Moves h c (if b then c.state else over) (still_waiting (if b then c.state else over).pending c.waiting) []
-    by_test true = record {
-      config = refl;
-      begun = st.begun;
-      agrees = st.agrees;
-      same = refl;
-      pends = waits_still c.state.pending c.waiting (reply_to c.state) st.pends;
-      records = records_still c.state.pending c.waiting (ActIsRecord c.state) st.records;
-      own = own;
-      tells = refl;
-      bytes = sym (append-nil c.state.unsent);
-    }
-    by_test false = record { config = refl; begun = st.begun; agrees = st.agrees; same = refl; pends = refl; records = tt; own = own; tells = refl; bytes = sym (append-nil c.state.unsent) }
+    by_test true = resting h c c.state _ [] st refl refl st.begun (waits_still c.state.pending c.waiting (reply_to c.state) st.pends) (records_still c.state.pending c.waiting (ActIsRecord c.state) st.records) (unsaid h c st) refl (sym (append-nil c.state.unsent))
+    by_test false = resting h c over _ [] st refl refl st.begun refl tt (unsaid h c st) refl (sym (append-nil c.state.unsent))
 
 -- room is made
 reserving : (h : List Entry) (c : Course) → Stands h c → Stands h (next_course c reserve)
-reserving h c st = moved h c (record c.state { room = 16 }) (still_waiting c.state.pending c.waiting) [] st (record {
-  config = refl;
-  begun = st.begun;
-  agrees = st.agrees;
-  same = refl;
-  pends = waits_still c.state.pending c.waiting (reply_to c.state) st.pends;
-  records = records_still c.state.pending c.waiting (ActIsRecord c.state) st.records;
-  own = subst (λ es. OwnFlow c.state.config.own_flow h c.sent_before c.state.facts es) (sym (append-nil (events_written c.output))) st.own;
-  tells = refl;
-  bytes = sym (append-nil c.state.unsent);
-})
+reserving h c st =
+    let s : State = record c.state { room = 16 } in
+    moved h c s (still_waiting c.state.pending c.waiting) [] st (resting h c s _ [] st refl refl st.begun (waits_still c.state.pending c.waiting (reply_to c.state) st.pends) (records_still c.state.pending c.waiting (ActIsRecord c.state) st.records) (unsaid h c st) refl (sym (append-nil c.state.unsent)))
 
 -- the link takes bytes
 taking : (h : List Entry) (c : Course) (count : ℕ) → Stands h c → Stands h (next_course c (taken count))
