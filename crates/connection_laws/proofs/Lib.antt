@@ -5,4 +5,5 @@ pub mod Framing
 pub mod Going
 pub mod Continuing
 pub mod Lived
+pub mod Living
 pub mod Sampled

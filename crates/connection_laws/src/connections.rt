@@ -1,6 +1,7 @@
-//! A connection that stands, in the words of the session model.
+//! Connections that stand, in the words of the session model.
 
 ghost use Rattle.connection_laws.specs.Connections.{ConnectionKept, RefusedKept, ConnectionServes, WritingGoesOn, PartIsWritten};
+ghost use Rattle.connection_laws.specs.Living.{LifeServes, LifeRefused};
 
 /// A connection that stands is one that a life may have served, whatever of its frames the link took.
 pub fn connection_kept()
@@ -25,4 +26,14 @@ pub fn writing_goes_on()
 /// What was written among the entries sent is what a life may write.
 pub fn part_is_written()
     ensures law { PartIsWritten }
+{}
+
+/// Over any connections, and any calls on each, a life keeps on its connections what the session model asks of it.
+pub fn life_serves()
+    ensures law { LifeServes }
+{}
+
+/// So it does where on the last connection the append of a record failed.
+pub fn life_refused()
+    ensures law { LifeRefused }
 {}
