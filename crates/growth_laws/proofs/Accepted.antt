@@ -1,13 +1,11 @@
 -- Over accepted frames an inbox grows as the session model has it, row by row.
-use Rattle.std.proofs.Common.{◌≡◌, ℕ, ◌+◌, ◌==◌, ◌&&◌, ◌||◌, max, min, nat_lt, not, IsTrue, Bool, true, false, if◌then◌else◌, List, [], ◌∷◌, ◌++◌, map, Option, Some, None, option_to_list, refl, sym, ap, subst, ◌∙◌, arith, append-nil, append_assoc, eqb-true, eq-eqb, true≢false}
+use Rattle.std.proofs.Common.{◌≡◌, ℕ, ◌+◌, ◌==◌, ◌&&◌, ◌||◌, max, min, not, IsTrue, Bool, true, false, if◌then◌else◌, List, [], ◌∷◌, ◌++◌, map, Option, Some, None, option_to_list, refl, sym, ap, subst, ◌∙◌, arith, append-nil, eq-eqb, true≢false}
 use Rattle.std.specs.Prelude.{is_none, is_some, unwrap_or, Result, Ok, Err}
-use Rattle.std.specs.List.{AllByRecursion}
 use Rattle.std.proofs.lemmas.Grind.{flat_map-append}
 use Rattle.session_model.specs.Inbox.{Numbered, InboxRecord, apply, applied, skips, next_number}
 use Rattle.session_model.specs.Events.{Event, announce, handshake, in_flow, standing}
-use Rattle.session_model.specs.Growth.{Grown, GrownRecoverable}
-use Rattle.session_model.proofs.Inboxes.{next_number-append, skips-append}
-use Rattle.session_model.proofs.Through.{growth_goes_on}
+use Rattle.session_model.specs.Growth.{GrownRecoverable}
+use Rattle.session_model.proofs.Inboxes.{next_number-append}
 use Rattle.fixp_msgs.specs.declared.numbering.Range.{Range}
 use Rattle.fixp_msgs.specs.declared.flow.Flow.{Flow}
 use Rattle.fixp_msgs.specs.declared.flow.Flow.TheVariants as flows
@@ -28,9 +26,7 @@ use Rattle.fixp_shake.specs.Flows.{is_sequenced, is_recoverable}
 use Rattle.fixp_shake.specs.Phases.{is_negotiating, is_establishing, is_established, is_closing, is_shaken}
 use Rattle.fixp_replies.specs.declared.act.Act.{Act}
 use Rattle.fixp_replies.specs.declared.act.Act.TheVariants as acts
-use Rattle.fixp_replies.specs.declared.act.Ending.{Ending}
 use Rattle.fixp_replies.specs.declared.act.Ending.TheVariants as endings
-use Rattle.fixp_replies.specs.declared.facts.EndState.{EndState}
 use Rattle.fixp_replies.specs.declared.facts.Facts.{Facts}
 use Rattle.fixp_replies.specs.declared.facts.PeerFinish.TheVariants as peer
 use Rattle.fixp_replies.specs.declared.facts.OwnFinish.TheVariants as own
@@ -39,14 +35,16 @@ use Rattle.fixp_replies.specs.Facts.{Around, is_initiator, connecting, in_phase,
 use Rattle.fixp_replies.specs.Outcomes.{Outcome, Row, row, goes_on, accepts, ignores, ends, not_in_phase, request_for, skip_of, told_skip, opening_negotiate, opening_establish}
 use Rattle.fixp_replies.specs.Events.{Made, applied_runs, outbox_finished, tells_finish}
 use Rattle.reply_laws.specs.Machine.{counted_sent}
-use Rattle.fixp_replies.specs.Announcing.{Announced, announced, announcement_fault, refuses, announcement_rows}
+use Rattle.fixp_replies.specs.Announcing.{Announced, announced, announcement_fault, refuses}
 use Rattle.fixp_replies.specs.Handshake.{awaits_client, serves_client, established, acknowledges, establish_rows, established_again_rows, establish_rows_in, shaken}
 use Rattle.fixp_replies.specs.Flowing.{bad_retransmission, counted, taken_as, finish_act, peer_finished, answers_finish, is_filled, is_past_finish, sequence_taken, sequence_follows, restarted, finished_last, finish_fault, finished}
 use Rattle.fixp_replies.specs.Serving.{request_answered, own_finishing}
-use Rattle.fixp_replies.specs.Replies.{reply_of, template_of, of_session, rows_of, answer_of, terminates}
-use Rattle.reply_laws.proofs.Rows.{AllRows, by_row, all_rows, all_within}
-use Rattle.growth_laws.specs.Accepting.{model_flow, records_of, event_of, next_message, AsksNothing, Agrees, GrowsBy, told_in, AcceptedFrameGrows, RefusedFrameSpares, FrameTells, FramesGrow, FramesTell, BeginsAgreeing, turn_end, outbox_finish, live, again, OwnKeepsAgreeing, Happening, frame, between, IsOnFlow, Course, next_course, course_after, events_at, accepted_events, beginning, written_after}
-use Rattle.growth_laws.proofs.Growing.{announced_on, fault_on, in_order, gap_none, agrees_asked, unmoved, quiet_grows, recoverable_announced, announced_grows, message_grows}
+use Rattle.fixp_replies.specs.Replies.{reply_of, template_of, rows_of, answer_of, terminates}
+use Rattle.reply_laws.proofs.Calls.{begun_as}
+use Rattle.reply_laws.proofs.Rows.{AllRows, by_row, all_rows, all_within, announced_rows, own_rows}
+use Rattle.reply_laws.proofs.Tests.{not_true, not_false, none-some, delivers, passes}
+use Rattle.growth_laws.specs.Accepting.{records_of, event_of, next_message, AsksNothing, Agrees, GrowsBy, told_in, AcceptedFrameGrows, RefusedFrameSpares, FrameTells, BeginsAgreeing, turn_end, outbox_finish, live, again, OwnKeepsAgreeing}
+use Rattle.growth_laws.proofs.Growing.{announced_on, fault_on, in_order, gap_none, agrees_asked, quiet_grows, recoverable_announced, announced_grows, message_grows}
 
 -- what an outcome leaves: where it is accepted the inbox is grown, and else it stays; and what is skipped is told
 record Leaves (flow : Flow) (c : Option ℕ) (inbox : List InboxRecord) (i : Incoming) (o : Outcome) : Type 0 where
@@ -83,25 +81,11 @@ refusing : (flow : Flow) (c : Option ℕ) (inbox : List InboxRecord) (i : Incomi
 refusing flow c inbox i x f a None = refused flow c inbox i (refuses x f None) refl refl refl a
 refusing flow c inbox i x f a (Some v) = refused flow c inbox i (refuses x f (Some v)) refl refl refl a
 
-some-none : {A : Type 0} (o : Option A) → is_some o ≡ false → o ≡ None
-some-none None e = refl
-some-none (Some a) e = absurd (true≢false e)
-
-announced_rows : (P : Outcome → Type 0) (x : Around) (f : Facts) (template : ℕ) (next : Option ℕ) (follows : Announced → Outcome)
-    → ((v : Option Violation) → P (refuses x f v))
-    → (announcement_fault x f template next ≡ None → P (follows (announced x f next)))
-    → AllRows P (announcement_rows x f template next follows)
-announced_rows P x f template next follows refuse takes =
-    (λ _. refuse (announcement_fault x f template next), λ none. (λ _. takes (some-none (announcement_fault x f template next) none), λ _. tt))
-
-own_rows : (P : Outcome → Type 0) (x : Around) (f : Facts) (template : ℕ) (id : List ℕ) (rows : List Row) → ((e : Ending) → P (ends x f 2 e)) → AllRows P rows → AllRows P (of_session x f template id rows)
-own_rows P x f template id rows out all = (λ _. out _, λ _. all)
-
 -- phases
-is_done : (p : Phase) → is_established p ≡ true → is_shaken p ≡ true
+pub is_done : (p : Phase) → is_established p ≡ true → is_shaken p ≡ true
 is_done p e = ap (λ b. b || is_closing p) e
 
-not_negotiated : (p : Phase) → is_negotiating p ≡ true → is_shaken p ≡ false
+pub not_negotiated : (p : Phase) → is_negotiating p ≡ true → is_shaken p ≡ false
 not_negotiated phases.Idle e = absurd (true≢false (sym e))
 not_negotiated phases.Negotiating e = refl
 not_negotiated phases.Establishing e = absurd (true≢false (sym e))
@@ -109,7 +93,7 @@ not_negotiated phases.Established e = absurd (true≢false (sym e))
 not_negotiated phases.Closing e = absurd (true≢false (sym e))
 not_negotiated phases.Ended e = absurd (true≢false (sym e))
 
-not_established : (p : Phase) → is_establishing p ≡ true → is_shaken p ≡ false
+pub not_established : (p : Phase) → is_establishing p ≡ true → is_shaken p ≡ false
 not_established phases.Idle e = absurd (true≢false (sym e))
 not_established phases.Negotiating e = absurd (true≢false (sym e))
 not_established phases.Establishing e = refl
@@ -246,10 +230,6 @@ sequence_all flow x f next c inbox a settled none =
     and_left true q t = refl
     and_left false q t = absurd (true≢false (sym t))
 
-    none-some : (o : Option ℕ) → is_some o ≡ true → o ≡ None → ⊥
-    none-some None t e = true≢false (sym t)
-    none-some (Some k) t e = true≢false (sym t ∙ ap is_some e)
-
     grown_behind : (added : List InboxRecord) (g : Facts) → g.recorded.inbox_next ≡ f.recorded.inbox_next → g.connection.receiver ≡ receiver_is.announced f.connection.receiver next
         → is_shaken g.connection.phase ≡ true → Agrees flows.Recoverable c f inbox → applied added ≡ [] → skips added ≡ []
         → GrowsBy flows.Recoverable c inbox (announce in_flow (Some next) ∷ []) added g
@@ -271,24 +251,6 @@ sequence_all flow x f next c inbox a settled none =
     filled flows.Idempotent b e t = absurd (none-some (awaits_gap f.connection.peer_finish) (and_left _ _ t) (b.quiet refl).no_finish)
     filled flows.Unsequenced b e t = absurd (none-some (awaits_gap f.connection.peer_finish) (and_left _ _ t) (b.quiet refl).no_finish)
     filled flows.None b e t = absurd (none-some (awaits_gap f.connection.peer_finish) (and_left _ _ t) (b.quiet refl).no_finish)
-
--- a message delivered is the one waited for; any other is not
-delivers : (next k n : ℕ) → receiver_is.seen_as next k ≡ Deliver n → (n ≡ k) × (k ≡ next)
-delivers next k n = by_tests (k == next) (nat_lt next k) refl
-  where
-    by_tests : (same past : Bool) → (k == next) ≡ same → (if same then Deliver k else if past then Gap k else Repeat k) ≡ Deliver n → (n ≡ k) × (k ≡ next)
-    by_tests true past t e = (cc e, eqb-true k next t)
-    by_tests false true t e = absurd cc
-    by_tests false false t e = absurd cc
-
-passes : (next k n : ℕ) → (receiver_is.seen_as next k ≡ Gap n → (k == next) ≡ false) × (receiver_is.seen_as next k ≡ Repeat n → (k == next) ≡ false)
-passes next k n = by_tests (k == next) (nat_lt next k) refl
-  where
-    by_tests : (same past : Bool) → (k == next) ≡ same
-        → ((if same then Deliver k else if past then Gap k else Repeat k) ≡ Gap n → (k == next) ≡ false)
-        × ((if same then Deliver k else if past then Gap k else Repeat k) ≡ Repeat n → (k == next) ≡ false)
-    by_tests true past t = (λ e. absurd cc, λ e. absurd cc)
-    by_tests false past t = (λ e. t, λ e. t)
 
 -- what stands behind a message that was counted, where the handshake is done
 counted_stands : (f : Facts) → is_shaken f.connection.phase ≡ true
@@ -346,14 +308,6 @@ taking x f inbox p e a (Repeat n) is =
     let base = grows_recoverable r (message p ∷ []) inbox (sym (a.waits refl)) in
     going flows.Recoverable (Some (receiver_is.number r)) inbox (application p) x acts.Nothing [] (counted f) (left_out f inbox p e a ((passes r.next (receiver_is.number r) n).1 is)
     (subst (λ s. GrownRecoverable (Some (receiver_is.number r)) (Event.message p ∷ []) inbox (inbox ++ map apply (given s p ++ []))) is base)) refl
-
-not_true : (b : Bool) → not b ≡ false → b ≡ true
-not_true true e = refl
-not_true false e = absurd (true≢false e)
-
-not_false : (b : Bool) → not b ≡ true → b ≡ false
-not_false true e = absurd (true≢false (sym e))
-not_false false e = refl
 
 -- a message of a recoverable flow, whichever number it has
 taken_all : (flow : Flow) (x : Around) (f : Facts) (p : List ℕ) (c : Option ℕ) (inbox : List InboxRecord) → is_recoverable flow ≡ true → is_shaken f.connection.phase ≡ true → Agrees flow c f inbox
@@ -570,12 +524,6 @@ refused_frame_spares x f i c inbox a t = (leaves x f i c inbox a).spares t
 pub frame_tells : FrameTells
 frame_tells x f i c inbox a = (leaves x f i c inbox a).tells
 
-abbrev begun_as : Around → EndState → (initiates negotiated : Bool) → Made
-begun_as x recorded initiates negotiated =
-    if not initiates then record { written = []; next = connecting recorded phases.Idle }
-    else if negotiated then record { written = opening_establish x (connecting recorded phases.Establishing) ∷ []; next = connecting recorded phases.Establishing }
-    else record { written = opening_negotiate x ∷ []; next = connecting recorded phases.Negotiating }
-
 -- a connection begins with nothing announced, and nothing asked for
 pub begins_agreeing : BeginsAgreeing
 begins_agreeing x recorded inbox flow e = by_role (is_initiator x.config.role) recorded.negotiated
@@ -605,7 +553,7 @@ told_as_finished x f last told =
     else record { written = []; next = outbox_finished f last }
 
 -- facts that differ in nothing that is agreed on but the phase, where the handshake stays as it was
-alike : (flow : Flow) (c : Option ℕ) (f g : Facts) (inbox : List InboxRecord) → Agrees flow c f inbox → g.recorded.inbox_next ≡ f.recorded.inbox_next
+pub alike : (flow : Flow) (c : Option ℕ) (f g : Facts) (inbox : List InboxRecord) → Agrees flow c f inbox → g.recorded.inbox_next ≡ f.recorded.inbox_next
     → g.connection.receiver ≡ f.connection.receiver → g.connection.requester ≡ f.connection.requester → g.connection.peer_finish ≡ f.connection.peer_finish
     → is_shaken g.connection.phase ≡ is_shaken f.connection.phase → Agrees flow c g inbox
 alike flow c f g inbox a next receiver requester finish phase = record {
@@ -640,51 +588,3 @@ own_keeps_agreeing flow c f inbox (outbox_finish x last) a = by_test (tells_fini
     by_test false = alike flow c f (outbox_finished f last) inbox a refl refl refl refl refl
 own_keeps_agreeing flow c f inbox (live count) a = alike flow c f (counted_sent f count) inbox a refl refl refl refl refl
 own_keeps_agreeing flow c f inbox (again rest) a = alike flow c f (serves f rest) inbox a refl refl refl refl refl
-
--- what any frame leaves, where the flow is this one
-leaves_on : (x : Around) (s : Course) (i : Incoming) (c : Option ℕ) (flow : Flow) → x.config.peer_flow ≡ flow → Agrees flow c s.facts s.inbox → Leaves flow c s.inbox i (reply_of x s.facts i)
-leaves_on x s i c flow same a = subst (λ k. Agrees k c s.facts s.inbox → Leaves k c s.inbox i (reply_of x s.facts i)) same (leaves x s.facts i c s.inbox) a
-
--- a frame grows the inbox by its event where it is accepted, and else by none
-grown_at : (x : Around) (s : Course) (i : Incoming) (c : Option ℕ) (flow : Flow) → Agrees flow c s.facts s.inbox → Leaves flow c s.inbox i (reply_of x s.facts i)
-    → GrowsBy flow c s.inbox (events_at s (frame x i)) (records_of (reply_of x s.facts i).act i) (reply_of x s.facts i).next
-grown_at x s i c flow a l = by_test (reply_of x s.facts i).accepted refl
-  where
-    o : Outcome
-    o = reply_of x s.facts i
-
-    by_test : (b : Bool) → o.accepted ≡ b → GrowsBy flow c s.inbox (if b then option_to_list (event_of i) else []) (records_of o.act i) o.next
-    by_test true e = l.grows e
-    by_test false e =
-        let none = l.spares e in
-        quiet_grows flow c s.inbox (records_of o.act i) s.facts o.next a none.1 (ap (λ rs. applied rs) none.0) (ap (λ rs. skips rs) none.0)
-
-course_grows : (flow : Flow) (c : Option ℕ) (s : Course) (happenings : List Happening) → AllByRecursion (IsOnFlow flow) happenings
-    → Agrees flow c s.facts s.inbox → Grown (model_flow flow) c (accepted_events s happenings) s.inbox (course_after s happenings).inbox
-course_grows flow c s [] same a = subst (λ i. Grown (model_flow flow) c [] s.inbox i) (append-nil s.inbox) (unmoved flow c s.facts s.inbox [] a refl refl)
-course_grows flow c s (frame x i ∷ later) same a =
-    let g = grown_at x s i c flow a (leaves_on x s i c flow same.0 a) in
-    let behind = next_course s (frame x i) in
-    growth_goes_on (model_flow flow) c (events_at s (frame x i)) (accepted_events behind later) s.inbox behind.inbox (course_after s (frame x i ∷ later)).inbox g.grown
-    (course_grows flow (standing c (events_at s (frame x i))) behind later same.1 g.agrees)
-course_grows flow c s (between o ∷ later) same a = course_grows flow c (next_course s (between o)) later same.1 (own_keeps_agreeing flow c s.facts s.inbox o a)
-
-course_tells : (flow : Flow) (c : Option ℕ) (s : Course) (happenings : List Happening) → AllByRecursion (IsOnFlow flow) happenings
-    → Agrees flow c s.facts s.inbox → skips (course_after s happenings).inbox ≡ skips s.inbox ++ told_in (written_after s happenings)
-course_tells flow c s [] same a = sym (append-nil (skips s.inbox))
-course_tells flow c s (frame x i ∷ later) same a =
-    let o = reply_of x s.facts i in
-    let behind = next_course s (frame x i) in
-    let l = leaves_on x s i c flow same.0 a in
-    let g = grown_at x s i c flow a l in
-    course_tells flow (standing c (events_at s (frame x i))) behind later same.1 g.agrees
-    ∙ (ap (λ rs. rs ++ told_in (written_after behind later)) (skips-append s.inbox (records_of o.act i))
-    ∙ (append_assoc (skips s.inbox) (skips (records_of o.act i)) (told_in (written_after behind later))
-    ∙ ap (λ rs. skips s.inbox ++ rs) (ap (λ rs. rs ++ told_in (written_after behind later)) (sym l.tells) ∙ sym (flat_map-append _ o.written (written_after behind later)))))
-course_tells flow c s (between o ∷ later) same a = course_tells flow c (next_course s (between o)) later same.1 (own_keeps_agreeing flow c s.facts s.inbox o a)
-
-pub frames_grow : FramesGrow
-frames_grow x recorded inbox happenings flow next same = course_grows flow None (beginning x recorded inbox) happenings same (begins_agreeing x recorded inbox flow next)
-
-pub frames_tell : FramesTell
-frames_tell x recorded inbox happenings flow next same = course_tells flow None (beginning x recorded inbox) happenings same (begins_agreeing x recorded inbox flow next)

@@ -3,7 +3,6 @@ use Rattle.std.proofs.Common.{◌≡◌, ℕ, ◌+◌, ◌-◌, ◌≤◌, max, 
 use Rattle.std.specs.Prelude.{is_some, is_none, unwrap_or}
 use Rattle.std.specs.List.{AllByRecursion}
 use Rattle.std.proofs.lemmas.Bool.{ltb-false}
-use Rattle.std.proofs.lemmas.Bool.Decides.{nat_tests}
 use Rattle.session_model.specs.Journal.{counts_from}
 use Rattle.session_model.specs.Inbox.{InboxRecord, apply, applied, skips, settled, numbers_of, payloads_of, next_number, past_greatest}
 use Rattle.session_model.specs.Events.{Announcer, Event, announce, numbered}
@@ -24,6 +23,7 @@ use Rattle.fixp_replies.specs.Incoming.{Incoming}
 use Rattle.fixp_replies.specs.Facts.{receiving, awaiting, awaits_gap, having_asked, gap_to_ask}
 use Rattle.fixp_replies.specs.Outcomes.{skip_of}
 use Rattle.fixp_replies.specs.Announcing.{Announced, jumped_over}
+use Rattle.reply_laws.proofs.Tests.{no_gap}
 use Rattle.growth_laws.specs.Accepting.{model_flow, records_of, next_message, AsksNothing, Agrees, GrowsBy}
 
 -- what the announcement makes of the facts, and the rule that it breaks, where the flow is this one
@@ -66,17 +66,6 @@ bounds flow most f template next e seq =
 some_is : (next : Option ℕ) → is_none next ≡ false → next ≡ Some (unwrap_or next 0)
 some_is None e = absurd (true≢false e)
 some_is (Some n) e = refl
-
--- an even receiver has no gap
-abbrev gap_if : Bool → Range → Option Range
-gap_if b g = if b then Some g else None
-
-no_gap : (next live : ℕ) → live ≡ next → gap_if (nat_lt next live) (record { from = next; count = live - next }) ≡ None
-no_gap next live e = by_test (nat_lt next live) refl
-  where
-    by_test : (b : Bool) → nat_lt next live ≡ b → gap_if b (record { from = next; count = live - next }) ≡ None
-    by_test true t = let no : ⊥ = grind (arith, nat_tests) in absurd no
-    by_test false t = refl
 
 pub gap_none : (f : Facts) → AsksNothing f → receiver_is.gap f.connection.receiver ≡ None
 gap_none f q = no_gap f.connection.receiver.next f.connection.receiver.live q.no_gap

@@ -1,6 +1,6 @@
 -- What an end accepts over the frames of one connection: the events of the peer's flow, and the records that it adds to the inbox.
-use Rattle.std.specs.Prelude.{◌≡◌, ℕ, true, false, IsTrue, ⊤, if◌then◌else◌, List, [], ◌∷◌, ◌++◌, Option, Some, None, option_to_list}
-use Rattle.std.specs.List.{flat_map, AllByRecursion}
+use Rattle.std.specs.Prelude.{◌≡◌, ℕ, true, false, IsTrue, if◌then◌else◌, List, [], ◌∷◌, ◌++◌, Option, Some, None, option_to_list}
+use Rattle.std.specs.List.{flat_map}
 use Rattle.session_model.specs.Inbox.{Range, InboxRecord, skips, next_number}
 use Rattle.session_model.specs.Events.{Event, standing}
 use Rattle.session_model.specs.Growth as model
@@ -113,57 +113,10 @@ abbrev pub OwnKeepsAgreeing : Type 0
 OwnKeepsAgreeing = (flow : Flow) (c : Option ℕ) (f : Facts) (inbox : List InboxRecord) (o : Own)
     → Agrees flow c f inbox → Agrees flow c (facts_after f o) inbox
 
--- what happens on a connection: a frame comes, with its message, classified, and what stands around the reply to it; or the end
--- does something of its own
-pub data Happening : Type 0 where
-  frame : Around → Incoming → Happening
-  between : Own → Happening
-
--- how far a connection has come: the facts, and the records of the inbox, each made stable before the next frame
-pub record Course : Type 0 where
-  pub facts : Facts
-  pub inbox : List InboxRecord
-
-abbrev pub next_course : Course → Happening → Course
-next_course s (frame x i) = record { facts = (reply_of x s.facts i).next; inbox = s.inbox ++ records_of (reply_of x s.facts i).act i }
-next_course s (between o) = record { facts = facts_after s.facts o; inbox = s.inbox }
-
-abbrev pub course_after : Course → List Happening → Course
-course_after s [] = s
-course_after s (h ∷ later) = course_after (next_course s h) later
-
--- the flow of the peer, in the configuration around each frame
-abbrev pub IsOnFlow : Flow → Happening → Type 0
-IsOnFlow flow (frame x i) = x.config.peer_flow ≡ flow
-IsOnFlow flow (between o) = ⊤
-
--- the events of the frames that are accepted, each where the connection has come to
-abbrev pub events_at : Course → Happening → List Event
-events_at s (frame x i) = if (reply_of x s.facts i).accepted then option_to_list (event_of i) else []
-events_at s (between o) = []
-
-abbrev pub accepted_events : Course → List Happening → List Event
-accepted_events s [] = []
-accepted_events s (h ∷ later) = events_at s h ++ accepted_events (next_course s h) later
-
--- the beginning of a connection over an inbox, where this is recorded
-abbrev pub beginning : Around → EndState → List InboxRecord → Course
-beginning x recorded inbox = record { facts = (begun x recorded).next; inbox = inbox }
-
 -- a connection begins, in either role, with facts that agree with its inbox, and nothing announced
 abbrev pub BeginsAgreeing : Type 0
 BeginsAgreeing = (x : Around) (recorded : EndState) (inbox : List InboxRecord) (flow : Flow)
-    → recorded.inbox_next ≡ next_number inbox → Agrees flow None (beginning x recorded inbox).facts inbox
-
--- over any frames of a connection, and whatever the end does of its own between them, the inbox grows as the session model has
--- it of the peer's flow, over the events of the accepted ones: on a recoverable flow what is applied has consecutive numbers and
--- reaches as far as the chain of what came, on an idempotent one each message is applied and each skip is the jump of one
--- announcement, on an unsequenced one each message is applied, and without a flow nothing is
-abbrev pub FramesGrow : Type 0
-FramesGrow = (x : Around) (recorded : EndState) (inbox : List InboxRecord) (happenings : List Happening) (flow : Flow)
-    → recorded.inbox_next ≡ next_number inbox
-    → AllByRecursion (IsOnFlow flow) happenings
-    → Grown (model_flow flow) None (accepted_events (beginning x recorded inbox) happenings) inbox (course_after (beginning x recorded inbox) happenings).inbox
+    → recorded.inbox_next ≡ next_number inbox → Agrees flow None (begun x recorded).next inbox
 
 -- the ranges that messages tell to be not applied
 abbrev pub told_by : Message → List Range
@@ -177,19 +130,3 @@ told_in messages = flat_map told_by messages
 abbrev pub FrameTells : Type 0
 FrameTells = (x : Around) (f : Facts) (i : Incoming) (c : Option ℕ) (inbox : List InboxRecord)
     → Agrees x.config.peer_flow c f inbox → told_in (reply_of x f i).written ≡ skips (records_of (reply_of x f i).act i)
-
--- what is written in reply to the frames
-abbrev pub replies_to : Course → Happening → List Message
-replies_to s (frame x i) = (reply_of x s.facts i).written
-replies_to s (between o) = []
-
-abbrev pub written_after : Course → List Happening → List Message
-written_after s [] = []
-written_after s (h ∷ later) = replies_to s h ++ written_after (next_course s h) later
-
--- over any frames of a connection the ranges told to be not applied in reply are those that the inbox skips, in order
-abbrev pub FramesTell : Type 0
-FramesTell = (x : Around) (recorded : EndState) (inbox : List InboxRecord) (happenings : List Happening) (flow : Flow)
-    → recorded.inbox_next ≡ next_number inbox
-    → AllByRecursion (IsOnFlow flow) happenings
-    → skips (course_after (beginning x recorded inbox) happenings).inbox ≡ skips inbox ++ told_in (written_after (beginning x recorded inbox) happenings)

@@ -1,6 +1,6 @@
-//! What the frames of a connection make of the inbox, and what is told of the numbers that are skipped.
+//! What a frame makes of the inbox, and what is told of the numbers that are skipped.
 
-ghost use Rattle.growth_laws.specs.Accepting.{AcceptedFrameGrows, RefusedFrameSpares, FrameTells, BeginsAgreeing, OwnKeepsAgreeing, FramesGrow, FramesTell};
+ghost use Rattle.growth_laws.specs.Accepting.{AcceptedFrameGrows, RefusedFrameSpares, FrameTells, BeginsAgreeing, OwnKeepsAgreeing};
 
 /// A frame that is accepted grows the inbox by the records of its act, as the session model has it of the peer's flow.
 pub fn accepted_frame_grows()
@@ -25,14 +25,4 @@ pub fn begins_agreeing()
 /// What an end does of its own between frames leaves facts that agree with the same inbox.
 pub fn own_keeps_agreeing()
     ensures law { OwnKeepsAgreeing }
-{}
-
-/// Over any frames of a connection the inbox grows as the session model has it of the peer's flow, over the accepted ones.
-pub fn frames_grow()
-    ensures law { FramesGrow }
-{}
-
-/// Over any frames of a connection NotApplied tells in reply the ranges that the inbox skips, in order.
-pub fn frames_tell()
-    ensures law { FramesTell }
 {}

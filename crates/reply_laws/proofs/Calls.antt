@@ -8,6 +8,7 @@ use Rattle.fixp_shake.specs.declared.phase.Phase.{Phase}
 use Rattle.fixp_shake.specs.declared.phase.Phase.TheVariants as phases
 use Rattle.fixp_shake.specs.Phases.{is_negotiating, is_establishing}
 use Rattle.fixp_shake.specs.declared.violation.Violation.{Violation}
+use Rattle.fixp_replies.specs.declared.facts.EndState.{EndState}
 use Rattle.fixp_replies.specs.declared.facts.Facts.{Facts}
 use Rattle.fixp_replies.specs.declared.facts.OwnFinish.TheVariants as own
 use Rattle.fixp_replies.specs.Acts.{is_record}
@@ -34,16 +35,17 @@ connecting_sound : (cfg : EndConfig) (f : Facts) (phase : Phase) → Sound cfg f
     → Sound cfg (connecting f.recorded phase)
 connecting_sound cfg f phase s role = record { waits = λ _. refl; even = λ _. refl; unread = λ _. refl; credentials = s.credentials; sent = s.sent; role = role }
 
-abbrev begun_as : Around → Facts → Bool → Bool → Made
-begun_as x f i n =
-    if not i then record { written = []; next = connecting f.recorded phases.Idle }
-    else if n then record { written = opening_establish x (connecting f.recorded phases.Establishing) ∷ []; next = connecting f.recorded phases.Establishing }
-    else record { written = opening_negotiate x ∷ []; next = connecting f.recorded phases.Negotiating }
+-- how a connection begins, by the role and by whether the session was negotiated
+abbrev pub begun_as : Around → EndState → (initiates negotiated : Bool) → Made
+begun_as x recorded initiates negotiated =
+    if not initiates then record { written = []; next = connecting recorded phases.Idle }
+    else if negotiated then record { written = opening_establish x (connecting recorded phases.Establishing) ∷ []; next = connecting recorded phases.Establishing }
+    else record { written = opening_negotiate x ∷ []; next = connecting recorded phases.Negotiating }
 
 begun_sound : (x : Around) (f : Facts) → Sound x.config f → Sound x.config (begun x f.recorded).next
 begun_sound x f s = by_case (is_initiator x.config.role) f.recorded.negotiated refl
   where
-    by_case : (i n : Bool) → is_initiator x.config.role ≡ i → Sound x.config (begun_as x f i n).next
+    by_case : (i n : Bool) → is_initiator x.config.role ≡ i → Sound x.config (begun_as x f.recorded i n).next
     by_case false n e = connecting_sound x.config f phases.Idle s (λ _. refl)
     by_case true true e = connecting_sound x.config f phases.Establishing s (λ t. absurd (true≢false (sym e ∙ t)))
     by_case true false e = connecting_sound x.config f phases.Negotiating s (λ t. absurd (true≢false (sym e ∙ t)))

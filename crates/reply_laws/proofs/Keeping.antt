@@ -1,9 +1,8 @@
 -- Sound facts stay sound, row by row.
-use Rattle.std.proofs.Common.{◌≡◌, ◌≢◌, ℕ, ◌+◌, ◌-◌, ◌*◌, ◌<◌, ◌≤◌, ◌^◌, ◌==◌, ◌&&◌, ◌||◌, max, min, nat_lt, not, Bool, true, false, if◌then◌else◌, List, length, [], ◌∷◌, ◌++◌, Option, Some, None, refl, sym, ap, subst, ◌∙◌, arith, eqb-true, eq-eqb, true≢false}
+use Rattle.std.proofs.Common.{◌≡◌, ◌≢◌, ℕ, ◌+◌, ◌-◌, ◌*◌, ◌<◌, ◌≤◌, ◌^◌, ◌==◌, ◌&&◌, ◌||◌, max, min, nat_lt, not, Bool, true, false, if◌then◌else◌, List, length, [], ◌∷◌, ◌++◌, Option, Some, None, refl, sym, ap, subst, ◌∙◌, arith, eq-eqb, true≢false}
 use Rattle.std.specs.Prelude.{is_some, is_none, unwrap_or, Result, Ok, Err}
 use Rattle.std.specs.List.{AllByRecursion}
 use Rattle.std.proofs.lemmas.Bool.{ltb-false}
-use Rattle.std.proofs.lemmas.Bool.Decides.{nat_tests}
 use Rattle.fixp_msgs.specs.declared.numbering.Range.{Range}
 use Rattle.fixp_msgs.specs.Flow.{flow_code}
 use Rattle.fixp_msgs.specs.Message.{Message, negotiate, negotiation_response, negotiation_reject, establish, establishment_ack, establishment_reject, sequence, unsequenced_heartbeat, retransmit_request, retransmission, retransmit_reject, applied, not_applied, finished_sending, finished_receiving, terminate}
@@ -37,9 +36,10 @@ use Rattle.fixp_replies.specs.Announcing.{Announced, jumped_over, announced, ann
 use Rattle.fixp_replies.specs.Handshake.{awaits_client, serves_client, rejects_negotiate, rejects_establish, established, acknowledges, establish_rows, established_again_rows, establish_rows_in, shaken}
 use Rattle.fixp_replies.specs.Flowing.{bad_retransmission, counted, taken_as, finish_act, peer_finished, answers_finish, is_filled, sequence_follows, restarted, finished_last, finish_fault, finished}
 use Rattle.fixp_replies.specs.Serving.{request_answered, own_finishing}
-use Rattle.fixp_replies.specs.Replies.{template_of, of_session, rows_of, answer_of, terminates}
+use Rattle.fixp_replies.specs.Replies.{template_of, rows_of, answer_of, terminates}
 use Rattle.reply_laws.specs.Sound.{Sound, Advances, is_opening, MayWrite, WithinMost, KeepsSound, SoundGoesOn}
-use Rattle.reply_laws.proofs.Rows.{AllRows, by_row, all_rows, all_within}
+use Rattle.reply_laws.proofs.Rows.{AllRows, by_row, all_rows, all_within, announced_rows, own_rows}
+use Rattle.reply_laws.proofs.Tests.{not_true, not_false, none-some, delivers, passes, no_gap}
 
 abbrev Writes : EndConfig → List Message → Type 0
 Writes cfg ms = AllByRecursion (MayWrite cfg) ms
@@ -128,6 +128,10 @@ ending x f code e s = record { next = s; sent = refl; advances = refl; within = 
 rejecting : (x : Around) (f : Facts) (e : Ending) → Sound x.config f → KeepsSound x.config x.most f (ends_with x f [] e)
 rejecting x f e s = record { next = s; sent = refl; advances = refl; within = tt; writes = tt }
 
+refusing : (x : Around) (f : Facts) → Sound x.config f → (v : Option Violation) → KeepsSound x.config x.most f (refuses x f v)
+refusing x f s None = ignoring x f s
+refusing x f s (Some v) = ending x f 2 _ s
+
 bad : (x : Around) (f : Facts) (b : Option BadStart) → Sound x.config f → KeepsSound x.config x.most f (bad_retransmission x f b)
 bad x f None s = ignoring x f s
 bad x f (Some b) s = ending x f 2 _ s
@@ -209,25 +213,6 @@ unmoved x f next rec = by_flow (is_recoverable x.config.peer_flow) (is_idempoten
     by_flow true i e = refl
     by_flow false i e = absurd (true≢false (sym e))
 
-pub none-some : {A : Type 0} (o : Option A) → is_some o ≡ true → o ≡ None → ⊥
-none-some None t e = true≢false (sym t)
-none-some (Some a) t e = true≢false (sym t ∙ ap is_some e)
-
-pub some-none : {A : Type 0} (o : Option A) → is_some o ≡ false → o ≡ None
-some-none None e = refl
-some-none (Some a) e = absurd (true≢false e)
-
-pub announced_rows : (P : Outcome → Type 0) (x : Around) (f : Facts) (template : ℕ) (next : Option ℕ) (follows : Announced → Outcome)
-    → ((code : ℕ) (e : Ending) → P (ends x f code e))
-    → (announcement_fault x f template next ≡ None → P (follows (announced x f next)))
-    → AllRows P (announcement_rows x f template next follows)
-announced_rows P x f template next follows refused takes =
-    (λ some. by_fault (announcement_fault x f template next) some, λ none. (λ _. takes (some-none (announcement_fault x f template next) none), λ _. tt))
-  where
-    by_fault : (v : Option Violation) → is_some v ≡ true → P (refuses x f v)
-    by_fault None some = absurd (true≢false (sym some))
-    by_fault (Some v) some = refused 2 _
-
 -- the handshake is done
 done : (cfg : EndConfig) (f : Facts) (k : ℕ) → Sound cfg f → Sound cfg (established f k)
 done cfg f k s = record { waits = s.waits; even = s.even; unread = s.unread; credentials = s.credentials; sent = s.sent; role = λ _. refl }
@@ -235,24 +220,6 @@ done cfg f k s = record { waits = s.waits; even = s.even; unread = s.unread; cre
 -- the retransmission's requester is no part of it
 same_but_requests : (cfg : EndConfig) (f : Facts) (r : _) → Sound cfg f → Sound cfg (requesting f r)
 same_but_requests cfg f r s = record { waits = s.waits; even = s.even; unread = s.unread; credentials = s.credentials; sent = s.sent; role = s.role }
-
--- a message that is delivered is the one waited for
-delivers : (next k n : ℕ) → receiver_is.seen_as next k ≡ Deliver n → (n ≡ k) × (k ≡ next)
-delivers next k n = by_tests (k == next) (nat_lt next k) refl
-  where
-    by_tests : (same past : Bool) → (k == next) ≡ same → (if same then Deliver k else if past then Gap k else Repeat k) ≡ Deliver n → (n ≡ k) × (k ≡ next)
-    by_tests true past t e = (cc e, eqb-true k next t)
-    by_tests false true t e = absurd cc
-    by_tests false false t e = absurd cc
-
-passes : (next k n : ℕ) → (receiver_is.seen_as next k ≡ Gap n → (k == next) ≡ false) × (receiver_is.seen_as next k ≡ Repeat n → (k == next) ≡ false)
-passes next k n = by_tests (k == next) (nat_lt next k) refl
-  where
-    by_tests : (same past : Bool) → (k == next) ≡ same
-        → ((if same then Deliver k else if past then Gap k else Repeat k) ≡ Gap n → (k == next) ≡ false)
-        × ((if same then Deliver k else if past then Gap k else Repeat k) ≡ Repeat n → (k == next) ≡ false)
-    by_tests true past t = (λ e. absurd cc, λ e. absurd cc)
-    by_tests false past t = (λ e. t, λ e. t)
 
 -- a message of a recoverable flow
 left_out : (cfg : EndConfig) (f : Facts) → is_recoverable cfg.peer_flow ≡ true → Sound cfg f → (receiver_is.number f.connection.receiver == f.connection.receiver.next) ≡ false → Sound cfg (counted f)
@@ -288,10 +255,6 @@ taking x f rec s top (Repeat n) is =
     let r = f.connection.receiver in
     going x f (counted f) acts.Nothing [] (left_out x.config f rec s ((passes r.next (receiver_is.number r) n).1 is)) refl refl tt tt
 
-pub not_true : (b : Bool) → not b ≡ false → b ≡ true
-not_true true e = refl
-not_true false e = absurd (true≢false e)
-
 -- the number of a message that is not too large
 number_of : (x : Around) (f : Facts) → is_recoverable x.config.peer_flow ≡ true → nat_lt x.most (message_number x f) ≡ false → receiver_is.number f.connection.receiver ≤ x.most
 number_of x f rec e =
@@ -300,10 +263,6 @@ number_of x f rec e =
 next_of : (x : Around) (f : Facts) → is_recoverable x.config.peer_flow ≡ false → nat_lt x.most (message_number x f) ≡ false → f.recorded.inbox_next ≤ x.most
 next_of x f rec e =
     subst (λ (b : Bool). (if b then receiver_is.number f.connection.receiver else f.recorded.inbox_next) ≤ x.most) rec (ltb-false x.most (message_number x f) e)
-
-pub not_false : (b : Bool) → not b ≡ true → b ≡ false
-not_false true e = absurd (true≢false (sym e))
-not_false false e = refl
 
 message_rows : (x : Around) (f : Facts) (p : List ℕ) → Sound x.config f → AllRows (KeepsSound x.config x.most f) (rows_of x f (application p))
 message_rows x f p s = all_within (KeepsSound x.config x.most f) (is_established f.connection.phase) _ (λ _. (
@@ -410,9 +369,6 @@ awaits_as_initiator cfg f s t = by_role (is_initiator cfg.role) refl
     by_role true e = e
     by_role false e = absurd (true≢false (sym t ∙ s.role e))
 
-pub own_rows : (P : Outcome → Type 0) (x : Around) (f : Facts) (template : ℕ) (id : List ℕ) (rows : List Row) → ((e : Ending) → P (ends x f 2 e)) → AllRows P rows → AllRows P (of_session x f template id rows)
-own_rows P x f template id rows refuses all = (λ _. refuses _, λ _. all)
-
 establish_all : (x : Around) (f : Facts) (id : List ℕ) (timestamp keepalive : ℕ) (next : Option ℕ) (credentials : List ℕ) → Sound x.config f
     → AllRows (KeepsSound x.config x.most f) (establish_rows_in x f id timestamp keepalive next credentials)
 establish_all x f id timestamp keepalive next credentials s = by_place (awaits_client x f) (serves_client x f)
@@ -434,7 +390,7 @@ establish_all x f id timestamp keepalive next credentials s = by_place (awaits_c
         λ _. rejecting_establish x f id timestamp 5 s,
         λ _. (
           λ _. rejecting_establish x f id timestamp 6 s,
-          λ _. announced_rows P x f 4 next (acknowledges x timestamp keepalive) (λ code e. ending x f code e s) (λ e. acknowledged (announced x f next) (announced_fits x f 4 next s e)),
+          λ _. announced_rows P x f 4 next (acknowledges x timestamp keepalive) (refusing x f s) (λ e. acknowledged (announced x f next) (announced_fits x f 4 next s e)),
         ),
       ),
     )
@@ -447,17 +403,6 @@ establish_all x f id timestamp keepalive next credentials s = by_place (awaits_c
     by_place true b = first
     by_place false true = again
     by_place false false = tt
-
--- an even receiver has no gap
-abbrev gap_if : Bool → Range → Option Range
-gap_if b g = if b then Some g else None
-
-gap_tests : (next live : ℕ) (g : Range) (b : Bool) → nat_lt next live ≡ b → live ≡ next → is_some (gap_if b g) ≡ true → ⊥
-gap_tests next live g true t e some = grind (arith, nat_tests)
-gap_tests next live g false t e some = true≢false (sym some)
-
-pub no_gap : (r : receiver_is.Receiving) → r.live ≡ r.next → is_some (receiver_is.gap r) ≡ true → ⊥
-no_gap r e some = gap_tests r.next r.live (record { from = r.next; count = r.live - r.next }) (nat_lt r.next r.live) refl e some
 
 session_rows : (x : Around) (f : Facts) (m : Message) → Sound x.config f → AllRows (KeepsSound x.config x.most f) (rows_of x f (session m))
 session_rows x f (negotiate id timestamp flow credentials) s = all_within (KeepsSound x.config x.most f) (awaits_client x f) _ (λ _. (
@@ -492,7 +437,7 @@ session_rows x f (establish id timestamp keepalive next credentials) s = establi
 session_rows x f (establishment_ack id timestamp keepalive next) s =
     let interval : ℕ = min 60000 (max 100 keepalive) in
     own_rows (KeepsSound x.config x.most f) x f 5 id _ (λ e. ending x f 2 e s) (all_within (KeepsSound x.config x.most f) (is_establishing f.connection.phase) _ (λ _.
-    announced_rows (KeepsSound x.config x.most f) x f 5 next (λ (a : Announced). goes_on x (skip_of a.skipped) (told_skip a.skipped) (established a.facts interval)) (λ code e. ending x f code e s)
+    announced_rows (KeepsSound x.config x.most f) x f 5 next (λ (a : Announced). goes_on x (skip_of a.skipped) (told_skip a.skipped) (established a.facts interval)) (refusing x f s)
     (λ e. let fits = announced_fits x f 5 next s e in
     going x f (established (announced x f next).facts interval) (skip_of (announced x f next).skipped) (told_skip (announced x f next).skipped)
     (done x.config (announced x f next).facts interval fits.sound) fits.sent fits.advances fits.within (tells_not x.config (announced x f next).skipped))))
@@ -509,11 +454,16 @@ session_rows x f (sequence next) s = all_within (KeepsSound x.config x.most f) (
   λ _. after (requesting f (request_is.after_sequence f.connection.requester)) (same_but_requests x.config f (request_is.after_sequence f.connection.requester) s) refl refl,
 ))
   where
+    left : (ended : Facts) → Sound x.config ended → ended.recorded.sent ≡ f.recorded.sent → ended.recorded.inbox_next ≡ f.recorded.inbox_next → (v : Option Violation)
+        → KeepsSound x.config x.most f (refuses x ended v)
+    left ended e kept same None = record { next = e; sent = kept; advances = same; within = tt; writes = tt }
+    left ended e kept same (Some v) = record { next = e; sent = kept; advances = same; within = tt; writes = writes_terminate x.config 2 }
+
     after : (ended : Facts) → Sound x.config ended → ended.recorded.sent ≡ f.recorded.sent → ended.recorded.inbox_next ≡ f.recorded.inbox_next
         → AllRows (KeepsSound x.config x.most f) (announcement_rows x ended 7 (Some next) (sequence_follows x ended next))
     after ended e kept same =
         announced_rows (KeepsSound x.config x.most f) x ended 7 (Some next) (sequence_follows x ended next)
-        (λ code how. record { next = e; sent = kept; advances = same; within = tt; writes = writes_terminate x.config code })
+        (left ended e kept same)
         (λ none. let fits = announced_fits x ended 7 (Some next) e none in
         following x f ended next (announced x ended (Some next)) e kept same (λ r. unmoved x ended (Some next) r ∙ same) (record {
           sound = fits.sound;
@@ -537,18 +487,14 @@ session_rows x f (applied first count) s = (λ _. going x f f acts.Nothing [] s 
 session_rows x f (not_applied first count) s = (λ _. going x f f (acts.Told first count) [] s refl refl tt tt, λ _. (λ _. going x f f acts.Nothing [] s refl refl tt tt, λ _. tt))
 session_rows x f (finished_sending id last) s =
     own_rows (KeepsSound x.config x.most f) x f 14 id _ (λ e. ending x f 2 e s) (all_within (KeepsSound x.config x.most f) (is_established f.connection.phase) _ (λ _. (
-      λ some. refused (finish_fault x f last) some,
+      λ _. refusing x f s (finish_fault x f last),
       λ _. (λ _. finishing (finished_last x last), λ _. tt),
     )))
   where
-    refused : (v : Option Violation) → is_some v ≡ true → KeepsSound x.config x.most f (refuses x f v)
-    refused None some = absurd (true≢false (sym some))
-    refused (Some v) some = ending x f 2 _ s
-
     finishing : (n : ℕ) → KeepsSound x.config x.most f (finished x f n)
     finishing n = by_row (KeepsSound x.config x.most f) (is_some (receiver_is.gap f.connection.receiver)) (accepts x [] (peer_finished f (peer.Read n) f.recorded.peer_last)) (answers_finish x f n)
         (λ g. going x f (peer_finished f (peer.Read n) f.recorded.peer_last) acts.Nothing []
-        (record { waits = s.waits; even = s.even; unread = λ t. absurd (no_gap f.connection.receiver (s.even t) g); credentials = s.credentials; sent = s.sent; role = s.role }) refl refl tt tt)
+        (record { waits = s.waits; even = s.even; unread = λ t. absurd (none-some (receiver_is.gap f.connection.receiver) g (no_gap f.connection.receiver.next f.connection.receiver.live (s.even t))); credentials = s.credentials; sent = s.sent; role = s.role }) refl refl tt tt)
         (λ _. answering x f f n s refl refl)
 session_rows x f (finished_receiving id) s =
     own_rows (KeepsSound x.config x.most f) x f 15 id _ (λ e. ending x f 2 e s) (all_within (KeepsSound x.config x.most f) (is_established f.connection.phase) _ (λ _. (

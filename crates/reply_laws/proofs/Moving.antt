@@ -39,7 +39,9 @@ use Rattle.fixp_replies.specs.Replies.{template_of, rows_of, answer_of, terminat
 use Rattle.reply_laws.specs.Sound.{Sound, Advances, WithinMost}
 use Rattle.reply_laws.specs.Fitting.{IsMessage, CanTake, recorded_after, WasSent, Fits, ActsFit}
 use Rattle.reply_laws.proofs.Rows.{AllRows, by_row, all_rows, all_within}
-use Rattle.reply_laws.proofs.Keeping.{in_bounds, or_right, none-some, announced_rows, own_rows, sound_goes_on}
+use Rattle.reply_laws.proofs.Keeping.{in_bounds, or_right, sound_goes_on}
+use Rattle.reply_laws.proofs.Rows.{announced_rows, own_rows}
+use Rattle.reply_laws.proofs.Tests.{none-some}
 
 -- what an inbox asks of an act beside its numbers
 abbrev Allows : Flow → EndState → Incoming → Act → Type 0

@@ -1,0 +1,9 @@
+pub mod Replied
+pub mod Owned
+pub mod Pieces
+pub mod Framing
+pub mod Going
+pub mod Continuing
+pub mod Lived
+pub mod Living
+pub mod Sampled

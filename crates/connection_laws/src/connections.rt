@@ -1,0 +1,39 @@
+//! Connections that stand, in the words of the session model.
+
+ghost use Rattle.connection_laws.specs.Connections.{ConnectionKept, RefusedKept, ConnectionServes, WritingGoesOn, PartIsWritten};
+ghost use Rattle.connection_laws.specs.Living.{LifeServes, LifeRefused};
+
+/// A connection that stands is one that a life may have served, whatever of its frames the link took.
+pub fn connection_kept()
+    ensures law { ConnectionKept }
+{}
+
+/// So is one at which the append of a record failed: the record's frame is accepted, and not processed for sure.
+pub fn refused_kept()
+    ensures law { RefusedKept }
+{}
+
+/// Whatever calls come on a connection from its beginning on, where each may come, a life may have served it.
+pub fn connection_serves()
+    ensures law { ConnectionServes }
+{}
+
+/// What earlier connections of a life wrote, and then one that stands, is what a life may write.
+pub fn writing_goes_on()
+    ensures law { WritingGoesOn }
+{}
+
+/// What was written among the entries sent is what a life may write.
+pub fn part_is_written()
+    ensures law { PartIsWritten }
+{}
+
+/// Over any connections, and any calls on each, a life keeps on its connections what the session model asks of it.
+pub fn life_serves()
+    ensures law { LifeServes }
+{}
+
+/// So it does where on the last connection the append of a record failed.
+pub fn life_refused()
+    ensures law { LifeRefused }
+{}
