@@ -38,9 +38,8 @@ use Rattle.fixp_replies.specs.Serving.{request_answered, own_finishing}
 use Rattle.fixp_replies.specs.Replies.{template_of, rows_of, answer_of, terminates, reply_of}
 use Rattle.reply_laws.specs.Sound.{Sound, Advances, WithinMost}
 use Rattle.reply_laws.specs.Fitting.{IsMessage, CanTake, recorded_after, WasSent, Fits, ActsFit}
-use Rattle.reply_laws.proofs.Rows.{AllRows, by_row, all_rows, all_within}
+use Rattle.reply_laws.proofs.Rows.{AllRows, by_row, all_rows, all_within, announced_rows, own_rows}
 use Rattle.reply_laws.proofs.Keeping.{in_bounds, or_right, sound_goes_on}
-use Rattle.reply_laws.proofs.Rows.{announced_rows, own_rows}
 use Rattle.reply_laws.proofs.Tests.{none-some}
 
 -- what an inbox asks of an act beside its numbers
@@ -97,6 +96,15 @@ ending x f i written e = record { allows = tt; recorded = refl; served = still f
 ending_of : (x : Around) (f next : Facts) (i : Incoming) (written : List Message) (e : Ending) → next.recorded ≡ f.recorded → next.connection.serving ≡ f.connection.serving
     → Moves x f i (ends_with x next written e)
 ending_of x f next i written e r s = record { allows = tt; recorded = r; served = still f next.connection.serving s }
+
+refusing : (x : Around) (f : Facts) (i : Incoming) (v : Option Violation) → Moves x f i (refuses x f v)
+refusing x f i None = staying x f i []
+refusing x f i (Some v) = ending x f i _ _
+
+refusing_of : (x : Around) (f next : Facts) (i : Incoming) → next.recorded ≡ f.recorded → next.connection.serving ≡ f.connection.serving → (v : Option Violation)
+    → Moves x f i (refuses x next v)
+refusing_of x f next i r s None = record { allows = tt; recorded = r; served = still f next.connection.serving s }
+refusing_of x f next i r s (Some v) = ending_of x f next i _ _ r s
 
 bad : (x : Around) (f : Facts) (i : Incoming) (b : Option BadStart) → Moves x f i (bad_retransmission x f b)
 bad x f i None = staying x f i []
@@ -302,7 +310,7 @@ establish_all x f i id timestamp keepalive next credentials = by_place (awaits_c
         λ _. staying x f i _,
         λ _. (
           λ _. staying x f i _,
-          λ _. announced_rows (Moves x f i) x f 4 next (acknowledges x timestamp keepalive) (λ code e. ending x f i _ e) (λ e. acknowledged (announced x f next) (announces x f 4 next e)),
+          λ _. announced_rows (Moves x f i) x f 4 next (acknowledges x timestamp keepalive) (refusing x f i) (λ e. acknowledged (announced x f next) (announces x f 4 next e)),
         ),
       ),
     )
@@ -343,7 +351,7 @@ session_rows x f (establishment_ack id timestamp keepalive next) s =
     let i : Incoming = session (establishment_ack id timestamp keepalive next) in
     let interval : ℕ = min 60000 (max 100 keepalive) in
     own_rows (Moves x f i) x f 5 id _ (λ e. ending x f i _ e) (all_within (Moves x f i) (is_establishing f.connection.phase) _ (λ _.
-    announced_rows (Moves x f i) x f 5 next (λ (a : Announced). goes_on x (skip_of a.skipped) (told_skip a.skipped) (established a.facts interval)) (λ code e. ending x f i _ e)
+    announced_rows (Moves x f i) x f 5 next (λ (a : Announced). goes_on x (skip_of a.skipped) (told_skip a.skipped) (established a.facts interval)) (refusing x f i)
     (λ e. follows x f i (announced x f next) (established (announced x f next).facts interval) (told_skip (announced x f next).skipped) (announces x f 5 next e) refl refl)))
 session_rows x f (establishment_reject id timestamp code reason) s =
     let i : Incoming = session (establishment_reject id timestamp code reason) in
@@ -361,7 +369,7 @@ session_rows x f (sequence next) s =
     after : (i : Incoming) (ended : Facts) → ended.recorded ≡ f.recorded → ended.connection.serving ≡ f.connection.serving → ended.connection.peer_finish ≡ f.connection.peer_finish
         → AllRows (Moves x f i) (announcement_rows x ended 7 (Some next) (sequence_follows x ended next))
     after i ended r serving finish =
-        announced_rows (Moves x f i) x ended 7 (Some next) (sequence_follows x ended next) (λ code how. ending_of x f ended i _ how r serving)
+        announced_rows (Moves x f i) x ended 7 (Some next) (sequence_follows x ended next) (refusing_of x f ended i r serving)
         (λ none. following x f ended i next (announced x ended (Some next)) s r serving finish (announces x ended 7 (Some next) none))
 session_rows x f unsequenced_heartbeat s = (λ _. accepting x f f (session unsequenced_heartbeat) [] refl refl, λ _. tt)
 session_rows x f (retransmit_request id timestamp first count) s =
