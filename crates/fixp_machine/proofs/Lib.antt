@@ -4,3 +4,4 @@ pub mod Told
 pub mod RunLemmas
 pub mod Turn
 pub mod Frames
+pub mod OneClass

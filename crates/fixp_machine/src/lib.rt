@@ -2,6 +2,7 @@
 //! `fixp_replies`, and holds what it wrote until its link has taken it. It does no input or output itself.
 #![tactic(auto)]
 
+mod laws;
 mod machine;
 mod messages;
 mod output;
@@ -13,4 +14,5 @@ mod writing;
 
 pub use fixp_replies::{Act, EndState, Ending};
 pub use fixp_shake::{EndConfig, Flow, Phase, Role, Violation};
+pub use laws::one_classification;
 pub use machine::End;

@@ -1,8 +1,8 @@
 use Rattle.std.proofs.Common.{◌≡◌, ℕ, List, ◌++◌, length, take, refl, ap, ◌∙◌}
 use Rattle.std.proofs.KnownBytes.{Consumes-trans}
-use Rattle.fixp_end.specs.declared.config.EndConfig.{EndConfig}
+use Rattle.fixp_shake.specs.declared.config.EndConfig.{EndConfig}
 use Rattle.answer_command.specs.Progress.{AnsweredAll}
-use Rattle.fixp_end.specs.Machine.{State}
+use Rattle.reply_laws.specs.Machine.{State}
 use Rattle.command_base.specs.Contents.{Content}
 use Rattle.answer_command.specs.Promise.{Talks, verdict_of}
 use Rattle.answer_command.proofs.Rounds.{kept-front, cut-front, after-finish, after-push, stands-filled, written_over-same, room_left}

@@ -1,5 +1,5 @@
 use Rattle.std.proofs.Common.{ℕ, List, length}
-use Rattle.fixp_end.specs.declared.config.EndConfig.{EndConfig}
+use Rattle.fixp_shake.specs.declared.config.EndConfig.{EndConfig}
 use Rattle.answer_command.specs.Progress.{IsOpen, Stands}
 use Rattle.answer_command.proofs.acceptor.Acceptor.take_frames.Given as goal
 
