@@ -13,7 +13,7 @@ use Rattle.fixp_replies.specs.declared.act.Ending.{Ending}
 use Rattle.fixp_replies.specs.Incoming.{Incoming, IsIncoming}
 use Rattle.fixp_replies.specs.Replies.{reply_of}
 use Rattle.reply_laws.specs.Machine.{bytes_of}
-use Rattle.fixp_machine.proofs.OneClass.{classified_once}
+use Rattle.fixp_end.proofs.OneClass.{classified_once}
 use Rattle.answer_command.specs.Lines.{line_of}
 use Rattle.answer_command.specs.Answer.{Received, IsClassified, Stage, answered, next_stage, first_stage, stage_after, around_place, Answer, ended_answer, tail_answer, answer_at_end, answer_after, IsAnswer, OneAnswer}
 use Rattle.answer_command.specs.Promise.{Begins}

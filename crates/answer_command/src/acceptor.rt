@@ -16,7 +16,7 @@ ghost use Rattle.answer_command.specs.Promise.{Talks, IsIdle, AfterRound, KeepsP
 
 use crate::lines::push_line;
 use command_base::{Bad, Status, begin};
-use fixp_machine::{End, EndConfig, EndState, Ending, Flow, Role};
+use fixp_end::{End, EndConfig, EndState, Ending, Flow, Role};
 use gw_outside::{Failed, Sink, Source, push_all};
 use session_config::Settings;
 use sofh_frame::{FirstFrame, Framer, Order, ROOM};

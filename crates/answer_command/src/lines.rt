@@ -6,7 +6,7 @@ ghost use Rattle.hex.specs.Hex.{encode_lower};
 ghost use Rattle.sofh_frame.specs.Framing.{encoding_of};
 ghost use Rattle.answer_command.specs.Lines.{payload_of, deliver_line, line_of};
 
-use fixp_machine::Act;
+use fixp_end::Act;
 use sofh_frame::Order;
 use std::alloc::AllocError;
 use text_digits::{push_decimal, push_hex};

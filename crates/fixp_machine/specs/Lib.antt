@@ -1,4 +1,0 @@
-pub mod Answers
-pub mod Keeping
-pub mod Sending
-pub mod Laws
