@@ -1,5 +1,5 @@
 -- What one round over a piece of input leaves.
-use Rattle.std.proofs.Common.{◌≡◌, ℕ, List, [], ◌∷◌, ◌++◌, length, take, drop, Option, Some, None, refl, sym, ap, subst, ◌∙◌, append_assoc, append-nil, take-append-drop, eq-eqb, ◌+◌, ◌<◌, arith}
+use Rattle.std.proofs.Common.{◌≡◌, ◌⊎◌, inl, inr, ℕ, List, [], ◌∷◌, ◌++◌, length, take, drop, Option, Some, None, refl, sym, ap, subst, ◌∙◌, append_assoc, append-nil, take-append-drop, eq-eqb, ◌+◌, ◌<◌, arith}
 use Rattle.std.proofs.lemmas.Grind.{common_steps}
 use Rattle.std.specs.Prelude.{IsSome}
 use Rattle.std.specs.Io.KnownBytes.{Consumes, Appends, IsAtEnd}
@@ -261,6 +261,10 @@ IsLast steps.Answered = ⊥
 IsLast steps.Waits = ⊥
 IsLast steps.Broken = Unit {0}
 IsLast steps.Ended = Unit {0}
+
+pub last_of : (step : Step) → (step ≡ steps.Broken) ⊎ (step ≡ steps.Ended) → IsLast step
+last_of step (inl is) = rw is tt
+last_of step (inr is) = rw is tt
 
 pub after-end : (cfg : EndConfig) (before now after : Content) (a b : Acceptor) (read wire out : List ℕ) (step : Step) → IsLast step → AnsweredAll cfg read wire out a step → Halts step a
     → Consumes before.input after.input read → Appends before.wire now.wire wire → Appends before.out now.out out

@@ -147,6 +147,7 @@ impl Acceptor {
         requires output { length self.old.end.unsent ≤ 1000000 }
         ensures left { IfOk result (λ step. Leaves step self.new) }
         ensures stands { OnOk result ((cfg : EndConfig) (read wire out : List ℕ) → Stands cfg read wire out self.old → Stands cfg read wire out self.new) }
+        ensures bounded { result ≡ Ok Step.Broken → length self.new.end.unsent ≤ 1000000 }
         ensures less { result ≡ Ok Step.Answered → length self.new.framer.held < length self.old.framer.held }
         ensures room { result ≡ Ok Step.Answered → self.old.end.room ≤ self.new.end.room + 1 }
         ensures small { result ≡ Ok Step.Answered → length self.new.end.unsent ≤ length self.old.end.unsent + replies_limit 1 }
@@ -178,6 +179,7 @@ impl Acceptor {
         requires output { length self.old.end.unsent ≤ UNSENT }
         ensures left { IfOk result (λ step. Leaves step self.new) }
         ensures stands { OnOk result ((cfg : EndConfig) (read wire out : List ℕ) → Stands cfg read wire out self.old → Stands cfg read wire out self.new) }
+        ensures bounded { result ≡ Ok Step.Broken → length self.new.end.unsent ≤ 1000000 }
         ensures less { result ≡ Ok Step.Answered → length self.new.framer.held < length self.old.framer.held }
     {
         self.end.reserve()?;
@@ -195,6 +197,7 @@ impl Acceptor {
         requires open { IsOpen self.old }
         ensures left { IfOk result (λ step. Leaves step self.new) }
         ensures stands { OnOk result ((cfg : EndConfig) (read wire out : List ℕ) → Stands cfg read wire out self.old → Stands cfg read wire out self.new) }
+        ensures bounded { result ≡ Ok Step.Broken → length self.new.end.unsent ≤ 1000000 }
     {
         while self.end.out().len() <= UNSENT {
             match self.take_batch()? {
@@ -271,7 +274,7 @@ impl Acceptor {
             AfterRound cfg before (record { input = S.left input.new; wire = wire; out = out }) self.new result }
         ensures counted { S.faults input.old ≤ S.faults input.new }
         ensures ends { IfErr result IsConversationEnd }
-        ensures cause { (wire out : ℕ) → IfErr result (IsCaused (conversation_counts (S.faults input.old) wire out) (conversation_counts (S.faults input.new) wire out)) }
+        ensures cause { (wire out wired written : ℕ) → IfErr result (IsCaused (conversation_counts (S.faults input.old) wire out) (conversation_counts (S.faults input.new) wired written)) }
     {
         let Ok(count) = input.pull(self.framer.room()) else {
             return Err(Status::InputFault);
