@@ -5,3 +5,4 @@ pub mod RunLemmas
 pub mod Turn
 pub mod Frames
 pub mod OneClass
+mod Outcomes

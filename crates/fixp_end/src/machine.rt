@@ -193,16 +193,22 @@ impl End {
         ensures reply { AnswersFrame self.old self.new order message.now at now result }
         ensures small { length self.new.unsent ≤ length self.old.unsent + reply_limit self.old.config }
     {
-        let mut next = self.facts;
-        let reply = reply_to_frame(&self.around(at, now), &mut next, &classify(order, message));
+        let around = Around {
+            config: &self.config,
+            most: self.most,
+            at,
+            moment: now,
+        };
+        self.next = self.facts;
+        let reply = reply_to_frame(&around, &mut self.next, &classify(order, message));
         self.moment = now;
         self.last_received = now;
         self.room -= 1;
         let act = reply.act;
         if act.is_record() {
-            self.next = next;
             self.pending = Some(reply);
         } else {
+            let next = self.next;
             self.apply_reply(reply, next);
         }
         act
@@ -234,25 +240,24 @@ impl End {
         ensures small { length self.new.unsent ≤ length self.old.unsent + reply_limit self.old.config }
     {
         self.moment = now;
-        if let Some(reply) = self.pending {
-            let next = self.next;
+        if let Some(reply) = &self.pending {
             take_act(
                 &mut self.applied,
                 &self.config,
                 reply.act,
-                next.recorded.inbox_next,
+                self.next.recorded.inbox_next,
             );
             write_reply(
                 &self.config,
                 &mut self.output,
                 &mut self.last_sent,
-                reply.written,
+                &reply.written,
                 now,
             );
-            self.facts = next;
+            self.facts = self.next;
             self.ending = reply.ending;
-            self.pending = None;
         }
+        self.pending = None;
     }
 
     /// The clock ticked: a heartbeat that is due is written, if no output is unsent, and then a connection ends whose handshake
@@ -464,7 +469,7 @@ impl End {
             &self.config,
             &mut self.output,
             &mut self.last_sent,
-            reply.written,
+            &reply.written,
             self.moment,
         );
         self.facts = next;

@@ -124,17 +124,17 @@ pub fn write_reply(
     config: &EndConfig,
     output: &mut Output,
     last_sent: &mut u64,
-    written: Written,
+    written: &Written,
     now: u64,
 )
     requires credentials { length config.now.credentials ≤ 2048 }
-    requires writes { AllByRecursion (MayWrite config.now) (messages_of config.now written) }
-    requires room { length output.old + written_limit config.now written ≤ 5242880 }
-    ensures bytes { output.new ≡ output.old ++ bytes_of (messages_of config.now written) }
-    ensures sent { last_sent.new ≡ sent_at last_sent.old (bytes_of (messages_of config.now written)) now }
+    requires writes { AllByRecursion (MayWrite config.now) (messages_of config.now written.now) }
+    requires room { length output.old + written_limit config.now written.now ≤ 5242880 }
+    ensures bytes { output.new ≡ output.old ++ bytes_of (messages_of config.now written.now) }
+    ensures sent { last_sent.new ≡ sent_at last_sent.old (bytes_of (messages_of config.now written.now)) now }
     ensures within { last_sent.old ≤ now → last_sent.new ≤ now }
-    ensures short { length output.new ≤ length output.old + written_limit config.now written }
+    ensures short { length output.new ≤ length output.old + written_limit config.now written.now }
 {
-    let [first, second, third] = written;
+    let [first, second, third] = *written;
     write_places(config, output, last_sent, first, second, third, now);
 }
