@@ -40,11 +40,7 @@ fn phase_name(phase: Phase) -> &'static str {
 
 /// What is wrong with a retransmission: 0 as the number awaited stands for none that was asked for, and 0 as the number that
 /// came for none.
-fn retransmission_fault(
-    alloc: Global,
-    expected: u64,
-    found: u64,
-) -> Result<String, AllocError> {
+fn retransmission_fault(alloc: Global, expected: u64, found: u64) -> Result<String, AllocError> {
     match (expected, found) {
         (0, 0) => format!(in alloc; "a retransmission is refused that was not asked for"),
         (0, found) => {

@@ -218,12 +218,7 @@ impl Driven {
     }
 
     /// What it does at an event, in words: a call, or a frame by name.
-    fn hear(
-        &mut self,
-        alloc: Global,
-        named: Named<'_>,
-        event: &str,
-    ) -> Result<String, AllocError> {
+    fn hear(&mut self, alloc: Global, named: Named<'_>, event: &str) -> Result<String, AllocError> {
         let (call, given) = event.split_once("=").unwrap_or((event, ""));
         match call {
             "begin" => self.begin(),
