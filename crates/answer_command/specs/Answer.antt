@@ -2,7 +2,7 @@
 -- messages applied, and the status.
 use Rattle.std.specs.Prelude.{◌≡◌, ℕ, ◌+◌, ◌-◌, ◌^◌, min, false, if◌then◌else◌, List, [], ◌∷◌, ◌++◌, length, map, fold, Option, Some, None, is_some}
 use Rattle.std.specs.List.{AllByRecursion}
-use Rattle.sofh_frame.specs.Framing.{Frame, spelled, IsFrame, First, frame, rest, bad_length, bad_encoding, first_of}
+use Rattle.sofh_frame.specs.Framing.{Frame, spelled, IsFrame, First, bad_length, bad_encoding, first_of}
 use Rattle.sofh_frame.specs.Splits.{spelled_all, IsNoFrame}
 use Rattle.fixp_msgs.specs.declared.flow.Flow.TheVariants as flows
 use Rattle.fixp_shake.specs.declared.config.Role.TheVariants.{Acceptor}

@@ -1,5 +1,5 @@
 -- How far `answer` has come in the middle of its input.
-use Rattle.std.specs.Prelude.{◌≡◌, ℕ, ◌+◌, ◌-◌, ◌*◌, ◌≤◌, true, List, [], ◌++◌, length, map, None, IsSome}
+use Rattle.std.specs.Prelude.{◌≡◌, ℕ, ◌-◌, ◌*◌, ◌≤◌, true, List, [], ◌++◌, length, map, None, IsSome}
 use Rattle.std.specs.List.{AllByRecursion}
 use Rattle.sofh_frame.specs.Framing.{Frame, IsFrame, First, frame, rest, bad_length, bad_encoding, first_of}
 use Rattle.sofh_frame.specs.Splits.{spelled_all}

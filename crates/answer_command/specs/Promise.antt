@@ -1,5 +1,5 @@
 -- What `answer` promises of WIRE and OUT, where the devices tell their content.
-use Rattle.std.specs.Prelude.{◌≡◌, ℕ, Bool, true, false, List, [], ◌++◌, Option, Some, Result, Ok, Err}
+use Rattle.std.specs.Prelude.{◌≡◌, ℕ, Bool, true, false, List, [], ◌++◌, Some, Result, Ok, Err}
 use Rattle.std.specs.Io.KnownBytes.{Consumes, Appends, Keeps}
 use Rattle.fixp_shake.specs.declared.config.EndConfig.{EndConfig}
 use Rattle.answer_command.specs.declared.acceptor.Acceptor.{Acceptor}

@@ -1,8 +1,5 @@
-use Rattle.std.proofs.Common.{ℕ, List, ◌++◌, Option, length, take, refl, ap, ◌∙◌}
+use Rattle.std.proofs.Common.{ℕ, List, ◌++◌, length, take, refl, ap, ◌∙◌}
 use Rattle.std.proofs.KnownBytes.{Consumes-trans}
-use Rattle.fixp_shake.specs.declared.config.EndConfig.{EndConfig}
-use Rattle.command_base.specs.Contents.{Content}
-use Rattle.answer_command.specs.Promise.{Talks}
 use Rattle.answer_command.proofs.Rounds.{kept-front, after-finish, stands-filled, written_over-same, room_left}
 use Rattle.answer_command.proofs.acceptor.Acceptor.read.Goals as goal
 

@@ -1,9 +1,7 @@
-use Rattle.std.proofs.Common.{◌≡◌, ℕ, List, refl, ap, ◌∙◌}
-use Rattle.fixp_shake.specs.declared.config.EndConfig.{EndConfig}
+use Rattle.std.proofs.Common.{ℕ, refl, ap, ◌∙◌}
 use Rattle.reply_laws.specs.Machine.{State}
-use Rattle.command_base.specs.Contents.{Content}
 use Rattle.answer_command.specs.Answer.{status_after}
-use Rattle.answer_command.specs.Promise.{Talks, round_of}
+use Rattle.answer_command.specs.Promise.{round_of}
 use Rattle.answer_command.proofs.Rounds.{kept-front, cut-front, talks-on, last_of, after-end}
 use Rattle.answer_command.proofs.acceptor.Acceptor.round.Goals as goal
 
