@@ -1,5 +1,5 @@
 -- The end behind a frame, by the outcome of the table.
-use Rattle.std.proofs.Common.{◌≡◌, ℕ, ◌-◌, true, false, Option, Some, subst, refl}
+use Rattle.std.proofs.Common.{◌≡◌, ℕ, ◌-◌, true, false, Some, subst, refl}
 use Rattle.fixp_replies.specs.Acts.{is_record}
 use Rattle.fixp_replies.specs.Outcomes.{Outcome}
 use Rattle.reply_laws.specs.Machine.{State, reply_applied, after_frame}
