@@ -8,11 +8,11 @@ use Rattle.sofh_frame.specs.Splits.{spelled_all, IsNoFrame}
 use Rattle.sofh_frame.proofs.FramingLemmas.{frame-begins}
 use Rattle.sofh_frame.proofs.SplitLemmas.{drop-spelled}
 use Rattle.fixp_msgs.proofs.Rows.{at_most_one}
-use Rattle.fixp_end.specs.declared.config.EndConfig.{EndConfig}
-use Rattle.fixp_end.specs.declared.ending.Ending.{Ending}
-use Rattle.fixp_end.specs.Incoming.{Incoming, IsIncoming}
-use Rattle.fixp_end.specs.Replies.{reply_of}
-use Rattle.fixp_end.specs.Machine.{written_bytes}
+use Rattle.fixp_shake.specs.declared.config.EndConfig.{EndConfig}
+use Rattle.fixp_replies.specs.declared.act.Ending.{Ending}
+use Rattle.fixp_replies.specs.Incoming.{Incoming, IsIncoming}
+use Rattle.fixp_replies.specs.Replies.{reply_of}
+use Rattle.reply_laws.specs.Machine.{bytes_of}
 use Rattle.fixp_end.proofs.OneClass.{classified_once}
 use Rattle.answer_command.specs.Lines.{line_of}
 use Rattle.answer_command.specs.Answer.{Received, IsClassified, Stage, answered, next_stage, first_stage, stage_after, around_place, Answer, ended_answer, tail_answer, answer_at_end, answer_after, IsAnswer, OneAnswer}
@@ -89,7 +89,7 @@ next_stage-grows cfg s h =
     let o = reply_of (around_place cfg s.place) s.facts h.incoming in
     elim (is_some s.ending) as (λ b. Grows s (cond b s (answered s h o))) [
       | true ↦ Grows-refl s
-      | false ↦ record { wire = Begins-more s.wire (written_bytes o); out = Begins-more s.out (line_of o.act h.frame) }
+      | false ↦ record { wire = Begins-more s.wire (bytes_of o.written); out = Begins-more s.out (line_of o.act h.frame) }
     ]
 
 pub fold-grows : (cfg : EndConfig) (s : Stage) (received : List Received) → Grows s (fold (next_stage cfg) s received)

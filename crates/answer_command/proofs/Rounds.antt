@@ -1,5 +1,5 @@
 -- What one round over a piece of input leaves.
-use Rattle.std.proofs.Common.{◌≡◌, ℕ, List, [], ◌∷◌, ◌++◌, length, take, drop, Option, Some, None, refl, sym, ap, subst, ◌∙◌, append_assoc, append-nil, take-append-drop, eq-eqb, ◌+◌, ◌<◌, arith}
+use Rattle.std.proofs.Common.{◌≡◌, ◌⊎◌, inl, inr, ℕ, List, [], ◌∷◌, ◌++◌, length, take, drop, Option, Some, None, refl, sym, ap, subst, ◌∙◌, append_assoc, append-nil, take-append-drop, eq-eqb, ◌+◌, ◌<◌, arith}
 use Rattle.std.proofs.lemmas.Grind.{common_steps}
 use Rattle.std.specs.Prelude.{IsSome}
 use Rattle.std.specs.Io.KnownBytes.{Consumes, Appends, IsAtEnd}
@@ -9,11 +9,11 @@ use Rattle.sofh_frame.specs.Buffered.{written_over}
 use Rattle.sofh_frame.specs.Splits.{spelled_all, IsNoFrame}
 use Rattle.sofh_frame.proofs.FramingLemmas.{bad_length-append, bad_encoding-append}
 use Rattle.gw_outside.specs.Faults.{TakesFront}
-use Rattle.fixp_end.specs.declared.config.EndConfig.{EndConfig}
-use Rattle.fixp_end.specs.declared.ending.Ending.{Ending}
-use Rattle.fixp_end.specs.declared.ending.Ending.TheVariants as endings
-use Rattle.fixp_end.specs.Replies.{reply_to_bad_frame}
-use Rattle.fixp_end.specs.Machine.{State, around, reply_applied, written_bytes}
+use Rattle.fixp_shake.specs.declared.config.EndConfig.{EndConfig}
+use Rattle.fixp_replies.specs.declared.act.Ending.{Ending}
+use Rattle.fixp_replies.specs.declared.act.Ending.TheVariants as endings
+use Rattle.fixp_replies.specs.Replies.{reply_to_bad_frame}
+use Rattle.reply_laws.specs.Machine.{State, around, after_bad_frame, bytes_of}
 use Rattle.answer_command.specs.declared.acceptor.Acceptor.{Acceptor}
 use Rattle.answer_command.specs.declared.acceptor.Step.{Step}
 use Rattle.answer_command.specs.declared.acceptor.Step.TheVariants as steps
@@ -22,7 +22,7 @@ use Rattle.command_base.specs.declared.status.Status.TheVariants.{Done, Message}
 use Rattle.answer_command.specs.Answer.{Stage, stage_after, around_place, Answer, status_of, status_after, status_at_rest, ended_answer, broken_answer, answer_at_end, answer_after, IsAnswer}
 use Rattle.answer_command.specs.Progress.{IsBroken, Stands, BrokeOff, AnsweredAll, Halts, IsEmptied}
 use Rattle.command_base.specs.Contents.{Content}
-use Rattle.answer_command.specs.Promise.{Begins, GaveWhole, GaveFront, Talks, AfterRound, round_of, verdict_of}
+use Rattle.answer_command.specs.Promise.{Begins, GaveWhole, GaveFront, Talks, AfterRound, round_of}
 use Rattle.answer_command.proofs.Devices.{told, at_end}
 use Rattle.answer_command.proofs.Fronts.{frames_in, one_answer, answered-begins, Begins-more, Begins-trans}
 
@@ -43,7 +43,6 @@ final-status_of place (endings.PeerTerminated code) = tt
 final-status_of place endings.LinkEnded = tt
 final-status_of place (endings.Rejected template code) = tt
 final-status_of place (endings.Violation violation) = tt
-final-status_of place endings.NotBuilt = tt
 
 final-status_after : (place : ℕ) (ending : Option Ending) → IsFinal (status_after place ending)
 final-status_after place None = tt
@@ -204,7 +203,9 @@ pub cut-front : (cfg : EndConfig) (before now after : Content) (a : Acceptor) (r
     → Consumes before.input now.input read → Appends before.wire now.wire wire → Appends before.out now.out out
     → TakesFront now.wire after.wire a.end.unsent → TakesFront now.out after.out a.lines.items
     → (input : List ℕ) → before.input ≡ Some input → GaveFront cfg input before after
-cut-front cfg before now after a read wire out steps.Answered all consumed wired outed w o input e = absurd all
+cut-front cfg before now after a read wire out steps.Answered all consumed wired outed w o input e =
+    let t = told before.input now.input read input consumed e in
+    front-stands cfg before after a read wire out t.0 input _ _ all t.1 (Appends-trans _ _ _ _ _ wired w.appended) (Appends-trans _ _ _ _ _ outed o.appended) (begins-taken wire a.end.unsent w.count) (begins-taken out a.lines.items o.count)
 cut-front cfg before now after a read wire out steps.Waits all consumed wired outed w o input e =
     let t = told before.input now.input read input consumed e in
     front-stands cfg before after a read wire out t.0 input _ _ all t.1 (Appends-trans _ _ _ _ _ wired w.appended) (Appends-trans _ _ _ _ _ outed o.appended) (begins-taken wire a.end.unsent w.count) (begins-taken out a.lines.items o.count)
@@ -239,25 +240,43 @@ stands-emptied cfg read wire out a b stands emptied = record {
   stage = rw (emptied.end, emptied.place, emptied.lines, append-nil (wire ++ a.end.unsent), append-nil (out ++ a.lines.items)) stands.stage;
 }
 
-pub after-push : (cfg : EndConfig) (before now after : Content) (a b : Acceptor) (read wire out : List ℕ) (step : Step) → AnsweredAll cfg read wire out a step → Halts step a
+-- and the connection goes on
+pub talks-on : (cfg : EndConfig) (before now after : Content) (a b : Acceptor) (read wire out : List ℕ) → Stands cfg read wire out a
     → Consumes before.input after.input read → Appends before.wire now.wire wire → Appends before.out now.out out
     → Appends now.wire after.wire a.end.unsent → Appends now.out after.out a.lines.items → IsEmptied a b
-    → AfterRound cfg before after b (verdict_of step a.place a.end.ending)
-after-push cfg before now after a b read wire out steps.Answered all halts consumed wired outed w o emptied = absurd all
-after-push cfg before now after a b read wire out steps.Waits all halts consumed wired outed w o emptied = record {
+    → Talks cfg before after b
+talks-on cfg before now after a b read wire out stands consumed wired outed w o emptied = record {
   read = read;
   wire = wire ++ a.end.unsent;
   out = out ++ a.lines.items;
-  stands = stands-emptied cfg read wire out a b all emptied;
+  stands = stands-emptied cfg read wire out a b stands emptied;
   consumed = consumed;
   wire_gained = Appends-trans _ _ _ _ _ wired w;
   out_gained = Appends-trans _ _ _ _ _ outed o;
 }
-after-push cfg before now after a b read wire out steps.Ended all halts consumed wired outed w o emptied =
+
+-- and the connection has ended
+abbrev pub IsLast : Step → Type 0
+IsLast steps.Answered = ⊥
+IsLast steps.Waits = ⊥
+IsLast steps.Broken = Unit {0}
+IsLast steps.Ended = Unit {0}
+
+pub last_of : (step : Step) → (step ≡ steps.Broken) ⊎ (step ≡ steps.Ended) → IsLast step
+last_of step (inl is) = rw is tt
+last_of step (inr is) = rw is tt
+
+pub after-end : (cfg : EndConfig) (before now after : Content) (a b : Acceptor) (read wire out : List ℕ) (step : Step) → IsLast step → AnsweredAll cfg read wire out a step → Halts step a
+    → Consumes before.input after.input read → Appends before.wire now.wire wire → Appends before.out now.out out
+    → Appends now.wire after.wire a.end.unsent → Appends now.out after.out a.lines.items
+    → AfterRound cfg before after b (round_of (status_after a.place a.end.ending))
+after-end cfg before now after a b read wire out steps.Answered last all halts consumed wired outed w o = absurd last
+after-end cfg before now after a b read wire out steps.Waits last all halts consumed wired outed w o = absurd last
+after-end cfg before now after a b read wire out steps.Ended last all halts consumed wired outed w o =
     after-whole cfg before after b _ (final-status_after a.place a.end.ending) (λ input e.
     let t = told before.input after.input read input consumed e in
     whole-ended cfg before after a read wire out t.0 input all t.1 halts (Appends-trans _ _ _ _ _ wired w) (Appends-trans _ _ _ _ _ outed o))
-after-push cfg before now after a b read wire out steps.Broken all halts consumed wired outed w o emptied =
+after-end cfg before now after a b read wire out steps.Broken last all halts consumed wired outed w o =
     after-whole cfg before after b _ (final-status_after a.place a.end.ending) (λ input e.
     let t = told before.input after.input read input consumed e in
     whole-broken cfg before after a read wire out t.0 input all t.1 (Appends-trans _ _ _ _ _ wired w) (Appends-trans _ _ _ _ _ outed o))
@@ -279,7 +298,7 @@ stands-filled cfg read wire out bytes a b stands end lines place held = record {
 
 -- bytes that are no frame are answered
 pub broke-off : (cfg : EndConfig) (read wire out : List ℕ) (a b : Acceptor) → Stands cfg read wire out a → IsBroken (first_of a.framer.held) → a.end.ending ≡ None
-    → b.end ≡ reply_applied (record a.end { moment = 0 }) (reply_to_bad_frame (around a.end a.place 0) a.end.facts) → b.framer.held ≡ a.framer.held → b.lines.items ≡ a.lines.items → b.place ≡ a.place
+    → b.end ≡ after_bad_frame a.end a.place 0 → b.framer.held ≡ a.framer.held → b.lines.items ≡ a.lines.items → b.place ≡ a.place
     → BrokeOff cfg read wire out b
 broke-off cfg read wire out a b stands broken going end held lines place =
     let s = stage_after cfg stands.received in
@@ -298,8 +317,8 @@ broke-off cfg read wire out a b stands broken going end held lines place =
       going = ap (λ (t : Stage). t.ending) stands.stage ∙ going;
       place = place ∙ sym (ap (λ (t : Stage). t.place) stands.stage);
       wire_is =
-          ap (λ (e : State). wire ++ e.unsent) end ∙ ap (λ o. wire ++ (a.end.unsent ++ written_bytes o)) same ∙ sym (append_assoc wire a.end.unsent (written_bytes reply))
-          ∙ ap (λ (t : Stage). t.wire ++ written_bytes reply) (sym stands.stage);
+          ap (λ (e : State). wire ++ e.unsent) end ∙ ap (λ o. wire ++ (a.end.unsent ++ bytes_of o.written)) same ∙ sym (append_assoc wire a.end.unsent (bytes_of reply.written))
+          ∙ ap (λ (t : Stage). t.wire ++ bytes_of reply.written) (sym stands.stage);
       out_is = ap (λ (l : List ℕ). out ++ l) lines ∙ sym (ap (λ (t : Stage). t.out) stands.stage);
       ending = ap (λ (e : State). e.ending) end ∙ ap (λ o. o.ending) same;
     }

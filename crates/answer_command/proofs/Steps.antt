@@ -8,9 +8,10 @@ use Rattle.sofh_frame.specs.Framing.{Frame, IsFrame, spelled, BeginsWith}
 use Rattle.sofh_frame.specs.Splits.{spelled_all}
 use Rattle.sofh_frame.specs.Buffered.{Buffered}
 use Rattle.sofh_frame.proofs.SplitLemmas.{spelled_all-push, AllByRecursion-push}
-use Rattle.fixp_end.specs.declared.config.EndConfig.{EndConfig}
-use Rattle.fixp_end.specs.Replies.{Outcome, reply_of}
-use Rattle.fixp_end.specs.Machine.{State, around, written_bytes}
+use Rattle.fixp_shake.specs.declared.config.EndConfig.{EndConfig}
+use Rattle.fixp_replies.specs.Outcomes.{Outcome}
+use Rattle.fixp_replies.specs.Replies.{reply_of}
+use Rattle.reply_laws.specs.Machine.{State, around, bytes_of}
 use Rattle.answer_command.specs.declared.acceptor.Acceptor.{Acceptor}
 use Rattle.answer_command.specs.Lines.{line_of}
 use Rattle.answer_command.specs.Answer.{Received, IsClassified, Stage, next_place, answered, next_stage, first_stage, stage_after, around_place}
@@ -30,10 +31,10 @@ stage_of wire out a = record { place = a.place; facts = a.end.facts; wire = wire
 
 pub answered-stage : (wire out : List ℕ) (old : Acceptor) (h : Received) (o : Outcome) (new : Acceptor)
     → new.place ≡ (if is_some o.ending then old.place else next_place old.place h.frame) → new.end.facts ≡ o.next → new.end.ending ≡ o.ending
-    → new.end.unsent ≡ old.end.unsent ++ written_bytes o → new.lines.items ≡ old.lines.items ++ line_of o.act h.frame
+    → new.end.unsent ≡ old.end.unsent ++ bytes_of o.written → new.lines.items ≡ old.lines.items ++ line_of o.act h.frame
     → answered (stage_of wire out old) h o ≡ stage_of wire out new
 answered-stage wire out old h o new place facts ending unsent lines =
-    rw (place, facts, ending, unsent, lines, ← append_assoc wire old.end.unsent (written_bytes o), ← append_assoc out old.lines.items (line_of o.act h.frame)) refl
+    rw (place, facts, ending, unsent, lines, ← append_assoc wire old.end.unsent (bytes_of o.written), ← append_assoc out old.lines.items (line_of o.act h.frame)) refl
 
 -- the acceptor stands as before, with one frame more
 pub stands-frame : (cfg : EndConfig) (read wire out : List ℕ) (old : Acceptor) (end : State) (framer : Buffered) (lines : Vec ℕ Global) (place : ℕ) (f : Frame) (size : ℕ)

@@ -2,19 +2,20 @@
 -- messages applied, and the status.
 use Rattle.std.specs.Prelude.{◌≡◌, ℕ, ◌+◌, ◌-◌, ◌^◌, min, false, if◌then◌else◌, List, [], ◌∷◌, ◌++◌, length, map, fold, Option, Some, None, is_some}
 use Rattle.std.specs.List.{AllByRecursion}
-use Rattle.sofh_frame.specs.Framing.{Frame, spelled, IsFrame, First, frame, rest, bad_length, bad_encoding, first_of}
+use Rattle.sofh_frame.specs.Framing.{Frame, spelled, IsFrame, First, bad_length, bad_encoding, first_of}
 use Rattle.sofh_frame.specs.Splits.{spelled_all, IsNoFrame}
 use Rattle.fixp_msgs.specs.declared.flow.Flow.TheVariants as flows
-use Rattle.fixp_end.specs.declared.config.Role.TheVariants.{Acceptor}
-use Rattle.fixp_end.specs.declared.config.EndConfig.{EndConfig}
-use Rattle.fixp_end.specs.declared.config.Facts.{Facts}
-use Rattle.fixp_end.specs.declared.phase.Phase.TheVariants.{Idle}
-use Rattle.fixp_end.specs.declared.ending.Ending.{Ending}
-use Rattle.fixp_end.specs.declared.ending.Ending.TheVariants as endings
-use Rattle.fixp_end.specs.Incoming.{Incoming, IsIncoming}
-use Rattle.fixp_end.specs.Facts.{Around, connecting}
-use Rattle.fixp_end.specs.Replies.{Outcome, reply_of, reply_to_bad_frame}
-use Rattle.fixp_end.specs.Machine.{written_bytes}
+use Rattle.fixp_shake.specs.declared.config.Role.TheVariants.{Acceptor}
+use Rattle.fixp_shake.specs.declared.config.EndConfig.{EndConfig}
+use Rattle.fixp_shake.specs.declared.phase.Phase.TheVariants.{Idle}
+use Rattle.fixp_replies.specs.declared.act.Ending.{Ending}
+use Rattle.fixp_replies.specs.declared.act.Ending.TheVariants as endings
+use Rattle.fixp_replies.specs.declared.facts.Facts.{Facts}
+use Rattle.fixp_replies.specs.Incoming.{Incoming, IsIncoming}
+use Rattle.fixp_replies.specs.Facts.{Around, connecting}
+use Rattle.fixp_replies.specs.Outcomes.{Outcome}
+use Rattle.fixp_replies.specs.Replies.{reply_of, reply_to_bad_frame}
+use Rattle.reply_laws.specs.Machine.{bytes_of}
 use Rattle.session_config.specs.declared.settings.Settings.{Settings}
 use Rattle.command_base.specs.declared.status.Bad.TheVariants as bad
 use Rattle.command_base.specs.declared.status.Status.{Status}
@@ -67,7 +68,7 @@ abbrev pub answered : Stage → Received → Outcome → Stage
 answered s h o = record {
   place = if is_some o.ending then s.place else next_place s.place h.frame;
   facts = o.next;
-  wire = s.wire ++ written_bytes o;
+  wire = s.wire ++ bytes_of o.written;
   out = s.out ++ line_of o.act h.frame;
   ending = o.ending;
 }
@@ -85,15 +86,14 @@ pub record Answer : Type 0 where
   pub out : List ℕ
   pub status : Status
 
--- the status of a connection that ended at this place: done after the peer's Terminate; a broken rule, and
--- what is not built yet, are given with their place
+-- the status of a connection that ended at this place: a broken rule is given with it, unless both finishes were exchanged
+-- before; anything else is done
 abbrev pub status_of : ℕ → Ending → Status
 status_of place endings.Finished = Done
 status_of place (endings.PeerTerminated code) = Done
 status_of place endings.LinkEnded = Done
 status_of place (endings.Rejected template code) = Done
 status_of place (endings.Violation violation) = Message (bad.Session place violation)
-status_of place endings.NotBuilt = Message (bad.NotBuilt place)
 
 -- the answer where the connection ended at a frame
 abbrev pub ended_answer : Stage → Ending → Answer
@@ -111,14 +111,13 @@ status_after place (Some ending) = status_of place ending
 
 -- the answer where bytes that are no frame stand behind the frames
 abbrev pub broken_answer : Stage → Outcome → Answer
-broken_answer s o = record { wire = s.wire ++ written_bytes o; out = s.out; status = status_after s.place o.ending }
+broken_answer s o = record { wire = s.wire ++ bytes_of o.written; out = s.out; status = status_after s.place o.ending }
 
--- the answer where no frame ended the connection, by what stands behind the frames
+-- the answer where no frame ended the connection, by what stands behind the frames, which begins with none
 abbrev pub tail_answer : EndConfig → Stage → List ℕ → First → Answer
-tail_answer cfg s tail (frame order message size) = ended_answer s endings.NotBuilt
-tail_answer cfg s tail rest = record { wire = s.wire; out = s.out; status = status_at_rest s.place tail }
 tail_answer cfg s tail (bad_length n) = broken_answer s (reply_to_bad_frame (around_place cfg s.place) s.facts)
 tail_answer cfg s tail (bad_encoding e) = broken_answer s (reply_to_bad_frame (around_place cfg s.place) s.facts)
+tail_answer cfg s tail _ = record { wire = s.wire; out = s.out; status = status_at_rest s.place tail }
 
 abbrev pub answer_at_end : EndConfig → Stage → List ℕ → Option Ending → Answer
 answer_at_end cfg s tail (Some ending) = ended_answer s ending

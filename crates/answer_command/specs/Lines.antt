@@ -3,8 +3,8 @@ use Rattle.std.specs.Prelude.{ℕ, List, [], ◌∷◌, ◌++◌, codes, decimal
 use Rattle.std.specs.Int.{w16, to_be_bytes}
 use Rattle.hex.specs.Hex.{encode_lower}
 use Rattle.sofh_frame.specs.Framing.{Frame, encoding_of}
-use Rattle.fixp_end.specs.declared.ending.Act.{Act}
-use Rattle.fixp_end.specs.declared.ending.Act.TheVariants.{Nothing, Apply, Skip, Negotiated, PeerFinished, Told, Ended}
+use Rattle.fixp_replies.specs.declared.act.Act.{Act}
+use Rattle.fixp_replies.specs.declared.act.Act.TheVariants.{Nothing, Apply, Skip, Negotiated, PeerFinished, Told, Ended}
 
 -- the payload of a frame: its bytes from the encoding type on
 abbrev pub payload_of : Frame → List ℕ

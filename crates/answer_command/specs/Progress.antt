@@ -1,12 +1,12 @@
 -- How far `answer` has come in the middle of its input.
-use Rattle.std.specs.Prelude.{◌≡◌, ℕ, ◌+◌, ◌*◌, ◌≤◌, true, List, [], ◌++◌, length, map, None, IsSome}
+use Rattle.std.specs.Prelude.{◌≡◌, ℕ, ◌-◌, ◌*◌, ◌≤◌, true, List, [], ◌++◌, length, map, None, IsSome}
 use Rattle.std.specs.List.{AllByRecursion}
 use Rattle.sofh_frame.specs.Framing.{Frame, IsFrame, First, frame, rest, bad_length, bad_encoding, first_of}
 use Rattle.sofh_frame.specs.Splits.{spelled_all}
-use Rattle.fixp_end.specs.declared.config.EndConfig.{EndConfig}
-use Rattle.fixp_end.specs.Incoming.{Incoming, IsIncoming}
-use Rattle.fixp_end.specs.Replies.{reply_of, reply_to_bad_frame}
-use Rattle.fixp_end.specs.Machine.{State, fresh, connected, around, reply_applied, written_bytes}
+use Rattle.fixp_shake.specs.declared.config.EndConfig.{EndConfig}
+use Rattle.fixp_replies.specs.Incoming.{Incoming, IsIncoming}
+use Rattle.fixp_replies.specs.Replies.{reply_of, reply_to_bad_frame}
+use Rattle.reply_laws.specs.Machine.{State, fresh, connected, around, reply_applied, bytes_of}
 use Rattle.answer_command.specs.declared.acceptor.Acceptor.{Acceptor}
 use Rattle.answer_command.specs.declared.acceptor.Step.{Step}
 use Rattle.answer_command.specs.declared.acceptor.Step.TheVariants.{Answered, Waits, Broken, Ended}
@@ -20,20 +20,27 @@ pub record IsNew (cfg : EndConfig) (a : Acceptor) : Type 0 where
   pub lines : a.lines.items ≡ []
   pub place : a.place ≡ 0
 
--- an acceptor that may be given a frame: its connection is open, and its output has room for the replies to
--- all frames that it can hold, each of which has 14 bytes and gets a reply of 256 at most
-pub record IsOpen (a : Acceptor) : Type 0 where
-  pub begun : a.end.begun ≡ true
-  pub going : a.end.ending ≡ None
-  pub done : a.end.pending ≡ None
-  pub moment : a.end.moment ≡ 0
-  pub output : length a.end.unsent + 19 * length a.framer.held ≤ 622820
+-- an end that may be given a frame: its connection is open, and no act is still to be done
+pub record IsReady (end : State) : Type 0 where
+  pub begun : end.begun ≡ true
+  pub going : end.ending ≡ None
+  pub done : end.pending ≡ None
+  pub moment : end.moment ≡ 0
+  pub credentials : length end.config.credentials ≤ 2048
+
+-- an acceptor whose end is so
+abbrev pub IsOpen : Acceptor → Type 0
+IsOpen a = IsReady a.end
+
+-- how many bytes the replies to these frames have at most
+abbrev pub replies_limit : ℕ → ℕ
+replies_limit frames = 2304 * frames
 
 -- One frame was answered by the reply table, and its line added.
 pub record AnswersOne (old new : State) (lines added : List ℕ) (f : Frame) (place : ℕ) : Type 0 where
   pub incoming : Incoming
   pub is : IsIncoming f.order f.message incoming
-  pub state : new ≡ reply_applied (record old { room = 15; moment = 0 }) (reply_of (around old place 0) old.facts incoming)
+  pub state : new ≡ reply_applied (record old { moment = 0; last_received = 0; room = old.room - 1 }) (reply_of (around old place 0) old.facts incoming) 0
   pub line : added ≡ lines ++ line_of (reply_of (around old place 0) old.facts incoming).act f
 
 -- bytes that no frame begins with, whatever follows
@@ -69,20 +76,20 @@ pub record BrokeOff (cfg : EndConfig) (read wire out : List ℕ) (a : Acceptor) 
   pub broken : IsBroken (first_of a.framer.held)
   pub going : (stage_after cfg received).ending ≡ None
   pub place : a.place ≡ (stage_after cfg received).place
-  pub wire_is : wire ++ a.end.unsent ≡ (stage_after cfg received).wire ++ written_bytes (reply_to_bad_frame (around_place cfg (stage_after cfg received).place) (stage_after cfg received).facts)
+  pub wire_is : wire ++ a.end.unsent ≡ (stage_after cfg received).wire ++ bytes_of (reply_to_bad_frame (around_place cfg (stage_after cfg received).place) (stage_after cfg received).facts).written
   pub out_is : out ++ a.lines.items ≡ (stage_after cfg received).out
   pub ending : a.end.ending ≡ (reply_to_bad_frame (around_place cfg (stage_after cfg received).place) (stage_after cfg received).facts).ending
 
--- what was read is answered as far as it goes, by this last step
+-- what was read is answered by this last step: as far as it goes, or, where the output is to be pushed first, a part of it
 abbrev pub AnsweredAll : EndConfig → List ℕ → List ℕ → List ℕ → Acceptor → Step → Type 0
-AnsweredAll cfg read wire out a Answered = ⊥
+AnsweredAll cfg read wire out a Answered = Stands cfg read wire out a
 AnsweredAll cfg read wire out a Waits = Stands cfg read wire out a
 AnsweredAll cfg read wire out a Broken = BrokeOff cfg read wire out a
 AnsweredAll cfg read wire out a Ended = Stands cfg read wire out a
 
 -- what the last step leaves
 abbrev pub Halts : Step → Acceptor → Type 0
-Halts Answered a = ⊥
+Halts Answered a = IsOpen a
 Halts Waits a = IsOpen a × (first_of a.framer.held ≡ rest)
 Halts Broken a = Unit {0}
 Halts Ended a = IsSome a.end.ending

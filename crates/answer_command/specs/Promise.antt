@@ -1,18 +1,14 @@
 -- What `answer` promises of WIRE and OUT, where the devices tell their content.
-use Rattle.std.specs.Prelude.{◌≡◌, ℕ, Bool, true, false, List, [], ◌++◌, Option, Some, Result, Ok, Err}
+use Rattle.std.specs.Prelude.{◌≡◌, ℕ, Bool, true, false, List, [], ◌++◌, Some, Result, Ok, Err}
 use Rattle.std.specs.Io.KnownBytes.{Consumes, Appends, Keeps}
-use Rattle.sofh_frame.specs.Framing.{rest, first_of}
-use Rattle.fixp_end.specs.declared.config.EndConfig.{EndConfig}
-use Rattle.fixp_end.specs.declared.ending.Ending.{Ending}
+use Rattle.fixp_shake.specs.declared.config.EndConfig.{EndConfig}
 use Rattle.answer_command.specs.declared.acceptor.Acceptor.{Acceptor}
-use Rattle.answer_command.specs.declared.acceptor.Step.{Step}
-use Rattle.answer_command.specs.declared.acceptor.Step.TheVariants as steps
 use Rattle.schema_toml.specs.declared.fault.ConfigFault.{ConfigFault}
 use Rattle.session_config.specs.declared.settings.Settings.{Settings}
 use Rattle.command_base.specs.declared.status.Status.{Status}
 use Rattle.command_base.specs.declared.status.Status.TheVariants.{Done, InputFault, OutputFault, Message, Memory}
 use Rattle.command_base.specs.Contents.{Content}
-use Rattle.answer_command.specs.Answer.{Answer, IsAnswer, acceptor_of, status_after}
+use Rattle.answer_command.specs.Answer.{Answer, IsAnswer, acceptor_of}
 use Rattle.answer_command.specs.Progress.{IsOpen, Stands}
 
 -- one list begins another
@@ -60,10 +56,9 @@ IsConversationEnd OutputFault = Unit {0}
 IsConversationEnd Memory = Unit {0}
 IsConversationEnd _ = ⊥
 
--- an acceptor between two pieces of input: it waits for more, and has nothing to push
+-- an acceptor between two rounds: its connection is open, and it has nothing to push
 pub record IsIdle (a : Acceptor) : Type 0 where
   pub ready : IsOpen a
-  pub waits : first_of a.framer.held ≡ rest
   pub unsent : a.end.unsent ≡ []
   pub lines : a.lines.items ≡ []
 
@@ -83,16 +78,10 @@ AfterRound cfg before now a (Ok true) = Talks cfg before now a
 AfterRound cfg before now a (Ok false) = KeepsPromise cfg before now Done
 AfterRound cfg before now a (Err status) = KeepsPromise cfg before now status
 
--- how a round answers a status, and what a step says of the round
+-- how a round answers a status
 abbrev pub round_of : Status → Result Bool Status
 round_of Done = Ok false
 round_of status = Err status
-
-abbrev pub verdict_of : Step → ℕ → Option Ending → Result Bool Status
-verdict_of steps.Answered place ending = Ok true
-verdict_of steps.Waits place ending = Ok true
-verdict_of steps.Broken place ending = round_of (status_after place ending)
-verdict_of steps.Ended place ending = round_of (status_after place ending)
 
 -- WIRE and OUT gained nothing
 pub record GaveNothing (before after : Content) : Type 0 where

@@ -1,26 +1,25 @@
-//! The acceptor's session over recorded bytes. Each piece of input is framed and answered frame by
-//! frame; what was written for it is pushed once, before the next piece is read.
+//! The acceptor's session over recorded bytes. Each piece of input is framed and answered frame by frame, up to 16 for one
+//! reservation of memory; what was written for it is pushed before the next piece is read.
 
-ghost use Rattle.std.specs.Prelude.{◌≡◌, ℕ, ◌+◌, ◌<◌, ◌≤◌, ◌⊎◌, List, length, true, IfOk, IfErr, OnOk, OnErr, Ok, None};
-ghost use Rattle.fixp_end.specs.declared.config.EndConfig.{EndConfig};
-ghost use Rattle.fixp_end.specs.Outgoing.{reply_limit};
+ghost use Rattle.std.specs.Prelude.{◌≡◌, ℕ, ◌+◌, ◌<◌, ◌≤◌, ◌⊎◌, List, length, true, Option, IfOk, IfErr, OnOk, OnErr, Ok};
+ghost use Rattle.sofh_frame.specs.Framing.{rest, first_of};
+ghost use Rattle.fixp_shake.specs.declared.config.EndConfig.{EndConfig};
 ghost use Rattle.answer_command.specs.Answer.{acceptor_of, first_facts};
-ghost use Rattle.answer_command.specs.Progress.{AnswersOne};
+ghost use Rattle.answer_command.specs.Progress.{AnswersOne, IsReady, replies_limit};
 ghost use Rattle.std.specs.Io.KnownBytes.{Appends};
 ghost use Rattle.gw_outside.specs.Faults.{HasRisen, TakesFront};
-ghost use Rattle.answer_command.specs.Answer.{status_of, status_at_rest};
+ghost use Rattle.answer_command.specs.Answer.{status_of, status_at_rest, status_after};
 ghost use Rattle.session_config.specs.Settings.{IsInRange};
 ghost use Rattle.command_base.specs.Causes.{NoneFell, IsCaused, conversation_counts};
 ghost use Rattle.command_base.specs.Contents.{Content};
-ghost use Rattle.answer_command.specs.Promise.{Talks, IsIdle, AfterRound, KeepsPromise, IsConversationEnd, round_of, verdict_of};
+ghost use Rattle.answer_command.specs.Promise.{Talks, IsIdle, AfterRound, KeepsPromise, IsConversationEnd, round_of};
 
 use crate::lines::push_line;
 use command_base::{Bad, Status, begin};
-use fixp_end::{End, EndConfig, EndState, Ending, Role};
-use fixp_msgs::Flow;
+use fixp_end::{End, EndConfig, EndState, Ending, Flow, Role};
 use gw_outside::{Failed, Sink, Source, push_all};
 use session_config::Settings;
-use sofh_frame::{FirstFrame, Framer, Order};
+use sofh_frame::{FirstFrame, Framer, Order, ROOM};
 use std::alloc::{AllocError, Global};
 use std::sync::Wait;
 
@@ -28,7 +27,13 @@ use std::sync::Wait;
 const GREATEST_NUMBER: u64 = 1 << 24;
 
 /// Room for the lines of one piece of input, in bytes: at most four for each byte of the piece.
-const LINES: usize = 4 * 32_780;
+const LINES: usize = 4 * ROOM;
+
+/// How many frames are answered for one reservation of memory.
+const BATCH: usize = 16;
+
+/// The most bytes unsent with which a batch is begun.
+const UNSENT: usize = 900_000;
 
 /// The acceptor, the bytes of its input that are not answered yet, and what it has to push.
 #[derive(Drop)]
@@ -46,7 +51,7 @@ pub struct Acceptor {
 /// What one step over the input did.
 #[derive(Clone, Copy, Debug)]
 pub enum Step {
-    /// A frame was answered, and the connection goes on.
+    /// Frames were answered, and the connection goes on.
     Answered,
     /// There is less than a frame: more input is needed.
     Waits,
@@ -98,15 +103,12 @@ fn answer_frame(
 ) -> Result<(), AllocError>
     requires least { 8 ≤ length message.now }
     requires most { length message.now ≤ 16384 }
-    requires begun { end.old.begun ≡ true }
-    requires open { end.old.ending ≡ None }
-    requires done { end.old.pending ≡ None }
+    requires ready { IsReady end.old }
+    requires room { 0 < end.old.room }
     requires output { length end.old.unsent ≤ 1000000 }
-    requires moment { end.old.moment ≡ 0 }
     ensures answered { OnOk result (AnswersOne end.old end.new lines.old.items lines.new.items (record { order = order; message = message.now }) place) }
-    ensures small { OnOk result (length end.new.unsent ≤ length end.old.unsent + reply_limit) }
+    ensures small { OnOk result (length end.new.unsent ≤ length end.old.unsent + replies_limit 1) }
 {
-    end.reserve()?;
     let act = end.on_frame(order, message, place, 0);
     push_line(lines, act, order, message)?;
     if act.is_record() {
@@ -141,9 +143,14 @@ impl Acceptor {
     /// Answers the frame at the front of the bytes that were read, if there is one.
     fn take_frame(&mut self) -> Result<Step, AllocError>
         requires open { IsOpen self.old }
+        requires room { 0 < self.old.end.room }
+        requires output { length self.old.end.unsent ≤ 1000000 }
         ensures left { IfOk result (λ step. Leaves step self.new) }
         ensures stands { OnOk result ((cfg : EndConfig) (read wire out : List ℕ) → Stands cfg read wire out self.old → Stands cfg read wire out self.new) }
+        ensures bounded { result ≡ Ok Step.Broken → length self.new.end.unsent ≤ 1000000 }
         ensures less { result ≡ Ok Step.Answered → length self.new.framer.held < length self.old.framer.held }
+        ensures room { result ≡ Ok Step.Answered → self.old.end.room ≤ self.new.end.room + 1 }
+        ensures small { result ≡ Ok Step.Answered → length self.new.end.unsent ≤ length self.old.end.unsent + replies_limit 1 }
     {
         match self.framer.peek() {
             FirstFrame::Frame {
@@ -166,24 +173,42 @@ impl Acceptor {
         }
     }
 
-    /// Answers the frames that were read, as far as they go.
+    /// Answers a batch of the frames that were read.
+    fn take_batch(&mut self) -> Result<Step, AllocError>
+        requires open { IsOpen self.old }
+        requires output { length self.old.end.unsent ≤ UNSENT }
+        ensures left { IfOk result (λ step. Leaves step self.new) }
+        ensures stands { OnOk result ((cfg : EndConfig) (read wire out : List ℕ) → Stands cfg read wire out self.old → Stands cfg read wire out self.new) }
+        ensures bounded { result ≡ Ok Step.Broken → length self.new.end.unsent ≤ 1000000 }
+        ensures less { result ≡ Ok Step.Answered → length self.new.framer.held < length self.old.framer.held }
+    {
+        self.end.reserve()?;
+        for _ in 0..BATCH {
+            match self.take_frame()? {
+                Step::Answered => {}
+                step => return Ok(step),
+            }
+        }
+        Ok(Step::Answered)
+    }
+
+    /// Answers the frames that were read, as far as they go, or until there is much to push.
     fn take_frames(&mut self) -> Result<Step, AllocError>
         requires open { IsOpen self.old }
         ensures left { IfOk result (λ step. Leaves step self.new) }
-        ensures last { result ≡ Ok Step.Answered → ⊥ }
         ensures stands { OnOk result ((cfg : EndConfig) (read wire out : List ℕ) → Stands cfg read wire out self.old → Stands cfg read wire out self.new) }
+        ensures bounded { result ≡ Ok Step.Broken → length self.new.end.unsent ≤ 1000000 }
     {
-        loop {
-            match self.take_frame()? {
+        while self.end.out().len() <= UNSENT {
+            match self.take_batch()? {
                 Step::Answered => {}
-                Step::Waits => return Ok(Step::Waits),
-                Step::Broken => return Ok(Step::Broken),
-                Step::Ended => return Ok(Step::Ended),
+                step => return Ok(step),
             }
         }
+        Ok(Step::Answered)
     }
 
-    /// Answers all that was read, also bytes that are no frame.
+    /// Answers what was read, also bytes that are no frame.
     fn answer_piece(&mut self) -> Result<Step, AllocError>
         requires open { IsOpen self.old }
         ensures halts { IfOk result (λ step. Halts step self.new) }
@@ -229,20 +254,40 @@ impl Acceptor {
         }
     }
 
-    /// What the last step over a piece says of the conversation.
-    fn verdict(&self, step: Step) -> Result<bool, Status>
-        ensures { result ≡ verdict_of step self.now.place self.now.end.ending }
+    /// What the end of the connection says of the conversation.
+    fn verdict(&self) -> Result<bool, Status>
+        ensures { result ≡ round_of (status_after self.now.place self.now.end.ending) }
     {
-        match step {
-            Step::Answered | Step::Waits => Ok(true),
-            Step::Broken | Step::Ended => match self.end.ending() {
-                Some(ending) => as_round(status_of(self.place, ending)),
-                None => Ok(false),
-            },
+        match self.end.ending() {
+            Some(ending) => as_round(status_of(self.place, ending)),
+            None => Ok(false),
         }
     }
 
-    /// Reads a piece of input, answers it, and pushes what was written. `Ok(false)` is the end.
+    /// Reads a piece of input. `Ok(false)` is the end.
+    fn read<S: Source>(&mut self, input: &mut S) -> Result<bool, Status>
+        requires idle { IsIdle self.old }
+        requires waits { first_of self.old.framer.held ≡ rest }
+        ensures idle { result ≡ Ok true → IsIdle self.new }
+        ensures after { (cfg : EndConfig) (before : Content) (wire out : Option (List ℕ)) →
+            Talks cfg before (record { input = S.left input.old; wire = wire; out = out }) self.old →
+            AfterRound cfg before (record { input = S.left input.new; wire = wire; out = out }) self.new result }
+        ensures counted { S.faults input.old ≤ S.faults input.new }
+        ensures ends { IfErr result IsConversationEnd }
+        ensures cause { (wire out wired written : ℕ) → IfErr result (IsCaused (conversation_counts (S.faults input.old) wire out) (conversation_counts (S.faults input.new) wired written)) }
+    {
+        let Ok(count) = input.pull(self.framer.room()) else {
+            return Err(Status::InputFault);
+        };
+        if count == 0 {
+            return self.finish();
+        }
+        self.framer.filled(count);
+        Ok(true)
+    }
+
+    /// Answers what was read, pushes what was written for it, and reads a piece of input where less than a frame is left.
+    /// `Ok(false)` is the end.
     fn round<S: Source, K: Sink>(
         &mut self,
         input: &mut S,
@@ -258,20 +303,17 @@ impl Acceptor {
         ensures ends { IfErr result IsConversationEnd }
         ensures cause { IfErr result (IsCaused (conversation_counts (S.faults input.old) (K.faults wire.old) (K.faults out.old)) (conversation_counts (S.faults input.new) (K.faults wire.new) (K.faults out.new))) }
     {
-        let Ok(count) = input.pull(self.framer.room()) else {
-            return Err(Status::InputFault);
-        };
-        if count == 0 {
-            return self.finish();
-        }
-        self.framer.filled(count);
         let Ok(step) = self.answer_piece() else {
             return Err(Status::Memory);
         };
         let Ok(()) = self.push(wire, out) else {
             return Err(Status::OutputFault);
         };
-        self.verdict(step)
+        match step {
+            Step::Answered => Ok(true),
+            Step::Waits => self.read(input),
+            Step::Broken | Step::Ended => self.verdict(),
+        }
     }
 }
 
@@ -288,7 +330,6 @@ fn status_of(place: u64, ending: Ending) -> Status
             at: place,
             violation,
         }),
-        Ending::NotBuilt => Status::Message(Bad::NotBuilt { at: place }),
     }
 }
 

@@ -2,7 +2,7 @@
 
 ghost use Rattle.std.specs.Prelude.{◌≡◌};
 
-use fixp_end::Violation;
+use fixp_shake::Violation;
 use jr_boxes::{JournalCause, Which};
 use sbe_encode::EncodeFault;
 use sbe_grammar::DecodeFault;
@@ -22,9 +22,6 @@ pub enum Bad {
     /// The client broke a rule of the session by the frame at this place.
     #[error("frame at byte {at}: {violation}")]
     Session { at: u64, violation: Violation },
-    /// The frame at this place calls for a reply that is not built yet.
-    #[error("no reply is built yet for the frame at byte {at}")]
-    NotBuilt { at: u64 },
     /// The frame of this number holds no message of the schema; this is its first fault.
     #[error("frame {frame} holds no message of the schema")]
     Decode { frame: u64, fault: DecodeFault },

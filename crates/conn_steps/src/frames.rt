@@ -10,7 +10,7 @@ ghost use Rattle.conn_steps.specs.Taking.{AnsweredFrame, RefusedAct, Blames, fau
 
 use crate::records::settle;
 use conn_turns::{News, TurnFault};
-use fixp_machine::End;
+use fixp_end::End;
 use jr_boxes::Inbox;
 use jr_record::{AppendFault, Journal};
 use sbe_prim::Order;

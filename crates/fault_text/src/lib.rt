@@ -8,6 +8,7 @@ mod config;
 mod escape;
 mod frame;
 mod schema;
+mod session;
 mod value;
 mod walk;
 
@@ -15,3 +16,4 @@ pub use codec::{decode_line, encode_line, text_line};
 pub use config::{Wanted, config_fault};
 pub use escape::{file_name, quoted};
 pub use frame::{malformed_frame, refused_frame};
+pub use session::broken_rule;

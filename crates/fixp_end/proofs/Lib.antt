@@ -1,5 +1,10 @@
+pub mod Begun
+pub mod Limits
+pub mod Doing
+pub mod Written
+pub mod Told
+pub mod RunLemmas
+pub mod Turn
+pub mod Frames
 pub mod OneClass
-pub mod Messages
-pub mod Rows
-pub mod RowByRow
-pub mod Accepted
+mod Outcomes

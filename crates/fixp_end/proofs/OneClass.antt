@@ -6,7 +6,7 @@ use Rattle.fixp_msgs.specs.Message.{Message}
 use Rattle.fixp_msgs.specs.Table.{is_template}
 use Rattle.fixp_msgs.proofs.Rows.{is_template-row}
 use Rattle.fixp_msgs.specs.Grammar.{Spells}
-use Rattle.fixp_end.specs.Incoming.{application, session, wrong_order, too_short, unknown}
+use Rattle.fixp_replies.specs.Incoming.{application, session, wrong_order, too_short, unknown}
 use Rattle.fixp_end.specs.Laws.{ClassifiedOnce}
 
 -- the template of a message that is spelled is one of the table

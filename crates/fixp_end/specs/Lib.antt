@@ -1,10 +1,5 @@
-pub mod Phases
-pub mod Acts
-pub mod Incoming
-pub mod Flows
-pub mod Facts
-pub mod Replies
-pub mod Outgoing
-pub mod Machine
-pub mod Accepting
+pub mod Answers
+pub mod Doing
+pub mod Keeping
+pub mod Sending
 pub mod Laws

@@ -1,7 +1,6 @@
-//! The laws of the session machine: facts about the definitions alone, on functions without a body of their own.
+//! A law of the session machine: a fact about the definitions alone, on a function without a body of its own.
 
 ghost use Rattle.fixp_end.specs.Laws.{ClassifiedOnce};
-ghost use Rattle.fixp_end.specs.Accepting.{AcceptedFrameGrows, AcceptedGrowRecoverable};
 
 /// The message of a frame is classified in one way, so the reply to it is one.
 pub fn one_classification()
@@ -9,13 +8,3 @@ pub fn one_classification()
 {
     fixp_msgs::one_message();
 }
-
-/// A frame that is accepted grows the inbox of a recoverable flow by the records of its act.
-pub fn accepted_frame_grows()
-    ensures law { AcceptedFrameGrows }
-{}
-
-/// Over the accepted frames of a connection whose flow is recoverable, the inbox grows as a recoverable one.
-pub fn accepted_grow_recoverable()
-    ensures law { AcceptedGrowRecoverable }
-{}

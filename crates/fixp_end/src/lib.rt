@@ -1,22 +1,19 @@
-//! The session machine: what one end of a FIXP session answers to each frame of a connection.
-//! It reads and writes messages by `fixp_msgs`, and does no input or output itself.
+//! The session machine: one end of a FIXP session over any number of connections. It answers each event by the reply table of
+//! `fixp_replies`, and holds what it wrote until its link has taken it. It does no input or output itself.
 #![tactic(auto)]
 
-mod announcing;
-mod config;
-mod ending;
-mod handshake;
-mod incoming;
 mod laws;
 mod machine;
+mod messages;
 mod output;
-mod phase;
-mod receiving;
-mod replies;
-mod reply;
+mod runs;
+mod sending;
+mod sound;
+mod telling;
+mod writing;
 
-pub use config::{EndConfig, EndState, Role};
-pub use ending::{Act, Ending, Violation};
-pub use laws::{accepted_frame_grows, accepted_grow_recoverable, one_classification};
+pub use fixp_replies::{Act, EndState, Ending};
+pub use fixp_shake::{EndConfig, Flow, Phase, Role, Violation};
+pub use laws::one_classification;
 pub use machine::End;
-pub use phase::Phase;
+pub use sending::frames_fit;

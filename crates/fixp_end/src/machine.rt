@@ -1,33 +1,35 @@
-//! The session machine: an end keeps the facts of its session, answers each event by the reply table, and
-//! holds the bytes that it wrote until the link has taken them.
+//! One end: its state, the beginning of a connection, and its frames.
 
-ghost use Rattle.std.specs.Prelude.{◌≡◌, ℕ, ◌+◌, ◌^◌, ◌<◌, ◌≤◌, ◌++◌, [], ◌∷◌, length, drop, true, IsSome, IfSome, IfOk, OnOk, OnErr, None};
-ghost use Rattle.std.specs.List.{flat_map};
-ghost use Rattle.fixp_msgs.specs.Canonical.{frame_bytes};
-ghost use Rattle.fixp_msgs.specs.Message.{message_of};
+ghost use Rattle.std.specs.Prelude.{◌≡◌, ℕ, ◌+◌, ◌*◌, ◌^◌, ◌<◌, ◌≤◌, [], length, drop, ◌++◌, true, false, is_some, IsSome, IfSome, IfOk, OnOk, OnErr, Some, None};
 ghost use Rattle.fixp_msgs.specs.declared.flow.Flow.TheVariants.{Recoverable};
-ghost use Rattle.fixp_end.specs.declared.config.Role.TheVariants.{Acceptor};
-ghost use Rattle.fixp_end.specs.Outgoing.{messages_of, outgoing_message, outcome_of, reply_limit};
+ghost use Rattle.fixp_replies.specs.Facts.{around_of};
+ghost use Rattle.fixp_replies.specs.Acts.{is_record};
+ghost use Rattle.fixp_replies.specs.Outgoing.{outcome_of, reply_limit, written_limit};
+ghost use Rattle.reply_laws.specs.Sound.{KeepsSound};
+ghost use Rattle.fixp_end.specs.Doing.{Serves};
 
-use crate::config::{Around, Connection, EndConfig, EndState, Facts};
-use crate::ending::{Act, Ending};
-use crate::incoming::classify;
 use crate::output::Output;
-use crate::phase::Phase;
-use crate::replies::{reply_to, reply_to_bad_frame};
-use crate::reply::{Outgoing, Reply};
-use fixp_msgs::{
-    EstablishmentAck, NegotiationResponse, RetransmitReject, SessionMsg, Terminate, write,
+use crate::runs::write_turn;
+use crate::sending::{rest_of, write_entries};
+use crate::sound::{
+    beat, begin_connection, break_connection, finish_sending, reply_to_frame, reply_to_no_frame,
 };
+use crate::telling::take_act;
+use crate::writing::{write_place, write_reply};
+use fixp_msgs::Range;
+use fixp_replies::{
+    Act, Around, Connection, EndState, Ending, Facts, Outgoing, Reply, classify, lateness,
+    link_ending, outbox_finished,
+};
+use fixp_shake::{EndConfig, Phase, Violation};
+use flow_idem::Applied;
+use jr_boxes::Stable;
 use sbe_prim::Order;
 use std::alloc::{AllocError, Global};
 use std::marker::Model;
 
 /// How many frames `End::reserve` makes room for.
 const RESERVED_FRAMES: u8 = 16;
-
-/// The greatest message of a reply, in bytes: without credentials and reasons.
-const FRAME_BYTES: usize = 64;
 
 /// One end of a session, over any number of connections one after another.
 #[derive(Debug, Drop)]
@@ -40,17 +42,24 @@ pub struct End {
     ending: Option<Ending>,
     output: Output,
     pending: Option<Reply>,
+    /// The facts from the pending reply on.
+    next: Facts,
     room: u8,
+    start: u64,
+    last_sent: u64,
+    last_received: u64,
+    applied: Applied,
 }
 
 impl Model for End {
-    ghost use Rattle.std.specs.Prelude.{◌≤◌};
+    ghost use Rattle.std.specs.Prelude.{◌≤◌, IfSome};
     ghost use Rattle.std.specs.Option.{option_map};
-    ghost use Rattle.fixp_end.specs.Machine.{State};
+    ghost use Rattle.fixp_replies.specs.Outgoing.{outcome_of};
+    ghost use Rattle.reply_laws.specs.Machine.{State};
+    ghost use Rattle.fixp_replies.specs.Outgoing.{reply_limit, written_limit};
+    ghost use Rattle.fixp_end.specs.Keeping.{Keeps};
 
     ghost Value = { State };
-
-    ghost use Rattle.fixp_end.specs.Outgoing.{outcome_of};
 
     ghost view = { λ e. record {
       config = e.config;
@@ -60,90 +69,35 @@ impl Model for End {
       facts = e.facts;
       ending = e.ending;
       unsent = e.output;
-      pending = option_map (outcome_of e.config) e.pending;
+      pending = option_map (λ reply. outcome_of e.config reply e.next) e.pending;
       room = e.room;
+      start = e.start;
+      last_sent = e.last_sent;
+      last_received = e.last_received;
+      untold = e.applied.untold;
     } };
 
-    ghost invariant = { λ e. e.most ≤ 16777216 };
-}
-
-/// A message of the configured session.
-fn session_message(config: &EndConfig, message: Outgoing) -> SessionMsg<'static>
-    ensures { message_of result ≡ outgoing_message config.now message }
-{
-    let session_id = config.session;
-    match message {
-        Outgoing::NegotiationResponse { request_timestamp } => {
-            SessionMsg::NegotiationResponse(NegotiationResponse {
-                session_id,
-                request_timestamp,
-                server_flow: config.own_flow.code(),
-                credentials: &[],
-            })
-        }
-        Outgoing::EstablishmentAck { request_timestamp } => {
-            SessionMsg::EstablishmentAck(EstablishmentAck {
-                session_id,
-                request_timestamp,
-                keepalive: config.keepalive,
-                next_seq: None,
-            })
-        }
-        Outgoing::RetransmitRequest(request) => SessionMsg::RetransmitRequest(request),
-        Outgoing::RetransmitReject {
-            session_id,
-            request_timestamp,
-            code,
-        } => SessionMsg::RetransmitReject(RetransmitReject {
-            session_id,
-            request_timestamp,
-            code,
-            reason: &[],
-        }),
-        Outgoing::Terminate { code } => SessionMsg::Terminate(Terminate {
-            session_id,
-            code,
-            reason: &[],
-        }),
-    }
-}
-
-/// Writes a message, if there is one, at the end of the output.
-fn write_outgoing(config: &EndConfig, output: &mut Output, message: Option<Outgoing>)
-    requires { length output.old + 64 ≤ 5242880 }
-    ensures bytes { output.new ≡ output.old ++ flat_map frame_bytes (messages_of config.now (message ∷ [])) }
-    ensures small { length output.new ≤ length output.old + 64 }
-{
-    let Some(message) = message else {
-        return;
-    };
-    let mut frame = [0u8; FRAME_BYTES];
-    let size = write(&session_message(config, message), &mut frame);
-    output.append(&frame[..size]);
-}
-
-/// Writes the messages of a reply at the end of the output, in order.
-fn write_all(config: &EndConfig, output: &mut Output, written: &[Option<Outgoing>])
-    requires four { length written.now ≤ 4 }
-    requires room { length output.old + reply_limit ≤ 5242880 }
-    ensures bytes { output.new ≡ output.old ++ flat_map frame_bytes (messages_of config.now written.now) }
-    ensures small { length output.new ≤ length output.old + reply_limit }
-{
-    for message in written {
-        write_outgoing(config, output, *message);
-    }
+    ghost invariant = { λ e. Keeps e.config e.most e.moment e.facts (option_map (λ reply. outcome_of e.config reply e.next) e.pending) e.room e.start e.last_sent e.last_received e.applied
+        × IfSome e.pending (λ reply. written_limit e.config reply.written ≤ reply_limit e.config) };
 }
 
 impl End {
-    ghost use Rattle.fixp_end.specs.Phases.{is_idle};
-    ghost use Rattle.fixp_end.specs.Replies.{reply_to_bad_frame};
-    ghost use Rattle.fixp_end.specs.Facts.{around_of};
-    ghost use Rattle.fixp_end.specs.Machine.{fresh, connected, around, reply_applied, link_ended, phase_of, AnswersFrame};
+    ghost use Rattle.fixp_replies.specs.Events.{heartbeats, lateness};
+    ghost use Rattle.fixp_replies.specs.Outcomes.{breaks};
+    ghost use Rattle.reply_laws.specs.Machine.{fresh, connected, around, wrote, bytes_of, broken_by, ticked, after_closed, after_turn, payload_frames, range_end, rest_of, sent_again, sent_live, reply_applied, after_bad_frame, after_act, link_ended, phase_of};
+    ghost use Rattle.fixp_shake.specs.Flows.{is_absent};
+    ghost use Rattle.fixp_shake.specs.Phases.{is_established};
+    ghost use Rattle.fixp_msgs.specs.Numbering.{payload_of};
+    ghost use Rattle.fixp_msgs.specs.Payload.{IsApplication};
+    ghost use Rattle.reply_laws.specs.Fitting.{CanTake, WasSent, recorded_after};
+    ghost use Rattle.fixp_end.specs.Answers.{AnswersFrame};
+    ghost use Rattle.fixp_end.specs.Doing.{Stays, Waits, recorded_once_done};
+    ghost use Rattle.fixp_end.specs.Sending.{AreFrom, payloads_of};
 
     /// A new end that has begun no connection. `most` is the greatest number of an application message.
     ///
     /// # Errors
-    /// Want of memory for the output of 5,242,880 bytes.
+    /// Want of memory for the output of 5,242,880 bytes, or for what is to be told.
     pub fn new(
         alloc: Global,
         config: EndConfig,
@@ -159,36 +113,62 @@ impl End {
         ensures { IfOk result (λ e. e ≡ fresh config state most) }
     {
         let output = Output::new(alloc)?;
+        let applied = Applied::new(alloc, state.inbox_next)?;
+        let facts = Facts {
+            recorded: state,
+            connection: Connection::new(&state, Phase::Idle),
+        };
+        let next = facts;
         Ok(End {
             config,
             most,
             begun: false,
             moment: 0,
-            facts: Facts {
-                recorded: state,
-                connection: Connection::new(&state, Phase::Idle),
-            },
+            facts,
             ending: None,
             output,
             pending: None,
+            next,
             room: 0,
+            start: 0,
+            last_sent: 0,
+            last_received: 0,
+            applied,
         })
     }
 
-    /// A connection begins at the moment `now` in milliseconds. What the one before left unsent is dropped.
-    /// The first message of an initiator is not built yet.
+    /// A connection begins at the moment `now` in milliseconds, and an initiator writes its first message. What the connection
+    /// before left unsent is dropped.
     pub fn begin(&mut self, now: u64)
-        requires role { self.old.config.role ≡ Acceptor }
         requires over { self.old.begun ≡ true → IsSome self.old.ending }
         requires time { (self.old.moment ≤ now) × (now < 2 ^ 44) }
-        ensures { self.new ≡ connected self.old now }
+        ensures begun { self.new ≡ connected self.old now }
+        ensures recorded { self.new.facts.recorded ≡ self.old.facts.recorded }
+        ensures small { length self.new.unsent ≤ reply_limit self.old.config }
     {
+        let around = Around {
+            config: &self.config,
+            most: self.most,
+            at: 0,
+            moment: now,
+        };
+        let opening = begin_connection(&around, &mut self.facts);
         self.begun = true;
         self.moment = now;
-        self.facts.connection = Connection::new(&self.facts.recorded, Phase::Idle);
         self.ending = None;
         self.output.clear();
         self.pending = None;
+        self.start = now;
+        self.last_sent = now;
+        self.last_received = now;
+        self.applied.forget_runs();
+        write_place(
+            &self.config,
+            &mut self.output,
+            &mut self.last_sent,
+            opening,
+            now,
+        );
     }
 
     /// Makes room for 16 frames.
@@ -196,16 +176,18 @@ impl End {
     /// # Errors
     /// Want of memory: nothing has changed.
     pub fn reserve(&mut self) -> Result<(), AllocError>
+        requires done { self.old.pending ≡ None }
         ensures ok { OnOk result (self.new ≡ record self.old { room = 16 }) }
         ensures err { OnErr result (self.new ≡ self.old) }
     {
+        self.applied.reserve()?;
         self.room = RESERVED_FRAMES;
         Ok(())
     }
 
-    /// Answers a frame of the connection. `message` begins with its SBE header, `at` is the frame's place in
-    /// the connection's bytes, and `now` the moment in milliseconds. Where the act is a record, the caller
-    /// makes it stable and then calls `did`, which writes the reply; any other reply is written at once.
+    /// Answers a frame of the connection. `message` begins with its SBE header, `at` is the frame's place in the connection's
+    /// bytes, and `now` the moment in milliseconds. Where the act is a record, the caller makes it stable and then calls `did`,
+    /// which writes the reply; any other reply is written at once.
     pub fn on_frame(&mut self, order: Order, message: &[u8], at: u64, now: u64) -> Act
         requires header { 8 ≤ length message.now }
         requires most { length message.now ≤ 16384 }
@@ -216,17 +198,32 @@ impl End {
         requires output { length self.old.unsent ≤ 1000000 }
         requires time { (self.old.moment ≤ now) × (now < 2 ^ 44) }
         ensures reply { AnswersFrame self.old self.new order message.now at now result }
-        ensures small { length self.new.unsent ≤ length self.old.unsent + reply_limit }
+        ensures takes { CanTake self.old.config.peer_flow self.old.most self.old.facts.recorded (IsApplication (payload_of (record { order = order; message = message.now }))) result }
+        ensures recorded { recorded_once_done self.new ≡ recorded_after result self.old.facts.recorded }
+        ensures waits { is_record result ≡ true → Waits self.old self.new }
+        ensures pending { is_some self.new.pending ≡ is_record result }
+        ensures stays { Stays self.old self.new now }
+        ensures room { self.new.room + 1 ≡ self.old.room }
+        ensures untold { self.new.untold ≡ self.old.untold }
+        ensures small { length self.new.unsent ≤ length self.old.unsent + reply_limit self.old.config }
     {
-        let around = self.around(at, now);
-        let reply = reply_to(&around, self.facts, &classify(order, message));
+        let around = Around {
+            config: &self.config,
+            most: self.most,
+            at,
+            moment: now,
+        };
+        self.next = self.facts;
+        let reply = reply_to_frame(&around, &mut self.next, &classify(order, message));
         self.moment = now;
+        self.last_received = now;
         self.room -= 1;
         let act = reply.act;
         if act.is_record() {
             self.pending = Some(reply);
         } else {
-            self.apply_reply(reply);
+            let next = self.next;
+            self.apply_reply(reply, next);
         }
         act
     }
@@ -238,12 +235,14 @@ impl End {
         requires done { self.old.pending ≡ None }
         requires output { length self.old.unsent ≤ 5100000 }
         requires time { (self.old.moment ≤ now) × (now < 2 ^ 44) }
-        ensures reply { self.new ≡ reply_applied (record self.old { moment = now }) (reply_to_bad_frame (around self.old at now) self.old.facts) }
-        ensures small { length self.new.unsent ≤ length self.old.unsent + reply_limit }
+        ensures reply { self.new ≡ after_bad_frame self.old at now }
+        ensures small { length self.new.unsent ≤ length self.old.unsent + reply_limit self.old.config }
     {
-        let reply = reply_to_bad_frame(&self.around(at, now), self.facts);
+        let facts = self.facts;
+        let reply = reply_to_no_frame(&self.around(at, now), &facts);
         self.moment = now;
-        self.apply_reply(reply);
+        self.last_received = now;
+        self.apply_reply(reply, facts);
     }
 
     /// The act of the last frame is stable: its reply takes effect.
@@ -251,24 +250,197 @@ impl End {
         requires pending { IsSome self.old.pending }
         requires output { length self.old.unsent ≤ 5100000 }
         requires time { (self.old.moment ≤ now) × (now < 2 ^ 44) }
-        ensures reply { IfSome self.old.pending (λ outcome. self.new ≡ reply_applied (record self.old { moment = now }) outcome) }
-        ensures small { length self.new.unsent ≤ length self.old.unsent + reply_limit }
+        ensures reply { IfSome self.old.pending (λ outcome. self.new ≡ after_act self.old outcome now) }
+        ensures recorded { self.new.facts.recorded ≡ recorded_once_done self.old }
+        ensures done { self.new.pending ≡ None }
+        ensures stays { Stays self.old self.new now }
+        ensures room { self.new.room ≡ self.old.room }
+        ensures untold { length self.new.untold ≤ length self.old.untold + 1 }
+        ensures small { length self.new.unsent ≤ length self.old.unsent + reply_limit self.old.config }
     {
         self.moment = now;
-        if let Some(reply) = self.pending {
-            self.apply_reply(reply);
+        if let Some(reply) = &self.pending {
+            take_act(
+                &mut self.applied,
+                &self.config,
+                reply.act,
+                self.next.recorded.inbox_next,
+            );
+            write_reply(
+                &self.config,
+                &mut self.output,
+                &mut self.last_sent,
+                &reply.written,
+                now,
+            );
+            self.facts = self.next;
+            self.ending = reply.ending;
         }
+        self.pending = None;
+    }
+
+    /// The clock ticked: a heartbeat that is due is written, if no output is unsent, and then a connection ends whose handshake
+    /// takes too long, or whose peer is silent.
+    pub fn on_tick(&mut self, now: u64)
+        requires begun { self.old.begun ≡ true }
+        requires output { length self.old.unsent ≤ 5100000 }
+        requires time { (self.old.moment ≤ now) × (now < 2 ^ 44) }
+        ensures ticks { self.new ≡ ticked self.old now }
+        ensures facts { self.new.facts ≡ self.old.facts }
+        ensures done { self.old.pending ≡ None → self.new.pending ≡ None }
+        ensures stays { Stays self.old self.new now }
+        ensures room { self.new.room ≡ self.old.room }
+        ensures untold { self.new.untold ≡ self.old.untold }
+        ensures small { length self.new.unsent ≤ length self.old.unsent + reply_limit self.old.config }
+    {
+        self.moment = now;
+        if self.ending.is_some() {
+            return;
+        }
+        self.write_heartbeat();
+        let violation = lateness(
+            &self.around(0, now),
+            &self.facts,
+            self.start,
+            self.last_received,
+        );
+        self.end_broken(violation);
+    }
+
+    /// A turn ended: the numbers that an idempotent flow applied in it are told, each run of consecutive ones once, and behind
+    /// them an initiator closes a connection on which both finishes are exchanged.
+    pub fn turn_done(&mut self, now: u64)
+        requires done { self.old.pending ≡ None }
+        requires output { length self.old.unsent ≤ 2000000 }
+        requires few { length self.old.untold ≤ 10000 }
+        requires time { (self.old.moment ≤ now) × (now < 2 ^ 44) }
+        ensures turn { self.new ≡ after_turn self.old now }
+        ensures recorded { self.new.facts.recorded ≡ self.old.facts.recorded }
+        ensures serving { self.new.facts.connection.serving ≡ self.old.facts.connection.serving }
+        ensures done { self.new.pending ≡ None }
+        ensures stays { Stays self.old self.new now }
+        ensures told { self.old.ending ≡ None → self.new.untold ≡ [] }
+        ensures small { length self.new.unsent ≤ length self.old.unsent + 64 * (length self.old.untold + 1) }
+    {
+        self.moment = now;
+        if self.ending.is_some() {
+            return;
+        }
+        let around = Around {
+            config: &self.config,
+            most: self.most,
+            at: 0,
+            moment: now,
+        };
+        write_turn(
+            &around,
+            &mut self.facts,
+            &self.applied,
+            &mut self.output,
+            &mut self.last_sent,
+        );
+        self.applied.forget_runs();
+    }
+
+    /// The outbox has its Finish behind `last` entries, which may be told again: it is told to the peer once on each connection,
+    /// where all of them were sent.
+    pub fn closed(&mut self, last: u64, now: u64)
+        requires done { self.old.pending ≡ None }
+        requires output { length self.old.unsent ≤ 5100000 }
+        requires time { (self.old.moment ≤ now) × (now < 2 ^ 44) }
+        ensures finish { self.new ≡ after_closed self.old last now }
+        ensures recorded { self.new.facts.recorded ≡ record self.old.facts.recorded { finish = Some last } }
+        ensures serving { self.new.facts.connection.serving ≡ self.old.facts.connection.serving }
+        ensures done { self.new.pending ≡ None }
+        ensures stays { Stays self.old self.new now }
+        ensures untold { self.new.untold ≡ self.old.untold }
+        ensures small { length self.new.unsent ≤ length self.old.unsent + reply_limit self.old.config }
+    {
+        self.moment = now;
+        let around = Around {
+            config: &self.config,
+            most: self.most,
+            at: 0,
+            moment: now,
+        };
+        if self.ending.is_some() {
+            outbox_finished(&mut self.facts, last);
+            return;
+        }
+        let finish = finish_sending(&around, &mut self.facts, last);
+        write_place(
+            &self.config,
+            &mut self.output,
+            &mut self.last_sent,
+            finish,
+            now,
+        );
     }
 
     /// No more bytes come: the connection ends, if it has not ended.
     pub fn on_link_end(&mut self)
         requires { self.old.begun ≡ true }
-        ensures { self.new ≡ link_ended self.old }
+        ensures ended { self.new ≡ link_ended self.old }
+        ensures facts { self.new.facts ≡ self.old.facts }
+        ensures stays { Stays self.old self.new self.old.moment }
     {
         if self.ending.is_none() {
-            self.ending = Some(Ending::LinkEnded);
+            let ending = link_ending(&self.around(0, self.moment), &self.facts);
+            self.ending = Some(ending);
             self.pending = None;
         }
+    }
+
+    /// What is still to be sent again of the range that the peer asked for.
+    pub fn serving(&self) -> Option<Range>
+        ensures value { result ≡ self.now.facts.connection.serving }
+        ensures sent { IfSome result (WasSent self.now.facts.recorded.sent) }
+    {
+        self.facts.connection.serving
+    }
+
+    /// Sends entries live: those behind the last that was sent.
+    pub fn send_live(&mut self, entries: &[Stable], now: u64)
+        requires done { self.old.pending ≡ None }
+        requires open { self.old.ending ≡ None }
+        requires established { is_established self.old.facts.connection.phase ≡ true }
+        requires flow { is_absent self.old.config.own_flow ≡ false }
+        requires free { self.old.facts.connection.serving ≡ None }
+        requires numbered { AreFrom (self.old.facts.recorded.sent + 1) entries.now }
+        requires last { self.old.facts.recorded.sent + length entries.now < 2 ^ 40 }
+        requires output { length self.old.unsent + length (payload_frames (payloads_of entries.now)) ≤ 5000000 }
+        requires time { (self.old.moment ≤ now) × (now < 2 ^ 44) }
+        ensures live { self.new ≡ sent_live self.old (payloads_of entries.now) now }
+        ensures small { length self.new.unsent ≡ length self.old.unsent + length (payload_frames (payloads_of entries.now)) }
+    {
+        self.moment = now;
+        write_entries(&mut self.output, &mut self.last_sent, entries, now);
+        self.facts.recorded.sent += entries.len() as u64;
+    }
+
+    /// Sends entries of the range that is served again, from its front. Behind the last of them a Sequence tells the number of
+    /// the next live one.
+    pub fn send_again(&mut self, entries: &[Stable], now: u64)
+        requires done { self.old.pending ≡ None }
+        requires open { self.old.ending ≡ None }
+        requires front { IfSome self.old.facts.connection.serving (λ r. AreFrom r.from entries.now) }
+        requires some { IsSome self.old.facts.connection.serving }
+        requires within { IfSome self.old.facts.connection.serving (λ r. length entries.now ≤ r.count) }
+        requires ranged { IfSome self.old.facts.connection.serving (λ r. r.from + length entries.now < 2 ^ 64) }
+        requires output { length self.old.unsent + length (payload_frames (payloads_of entries.now)) ≤ 5000000 }
+        requires time { (self.old.moment ≤ now) × (now < 2 ^ 44) }
+        ensures again { IfSome self.old.facts.connection.serving (λ r. self.new ≡ sent_again self.old r (payloads_of entries.now) now) }
+        ensures recorded { self.new.facts.recorded ≡ self.old.facts.recorded }
+        ensures stays { Stays self.old self.new now }
+        ensures small { length self.new.unsent ≤ length self.old.unsent + length (payload_frames (payloads_of entries.now)) + 64 }
+    {
+        self.moment = now;
+        let Some(range) = self.facts.connection.serving else {
+            return;
+        };
+        let rest = rest_of(range, entries.len() as u64);
+        self.write_range(entries, rest);
+        self.facts.connection.serving = rest;
     }
 
     /// How many entries of the outbox were sent or begun.
@@ -293,6 +465,20 @@ impl End {
         self.output.take_front(count);
     }
 
+    /// Its configuration.
+    pub fn config(&self) -> &EndConfig
+        ensures { result.now ≡ self.now.config }
+    {
+        &self.config
+    }
+
+    /// The last moment that it was told, in milliseconds.
+    pub fn moment(&self) -> u64
+        ensures { result ≡ self.now.moment }
+    {
+        self.moment
+    }
+
     /// The phase of the connection.
     pub fn phase(&self) -> Phase
         ensures { result ≡ phase_of self.now }
@@ -310,7 +496,7 @@ impl End {
         self.ending
     }
 
-    /// What stands around a reply to a frame at this place and moment.
+    /// What stands around an event at this place and moment.
     fn around(&self, at: u64, now: u64) -> Around<'_>
         ensures { around_of result ≡ around self.now at now }
     {
@@ -322,15 +508,107 @@ impl End {
         }
     }
 
-    /// A reply takes effect.
-    fn apply_reply(&mut self, reply: Reply)
-        requires { length self.old.unsent ≤ 5100000 }
-        ensures applied { self.new ≡ reply_applied self.old (outcome_of self.old.config reply) }
-        ensures small { length self.new.unsent ≤ length self.old.unsent + reply_limit }
+    /// A reply without a record takes effect at the last moment, with the facts that it leaves.
+    fn apply_reply(&mut self, reply: Reply, next: Facts)
+        requires act { is_record reply.act ≡ false }
+        requires keeps { KeepsSound self.old.config self.old.most self.old.facts (outcome_of self.old.config reply next) }
+        requires serves { Serves next }
+        requires small { written_limit self.old.config reply.written ≤ reply_limit self.old.config }
+        requires output { length self.old.unsent ≤ 5100000 }
+        ensures applied { self.new ≡ reply_applied self.old (outcome_of self.old.config reply next) self.old.moment }
+        ensures untold { self.new.untold ≡ self.old.untold }
+        ensures small { length self.new.unsent ≤ length self.old.unsent + written_limit self.old.config reply.written }
     {
-        write_all(&self.config, &mut self.output, &reply.written);
-        self.facts = reply.next;
+        take_act(
+            &mut self.applied,
+            &self.config,
+            reply.act,
+            next.recorded.inbox_next,
+        );
+        write_reply(
+            &self.config,
+            &mut self.output,
+            &mut self.last_sent,
+            &reply.written,
+            self.moment,
+        );
+        self.facts = next;
         self.ending = reply.ending;
         self.pending = None;
+    }
+
+    /// Writes the heartbeat that is due at the last moment, if one is.
+    fn write_heartbeat(&mut self)
+        requires output { length self.old.unsent ≤ 5100000 }
+        ensures wrote { self.new ≡ wrote self.old (bytes_of (heartbeats (around self.old 0 self.old.moment) self.old.facts self.old.last_sent self.old.unsent)) self.old.moment }
+        ensures small { length self.new.unsent ≤ 5100000 }
+        ensures short { length self.new.unsent ≤ length self.old.unsent + 64 }
+    {
+        if !self.output.unsent().is_empty() {
+            return;
+        }
+        let moment = self.moment;
+        let around = Around {
+            config: &self.config,
+            most: self.most,
+            at: 0,
+            moment,
+        };
+        let due = beat(&around, &self.facts, self.last_sent);
+        write_place(
+            &self.config,
+            &mut self.output,
+            &mut self.last_sent,
+            due,
+            moment,
+        );
+    }
+
+    /// Ends the connection at the last moment, if its peer broke a rule.
+    fn end_broken(&mut self, violation: Option<Violation>)
+        requires output { length self.old.unsent ≤ 5100000 }
+        ensures ends { self.new ≡ broken_by self.old violation self.old.moment }
+        ensures facts { self.new.facts ≡ self.old.facts }
+        ensures done { self.old.pending ≡ None → self.new.pending ≡ None }
+        ensures stays { Stays self.old self.new self.old.moment }
+        ensures room { self.new.room ≡ self.old.room }
+        ensures untold { self.new.untold ≡ self.old.untold }
+        ensures short { length self.new.unsent ≤ length self.old.unsent + 64 }
+    {
+        if let Some(violation) = violation {
+            self.end_by(violation);
+        }
+    }
+
+    /// Ends the connection at the last moment, whose peer broke a rule.
+    fn end_by(&mut self, violation: Violation)
+        requires output { length self.old.unsent ≤ 5100000 }
+        ensures ends { self.new ≡ reply_applied self.old (breaks (around self.old 0 self.old.moment) self.old.facts violation) self.old.moment }
+        ensures untold { self.new.untold ≡ self.old.untold }
+        ensures short { length self.new.unsent ≤ length self.old.unsent + 64 }
+    {
+        let facts = self.facts;
+        let reply = break_connection(&self.around(0, self.moment), &facts, violation);
+        self.apply_reply(reply, facts);
+    }
+
+    /// Writes entries of a range at the last moment, and behind the last of it the number of the next live one.
+    fn write_range(&mut self, entries: &[Stable], rest: Option<Range>)
+        requires output { length self.old.unsent + length (payload_frames (payloads_of entries.now)) ≤ 5000000 }
+        ensures wrote { self.new ≡ wrote self.old (payload_frames (payloads_of entries.now) ++ range_end self.old.facts rest) self.old.moment }
+        ensures short { length self.new.unsent ≤ length self.old.unsent + length (payload_frames (payloads_of entries.now)) + 64 }
+    {
+        let moment = self.moment;
+        write_entries(&mut self.output, &mut self.last_sent, entries, moment);
+        if rest.is_none() {
+            let next = self.facts.recorded.sent + 1;
+            write_place(
+                &self.config,
+                &mut self.output,
+                &mut self.last_sent,
+                Some(Outgoing::Sequence { next }),
+                moment,
+            );
+        }
     }
 }

@@ -8,14 +8,12 @@ use gateway::{Bad, Command, Outside, Status, Which, command_of, run};
 use gw_real::{FileDisk, FileSink, FileSource, Named, Opening, STANDARD_OUTPUT};
 use schema_load::load;
 use schema_toml::TEXT_LIMIT;
+use sofh_frame::ROOM;
 use std::alloc::{AllocError, Global};
 use std::fs::File;
 use std::io::{self, Printer};
 use std::rt::Files;
 use std::sync::Wait;
-
-/// How many of the last bytes of INPUT are kept to say what is wrong with a frame: as many as are read at once.
-const KEPT: usize = 32_780;
 
 const fn named<'a>(role: &'static str, path: &'a str) -> Named<'a> {
     Named { role, path }
@@ -250,9 +248,10 @@ fn run_with<'a, R: Wait + Files<File = File> + Print + AllocGlobal>(
     out: FileSink<'a, R, File, Printer<'a, R>>,
 ) -> Report {
     let alloc = rt.alloc();
+    // Of INPUT as many of the last bytes are kept as are read at once: they say what is wrong with a frame.
     let outside = Outside {
         config: FileSource::new(rt, alloc, files.config.path, TEXT_LIMIT + 1),
-        input: FileSource::new(rt, alloc, files.input.path, KEPT),
+        input: FileSource::new(rt, alloc, files.input.path, ROOM),
         wire: FileSink::new(rt, files.wire, apart.outputs),
         out,
         out_disk: FileDisk::new(rt, files.outbox, apart.journals, files.opening()),

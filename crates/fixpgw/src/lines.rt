@@ -1,7 +1,7 @@
 //! What is wrong with a file of a run, in a line.
 
-use fault_text::{file_name, malformed_frame, refused_frame};
-use fixp_end::Violation;
+use fault_text::{broken_rule, file_name, malformed_frame, refused_frame};
+use fixp_shake::Violation;
 use gateway::{Bad, JournalCause, Which};
 use gw_real::{DiskReason, Kept, Named, Reason, STANDARD_OUTPUT};
 use std::alloc::{AllocError, Global};
@@ -108,6 +108,10 @@ pub fn input_line(
             Some(why) => format!(in alloc; "{file}: malformed frame at byte {at}: {why}")?,
             None => format!(in alloc; "{file}: malformed frame at byte {at}")?,
         }));
+    }
+    if let Bad::Session { at, violation } = bad {
+        let rule = broken_rule(alloc, *at, *violation)?;
+        return Ok(Some(format!(in alloc; "{file}: {rule}")?));
     }
     if let Bad::Frame { at } = bad {
         let bytes = kept.from_place(*at);

@@ -4,7 +4,7 @@ use Rattle.std.specs.Io.KnownBytes.{Appends}
 use Rattle.schema_toml.specs.declared.fault.ConfigFault.{ConfigFault}
 use Rattle.command_base.specs.declared.status.Status.{Status}
 use Rattle.command_base.specs.declared.status.Status.TheVariants.{Done, Words, Config, InputFault, OutputFault, JournalFault, JournalBad, Message, Memory}
-use Rattle.fixp_end.specs.declared.config.EndConfig.{EndConfig}
+use Rattle.fixp_shake.specs.declared.config.EndConfig.{EndConfig}
 use Rattle.answer_command.specs.Answer.{Answer, IsAnswer, acceptor_of}
 use Rattle.command_base.specs.Contents.{Content}
 use Rattle.answer_command.specs.Promise.{GaveWhole}
@@ -87,7 +87,6 @@ encode_completes text input plan messages before after old new (Message bads.Too
 encode_completes text input plan messages before after old new (Message (bads.Frame at)) same is short judged gave cause none = absurd (rw same at gave)
 encode_completes text input plan messages before after old new (Message (bads.Cut at)) same is short judged gave cause none = absurd (rw same at gave)
 encode_completes text input plan messages before after old new (Message (bads.Session at violation)) same is short judged gave cause none = absurd (rw same at gave)
-encode_completes text input plan messages before after old new (Message (bads.NotBuilt at)) same is short judged gave cause none = absurd (rw same at gave)
 encode_completes text input plan messages before after old new (Message (bads.Decode frame fault)) same is short judged gave cause none = absurd (rw same at gave)
 encode_completes text input plan messages before after old new Memory same is short judged gave cause none = inl refl
 encode_completes text input plan messages before after old new Words same is short judged gave cause none = absurd judged

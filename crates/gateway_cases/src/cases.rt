@@ -1,5 +1,6 @@
 //! The lines of the file of cases, and what each run is to give.
 
+use crate::clients::client_lines;
 use crate::coding::{frames_line, lines_line};
 use crate::devices::{Case, Failing, Outcome, ended};
 use crate::texts::{Answering, Checking, Coding};
@@ -43,7 +44,10 @@ fn gained(alloc: Global, bytes: &[u8], whole: &[u8]) -> Result<String, AllocErro
 fn told(alloc: Global, outcome: &Outcome, wire: &[u8], out: &[u8]) -> Result<String, AllocError> {
     let wired = gained(alloc, outcome.wire.taken(), wire)?;
     let written = gained(alloc, outcome.out.taken(), out)?;
-    format!(in alloc; "status {}, WIRE {wired}, OUT {written}", outcome.code)
+    format!(in alloc;
+        "status {}, WIRE {wired}, OUT {written}",
+        outcome.status.code()
+    )
 }
 
 /// A run of `answer`.
@@ -130,7 +134,7 @@ fn encode_line<R: Wait>(
 
 /// Whether a run gave all of WIRE and OUT.
 fn is_whole(outcome: &Outcome, wire: &[u8], out: &[u8]) -> bool {
-    outcome.code == 0 && outcome.wire.taken() == wire && outcome.out.taken() == out
+    outcome.status.code() == 0 && outcome.wire.taken() == wire && outcome.out.taken() == out
 }
 
 /// How many of the runs with INPUT in pieces of 1 to `most` bytes give the whole.
@@ -192,6 +196,7 @@ pub fn line_of<R: Wait>(
         Some(("lines", words)) => lines_line(rt, alloc, coding, words),
         Some(("frames", words)) => frames_line(rt, alloc, coding, words),
         Some(("answer", numbers)) => answer_line(rt, alloc, answering, numbers),
+        Some(("client", words)) => client_lines(rt, alloc, answering, words),
         Some(("check", numbers)) => check_line(rt, alloc, checking, numbers),
         Some(("pieces", words)) => pieces_of(rt, alloc, answering, coding, words),
         _ => line.to_string(alloc),

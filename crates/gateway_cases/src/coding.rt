@@ -1,6 +1,6 @@
 //! Runs of `decode` and `encode` whose output is shown whole.
 
-use crate::devices::{Case, Failing, ended};
+use crate::devices::{Case, NONE_FAILS, ended};
 use crate::texts::Coding;
 use case_words::{bytes, digits, halves};
 use std::alloc::{AllocError, Global};
@@ -13,12 +13,7 @@ fn case<'a>(words: &'a str, config: &'a [u8], input: &'a [u8]) -> Case<'a> {
         config,
         input,
         piece: 7,
-        failing: Failing {
-            config: 0,
-            input: 0,
-            wire: 0,
-            out: 0,
-        },
+        failing: NONE_FAILS,
         room: 4096,
     }
 }
@@ -49,7 +44,7 @@ pub fn lines_line<R: Wait>(
         case("decode C I O", schema_of(texts, name), input.as_slice()),
     )?;
     let text = std::str::from_utf8(outcome.out.taken()).unwrap_or("");
-    let mut line = format!(in alloc; "lines {name}: status {}:", outcome.code)?;
+    let mut line = format!(in alloc; "lines {name}: status {}:", outcome.status.code())?;
     for part in text.lines() {
         line.push_str(" ")?;
         line.push_str(part)?;
@@ -77,5 +72,5 @@ pub fn frames_line<R: Wait>(
         case("encode C I W", schema_of(texts, name), input.as_slice()),
     )?;
     let hex = digits(alloc, outcome.wire.taken())?;
-    format!(in alloc; "frames {name}: status {}: {hex}", outcome.code)
+    format!(in alloc; "frames {name}: status {}: {hex}", outcome.status.code())
 }

@@ -2,7 +2,7 @@
 
 ghost use Rattle.std.specs.Prelude.{◌<◌};
 
-use gateway::{Outside, run};
+use gateway::{Outside, Status, run};
 use gw_fakes::{Calls, MemDisk, MemSink, MemSource};
 use gw_outside::Bytes;
 use std::alloc::{AllocError, Global};
@@ -16,6 +16,14 @@ pub struct Failing {
     pub wire: u64,
     pub out: u64,
 }
+
+/// No call fails.
+pub const NONE_FAILS: Failing = Failing {
+    config: 0,
+    input: 0,
+    wire: 0,
+    out: 0,
+};
 
 /// A run: its command, CONFIG and INPUT, the greatest piece of INPUT, the calls that fail, and the room of both outputs.
 #[derive(Clone, Copy)]
@@ -31,7 +39,7 @@ pub struct Case<'a> {
 /// How a run ended: its status, and the outputs.
 #[derive(Drop)]
 pub struct Outcome {
-    pub code: u8,
+    pub status: Status,
     pub wire: MemSink,
     pub out: MemSink,
 }
@@ -91,11 +99,7 @@ fn run_over<R: Wait>(
         out_disk: _,
         in_disk: _,
     } = outside;
-    Outcome {
-        code: status.code(),
-        wire,
-        out,
-    }
+    Outcome { status, wire, out }
 }
 
 /// Runs a case.

@@ -3,6 +3,7 @@
 #![tactic(auto)]
 
 mod cases;
+mod clients;
 mod coding;
 mod devices;
 mod texts;

@@ -1,74 +1,174 @@
-//! A server of an unsequenced flow: what it answers to the frames of a recorded session, to events that no row answers yet,
-//! and to bytes that break the framing.
+//! One end of a session, told of frames and of other events one after another: what it does at each.
 
-ghost use Rattle.std.specs.Prelude.{◌≤◌, length};
+ghost use Rattle.std.specs.Prelude.{◌≡◌, ◌≤◌, length, IfSome};
 
+use crate::entries::entries;
 use crate::named::Named;
-use case_words::{digits, halves};
-use fixp_end::{Act, End, EndConfig, EndState, Role};
-use fixp_msgs::Flow;
+use case_words::{digits, halves, number};
+use fixp_end::{Act, End, EndConfig, EndState, Flow, Role};
+use fixp_shake::{is_absent, is_established};
 use gw_outside::Bytes;
+use jr_boxes::Stable;
 use sbe_prim::Order;
 use sofh_frame::{FirstFrame, next};
 use std::alloc::{AllocError, Global};
 use std::marker::Model;
+use std::slice::from_ref;
 
 /// The identifier of the session.
 const ID: [u8; 16] = [
     0x00, 0x11, 0x22, 0x33, 0x44, 0x55, 0x66, 0x77, 0x88, 0x99, 0xAA, 0xBB, 0xCC, 0xDD, 0xEE, 0xFF,
 ];
 
-/// The moment of every event, in milliseconds.
-const NOW: u64 = 5;
+/// The moment of the first connection's beginning, in milliseconds.
+const BEGINNING: u64 = 5;
 
 /// The place of every frame in the connection's bytes.
 const PLACE: u64 = 7;
 
-/// A server of an unsequenced flow in a connection, which has nothing left to do.
+/// The greatest moment that an end is told.
+const LAST_MOMENT: u64 = 1_000_000;
+
+/// An end in a connection, which has no act left to do, the entries that it may send, and the last moment that it was told.
 #[derive(Drop)]
-struct Server {
+struct Driven {
     end: End,
+    own_flow: Flow,
+    entries: Vec<Stable>,
+    now: u64,
+    /// How many frames came since the last turn ended, at least.
+    heard: u64,
 }
 
-impl Model for Server {
-    ghost use Rattle.std.specs.Prelude.{◌≡◌, true, None};
-    ghost use Rattle.fixp_end.specs.Machine.{State};
-    ghost use Rattle.fixp_end.specs.declared.config.Role.TheVariants.{Acceptor};
+impl Model for Driven {
+    ghost use Rattle.std.specs.Prelude.{◌≡◌, ◌≤◌, length, true, None};
+    ghost use Rattle.reply_laws.specs.Machine.{State};
 
     ghost Value = { State };
 
     ghost view = { λ s. s.end };
 
-    ghost invariant = { λ s. (s.end.config.role ≡ Acceptor) × (s.end.begun ≡ true) × (s.end.pending ≡ None) × (s.end.moment ≡ 5) };
+    ghost invariant = { λ s. (s.end.begun ≡ true) × (s.end.pending ≡ None) × (s.end.moment ≤ s.now) × (s.now ≤ 1000000) × (s.end.config.own_flow ≡ s.own_flow) × (length s.end.untold ≤ s.heard) };
 }
 
-impl Server {
-    /// A server in its first connection.
-    fn new(alloc: Global, negotiated: bool) -> Result<Server, AllocError> {
+/// A flow by its name.
+fn flow_of(word: &str) -> Flow {
+    match word {
+        "recoverable" => Flow::Recoverable,
+        "idempotent" => Flow::Idempotent,
+        "unsequenced" => Flow::Unsequenced,
+        _ => Flow::None,
+    }
+}
+
+/// The entry of this number, if there is one.
+fn entry_of(entries: &[Stable], wanted: u64) -> Option<&Stable>
+    ensures number { IfSome result (λ entry. entry.now.number ≡ wanted) }
+    ensures short { IfSome result (λ entry. length entry.now.payload ≤ 100) }
+{
+    for entry in entries {
+        if entry.number() == wanted && entry.payload().len() <= 100 {
+            return Some(entry);
+        }
+    }
+    None
+}
+
+impl Driven {
+    /// The side, the flow that it sends, the one that it receives, whether the session is negotiated, the inbox's next number
+    /// and how many entries were sent: an end with these in its first connection. `SIDE OWN PEER NEGOTIATED NEXT SENT`.
+    fn new(alloc: Global, words: &str) -> Result<Driven, AllocError> {
+        let (side, rest) = halves(words);
+        let (own, rest) = halves(rest);
+        let (peer, rest) = halves(rest);
+        let (negotiated, rest) = halves(rest);
+        let (inbox, sent) = halves(rest);
+        let own_flow = flow_of(own);
         let config = EndConfig {
-            role: Role::Acceptor,
+            role: match side {
+                "initiator" => Role::Initiator,
+                _ => Role::Acceptor,
+            },
             session: ID,
-            own_flow: Flow::None,
-            peer_flow: Flow::Unsequenced,
+            own_flow,
+            peer_flow: flow_of(peer),
             keepalive: 1000,
             credentials: Bytes::from(Vec::new(alloc)),
         };
         let recorded = EndState {
-            negotiated,
-            inbox_next: 1,
+            negotiated: negotiated == "negotiated",
+            inbox_next: number(inbox).clamp(1, 1_000_000),
             peer_last: None,
-            sent: 0,
+            sent: number(sent).min(1_000_000),
             finish: None,
         };
-        let mut end = End::new(alloc, config, recorded, 1000)?;
-        end.begin(NOW);
-        Ok(Server { end })
+        let mut end = End::new(alloc, config, recorded, 1 << 24)?;
+        end.begin(BEGINNING);
+        Ok(Driven {
+            end,
+            own_flow,
+            entries: entries(alloc)?,
+            now: BEGINNING,
+            heard: 0,
+        })
     }
 
     /// The next connection begins where one has ended.
     fn begin(&mut self) {
         if self.end.ending().is_some() {
-            self.end.begin(NOW);
+            self.end.begin(self.now);
+        }
+    }
+
+    /// The clock ticks at this moment.
+    fn tick(&mut self, moment: u64) {
+        self.now = self.now.max(moment.min(LAST_MOMENT));
+        if self.end.out().is_empty() {
+            self.end.on_tick(self.now);
+        }
+    }
+
+    /// A turn ends.
+    fn turn(&mut self) {
+        if self.end.out().is_empty() && self.heard <= 10_000 {
+            self.end.turn_done(self.now);
+        }
+    }
+
+    /// The outbox has its finish behind so many entries.
+    fn closed(&mut self, last: u64) {
+        if self.end.out().is_empty() {
+            self.end.closed(last, self.now);
+        }
+    }
+
+    /// The next entry is sent live, where that may be.
+    fn live(&mut self) {
+        let is_open = self.end.ending().is_none() && is_established(self.end.phase());
+        if !is_open || is_absent(self.own_flow) || self.end.serving().is_some() {
+            return;
+        }
+        let Some(next) = self.end.sent().checked_add(1) else {
+            return;
+        };
+        let Some(entry) = entry_of(self.entries.as_slice(), next) else {
+            return;
+        };
+        if self.end.out().is_empty() {
+            self.end.send_live(from_ref(entry), self.now);
+        }
+    }
+
+    /// The next entry of the range that is served is sent again.
+    fn again(&mut self) {
+        let Some(range) = self.end.serving() else {
+            return;
+        };
+        let Some(entry) = entry_of(self.entries.as_slice(), range.from) else {
+            return;
+        };
+        if self.end.ending().is_none() && range.count > 0 && self.end.out().is_empty() {
+            self.end.send_again(from_ref(entry), self.now);
         }
     }
 
@@ -78,27 +178,28 @@ impl Server {
         requires header { 8 ≤ length message.now }
         requires most { length message.now ≤ 16384 }
     {
-        if self.end.ending().is_some() || !self.end.out().is_empty() {
+        if self.end.ending().is_some() || !self.end.out().is_empty() || self.heard > 10_000 {
             return Ok(None);
         }
         self.end.reserve()?;
-        let act = self.end.on_frame(order, message, PLACE, NOW);
+        self.heard += 1;
+        let act = self.end.on_frame(order, message, PLACE, self.now);
         let before = self.end.out().len();
         if act.is_record() {
-            self.end.did(NOW);
+            self.end.did(self.now);
         }
         Ok(Some((act, before)))
     }
 
-    /// Its act at bytes that are no frame.
+    /// Bytes come that are no frame.
     fn refuse(&mut self) {
         if self.end.ending().is_none() && self.end.out().is_empty() {
-            self.end.on_bad_frame(PLACE, NOW);
+            self.end.on_bad_frame(PLACE, self.now);
         }
     }
 
-    /// Its act at a frame or at bytes that are none.
-    fn hear(&mut self, alloc: Global, bytes: &[u8]) -> Result<String, AllocError> {
+    /// Its act at a frame or at bytes that are none, in words.
+    fn frame(&mut self, alloc: Global, bytes: &[u8]) -> Result<String, AllocError> {
         match next(bytes) {
             FirstFrame::Frame { order, message, .. } if (8..=16384).contains(&message.len()) => {
                 match self.act(order, message)? {
@@ -116,47 +217,46 @@ impl Server {
         }
     }
 
-    /// The link takes everything that is written, which are these bytes.
+    /// What it does at an event, in words: a call, or a frame by name.
+    fn hear(&mut self, alloc: Global, named: Named<'_>, event: &str) -> Result<String, AllocError> {
+        let (call, given) = event.split_once("=").unwrap_or((event, ""));
+        match call {
+            "begin" => self.begin(),
+            "tick" => self.tick(number(given)),
+            "turn" => self.turn(),
+            "closed" => self.closed(number(given)),
+            "live" => self.live(),
+            "again" => self.again(),
+            "link-end" => self.end.on_link_end(),
+            _ => {
+                let bytes = named.bytes(alloc, event)?;
+                return self.frame(alloc, bytes.as_slice());
+            }
+        }
+        format!(in alloc; "told")
+    }
+
+    /// The link takes everything that is written, which are these bytes; and the phase and the ending.
     fn taken(&mut self, alloc: Global) -> Result<String, AllocError> {
         let written = digits(alloc, self.end.out())?;
         let count = self.end.out().len();
         self.end.taken(count);
-        Ok(written)
+        let phase = self.end.phase();
+        let ending = self.end.ending();
+        format!(in alloc; "[{written}], {phase:?}, {ending:?}")
     }
 }
 
-/// What the server does at an event: its act, what is written, the phase and the ending.
-fn event_line(alloc: Global, server: &mut Server, bytes: &[u8]) -> Result<String, AllocError> {
-    server.begin();
-    let act = server.hear(alloc, bytes)?;
-    let written = server.taken(alloc)?;
-    let phase = server.end.phase();
-    let ending = server.end.ending();
-    format!(in alloc; "{act}, [{written}], {phase:?}, {ending:?}")
-}
-
-/// What the server does at each event by name, a line each.
-fn event_lines(
-    alloc: Global,
-    named: Named<'_>,
-    server: &mut Server,
-    events: &str,
-) -> Result<String, AllocError> {
-    let mut lines = String::new(alloc);
-    for event in events.split(" ") {
-        let bytes = named.bytes(alloc, event)?;
-        let line = event_line(alloc, server, bytes.as_slice())?;
-        lines.push_str(format!(in alloc; "\n  {event}: {line}")?.as_str())?;
+/// What an end does at each event, a line each: `SIDE OWN PEER NEGOTIATED NEXT SENT, EVENT EVENT ..`.
+pub fn end_lines(alloc: Global, named: Named<'_>, words: &str) -> Result<String, AllocError> {
+    let (kind, events) = words.split_once(", ").unwrap_or((words, ""));
+    let mut driven = Driven::new(alloc, kind)?;
+    let begun = driven.taken(alloc)?;
+    let mut lines = format!(in alloc; "{kind}: {begun}")?;
+    for event in events.split_whitespace() {
+        let act = driven.hear(alloc, named, event)?;
+        let taken = driven.taken(alloc)?;
+        lines.push_str(format!(in alloc; "\n  {event}: {act}, {taken}")?.as_str())?;
     }
     Ok(lines)
-}
-
-/// The events at a server that is `new` or `negotiated`. One behind the end of a connection is of the next connection.
-pub fn server_lines(alloc: Global, named: Named<'_>, words: &str) -> Result<String, AllocError> {
-    let (kind, events) = halves(words);
-    let negotiated = kind == "negotiated";
-    let mut server = Server::new(alloc, negotiated)?;
-    let phase = server.end.phase();
-    let lines = event_lines(alloc, named, &mut server, events)?;
-    format!(in alloc; "server, negotiated {negotiated}: {phase:?}{lines}")
 }

@@ -3,6 +3,7 @@
 #![tactic(auto)]
 
 mod ends;
+mod entries;
 mod frames;
 mod named;
 
@@ -18,7 +19,7 @@ fn line_of(alloc: Global, named: Named<'_>, line: &str) -> Result<String, AllocE
         Some(("framer", word)) => frames::framer_line(alloc, named, word),
         Some(("pieces", rest)) => frames::pieces_line(alloc, named, rest),
         Some(("parts", words)) => frames::parts_line(alloc, named, words),
-        Some(("server", words)) => ends::server_lines(alloc, named, words),
+        Some(("end", words)) => ends::end_lines(alloc, named, words),
         _ => line.to_string(alloc),
     }
 }

@@ -1,0 +1,55 @@
+//! Entries of an outbox, which an end sends.
+
+use gw_fakes::MemDisk;
+use jr_boxes::{Outbox, Stable};
+use jr_log::{LogJournal, format};
+use jr_record::Limits;
+use std::alloc::{AllocError, Global};
+
+/// How many entries there are.
+const COUNT: u64 = 5;
+
+/// The room of the disk, in bytes.
+const SIZE: usize = 4096;
+
+/// Limits that no entry meets.
+const WIDE: Limits = Limits {
+    entries: 1000,
+    bytes: 100_000,
+};
+
+/// The payload of every entry: an application message without fields.
+const PAYLOAD: [u8; 10] = [0xEB, 0x50, 0, 0, 7, 0, 0x64, 0, 1, 0];
+
+/// An outbox on a new disk; none where the disk is refused.
+fn new_outbox(alloc: Global) -> Result<Option<Outbox<LogJournal<MemDisk>>>, AllocError> {
+    let mut disk = MemDisk::without_faults(alloc, SIZE)?;
+    if format(&mut disk).is_err() {
+        return Ok(None);
+    }
+    let Ok(journal) = LogJournal::open(alloc, disk, WIDE) else {
+        return Ok(None);
+    };
+    Ok(Outbox::open(alloc, journal, WIDE).ok())
+}
+
+/// The entries 1 to 5 of an outbox; fewer where a call is refused.
+pub fn entries(alloc: Global) -> Result<Vec<Stable>, AllocError> {
+    let mut entries = Vec::new(alloc);
+    let Some(mut outbox) = new_outbox(alloc)? else {
+        return Ok(entries);
+    };
+    for _ in 0..COUNT {
+        let Ok(number) = outbox.accept(1, &PAYLOAD) else {
+            return Ok(entries);
+        };
+        if number == 0 || number > outbox.front() {
+            return Ok(entries);
+        }
+        let Ok(entry) = outbox.stable(number) else {
+            return Ok(entries);
+        };
+        entries.push(entry)?;
+    }
+    Ok(entries)
+}
