@@ -1,5 +1,5 @@
 -- The reading of all messages of a text, one after another.
-use Rattle.std.proofs.Common.{◌≡◌, ◌≢◌, ℕ, ◌==◌, ◌&&◌, Bool, true, false, if◌then◌else◌, List, [], ◌∷◌, ◌++◌, Result, Ok, Err, refl, sym, ◌∙◌, ap, subst}
+use Rattle.std.proofs.Common.{◌≡◌, ◌≢◌, ℕ, ◌==◌, ◌&&◌, Bool, true, false, if◌then◌else◌, List, [], ◌∷◌, ◌++◌, Ok, Err, refl, subst}
 use Rattle.std.proofs.lemmas.Bool.{false≢true}
 use Rattle.sbe_value.specs.declared.message.Message.{Message}
 use Rattle.sbe_layout.specs.declared.plan.Plan.{Plan}
@@ -9,7 +9,7 @@ use Rattle.sbe_text.specs.Answers.{Fails}
 use Rattle.sbe_text.specs.Lines.{lines_in, in_first, begins_with}
 use Rattle.sbe_text.specs.Reading.{read_message}
 use Rattle.encode_command.specs.Encoded.{AreRead}
-use Rattle.encode_command.specs.Progress.{Spelled, HasRead, RefusesWith, Reads}
+use Rattle.encode_command.specs.Progress.{Spelled, HasRead, Reads}
 use Rattle.encode_command.proofs.Rows.{read-more}
 
 -- bytes have a line at least

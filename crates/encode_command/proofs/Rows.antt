@@ -4,7 +4,7 @@ use Rattle.sbe_value.specs.declared.message.Message.{Message}
 use Rattle.sbe_layout.specs.declared.plan.MessagePlan.{MessagePlan}
 use Rattle.sbe_text.specs.Lines.{Read}
 use Rattle.sbe_text.specs.Reading.{read_message}
-use Rattle.encode_command.specs.Encoded.{BeginsWith, AreRead}
+use Rattle.encode_command.specs.Encoded.{AreRead}
 
 -- one more at the end
 pub read-more : (plans : List MessagePlan) (ls : List (List ℕ)) (ms : List Message) (behind : List (List ℕ)) (m : Message) (rest : List (List ℕ))

@@ -1,5 +1,5 @@
 -- What is written of messages, one after another.
-use Rattle.std.proofs.Common.{◌≡◌, ◌≢◌, ℕ, ◌+◌, ◌<◌, ◌≤◌, List, [], ◌∷◌, ◌++◌, length, take, Option, Some, None, Ok, Err, refl, sym, ◌∙◌, ap, subst, arith, append_assoc, append-nil, length-append}
+use Rattle.std.proofs.Common.{◌≡◌, ◌≢◌, ℕ, ◌+◌, List, [], ◌∷◌, ◌++◌, length, take, Option, None, Err, refl, sym, ◌∙◌, ap, subst, arith, append_assoc, append-nil, length-append}
 use Rattle.std.proofs.lemmas.List.{take-append-le}
 use Rattle.std.proofs.Math.Seq.{take-append-add}
 use Rattle.std.specs.Io.KnownBytes.{Appends}
@@ -9,18 +9,16 @@ use Rattle.sofh_frame.specs.Framing.{spelled}
 use Rattle.sbe_value.specs.declared.message.Message.{Message}
 use Rattle.sbe_layout.specs.declared.plan.Plan.{Plan}
 use Rattle.sbe_encode.specs.declared.fault.EncodeFault.{EncodeFault}
-use Rattle.sbe_encode.specs.Faults.{encode_fault}
 use Rattle.sbe_text.specs.declared.error.Refusal.{Refusal}
 use Rattle.sbe_text.specs.declared.error.Refusal.TheVariants.{Left, Memory}
 use Rattle.sbe_text.specs.Lines.{lines_in}
 use Rattle.sbe_text.specs.Reading.{read_message}
 use Rattle.command_base.specs.declared.status.Bad.TheVariants as bad
-use Rattle.command_base.specs.declared.status.Status.{Status}
 use Rattle.command_base.specs.declared.status.Status.TheVariants as status
-use Rattle.encode_command.specs.Encoded.{AreRead, AreSpelled, frame_of, Written, behind, followed, written, written_from}
+use Rattle.encode_command.specs.Encoded.{AreRead, frame_of, Written, behind, followed, written, written_from}
 use Rattle.encode_command.specs.Progress.{HasMade, HasRead, Reads, RefusesWith, Spelled, WroteOne, WroteNone, Pushed, HasWritten}
 use Rattle.encode_command.specs.Promise.{GaveFrames, GaveFront}
-use Rattle.encode_command.proofs.Rows.{read-more, read-on, Others, others}
+use Rattle.encode_command.proofs.Rows.{read-more, read-on, others}
 use Rattle.encode_command.proofs.Reading.{some-lines}
 
 behind-behind : (one other : List ℕ) (w : Written) → behind one (behind other w) ≡ behind (one ++ other) w

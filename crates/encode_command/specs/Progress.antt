@@ -1,5 +1,5 @@
 -- How far `encode` has come in the middle of its text.
-use Rattle.std.specs.Prelude.{◌≡◌, ◌≢◌, ⊤, ℕ, ◌+◌, ◌<◌, ◌≤◌, Option, Some, None, Result, Ok, Err, List, [], ◌∷◌, ◌++◌, length}
+use Rattle.std.specs.Prelude.{◌≡◌, ◌≢◌, ⊤, ℕ, ◌+◌, ◌<◌, ◌≤◌, Option, Some, None, Result, Ok, Err, List, [], ◌++◌, length}
 use Rattle.std.specs.Io.KnownBytes.{Appends}
 use Rattle.std.specs.Borrow.{Bor}
 use Rattle.sofh_frame.specs.Framing.{spelled}

@@ -1,12 +1,11 @@
 -- What is read of lines leaves fewer of them.
-use Rattle.std.proofs.Common.{◌≡◌, ℕ, zero, suc, ◌+◌, ◌<◌, ◌≤◌, List, [], ◌∷◌, length, Option, Some, None, Result, Ok, Err, refl, subst, arith}
+use Rattle.std.proofs.Common.{◌≡◌, ℕ, zero, suc, ◌+◌, ◌<◌, ◌≤◌, List, [], ◌∷◌, length, Option, Some, None, Result, Ok, Err, subst, arith}
 use Rattle.std.specs.Prelude.{IfOk}
 use Rattle.std.specs.Borrow.{Bor}
 use Rattle.sbe_text.specs.declared.error.Refusal.{Refusal}
 use Rattle.sbe_text.specs.Answers.{Gives}
-use Rattle.sbe_value.specs.declared.tree.Group.{Group}
 use Rattle.sbe_value.specs.declared.message.Message.{Message}
-use Rattle.sbe_value.specs.Trees.{GroupList, BlockList}
+use Rattle.sbe_value.specs.Trees.{GroupList}
 use Rattle.sbe_layout.specs.declared.items.DataPlan.{DataPlan}
 use Rattle.sbe_layout.specs.declared.items.ItemPlan.{ItemPlan}
 use Rattle.sbe_layout.specs.declared.plan.MessagePlan.{MessagePlan}

@@ -1,4 +1,4 @@
-use Rattle.std.proofs.Common.{◌≡◌, ◌≢◌, [], None, rules, arith}
+use Rattle.std.proofs.Common.{◌≢◌, [], None, rules, arith}
 use Rattle.std.proofs.lemmas.Grind.{common_steps}
 use Rattle.sbe_text.proofs.Feeds.{lines_within}
 use Rattle.encode_command.proofs.Steps.{made-more, made-none, written-none}
