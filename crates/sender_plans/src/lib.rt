@@ -3,11 +3,10 @@
 #![tactic(auto)]
 
 mod door;
-mod plan;
 mod run;
 mod sender;
 
 pub use door::{Door, OpenDoor};
-pub use plan::Plan;
 pub use run::run_senders;
+pub use send_plans::Plan;
 pub use sender::Sender;

@@ -1,9 +1,10 @@
 //! What a sender is to send.
-ghost use Rattle.std.specs.Prelude.{◌≡◌, ◌↔◌, ◌-◌, ◌≤◌, All, length, slice_get, Some, IsTrue, IfOk, IfErr};
+ghost use Rattle.std.specs.Prelude.{◌≡◌, ◌↔◌, ◌-◌, ◌≤◌, true, false, [], ◌∷◌, ◌++◌, All, length, slice_get, Some, IsTrue, IfOk, IfErr, OnErr};
 ghost use Rattle.fixp_msgs.specs.Payload.{IsApplication};
 
 use fixp_msgs::is_application;
-use gw_outside::{Bytes, Payloads};
+use sbe_value::{Bytes, Payloads};
+use std::alloc::{AllocError, Global};
 
 /// The payloads that a sender is to send, in order. Each is that of an application message.
 #[derive(Debug, Drop)]
@@ -13,7 +14,7 @@ pub struct Plan {
 }
 
 impl Plan {
-    ghost use Rattle.sender_plans.specs.Plans.{payloads_of};
+    ghost use Rattle.send_plans.specs.Plans.{payloads_of};
 
     /// The plan of these payloads.
     ///
@@ -30,6 +31,32 @@ impl Plan {
         } else {
             Err(payloads)
         }
+    }
+
+    /// The plan of no payloads.
+    pub fn new(alloc: Global) -> Plan
+        ensures none { payloads_of result ≡ [] }
+    {
+        Plan {
+            payloads: Payloads::new(alloc),
+        }
+    }
+
+    /// Adds a payload at the end where it is that of an application message, and says whether it is.
+    ///
+    /// # Errors
+    ///
+    /// Want of memory, which leaves the plan as it was.
+    pub fn add(&mut self, payload: Bytes) -> Result<bool, AllocError>
+        ensures added { IfOk result (λ is. is ≡ true → (payloads_of self.new ≡ payloads_of self.old ++ payload ∷ []) × IsApplication payload) }
+        ensures refused { IfOk result (λ is. is ≡ false → (payloads_of self.new ≡ payloads_of self.old) × (IsApplication payload → ⊥)) }
+        ensures err { OnErr result (payloads_of self.new ≡ payloads_of self.old) }
+    {
+        if !is_application(payload.as_slice()) {
+            return Ok(false);
+        }
+        self.payloads.push(payload)?;
+        Ok(true)
     }
 
     /// How many there are.
