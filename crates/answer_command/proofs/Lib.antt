@@ -1,5 +1,4 @@
 mod Devices
-mod Hexadecimal
 mod Steps
 pub mod Fronts
 mod Rounds

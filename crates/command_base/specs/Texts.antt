@@ -1,9 +1,13 @@
 -- What is read of CONFIG, and what a status says of it.
-use Rattle.std.specs.Prelude.{◌≡◌, ℕ, ◌≤◌, List, length, Option, Result, Err, IsOk}
+use Rattle.std.specs.Prelude.{◌≡◌, ℕ, ◌^◌, ◌≤◌, List, length, Option, Result, Err, IsOk}
 use Rattle.std.specs.Io.KnownBytes.{Consumes}
 use Rattle.schema_toml.specs.declared.fault.ConfigFault.{ConfigFault}
 use Rattle.command_base.specs.declared.status.Status.{Status}
 use Rattle.command_base.specs.declared.status.Status.TheVariants.{Done, Config, InputFault, OutputFault, Message, Memory}
+
+-- the most bytes of a text in INPUT
+abbrev pub input_limit : ℕ
+input_limit = 2 ^ 26
 
 -- at most so many bytes of a source were read
 pub record ReadsWithin (old new : Option (List ℕ)) (limit : ℕ) : Type 0 where

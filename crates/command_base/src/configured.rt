@@ -13,7 +13,7 @@ use gw_outside::Source;
 use sbe_layout::Plan;
 use sbe_schema::Checked;
 use schema_load::{load, load_checked};
-use schema_toml::ConfigFault;
+use schema_toml::{ConfigFault, TEXT_LIMIT};
 use session_config::{Settings, read_settings};
 use std::alloc::Global;
 
@@ -109,7 +109,7 @@ pub fn read_config<S: Source, T: Configured>(alloc: Global, config: &mut S) -> R
     ensures counted { S.faults config.old ≤ S.faults config.new }
     ensures fault { IsErrOf result Status.InputFault → HasRisen (S.faults config.old) (S.faults config.new) }
 {
-    let text = match read_text(alloc, config) {
+    let text = match read_text(alloc, config, TEXT_LIMIT) {
         Ok(text) => text,
         Err(TextFault::Source) => return Err(Status::InputFault),
         Err(TextFault::Memory) => return Err(Status::Memory),

@@ -1,5 +1,5 @@
 //! What every command stands on: the devices of a run, the statuses that it ends with and their causes, the reading of
-//! CONFIG, the beginning of outputs, and the order of refusals. Relies on the contracts of devices, and on those of what
+//! texts and of CONFIG, the beginning of outputs, and the order of refusals. Relies on the contracts of devices, and on those of what
 //! reads a configuration's text.
 #![tactic(auto)]
 
@@ -14,3 +14,4 @@ pub use jr_boxes::{JournalCause, Which};
 pub use outputs::begin;
 pub use outside::Outside;
 pub use status::{Bad, Status};
+pub use text::{INPUT_LIMIT, TextFault, read_text};

@@ -1,6 +1,6 @@
 -- What `encode` makes of a text: the messages in a row that its lines spell, and their frames (this project's profile; the
 -- frames are those of the Simple Open Framing Header).
-use Rattle.std.specs.Prelude.{◌≡◌, ◌≢◌, ℕ, ◌+◌, ◌-◌, ◌^◌, Option, Some, None, Ok, Err, List, [], ◌∷◌, ◌++◌, length}
+use Rattle.std.specs.Prelude.{◌≡◌, ◌≢◌, ℕ, ◌+◌, ◌-◌, ◌<◌, ◌≤◌, Option, Some, None, Ok, Err, List, [], ◌∷◌, ◌++◌, length}
 use Rattle.sofh_frame.specs.Framing.{Frame, spelled}
 use Rattle.sbe_value.specs.declared.message.Message.{Message}
 use Rattle.sbe_layout.specs.declared.plan.MessagePlan.{MessagePlan}
@@ -10,13 +10,14 @@ use Rattle.sbe_encode.specs.declared.fault.EncodeFault.{EncodeFault}
 use Rattle.sbe_encode.specs.Faults.{encode_fault}
 use Rattle.sbe_text.specs.Lines.{lines_in}
 use Rattle.sbe_text.specs.Reading.{read_message}
+use Rattle.command_base.specs.Texts.{input_limit}
 use Rattle.command_base.specs.declared.status.Bad.TheVariants as bad
 use Rattle.command_base.specs.declared.status.Status.{Status}
 use Rattle.command_base.specs.declared.status.Status.TheVariants as status
 
 -- the most bytes of a text
 abbrev pub text_limit : ℕ
-text_limit = 2 ^ 26
+text_limit = input_limit
 
 -- ---- messages in a row
 

@@ -4,7 +4,6 @@
 
 mod command;
 mod frame;
-mod text;
 mod whole;
 mod writing;
 

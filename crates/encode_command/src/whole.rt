@@ -6,9 +6,8 @@ ghost use Rattle.encode_command.specs.Progress.{TellsLine};
 ghost use Rattle.gw_outside.specs.Faults.{HasRisen};
 ghost use Rattle.encode_command.specs.Promise.{IsEncodeEnd, KeepsPromise};
 
-use crate::text::{LIMIT, Unread, read_text};
 use crate::writing::{make_frames, write_all};
-use command_base::{Bad, Status, begin};
+use command_base::{Bad, INPUT_LIMIT, Status, TextFault, begin, read_text};
 use gw_outside::{Sink, Source};
 use sbe_layout::Plan;
 use sbe_text::{Refusal, TextError, refused_line};
@@ -43,12 +42,12 @@ pub fn write_frames<S: Source, K: Sink>(
     let Ok(()) = begin(wire) else {
         return Status::OutputFault;
     };
-    let text = match read_text(alloc, input) {
+    let text = match read_text(alloc, input, INPUT_LIMIT) {
         Ok(text) => text,
-        Err(Unread::Source) => return Status::InputFault,
-        Err(Unread::Memory) => return Status::Memory,
+        Err(TextFault::Source) => return Status::InputFault,
+        Err(TextFault::Memory) => return Status::Memory,
     };
-    if text.len() > LIMIT {
+    if text.len() > INPUT_LIMIT {
         return Status::Message(Bad::TooLong);
     }
     let mut frames = Vec::new(alloc);

@@ -8,15 +8,7 @@ ghost use Rattle.journal_text.specs.Lines.{line_of};
 
 use jr_record::Record;
 use std::alloc::AllocError;
-use text_digits::{push_decimal, push_hex};
-
-/// Adds a word and the number behind it.
-fn push_number(lines: &mut Vec<u8>, word: &[u8], number: u64) -> Result<(), AllocError>
-    ensures { OnOk result (lines.new.items ≡ lines.old.items ++ (word.now ++ decimal number)) }
-{
-    lines.extend_from_slice(word)?;
-    push_decimal(lines, number)
-}
+use text_digits::{push_hex, push_number};
 
 /// Adds a payload behind a blank, and the end of the line.
 fn push_payload(lines: &mut Vec<u8>, payload: &[u8]) -> Result<(), AllocError>

@@ -1,4 +1,3 @@
-pub mod Plans
 pub mod Sent
 pub mod Runs
 pub mod Seats

@@ -7,7 +7,7 @@ use Rattle.gate_turn.specs.Calls.{IsFree}
 use Rattle.gate_senders.specs.Gate.{IsSenderAt}
 use Rattle.gate_senders.specs.Shown.{TakesTurn, Submitted}
 use Rattle.gate_senders.specs.declared.gate.Gate.{Gate}
-use Rattle.sender_plans.specs.Plans.{payloads_of}
+use Rattle.send_plans.specs.Plans.{payloads_of}
 use Rattle.sender_plans.specs.Sent.{GoesOn, Sent, IsShown, refusals}
 use Rattle.sender_plans.specs.declared.sender.Sender.{Sender}
 

@@ -3,13 +3,12 @@
 #![tactic(auto)]
 
 mod door;
-mod plan;
 mod run;
 mod seats;
 mod sender;
 
 pub use door::{Door, OpenDoor};
-pub use plan::Plan;
 pub use run::run_senders;
 pub use seats::{give_last, run_seated, seat, take_last, unseat};
+pub use send_plans::Plan;
 pub use sender::Sender;

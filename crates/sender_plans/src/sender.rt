@@ -2,11 +2,11 @@
 ghost use Rattle.std.specs.Prelude.{◌≡◌, ◌+◌, ◌≤◌, length, IsTrue, IsFalse};
 
 use crate::door::Door;
-use crate::plan::Plan;
 use gate_senders::{Gate, Kept};
 use gate_turn::Pass;
 use jr_boxes::SubmitFault;
 use jr_record::Journal;
+use send_plans::Plan;
 use std::sync::Wait;
 
 /// A sender of a gate, with what it is to send.

@@ -1,8 +1,9 @@
 -- What was checked on the way holds of the configuration that is read.
-use Rattle.std.proofs.Common.{◌≡◌, ℕ, ◌^◌, Bool, true, false, ◌==◌, ◌&&◌, ◌||◌, not, is_some, List, [], Ok, Err, codes, refl, sym, subst}
+use Rattle.std.proofs.Common.{◌≡◌, ℕ, ◌^◌, Bool, true, false, ◌==◌, ◌&&◌, ◌||◌, not, is_some, IfOk, List, [], Result, Ok, Err, codes, refl, sym, subst}
 use Rattle.toml.specs.Data.{Data, get}
 use Rattle.fixp_msgs.specs.declared.flow.Flow.{Flow}
-use Rattle.toml_walk.specs.Reading.{Read, ◌>>=◌}
+use Rattle.toml_walk.specs.declared.fault.TomlFault.{TomlFault}
+use Rattle.toml_walk.specs.Reading.{Read, Reads, ◌>>=◌}
 use Rattle.session_config.specs.declared.configuration.Role.{Role}
 use Rattle.session_config.specs.declared.configuration.Link.{Link}
 use Rattle.session_config.specs.declared.configuration.Trade.{Trade}
@@ -10,7 +11,7 @@ use Rattle.session_config.specs.declared.configuration.Configuration.{Configurat
 use Rattle.std.proofs.lemmas.Bool.{false≢true}
 use Rattle.toml_walk.specs.Keys.{required, get_or_default, deny_unknown_keys}
 use Rattle.toml_walk.specs.Values.{natural_of}
-use Rattle.session_config.specs.Settings.{session_of, flow_of, credentials_of, known_keys, ensure_in_range, allows_client, allows_server, allows_senders, allows_desks, own_flow, is_none, is_accept, link_of, trade_of}
+use Rattle.session_config.specs.Settings.{session_of, flow_of, credentials_of, known_keys, ensure_in_range, allows_client, allows_server, allows_senders, allows_desks, desks_are_built, own_flow, is_none, is_accept, link_of, trade_of, configuration_of}
 use Rattle.session_config.specs.Laws.{KeepsRole, ConfigurationsKeepTheRole}
 
 -- a check that passed, and what stands behind it
@@ -59,11 +60,12 @@ link_kept role keys link e =
 
 -- ---- senders and desks
 
-weaker : (a b c d : Bool) → (a || (b && (c && d))) ≡ true → (a || (b && (true && d))) ≡ true
-weaker true b c d e = refl
-weaker false true true d e = e
-weaker false true false d e = absurd (false≢true e)
-weaker false false c d e = e
+weaker : (a built b c d : Bool) → (a || (built && (b && (c && d)))) ≡ true → (a || (built && (b && (true && d)))) ≡ true
+weaker true built b c d e = refl
+weaker false false b c d e = absurd (false≢true e)
+weaker false true true true d e = e
+weaker false true true false d e = absurd (false≢true e)
+weaker false true false c d e = e
 
 abbrev TradeKept : Role → Flow → Flow → Trade → Type 0
 TradeKept role client server trade = (allows_senders (own_flow role client server) trade.senders ≡ true) × (allows_desks role server false trade.desks ≡ true)
@@ -89,7 +91,7 @@ trade_by role client server has_senders_key (Ok count) (Err fault) version refer
 trade_by role client server has_senders_key (Ok count) (Ok more) version reference trade e =
     let one = met (codes "senders") (allows_senders (own_flow role client server) count) (ensure_in_range (codes "desks") (allows_desks role server has_senders_key more) >>= λ _. trade_end count more version reference) trade e in
     let two = met (codes "desks") (allows_desks role server has_senders_key more) (trade_end count more version reference) trade one.1 in
-    trade_end_kept role client server count more version reference trade one.0 (weaker (more == 0) (is_accept role) (not has_senders_key) (not (is_none server)) two.0) two.1
+    trade_end_kept role client server count more version reference trade one.0 (weaker (more == 0) desks_are_built (is_accept role) (not has_senders_key) (not (is_none server)) two.0) two.1
 
 trade_kept : (role : Role) (client server : Flow) (keys : Data) (trade : Trade) → trade_of role client server keys ≡ Ok trade → TradeKept role client server trade
 trade_kept role client server keys trade e =
@@ -113,3 +115,8 @@ both_ok role keys (Ok link) c l e = trade_ok role keys link (trade_of role link.
 
 pub configurations_keep_the_role : ConfigurationsKeepTheRole
 configurations_keep_the_role role keys c e = both_ok role keys (link_of role keys) c refl e
+
+-- what is read of a table keeps it
+pub read_keeps_role : (role : Role) (keys : Data) (r : Result Configuration TomlFault) → Reads r (configuration_of role keys) → IfOk r (KeepsRole role)
+read_keeps_role role keys (Ok c) read = configurations_keep_the_role role keys c read
+read_keeps_role role keys (Err fault) read = tt

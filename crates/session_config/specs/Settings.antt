@@ -84,9 +84,19 @@ is_accept Accept = true
 is_accept Answer = false
 is_accept Connect = false
 
--- desks are for `accept` alone, where it sends and the key `senders` is absent
+-- the flow that a role receives
+abbrev pub peer_flow : Role → Flow → Flow → Flow
+peer_flow Connect client server = server
+peer_flow Answer client server = client
+peer_flow Accept client server = client
+
+-- no command has desks yet, so that no configuration may ask for one
+abbrev pub desks_are_built : Bool
+desks_are_built = false
+
+-- once they are built, desks are for `accept` alone, where it sends and the key `senders` is absent
 abbrev pub allows_desks : Role → Flow → Bool → ℕ → Bool
-allows_desks role server has_senders_key desks = desks == 0 || (is_accept role && (not has_senders_key && not (is_none server)))
+allows_desks role server has_senders_key desks = desks == 0 || (desks_are_built && (is_accept role && (not has_senders_key && not (is_none server))))
 
 -- ---- the keys
 

@@ -6,9 +6,10 @@ ghost use Rattle.toml_walk.specs.Keys.{get_or_default};
 ghost use Rattle.toml.specs.View.{view};
 ghost use Rattle.toml_walk.specs.Reading.{Reads};
 ghost use Rattle.schema_toml.specs.Faults.{Tells, text_limit};
-ghost use Rattle.session_config.specs.Settings.{IsLinkInRange, IsTradeInRange, allows_client, allows_desks, allows_senders, allows_server, configuration_of, configuration_of_document, configuration_of_text, credentials_of, ensure_in_range, is_none, is_unsequenced, link_of, own_flow, trade_of};
+ghost use Rattle.session_config.specs.Laws.{KeepsRole};
+ghost use Rattle.session_config.specs.Settings.{IsLinkInRange, IsTradeInRange, allows_client, allows_desks, allows_senders, allows_server, configuration_of, configuration_of_document, configuration_of_text, credentials_of, ensure_in_range, is_none, is_unsequenced, link_of, own_flow, peer_flow, trade_of};
 
-use crate::limits::{DESKS, KEEPALIVE, ORDER_VERSION, REFERENCE, SENDERS};
+use crate::limits::{DESKS, DESKS_ARE_BUILT, KEEPALIVE, ORDER_VERSION, REFERENCE, SENDERS};
 use crate::readers::{Credentials, Flows, Sessions};
 use fixp_msgs::Flow;
 use sbe_value::Bytes;
@@ -115,12 +116,22 @@ fn allows_server(role: Role, server: Flow) -> bool
 }
 
 /// The flow that a role sends.
-fn own_flow(role: Role, client: Flow, server: Flow) -> Flow
+pub fn own_flow(role: Role, client: Flow, server: Flow) -> Flow
     ensures { result ≡ own_flow role client server }
 {
     match role {
         Role::Connect => client,
         Role::Answer | Role::Accept => server,
+    }
+}
+
+/// The flow that a role receives.
+pub fn peer_flow(role: Role, client: Flow, server: Flow) -> Flow
+    ensures { result ≡ peer_flow role client server }
+{
+    match role {
+        Role::Connect => server,
+        Role::Answer | Role::Accept => client,
     }
 }
 
@@ -139,7 +150,8 @@ fn allows_senders(own: Flow, senders: u64) -> bool
 fn allows_desks(role: Role, server: Flow, has_senders_key: bool, desks: u64) -> bool
     ensures { result ≡ allows_desks role server has_senders_key desks }
 {
-    desks == 0 || (matches!(role, Role::Accept) && !has_senders_key && !is_none(server))
+    desks == 0
+        || (DESKS_ARE_BUILT && matches!(role, Role::Accept) && !has_senders_key && !is_none(server))
 }
 
 /// The credentials, none where the key is absent.
@@ -249,10 +261,12 @@ fn read_table(alloc: Global, role: Role, keys: &Value) -> Result<Configuration, 
 }
 
 /// The configuration that a document is.
+#[tactic(auto, using(crate::proofs::Kept::read_keeps_role))]
 pub fn read_keys(alloc: Global, role: Role, text: &[u8]) -> Result<Configuration, TomlFault>
     ensures value { Reads result (configuration_of_document role text.now) }
     ensures link { IfOk result (λ c. IsLinkInRange c.link) }
     ensures trade { IfOk result (λ c. IsTradeInRange c.trade) }
+    ensures role { IfOk result (KeepsRole role) }
 {
     let keys = read_document(alloc, text)?;
     read_table(alloc, role, &keys)
@@ -272,6 +286,7 @@ pub fn read_configuration(
     ensures too_long { text_limit < length text.now → result ≡ Err ConfigFault.TooLong }
     ensures link { IfOk result (λ c. IsLinkInRange c.link) }
     ensures trade { IfOk result (λ c. IsTradeInRange c.trade) }
+    ensures role { IfOk result (KeepsRole role) }
 {
     if text.len() > TEXT_LIMIT {
         return Err(ConfigFault::TooLong);

@@ -31,3 +31,14 @@ pub fn push_decimal(lines: &mut Vec<u8>, number: u64) -> Result<(), AllocError>
     let mut digits = Buffer::new();
     lines.extend_from_slice(digits.format(number).as_bytes())
 }
+
+/// Adds a word and the number behind it, in decimal.
+///
+/// # Errors
+/// Want of memory.
+pub fn push_number(lines: &mut Vec<u8>, word: &[u8], number: u64) -> Result<(), AllocError>
+    ensures { OnOk result (lines.new.items ≡ lines.old.items ++ (word.now ++ decimal number)) }
+{
+    lines.extend_from_slice(word)?;
+    push_decimal(lines, number)
+}

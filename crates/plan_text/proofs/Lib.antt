@@ -1,0 +1,4 @@
+mod Adding
+mod Gifts
+mod Steps
+mod OneReading

@@ -1,0 +1,12 @@
+//! The plans of senders as lines of text, each of which gives a payload to a sender. Relies on `sbe_text` for the lines of a
+//! text, on `session_words` for numbers in decimal, and on `hex`.
+#![tactic(auto)]
+
+mod fault;
+mod laws;
+mod line;
+mod plans;
+
+pub use fault::PlanFault;
+pub use laws::one_reading;
+pub use plans::read_plans;

@@ -1,0 +1,12 @@
+//! How a connection came to its end.
+
+use fixp_replies::Ending;
+
+/// How a connection came to its end.
+#[derive(Clone, Copy, Debug, PartialEq, Eq)]
+pub enum Close {
+    /// The session ended it, in this way.
+    Ended(Ending),
+    /// Its link failed before that.
+    LinkFault,
+}
