@@ -1,6 +1,6 @@
 //! One end of a session, told of frames and of other events one after another: what it does at each.
 
-ghost use Rattle.std.specs.Prelude.{◌≡◌, ◌≤◌, length, IfSome};
+ghost use Rattle.std.specs.Prelude.{◌≡◌, ◌≤◌, ◌<◌, ◌^◌, length, IfSome};
 
 use crate::entries::entries;
 use crate::named::Named;
@@ -64,6 +64,7 @@ fn flow_of(word: &str) -> Flow {
 /// The entry of this number, if there is one.
 fn entry_of(entries: &[Stable], wanted: u64) -> Option<&Stable>
     ensures number { IfSome result (λ entry. entry.now.number ≡ wanted) }
+    ensures few { IfSome result (λ entry. wanted < 2 ^ 40) }
     ensures short { IfSome result (λ entry. length entry.now.payload ≤ 100) }
 {
     for entry in entries {

@@ -1,5 +1,6 @@
 //! Entries of an outbox, which an end sends.
 
+use fixp_msgs::is_application;
 use gw_fakes::MemDisk;
 use jr_boxes::{Outbox, Stable};
 use jr_log::{LogJournal, format};
@@ -21,16 +22,21 @@ const WIDE: Limits = Limits {
 /// The payload of every entry: an application message without fields.
 const PAYLOAD: [u8; 10] = [0xEB, 0x50, 0, 0, 7, 0, 0x64, 0, 1, 0];
 
+/// An outbox on a disk with these limits; none where the disk is refused.
+fn outbox_on(alloc: Global, disk: MemDisk, limits: Limits) -> Option<Outbox<LogJournal<MemDisk>>> {
+    let Ok(journal) = LogJournal::open(alloc, disk, limits) else {
+        return None;
+    };
+    Outbox::open(alloc, journal, limits).ok()
+}
+
 /// An outbox on a new disk; none where the disk is refused.
 fn new_outbox(alloc: Global) -> Result<Option<Outbox<LogJournal<MemDisk>>>, AllocError> {
     let mut disk = MemDisk::without_faults(alloc, SIZE)?;
     if format(&mut disk).is_err() {
         return Ok(None);
     }
-    let Ok(journal) = LogJournal::open(alloc, disk, WIDE) else {
-        return Ok(None);
-    };
-    Ok(Outbox::open(alloc, journal, WIDE).ok())
+    Ok(outbox_on(alloc, disk, WIDE))
 }
 
 /// The entries 1 to 5 of an outbox; fewer where a call is refused.
@@ -39,6 +45,9 @@ pub fn entries(alloc: Global) -> Result<Vec<Stable>, AllocError> {
     let Some(mut outbox) = new_outbox(alloc)? else {
         return Ok(entries);
     };
+    if !is_application(&PAYLOAD) {
+        return Ok(entries);
+    }
     for _ in 0..COUNT {
         let Ok(number) = outbox.accept(1, &PAYLOAD) else {
             return Ok(entries);
