@@ -71,7 +71,7 @@ pub fn lines_line(alloc: Global, words: &str) -> Result<String, AllocError> {
     let mut text = String::new(alloc);
     let mut sender = 0;
     for _ in 0..number(lines) {
-        sender = if sender == senders { 1 } else { sender + 1 };
+        sender = if sender >= senders { 1 } else { sender + 1 };
         let line = format!(in alloc; "{sender} {PAYLOAD}\n")?;
         text.push_str(line.as_str())?;
     }
