@@ -1,8 +1,8 @@
 -- The entries that are fetched of an outbox: their payloads, their numbers, how many they are and how long their frames.
-use Rattle.std.proofs.Common.{◌≡◌, ℕ, zero, suc, ◌+◌, ◌-◌, ◌*◌, ◌<◌, ◌≤◌, min, List, [], ◌∷◌, ◌++◌, map, length, take, drop, get_or, refl, sym, ap, ◌∙◌, arith, length-append, length-drop}
+use Rattle.std.proofs.Common.{◌≡◌, ℕ, zero, suc, ◌+◌, ◌-◌, ◌<◌, min, List, [], ◌∷◌, length, take, drop, get_or, refl, ap, ◌∙◌, arith, length-append, length-drop}
 use Rattle.std.proofs.lemmas.List.{length-take}
 use Rattle.session_model.specs.Inbox.{Numbered}
-use Rattle.session_model.specs.Journal.{Entry, History, payloads, counts_from}
+use Rattle.session_model.specs.Journal.{Entry, History, payloads}
 use Rattle.reply_laws.specs.Machine.{payload_frames}
 use Rattle.fixp_machine.specs.Sending.{AreFrom, payloads_of}
 use Rattle.fixp_machine.proofs.Frames.{frames_more, frame_size}

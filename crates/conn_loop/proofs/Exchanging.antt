@@ -1,11 +1,11 @@
 -- A turn's receive, work and sending, put together.
-use Rattle.std.proofs.Common.{◌≡◌, inl, inr, ◌+◌, ◌<◌, ℕ, Bool, true, false, List, [], ◌∷◌, ◌++◌, ◌≤◌, length, Option, Some, None, Result, Ok, Err, refl, sym, ap, subst, ◌∙◌, arith, append-nil, true≢false}
-use Rattle.std.specs.Prelude.{◌||◌, is_some, IsSome, ◌⊎◌, ◌≢◌, IfSome, OnOk, IfOk, IfErr}
+use Rattle.std.proofs.Common.{◌≡◌, inl, inr, ◌<◌, ℕ, Bool, true, List, [], ◌++◌, ◌≤◌, length, Option, Some, None, Result, Ok, Err, refl, sym, ap, subst, ◌∙◌, arith, append-nil}
+use Rattle.std.specs.Prelude.{◌||◌, IsSome, ◌⊎◌, ◌≢◌, OnOk, IfOk, IfErr}
 use Rattle.gw_links.specs.Links.{LinkTold, Carried, Moved}
 use Rattle.gw_links.specs.declared.link.Got.{Got}
 use Rattle.gw_links.proofs.Moving.{moved_more}
 use Rattle.session_model.specs.Journal.{History}
-use Rattle.reply_laws.specs.Machine.{State, run}
+use Rattle.reply_laws.specs.Machine.{State}
 use Rattle.jr_record.specs.declared.journal.Journal.{Ghosts}
 use Rattle.session_model.specs.Inbox.{InboxRecord}
 use Rattle.jr_boxes.specs.declared.inbox.Inbox.{Inbox}
@@ -17,7 +17,7 @@ use Rattle.conn_turns.specs.declared.answer.TurnEnd.{TurnEnd}
 use Rattle.conn_turns.specs.declared.answer.TurnEnd.TheVariants as ends
 use Rattle.conn_turns.specs.Lines.{Line}
 use Rattle.conn_turns.specs.Frames.{added, told}
-use Rattle.conn_turns.specs.Turns.{Work, is_end}
+use Rattle.conn_turns.specs.Turns.{is_end}
 use Rattle.conn_turns.specs.Exact.{Served, line_ticked}
 use Rattle.conn_steps.specs.Settling.{Gains}
 use Rattle.fixp_shake.specs.declared.config.EndConfig.{EndConfig}

@@ -1,5 +1,5 @@
 -- The outbox is served: what it was sent again, what live, and its finish.
-use Rattle.std.proofs.Common.{◌≡◌, ℕ, Bool, List, ◌++◌, Option, refl, sym, ap, ◌∙◌}
+use Rattle.std.proofs.Common.{◌≡◌, ℕ, ◌++◌, Option, refl, sym, ap, ◌∙◌}
 use Rattle.session_model.specs.Journal.{History, BeginsHistory}
 use Rattle.reply_laws.specs.Machine.{State, run}
 use Rattle.conn_turns.specs.Lines.{Line}

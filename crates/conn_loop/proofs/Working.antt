@@ -1,5 +1,5 @@
 -- The work of a turn, put together from its steps.
-use Rattle.std.proofs.Common.{◌≡◌, ◌≤◌, ℕ, Bool, true, false, List, [], ◌∷◌, ◌++◌, length, Option, Some, None, refl, sym, ap, subst, ◌∙◌, arith}
+use Rattle.std.proofs.Common.{◌≡◌, ◌≤◌, ℕ, true, false, List, [], ◌∷◌, ◌++◌, length, Option, Some, None, refl, sym, ap, subst, ◌∙◌, arith}
 use Rattle.std.specs.Prelude.{IfSome}
 use Rattle.session_model.specs.Journal.{History}
 use Rattle.reply_laws.specs.Machine.{State, Call, turn_done, run}
@@ -11,7 +11,7 @@ use Rattle.conn_turns.specs.declared.news.NewsItem.{NewsItem}
 use Rattle.conn_turns.specs.declared.answer.TurnFault.{TurnFault}
 use Rattle.conn_turns.specs.Lines.{Line, lines_after}
 use Rattle.conn_turns.specs.Frames.{IsDone, broken_at, is_link_over}
-use Rattle.conn_turns.specs.Turns.{Work, bad_calls, end_calls, again_calls, live_calls, finish_calls, served_of, served_now, live_of, finish_of, calls_of_frames}
+use Rattle.conn_turns.specs.Turns.{bad_calls, end_calls, again_calls, live_calls, finish_calls, served_of, served_now, live_of, finish_of, calls_of_frames}
 use Rattle.conn_turns.proofs.Taking.{run_append, frames_make_calls}
 use Rattle.conn_steps.specs.Taking.{TookFrames, CutFrames}
 use Rattle.conn_loop.specs.Conn.{HasSeen, Looks}
@@ -51,7 +51,7 @@ module _ {J : Type 0} {G : Ghosts J} where
       let many : ℕ = length t.frames in
       let same : mid ≡ l = t.line in
       let told : closed.machine ≡ run l.machine (ends_at now many l)
-          = ap (λ (x : Line). x.machine) closes ∙ (ap (λ (x : Line). run x.machine (ends_at now count x)) same ∙ ap (λ (k : ℕ). run l.machine (ends_at now k l)) (sym t.many)) in
+      = ap (λ (x : Line). x.machine) closes ∙ (ap (λ (x : Line). run x.machine (ends_at now count x)) same ∙ ap (λ (k : ℕ). run l.machine (ends_at now k l)) (sym t.many)) in
       let outbox : List Call = again_calls now s.again ++ (live_calls now s.live ++ finish_calls now s.finish) in
       record {
         work = record {

@@ -1,7 +1,6 @@
 -- A connection in the code, as a line; its beginning, and its end by a cut (this project's profile).
-use Rattle.std.specs.Prelude.{◌≡◌, ℕ, ◌+◌, ◌^◌, ◌<◌, ◌≤◌, Bool, true, false, List, [], ◌∷◌, length, Option, Some, None, IfSome, max}
+use Rattle.std.specs.Prelude.{◌≡◌, ℕ, ◌+◌, ◌^◌, ◌<◌, ◌≤◌, true, false, [], ◌∷◌, length, Option, Some, None, IfSome}
 use Rattle.fixp_replies.specs.declared.act.Ending.{Ending}
-use Rattle.fixp_replies.specs.declared.act.Ending.TheVariants as endings
 use Rattle.reply_laws.specs.Machine.{State, begin, link_end, taken, run}
 use Rattle.session_model.specs.Journal.{BeginsHistory}
 use Rattle.fixp_replies.specs.Outgoing.{reply_limit}

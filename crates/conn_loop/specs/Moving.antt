@@ -1,10 +1,10 @@
 -- What a turn receives and sends over its link (this project's profile).
-use Rattle.std.specs.Prelude.{◌≡◌, ◌≢◌, ℕ, ◌+◌, ◌<◌, ◌||◌, Bool, true, false, List, [], ◌++◌, length, Option, Some, None, IfSome, Result, Ok, Err}
+use Rattle.std.specs.Prelude.{◌≡◌, ◌≢◌, ℕ, ◌+◌, ◌<◌, ◌||◌, Bool, false, List, [], ◌++◌, length, Option, Some, None, IfSome, Result, Ok, Err}
 use mathlib.Core.List.{IsPrefix}
 use Rattle.gw_links.specs.declared.link.Got.{Got}
 use Rattle.gw_links.specs.Links.{LinkTold, Carried, Moved}
 use Rattle.fixp_replies.specs.declared.act.Ending.TheVariants as endings
-use Rattle.reply_laws.specs.Machine.{State, link_end, run}
+use Rattle.reply_laws.specs.Machine.{State, run}
 use Rattle.conn_turns.specs.declared.answer.TurnEnd.{TurnEnd}
 use Rattle.conn_turns.specs.declared.answer.TurnFault.{TurnFault}
 use Rattle.conn_turns.specs.declared.answer.TurnFault.TheVariants as faults

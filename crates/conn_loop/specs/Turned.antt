@@ -4,7 +4,7 @@ use mathlib.Core.List.{IsPrefix}
 use Rattle.gw_links.specs.Links.{LinkTold, Carried, Moved}
 use Rattle.session_model.specs.Inbox.{InboxRecord}
 use Rattle.session_model.specs.Journal.{History}
-use Rattle.reply_laws.specs.Machine.{State, link_end, run}
+use Rattle.reply_laws.specs.Machine.{link_end, run}
 use Rattle.jr_record.specs.declared.journal.Journal.{Ghosts}
 use Rattle.jr_boxes.specs.declared.inbox.Inbox.{Inbox}
 use Rattle.jr_boxes.specs.Inbox.{HoldsBox}

@@ -1,5 +1,5 @@
 -- What follows of the frames that a turn takes.
-use Rattle.std.specs.Prelude.{◌≡◌, ℕ, ◌+◌, List, [], ◌∷◌, ◌++◌, map, length}
+use Rattle.std.specs.Prelude.{◌≡◌, ℕ, ◌+◌, List, ◌++◌, map}
 use Rattle.std.specs.List.{AllByRecursion}
 use Rattle.sofh_frame.specs.Framing.{Frame, IsFrame}
 use Rattle.sofh_frame.specs.Splits.{spelled_all, place_behind}

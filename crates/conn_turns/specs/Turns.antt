@@ -1,7 +1,7 @@
 -- What a turn of a connection did, and the calls of the session machine that it made (this project's profile).
-use Rattle.std.specs.Prelude.{◌≡◌, ℕ, ◌+◌, ◌-◌, ◌&&◌, ◌||◌, Bool, true, false, not, is_some, is_none, if◌then◌else◌, List, [], ◌∷◌, ◌++◌, map, length, take, drop, Option, Some, None}
+use Rattle.std.specs.Prelude.{ℕ, ◌+◌, ◌-◌, ◌&&◌, Bool, true, false, not, is_some, is_none, if◌then◌else◌, List, [], ◌∷◌, ◌++◌, length, take, drop, Option, Some, None}
 use Rattle.std.specs.List.{flat_map}
-use Rattle.session_model.specs.Journal.{Entry, History, payloads}
+use Rattle.session_model.specs.Journal.{History, payloads}
 use Rattle.fixp_msgs.specs.declared.numbering.Range.{Range}
 use Rattle.fixp_shake.specs.Flows.{is_absent}
 use Rattle.fixp_shake.specs.Phases.{is_established}
@@ -9,7 +9,7 @@ use Rattle.gw_links.specs.declared.link.Got.{Got}
 use Rattle.gw_links.specs.declared.link.Got.TheVariants as gots
 use Rattle.reply_laws.specs.Machine.{State, Call, bad_frame, tick, turn_done, closed, link_end, live, again, taken, reserve, run}
 use Rattle.reply_laws.specs.Machine as calls
-use Rattle.conn_turns.specs.Lines.{Line, TakenFrame, frame_calls, lines_after}
+use Rattle.conn_turns.specs.Lines.{TakenFrame, frame_calls}
 
 -- What a turn did that did not only send. now: its moment in milliseconds. got: what its one receive found, None where the framer
 -- had no room; received: the bytes of it. frames: those that it took; broken: the machine was told of bytes that no frame begins

@@ -1,4 +1,4 @@
-use Rattle.std.proofs.Common.{◌≡◌, ◌∷◌, [], ◌++◌, ℕ, Bool, sym, ap, ◌∙◌}
+use Rattle.std.proofs.Common.{◌≡◌, ◌∷◌, [], ◌++◌, Bool, sym, ap, ◌∙◌}
 use Rattle.reply_laws.specs.Machine.{State, turn_done, run}
 use Rattle.conn_turns.specs.Lines.{Line}
 use Rattle.conn_turns.specs.Frames.{broken_at, is_link_over}
@@ -19,7 +19,7 @@ returns-clause-closed c =
     let ended = c.tell_end.ensures.told in
     let here : c.tell_bad.new.self.end ≡ run m bad = ap (λ (l : Line). l.machine) told in
     let there : c.tell_end.new.self.end ≡ run (run m bad) over
-        = ap (λ (l : Line). l.machine) ended ∙ (ap (λ (b : Bool). run c.tell_bad.new.self.end (end_calls b)) (ap is_link_over told) ∙ ap (λ (s : State). run s over) here) in
+    = ap (λ (l : Line). l.machine) ended ∙ (ap (λ (b : Bool). run c.tell_bad.new.self.end (end_calls b)) (ap is_link_over told) ∙ ap (λ (s : State). run s over) here) in
     line_is _ _
     (c.turn_done.ensures.turn ∙ (ap (λ (s : State). run s (turn_done now ∷ [])) there
     ∙ (sym (run_append (run m bad) over (turn_done now ∷ [])) ∙ sym (run_append m bad (over ++ turn_done now ∷ [])))))

@@ -1,14 +1,12 @@
-use Rattle.std.proofs.Common.{◌∷◌, [], inl, inr, refl, sym, ap, ◌∙◌}
+use Rattle.std.proofs.Common.{◌∷◌, [], inl, inr, refl, ap, ◌∙◌}
 use Rattle.reply_laws.specs.Machine.{link_end, run}
 use Rattle.fixp_replies.specs.declared.facts.Facts.{Facts}
 use Rattle.gate_turn.specs.Places.{known}
 use Rattle.conn_turns.specs.Lines.{Line}
 use Rattle.conn_loop.specs.Conn.{line_of}
-
 use Rattle.conn_loop.proofs.Working.{seen_same}
 use Rattle.conn_loop.proofs.Exchanging.{did_work, cut_turn, on_ok_any, loss_cut, loss_answer, loss_goes, goes_after, agrees_same}
 use Rattle.conn_loop.proofs.conn.Conn.exchange.Goals as goal
-
 
 pub returns-in_default-clause-did : goal.returns-in_default-clause-did
 returns-in_default-clause-did g c =

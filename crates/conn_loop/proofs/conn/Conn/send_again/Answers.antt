@@ -1,7 +1,6 @@
-use Rattle.std.proofs.Common.{◌≡◌, ◌+◌, ◌<◌, ◌≤◌, ℕ, List, length, Option, Some, false, sym, ap, subst, ◌∙◌, refl, arith}
+use Rattle.std.proofs.Common.{◌≡◌, ◌+◌, ◌<◌, ◌≤◌, List, length, Option, false, sym, ap, subst, ◌∙◌, refl, arith}
 use Rattle.std.specs.Prelude.{is_some, IfSome}
 use Rattle.session_model.specs.Inbox.{Numbered}
-use Rattle.session_model.specs.Journal.{History}
 use Rattle.session_model.proofs.Lists.{prefix_length}
 use Rattle.fixp_msgs.specs.declared.numbering.Range.{Range}
 use Rattle.fixp_shake.specs.declared.config.EndConfig.{EndConfig}
@@ -9,7 +8,6 @@ use Rattle.fixp_replies.specs.declared.facts.EndState.{EndState}
 use Rattle.fixp_machine.specs.Sending.{AreFrom, payloads_of}
 use Rattle.reply_laws.specs.Machine.{State, payload_frames, sent_again, run}
 use Rattle.gate_turn.specs.Places.{known}
-use Rattle.gate_senders.specs.Kept.{messages}
 use Rattle.conn_turns.specs.Turns.{again_calls, served_of}
 use Rattle.conn_steps.proofs.Following.{line_is}
 use Rattle.conn_loop.proofs.Entries.{payloads_fetched, numbers_fetched, length_fetched, length_payloads}
@@ -85,7 +83,7 @@ returns-in-Ok-clause-serve g c =
     let same = c.as_slice-in-Ok.ensures.value ∙ sym c.as_slice.ensures.value in
     let serving = sym c.serving.ensures.value ∙ c.in-Some.is in
     let exact : n ≡ sent_again m c.in-Some.range (payloads_of c.as_slice-in-Ok.result.now) c.args.now
-        = subst (λ (o : Option Range). IfSome o (λ r. n ≡ sent_again m r (payloads_of c.as_slice-in-Ok.result.now) c.args.now)) serving c.send_again.ensures.again in
+    = subst (λ (o : Option Range). IfSome o (λ r. n ≡ sent_again m r (payloads_of c.as_slice-in-Ok.result.now) c.args.now)) serving c.send_again.ensures.again in
     let stays = c.send_again.ensures.stays in
     let recorded = c.send_again.ensures.recorded in
     let sent = ap (λ (r : EndState). r.sent) recorded in
@@ -118,16 +116,16 @@ returns-in-Ok-clause-unserved g c = λ _.
     let e = c.as_slice-in-Ok.ensures.value ∙ c.in-Ok.ensures.given in
     let serving = sym c.serving.ensures.value ∙ c.in-Some.is in
     let exact : n ≡ sent_again m c.in-Some.range (payloads_of c.as_slice-in-Ok.result.now) c.args.now
-        = subst (λ (o : Option Range). IfSome o (λ r. n ≡ sent_again m r (payloads_of c.as_slice-in-Ok.result.now) c.args.now)) serving c.send_again.ensures.again in
+    = subst (λ (o : Option Range). IfSome o (λ r. n ≡ sent_again m r (payloads_of c.as_slice-in-Ok.result.now) c.args.now)) serving c.send_again.ensures.again in
     ap (λ (s : State). s.facts.connection.serving) exact
     ∙ rest_none c.in-Some.range (length (payloads_of c.as_slice-in-Ok.result.now))
     (omega (
-    arith,
-    length_payloads c.as_slice-in-Ok.result.now,
-    ap (λ (es : List Numbered). length es) e,
-    length_fetched h c.in-Some.range.from c.in-Some.range.count,
-    c.in-Some.ensures.sent.first,
-    c.in-Some.ensures.sent.last,
-    c.requires.serve.seen.entries,
-    prefix_length (known c.args.pass.now).seen.made h.made c.in-Ok.ensures.turn.seen.made,
+      arith,
+      length_payloads c.as_slice-in-Ok.result.now,
+      ap (λ (es : List Numbered). length es) e,
+      length_fetched h c.in-Some.range.from c.in-Some.range.count,
+      c.in-Some.ensures.sent.first,
+      c.in-Some.ensures.sent.last,
+      c.requires.serve.seen.entries,
+      prefix_length (known c.args.pass.now).seen.made h.made c.in-Ok.ensures.turn.seen.made,
     ))

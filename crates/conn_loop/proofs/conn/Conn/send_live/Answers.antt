@@ -1,4 +1,4 @@
-use Rattle.std.proofs.Common.{◌≡◌, ◌+◌, ◌<◌, ◌≤◌, ℕ, Bool, List, length, Option, Some, None, true, if◌then◌else◌, sym, ap, subst, ◌∙◌, refl, arith}
+use Rattle.std.proofs.Common.{◌≡◌, ◌+◌, ℕ, Bool, List, length, Option, Some, None, true, if◌then◌else◌, sym, ap, subst, ◌∙◌, refl, arith}
 use Rattle.session_model.specs.Inbox.{Numbered}
 use Rattle.session_model.proofs.Lists.{prefix_length}
 use Rattle.fixp_machine.specs.Sending.{AreFrom, payloads_of}
@@ -27,7 +27,7 @@ returns-in-Ok-clause-live g c =
     let e = c.as_slice-in-Ok-2.ensures.value ∙ c.in-Ok.ensures.given in
     let sends : sends_live m ≡ true = cc in
     let pays : payloads_of c.as_slice-in-Ok-2.result.now ≡ payloads_from h (m.facts.recorded.sent + 1) 16
-        = ap payloads_of e ∙ (payloads_fetched h (c.sent.result + 1) 16 ∙ ap (λ (n : ℕ). payloads_from h (n + 1) 16) c.sent.ensures) in
+    = ap payloads_of e ∙ (payloads_fetched h (c.sent.result + 1) 16 ∙ ap (λ (n : ℕ). payloads_from h (n + 1) 16) c.sent.ensures) in
     let found : Option (List (List ℕ)) = Some (payloads_from h (m.facts.recorded.sent + 1) 16) in
     line_is _ _
     (c.send_live.ensures.live ∙ (ap (λ (ps : List (List ℕ)). sent_live m ps c.args.now) pays
@@ -68,13 +68,13 @@ returns-in-Ok-clause-serve g c =
       sent = omega (arith, sent, pays, few, c.sent.ensures, ap (λ (es : List Numbered). length es) again);
       seen = seen_on m n (known c.args.pass.now) (known c.fetch.new.pass) c.in-Ok.ensures.turn.seen (ap (λ (s : State). s.facts.recorded.finish) live)
           (omega (
-          arith,
-          sent,
-          pays,
-          many,
-          c.sent.ensures,
-          ap (λ (es : List Numbered). length es) e,
-          c.requires.serve.seen.entries,
-          prefix_length (known c.args.pass.now).seen.made h.made c.in-Ok.ensures.turn.seen.made,
+            arith,
+            sent,
+            pays,
+            many,
+            c.sent.ensures,
+            ap (λ (es : List Numbered). length es) e,
+            c.requires.serve.seen.entries,
+            prefix_length (known c.args.pass.now).seen.made h.made c.in-Ok.ensures.turn.seen.made,
           )) c.requires.serve.seen;
     }

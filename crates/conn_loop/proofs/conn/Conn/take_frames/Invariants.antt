@@ -1,4 +1,4 @@
-use Rattle.std.proofs.Common.{◌≡◌, ◌+◌, ◌-◌, ◌*◌, ◌≤◌}
+use Rattle.std.proofs.Common.{◌+◌, ◌-◌, ◌*◌, ◌≤◌}
 use Rattle.jr_boxes.specs.Inbox.{faults_of}
 use Rattle.conn_turns.specs.News.{items_of}
 use Rattle.conn_steps.specs.Settling.{SameKind}

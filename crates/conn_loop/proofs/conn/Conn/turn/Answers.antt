@@ -1,11 +1,9 @@
-use Rattle.std.proofs.Common.{[], List, sym, ap, subst, ◌∙◌}
+use Rattle.std.proofs.Common.{ap, ◌∙◌}
 use Rattle.fixp_replies.specs.declared.facts.Facts.{Facts}
 use Rattle.std.proofs.lemmas.Result.{on_ok_weaker}
 use Rattle.gate_turn.specs.Places.{known}
-use Rattle.conn_turns.specs.declared.news.NewsItem.{NewsItem}
 use Rattle.conn_turns.specs.declared.answer.TurnFault.TheVariants as faults
 use Rattle.conn_loop.specs.Conn.{line_of}
-use Rattle.conn_loop.specs.Turned.{CutTurn}
 use Rattle.conn_loop.proofs.Exchanging.{on_ok_any, loss_cut, loss_answer, loss_goes, goes_still, agrees_same, only_sent, did_more, cut_as, cut_none}
 use Rattle.conn_loop.proofs.Working.{seen_same}
 use Rattle.conn_loop.proofs.conn.Conn.turn.Goals as goal
