@@ -1,14 +1,12 @@
 -- A frame that is answered: what its act is to the machine and to the inbox.
-use Rattle.std.proofs.Common.{◌≡◌, ℕ, Bool, true, false, List, [], ◌∷◌, ◌++◌, drop, get_or, Option, Some, None, refl, sym, ap, subst, ◌∙◌, arith, true≢false}
+use Rattle.std.proofs.Common.{◌≡◌, ℕ, Bool, true, List, [], ◌∷◌, ◌++◌, drop, get_or, Option, Some, None, refl, sym, ap, subst, ◌∙◌, arith, true≢false}
 use Rattle.std.specs.Prelude.{is_some, IfSome}
 use Rattle.session_model.specs.Inbox as model
 use Rattle.sbe_prim.specs.declared.Order.{Order}
 use Rattle.sbe_prim.specs.declared.Order.TheVariants.{Little, Big}
-use Rattle.sofh_frame.specs.Framing.{Frame}
 use Rattle.fixp_msgs.specs.declared.flow.Flow.{Flow}
 use Rattle.fixp_msgs.specs.declared.frames.FrameKind.TheVariants.{App}
 use Rattle.fixp_msgs.specs.Header.{kind_of}
-use Rattle.fixp_msgs.specs.Numbering.{payload_of}
 use Rattle.fixp_msgs.specs.Payload.{IsApplication}
 use Rattle.fixp_replies.specs.declared.act.Act.{Act}
 use Rattle.fixp_replies.specs.declared.act.Act.TheVariants as acts

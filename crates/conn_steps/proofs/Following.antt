@@ -1,5 +1,5 @@
 -- Frames that are answered one after another, as the line, the inbox and the news go on over them.
-use Rattle.std.proofs.Common.{◌≡◌, ℕ, ◌+◌, ◌*◌, ◌<◌, ◌≤◌, Bool, false, List, [], ◌∷◌, ◌++◌, drop, length, refl, sym, ap, subst, ◌∙◌, arith, append_assoc, append-nil, length-append}
+use Rattle.std.proofs.Common.{◌≡◌, ℕ, ◌+◌, ◌<◌, ◌≤◌, Bool, false, List, [], ◌∷◌, ◌++◌, drop, refl, sym, ap, subst, ◌∙◌, arith, append_assoc, append-nil, length-append}
 use Rattle.session_model.specs.Inbox.{InboxRecord}
 use Rattle.sofh_frame.specs.Framing.{Frame, BeginsWith}
 use Rattle.fixp_replies.specs.Incoming.{IsIncoming}
@@ -10,11 +10,10 @@ use Rattle.jr_boxes.specs.declared.inbox.Inbox.{Inbox}
 use Rattle.jr_boxes.specs.Inbox.{HoldsBox}
 use Rattle.conn_turns.specs.declared.news.NewsItem.{NewsItem}
 use Rattle.conn_turns.specs.declared.answer.TurnFault.{TurnFault}
-use Rattle.conn_turns.specs.Lines.{Line, TakenFrame, size_of, MayTake, IsNext, IsTaken, AreTaken, line_after, lines_after}
+use Rattle.conn_turns.specs.Lines.{Line, TakenFrame, size_of, MayTake, IsNext, IsTaken, line_after, lines_after}
 use Rattle.conn_turns.specs.Frames.{adds, tells, added, told}
 use Rattle.conn_turns.proofs.Taking.{lines_more, taken_more, added_more, told_more}
 use Rattle.conn_steps.specs.Agreeing.{IsInTurn, KeepsOwn}
-use Rattle.conn_steps.specs.Settling.{Gains, Refuses, SameKind}
 use Rattle.conn_steps.specs.Taking.{AnsweredFrame, RefusedAct, TookFrame, RefusedFrame, TookFrames, CutFrames, refused_by}
 
 -- a line is its four parts

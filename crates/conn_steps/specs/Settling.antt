@@ -1,12 +1,12 @@
 -- What an act is to an inbox, and what becomes of the inbox as its record is made stable (this project's profile).
-use Rattle.std.specs.Prelude.{◌≡◌, ℕ, ◌+◌, ◌<◌, ◌≤◌, true, List, [], ◌∷◌, ◌++◌, Option, None}
+use Rattle.std.specs.Prelude.{◌≡◌, ℕ, ◌+◌, ◌<◌, true, List, [], ◌∷◌, ◌++◌, None}
 use Rattle.session_model.specs.Inbox.{InboxRecord}
 use Rattle.sbe_prim.specs.declared.Order.{Order}
 use Rattle.fixp_msgs.specs.Numbering.{payload_of}
 use Rattle.fixp_msgs.specs.Payload.{IsApplication}
 use Rattle.fixp_replies.specs.declared.act.Act.{Act}
 use Rattle.fixp_replies.specs.declared.facts.EndState.{EndState}
-use Rattle.fixp_replies.specs.Incoming.{Incoming, application}
+use Rattle.fixp_replies.specs.Incoming.{application}
 use Rattle.reply_laws.specs.Fitting.{CanTake, recorded_after}
 use Rattle.growth_laws.specs.Accepting.{records_of}
 use Rattle.jr_record.specs.declared.journal.Journal.{Ghosts}

@@ -1,5 +1,5 @@
 -- What the frames of a turn do to the line, the inbox and the news (this project's profile).
-use Rattle.std.specs.Prelude.{◌≡◌, ℕ, ◌<◌, Bool, true, List, [], ◌∷◌, ◌++◌, length}
+use Rattle.std.specs.Prelude.{◌≡◌, ℕ, ◌<◌, Bool, true, List, [], ◌++◌, length}
 use Rattle.gw_outside.specs.Faults.{HasRisen}
 use Rattle.session_model.specs.Inbox.{InboxRecord}
 use Rattle.jr_record.specs.declared.journal.Journal.{Ghosts}

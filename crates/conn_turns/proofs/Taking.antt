@@ -1,13 +1,13 @@
 -- Frames that are taken one after another: what they make of the line, and what one more adds.
-use Rattle.std.proofs.Common.{◌≡◌, ℕ, ◌+◌, List, [], ◌∷◌, ◌++◌, length, refl, sym, ap, ◌∙◌, arith, append_assoc, append-nil, length-append}
-use Rattle.session_model.specs.Inbox.{InboxRecord}
+use Rattle.std.proofs.Common.{◌≡◌, ℕ, List, [], ◌∷◌, ◌++◌, length, refl, sym, ap, ◌∙◌, arith, append_assoc, append-nil, length-append}
 use Rattle.sofh_frame.specs.Framing.{Frame, header_of, spelled}
-use Rattle.sofh_frame.specs.Splits.{spelled_all, place_behind}
+use Rattle.sofh_frame.specs.Splits.{spelled_all}
 use Rattle.reply_laws.specs.Machine.{State, Call, step, run}
-use Rattle.conn_turns.specs.declared.news.NewsItem.{NewsItem}
 use Rattle.conn_turns.specs.Lines.{Line, TakenFrame, size_of, frame_calls, IsTaken, line_after, lines_after, AreTaken}
 use Rattle.conn_turns.specs.Frames.{adds, tells, added, told}
-use Rattle.conn_turns.specs.Turns.{calls_of_frames}
+use Rattle.session_model.specs.Journal.{History}
+use Rattle.conn_turns.specs.Turns.{Work, works, first_calls, closing_calls, outbox_calls, sending_calls, calls_of, calls_of_frames}
+use Rattle.conn_turns.specs.Exact.{Served}
 use Rattle.conn_turns.specs.Laws.{frames_in, Joins}
 
 pub run_append : (m : State) (first later : List Call) → run m (first ++ later) ≡ run (run m first) later
@@ -54,3 +54,19 @@ pub told_more : (now : ℕ) (l : Line) (frames : List TakenFrame) (t : TakenFram
 told_more now l [] t = append-nil (tells now l t)
 told_more now l (x ∷ later) t =
     ap (λ ns. tells now l x ++ ns) (told_more now (line_after now l x) later t) ∙ sym (append_assoc (tells now l x) (told now (line_after now l x) later) _)
+
+pub work_makes_calls : (before seen : History) (old l behind new : Line) (w : Work) → l.machine ≡ run old.machine (first_calls w.now) → Served before seen l behind w
+    → new ≡ record behind { machine = run behind.machine (sending_calls w.sent w.lost) } → new.machine ≡ run old.machine (calls_of (works w))
+work_makes_calls before seen old l behind new w start s sends =
+    let first : List Call = first_calls w.now in
+    let frames : List Call = calls_of_frames w.now w.frames in
+    let closing : List Call = closing_calls w in
+    let outbox : List Call = outbox_calls w in
+    let sending : List Call = sending_calls w.sent w.lost in
+    let m : State = run old.machine first in
+    ap (λ (x : Line). x.machine) sends
+    ∙ (ap (λ (x : State). run x sending) s.machine
+    ∙ (ap (λ (x : State). run (run x (frames ++ (closing ++ outbox))) sending) start
+    ∙ (sym (run_append m (frames ++ (closing ++ outbox)) sending)
+    ∙ (ap (λ (cs : List Call). run m cs) (append_assoc frames (closing ++ outbox) sending ∙ ap (λ (cs : List Call). frames ++ cs) (append_assoc closing outbox sending))
+    ∙ sym (run_append old.machine first (frames ++ (closing ++ (outbox ++ sending))))))))

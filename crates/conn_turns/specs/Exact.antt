@@ -1,13 +1,12 @@
 -- Which turn was made of a line, exactly (this project's profile).
-use Rattle.std.specs.Prelude.{◌≡◌, ℕ, ◌+◌, ◌<◌, ◌≤◌, ◌||◌, Bool, false, if◌then◌else◌, List, [], ◌++◌, length, Option, Some, None, IfSome, IsTrue}
-use mathlib.Core.List.{IsPrefix}
+use Rattle.std.specs.Prelude.{◌≡◌, ℕ, ◌<◌, ◌≤◌, Bool, List, [], ◌++◌, length, Option, Some, None, IfSome, IsTrue}
 use Rattle.session_model.specs.Journal.{History, BeginsHistory}
 use Rattle.gw_links.specs.declared.link.Got.{Got}
 use Rattle.gw_links.specs.Links.{LinkTold, IsAnswer, count_of, gives_lesser}
 use Rattle.reply_laws.specs.Machine.{State, run}
 use Rattle.conn_turns.specs.Lines.{Line, lines_after, AreTaken}
-use Rattle.conn_turns.specs.Frames.{IsDone, is_broken, is_link_over}
-use Rattle.conn_turns.specs.Turns.{Work, works, first_calls, closing_calls, again_calls, outbox_calls, calls_of, is_end, served_of, served_now, live_of, finish_of}
+use Rattle.conn_turns.specs.Frames.{IsDone, broken_at, is_link_over}
+use Rattle.conn_turns.specs.Turns.{Work, first_calls, closing_calls, again_calls, outbox_calls, calls_of_frames, served_of, served_now, live_of, finish_of}
 
 -- the bytes that a framer holds at most
 abbrev pub most_held : ℕ
@@ -25,39 +24,30 @@ abbrev pub Received : (eager : Bool) → Option LinkTold → (room : ℕ) → (r
 Received eager told room received None = (room ≡ 0) × (received ≡ [])
 Received eager told room received (Some got) = Found eager told room received got
 
--- the line behind the tick and the receive, at which the frames begin
-abbrev pub line_before : Line → Work → Line
-line_before old w = record { machine = run old.machine (first_calls w.now); held = old.held ++ w.received; place = old.place; over = old.over || is_end w.got }
+-- the line behind the tick
+abbrev pub line_ticked : Line → ℕ → Line
+line_ticked old now = record old { machine = run old.machine (first_calls now) }
 
--- the line behind the frames, and the machine once it was told of what ends them
-abbrev pub line_behind : Line → Work → Line
-line_behind old w = lines_after w.now (line_before old w) w.frames
-
+-- the machine behind the frames, once it was told of what ends them
 abbrev pub closed_at : Line → Work → State
-closed_at old w = run (line_behind old w).machine (closing_calls w)
+closed_at l w = run (lines_after w.now l w.frames).machine (closing_calls w)
 
--- It worked: nothing was unsent, and the tick left the connection open. It received, and took frames as far as they go, at most
--- 16; the machine was told of what ends them, and of the outbox what was seen; the bytes that the link took are the front of
--- what was to be sent. What was seen of the outbox at each look begins with what was seen before it
-pub record Worked (eager : Bool) (told : Option LinkTold) (seen_before seen_after : History) (old new : Line) (w : Work) : Type 0 where
-  pub idle : old.machine.unsent ≡ []
-  pub goes_on : (run old.machine (first_calls w.now)).ending ≡ None
-  pub received : (room : ℕ) → room + length old.held ≡ most_held → Received eager told room w.received w.got
-  pub frames : AreTaken w.now (line_before old w) w.frames
+-- Frames were taken as far as they go, at most 16; the machine was told of what ends them, and of the outbox what was seen. What
+-- was seen of the outbox at each look begins with what was seen before it
+pub record Served (seen_before seen_after : History) (l behind : Line) (w : Work) : Type 0 where
+  pub frames : AreTaken w.now l w.frames
   pub few : length w.frames ≤ 16
-  pub last : IsDone (length w.frames) (line_behind old w)
-  pub broken : w.broken ≡ (if is_broken (length w.frames) (line_behind old w) then Some (line_behind old w).place else None)
-  pub link_over : w.link_over ≡ is_link_over (line_behind old w)
-  pub again : w.again ≡ served_of (served_now (closed_at old w)) w.at_again
-  pub live : w.live ≡ live_of (run (closed_at old w) (again_calls w)) w.at_live
-  pub finish : w.finish ≡ finish_of (closed_at old w) w.at_finish
+  pub last : IsDone (length w.frames) (lines_after w.now l w.frames)
+  pub broken : w.broken ≡ broken_at (length w.frames) (lines_after w.now l w.frames)
+  pub link_over : w.link_over ≡ is_link_over (lines_after w.now l w.frames)
+  pub again : w.again ≡ served_of (served_now (closed_at l w)) w.at_again
+  pub live : w.live ≡ live_of (run (closed_at l w) (again_calls w.now w.again)) w.at_live
+  pub finish : w.finish ≡ finish_of (closed_at l w) w.at_finish
   pub seen_again : BeginsHistory seen_before w.at_again
   pub seen_live : BeginsHistory w.at_again w.at_live
   pub seen_finish : BeginsHistory w.at_live w.at_finish
   pub seen : w.at_finish ≡ seen_after
-  pub sent : w.lost ≡ false → w.sent ++ new.machine.unsent ≡ (run (closed_at old w) (outbox_calls w)).unsent
-  pub front : IsPrefix w.sent (run (closed_at old w) (outbox_calls w)).unsent
-  pub machine : new.machine ≡ run old.machine (calls_of (works w))
-  pub held : new.held ≡ (line_behind old w).held
-  pub place : new.place ≡ (line_behind old w).place
-  pub over : new.over ≡ (line_behind old w).over
+  pub machine : behind.machine ≡ run l.machine (calls_of_frames w.now w.frames ++ (closing_calls w ++ outbox_calls w))
+  pub held : behind.held ≡ (lines_after w.now l w.frames).held
+  pub place : behind.place ≡ (lines_after w.now l w.frames).place
+  pub over : behind.over ≡ (lines_after w.now l w.frames).over

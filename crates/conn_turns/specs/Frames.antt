@@ -1,7 +1,8 @@
 -- What the frames of a turn add to the inbox, and what they tell.
-use Rattle.std.specs.Prelude.{◌≡◌, ◌⊎◌, ℕ, ◌&&◌, Bool, true, false, not, nat_lt, IsTrue, List, [], ◌∷◌, ◌++◌, is_some, is_none}
+use Rattle.std.specs.Prelude.{◌≡◌, ◌⊎◌, ℕ, ◌&&◌, Bool, true, false, not, nat_lt, if◌then◌else◌, IsTrue, List, [], ◌∷◌, ◌++◌, Option, Some, None, is_some, is_none}
 use Rattle.session_model.specs.Inbox.{InboxRecord}
 use Rattle.sofh_frame.specs.Framing.{First, frame, rest, bad_length, bad_encoding, first_of}
+use Rattle.reply_laws.specs.Machine.{State}
 use Rattle.growth_laws.specs.Accepting.{records_of}
 use Rattle.conn_turns.specs.declared.news.NewsItem.{NewsItem}
 use Rattle.conn_turns.specs.News.{told_by}
@@ -42,9 +43,16 @@ abbrev pub IsDone : ℕ → Line → Type 0
 IsDone count l =
     (count ≡ 16) ⊎ (IsTrue (is_some l.machine.ending) ⊎ (IsTrue (is_some l.machine.facts.connection.serving) ⊎ (is_whole (first_of l.held) ≡ false)))
 
--- behind so many frames the machine is told of bytes that no frame begins with
+-- a further frame may be taken of a machine
+abbrev pub may_take : State → Bool
+may_take m = is_none m.ending && is_none m.facts.connection.serving
+
+-- behind so many frames the machine is told of bytes that no frame begins with, at their place
 abbrev pub is_broken : ℕ → Line → Bool
-is_broken count l = nat_lt count 16 && is_none l.machine.ending && is_none l.machine.facts.connection.serving && is_bad (first_of l.held)
+is_broken count l = nat_lt count 16 && may_take l.machine && is_bad (first_of l.held)
+
+abbrev pub broken_at : ℕ → Line → Option ℕ
+broken_at count l = if is_broken count l then Some l.place else None
 
 -- the machine is told that the link has ended: it has, and no whole frame is left
 abbrev pub is_link_over : Line → Bool

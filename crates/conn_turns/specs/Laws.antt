@@ -1,11 +1,13 @@
 -- What follows of the frames that a turn takes.
-use Rattle.std.specs.Prelude.{◌≡◌, ℕ, ◌+◌, List, [], ◌∷◌, ◌++◌, map, length}
+use Rattle.std.specs.Prelude.{◌≡◌, ℕ, ◌+◌, List, ◌++◌, map}
 use Rattle.std.specs.List.{AllByRecursion}
 use Rattle.sofh_frame.specs.Framing.{Frame, IsFrame}
 use Rattle.sofh_frame.specs.Splits.{spelled_all, place_behind}
 use Rattle.reply_laws.specs.Machine.{run}
 use Rattle.conn_turns.specs.Lines.{Line, TakenFrame, lines_after, AreTaken}
-use Rattle.conn_turns.specs.Turns.{calls_of_frames}
+use Rattle.session_model.specs.Journal.{History}
+use Rattle.conn_turns.specs.Turns.{Work, works, first_calls, calls_of, calls_of_frames, sending_calls}
+use Rattle.conn_turns.specs.Exact.{Served}
 
 abbrev pub frames_in : List TakenFrame → List Frame
 frames_in = map (λ (t : TakenFrame). t.frame)
@@ -24,3 +26,10 @@ FramesJoin = (now : ℕ) (l : Line) (frames : List TakenFrame) → AreTaken now 
 -- the machine behind the frames is what their calls make of it
 abbrev pub FramesMakeCalls : Type 0
 FramesMakeCalls = (now : ℕ) (l : Line) (frames : List TakenFrame) → (lines_after now l frames).machine ≡ run l.machine (calls_of_frames now frames)
+
+-- a turn that served and then sent made the calls of its work: where the machine ticked, the frames were served, and what was
+-- unsent then was sent, the machine is what those calls make of it
+abbrev pub WorkMakesCalls : Type 0
+WorkMakesCalls = (before seen : History) (old l behind new : Line) (w : Work)
+    → l.machine ≡ run old.machine (first_calls w.now) → Served before seen l behind w → new ≡ record behind { machine = run behind.machine (sending_calls w.sent w.lost) }
+    → new.machine ≡ run old.machine (calls_of (works w))

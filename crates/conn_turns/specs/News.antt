@@ -1,5 +1,5 @@
 -- What a turn tells beside its answer: what was delivered, and what the peer did not apply (this project's profile).
-use Rattle.std.specs.Prelude.{ℕ, ◌<◌, List, [], ◌∷◌, vec_len, vec_capacity}
+use Rattle.std.specs.Prelude.{◌<◌, List, [], ◌∷◌, vec_len, vec_capacity}
 use Rattle.fixp_replies.specs.declared.act.Act.{Act}
 use Rattle.fixp_replies.specs.declared.act.Act.TheVariants as acts
 use Rattle.fixp_replies.specs.Incoming.{Incoming}

@@ -1,7 +1,7 @@
 -- What a turn of a connection did, and the calls of the session machine that it made (this project's profile).
-use Rattle.std.specs.Prelude.{◌≡◌, ℕ, ◌+◌, ◌-◌, ◌&&◌, ◌||◌, Bool, true, false, not, is_some, is_none, if◌then◌else◌, List, [], ◌∷◌, ◌++◌, map, length, take, drop, Option, Some, None}
+use Rattle.std.specs.Prelude.{ℕ, ◌+◌, ◌-◌, ◌&&◌, Bool, true, false, not, is_some, is_none, if◌then◌else◌, List, [], ◌∷◌, ◌++◌, length, take, drop, Option, Some, None}
 use Rattle.std.specs.List.{flat_map}
-use Rattle.session_model.specs.Journal.{Entry, History, payloads}
+use Rattle.session_model.specs.Journal.{History, payloads}
 use Rattle.fixp_msgs.specs.declared.numbering.Range.{Range}
 use Rattle.fixp_shake.specs.Flows.{is_absent}
 use Rattle.fixp_shake.specs.Phases.{is_established}
@@ -9,8 +9,7 @@ use Rattle.gw_links.specs.declared.link.Got.{Got}
 use Rattle.gw_links.specs.declared.link.Got.TheVariants as gots
 use Rattle.reply_laws.specs.Machine.{State, Call, bad_frame, tick, turn_done, closed, link_end, live, again, taken, reserve, run}
 use Rattle.reply_laws.specs.Machine as calls
-use Rattle.conn_turns.specs.Lines.{Line, TakenFrame, frame_calls, lines_after}
-use Rattle.conn_turns.specs.Frames.{is_broken, is_link_over}
+use Rattle.conn_turns.specs.Lines.{TakenFrame, frame_calls}
 
 -- What a turn did that did not only send. now: its moment in milliseconds. got: what its one receive found, None where the framer
 -- had no room; received: the bytes of it. frames: those that it took; broken: the machine was told of bytes that no frame begins
@@ -59,16 +58,26 @@ first_calls now = reserve ∷ tick now ∷ []
 abbrev pub calls_of_frames : ℕ → List TakenFrame → List Call
 calls_of_frames now = flat_map (frame_calls now)
 
-abbrev pub closing_calls : Work → List Call
-closing_calls w = call_for (λ at. bad_frame at w.now) w.broken ++ (calls_if w.link_over (link_end ∷ []) ++ turn_done w.now ∷ [])
+abbrev pub bad_calls : ℕ → Option ℕ → List Call
+bad_calls now broken = call_for (λ at. bad_frame at now) broken
 
-abbrev pub again_calls : Work → List Call
-again_calls w = call_for (λ payloads. again payloads w.now) w.again
+abbrev pub end_calls : Bool → List Call
+end_calls over = calls_if over (link_end ∷ [])
+
+abbrev pub closing_calls : Work → List Call
+closing_calls w = bad_calls w.now w.broken ++ (end_calls w.link_over ++ turn_done w.now ∷ [])
+
+abbrev pub again_calls : ℕ → Option (List (List ℕ)) → List Call
+again_calls now sent = call_for (λ payloads. again payloads now) sent
+
+abbrev pub live_calls : ℕ → Option (List (List ℕ)) → List Call
+live_calls now sent = call_for (λ payloads. live payloads now) sent
+
+abbrev pub finish_calls : ℕ → Option ℕ → List Call
+finish_calls now finish = call_for (λ last. closed last now) finish
 
 abbrev pub outbox_calls : Work → List Call
-outbox_calls w =
-    again_calls w
-    ++ (call_for (λ payloads. live payloads w.now) w.live ++ call_for (λ last. closed last w.now) w.finish)
+outbox_calls w = again_calls w.now w.again ++ (live_calls w.now w.live ++ finish_calls w.now w.finish)
 
 -- a link that fails as it sends does not say how much it took
 abbrev pub sending_calls : List ℕ → Bool → List Call
@@ -101,7 +110,7 @@ served_of (Some r) h = Some (payloads_from h r.from r.count)
 
 -- entries are sent live: in phase Established, where the connection is open, nothing is served, and there is an own flow
 abbrev pub sends_live : State → Bool
-sends_live m = is_established m.facts.connection.phase && is_none m.ending && is_none m.facts.connection.serving && not (is_absent m.config.own_flow)
+sends_live m = is_none m.ending && is_established m.facts.connection.phase && is_none m.facts.connection.serving && not (is_absent m.config.own_flow)
 
 -- and these are sent: those behind the last that was sent, of the outbox as it was seen then, 16 at most
 abbrev pub live_of : State → History → Option (List (List ℕ))

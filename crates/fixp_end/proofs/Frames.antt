@@ -40,7 +40,7 @@ prefix_is_shorter (e ∷ es) (suc n) = omega (
   prefix_is_shorter es n,
 )
 
-frame_size : (payload : List ℕ) → length (payload_frames (payload ∷ [])) ≡ length payload + 4
+pub frame_size : (payload : List ℕ) → length (payload_frames (payload ∷ [])) ≡ length payload + 4
 frame_size payload = omega (arith, ap (λ (bytes : List ℕ). length bytes) (append-nil payload))
 
 -- and there is room for one more

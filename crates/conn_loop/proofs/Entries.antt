@@ -1,0 +1,63 @@
+-- The entries that are fetched of an outbox: their payloads, their numbers, how many they are and how long their frames.
+use Rattle.std.proofs.Common.{◌≡◌, ℕ, zero, suc, ◌+◌, ◌-◌, ◌<◌, min, List, [], ◌∷◌, length, take, drop, get_or, refl, ap, ◌∙◌, arith, length-append, length-drop}
+use Rattle.std.proofs.lemmas.List.{length-take}
+use Rattle.session_model.specs.Inbox.{Numbered}
+use Rattle.session_model.specs.Journal.{Entry, History, payloads}
+use Rattle.reply_laws.specs.Machine.{payload_frames}
+use Rattle.fixp_end.specs.Sending.{AreFrom, payloads_of}
+use Rattle.fixp_end.proofs.Frames.{frames_more, frame_size}
+use Rattle.gate_senders.specs.Kept.{numbered_from, messages}
+use Rattle.conn_turns.specs.Turns.{payloads_from}
+
+payloads_numbered : (n : ℕ) (es : List Entry) → payloads_of (numbered_from n es) ≡ payloads es
+payloads_numbered n [] = refl
+payloads_numbered n (e ∷ es) = ap (λ (ps : List (List ℕ)). e.payload ∷ ps) (payloads_numbered (n + 1) es)
+
+numbers_numbered : (n : ℕ) (es : List Entry) → AreFrom n (numbered_from n es)
+numbers_numbered n [] = refl
+numbers_numbered n (e ∷ es) = ap (λ (ns : List ℕ). n ∷ ns) (numbers_numbered (n + 1) es)
+
+length_numbered : (n : ℕ) (es : List Entry) → length (numbered_from n es) ≡ length es
+length_numbered n [] = refl
+length_numbered n (e ∷ es) = ap (λ (k : ℕ). suc k) (length_numbered (n + 1) es)
+
+-- the payloads of what was fetched
+pub payloads_fetched : (h : History) (from most : ℕ) → payloads_of (messages h from most) ≡ payloads_from h from most
+payloads_fetched h from most = payloads_numbered from (take most (drop (from - 1) h.made))
+
+pub numbers_fetched : (h : History) (from most : ℕ) → AreFrom from (messages h from most)
+numbers_fetched h from most = numbers_numbered from (take most (drop (from - 1) h.made))
+
+-- there are no more than were asked for, and fewer only where the history ends
+pub length_fetched : (h : History) (from most : ℕ) → length (messages h from most) ≡ min most (length h.made - (from - 1))
+length_fetched h from most =
+    length_numbered from (take most (drop (from - 1) h.made))
+    ∙ (length-take most (drop (from - 1) h.made) ∙ ap (λ (n : ℕ). min most n) (length-drop (from - 1) h.made))
+
+-- one more of some entries
+pub sized_more : (es : List Numbered) (i : ℕ) (d : Numbered) (size more : ℕ) → i < length es → size ≡ length (payload_frames (payloads_of (take i es)))
+    → more ≡ size + (length (get_or es i d).payload + 4) → more ≡ length (payload_frames (payloads_of (take (i + 1) es)))
+sized_more es i d size more h before now = omega (
+  arith,
+  before,
+  now,
+  ap (λ (bytes : List ℕ). length bytes) (frames_more es i d h),
+  length-append (payload_frames (payloads_of (take i es))) (payload_frames ((get_or es i d).payload ∷ [])),
+  frame_size (get_or es i d).payload,
+)
+
+-- the number of one of some entries
+pub counted_at : (es : List Numbered) (first i : ℕ) (d : Numbered) → AreFrom first es → i < length es → (get_or es i d).number ≡ first + i
+counted_at [] first i d from within = absurd (omega arith)
+counted_at (m ∷ es) first zero d from within = omega (arith, ap (λ (ns : List ℕ). get_or ns 0 0) from)
+counted_at (m ∷ es) first (suc i) d from within =
+    omega (arith, counted_at es (first + 1) i d (ap (λ (ns : List ℕ). drop 1 ns) from) (omega arith))
+
+pub length_payloads : (es : List Numbered) → length (payloads_of es) ≡ length es
+length_payloads [] = refl
+length_payloads (m ∷ es) = ap (λ (n : ℕ). suc n) (length_payloads es)
+
+-- one past the number of the last of some entries behind those sent is below 2^40 where that is
+pub few_last : (sent n last : ℕ) → sent < 1099511627776 → last < 1099511627776 → (0 < n → last + 1 ≡ (sent + 1) + n) → sent + n < 1099511627776
+few_last sent zero last s l h = omega arith
+few_last sent (suc k) last s l h = let e = h (omega arith) in omega arith

@@ -1,0 +1,183 @@
+-- A turn's receive, work and sending, put together.
+use Rattle.std.proofs.Common.{◌≡◌, inl, inr, ◌<◌, ℕ, Bool, true, List, [], ◌++◌, ◌≤◌, length, Option, Some, None, Result, Ok, Err, refl, sym, ap, subst, ◌∙◌, arith, append-nil}
+use Rattle.std.specs.Prelude.{◌||◌, IsSome, ◌⊎◌, ◌≢◌, OnOk, IfOk, IfErr}
+use Rattle.gw_links.specs.Links.{LinkTold, Carried, Moved}
+use Rattle.gw_links.specs.declared.link.Got.{Got}
+use Rattle.gw_links.proofs.Moving.{moved_more}
+use Rattle.session_model.specs.Journal.{History}
+use Rattle.reply_laws.specs.Machine.{State}
+use Rattle.jr_record.specs.declared.journal.Journal.{Ghosts}
+use Rattle.session_model.specs.Inbox.{InboxRecord}
+use Rattle.jr_boxes.specs.declared.inbox.Inbox.{Inbox}
+use Rattle.jr_boxes.specs.Inbox.{HoldsBox}
+use Rattle.fixp_replies.specs.declared.act.Ending.{Ending}
+use Rattle.conn_turns.specs.declared.news.NewsItem.{NewsItem}
+use Rattle.conn_turns.specs.declared.answer.TurnFault.{TurnFault}
+use Rattle.conn_turns.specs.declared.answer.TurnEnd.{TurnEnd}
+use Rattle.conn_turns.specs.declared.answer.TurnEnd.TheVariants as ends
+use Rattle.conn_turns.specs.Lines.{Line}
+use Rattle.conn_turns.specs.Frames.{added, told}
+use Rattle.conn_turns.specs.Turns.{is_end}
+use Rattle.conn_turns.specs.Exact.{Served, line_ticked}
+use Rattle.conn_steps.specs.Settling.{Gains}
+use Rattle.fixp_shake.specs.declared.config.EndConfig.{EndConfig}
+use Rattle.fixp_replies.specs.declared.facts.Facts.{Facts}
+use Rattle.gate_turn.specs.Views.{Part}
+use Rattle.conn_turns.specs.declared.answer.TurnFault.TheVariants as faults
+use Rattle.conn_steps.specs.Agreeing.{Agrees}
+use Rattle.conn_loop.specs.Conn.{answer_of, GoesOn, KeepsAll, MayServe}
+use Rattle.conn_loop.specs.Moving.{ReceivedOnce, SentOnce, IsLossOf}
+use Rattle.conn_loop.specs.Turned.{ServedFrames, CutShort, DidWork, CutTurn, Exchanged, DidTurn}
+
+-- a turn that answers that the connection goes on left it open
+pub goes_on : (o : Option Ending) → ends.Go ≡ answer_of o → o ≡ None
+goes_on None e = refl
+goes_on (Some x) e = absurd (cc)
+
+-- whatever a call answered
+pub on_ok_any : {T E : Type 0} (P : Type 0) (r : Result T E) → P → OnOk r P
+on_ok_any P (Ok x) p = p
+on_ok_any P (Err e) p = tt
+
+-- a link that failed as it sent gives no other fault
+pub loss_cut : (old new : State) (r : Result TurnEnd TurnFault) (P : TurnFault → Type 0) → IsLossOf old new r → IfErr r (λ fault. (fault ≡ faults.Link → ⊥) → P fault)
+loss_cut old new (Ok end) P h = tt
+loss_cut old new (Err fault) P h = λ other. absurd (other h.0)
+
+pub loss_answer : (old new : State) (r : Result TurnEnd TurnFault) → IsLossOf old new r → IfOk r (λ end. end ≡ answer_of new.ending)
+loss_answer old new (Ok end) h = h
+loss_answer old new (Err fault) h = tt
+
+-- a turn that answers that the connection goes on left it open
+pub loss_goes : (old new : State) (r : Result TurnEnd TurnFault) → IsLossOf old new r → r ≡ Ok ends.Go → new.ending ≡ None
+loss_goes old new r h e = goes_on new.ending (subst (λ (x : Result TurnEnd TurnFault). IsLossOf old new x) e h)
+
+pub goes_after : (now : ℕ) (mid new : State) (p : Part) → MayServe mid now 5000000 p → now < 17592186044416 → KeepsAll mid new mid.moment → new.facts ≡ mid.facts → length new.unsent ≤ length mid.unsent
+    → (new.ending ≡ None → mid.ending ≡ None) → (mid.ending ≡ None → mid.facts.connection.serving ≡ None) → (mid.ending ≡ None → mid.untold ≡ []) → new.ending ≡ None → GoesOn new
+goes_after now mid new p s limit k facts little goes unserved untold none = record {
+  begun = k.begun ∙ s.begun;
+  unended = none;
+  done = k.done s.done;
+  free = ap (λ (f : Facts). f.connection.serving) facts ∙ unserved (goes none);
+  untold = k.untold ∙ untold (goes none);
+  unsent = omega (arith, little, s.little);
+  time = omega (arith, k.time (omega arith), s.time, limit);
+  sent = omega (arith, ap (λ (f : Facts). f.recorded.sent) facts, s.sent);
+  credentials = omega (arith, ap (λ (x : EndConfig). length x.credentials) k.config, s.credentials);
+}
+
+-- the same of a turn that only sent
+pub goes_still : (now : ℕ) (old l new : State) → GoesOn old → now < 17592186044416 → l.begun ≡ true → l.pending ≡ None → l.untold ≡ [] → l.moment ≡ now → l.config ≡ old.config → l.facts ≡ old.facts
+    → (l.ending ≡ None → length l.unsent ≤ length old.unsent) → KeepsAll l new l.moment → new.facts ≡ l.facts → length new.unsent ≤ length l.unsent → (new.ending ≡ None → l.ending ≡ None) → new.ending ≡ None → GoesOn new
+goes_still now old l new g limit begun done untold moment config facts small k same little goes none = record {
+  begun = k.begun ∙ begun;
+  unended = none;
+  done = k.done done;
+  free = ap (λ (f : Facts). f.connection.serving) (same ∙ facts) ∙ g.free;
+  untold = k.untold ∙ untold;
+  unsent = omega (arith, little, small (goes none), g.unsent);
+  time = omega (arith, k.time (omega arith), moment, limit);
+  sent = omega (arith, ap (λ (f : Facts). f.recorded.sent) (same ∙ facts), g.sent);
+  credentials = omega (arith, ap (λ (x : EndConfig). length x.credentials) (k.config ∙ config), g.credentials);
+}
+
+module _ {J : Type 0} {G : Ghosts J} where
+  pub did_work : (now : ℕ) (eager : Bool) (told_before told_between later : Option LinkTold) (carried carried_between after : Option Carried) (before seen : History) (l r mid new : Line) (got : Option Got) (box since : Inbox J G) (news newer : List NewsItem)
+      → ReceivedOnce eager told_before told_between carried carried_between l r got → ServedFrames now before seen r mid box since news newer → SentOnce told_between later carried_between after mid new
+      → DidWork now eager told_before later carried after before seen l new box since news newer
+  did_work now eager told_before told_between later carried carried_between after before seen l r mid new got box since news newer x y z =
+      let s : Served before seen (record l { held = l.held ++ x.received; over = l.over || is_end got }) mid y.work = subst (λ (k : Line). Served before seen k mid y.work) x.line y.served in
+      record {
+        work = record y.work { got = got; received = x.received; sent = z.sent; lost = z.lost };
+        at = y.at;
+        received = x.found;
+        behind = mid;
+        served = record {
+          frames = s.frames;
+          few = s.few;
+          last = s.last;
+          broken = s.broken;
+          link_over = s.link_over;
+          again = s.again;
+          live = s.live;
+          finish = s.finish;
+          seen_again = s.seen_again;
+          seen_live = s.seen_live;
+          seen_finish = s.seen_finish;
+          seen = s.seen;
+          machine = s.machine;
+          held = s.held;
+          place = s.place;
+          over = s.over;
+        };
+        front = z.front;
+        whole = z.whole;
+        full = z.full;
+        line = z.line;
+        gains = subst (λ (k : Line). Gains box since (added now k y.work.frames)) x.line y.gains;
+        news_are = subst (λ (k : Line). newer ≡ news ++ told now k y.work.frames) x.line y.news_are;
+        moved = subst (λ (bytes : List ℕ). Moved told_before later carried after bytes z.sent) (append-nil x.received)
+            (moved_more told_before told_between later carried carried_between after x.received [] [] z.sent x.moved z.moved);
+      }
+
+  pub cut_turn : (now : ℕ) (eager : Bool) (told_before told_between : Option LinkTold) (carried carried_between : Option Carried) (l r : Line) (got : Option Got) (box since : Inbox J G) (news newer : List NewsItem) (fault : TurnFault)
+      → ReceivedOnce eager told_before told_between carried carried_between l r got → CutShort now r box since news newer fault → CutTurn now l box since news newer fault
+  cut_turn now eager told_before told_between carried carried_between l r got box since news newer fault x y = record {
+    received = x.received;
+    over = l.over || is_end got;
+    cut = subst (λ (k : Line). CutShort now k box since news newer fault) x.line y;
+  }
+
+  -- the inbox agrees with a machine that knows the same
+  pub agrees_same : (m n : State) (box : Inbox J G) → n.config ≡ m.config → n.most ≡ m.most → n.facts ≡ m.facts → Agrees m box → Agrees n box
+  agrees_same m n box config most facts a = record {
+    flow = a.flow ∙ sym (ap (λ (x : EndConfig). x.peer_flow) config);
+    most = omega (arith, most, a.most);
+    next = a.next ∙ sym (ap (λ (f : Facts). f.recorded.inbox_next) facts);
+    negotiated = a.negotiated ∙ sym (ap (λ (f : Facts). f.recorded.negotiated) facts);
+    peer_last = a.peer_last ∙ sym (ap (λ (f : Facts). f.recorded.peer_last) facts);
+  }
+
+  -- a turn that had no memory to begin did nothing
+  pub cut_none : (now : ℕ) (l : Line) (box : Inbox J G) (newer : List NewsItem) (fault : TurnFault) → newer ≡ [] → CutTurn now l box box [] newer fault
+  cut_none now l box newer fault none = record {
+    received = [];
+    over = l.over;
+    cut = record {
+      frames = [];
+      few = omega arith;
+      taken = tt;
+      refused = None;
+      next = tt;
+      holds = λ i h. subst (λ (rs : List InboxRecord). HoldsBox box rs []) (sym (append-nil i)) h;
+      news_are = none;
+    };
+  }
+
+  pub only_sent : (now n : ℕ) (eager : Bool) (told_before later : Option LinkTold) (carried after : Option Carried) (seen : History) (old l new : Line) (box : Inbox J G) (newer : List NewsItem) → now ≡ n → l ≡ line_ticked old now
+      → (old.machine.unsent ≢ []) ⊎ IsSome l.machine.ending → SentOnce told_before later carried after l new → newer ≡ [] → DidTurn n eager told_before later carried after seen seen old new box box newer
+  only_sent now n eager told_before later carried after seen old l new box newer is ticks why sent none = inl (record {
+    why = subst (λ (k : ℕ). (old.machine.unsent ≢ []) ⊎ IsSome (line_ticked old k).machine.ending) is (subst (λ (x : Line). (old.machine.unsent ≢ []) ⊎ IsSome x.machine.ending) ticks why);
+    sent = subst (λ (k : ℕ). SentOnce told_before later carried after (line_ticked old k) new) is (subst (λ (x : Line). SentOnce told_before later carried after x new) ticks sent);
+    same_box = refl;
+    no_news = none;
+    same_seen = refl;
+  })
+
+  pub did_more : (now n : ℕ) (eager : Bool) (told_before later : Option LinkTold) (carried after : Option Carried) (before seen : History) (old l new : Line) (box since : Inbox J G) (news newer : List NewsItem) → now ≡ n → l ≡ line_ticked old now
+      → old.machine.unsent ≡ [] → l.machine.ending ≡ None → news ≡ [] → Exchanged now eager told_before later carried after before seen l new box since news newer
+      → DidTurn n eager told_before later carried after before seen old new box since newer
+  did_more now n eager told_before later carried after before seen old l new box since news newer is ticks idle goes none x = inr (record {
+    idle = idle;
+    unended = subst (λ (k : ℕ). (line_ticked old k).machine.ending ≡ None) is (subst (λ (y : Line). y.machine.ending ≡ None) ticks goes);
+    exchanged = subst (λ (k : ℕ). Exchanged k eager told_before later carried after before seen (line_ticked old k) new box since [] newer) is
+        (subst (λ (y : Line). Exchanged now eager told_before later carried after before seen y new box since [] newer) ticks
+        (subst (λ (ns : List NewsItem). Exchanged now eager told_before later carried after before seen l new box since ns newer) none x));
+  })
+
+  pub cut_as : (now n : ℕ) (old l : Line) (box since : Inbox J G) (news newer : List NewsItem) (r : Result TurnEnd TurnFault) → now ≡ n → l ≡ line_ticked old now → news ≡ []
+      → IfErr r (λ fault. (fault ≡ faults.Link → ⊥) → CutTurn now l box since news newer fault) → IfErr r (λ fault. (fault ≡ faults.Link → ⊥) → CutTurn n (line_ticked old n) box since [] newer fault)
+  cut_as now n old l box since news newer (Ok end) is ticks none h = tt
+  cut_as now n old l box since news newer (Err fault) is ticks none h = λ other.
+      subst (λ (k : ℕ). CutTurn k (line_ticked old k) box since [] newer fault) is
+      (subst (λ (y : Line). CutTurn now y box since [] newer fault) ticks (subst (λ (ns : List NewsItem). CutTurn now l box since ns newer fault) none (h other)))

@@ -1,0 +1,6 @@
+pub mod Entries
+pub mod Machine
+pub mod Serving
+pub mod Working
+pub mod Exchanging
+pub mod Ticking

@@ -1,0 +1,91 @@
+-- Calls of the machine in a turn.
+use Rattle.std.proofs.Common.{◌≡◌, ◌≤◌, ◌+◌, ◌-◌, ◌&&◌, not, eq-eqb, ℕ, Bool, true, false, if◌then◌else◌, List, [], length, Option, Some, None, refl, sym, ap, subst, ◌∙◌, true≢false}
+use Rattle.std.specs.Prelude.{is_some, IfSome}
+use Rattle.fixp_msgs.specs.declared.numbering.Range.{Range}
+use Rattle.fixp_replies.specs.declared.act.Ending.{Ending}
+use Rattle.fixp_replies.specs.Events.{link_ending, turn_ended, outbox_finished, finish_told}
+use Rattle.flow_idem.specs.Runs.{runs_of}
+use Rattle.session_model.specs.Journal.{History, BeginsHistory}
+use Rattle.fixp_shake.specs.declared.config.EndConfig.{EndConfig}
+use Rattle.fixp_shake.specs.Flows.{is_absent}
+use Rattle.gate_turn.specs.Views.{Part}
+use Rattle.conn_turns.specs.Turns.{served_now, finish_of}
+use Rattle.fixp_end.proofs.Begun.{begun_free}
+use Rattle.conn_loop.specs.Conn.{HasSeen}
+use Rattle.reply_laws.specs.Machine.{State, around, made, connected, sent_again, served_again, link_ended, after_turn, after_closed, rest_of}
+
+-- a range that is served was sent again
+pub again_is : (old new : State) (p : Option Range) (r : Range) (payloads others : List (List ℕ)) (now : ℕ) → p ≡ Some r → payloads ≡ others → IfSome p (λ x. new ≡ sent_again old x payloads now)
+    → new ≡ served_again old p others now
+again_is old new None r payloads others now some same h = absurd (true≢false (sym (ap is_some some)))
+again_is old new (Some x) r payloads others now some same h = h ∙ ap (λ (ps : List (List ℕ)). sent_again old x ps now) same
+
+abbrev link_as : State → Option Ending → State
+link_as s o = if is_some o then s else record s { ending = Some (link_ending (around s 0 s.moment) s.facts); pending = None }
+
+-- the end of a link leaves what is unsent, and what is still to be told
+pub link_keeps : (s : State) → ((link_ended s).unsent ≡ s.unsent) × ((link_ended s).untold ≡ s.untold) × (s.pending ≡ None → (link_ended s).pending ≡ None)
+link_keeps s = by_case s.ending
+  where
+    by_case : (o : Option Ending) → ((link_as s o).unsent ≡ s.unsent) × ((link_as s o).untold ≡ s.untold) × (s.pending ≡ None → (link_as s o).pending ≡ None)
+    by_case None = (refl, refl, λ _. refl)
+    by_case (Some e) = (refl, refl, λ e. e)
+
+-- a range is served where the connection is open
+pub served_some : (m : State) (r : Range) → is_some m.ending ≡ false → m.facts.connection.serving ≡ Some r → served_now m ≡ Some r
+served_some m r goes serving = ap (λ (b : Bool). if b then None else m.facts.connection.serving) goes ∙ serving
+
+finish_on : (o : Option ℕ) (p q : History) → BeginsHistory p q → IfSome o (λ n. (p.finished ≡ true) × (length p.made ≡ n)) → IfSome o (λ n. (q.finished ≡ true) × (length q.made ≡ n))
+finish_on None p q begins h = tt
+finish_on (Some n) p q begins h = subst (λ (x : History). (x.finished ≡ true) × (length x.made ≡ n)) (begins.alone h.0) h
+
+-- what a pass has seen then is enough for what was sent
+pub seen_on : (m n : State) (p q : Part) → BeginsHistory p.seen q.seen → n.facts.recorded.finish ≡ m.facts.recorded.finish → n.facts.recorded.sent ≤ length q.seen.made → HasSeen m p → HasSeen n q
+seen_on m n p q begins finish enough h = record {
+  entries = enough;
+  finish = subst (λ (o : Option ℕ). IfSome o (λ k. (q.seen.finished ≡ true) × (length q.seen.made ≡ k))) (sym finish) (finish_on m.facts.recorded.finish p.seen q.seen begins h.finish);
+}
+
+abbrev turn_as : State → ℕ → Bool → State
+turn_as s now b =
+    if b then record s { moment = now }
+    else record (made (record s { moment = now }) (turn_ended (around s 0 now) s.facts (runs_of s.untold)) now) { untold = [] }
+
+-- the end of a turn leaves how the connection ended
+pub turn_keeps : (s : State) (now : ℕ) → (after_turn s now).ending ≡ s.ending
+turn_keeps s now = by_case (is_some s.ending)
+  where
+    by_case : (b : Bool) → (turn_as s now b).ending ≡ s.ending
+    by_case true = refl
+    by_case false = refl
+
+abbrev closed_as : State → ℕ → ℕ → Bool → State
+closed_as s last now b = if b then record s { moment = now; facts = outbox_finished s.facts last } else made (record s { moment = now }) (finish_told (around s 0 now) s.facts last) now
+
+-- and so does the outbox's finish
+pub closed_keeps : (s : State) (last now : ℕ) → (after_closed s last now).ending ≡ s.ending
+closed_keeps s last now = by_case (is_some s.ending)
+  where
+    by_case : (b : Bool) → (closed_as s last now b).ending ≡ s.ending
+    by_case true = refl
+    by_case false = refl
+
+-- nothing is left of a range that was sent again whole
+pub rest_none : (r : Range) (n : ℕ) → n ≡ r.count → rest_of r n ≡ None
+rest_none r n e = ap (λ (b : Bool). if b then None else Some (record { from = r.from + n; count = r.count - n })) (eq-eqb r.count n (sym e))
+
+-- the finish that is told depends on the own flow alone
+pub finish_same : (m n : State) (h : History) → n.config ≡ m.config → finish_of n h ≡ finish_of m h
+finish_same m n h config = ap (λ (x : EndConfig). if not (is_absent x.own_flow) && h.finished then Some (length h.made) else None) config
+
+-- the end of a link ends the connection
+pub link_ends : (s : State) → is_some (link_ended s).ending ≡ true
+link_ends s = by_case s.ending refl
+  where
+    by_case : (o : Option Ending) → s.ending ≡ o → is_some (link_as s o).ending ≡ true
+    by_case None e = refl
+    by_case (Some x) e = ap is_some e
+
+-- nothing is served as a connection begins
+pub begun_serves : (s : State) (now : ℕ) → (connected s now).facts.connection.serving ≡ None
+begun_serves s now = begun_free (around s 0 now) s.facts

@@ -1,0 +1,122 @@
+-- The work of a turn, put together from its steps.
+use Rattle.std.proofs.Common.{◌≡◌, ◌≤◌, ℕ, true, false, List, [], ◌∷◌, ◌++◌, length, Option, Some, None, refl, sym, ap, subst, ◌∙◌, arith}
+use Rattle.std.specs.Prelude.{IfSome}
+use Rattle.session_model.specs.Journal.{History}
+use Rattle.reply_laws.specs.Machine.{State, Call, turn_done, run}
+use Rattle.jr_record.specs.declared.journal.Journal.{Ghosts}
+use Rattle.jr_boxes.specs.declared.inbox.Inbox.{Inbox}
+use Rattle.gate_turn.specs.Views.{Part}
+use Rattle.gate_turn.proofs.Histories.{begins_self, begins_on}
+use Rattle.conn_turns.specs.declared.news.NewsItem.{NewsItem}
+use Rattle.conn_turns.specs.declared.answer.TurnFault.{TurnFault}
+use Rattle.conn_turns.specs.Lines.{Line, lines_after}
+use Rattle.conn_turns.specs.Frames.{IsDone, broken_at, is_link_over}
+use Rattle.conn_turns.specs.Turns.{bad_calls, end_calls, again_calls, live_calls, finish_calls, served_of, served_now, live_of, finish_of, calls_of_frames}
+use Rattle.conn_turns.proofs.Taking.{run_append, frames_make_calls}
+use Rattle.conn_steps.specs.Taking.{TookFrames, CutFrames}
+use Rattle.conn_loop.specs.Conn.{HasSeen, Looks}
+use Rattle.conn_loop.specs.Serving.{ServedOutbox}
+use Rattle.conn_loop.specs.Turned.{ServedFrames, CutShort}
+
+-- what the machine is told behind so many frames
+abbrev ends_at : ℕ → ℕ → Line → List Call
+ends_at now count l = bad_calls now (broken_at count l) ++ (end_calls (is_link_over l) ++ turn_done now ∷ [])
+
+pub looks_self : (p : Part) → Looks p p
+looks_self p = record { seen = begins_self p.seen; faults = omega arith; number = refl; made = refl; opening = refl; mine = refl; ended = refl }
+
+pub looks_on : (p q r : Part) → Looks p q → Looks q r → Looks p r
+looks_on p q r a b = record {
+  seen = begins_on p.seen q.seen r.seen a.seen b.seen;
+  faults = omega (arith, a.faults, b.faults);
+  number = b.number ∙ a.number;
+  made = b.made ∙ a.made;
+  opening = b.opening ∙ a.opening;
+  mine = b.mine ∙ a.mine;
+  ended = b.ended ∙ a.ended;
+}
+
+-- a pass that has seen enough of one machine has of another that was sent as much, and was told the same finish
+pub seen_same : (m n : State) (p : Part) → n.facts.recorded.sent ≡ m.facts.recorded.sent → n.facts.recorded.finish ≡ m.facts.recorded.finish → HasSeen m p → HasSeen n p
+seen_same m n p sent finish h = record {
+  entries = omega (arith, sent, h.entries);
+  finish = subst (λ (o : Option ℕ). IfSome o (λ k. (p.seen.finished ≡ true) × (length p.seen.made ≡ k))) (sym finish) h.finish;
+}
+
+module _ {J : Type 0} {G : Ghosts J} where
+  pub served_frames : (now count : ℕ) (h seen : History) (old mid closed new : Line) (box after : Inbox J G) (news later : List NewsItem) → TookFrames now count old mid box after news later
+      → IsDone count mid × (count ≤ 16) → closed ≡ record mid { machine = run mid.machine (ends_at now count mid) } → ServedOutbox now h seen closed new → ServedFrames now h seen old new box after news later
+  served_frames now count h seen old mid closed new box after news later t last closes s =
+      let l : Line = lines_after now old t.frames in
+      let many : ℕ = length t.frames in
+      let same : mid ≡ l = t.line in
+      let told : closed.machine ≡ run l.machine (ends_at now many l)
+      = ap (λ (x : Line). x.machine) closes ∙ (ap (λ (x : Line). run x.machine (ends_at now count x)) same ∙ ap (λ (k : ℕ). run l.machine (ends_at now k l)) (sym t.many)) in
+      let outbox : List Call = again_calls now s.again ++ (live_calls now s.live ++ finish_calls now s.finish) in
+      record {
+        work = record {
+          now = now;
+          got = None;
+          received = [];
+          frames = t.frames;
+          broken = broken_at many l;
+          link_over = is_link_over l;
+          again = s.again;
+          live = s.live;
+          at_again = s.at_again;
+          at_live = s.at_live;
+          at_finish = seen;
+          finish = s.finish;
+          sent = [];
+          lost = false;
+        };
+        at = refl;
+        served = record {
+          frames = t.taken;
+          few = omega (arith, t.many, last.1);
+          last = subst (λ (k : ℕ). IsDone k l) (sym t.many) (subst (λ (x : Line). IsDone count x) same last.0);
+          broken = refl;
+          link_over = refl;
+          again = s.again_is ∙ ap (λ (m : State). served_of (served_now m) s.at_again) told;
+          live = s.live_is ∙ ap (λ (m : State). live_of (run m (again_calls now s.again)) s.at_live) told;
+          finish = s.finish_is ∙ ap (λ (m : State). finish_of m seen) told;
+          seen_again = s.seen_again;
+          seen_live = s.seen_live;
+          seen_finish = s.seen_finish;
+          seen = refl;
+          machine = ap (λ (x : Line). x.machine) s.line ∙ (ap (λ (m : State). run m outbox) told
+              ∙ (ap (λ (m : State). run (run m (ends_at now many l)) outbox) (frames_make_calls now old t.frames)
+              ∙ (sym (run_append (run old.machine (calls_of_frames now t.frames)) (ends_at now many l) outbox)
+              ∙ sym (run_append old.machine (calls_of_frames now t.frames) (ends_at now many l ++ outbox)))));
+          held = ap (λ (x : Line). x.held) s.line ∙ (ap (λ (x : Line). x.held) closes ∙ ap (λ (x : Line). x.held) same);
+          place = ap (λ (x : Line). x.place) s.line ∙ (ap (λ (x : Line). x.place) closes ∙ ap (λ (x : Line). x.place) same);
+          over = ap (λ (x : Line). x.over) s.line ∙ (ap (λ (x : Line). x.over) closes ∙ ap (λ (x : Line). x.over) same);
+        };
+        gains = t.gains;
+        news_are = t.news_are;
+      }
+
+  -- cut at a frame whose act was refused
+  pub cut_at_frame : (now : ℕ) (old new : Line) (box after : Inbox J G) (news later : List NewsItem) (fault : TurnFault) → CutFrames now old new box after news later fault → CutShort now old box after news later fault
+  cut_at_frame now old new box after news later fault c = record {
+    frames = c.frames;
+    few = omega (arith, c.few);
+    taken = c.taken;
+    refused = Some c.refused;
+    next = c.next;
+    holds = c.refuses;
+    news_are = c.news_are;
+  }
+
+  -- cut at the outbox
+  pub cut_at_outbox : (now count : ℕ) (old mid : Line) (box after : Inbox J G) (news later : List NewsItem) (fault : TurnFault) → TookFrames now count old mid box after news later → count ≤ 16
+      → CutShort now old box after news later fault
+  cut_at_outbox now count old mid box after news later fault t few = record {
+    frames = t.frames;
+    few = omega (arith, t.many, few);
+    taken = t.taken;
+    refused = None;
+    next = tt;
+    holds = t.gains;
+    news_are = t.news_are;
+  }

@@ -1,0 +1,131 @@
+use Rattle.std.proofs.Common.{◌≡◌, ◌+◌, ◌<◌, ◌≤◌, List, length, Option, false, sym, ap, subst, ◌∙◌, refl, arith}
+use Rattle.std.specs.Prelude.{is_some, IfSome}
+use Rattle.session_model.specs.Inbox.{Numbered}
+use Rattle.session_model.proofs.Lists.{prefix_length}
+use Rattle.fixp_msgs.specs.declared.numbering.Range.{Range}
+use Rattle.fixp_shake.specs.declared.config.EndConfig.{EndConfig}
+use Rattle.fixp_replies.specs.declared.facts.EndState.{EndState}
+use Rattle.fixp_end.specs.Sending.{AreFrom, payloads_of}
+use Rattle.reply_laws.specs.Machine.{State, payload_frames, sent_again, run}
+use Rattle.gate_turn.specs.Places.{known}
+use Rattle.conn_turns.specs.Turns.{again_calls, served_of}
+use Rattle.conn_steps.proofs.Following.{line_is}
+use Rattle.conn_loop.proofs.Entries.{payloads_fetched, numbers_fetched, length_fetched, length_payloads}
+use Rattle.conn_loop.proofs.Machine.{again_is, served_some, seen_on, rest_none}
+use Rattle.conn_loop.proofs.conn.Conn.send_again.Goals as goal
+
+pub frames_size-requires : goal.frames_size-requires
+frames_size-requires g c =
+    let h = (known c.fetch.new.pass).seen in
+    let e = c.as_slice.ensures.value ∙ c.in-Ok.ensures.given in
+    omega (arith, ap (λ (es : List Numbered). length es) e, length_fetched h c.in-Some.range.from c.in-Some.range.count, c.in-Some.ensures.sent.few)
+
+pub send_again-requires-clause-front : goal.send_again-requires-clause-front
+send_again-requires-clause-front g c =
+    let h = (known c.fetch.new.pass).seen in
+    let e = c.as_slice-in-Ok.ensures.value ∙ c.in-Ok.ensures.given in
+    let serving = sym c.serving.ensures.value ∙ c.in-Some.is in
+    subst (λ (o : Option Range). IfSome o (λ r. AreFrom r.from c.as_slice-in-Ok.result.now)) (sym serving)
+    (subst (λ (es : List Numbered). AreFrom c.in-Some.range.from es) (sym e) (numbers_fetched h c.in-Some.range.from c.in-Some.range.count))
+
+pub send_again-requires-clause-within : goal.send_again-requires-clause-within
+send_again-requires-clause-within g c =
+    let h = (known c.fetch.new.pass).seen in
+    let e = c.as_slice-in-Ok.ensures.value ∙ c.in-Ok.ensures.given in
+    let serving = sym c.serving.ensures.value ∙ c.in-Some.is in
+    subst (λ (o : Option Range). IfSome o (λ r. length c.as_slice-in-Ok.result.now ≤ r.count)) (sym serving)
+    (omega (arith, ap (λ (es : List Numbered). length es) e, length_fetched h c.in-Some.range.from c.in-Some.range.count))
+
+pub send_again-requires-clause-ranged : goal.send_again-requires-clause-ranged
+send_again-requires-clause-ranged g c =
+    let h = (known c.fetch.new.pass).seen in
+    let e = c.as_slice-in-Ok.ensures.value ∙ c.in-Ok.ensures.given in
+    let serving = sym c.serving.ensures.value ∙ c.in-Some.is in
+    subst (λ (o : Option Range). IfSome o (λ r. r.from + length c.as_slice-in-Ok.result.now < 18446744073709551616)) (sym serving)
+    (omega (arith, ap (λ (es : List Numbered). length es) e, length_fetched h c.in-Some.range.from c.in-Some.range.count, c.in-Some.ensures.sent.last, c.requires.serve.sent))
+
+pub send_again-requires-clause-output : goal.send_again-requires-clause-output
+send_again-requires-clause-output g c =
+    let h = (known c.fetch.new.pass).seen in
+    let e = c.as_slice.ensures.value ∙ c.in-Ok.ensures.given in
+    let same = c.as_slice-in-Ok.ensures.value ∙ sym c.as_slice.ensures.value in
+    omega (
+      arith,
+      ap (λ (es : List Numbered). length es) e,
+      ap (λ (es : List Numbered). length (payload_frames (payloads_of es))) same,
+      length_fetched h c.in-Some.range.from c.in-Some.range.count,
+      c.in-Some.ensures.sent.few,
+      c.frames_size.ensures.exact,
+      c.frames_size.ensures.small,
+      c.requires.serve.little,
+    )
+
+pub returns-in-Ok-clause-again : goal.returns-in-Ok-clause-again
+returns-in-Ok-clause-again g c =
+    let m = c.args.self.now.end in
+    let h = (known c.fetch.new.pass).seen in
+    let from = c.in-Some.range.from in
+    let count = c.in-Some.range.count in
+    let e = c.as_slice-in-Ok.ensures.value ∙ c.in-Ok.ensures.given in
+    let serving = sym c.serving.ensures.value ∙ c.in-Some.is in
+    let goes : is_some m.ending ≡ false = cc in
+    line_is _ _
+    (again_is m c.send_again.new.self m.facts.connection.serving c.in-Some.range _ _ c.args.now serving (ap payloads_of e ∙ payloads_fetched h from count) c.send_again.ensures.again
+    ∙ sym (ap (λ (o : Option Range). run m (again_calls c.args.now (served_of o h))) (served_some m c.in-Some.range goes serving)))
+    refl refl refl
+
+pub returns-in-Ok-clause-serve : goal.returns-in-Ok-clause-serve
+returns-in-Ok-clause-serve g c =
+    let m = c.args.self.now.end in
+    let n = c.send_again.new.self in
+    let h = (known c.fetch.new.pass).seen in
+    let e = c.as_slice.ensures.value ∙ c.in-Ok.ensures.given in
+    let same = c.as_slice-in-Ok.ensures.value ∙ sym c.as_slice.ensures.value in
+    let serving = sym c.serving.ensures.value ∙ c.in-Some.is in
+    let exact : n ≡ sent_again m c.in-Some.range (payloads_of c.as_slice-in-Ok.result.now) c.args.now
+    = subst (λ (o : Option Range). IfSome o (λ r. n ≡ sent_again m r (payloads_of c.as_slice-in-Ok.result.now) c.args.now)) serving c.send_again.ensures.again in
+    let stays = c.send_again.ensures.stays in
+    let recorded = c.send_again.ensures.recorded in
+    let sent = ap (λ (r : EndState). r.sent) recorded in
+    record {
+      begun = stays.begun ∙ c.requires.serve.begun;
+      done = ap (λ (s : State). s.pending) exact ∙ c.requires.serve.done;
+      time = omega (arith, stays.moment);
+      credentials = omega (arith, ap (λ (x : EndConfig). length x.credentials) stays.config, c.requires.serve.credentials);
+      little = omega (
+        arith,
+        ap (λ (es : List Numbered). length es) e,
+        ap (λ (es : List Numbered). length (payload_frames (payloads_of es))) same,
+        length_fetched h c.in-Some.range.from c.in-Some.range.count,
+        c.in-Some.ensures.sent.few,
+        c.frames_size.ensures.exact,
+        c.frames_size.ensures.small,
+        c.requires.serve.little,
+        c.send_again.ensures.small,
+      );
+      sent = omega (arith, sent, c.requires.serve.sent);
+      seen = seen_on m n (known c.args.pass.now) (known c.fetch.new.pass) c.in-Ok.ensures.turn.seen (ap (λ (r : EndState). r.finish) recorded)
+          (omega (arith, sent, c.requires.serve.seen.entries, prefix_length (known c.args.pass.now).seen.made h.made c.in-Ok.ensures.turn.seen.made)) c.requires.serve.seen;
+    }
+
+pub returns-in-Ok-clause-unserved : goal.returns-in-Ok-clause-unserved
+returns-in-Ok-clause-unserved g c = λ _.
+    let m = c.args.self.now.end in
+    let n = c.send_again.new.self in
+    let h = (known c.fetch.new.pass).seen in
+    let e = c.as_slice-in-Ok.ensures.value ∙ c.in-Ok.ensures.given in
+    let serving = sym c.serving.ensures.value ∙ c.in-Some.is in
+    let exact : n ≡ sent_again m c.in-Some.range (payloads_of c.as_slice-in-Ok.result.now) c.args.now
+    = subst (λ (o : Option Range). IfSome o (λ r. n ≡ sent_again m r (payloads_of c.as_slice-in-Ok.result.now) c.args.now)) serving c.send_again.ensures.again in
+    ap (λ (s : State). s.facts.connection.serving) exact
+    ∙ rest_none c.in-Some.range (length (payloads_of c.as_slice-in-Ok.result.now))
+    (omega (
+      arith,
+      length_payloads c.as_slice-in-Ok.result.now,
+      ap (λ (es : List Numbered). length es) e,
+      length_fetched h c.in-Some.range.from c.in-Some.range.count,
+      c.in-Some.ensures.sent.first,
+      c.in-Some.ensures.sent.last,
+      c.requires.serve.seen.entries,
+      prefix_length (known c.args.pass.now).seen.made h.made c.in-Ok.ensures.turn.seen.made,
+    ))

@@ -1,0 +1,22 @@
+use Rattle.std.proofs.Common.{◌-◌, ◌∙◌, arith}
+use Rattle.conn_steps.proofs.Following.{took_more, in_turn_less, keeps_on}
+use Rattle.conn_loop.specs.Conn.{line_of}
+use Rattle.conn_loop.proofs.conn.Conn.take_frames.Goals as goal
+
+pub loop-taken-preserved : goal.loop-taken-preserved
+loop-taken-preserved g c =
+    let before = c.loop-taken.invariant in
+    let one = c.in-Ok-true.ensures in
+    let mid = c.loop-taken.self.end in
+    let new = c.take_frame.new.self.end in
+    let left = 15 - c.loop-taken.taken in
+    record {
+      took = took_more c.args.now c.loop-taken.taken (line_of c.args.self.now) (line_of c.loop-taken.self) (line_of c.take_frame.new.self) c.args.inbox.now c.loop-taken.inbox c.take_frame.new.inbox _ _ _
+          before.took (one.took (cc));
+      in_turn = in_turn_less new c.args.now left _ (omega arith) (one.in_turn left (in_turn_less mid c.args.now _ _ (omega (arith, c.loop-taken-test.true)) before.in_turn) (cc));
+      place = omega (arith, before.place, one.place (cc));
+      agrees = one.agrees;
+      own = keeps_on c.args.self.now.end mid new before.own one.own;
+      kind = record { flow = one.kind.flow ∙ before.kind.flow; limits = one.kind.limits ∙ before.kind.limits };
+      never_falls = omega (arith, before.never_falls, one.never_falls);
+    }

@@ -1,0 +1,63 @@
+use Rattle.std.proofs.Common.{ap, ◌∙◌}
+use Rattle.fixp_replies.specs.declared.facts.Facts.{Facts}
+use Rattle.std.proofs.lemmas.Result.{on_ok_weaker}
+use Rattle.gate_turn.specs.Places.{known}
+use Rattle.conn_turns.specs.declared.answer.TurnFault.TheVariants as faults
+use Rattle.conn_loop.specs.Conn.{line_of}
+use Rattle.conn_loop.proofs.Exchanging.{on_ok_any, loss_cut, loss_answer, loss_goes, goes_still, agrees_same, only_sent, did_more, cut_as, cut_none}
+use Rattle.conn_loop.proofs.Working.{seen_same}
+use Rattle.conn_loop.proofs.conn.Conn.turn.Goals as goal
+
+pub returns-in_default-clause-cut : goal.returns-in_default-clause-cut
+returns-in_default-clause-cut g c = λ _. cut_none _ _ c.args.inbox.now _ faults.Memory c.clear.ensures
+
+pub returns-then-not-works-clause-did : goal.returns-then-not-works-clause-did
+returns-then-not-works-clause-did g c =
+    on_ok_any _ c.send.result
+    (only_sent c.moment-now.result _ _ _ _ _ _ _ (line_of c.args.self.now) (line_of c.start.new.self) (line_of c.send.new.self) c.args.inbox.now _ c.moment-now.ensures.now c.in-Ok.ensures.ticked
+    (c.in-Ok.ensures.why (cc)) c.send.ensures.sent c.clear.ensures)
+
+pub returns-then-not-works-clause-lost : goal.returns-then-not-works-clause-lost
+returns-then-not-works-clause-lost g c = λ _.
+    only_sent c.moment-now.result _ _ _ _ _ _ _ (line_of c.args.self.now) (line_of c.start.new.self) (line_of c.send.new.self) c.args.inbox.now _ c.moment-now.ensures.now c.in-Ok.ensures.ticked
+    (c.in-Ok.ensures.why (cc)) c.send.ensures.sent c.clear.ensures
+
+pub returns-then-not-works-clause-cut : goal.returns-then-not-works-clause-cut
+returns-then-not-works-clause-cut g c = loss_cut c.start.new.self.end c.send.new.self.end c.send.result _ c.send.ensures.answer
+
+pub returns-then-not-works-clause-answer : goal.returns-then-not-works-clause-answer
+returns-then-not-works-clause-answer g c = loss_answer c.start.new.self.end c.send.new.self.end c.send.result c.send.ensures.answer
+
+pub returns-clause-did : goal.returns-clause-did
+returns-clause-did g c =
+    on_ok_weaker c.exchange.result
+    (did_more c.moment-now.result _ _ _ _ _ _ _ _ (line_of c.args.self.now) (line_of c.start.new.self) (line_of c.exchange.new.self) c.args.inbox.now c.exchange.new.inbox _ _ c.moment-now.ensures.now
+    c.in-Ok.ensures.ticked (c.in-Ok.ensures.idle (cc)) (c.in-Ok.ensures.unended (cc)) c.clear.ensures)
+    c.exchange.ensures.did
+
+pub returns-clause-lost : goal.returns-clause-lost
+returns-clause-lost g c = λ e.
+    did_more c.moment-now.result _ _ _ _ _ _ _ _ (line_of c.args.self.now) (line_of c.start.new.self) (line_of c.exchange.new.self) c.args.inbox.now c.exchange.new.inbox _ _ c.moment-now.ensures.now
+    c.in-Ok.ensures.ticked (c.in-Ok.ensures.idle (cc)) (c.in-Ok.ensures.unended (cc)) c.clear.ensures (c.exchange.ensures.lost e)
+
+pub returns-clause-cut : goal.returns-clause-cut
+returns-clause-cut g c =
+    cut_as c.moment-now.result _ (line_of c.args.self.now) (line_of c.start.new.self) c.args.inbox.now c.exchange.new.inbox _ _ c.exchange.result c.moment-now.ensures.now c.in-Ok.ensures.ticked c.clear.ensures
+    c.exchange.ensures.cut
+
+pub returns-then-not-works-clause-goes : goal.returns-then-not-works-clause-goes
+returns-then-not-works-clause-goes g c = λ e.
+    let s = c.in-Ok.ensures in
+    let t = c.send.ensures in
+    goes_still c.moment-now.result c.args.self.now.end c.start.new.self.end c.send.new.self.end c.requires.goes c.moment-now.ensures.limit s.begun s.done s.untold s.moment s.config s.facts (s.little (cc)) t.keeps t.facts t.little
+    t.goes (loss_goes c.start.new.self.end c.send.new.self.end c.send.result t.answer e)
+
+pub returns-then-not-works-clause-seen : goal.returns-then-not-works-clause-seen
+returns-then-not-works-clause-seen g c = λ _.
+    let facts = c.send.ensures.facts ∙ c.in-Ok.ensures.facts in
+    seen_same c.args.self.now.end c.send.new.self.end (known c.args.pass.now) (ap (λ (f : Facts). f.recorded.sent) facts) (ap (λ (f : Facts). f.recorded.finish) facts) c.requires.seen
+
+pub returns-then-not-works-clause-agrees : goal.returns-then-not-works-clause-agrees
+returns-then-not-works-clause-agrees g c = λ _.
+    agrees_same c.args.self.now.end c.send.new.self.end c.args.inbox.now (c.send.ensures.keeps.config ∙ c.in-Ok.ensures.config) (c.send.ensures.keeps.most ∙ c.in-Ok.ensures.most)
+    (c.send.ensures.facts ∙ c.in-Ok.ensures.facts) c.requires.agrees

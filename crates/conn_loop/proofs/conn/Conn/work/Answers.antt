@@ -1,0 +1,16 @@
+use Rattle.std.proofs.lemmas.Result.{on_ok_weaker}
+use Rattle.gate_turn.specs.Places.{known}
+use Rattle.conn_loop.specs.Conn.{line_of}
+use Rattle.conn_loop.proofs.Working.{served_frames, cut_at_frame}
+use Rattle.conn_loop.proofs.conn.Conn.work.Goals as goal
+
+pub returns-in-Err-clause-cut : goal.returns-in-Err-clause-cut
+returns-in-Err-clause-cut g c =
+    cut_at_frame c.args.now (line_of c.args.self.now) (line_of c.take_frames.new.self) c.args.inbox.now c.take_frames.new.inbox _ _ c.in-Err.fault c.in-Err.ensures.cut
+
+pub returns-clause-served : goal.returns-clause-served
+returns-clause-served g c =
+    on_ok_weaker c.serve_outbox.result
+    (served_frames c.args.now c.in-Ok.taken (known c.args.pass.now).seen (known c.serve_outbox.new.pass).seen (line_of c.args.self.now) (line_of c.take_frames.new.self) (line_of c.close_frames.new.self)
+    (line_of c.serve_outbox.new.self) c.args.inbox.now c.take_frames.new.inbox _ _ c.in-Ok.ensures.took c.in-Ok.ensures.last c.close_frames.ensures.closed)
+    c.serve_outbox.ensures.served

@@ -1,0 +1,4 @@
+pub mod Conn
+pub mod Moving
+pub mod Serving
+pub mod Turned

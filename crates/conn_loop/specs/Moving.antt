@@ -1,0 +1,37 @@
+-- What a turn receives and sends over its link (this project's profile).
+use Rattle.std.specs.Prelude.{◌≡◌, ◌≢◌, ℕ, ◌+◌, ◌<◌, ◌||◌, Bool, false, List, [], ◌++◌, length, Option, Some, None, IfSome, Result, Ok, Err}
+use mathlib.Core.List.{IsPrefix}
+use Rattle.gw_links.specs.declared.link.Got.{Got}
+use Rattle.gw_links.specs.Links.{LinkTold, Carried, Moved}
+use Rattle.fixp_replies.specs.declared.act.Ending.TheVariants as endings
+use Rattle.reply_laws.specs.Machine.{State, run}
+use Rattle.conn_turns.specs.declared.answer.TurnEnd.{TurnEnd}
+use Rattle.conn_turns.specs.declared.answer.TurnFault.{TurnFault}
+use Rattle.conn_turns.specs.declared.answer.TurnFault.TheVariants as faults
+use Rattle.conn_turns.specs.Lines.{Line}
+use Rattle.conn_turns.specs.Turns.{is_end, sending_calls}
+use Rattle.conn_turns.specs.Exact.{Received, most_held}
+use Rattle.conn_loop.specs.Conn.{answer_of}
+
+-- what was received stands behind what was held, and it is known whether the link has given its end
+pub record ReceivedOnce (eager : Bool) (told later : Option LinkTold) (carried after : Option Carried) (old new : Line) (got : Option Got) : Type 0 where
+  pub received : List ℕ
+  pub line : new ≡ record old { held = old.held ++ received; over = old.over || is_end got }
+  pub found : (room : ℕ) → room + length old.held ≡ most_held → Received eager told room received got
+  pub moved : Moved told later carried after received []
+
+-- a front of what was unsent was sent: as much as the link took, or, where it failed, some front
+pub record SentOnce (told later : Option LinkTold) (carried after : Option Carried) (old new : Line) : Type 0 where
+  pub sent : List ℕ
+  pub lost : Bool
+  pub front : IsPrefix sent old.machine.unsent
+  pub line : new ≡ record old { machine = run old.machine (sending_calls sent lost) }
+  pub whole : lost ≡ false → old.machine.unsent ≡ sent ++ new.machine.unsent
+  pub full : lost ≡ false → 0 < length new.machine.unsent → IfSome later (λ t. t.room ≡ 0)
+  pub moved : Moved told later carried after [] sent
+
+-- a turn answers so of a machine whose link failed in this state: the fault, where the connection had not ended before and both
+-- finishes were not exchanged, and else how the connection ended
+abbrev pub IsLossOf : State → State → Result TurnEnd TurnFault → Type 0
+IsLossOf old new (Ok end) = end ≡ answer_of new.ending
+IsLossOf old new (Err fault) = (fault ≡ faults.Link) × (old.ending ≡ None) × (new.ending ≢ Some endings.Finished)

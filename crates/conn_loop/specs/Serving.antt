@@ -1,0 +1,41 @@
+-- What a turn sends of the outbox (this project's profile).
+use Rattle.std.specs.Prelude.{◌≡◌, ℕ, ◌<◌, List, ◌++◌, Option}
+use Rattle.session_model.specs.Journal.{History, BeginsHistory}
+use Rattle.jr_record.specs.declared.faults.FetchFault.{FetchFault}
+use Rattle.jr_record.specs.declared.faults.FetchFault.TheVariants as fetching
+use Rattle.reply_laws.specs.Machine.{run}
+use Rattle.gate_turn.specs.Views.{Part}
+use Rattle.gate_senders.specs.Kept.{HasFailed}
+use Rattle.conn_turns.specs.declared.answer.TurnFault.{TurnFault}
+use Rattle.conn_turns.specs.declared.answer.TurnFault.TheVariants as faults
+use Rattle.conn_turns.specs.Lines.{Line}
+use Rattle.conn_turns.specs.Turns.{again_calls, live_calls, finish_calls, served_of, served_now, live_of, finish_of}
+
+-- a refusal of the outbox, as a turn answers it
+abbrev pub fault_of : FetchFault → TurnFault
+fault_of fetching.Broken = faults.Broken
+fault_of fetching.Memory = faults.Memory
+fault_of fetching.Fault = faults.Outbox
+
+-- a fault of the outbox, as the pass shows it
+pub record BlamesPass (p q : Part) (fault : TurnFault) : Type 0 where
+  pub failed : fault ≡ faults.Outbox → HasFailed p.faults q.faults
+  pub broken : fault ≡ faults.Broken → q.opening.faults < q.faults
+  pub no_other : (fault ≡ faults.Link → ⊥) × (fault ≡ faults.Inbox → ⊥)
+  pub never_full : (entries bytes : ℕ) → fault ≡ faults.Full entries bytes → ⊥
+
+-- the range that was served was sent again whole, entries were sent live where that may be, and the finish was told where it
+-- stands, each of the outbox as it was seen then
+pub record ServedOutbox (now : ℕ) (seen_before seen_after : History) (old new : Line) : Type 0 where
+  pub again : Option (List (List ℕ))
+  pub live : Option (List (List ℕ))
+  pub finish : Option ℕ
+  pub at_again : History
+  pub at_live : History
+  pub again_is : again ≡ served_of (served_now old.machine) at_again
+  pub live_is : live ≡ live_of (run old.machine (again_calls now again)) at_live
+  pub finish_is : finish ≡ finish_of old.machine seen_after
+  pub seen_again : BeginsHistory seen_before at_again
+  pub seen_live : BeginsHistory at_again at_live
+  pub seen_finish : BeginsHistory at_live seen_after
+  pub line : new ≡ record old { machine = run old.machine (again_calls now again ++ (live_calls now live ++ finish_calls now finish)) }

@@ -1,0 +1,96 @@
+-- What a turn did, and what it leaves (this project's profile).
+use Rattle.std.specs.Prelude.{◌≡◌, ◌≢◌, ◌⊎◌, ℕ, ◌+◌, ◌<◌, ◌≤◌, ◌||◌, Bool, false, List, [], ◌∷◌, ◌++◌, length, Option, Some, None, IsSome, IfSome}
+use mathlib.Core.List.{IsPrefix}
+use Rattle.gw_links.specs.Links.{LinkTold, Carried, Moved}
+use Rattle.session_model.specs.Inbox.{InboxRecord}
+use Rattle.session_model.specs.Journal.{History}
+use Rattle.reply_laws.specs.Machine.{link_end, run}
+use Rattle.jr_record.specs.declared.journal.Journal.{Ghosts}
+use Rattle.jr_boxes.specs.declared.inbox.Inbox.{Inbox}
+use Rattle.jr_boxes.specs.Inbox.{HoldsBox}
+use Rattle.conn_turns.specs.declared.news.NewsItem.{NewsItem}
+use Rattle.conn_turns.specs.declared.answer.TurnFault.{TurnFault}
+use Rattle.conn_turns.specs.Lines.{Line, TakenFrame, IsNext, AreTaken, lines_after}
+use Rattle.conn_turns.specs.Frames.{adds, added, told}
+use Rattle.conn_turns.specs.Turns.{Work, first_calls, sending_calls, is_end}
+use Rattle.conn_turns.specs.Exact.{Served, Received, line_ticked, most_held}
+use Rattle.conn_steps.specs.Settling.{Gains}
+use Rattle.conn_steps.specs.Taking.{refused_by}
+use Rattle.conn_loop.specs.Moving.{SentOnce}
+
+-- what the act of a frame that was refused would have added
+abbrev pub refused_of : TurnFault → ℕ → Line → Option TakenFrame → List InboxRecord
+refused_of fault now l None = []
+refused_of fault now l (Some t) = refused_by fault (adds now l t)
+
+module _ {J : Type 0} {G : Ghosts J} where
+  -- frames were served, and the inbox and the news gained what is theirs
+  pub record ServedFrames (now : ℕ) (before seen : History) (l behind : Line) (box after : Inbox J G) (news later : List NewsItem) : Type 0 where
+    pub work : Work
+    pub at : work.now ≡ now
+    pub served : Served before seen l behind work
+    pub gains : Gains box after (added now l work.frames)
+    pub news_are : later ≡ news ++ told now l work.frames
+
+  -- a turn was cut short behind frames: by the act of the one behind them, which was refused, or by the outbox. The inbox gained
+  -- what is theirs, and a stop may leave of the refused one what its fault may
+  pub record CutShort (now : ℕ) (l : Line) (box after : Inbox J G) (news later : List NewsItem) (fault : TurnFault) : Type 0 where
+    pub frames : List TakenFrame
+    pub few : length frames ≤ 16
+    pub taken : AreTaken now l frames
+    pub refused : Option TakenFrame
+    pub next : IfSome refused (IsNext (lines_after now l frames))
+    pub holds : (i : List InboxRecord) → HoldsBox box i [] → HoldsBox after (i ++ added now l frames) (refused_of fault now (lines_after now l frames) refused)
+    pub news_are : later ≡ news ++ told now l frames
+
+  -- behind its tick a turn received, its frames were served, and what was to be sent was sent
+  pub record DidWork (now : ℕ) (eager : Bool) (told_before later : Option LinkTold) (carried after : Option Carried) (before seen : History) (l new : Line) (box since : Inbox J G) (news newer : List NewsItem) : Type 0 where
+    pub work : Work
+    pub at : work.now ≡ now
+    pub received : (room : ℕ) → room + length l.held ≡ most_held → Received eager told_before room work.received work.got
+    pub behind : Line
+    pub served : Served before seen (record l { held = l.held ++ work.received; over = l.over || is_end work.got }) behind work
+    pub front : IsPrefix work.sent behind.machine.unsent
+    pub whole : work.lost ≡ false → behind.machine.unsent ≡ work.sent ++ new.machine.unsent
+    pub full : work.lost ≡ false → 0 < length new.machine.unsent → IfSome later (λ t. t.room ≡ 0)
+    pub line : new ≡ record behind { machine = run behind.machine (sending_calls work.sent work.lost) }
+    pub gains : Gains box since (added now (record l { held = l.held ++ work.received; over = l.over || is_end work.got }) work.frames)
+    pub news_are : newer ≡ news ++ told now (record l { held = l.held ++ work.received; over = l.over || is_end work.got }) work.frames
+    pub moved : Moved told_before later carried after work.received work.sent
+
+  -- or its link failed as it received
+  pub record LostLink (told_before later : Option LinkTold) (carried after : Option Carried) (before seen : History) (l new : Line) (box since : Inbox J G) (news newer : List NewsItem) : Type 0 where
+    pub line : new ≡ record l { machine = run l.machine (link_end ∷ []) }
+    pub moved : Moved told_before later carried after [] []
+    pub same_box : since ≡ box
+    pub same_news : newer ≡ news
+    pub same_seen : seen ≡ before
+
+  abbrev pub Exchanged : (now : ℕ) (eager : Bool) (told_before later : Option LinkTold) (carried after : Option Carried) (before seen : History) (l new : Line) (box since : Inbox J G) (news newer : List NewsItem) → Type 0
+  Exchanged now eager told_before later carried after before seen l new box since news newer =
+      DidWork now eager told_before later carried after before seen l new box since news newer ⊎ LostLink told_before later carried after before seen l new box since news newer
+
+  -- or, once bytes were received, it was cut short
+  pub record CutTurn (now : ℕ) (l : Line) (box since : Inbox J G) (news newer : List NewsItem) (fault : TurnFault) : Type 0 where
+    pub received : List ℕ
+    pub over : Bool
+    pub cut : CutShort now (record l { held = l.held ++ received; over = over }) box since news newer fault
+
+  -- A turn only sent: something was unsent at its start, or its tick ended the connection. The inbox, the pass and the news are as
+  -- they were
+  pub record OnlySent (now : ℕ) (told_before later : Option LinkTold) (carried after : Option Carried) (before seen : History) (old new : Line) (box since : Inbox J G) (newer : List NewsItem) : Type 0 where
+    pub why : (old.machine.unsent ≢ []) ⊎ IsSome (run old.machine (first_calls now)).ending
+    pub sent : SentOnce told_before later carried after (line_ticked old now) new
+    pub same_box : since ≡ box
+    pub no_news : newer ≡ []
+    pub same_seen : seen ≡ before
+
+  -- or nothing was unsent and its tick left the connection open: it did more
+  pub record DidMore (now : ℕ) (eager : Bool) (told_before later : Option LinkTold) (carried after : Option Carried) (before seen : History) (old new : Line) (box since : Inbox J G) (newer : List NewsItem) : Type 0 where
+    pub idle : old.machine.unsent ≡ []
+    pub unended : (run old.machine (first_calls now)).ending ≡ None
+    pub exchanged : Exchanged now eager told_before later carried after before seen (line_ticked old now) new box since [] newer
+
+  abbrev pub DidTurn : (now : ℕ) (eager : Bool) (told_before later : Option LinkTold) (carried after : Option Carried) (before seen : History) (old new : Line) (box since : Inbox J G) (newer : List NewsItem) → Type 0
+  DidTurn now eager told_before later carried after before seen old new box since newer =
+      OnlySent now told_before later carried after before seen old new box since newer ⊎ DidMore now eager told_before later carried after before seen old new box since newer

@@ -1,0 +1,101 @@
+//! A connection of one end: its beginning and its end.
+
+ghost use Rattle.std.specs.Prelude.{◌≡◌, ◌+◌, ◌^◌, ◌<◌, ◌≤◌, [], length, max, true, false, Some, None, IsSome, IfOk};
+
+use fixp_end::{End, Ending};
+use gw_links::Clock;
+use sofh_frame::{Framer, ROOM};
+use std::alloc::{AllocError, Global};
+
+/// One end over the connections of a life, one after the other.
+#[derive(Drop)]
+pub struct Conn {
+    pub(crate) alloc: Global,
+    pub(crate) end: End,
+    /// The bytes read of which no frame was taken yet.
+    pub(crate) framer: Framer,
+    /// The place of the first of them among the connection's bytes.
+    pub(crate) place: u64,
+    /// Whether the link has given its end.
+    pub(crate) over: bool,
+}
+
+impl Conn {
+    ghost use Rattle.conn_loop.specs.Conn.{line_of, new_line, line_begun, line_cut, GoesOn};
+
+    /// A connection that has not begun, of a new end.
+    ///
+    /// # Errors
+    /// Want of memory for the bytes that are read.
+    pub fn new(alloc: Global, end: End) -> Result<Conn, AllocError>
+        ensures { IfOk result (λ conn. line_of conn ≡ new_line end) }
+    {
+        Ok(Conn {
+            alloc,
+            end,
+            framer: Framer::new(alloc)?,
+            place: 0,
+            over: false,
+        })
+    }
+
+    /// A connection begins: what was held and unsent of the one before is dropped, and an initiator writes its first message.
+    #[tactic(auto, using(crate::proofs::Machine::begun_serves))]
+    pub fn begin<C: Clock>(&mut self, clock: &mut C)
+        requires over { (line_of self.old).machine.begun ≡ true → IsSome (line_of self.old).machine.ending }
+        requires time { (line_of self.old).machine.moment < 2 ^ 44 }
+        ensures begun { line_of self.new ≡ line_begun (line_of self.old) (max (C.last clock.new) (line_of self.old).machine.moment) }
+        ensures goes { length (line_of self.old).machine.config.credentials ≤ 2048 → (line_of self.old).machine.facts.recorded.sent < 2 ^ 40 → GoesOn (line_of self.new).machine }
+        ensures recorded { (line_of self.new).machine.facts.recorded ≡ (line_of self.old).machine.facts.recorded }
+        ensures config { (line_of self.new).machine.config ≡ (line_of self.old).machine.config }
+        ensures most { (line_of self.new).machine.most ≡ (line_of self.old).machine.most }
+        ensures told { C.told clock.new ≡ C.told clock.old }
+    {
+        let now = self.moment(clock);
+        self.drop_held();
+        self.place = 0;
+        self.over = false;
+        self.end.begin(now);
+    }
+
+    /// The connection is given up: what is held and unsent is dropped. Answers how it ended.
+    pub fn cut(&mut self) -> Ending
+        requires { (line_of self.old).machine.begun ≡ true }
+        ensures cut { line_of self.new ≡ line_cut (line_of self.old) }
+        ensures ending { (line_of self.new).machine.ending ≡ Some result }
+    {
+        self.drop_held();
+        let unsent = self.end.out().len();
+        self.end.taken(unsent);
+        self.end.on_link_end();
+        match self.end.ending() {
+            Some(ending) => ending,
+            None => unreachable!(),
+        }
+    }
+
+    /// The machine, as it stands.
+    pub fn end(&self) -> &End
+        ensures { result.now ≡ (line_of self.now).machine }
+    {
+        &self.end
+    }
+
+    /// The clock's moment, or the last one that the machine was told where that is later.
+    pub(crate) fn moment<C: Clock>(&self, clock: &mut C) -> u64
+        requires { (line_of self.now).machine.moment < 2 ^ 44 }
+        ensures now { result ≡ max (C.last clock.new) (line_of self.now).machine.moment }
+        ensures limit { result < 2 ^ 44 }
+        ensures told { C.told clock.new ≡ C.told clock.old }
+    {
+        clock.now().max(self.end.moment())
+    }
+
+    /// Drops the bytes of which no frame was taken.
+    fn drop_held(&mut self)
+        ensures { line_of self.new ≡ record (line_of self.old) { held = [] } }
+    {
+        let free = self.framer.room().len();
+        self.framer.drop_front(ROOM - free);
+    }
+}

@@ -1,0 +1,134 @@
+//! A turn of a connection, whole.
+
+ghost use Rattle.std.specs.Prelude.{◌≡◌, ◌⊎◌, ℕ, ◌+◌, ◌^◌, ◌<◌, ◌≤◌, [], max, true, Ok, Err, None, IfOk, IfErr, OnOk};
+ghost use Rattle.gw_outside.specs.Faults.{HasRisen};
+ghost use Rattle.jr_boxes.specs.Inbox.{faults_of, is_broken, size_of, count_of};
+ghost use Rattle.gate_turn.specs.Places.{known};
+ghost use Rattle.gate_turn.specs.Calls.{IsFree};
+ghost use Rattle.gate_senders.specs.Gate.{IsPassAt};
+ghost use Rattle.gate_senders.specs.Kept.{HasFailed};
+ghost use Rattle.conn_turns.specs.News.{items_of};
+ghost use Rattle.conn_turns.specs.declared.answer.TurnFault.TheVariants as faults;
+ghost use Rattle.conn_turns.specs.declared.answer.TurnEnd.TheVariants as ends;
+ghost use Rattle.conn_turns.specs.Exact.{line_ticked};
+ghost use Rattle.conn_steps.specs.Settling.{SameKind};
+ghost use Rattle.conn_steps.specs.Agreeing.{IsInTurn, Agrees};
+ghost use Rattle.conn_loop.specs.Conn.{GoesOn, HasSeen, Looks};
+ghost use Rattle.conn_loop.specs.Turned.{Exchanged, CutTurn, DidTurn};
+
+use crate::conn::Conn;
+use conn_turns::{News, TurnEnd, TurnFault};
+use gate_senders::{Gate, Kept};
+use gate_turn::Pass;
+use gw_links::{Clock, Link};
+use jr_boxes::Inbox;
+use jr_record::Journal;
+use std::sync::Wait;
+
+impl Conn {
+    ghost use Rattle.conn_loop.specs.Conn.{line_of, answer_of};
+
+    /// Receives, works and sends.
+    fn exchange<L: Link, O: Journal, I: Journal, R: Wait>(
+        &mut self,
+        link: &mut L,
+        gate: &Gate<O>,
+        pass: &mut Pass<Kept<O>>,
+        inbox: &mut Inbox<I>,
+        news: &mut News,
+        now: u64,
+        rt: &R,
+    ) -> Result<TurnEnd, TurnFault>
+        requires own { IsPassAt gate.now pass.old }
+        requires free { IsFree pass.old }
+        requires in_turn { IsInTurn (line_of self.old).machine now 16 }
+        requires time { now < 2 ^ 44 }
+        requires place { (line_of self.old).place < 2 ^ 63 }
+        requires sent { (line_of self.old).machine.facts.recorded.sent < 2 ^ 40 }
+        requires seen { HasSeen (line_of self.old).machine (known pass.old) }
+        requires agrees { Agrees (line_of self.old).machine inbox.old }
+        requires unended { (line_of self.old).machine.ending ≡ None }
+        ensures own { IsPassAt gate.now pass.new }
+        ensures free { IsFree pass.new }
+        ensures looks { Looks (known pass.old) (known pass.new) }
+        ensures did { OnOk result (Exchanged now L.eager (L.told link.old) (L.told link.new) (L.carried link.old) (L.carried link.new) (known pass.old).seen (known pass.new).seen (line_of self.old) (line_of self.new) inbox.old inbox.new (items_of news.old) (items_of news.new)) }
+        ensures lost { result ≡ Err faults.Link → Exchanged now L.eager (L.told link.old) (L.told link.new) (L.carried link.old) (L.carried link.new) (known pass.old).seen (known pass.new).seen (line_of self.old) (line_of self.new) inbox.old inbox.new (items_of news.old) (items_of news.new) }
+        ensures cut { IfErr result (λ fault. (fault ≡ faults.Link → ⊥) → CutTurn now (line_of self.old) inbox.old inbox.new (items_of news.old) (items_of news.new) fault) }
+        ensures answer { IfOk result (λ end. end ≡ answer_of (line_of self.new).machine.ending) }
+        ensures goes { result ≡ Ok ends.Go → GoesOn (line_of self.new).machine }
+        ensures seen { result ≡ Ok ends.Go → HasSeen (line_of self.new).machine (known pass.new) }
+        ensures agrees { result ≡ Ok ends.Go → Agrees (line_of self.new).machine inbox.new }
+        ensures link { result ≡ Err faults.Link → HasRisen (L.faults link.old) (L.faults link.new) }
+        ensures inbox { result ≡ Err faults.Inbox → HasRisen (faults_of inbox.old) (faults_of inbox.new) }
+        ensures outbox { result ≡ Err faults.Outbox → HasFailed (known pass.old).faults (known pass.new).faults }
+        ensures broken { result ≡ Err faults.Broken → (is_broken inbox.new ≡ true) ⊎ ((known pass.new).opening.faults < (known pass.new).faults) }
+        ensures full { (entries bytes : ℕ) → result ≡ Err (faults.Full entries bytes) → (entries ≡ count_of inbox.new) × (bytes ≡ size_of inbox.new) }
+        ensures kind { SameKind inbox.old inbox.new }
+        ensures never_falls { (faults_of inbox.old ≤ faults_of inbox.new) × (L.faults link.old ≤ L.faults link.new) }
+        ensures stays { L.place link.new ≡ L.place link.old }
+    {
+        let Ok(_) = self.receive(link) else {
+            return self.lose_link();
+        };
+        if let Err(fault) = self.work(gate, pass, inbox, news, now, rt) {
+            return Err(fault);
+        }
+        self.send(link)
+    }
+
+    /// One turn. `news` is emptied first, and has then what was delivered and told. Where output is unsent at its start, or its
+    /// tick ends the connection, the turn only sends. Else it receives once, takes at most 16 frames, serves the outbox, and
+    /// sends until the link takes nothing.
+    ///
+    /// # Errors
+    /// `Link` where the link failed before the connection had ended and both finishes were exchanged: `begin` may follow. After
+    /// any other the connection is given up: `Inbox`, `Outbox`, `Broken`, `Full` and `Memory`, where a record was refused, the
+    /// outbox could not be read, or memory ran out.
+    #[tactic(auto, using(crate::proofs::Working::looks_self))]
+    pub fn turn<L: Link, O: Journal, I: Journal, C: Clock, R: Wait>(
+        &mut self,
+        link: &mut L,
+        gate: &Gate<O>,
+        pass: &mut Pass<Kept<O>>,
+        inbox: &mut Inbox<I>,
+        clock: &mut C,
+        news: &mut News,
+        rt: &R,
+    ) -> Result<TurnEnd, TurnFault>
+        requires own { IsPassAt gate.now pass.old }
+        requires free { IsFree pass.old }
+        requires goes { GoesOn (line_of self.old).machine }
+        requires place { (line_of self.old).place < 2 ^ 63 }
+        requires seen { HasSeen (line_of self.old).machine (known pass.old) }
+        requires agrees { Agrees (line_of self.old).machine inbox.old }
+        ensures own { IsPassAt gate.now pass.new }
+        ensures free { IsFree pass.new }
+        ensures looks { Looks (known pass.old) (known pass.new) }
+        ensures did { OnOk result (DidTurn (max (C.last clock.new) (line_of self.old).machine.moment) L.eager (L.told link.old) (L.told link.new) (L.carried link.old) (L.carried link.new) (known pass.old).seen (known pass.new).seen (line_of self.old) (line_of self.new) inbox.old inbox.new (items_of news.new)) }
+        ensures lost { result ≡ Err faults.Link → DidTurn (max (C.last clock.new) (line_of self.old).machine.moment) L.eager (L.told link.old) (L.told link.new) (L.carried link.old) (L.carried link.new) (known pass.old).seen (known pass.new).seen (line_of self.old) (line_of self.new) inbox.old inbox.new (items_of news.new) }
+        ensures cut { IfErr result (λ fault. (fault ≡ faults.Link → ⊥) → CutTurn (max (C.last clock.new) (line_of self.old).machine.moment) (line_ticked (line_of self.old) (max (C.last clock.new) (line_of self.old).machine.moment)) inbox.old inbox.new [] (items_of news.new) fault) }
+        ensures answer { IfOk result (λ end. end ≡ answer_of (line_of self.new).machine.ending) }
+        ensures goes { result ≡ Ok ends.Go → GoesOn (line_of self.new).machine }
+        ensures seen { result ≡ Ok ends.Go → HasSeen (line_of self.new).machine (known pass.new) }
+        ensures agrees { result ≡ Ok ends.Go → Agrees (line_of self.new).machine inbox.new }
+        ensures link { result ≡ Err faults.Link → HasRisen (L.faults link.old) (L.faults link.new) }
+        ensures inbox { result ≡ Err faults.Inbox → HasRisen (faults_of inbox.old) (faults_of inbox.new) }
+        ensures outbox { result ≡ Err faults.Outbox → HasFailed (known pass.old).faults (known pass.new).faults }
+        ensures broken { result ≡ Err faults.Broken → (is_broken inbox.new ≡ true) ⊎ ((known pass.new).opening.faults < (known pass.new).faults) }
+        ensures full { (entries bytes : ℕ) → result ≡ Err (faults.Full entries bytes) → (entries ≡ count_of inbox.new) × (bytes ≡ size_of inbox.new) }
+        ensures kind { SameKind inbox.old inbox.new }
+        ensures never_falls { (faults_of inbox.old ≤ faults_of inbox.new) × (L.faults link.old ≤ L.faults link.new) }
+        ensures stays { L.place link.new ≡ L.place link.old }
+        ensures clock { C.told clock.new ≡ C.told clock.old }
+    {
+        news.clear();
+        let now = self.moment(clock);
+        let Ok(works) = self.start(now) else {
+            return Err(TurnFault::Memory);
+        };
+        if !works {
+            return self.send(link);
+        }
+        self.exchange(link, gate, pass, inbox, news, now, rt)
+    }
+}

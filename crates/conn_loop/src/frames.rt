@@ -1,0 +1,116 @@
+//! The frames of a turn: what is received, and what is taken of it.
+
+ghost use Rattle.std.specs.Prelude.{◌≡◌, ℕ, ◌+◌, ◌*◌, ◌^◌, ◌<◌, ◌≤◌, true, false, length, Ok, Err, IfOk, IfErr, OnOk, IsTrue, IsFalse};
+ghost use Rattle.sofh_frame.specs.Framing.{first_of};
+ghost use Rattle.jr_boxes.specs.Inbox.{faults_of};
+ghost use Rattle.conn_turns.specs.News.{items_of};
+ghost use Rattle.conn_turns.specs.Lines.{MayTake};
+ghost use Rattle.conn_turns.specs.Frames.{is_whole, may_take, IsDone};
+ghost use Rattle.conn_steps.specs.Settling.{SameKind};
+ghost use Rattle.conn_steps.specs.Agreeing.{IsInTurn, Agrees, KeepsOwn};
+ghost use Rattle.conn_steps.specs.Taking.{TookFrame, RefusedFrame, TookFrames, CutFrames, Blames};
+
+use crate::conn::Conn;
+use conn_steps::answer_frame;
+use conn_turns::{News, TurnFault};
+use jr_boxes::Inbox;
+use jr_record::Journal;
+use sofh_frame::FirstFrame;
+
+/// How many frames a turn takes at most.
+pub const FRAMES: u64 = 16;
+
+impl Conn {
+    ghost use Rattle.conn_loop.specs.Conn.{line_of};
+
+    /// Whether a further frame may be taken: the connection has not ended, and no range is served.
+    pub(crate) fn may_take(&self) -> bool
+        ensures value { result ≡ may_take (line_of self.now).machine }
+        ensures may { IsTrue result → MayTake (line_of self.now).machine }
+        ensures not { (count : ℕ) → IsFalse result → IsDone count (line_of self.now) }
+    {
+        self.end.ending().is_none() && self.end.serving().is_none()
+    }
+
+    /// Takes the frame at the front of what is held, if one stands there, and says whether one did.
+    fn take_frame<J: Journal>(
+        &mut self,
+        inbox: &mut Inbox<J>,
+        news: &mut News,
+        now: u64,
+    ) -> Result<bool, TurnFault>
+        requires may { MayTake (line_of self.old).machine }
+        requires in_turn { IsInTurn (line_of self.old).machine now 1 }
+        requires time { now < 2 ^ 44 }
+        requires place { (line_of self.old).place < 2 ^ 63 + 2 ^ 62 }
+        requires agrees { Agrees (line_of self.old).machine inbox.old }
+        ensures took { result ≡ Ok true → TookFrame now (line_of self.old) (line_of self.new) inbox.old inbox.new (items_of news.old) (items_of news.new) }
+        ensures none { result ≡ Ok false → (is_whole (first_of (line_of self.new).held) ≡ false) × (line_of self.new ≡ line_of self.old) × (inbox.new ≡ inbox.old) × (items_of news.new ≡ items_of news.old) }
+        ensures refused { IfErr result (RefusedFrame now (line_of self.old) (line_of self.new) inbox.old inbox.new (items_of news.old) (items_of news.new)) }
+        ensures in_turn { (frames : ℕ) → IsInTurn (line_of self.old).machine now (frames + 1) → result ≡ Ok true → IsInTurn (line_of self.new).machine now frames }
+        ensures place { result ≡ Ok true → (line_of self.new).place ≤ (line_of self.old).place + 16390 }
+        ensures agrees { OnOk result (Agrees (line_of self.new).machine inbox.new) }
+        ensures own { OnOk result (KeepsOwn (line_of self.old).machine (line_of self.new).machine) }
+        ensures blames { IfErr result (Blames inbox.old inbox.new) }
+        ensures kind { SameKind inbox.old inbox.new }
+        ensures never_falls { faults_of inbox.old ≤ faults_of inbox.new }
+    {
+        let FirstFrame::Frame {
+            order,
+            message,
+            size,
+        } = self.framer.peek()
+        else {
+            return Ok(false);
+        };
+        if let Err(fault) = answer_frame(
+            self.alloc,
+            &mut self.end,
+            inbox,
+            news,
+            order,
+            message,
+            self.place,
+            now,
+        ) {
+            return Err(fault);
+        }
+        self.framer.drop_front(size);
+        self.place += size as u64;
+        Ok(true)
+    }
+
+    /// Takes frames, as far as they go and 16 at most, and says how many.
+    pub(crate) fn take_frames<J: Journal>(
+        &mut self,
+        inbox: &mut Inbox<J>,
+        news: &mut News,
+        now: u64,
+    ) -> Result<u64, TurnFault>
+        requires in_turn { IsInTurn (line_of self.old).machine now 16 }
+        requires time { now < 2 ^ 44 }
+        requires place { (line_of self.old).place < 2 ^ 63 }
+        requires agrees { Agrees (line_of self.old).machine inbox.old }
+        ensures took { IfOk result (λ count. TookFrames now count (line_of self.old) (line_of self.new) inbox.old inbox.new (items_of news.old) (items_of news.new)) }
+        ensures last { IfOk result (λ count. IsDone count (line_of self.new) × (count ≤ 16)) }
+        ensures cut { IfErr result (CutFrames now (line_of self.old) (line_of self.new) inbox.old inbox.new (items_of news.old) (items_of news.new)) }
+        ensures in_turn { OnOk result (IsInTurn (line_of self.new).machine now 0) }
+        ensures agrees { OnOk result (Agrees (line_of self.new).machine inbox.new) }
+        ensures own { OnOk result (KeepsOwn (line_of self.old).machine (line_of self.new).machine) }
+        ensures blames { IfErr result (Blames inbox.old inbox.new) }
+        ensures kind { SameKind inbox.old inbox.new }
+        ensures never_falls { faults_of inbox.old ≤ faults_of inbox.new }
+    {
+        for taken in 0..FRAMES {
+            if !self.may_take() {
+                return Ok(taken);
+            }
+            match self.take_frame(inbox, news, now) {
+                Ok(true) => {}
+                Ok(false) => return Ok(taken),
+                Err(fault) => return Err(fault),
+            }
+        }
+        Ok(FRAMES)
+    }
+}
