@@ -1,6 +1,6 @@
 -- A turn's receive, work and sending, put together.
 use Rattle.std.proofs.Common.{◌≡◌, inl, inr, ◌<◌, ℕ, Bool, true, List, [], ◌++◌, ◌≤◌, length, Option, Some, None, Result, Ok, Err, refl, sym, ap, subst, ◌∙◌, arith, append-nil}
-use Rattle.std.specs.Prelude.{◌||◌, IsSome, ◌⊎◌, ◌≢◌, OnOk, IfOk, IfErr}
+use Rattle.std.specs.Prelude.{◌||◌, IsSome, ◌⊎◌, ◌≢◌, OnOk, OnErr, IfOk, IfErr}
 use Rattle.gw_links.specs.Links.{LinkTold, Carried, Moved}
 use Rattle.gw_links.specs.declared.link.Got.{Got}
 use Rattle.gw_links.proofs.Moving.{moved_more}
@@ -25,9 +25,10 @@ use Rattle.fixp_replies.specs.declared.facts.Facts.{Facts}
 use Rattle.gate_turn.specs.Views.{Part}
 use Rattle.conn_turns.specs.declared.answer.TurnFault.TheVariants as faults
 use Rattle.conn_steps.specs.Agreeing.{Agrees}
-use Rattle.conn_loop.specs.Conn.{answer_of, GoesOn, KeepsAll, MayServe}
+use Rattle.conn_loop.specs.Conn.{answer_of, GoesOn, HasSeen, KeepsAll, MayServe}
 use Rattle.conn_loop.specs.Moving.{ReceivedOnce, SentOnce, IsLossOf}
-use Rattle.conn_loop.specs.Turned.{ServedFrames, CutShort, DidWork, CutTurn, Exchanged, DidTurn}
+use Rattle.conn_loop.proofs.Working.{seen_same}
+use Rattle.conn_loop.specs.Turned.{ServedFrames, CutShort, DidWork, CutTurn, Exchanged, DidTurn, Leaves}
 
 -- a turn that answers that the connection goes on left it open
 pub goes_on : (o : Option Ending) → ends.Go ≡ answer_of o → o ≡ None
@@ -38,6 +39,14 @@ goes_on (Some x) e = absurd (cc)
 pub on_ok_any : {T E : Type 0} (P : Type 0) (r : Result T E) → P → OnOk r P
 on_ok_any P (Ok x) p = p
 on_ok_any P (Err e) p = tt
+
+pub on_err_any : {T E : Type 0} (P : Type 0) (r : Result T E) → P → OnErr r P
+on_err_any P (Ok x) p = tt
+on_err_any P (Err e) p = p
+
+pub at_err : {T E : Type 0} (P : Type 0) (r : Result T E) (e : E) → r ≡ Err e → OnErr r P → P
+at_err P (Ok x) e is h = absurd (cc)
+at_err P (Err f) e is h = h
 
 -- a link that failed as it sent gives no other fault
 pub loss_cut : (old new : State) (r : Result TurnEnd TurnFault) (P : TurnFault → Type 0) → IsLossOf old new r → IfErr r (λ fault. (fault ≡ faults.Link → ⊥) → P fault)
@@ -181,3 +190,15 @@ module _ {J : Type 0} {G : Ghosts J} where
   cut_as now n old l box since news newer (Err fault) is ticks none h = λ other.
       subst (λ (k : ℕ). CutTurn k (line_ticked old k) box since [] newer fault) is
       (subst (λ (y : Line). CutTurn now y box since [] newer fault) ticks (subst (λ (ns : List NewsItem). CutTurn now l box since ns newer fault) none (h other)))
+
+  -- what a machine keeps over the sending, or the loss, of its link
+  pub leaves_of : (now : ℕ) (m n : State) (p : Part) (box : Inbox J G) → m.begun ≡ true → m.moment ≤ now → now < 17592186044416 → m.facts.recorded.sent < 1099511627776 → length m.config.credentials ≤ 2048
+      → HasSeen m p → Agrees m box → KeepsAll m n m.moment → n.facts ≡ m.facts → Leaves n p box
+  leaves_of now m n p box begun time limit sent credentials seen agrees k facts = record {
+    begun = k.begun ∙ begun;
+    time = omega (arith, k.time (omega arith), time, limit);
+    sent = omega (arith, ap (λ (f : Facts). f.recorded.sent) facts, sent);
+    credentials = omega (arith, ap (λ (x : EndConfig). length x.credentials) k.config, credentials);
+    seen = seen_same m n p (ap (λ (f : Facts). f.recorded.sent) facts) (ap (λ (f : Facts). f.recorded.finish) facts) seen;
+    agrees = agrees_same m n box k.config k.most facts agrees;
+  }

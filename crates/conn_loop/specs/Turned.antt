@@ -1,10 +1,10 @@
 -- What a turn did, and what it leaves (this project's profile).
-use Rattle.std.specs.Prelude.{◌≡◌, ◌≢◌, ◌⊎◌, ℕ, ◌+◌, ◌<◌, ◌≤◌, ◌||◌, Bool, false, List, [], ◌∷◌, ◌++◌, length, Option, Some, None, IsSome, IfSome}
+use Rattle.std.specs.Prelude.{◌≡◌, ◌≢◌, ◌⊎◌, ℕ, ◌+◌, ◌<◌, ◌≤◌, ◌||◌, Bool, false, List, [], ◌∷◌, ◌++◌, length, Option, Some, None, IsSome, IfSome, ◌^◌, true}
 use mathlib.Core.List.{IsPrefix}
 use Rattle.gw_links.specs.Links.{LinkTold, Carried, Moved}
 use Rattle.session_model.specs.Inbox.{InboxRecord}
 use Rattle.session_model.specs.Journal.{History}
-use Rattle.reply_laws.specs.Machine.{link_end, run}
+use Rattle.reply_laws.specs.Machine.{State, link_end, run}
 use Rattle.jr_record.specs.declared.journal.Journal.{Ghosts}
 use Rattle.jr_boxes.specs.declared.inbox.Inbox.{Inbox}
 use Rattle.jr_boxes.specs.Inbox.{HoldsBox}
@@ -16,6 +16,9 @@ use Rattle.conn_turns.specs.Turns.{Work, first_calls, sending_calls, is_end}
 use Rattle.conn_turns.specs.Exact.{Served, Received, line_ticked, most_held}
 use Rattle.conn_steps.specs.Settling.{Gains}
 use Rattle.conn_steps.specs.Taking.{refused_by}
+use Rattle.gate_turn.specs.Views.{Part}
+use Rattle.conn_steps.specs.Agreeing.{Agrees}
+use Rattle.conn_loop.specs.Conn.{HasSeen}
 use Rattle.conn_loop.specs.Moving.{SentOnce}
 
 -- what the act of a frame that was refused would have added
@@ -94,3 +97,13 @@ module _ {J : Type 0} {G : Ghosts J} where
   abbrev pub DidTurn : (now : ℕ) (eager : Bool) (told_before later : Option LinkTold) (carried after : Option Carried) (before seen : History) (old new : Line) (box since : Inbox J G) (newer : List NewsItem) → Type 0
   DidTurn now eager told_before later carried after before seen old new box since newer =
       OnlySent now told_before later carried after before seen old new box since newer ⊎ DidMore now eager told_before later carried after before seen old new box since newer
+
+  -- what a turn that did not give the connection up leaves, also where the connection has ended: the next one may begin, and the
+  -- inbox and the pass go on to agree with the machine
+  pub record Leaves (m : State) (p : Part) (box : Inbox J G) : Type 0 where
+    pub begun : m.begun ≡ true
+    pub time : m.moment < 2 ^ 44
+    pub sent : m.facts.recorded.sent < 2 ^ 40
+    pub credentials : length m.config.credentials ≤ 2048
+    pub seen : HasSeen m p
+    pub agrees : Agrees m box

@@ -1,6 +1,6 @@
 //! A turn of a connection, whole.
 
-ghost use Rattle.std.specs.Prelude.{◌≡◌, ◌⊎◌, ℕ, ◌+◌, ◌^◌, ◌<◌, ◌≤◌, [], max, true, Ok, Err, None, IfOk, IfErr, OnOk};
+ghost use Rattle.std.specs.Prelude.{◌≡◌, ◌⊎◌, ℕ, ◌+◌, ◌^◌, ◌<◌, ◌≤◌, [], max, is_some, true, Ok, Err, None, IfOk, IfErr, OnOk};
 ghost use Rattle.gw_outside.specs.Faults.{HasRisen};
 ghost use Rattle.jr_boxes.specs.Inbox.{faults_of, is_broken, size_of, count_of};
 ghost use Rattle.gate_turn.specs.Places.{known};
@@ -14,7 +14,7 @@ ghost use Rattle.conn_turns.specs.Exact.{line_ticked};
 ghost use Rattle.conn_steps.specs.Settling.{SameKind};
 ghost use Rattle.conn_steps.specs.Agreeing.{IsInTurn, Agrees};
 ghost use Rattle.conn_loop.specs.Conn.{GoesOn, HasSeen, Looks};
-ghost use Rattle.conn_loop.specs.Turned.{Exchanged, CutTurn, DidTurn};
+ghost use Rattle.conn_loop.specs.Turned.{Exchanged, CutTurn, DidTurn, Leaves};
 
 use crate::conn::Conn;
 use conn_turns::{News, TurnEnd, TurnFault};
@@ -56,8 +56,9 @@ impl Conn {
         ensures cut { IfErr result (λ fault. (fault ≡ faults.Link → ⊥) → CutTurn now (line_of self.old) inbox.old inbox.new (items_of news.old) (items_of news.new) fault) }
         ensures answer { IfOk result (λ end. end ≡ answer_of (line_of self.new).machine.ending) }
         ensures goes { result ≡ Ok ends.Go → GoesOn (line_of self.new).machine }
-        ensures seen { result ≡ Ok ends.Go → HasSeen (line_of self.new).machine (known pass.new) }
-        ensures agrees { result ≡ Ok ends.Go → Agrees (line_of self.new).machine inbox.new }
+        ensures leaves { OnOk result (Leaves (line_of self.new).machine (known pass.new) inbox.new) }
+        ensures leaves_lost { result ≡ Err faults.Link → Leaves (line_of self.new).machine (known pass.new) inbox.new }
+        ensures ended_lost { result ≡ Err faults.Link → is_some (line_of self.new).machine.ending ≡ true }
         ensures link { result ≡ Err faults.Link → HasRisen (L.faults link.old) (L.faults link.new) }
         ensures inbox { result ≡ Err faults.Inbox → HasRisen (faults_of inbox.old) (faults_of inbox.new) }
         ensures outbox { result ≡ Err faults.Outbox → HasFailed (known pass.old).faults (known pass.new).faults }
@@ -109,8 +110,9 @@ impl Conn {
         ensures cut { IfErr result (λ fault. (fault ≡ faults.Link → ⊥) → CutTurn (max (C.last clock.new) (line_of self.old).machine.moment) (line_ticked (line_of self.old) (max (C.last clock.new) (line_of self.old).machine.moment)) inbox.old inbox.new [] (items_of news.new) fault) }
         ensures answer { IfOk result (λ end. end ≡ answer_of (line_of self.new).machine.ending) }
         ensures goes { result ≡ Ok ends.Go → GoesOn (line_of self.new).machine }
-        ensures seen { result ≡ Ok ends.Go → HasSeen (line_of self.new).machine (known pass.new) }
-        ensures agrees { result ≡ Ok ends.Go → Agrees (line_of self.new).machine inbox.new }
+        ensures leaves { OnOk result (Leaves (line_of self.new).machine (known pass.new) inbox.new) }
+        ensures leaves_lost { result ≡ Err faults.Link → Leaves (line_of self.new).machine (known pass.new) inbox.new }
+        ensures ended_lost { result ≡ Err faults.Link → is_some (line_of self.new).machine.ending ≡ true }
         ensures link { result ≡ Err faults.Link → HasRisen (L.faults link.old) (L.faults link.new) }
         ensures inbox { result ≡ Err faults.Inbox → HasRisen (faults_of inbox.old) (faults_of inbox.new) }
         ensures outbox { result ≡ Err faults.Outbox → HasFailed (known pass.old).faults (known pass.new).faults }

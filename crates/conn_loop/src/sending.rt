@@ -52,6 +52,7 @@ impl Conn {
         ensures facts { (line_of self.new).machine.facts ≡ (line_of self.old).machine.facts }
         ensures little { length (line_of self.new).machine.unsent ≤ length (line_of self.old).machine.unsent }
         ensures goes { (line_of self.new).machine.ending ≡ None → (line_of self.old).machine.ending ≡ None }
+        ensures ended { OnErr result (is_some (line_of self.new).machine.ending ≡ true) }
         ensures cause { OnErr result (HasRisen (L.faults link.old) (L.faults link.new)) }
         ensures never_falls { L.faults link.old ≤ L.faults link.new }
         ensures stays { L.place link.new ≡ L.place link.old }

@@ -1,11 +1,10 @@
-use Rattle.std.proofs.Common.{◌∷◌, [], inl, inr, refl, ap, ◌∙◌}
-use Rattle.reply_laws.specs.Machine.{link_end, run}
-use Rattle.fixp_replies.specs.declared.facts.Facts.{Facts}
+use Rattle.std.proofs.Common.{◌∷◌, [], inl, inr, refl, ap, subst, ◌∙◌}
+use Rattle.reply_laws.specs.Machine.{State, link_end, run}
 use Rattle.gate_turn.specs.Places.{known}
+use Rattle.conn_turns.specs.declared.answer.TurnFault.TheVariants as faults
 use Rattle.conn_turns.specs.Lines.{Line}
-use Rattle.conn_loop.specs.Conn.{line_of}
-use Rattle.conn_loop.proofs.Working.{seen_same}
-use Rattle.conn_loop.proofs.Exchanging.{did_work, cut_turn, on_ok_any, loss_cut, loss_answer, loss_goes, goes_after, agrees_same}
+use Rattle.conn_loop.specs.Conn.{line_of, KeepsAll}
+use Rattle.conn_loop.proofs.Exchanging.{did_work, cut_turn, on_ok_any, at_err, loss_cut, loss_answer, loss_goes, goes_after, leaves_of}
 use Rattle.conn_loop.proofs.conn.Conn.exchange.Goals as goal
 
 pub returns-in_default-clause-did : goal.returns-in_default-clause-did
@@ -64,11 +63,35 @@ returns-clause-goes g c = λ e.
     goes_after c.args.now c.work.new.self.end c.send.new.self.end (known c.work.new.pass) w.serve c.requires.time c.send.ensures.keeps c.send.ensures.facts c.send.ensures.little c.send.ensures.goes w.unserved w.untold
     (loss_goes c.work.new.self.end c.send.new.self.end c.send.result c.send.ensures.answer e)
 
-pub returns-clause-seen : goal.returns-clause-seen
-returns-clause-seen g c = λ _.
-    let facts = c.send.ensures.facts in
-    seen_same c.work.new.self.end c.send.new.self.end (known c.work.new.pass) (ap (λ (f : Facts). f.recorded.sent) facts) (ap (λ (f : Facts). f.recorded.finish) facts) c.in_default-work.ensures.serve.seen
+pub returns-clause-leaves : goal.returns-clause-leaves
+returns-clause-leaves g c =
+    let w = c.in_default-work.ensures in
+    on_ok_any _ c.send.result
+    (leaves_of c.args.now c.work.new.self.end c.send.new.self.end (known c.work.new.pass) c.work.new.inbox w.serve.begun w.serve.time c.requires.time w.serve.sent w.serve.credentials w.serve.seen w.agrees
+    c.send.ensures.keeps c.send.ensures.facts)
 
-pub returns-clause-agrees : goal.returns-clause-agrees
-returns-clause-agrees g c = λ _.
-    agrees_same c.work.new.self.end c.send.new.self.end c.work.new.inbox c.send.ensures.keeps.config c.send.ensures.keeps.most c.send.ensures.facts c.in_default-work.ensures.agrees
+pub returns-clause-leaves_lost : goal.returns-clause-leaves_lost
+returns-clause-leaves_lost g c = λ _.
+    let w = c.in_default-work.ensures in
+    leaves_of c.args.now c.work.new.self.end c.send.new.self.end (known c.work.new.pass) c.work.new.inbox w.serve.begun w.serve.time c.requires.time w.serve.sent w.serve.credentials w.serve.seen w.agrees
+    c.send.ensures.keeps c.send.ensures.facts
+
+pub returns-clause-ended_lost : goal.returns-clause-ended_lost
+returns-clause-ended_lost g c = λ e. at_err _ c.send.result faults.Link e c.send.ensures.ended
+
+pub returns-in_default-clause-leaves : goal.returns-in_default-clause-leaves
+returns-in_default-clause-leaves g c =
+    let m = c.args.self.now.end in
+    let n = c.lose_link.new.self.end in
+    let same = ap (λ (l : Line). l.machine) c.in_default.ensures.failed.0 in
+    on_ok_any _ c.lose_link.result
+    (leaves_of c.args.now m n (known c.args.pass.now) c.args.inbox.now c.requires.in_turn.begun c.requires.in_turn.time c.requires.time c.requires.sent c.requires.in_turn.credentials c.requires.seen c.requires.agrees
+    (subst (λ (x : State). KeepsAll x n x.moment) same c.lose_link.ensures.keeps) (c.lose_link.ensures.facts ∙ ap (λ (x : State). x.facts) same))
+
+pub returns-in_default-clause-leaves_lost : goal.returns-in_default-clause-leaves_lost
+returns-in_default-clause-leaves_lost g c = λ _.
+    let m = c.args.self.now.end in
+    let n = c.lose_link.new.self.end in
+    let same = ap (λ (l : Line). l.machine) c.in_default.ensures.failed.0 in
+    leaves_of c.args.now m n (known c.args.pass.now) c.args.inbox.now c.requires.in_turn.begun c.requires.in_turn.time c.requires.time c.requires.sent c.requires.in_turn.credentials c.requires.seen c.requires.agrees
+    (subst (λ (x : State). KeepsAll x n x.moment) same c.lose_link.ensures.keeps) (c.lose_link.ensures.facts ∙ ap (λ (x : State). x.facts) same)

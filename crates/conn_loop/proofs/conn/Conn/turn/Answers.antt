@@ -1,11 +1,12 @@
-use Rattle.std.proofs.Common.{ap, ◌∙◌}
-use Rattle.fixp_replies.specs.declared.facts.Facts.{Facts}
+use Rattle.std.proofs.Common.{length, ap, arith}
 use Rattle.std.proofs.lemmas.Result.{on_ok_weaker}
+use Rattle.fixp_shake.specs.declared.config.EndConfig.{EndConfig}
+use Rattle.fixp_replies.specs.declared.facts.Facts.{Facts}
 use Rattle.gate_turn.specs.Places.{known}
 use Rattle.conn_turns.specs.declared.answer.TurnFault.TheVariants as faults
 use Rattle.conn_loop.specs.Conn.{line_of}
-use Rattle.conn_loop.proofs.Exchanging.{on_ok_any, loss_cut, loss_answer, loss_goes, goes_still, agrees_same, only_sent, did_more, cut_as, cut_none}
 use Rattle.conn_loop.proofs.Working.{seen_same}
+use Rattle.conn_loop.proofs.Exchanging.{on_ok_any, at_err, loss_cut, loss_answer, loss_goes, goes_still, agrees_same, leaves_of, only_sent, did_more, cut_as, cut_none}
 use Rattle.conn_loop.proofs.conn.Conn.turn.Goals as goal
 
 pub returns-in_default-clause-cut : goal.returns-in_default-clause-cut
@@ -52,12 +53,26 @@ returns-then-not-works-clause-goes g c = λ e.
     goes_still c.moment-now.result c.args.self.now.end c.start.new.self.end c.send.new.self.end c.requires.goes c.moment-now.ensures.limit s.begun s.done s.untold s.moment s.config s.facts (s.little (cc)) t.keeps t.facts t.little
     t.goes (loss_goes c.start.new.self.end c.send.new.self.end c.send.result t.answer e)
 
-pub returns-then-not-works-clause-seen : goal.returns-then-not-works-clause-seen
-returns-then-not-works-clause-seen g c = λ _.
-    let facts = c.send.ensures.facts ∙ c.in-Ok.ensures.facts in
-    seen_same c.args.self.now.end c.send.new.self.end (known c.args.pass.now) (ap (λ (f : Facts). f.recorded.sent) facts) (ap (λ (f : Facts). f.recorded.finish) facts) c.requires.seen
+pub returns-then-not-works-clause-leaves : goal.returns-then-not-works-clause-leaves
+returns-then-not-works-clause-leaves g c =
+    let m = c.start.new.self.end in
+    let s = c.in-Ok.ensures in
+    let sent = ap (λ (f : Facts). f.recorded.sent) s.facts in
+    let seen = seen_same c.args.self.now.end m (known c.args.pass.now) sent (ap (λ (f : Facts). f.recorded.finish) s.facts) c.requires.seen in
+    let agrees = agrees_same c.args.self.now.end m c.args.inbox.now s.config s.most s.facts c.requires.agrees in
+    on_ok_any _ c.send.result
+    (leaves_of c.moment-now.result m c.send.new.self.end (known c.args.pass.now) c.args.inbox.now s.begun (omega (arith, s.moment)) c.moment-now.ensures.limit (omega (arith, sent, c.requires.goes.sent))
+    (omega (arith, ap (λ (x : EndConfig). length x.credentials) s.config, c.requires.goes.credentials)) seen agrees c.send.ensures.keeps c.send.ensures.facts)
 
-pub returns-then-not-works-clause-agrees : goal.returns-then-not-works-clause-agrees
-returns-then-not-works-clause-agrees g c = λ _.
-    agrees_same c.args.self.now.end c.send.new.self.end c.args.inbox.now (c.send.ensures.keeps.config ∙ c.in-Ok.ensures.config) (c.send.ensures.keeps.most ∙ c.in-Ok.ensures.most)
-    (c.send.ensures.facts ∙ c.in-Ok.ensures.facts) c.requires.agrees
+pub returns-then-not-works-clause-leaves_lost : goal.returns-then-not-works-clause-leaves_lost
+returns-then-not-works-clause-leaves_lost g c = λ _.
+    let m = c.start.new.self.end in
+    let s = c.in-Ok.ensures in
+    let sent = ap (λ (f : Facts). f.recorded.sent) s.facts in
+    let seen = seen_same c.args.self.now.end m (known c.args.pass.now) sent (ap (λ (f : Facts). f.recorded.finish) s.facts) c.requires.seen in
+    let agrees = agrees_same c.args.self.now.end m c.args.inbox.now s.config s.most s.facts c.requires.agrees in
+    leaves_of c.moment-now.result m c.send.new.self.end (known c.args.pass.now) c.args.inbox.now s.begun (omega (arith, s.moment)) c.moment-now.ensures.limit (omega (arith, sent, c.requires.goes.sent))
+    (omega (arith, ap (λ (x : EndConfig). length x.credentials) s.config, c.requires.goes.credentials)) seen agrees c.send.ensures.keeps c.send.ensures.facts
+
+pub returns-then-not-works-clause-ended_lost : goal.returns-then-not-works-clause-ended_lost
+returns-then-not-works-clause-ended_lost g c = λ e. at_err _ c.send.result faults.Link e c.send.ensures.ended
