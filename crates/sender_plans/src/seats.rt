@@ -8,13 +8,13 @@ ghost use Rattle.sender_plans.specs.Runs.{IsReady, plan_of, RanEach, IsLowest};
 ghost use Rattle.sender_plans.specs.Seats.{Seated, HasBehind};
 
 use crate::door::Door;
-use crate::plan::Plan;
 use crate::run::run_senders;
 use crate::sender::Sender;
 use gate_senders::{Gate, Kept};
 use gate_turn::{Pass, Passes};
 use jr_boxes::SubmitFault;
 use jr_record::Journal;
+use send_plans::Plan;
 use std::sync::Wait;
 use std::thread::Threads;
 
