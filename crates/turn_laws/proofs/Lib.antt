@@ -1,0 +1,3 @@
+pub mod Going
+pub mod Outbox
+pub mod Working
