@@ -1,3 +1,4 @@
 pub mod Going
 pub mod Outbox
 pub mod Working
+pub mod Running

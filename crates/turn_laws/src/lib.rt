@@ -3,6 +3,8 @@
 //! statement about the definitions that the loop's contract is written in.
 #![tactic(auto)]
 
+mod legs;
 mod turns;
 
+pub use legs::{refused_waits, turns_refused, turns_run, turns_serve};
 pub use turns::{cut_may_stand, turn_may_stand};
