@@ -2,3 +2,4 @@ pub mod Going
 pub mod Outbox
 pub mod Working
 pub mod Running
+pub mod Sent

@@ -42,17 +42,17 @@ seen_on before after old new (link_lost now) k = prefix_equal before.made after.
 seen_on before after old new (cut_short now received frames refused) k = absurd k
 seen_on before after old new not_begun k = absurd k
 
-all_seen : (before after : History) (old new : Line) (turns : List Turn) → AreTurns before after old new turns → IsPrefix before.made after.made
+pub all_seen : (before after : History) (old new : Line) (turns : List Turn) → AreTurns before after old new turns → IsPrefix before.made after.made
 all_seen before after old new [] a = prefix_equal before.made after.made (ap (λ (x : History). x.made) (sym a.1))
 all_seen before after old new (t ∷ later) a =
     prefix_trans before.made a.2.made after.made (seen_on before a.2 old a.1 t a.3) (all_seen a.2 after a.1 new later a.4)
 
 -- whole turns, one behind another
-record TurnsStand (h : List Entry) (c : Course) (new : Line) (turns : List Turn) : Type 0 where
-  may : AllMayStand h c (flat_map calls_of turns)
-  after : StandsAt h (course_after c (flat_map calls_of turns)) new
+pub record TurnsStand (h : List Entry) (c : Course) (new : Line) (turns : List Turn) : Type 0 where
+  pub may : AllMayStand h c (flat_map calls_of turns)
+  pub after : StandsAt h (course_after c (flat_map calls_of turns)) new
 
-turns_stand : (h : List Entry) (before after : History) (old new : Line) (turns : List Turn) (c : Course) → StandsAt h c old → Has h after → AreTurns before after old new turns → TurnsStand h c new turns
+pub turns_stand : (h : List Entry) (before after : History) (old new : Line) (turns : List Turn) (c : Course) → StandsAt h c old → Has h after → AreTurns before after old new turns → TurnsStand h c new turns
 turns_stand h before after old new [] c s has a = record { may = tt; after = subst (λ (l : Line). StandsAt h c l) (sym a.0) s }
 turns_stand h before after old new (t ∷ later) c s has a =
     let mid : Line = a.1 in
@@ -66,15 +66,15 @@ turns_stand h before after old new (t ∷ later) c s has a =
       after = subst (λ (e : Course). StandsAt h e new) (sym (after_append c (calls_of t) (flat_map calls_of later))) y.after;
     }
 
-cut_stands : (h : List Entry) (c : Course) (l : Line) (cut : Option Turn) → StandsAt h c l → IfSome cut (IsCut l) → AllMayStand h c (flat_map calls_of (option_to_list cut))
+pub cut_stands : (h : List Entry) (c : Course) (l : Line) (cut : Option Turn) → StandsAt h c l → IfSome cut (IsCut l) → AllMayStand h c (flat_map calls_of (option_to_list cut))
 cut_stands h c l None s k = tt
 cut_stands h c l (Some t) s k = subst (λ (cs : List Call). AllMayStand h c cs) (sym (append-nil (calls_of t))) (cut_may_stand h l t c s k)
 
-begin_stands : (h : List Entry) (s : State) (inbox : List InboxRecord) (now : ℕ) → s.facts.recorded.inbox_next ≡ next_number inbox → s.facts.recorded.sent ≤ length h
+pub begin_stands : (h : List Entry) (s : State) (inbox : List InboxRecord) (now : ℕ) → s.facts.recorded.inbox_next ≡ next_number inbox → s.facts.recorded.sent ≤ length h
     → StandsAt h (beginning s inbox now) (first_line s now)
 begin_stands h s inbox now awaits enough = record { stands = connection_begins h s inbox now awaits enough; machine = refl; done = refl }
 
-leg_stands : (h : List Entry) (s : State) (inbox : List InboxRecord) (t : TurnedLeg) → s.facts.recorded.inbox_next ≡ next_number inbox → s.facts.recorded.sent ≤ length h → AreTurnsOf h s t
+pub leg_stands : (h : List Entry) (s : State) (inbox : List InboxRecord) (t : TurnedLeg) → s.facts.recorded.inbox_next ≡ next_number inbox → s.facts.recorded.sent ≤ length h → AreTurnsOf h s t
     → AllMayStand h (beginning s inbox t.moment) (calls_on t)
 leg_stands h s inbox t awaits enough k =
     let c : Course = beginning s inbox t.moment in
@@ -84,7 +84,7 @@ leg_stands h s inbox t awaits enough k =
     (cut_stands h (course_after c (flat_map calls_of t.turns)) k.last t.cut x.after k.cut))
 
 -- the frames held whole are the first of them; all, where there are bytes enough
-whole_first : (count : ℕ) (ps : List Piece) → IsPrefix (whole_in count ps) ps
+pub whole_first : (count : ℕ) (ps : List Piece) → IsPrefix (whole_in count ps) ps
 whole_first count [] = ([], refl)
 whole_first count (p ∷ later) = by_test (nat_lt count (length (bytes_of_piece p))) (whole_first (count - length (bytes_of_piece p)) later)
   where

@@ -1,10 +1,11 @@
 -- A connection that is a list of turns, as one of a life of the machine.
 use Rattle.std.specs.Prelude.{◌≡◌, ℕ, ◌-◌, ◌≤◌, ◌&&◌, Bool, true, false, not, nat_lt, is_none, if◌then◌else◌, List, [], ◌∷◌, ◌++◌, length, Option, Some, None, IfSome, option_to_list}
 use Rattle.std.specs.List.{flat_map}
+use mathlib.Core.List.{IsPrefix}
 use Rattle.session_model.specs.Journal.{Entry, History}
 use Rattle.session_model.specs.Inbox.{InboxRecord, next_number}
 use Rattle.fixp_replies.specs.Acts.{is_record}
-use Rattle.reply_laws.specs.Machine.{State, Call, connected}
+use Rattle.reply_laws.specs.Machine.{State, Call, connected, taken, link_end, run}
 use Rattle.conn_turns.specs.Lines.{Line, TakenFrame, reply_at, lines_after}
 use Rattle.conn_turns.specs.Turns.{Turn, only_sends, works, link_lost, cut_short, not_begun, calls_of}
 use Rattle.connection_laws.specs.Writing.{Piece, bytes_of_piece, bytes_written}
@@ -88,3 +89,18 @@ RefusedWaits = (h : List Entry) (old : Line) (c : Course) (now : ℕ) (received 
     → StandsAt h c old → (k : IsCutShort now received frames (Some t) old)
     → is_record (reply_at now (lines_after now (line_received old now received k.over) frames) t).act ≡ true
     → (course_after c (calls_of (cut_short now received frames (Some t)))).waiting ≡ Some (record { incoming = t.incoming; at = t.at; moment = now })
+
+-- the bytes that the link took in its turns are the first of those written on it, and those of the frames that it took whole are the
+-- first of these
+pub record IsSent (c : Course) (sent : List ℕ) (frames : List Piece) : Type 0 where
+  pub written : IsPrefix sent (bytes_written c.output)
+  pub whole : IsPrefix (bytes_written frames) sent
+
+abbrev pub SentAreWritten : Type 0
+SentAreWritten = (h : List Entry) (s : State) (inbox : List InboxRecord) (t : TurnedLeg)
+    → s.facts.recorded.inbox_next ≡ next_number inbox → s.facts.recorded.sent ≤ length h → AreTurnsOf h s t
+    → IsSent (course_on s inbox t) (sent_on t) (leg_of s inbox t).whole
+
+-- a connection that was given up drops what is unsent, and its link ends; the next one begins as it would behind its turns
+abbrev pub GivenUpBegins : Type 0
+GivenUpBegins = (s : State) (inbox : List InboxRecord) (now : ℕ) → beginning (run s (taken (length s.unsent) ∷ link_end ∷ [])) inbox now ≡ beginning s inbox now

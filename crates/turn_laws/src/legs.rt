@@ -1,6 +1,6 @@
 //! Connections that are lists of turns, and lives of them.
 
-ghost use Rattle.turn_laws.specs.Legs.{TurnsRun, RefusedWaits};
+ghost use Rattle.turn_laws.specs.Legs.{TurnsRun, RefusedWaits, SentAreWritten, GivenUpBegins};
 ghost use Rattle.turn_laws.specs.Lives.{TurnsServe, TurnsRefused};
 
 /// A connection that is a list of turns may run, with the frames that the link took whole.
@@ -21,4 +21,15 @@ pub fn turns_serve()
 /// So does one on whose last connection the append of a record failed.
 pub fn turns_refused()
     ensures law { TurnsRefused }
+{}
+
+/// The bytes that the link took in the turns of a connection are the first of those written on it, and those of the frames that
+/// it took whole are the first of these.
+pub fn sent_are_written()
+    ensures law { SentAreWritten }
+{}
+
+/// A connection that begins behind one that was given up begins as it would behind its turns.
+pub fn given_up_begins()
+    ensures law { GivenUpBegins }
 {}

@@ -6,5 +6,7 @@
 mod legs;
 mod turns;
 
-pub use legs::{refused_waits, turns_refused, turns_run, turns_serve};
+pub use legs::{
+    given_up_begins, refused_waits, sent_are_written, turns_refused, turns_run, turns_serve,
+};
 pub use turns::{cut_may_stand, turn_may_stand};
