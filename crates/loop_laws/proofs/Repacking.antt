@@ -1,0 +1,34 @@
+-- The parts of a turn, as the loop has them, are those of the laws.
+use Rattle.std.proofs.Common.{◌≡◌, inl, inr, ℕ, [], sym, subst}
+use Rattle.std.specs.Prelude.{◌||◌}
+use Rattle.session_model.specs.Journal.{History}
+use Rattle.jr_record.specs.declared.journal.Journal.{Ghosts}
+use Rattle.jr_boxes.specs.declared.inbox.Inbox.{Inbox}
+use Rattle.conn_turns.specs.Lines.{Line}
+use Rattle.conn_turns.specs.Turns.{Work, Turn, only_sends, works, link_lost, cut_short, is_end}
+use Rattle.conn_turns.specs.Exact.{Served, line_ticked}
+use Rattle.conn_loop.specs.Turned.{Exchanged}
+use Rattle.turn_laws.specs.Turns.{Sends, Works, line_received, IsTurn}
+use Rattle.loop_laws.specs.Turned.{TurnIsOne, CutIsOne}
+
+-- a work's moment is the turn's
+work_is_one : (now : ℕ) (before seen : History) (old new behind : Line) (w : Work) → w.now ≡ now → Served before seen (line_received old now w.received (old.over || is_end w.got)) behind w
+    → Sends w.sent w.lost behind new → Works before seen old new w
+work_is_one now before seen old new behind w at served sends = record {
+  behind = behind;
+  served = subst (λ (n : ℕ). Served before seen (line_received old n w.received (old.over || is_end w.got)) behind w) (sym at) served;
+  sends = sends;
+}
+
+module _ {J : Type 0} {G : Ghosts J} where
+  pub turn_is_one : (box since : Inbox J G) → TurnIsOne box since
+  turn_is_one box since now eager told_before later carried after before seen old new newer (inl x) =
+      (only_sends now x.sent.sent x.sent.lost, (record { front = x.sent.front; line = x.sent.line }, x.same_seen))
+  turn_is_one box since now eager told_before later carried after before seen old new newer (inr x) = by_kind x.exchanged
+    where
+      by_kind : Exchanged now eager told_before later carried after before seen (line_ticked old now) new box since [] newer → (t : Turn) × IsTurn before seen old new t
+      by_kind (inl w) = (works w.work, work_is_one now before seen old new w.behind w.work w.at w.served (record { front = w.front; line = w.line }))
+      by_kind (inr l) = (link_lost now, (l.line, l.same_seen))
+
+  pub cut_is_one : (box since : Inbox J G) → CutIsOne box since
+  cut_is_one box since now old newer fault k = (cut_short now k.received k.cut.frames k.cut.refused, record { over = k.over; taken = k.cut.taken; next = k.cut.next })

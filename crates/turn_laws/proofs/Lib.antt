@@ -1,0 +1,5 @@
+pub mod Going
+pub mod Outbox
+pub mod Working
+pub mod Running
+pub mod Sent

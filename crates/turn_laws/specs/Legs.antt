@@ -1,0 +1,106 @@
+-- A connection that is a list of turns, as one of a life of the machine.
+use Rattle.std.specs.Prelude.{◌≡◌, ℕ, ◌-◌, ◌≤◌, ◌&&◌, Bool, true, false, not, nat_lt, is_none, if◌then◌else◌, List, [], ◌∷◌, ◌++◌, length, Option, Some, None, IfSome, option_to_list}
+use Rattle.std.specs.List.{flat_map}
+use mathlib.Core.List.{IsPrefix}
+use Rattle.session_model.specs.Journal.{Entry, History}
+use Rattle.session_model.specs.Inbox.{InboxRecord, next_number}
+use Rattle.fixp_replies.specs.Acts.{is_record}
+use Rattle.reply_laws.specs.Machine.{State, Call, connected, taken, link_end, run}
+use Rattle.conn_turns.specs.Lines.{Line, TakenFrame, reply_at, lines_after}
+use Rattle.conn_turns.specs.Turns.{Turn, only_sends, works, link_lost, cut_short, not_begun, calls_of}
+use Rattle.connection_laws.specs.Writing.{Piece, bytes_of_piece, bytes_written}
+use Rattle.connection_laws.specs.Courses.{Course, beginning, course_after}
+use Rattle.connection_laws.specs.Living.{Leg, MayRun}
+use Rattle.turn_laws.specs.Turns.{line_received, IsTurn, IsCutShort, IsCut}
+use Rattle.turn_laws.specs.Standing.{StandsAt, Has}
+
+-- whole turns, one behind another: each is made of an open connection, and leaves the line and what was seen where the next finds them
+abbrev pub AreTurns : (before after : History) (old new : Line) → List Turn → Type 0
+AreTurns before after old new [] = (new ≡ old) × (after ≡ before)
+AreTurns before after old new (t ∷ later) =
+    (old.machine.ending ≡ None) × (mid : Line) × (between : History) × IsTurn before between old mid t × AreTurns between after mid new later
+
+-- a connection of a life: the moment of its beginning, its whole turns, and the one behind them that was cut short, if one was
+pub record TurnedLeg : Type 0 where
+  pub moment : ℕ
+  pub turns : List Turn
+  pub cut : Option Turn
+
+abbrev pub all_turns : TurnedLeg → List Turn
+all_turns t = t.turns ++ option_to_list t.cut
+
+abbrev pub calls_on : TurnedLeg → List Call
+calls_on t = flat_map calls_of (all_turns t)
+
+-- the line of a connection that begins in this state
+abbrev pub first_line : State → ℕ → Line
+first_line s now = record { machine = connected s now; held = []; place = 0; over = false }
+
+-- it is so, over an outbox that begins with all that was seen
+pub record AreTurnsOf (h : List Entry) (s : State) (t : TurnedLeg) : Type 0 where
+  pub before : History
+  pub after : History
+  pub last : Line
+  pub turns : AreTurns before after (first_line s t.moment) last t.turns
+  pub cut : IfSome t.cut (IsCut last)
+  pub has : Has h after
+
+-- the bytes that the link took in a turn
+abbrev pub sent_in : Turn → List ℕ
+sent_in (only_sends now sent lost) = sent
+sent_in (works w) = w.sent
+sent_in (link_lost now) = []
+sent_in (cut_short now received frames refused) = []
+sent_in not_begun = []
+
+abbrev pub sent_on : TurnedLeg → List ℕ
+sent_on t = flat_map sent_in (all_turns t)
+
+-- the first of some frames, as many as so many bytes hold whole
+abbrev pub whole_in : ℕ → List Piece → List Piece
+whole_in count [] = []
+whole_in count (p ∷ later) = if nat_lt count (length (bytes_of_piece p)) then [] else p ∷ whole_in (count - length (bytes_of_piece p)) later
+
+-- the link took all that was written, and the connection has not ended
+abbrev pub is_drained : Course → List ℕ → Bool
+is_drained c sent = is_none c.state.ending && not (nat_lt (length sent) (length (bytes_written c.output)))
+
+abbrev pub course_on : State → List InboxRecord → TurnedLeg → Course
+course_on s inbox t = course_after (beginning s inbox t.moment) (calls_on t)
+
+-- as a connection of a life of the machine: its calls, and the frames that the link took whole
+abbrev pub leg_of : State → List InboxRecord → TurnedLeg → Leg
+leg_of s inbox t = record {
+  moment = t.moment;
+  calls = calls_on t;
+  whole = whole_in (length (sent_on t)) (course_on s inbox t).output;
+  drained = is_drained (course_on s inbox t) (sent_on t);
+}
+
+-- such a connection may run, where the end awaits the inbox's next number and has sent no more than the outbox has
+abbrev pub TurnsRun : Type 0
+TurnsRun = (h : List Entry) (s : State) (inbox : List InboxRecord) (t : TurnedLeg)
+    → s.facts.recorded.inbox_next ≡ next_number inbox → s.facts.recorded.sent ≤ length h → AreTurnsOf h s t
+    → MayRun h s inbox (leg_of s inbox t)
+
+-- behind a turn that was cut short at a frame whose act is a record, that frame waits for its act
+abbrev pub RefusedWaits : Type 0
+RefusedWaits = (h : List Entry) (old : Line) (c : Course) (now : ℕ) (received : List ℕ) (frames : List TakenFrame) (t : TakenFrame)
+    → StandsAt h c old → (k : IsCutShort now received frames (Some t) old)
+    → is_record (reply_at now (lines_after now (line_received old now received k.over) frames) t).act ≡ true
+    → (course_after c (calls_of (cut_short now received frames (Some t)))).waiting ≡ Some (record { incoming = t.incoming; at = t.at; moment = now })
+
+-- the bytes that the link took in its turns are the first of those written on it, and those of the frames that it took whole are the
+-- first of these
+pub record IsSent (c : Course) (sent : List ℕ) (frames : List Piece) : Type 0 where
+  pub written : IsPrefix sent (bytes_written c.output)
+  pub whole : IsPrefix (bytes_written frames) sent
+
+abbrev pub SentAreWritten : Type 0
+SentAreWritten = (h : List Entry) (s : State) (inbox : List InboxRecord) (t : TurnedLeg)
+    → s.facts.recorded.inbox_next ≡ next_number inbox → s.facts.recorded.sent ≤ length h → AreTurnsOf h s t
+    → IsSent (course_on s inbox t) (sent_on t) (leg_of s inbox t).whole
+
+-- a connection that was given up drops what is unsent, and its link ends; the next one begins as it would behind its turns
+abbrev pub GivenUpBegins : Type 0
+GivenUpBegins = (s : State) (inbox : List InboxRecord) (now : ℕ) → beginning (run s (taken (length s.unsent) ∷ link_end ∷ [])) inbox now ≡ beginning s inbox now

@@ -1,0 +1,42 @@
+-- A life whose connections are lists of turns keeps on them what the session model asks of it.
+use Rattle.std.specs.Prelude.{◌≡◌, ⊤, List, [], ◌∷◌, Some}
+use Rattle.session_model.specs.Journal.{Entry}
+use Rattle.session_model.specs.Inbox.{InboxRecord}
+use Rattle.session_model.specs.Lives.{served_on, KeepsConnections}
+use Rattle.reply_laws.specs.Machine.{State}
+use Rattle.growth_laws.specs.Accepting.{model_flow}
+use Rattle.connection_laws.specs.Courses.{Waiting, inbox_of}
+use Rattle.connection_laws.specs.Connections.{refused_by}
+use Rattle.connection_laws.specs.Living.{Leg, state_behind, inbox_behind, life_on, Opens}
+use Rattle.turn_laws.specs.Legs.{TurnedLeg, AreTurnsOf, course_on, leg_of}
+
+-- connections one behind another, each of which begins where the one before has left the machine and the inbox
+abbrev pub AllAreTurns : List Entry → State → List InboxRecord → List TurnedLeg → Type 0
+AllAreTurns h s inbox [] = ⊤
+AllAreTurns h s inbox (t ∷ later) = AreTurnsOf h s t × AllAreTurns h (course_on s inbox t).state (inbox_of (course_on s inbox t)) later
+
+abbrev pub legs_of : State → List InboxRecord → List TurnedLeg → List Leg
+legs_of s inbox [] = []
+legs_of s inbox (t ∷ later) = leg_of s inbox t ∷ legs_of (course_on s inbox t).state (inbox_of (course_on s inbox t)) later
+
+abbrev pub TurnsServe : Type 0
+TurnsServe = (opened h : List Entry) (s : State) (inbox : List InboxRecord) (legs : List TurnedLeg)
+    → Opens opened h s inbox → AllAreTurns h s inbox legs
+    → KeepsConnections (model_flow s.config.own_flow) (model_flow s.config.peer_flow) opened h (life_on s inbox (legs_of s inbox legs))
+
+-- the state and the inbox behind them
+abbrev pub state_after : State → List InboxRecord → List TurnedLeg → State
+state_after s inbox legs = state_behind s inbox (legs_of s inbox legs)
+
+abbrev pub inbox_after : State → List InboxRecord → List TurnedLeg → List InboxRecord
+inbox_after s inbox legs = inbox_behind s inbox (legs_of s inbox legs)
+
+-- and so where on a last one a frame waits for its act, the append of whose records failed
+abbrev pub TurnsRefused : Type 0
+TurnsRefused = (opened h : List Entry) (s : State) (inbox : List InboxRecord) (legs : List TurnedLeg) (last : TurnedLeg) (w : Waiting)
+    → Opens opened h s inbox → AllAreTurns h s inbox legs → AreTurnsOf h (state_after s inbox legs) last
+    → (course_on (state_after s inbox legs) (inbox_after s inbox legs) last).waiting ≡ Some w
+    → KeepsConnections (model_flow s.config.own_flow) (model_flow s.config.peer_flow) opened h
+    (served_on (life_on s inbox (legs_of s inbox legs))
+    (refused_by (course_on (state_after s inbox legs) (inbox_after s inbox legs) last) w
+    (leg_of (state_after s inbox legs) (inbox_after s inbox legs) last).whole (leg_of (state_after s inbox legs) (inbox_after s inbox legs) last).drained))

@@ -1,0 +1,33 @@
+-- Each call of a turn may come where it came, in the words of the laws over connections.
+use Rattle.std.specs.Prelude.{◌≡◌, ◌^◌, ◌<◌, List, length, None}
+use mathlib.Core.List.{IsPrefix}
+use Rattle.session_model.specs.Journal.{Entry, History}
+use Rattle.conn_turns.specs.Lines.{Line}
+use Rattle.conn_turns.specs.Turns.{Turn, calls_of}
+use Rattle.connection_laws.specs.Courses.{Course, course_after}
+use Rattle.connection_laws.specs.Standing.{Stands, AllMayStand}
+use Rattle.turn_laws.specs.Turns.{IsTurn, IsCut}
+
+-- a connection stands where the line of a turn is, with no act to be done
+pub record StandsAt (h : List Entry) (c : Course) (l : Line) : Type 0 where
+  pub stands : Stands h c
+  pub machine : c.state ≡ l.machine
+  pub done : l.machine.pending ≡ None
+
+-- the outbox has these entries, of which there are less than 2^40, and begins with those that were seen
+pub record Has (h : List Entry) (seen : History) : Type 0 where
+  pub begins : IsPrefix seen.made h
+  pub few : length h < 2 ^ 40
+
+-- each call of a whole turn may come where it came, and the connection stands again where the turn left the line
+pub record TurnStands (h : List Entry) (c : Course) (new : Line) (t : Turn) : Type 0 where
+  pub may : AllMayStand h c (calls_of t)
+  pub after : StandsAt h (course_after c (calls_of t)) new
+
+abbrev pub TurnMayStand : Type 0
+TurnMayStand = (h : List Entry) (before after : History) (old new : Line) (t : Turn) (c : Course)
+    → StandsAt h c old → Has h after → IsTurn before after old new t → TurnStands h c new t
+
+-- and each call of one that was cut short
+abbrev pub CutMayStand : Type 0
+CutMayStand = (h : List Entry) (old : Line) (t : Turn) (c : Course) → StandsAt h c old → IsCut old t → AllMayStand h c (calls_of t)

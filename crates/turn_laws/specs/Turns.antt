@@ -1,0 +1,44 @@
+-- What a turn made of a line, as far as the machine, the bytes held and what was seen of the outbox go (this project's profile).
+use Rattle.std.specs.Prelude.{◌≡◌, ℕ, ◌||◌, Bool, List, [], ◌∷◌, ◌++◌, Option, IfSome}
+use mathlib.Core.List.{IsPrefix}
+use Rattle.session_model.specs.Journal.{History}
+use Rattle.reply_laws.specs.Machine.{link_end, run}
+use Rattle.conn_turns.specs.Lines.{Line, TakenFrame, IsNext, AreTaken, lines_after}
+use Rattle.conn_turns.specs.Turns.{Work, Turn, only_sends, works, link_lost, cut_short, not_begun, sending_calls, is_end}
+use Rattle.conn_turns.specs.Exact.{Served, line_ticked}
+
+-- a front of what was unsent was sent
+pub record Sends (sent : List ℕ) (lost : Bool) (old new : Line) : Type 0 where
+  pub front : IsPrefix sent old.machine.unsent
+  pub line : new ≡ record old { machine = run old.machine (sending_calls sent lost) }
+
+-- the line behind a tick, with bytes that were received behind those held
+abbrev pub line_received : Line → ℕ → List ℕ → (over : Bool) → Line
+line_received old now received over = record (line_ticked old now) { held = old.held ++ received; over = over }
+
+-- behind its tick a turn received, served the frames and the outbox, and sent
+pub record Works (before after : History) (old new : Line) (w : Work) : Type 0 where
+  pub behind : Line
+  pub served : Served before after (line_received old w.now w.received (old.over || is_end w.got)) behind w
+  pub sends : Sends w.sent w.lost behind new
+
+-- a whole turn: it only sent, it worked, or its link failed as it received. What was seen of the outbox changes by its work alone
+abbrev pub IsTurn : (before after : History) (old new : Line) → Turn → Type 0
+IsTurn before after old new (only_sends now sent lost) = Sends sent lost (line_ticked old now) new × (after ≡ before)
+IsTurn before after old new (works w) = Works before after old new w
+IsTurn before after old new (link_lost now) = (new ≡ record (line_ticked old now) { machine = run (line_ticked old now).machine (link_end ∷ []) }) × (after ≡ before)
+IsTurn before after old new (cut_short now received frames refused) = ⊥
+IsTurn before after old new not_begun = ⊥
+
+-- a turn was cut short behind frames, and behind them the one whose act was refused, if one was
+pub record IsCutShort (now : ℕ) (received : List ℕ) (frames : List TakenFrame) (refused : Option TakenFrame) (old : Line) : Type 0 where
+  pub over : Bool
+  pub taken : AreTaken now (line_received old now received over) frames
+  pub next : IfSome refused (IsNext (lines_after now (line_received old now received over) frames))
+
+abbrev pub IsCut : Line → Turn → Type 0
+IsCut old (only_sends now sent lost) = ⊥
+IsCut old (works w) = ⊥
+IsCut old (link_lost now) = ⊥
+IsCut old (cut_short now received frames refused) = IsCutShort now received frames refused old
+IsCut old not_begun = ⊥

@@ -1,0 +1,35 @@
+//! Connections that are lists of turns, and lives of them.
+
+ghost use Rattle.turn_laws.specs.Legs.{TurnsRun, RefusedWaits, SentAreWritten, GivenUpBegins};
+ghost use Rattle.turn_laws.specs.Lives.{TurnsServe, TurnsRefused};
+
+/// A connection that is a list of turns may run, with the frames that the link took whole.
+pub fn turns_run()
+    ensures law { TurnsRun }
+{}
+
+/// Behind a turn that was cut short at a frame whose act is a record, that frame waits for its act.
+pub fn refused_waits()
+    ensures law { RefusedWaits }
+{}
+
+/// A life whose connections are lists of turns keeps on them what the session model asks of it.
+pub fn turns_serve()
+    ensures law { TurnsServe }
+{}
+
+/// So does one on whose last connection the append of a record failed.
+pub fn turns_refused()
+    ensures law { TurnsRefused }
+{}
+
+/// The bytes that the link took in the turns of a connection are the first of those written on it, and those of the frames that
+/// it took whole are the first of these.
+pub fn sent_are_written()
+    ensures law { SentAreWritten }
+{}
+
+/// A connection that begins behind one that was given up begins as it would behind its turns.
+pub fn given_up_begins()
+    ensures law { GivenUpBegins }
+{}

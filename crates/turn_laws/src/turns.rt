@@ -1,0 +1,13 @@
+//! The calls of one turn.
+
+ghost use Rattle.turn_laws.specs.Standing.{TurnMayStand, CutMayStand};
+
+/// Each call of a whole turn may come where it came, and the connection stands again where the turn left the line.
+pub fn turn_may_stand()
+    ensures law { TurnMayStand }
+{}
+
+/// So may each call of a turn that was cut short, up to that of the frame whose act was refused.
+pub fn cut_may_stand()
+    ensures law { CutMayStand }
+{}
