@@ -1,0 +1,7 @@
+//! Laws of a link: what one end accepts on a connection is of what the other wrote on it, since the bytes that it read are a
+//! beginning of those that the other wrote. Each function has an empty body; its clause is a statement about the definitions.
+#![tactic(auto)]
+
+mod reading;
+
+pub use reading::{event_is_carried, written_is_read};
