@@ -3,5 +3,7 @@
 #![tactic(auto)]
 
 mod reading;
+mod refusing;
 
 pub use reading::{event_is_carried, written_is_read};
+pub use refusing::{closing_is_deaf, nothing_more, refusal_ends};
