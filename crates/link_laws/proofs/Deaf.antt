@@ -38,7 +38,7 @@ abbrev Over : State → Made → Type 0
 Over s m = IsSome s.ending ⊎ (is_closing m.next.connection.phase ≡ true)
 
 -- what an end that is deaf does at each call leaves it so
-deaf_step : (h : List Entry) (s : State) (call : Call) → IsDeaf s → MayStand h s call → IsDeaf (step s call)
+pub deaf_step : (h : List Entry) (s : State) (call : Call) → IsDeaf s → MayStand h s call → IsDeaf (step s call)
 deaf_step h s (begin now) d may = absurd may.comes
 deaf_step h s (frame incoming at now) d may = by_record (is_record o.act) passes.unrecorded
   where
@@ -115,7 +115,7 @@ deaf_step h s (taken count) d may = record { done = d.done; over = d.over }
 deaf_step h s reserve d may = record { done = d.done; over = d.over }
 
 -- and nothing is accepted at it
-none_accepted : (h : List Entry) (c : Course) (call : Call) → IsDeaf c.state → MayStand h c.state call → (next_course c call).accepted ≡ c.accepted
+pub none_accepted : (h : List Entry) (c : Course) (call : Call) → IsDeaf c.state → MayStand h c.state call → (next_course c call).accepted ≡ c.accepted
 none_accepted h c (begin now) d may = absurd may.comes
 none_accepted h c (frame incoming at now) d may = by_record (is_record o.act) passes.unrecorded
   where

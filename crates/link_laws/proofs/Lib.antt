@@ -1,3 +1,4 @@
 pub mod Cutting
 pub mod Refused
 pub mod Deaf
+pub mod Heard

@@ -2,8 +2,10 @@
 //! beginning of those that the other wrote. Each function has an empty body; its clause is a statement about the definitions.
 #![tactic(auto)]
 
+mod hearing;
 mod reading;
 mod refusing;
 
+pub use hearing::linked_bytes;
 pub use reading::{event_is_carried, written_is_read};
 pub use refusing::{closing_is_deaf, nothing_more, refusal_ends};
