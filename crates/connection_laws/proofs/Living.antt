@@ -26,14 +26,14 @@ use Rattle.connection_laws.proofs.Going.{calls_keep, connection_begins}
 use Rattle.connection_laws.proofs.Lived.{connection_kept, refused_kept, writing_goes_on, part_is_written}
 
 -- one connection that ran
-record Ran (opened h : List Entry) (s : State) (inbox : List InboxRecord) (leg : Leg) : Type 0 where
-  stands : Stands h (course_of s inbox leg)
-  config : (course_of s inbox leg).state.config ≡ s.config
-  start : (course_of s inbox leg).start ≡ inbox
-  sent_before : (course_of s inbox leg).sent_before ≡ s.facts.recorded.sent
-  next : Opens opened h (course_of s inbox leg).state (inbox_of (course_of s inbox leg))
+pub record Ran (opened h : List Entry) (s : State) (inbox : List InboxRecord) (leg : Leg) : Type 0 where
+  pub stands : Stands h (course_of s inbox leg)
+  pub config : (course_of s inbox leg).state.config ≡ s.config
+  pub start : (course_of s inbox leg).start ≡ inbox
+  pub sent_before : (course_of s inbox leg).sent_before ≡ s.facts.recorded.sent
+  pub next : Opens opened h (course_of s inbox leg).state (inbox_of (course_of s inbox leg))
 
-ran : (opened h : List Entry) (s : State) (inbox : List InboxRecord) (leg : Leg) → Opens opened h s inbox → MayRun h s inbox leg → Ran opened h s inbox leg
+pub ran : (opened h : List Entry) (s : State) (inbox : List InboxRecord) (leg : Leg) → Opens opened h s inbox → MayRun h s inbox leg → Ran opened h s inbox leg
 ran opened h s inbox leg o may =
     let c : Course = beginning s inbox leg.moment in
     let d : Course = course_of s inbox leg in
@@ -137,11 +137,11 @@ life_serves opened h s inbox (leg ∷ later) o all =
     (all_write opened h s inbox (leg ∷ later) [] o all (nothing_written own opened (sent_part own s.facts.recorded.sent h))))
 
 -- where a life has come to on some connections
-record Behind (opened h : List Entry) (s : State) (inbox : List InboxRecord) (legs : List Leg) : Type 0 where
-  config : (state_behind s inbox legs).config ≡ s.config
-  opens : Opens opened h (state_behind s inbox legs) (inbox_behind s inbox legs)
+pub record Behind (opened h : List Entry) (s : State) (inbox : List InboxRecord) (legs : List Leg) : Type 0 where
+  pub config : (state_behind s inbox legs).config ≡ s.config
+  pub opens : Opens opened h (state_behind s inbox legs) (inbox_behind s inbox legs)
 
-behind : (opened h : List Entry) (s : State) (inbox : List InboxRecord) (legs : List Leg) → Opens opened h s inbox → AllMayRun h s inbox legs → Behind opened h s inbox legs
+pub behind : (opened h : List Entry) (s : State) (inbox : List InboxRecord) (legs : List Leg) → Opens opened h s inbox → AllMayRun h s inbox legs → Behind opened h s inbox legs
 behind opened h s inbox [] o all = record { config = refl; opens = o }
 behind opened h s inbox (leg ∷ later) o all =
     let r = ran opened h s inbox leg o all.0 in

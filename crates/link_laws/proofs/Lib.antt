@@ -2,3 +2,4 @@ pub mod Cutting
 pub mod Refused
 pub mod Deaf
 pub mod Heard
+pub mod Sessions

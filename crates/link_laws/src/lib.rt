@@ -3,9 +3,11 @@
 #![tactic(auto)]
 
 mod hearing;
+mod meeting;
 mod reading;
 mod refusing;
 
 pub use hearing::linked_bytes;
+pub use meeting::{links_hold, session_of_ends};
 pub use reading::{event_is_carried, written_is_read};
 pub use refusing::{closing_is_deaf, nothing_more, refusal_ends};
