@@ -5,7 +5,7 @@ use Rattle.std.specs.List.{AllZip}
 use Rattle.sbe_prim.specs.declared.Order.{Order}
 use Rattle.sbe_prim.specs.declared.Order.TheVariants.{Little}
 use Rattle.sofh_frame.specs.Framing.{Frame, IsFrame, IsBytes, spelled, First, frame, rest, bad_length, bad_encoding, first_of}
-use Rattle.sofh_frame.specs.Splits.{IsNoFrame}
+use Rattle.sofh_frame.specs.Splits.{IsNoFrame, frames_of}
 use Rattle.sofh_frame.proofs.FramingLemmas.{begins-frame, frame-begins}
 use Rattle.sofh_frame.proofs.SplitLemmas.{length-spelled, drop-spelled, frames_of-front, frames_of-none}
 use Rattle.fixp_msgs.specs.declared.frames.FrameKind.TheVariants.{App, Session}
@@ -21,7 +21,7 @@ use Rattle.fixp_replies.specs.Incoming.{Incoming, application, session, wrong_or
 use Rattle.connection_laws.specs.Writing.{Piece, said, entry, bytes_of_piece, bytes_written}
 use Rattle.connection_laws.specs.Framed.{IsLegalPiece}
 use Rattle.connection_laws.proofs.Framing.{is_session, frame_of_message, frame_of_entry}
-use Rattle.link_laws.specs.Reading.{ReadsAs, AreRead, WrittenIsRead, EventIsCarried}
+use Rattle.link_laws.specs.Reading.{ReadsAs, AreRead, WrittenIsRead, AllIsRead, EventIsCarried}
 
 -- a session message that is spelled is no other incoming message
 session_only : (order : Order) (message : List ℕ) (m : Message) → kind_of order message ≡ Session → Spells message m → (i : Incoming) → IsIncoming order message i → i ≡ session m
@@ -132,6 +132,13 @@ written_is_read (p ∷ later) bytes legal are_bytes begins =
         let are : IsBytes behind = subst IsBytes (drop-spelled f behind) (All-drop (λ b. b < 256) (6 + length f.message) (spelled f ++ behind) (subst IsBytes (sym e) are_bytes)) in
         subst (λ bs. (read : List Piece) × AreRead (p ∷ later) bs read) e (reads_on p later f behind here.admissible here.reads (reads behind are goes))
     by_cut reads (short missing e some) = reads_none (p ∷ later) bytes (less_than_frame f bytes missing here.admissible are_bytes e some)
+
+pub all_is_read : AllIsRead
+all_is_read [] legal = subst (λ fs. AllZip ReadsAs [] fs) (sym (frames_of-none [] tt)) tt
+all_is_read (p ∷ later) legal =
+    let here : HasFrame p = has_frame p legal.0 in
+    subst (λ bs. AllZip ReadsAs (p ∷ later) (frames_of (bs ++ bytes_written later))) here.reads.bytes
+    (subst (λ fs. AllZip ReadsAs (p ∷ later) fs) (sym (frames_of-front here.frame (bytes_written later) here.admissible)) (here.reads, all_is_read later legal.1))
 
 pub event_is_carried : EventIsCarried
 event_is_carried (said m) = refl

@@ -31,6 +31,10 @@ abbrev pub WrittenIsRead : Type 0
 WrittenIsRead = (pieces : List Piece) (bytes : List ℕ) → AllByRecursion IsLegalPiece pieces → IsBytes bytes → IsPrefix bytes (bytes_written pieces)
     → (read : List Piece) × AreRead pieces bytes read
 
+-- and all of what was written is read as all of its frames
+abbrev pub AllIsRead : Type 0
+AllIsRead = (pieces : List Piece) → AllByRecursion IsLegalPiece pieces → AllZip ReadsAs pieces (frames_of (bytes_written pieces))
+
 -- what a frame is to its reader has the event that its writer gave it
 abbrev pub EventIsCarried : Type 0
 EventIsCarried = (p : Piece) → option_to_list (event_of (incoming_of p)) ≡ events_of_piece p

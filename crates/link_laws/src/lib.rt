@@ -9,5 +9,5 @@ mod refusing;
 
 pub use hearing::linked_bytes;
 pub use meeting::{links_hold, session_of_ends};
-pub use reading::{event_is_carried, written_is_read};
+pub use reading::{all_is_read, event_is_carried, written_is_read};
 pub use refusing::{closing_is_deaf, nothing_more, refusal_ends};
