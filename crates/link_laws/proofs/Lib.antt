@@ -3,3 +3,4 @@ pub mod Refused
 pub mod Deaf
 pub mod Heard
 pub mod Sessions
+pub mod Sampled

@@ -2,3 +2,4 @@ pub mod Reading
 pub mod Refusing
 pub mod Hearing
 pub mod Meeting
+pub mod Samples
