@@ -1,6 +1,7 @@
 -- What becomes of a connection at a frame that is not accepted, row by row.
 use Rattle.std.proofs.Common.{◌≡◌, ℕ, ◌&&◌, max, min, not, Bool, true, false, if◌then◌else◌, List, [], ◌∷◌, Option, Some, None, refl, sym, ap, ◌∙◌, true≢false}
 use Rattle.std.specs.Prelude.{is_some, unwrap_or}
+use Rattle.std.specs.Cmp.{first_so}
 use Rattle.flow_recover.specs.declared.receiver.Seen.{Seen}
 use Rattle.flow_recover.specs.declared.receiver.Seen.TheVariants.{Deliver, Gap, Repeat}
 use Rattle.flow_recover.specs.Receiving as receiver_is
@@ -146,15 +147,10 @@ each_row x f wrong_order = quiet x f wrong_order refl
 each_row x f too_short = quiet x f too_short refl
 each_row x f (unknown template) = quiet x f (unknown template) refl
 
--- the first of two that both hold
-left : (a b : Bool) → (a && b) ≡ true → a ≡ true
-left true b e = refl
-left false b e = absurd (true≢false (sym e))
-
 pub refusal_ends : RefusalEnds
 refusal_ends x f i =
     by_row (Refuses f i) (is_closing f.connection.phase && not (terminates x i)) (ignores f) (answer_of x f i)
-    (λ t _. closing (left (is_closing f.connection.phase) (not (terminates x i)) t))
+    (λ t _. closing (first_so (is_closing f.connection.phase) (not (terminates x i)) t))
     (λ _. all_rows (Refuses f i) (not_in_phase x f (template_of i)) (rows_of x f i) (λ _. ended refl) (each_row x f i))
 
 -- in Closing nothing but the peer's Terminate is looked at, and that ends the connection

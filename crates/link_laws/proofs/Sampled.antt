@@ -1,6 +1,7 @@
 -- The sample of two ends, computed.
-use Rattle.std.proofs.Common.{◌≡◌, ℕ, ◌<◌, ◌&&◌, nat_lt, Bool, true, false, List, [], ◌∷◌, map, refl, sym, subst, arith, true≢false}
+use Rattle.std.proofs.Common.{◌≡◌, ℕ, ◌<◌, nat_lt, Bool, true, List, [], ◌∷◌, map, refl, sym, subst, arith}
 use Rattle.std.specs.List.{AllByRecursion, AllZip, list_all}
+use Rattle.std.specs.Cmp.{first_so, second_so}
 use mathlib.Core.List.{IsPrefix}
 use Rattle.std.proofs.lemmas.Bool.{ltb-true}
 use Rattle.std.proofs.lemmas.List.Elements.{All-from_recursion}
@@ -23,15 +24,9 @@ use Rattle.link_laws.proofs.Cutting.{all_is_read}
 -- bytes, by a test of each
 all_below : (bs : List ℕ) → list_all (λ b. nat_lt b 256) bs ≡ true → AllByRecursion (λ b. b < 256) bs
 all_below [] t = tt
-all_below (b ∷ bs) t = (ltb-true b 256 (first (nat_lt b 256) t), all_below bs (second (nat_lt b 256) t))
-  where
-    first : (k : Bool) → (k && list_all (λ b. nat_lt b 256) bs) ≡ true → k ≡ true
-    first true t = refl
-    first false t = absurd (true≢false (sym t))
-
-    second : (k : Bool) → (k && list_all (λ b. nat_lt b 256) bs) ≡ true → list_all (λ b. nat_lt b 256) bs ≡ true
-    second true t = t
-    second false t = absurd (true≢false (sym t))
+all_below (b ∷ bs) t =
+    let rest : Bool = list_all (λ b. nat_lt b 256) bs in
+    (ltb-true b 256 (first_so (nat_lt b 256) rest t), all_below bs (second_so (nat_lt b 256) rest t))
 
 -- the frames of what was written can come
 can_come : (pieces : List Piece) (frames : List Frame) → AllZip ReadsAs pieces frames → AreFirstOf (map incoming_of pieces) frames
