@@ -4,13 +4,17 @@ use Rattle.std.specs.Prelude.{flat_map}
 use Rattle.std.specs.List.{AllByRecursion}
 use Rattle.std.proofs.lemmas.List.{map-append}
 use Rattle.sofh_frame.specs.Splits.{frames_of}
-use Rattle.session_model.specs.Journal.{Entry, entries}
+use Rattle.session_model.specs.Journal.{Entry, OutboxRecord, entries}
 use Rattle.session_model.specs.Inbox.{InboxRecord}
 use Rattle.session_model.specs.Events.{Event}
 use Rattle.session_model.specs.Lives.{Connection, Served, Life, KeepsConnections, KeepsOutbox, KeepsContract, TakenFrom, rest_lost, taken, rejected, Linked}
 use Rattle.session_model.specs.Lives
 use Rattle.session_model.proofs.Lists.{prefix_trans, all_append}
+use Rattle.session_model.specs.Growth as model
+use Rattle.session_model.specs.Guarantee.{Session}
+use Rattle.session_model.proofs.Guarantees.{session_turns_round, recoverable_guarantee, idempotent_guarantee, unsequenced_guarantee, no_flow_guarantee}
 use Rattle.fixp_msgs.specs.declared.flow.Flow.{Flow}
+use Rattle.fixp_msgs.specs.declared.flow.Flow.TheVariants as flows
 use Rattle.reply_laws.specs.Machine.{State}
 use Rattle.growth_laws.specs.Accepting.{model_flow}
 use Rattle.connection_laws.specs.Writing.{Piece, bytes_written, events_written}
@@ -21,7 +25,7 @@ use Rattle.connection_laws.proofs.Going.{calls_keep, connection_begins}
 use Rattle.connection_laws.proofs.Living.{ran, behind, life_serves, life_refused}
 use Rattle.link_laws.specs.Reading.{AreRead}
 use Rattle.link_laws.specs.Hearing.{came, AreFirstOf, TakesFrom}
-use Rattle.link_laws.specs.Meeting.{Run, course_in, accepted_in, connection_in, MayBegin, ReadsFrom, no_more, left_alone, right_alone, paired, LinksHold, Refused, MachineLife, served_with, life_in, runs_on, last_run, runs_of, MayRefuse, MayLive, SessionOfEnds}
+use Rattle.link_laws.specs.Meeting.{Run, course_in, accepted_in, connection_in, MayBegin, ReadsFrom, no_more, left_alone, right_alone, paired, LinksHold, Refused, MachineLife, served_with, life_in, runs_on, last_run, runs_of, MayRefuse, MayLive, SessionOfEnds, Holds, EndsHold}
 use Rattle.link_laws.proofs.Cutting.{written_is_read}
 use Rattle.link_laws.proofs.Heard.{events_begin, heard_from}
 
@@ -162,13 +166,32 @@ contracts own peer plan [] all outboxes = tt
 contracts own peer plan (l ∷ later) all outboxes = (record { connections = keeps own peer l all.0; outbox = outboxes.0 }, contracts own peer plan later all.1 outboxes.1)
 
 pub session_of_ends : SessionOfEnds
-session_of_ends flow_a flow_b plan_a plan_b a b outbox_a outbox_b inbox_a inbox_b all_a all_b chained_a chained_b outboxes_a outboxes_b linked = record {
-  chained_a = chained_a;
-  chained_b = chained_b;
-  contract_a = contracts flow_a flow_b plan_a a all_a outboxes_a;
-  contract_b = contracts flow_b flow_a plan_b b all_b outboxes_b;
+session_of_ends flow_a flow_b plan_a plan_b a b outbox_a outbox_b inbox_a inbox_b e = record {
+  chained_a = e.chained_a;
+  chained_b = e.chained_b;
+  contract_a = contracts flow_a flow_b plan_a a e.lives_a e.outboxes_a;
+  contract_b = contracts flow_b flow_a plan_b b e.lives_b e.outboxes_b;
   linked =
       subst (λ cs. Linked cs (flat_map (λ (life : Life). life.served.connections) (map life_in b))) (connections_of_all a)
       (subst (λ cs. Linked (map connection_in (flat_map runs_of a)) cs) (connections_of_all b)
-      (links_hold (flat_map runs_of a) (flat_map runs_of b) (may_begin flow_a flow_b a all_a) (may_begin flow_b flow_a b all_b) linked));
+      (links_hold (flat_map runs_of a) (flat_map runs_of b) (may_begin flow_a flow_b a e.lives_a) (may_begin flow_b flow_a b e.lives_b) e.linked));
 }
+
+-- by the guarantee of the sender's flow
+holds : (flow : Flow) (other : model.Flow) (plan_a plan_b : ℕ → List (List ℕ) → List (List ℕ)) (a b : List Life)
+    (outbox_a outbox_b : List OutboxRecord) (inbox_a inbox_b : List InboxRecord)
+    → Session (model_flow flow) other plan_a plan_b a b outbox_a outbox_b inbox_a inbox_b → Holds flow (entries outbox_a) inbox_b
+holds flows.Recoverable other plan_a plan_b a b outbox_a outbox_b inbox_a inbox_b s = (recoverable_guarantee other plan_a plan_b a b outbox_a outbox_b inbox_a inbox_b s).0
+holds flows.Idempotent other plan_a plan_b a b outbox_a outbox_b inbox_a inbox_b s = (idempotent_guarantee other plan_a plan_b a b outbox_a outbox_b inbox_a inbox_b s).0
+holds flows.Unsequenced other plan_a plan_b a b outbox_a outbox_b inbox_a inbox_b s = (unsequenced_guarantee other plan_a plan_b a b outbox_a outbox_b inbox_a inbox_b s).0
+holds flows.None other plan_a plan_b a b outbox_a outbox_b inbox_a inbox_b s = no_flow_guarantee other plan_a plan_b a b outbox_a outbox_b inbox_a inbox_b s
+
+pub ends_hold : EndsHold
+ends_hold flow_a flow_b plan_a plan_b a b outbox_a outbox_b inbox_a inbox_b e =
+    let fa : model.Flow = model_flow flow_a in
+    let fb : model.Flow = model_flow flow_b in
+    let s = session_of_ends flow_a flow_b plan_a plan_b a b outbox_a outbox_b inbox_a inbox_b e in (
+      holds flow_a fb plan_a plan_b (map life_in a) (map life_in b) outbox_a outbox_b inbox_a inbox_b s,
+      holds flow_b fa plan_b plan_a (map life_in b) (map life_in a) outbox_b outbox_a inbox_b inbox_a
+          (session_turns_round fa fb plan_a plan_b (map life_in a) (map life_in b) outbox_a outbox_b inbox_a inbox_b s),
+    )

@@ -3,11 +3,13 @@ use Rattle.std.specs.Prelude.{◌≡◌, ℕ, ◌≤◌, List, [], ◌∷◌, �
 use Rattle.std.specs.List.{AllByRecursion}
 use mathlib.Core.List.{IsPrefix}
 use Rattle.session_model.specs.Journal.{Entry, OutboxRecord, entries}
-use Rattle.session_model.specs.Inbox.{InboxRecord, next_number}
+use Rattle.session_model.specs.Inbox.{InboxRecord, next_number, applied, skips}
 use Rattle.session_model.specs.Events.{Event}
+use Rattle.session_model.specs.Growth.{AppliesPrefix, SettlesOnce, DeliversRising}
 use Rattle.session_model.specs.Lives.{Connection, Served, Life, served_on, KeepsOutbox, Chained, Linked}
 use Rattle.session_model.specs.Guarantee.{Session}
 use Rattle.fixp_msgs.specs.declared.flow.Flow.{Flow}
+use Rattle.fixp_msgs.specs.declared.flow.Flow.TheVariants as flows
 use Rattle.reply_laws.specs.Machine.{State}
 use Rattle.growth_laws.specs.Accepting.{model_flow}
 use Rattle.connection_laws.specs.Writing.{Piece, bytes_written}
@@ -126,13 +128,35 @@ pub record MayLive (own peer : Flow) (l : MachineLife) : Type 0 where
   pub legs : AllMayRun (entries l.closing_outbox) l.state l.inbox l.legs
   pub last : IfSome l.last (MayRefuse (entries l.closing_outbox) (state_behind l.state l.inbox l.legs) (inbox_behind l.state l.inbox l.legs))
 
--- Two ends are a session: the flow that one sends the other receives; the lives of each are chained and keep their outboxes; and
--- their connections are linked by bytes. So each guarantee of the session model holds of them
+-- Two ends of the machine: the flow that one sends the other receives; the lives of each are chained from empty journals, may
+-- leave these now, and keep their outboxes; and their connections are linked by bytes
+pub record TwoEnds (flow_a flow_b : Flow) (plan_a plan_b : ℕ → List (List ℕ) → List (List ℕ)) (a b : List MachineLife)
+    (outbox_a outbox_b : List OutboxRecord) (inbox_a inbox_b : List InboxRecord) : Type 0 where
+  pub lives_a : AllByRecursion (MayLive flow_a flow_b) a
+  pub lives_b : AllByRecursion (MayLive flow_b flow_a) b
+  pub chained_a : Chained [] [] (map life_in a) outbox_a inbox_a
+  pub chained_b : Chained [] [] (map life_in b) outbox_b inbox_b
+  pub outboxes_a : AllByRecursion (KeepsOutbox plan_a) (map life_in a)
+  pub outboxes_b : AllByRecursion (KeepsOutbox plan_b) (map life_in b)
+  pub linked : LinkedByBytes (flat_map runs_of a) (flat_map runs_of b)
+
+-- they are a session of the session model
 abbrev pub SessionOfEnds : Type 0
 SessionOfEnds = (flow_a flow_b : Flow) (plan_a plan_b : ℕ → List (List ℕ) → List (List ℕ)) (a b : List MachineLife)
     (outbox_a outbox_b : List OutboxRecord) (inbox_a inbox_b : List InboxRecord)
-    → AllByRecursion (MayLive flow_a flow_b) a → AllByRecursion (MayLive flow_b flow_a) b
-    → Chained [] [] (map life_in a) outbox_a inbox_a → Chained [] [] (map life_in b) outbox_b inbox_b
-    → AllByRecursion (KeepsOutbox plan_a) (map life_in a) → AllByRecursion (KeepsOutbox plan_b) (map life_in b)
-    → LinkedByBytes (flat_map runs_of a) (flat_map runs_of b)
+    → TwoEnds flow_a flow_b plan_a plan_b a b outbox_a outbox_b inbox_a inbox_b
     → Session (model_flow flow_a) (model_flow flow_b) plan_a plan_b (map life_in a) (map life_in b) outbox_a outbox_b inbox_a inbox_b
+
+-- what an inbox holds of the outbox of the peer, by the kind of the peer's flow
+abbrev pub Holds : Flow → List Entry → List InboxRecord → Type 0
+Holds flows.Recoverable outbox inbox = AppliesPrefix outbox inbox
+Holds flows.Idempotent outbox inbox = SettlesOnce outbox inbox
+Holds flows.Unsequenced outbox inbox = DeliversRising outbox inbox
+Holds flows.None outbox inbox = (applied inbox ≡ []) × (skips inbox ≡ [])
+
+-- so each inbox holds of the other's outbox what the session guarantee says
+abbrev pub EndsHold : Type 0
+EndsHold = (flow_a flow_b : Flow) (plan_a plan_b : ℕ → List (List ℕ) → List (List ℕ)) (a b : List MachineLife)
+    (outbox_a outbox_b : List OutboxRecord) (inbox_a inbox_b : List InboxRecord)
+    → TwoEnds flow_a flow_b plan_a plan_b a b outbox_a outbox_b inbox_a inbox_b
+    → Holds flow_a (entries outbox_a) inbox_b × Holds flow_b (entries outbox_b) inbox_a

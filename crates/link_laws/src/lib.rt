@@ -9,7 +9,7 @@ mod refusing;
 mod samples;
 
 pub use hearing::linked_bytes;
-pub use meeting::{links_hold, session_of_ends};
+pub use meeting::{ends_hold, links_hold, session_of_ends};
 pub use reading::{all_is_read, event_is_carried, written_is_read};
 pub use refusing::{closing_is_deaf, nothing_more, refusal_ends};
 pub use samples::handshake_sample;
