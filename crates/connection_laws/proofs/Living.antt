@@ -1,25 +1,22 @@
 -- Over any connections a life keeps what the session model asks of it.
-use Rattle.std.proofs.Common.{◌≡◌, ℕ, ◌+◌, ◌≤◌, Bool, List, [], ◌∷◌, ◌++◌, map, length, Option, Some, None, refl, sym, ap, subst, ◌∙◌, arith, append-nil, append_assoc}
+use Rattle.std.proofs.Common.{◌≡◌, ℕ, ◌≤◌, List, [], ◌∷◌, ◌++◌, length, refl, sym, ap, subst, ◌∙◌, arith, append-nil, append_assoc}
 use Rattle.std.proofs.lemmas.List.{map-append}
-use Rattle.std.specs.List.{AllByRecursion, flat_map}
-use mathlib.Core.List.{IsPrefix}
 use Rattle.session_model.specs.Journal.{Entry}
 use Rattle.session_model.specs.Inbox.{InboxRecord}
-use Rattle.session_model.specs.Events.{Event, messages}
+use Rattle.session_model.specs.Events.{Event}
 use Rattle.session_model.specs.Growth as model
 use Rattle.session_model.specs.Growth.{GrownThrough}
-use Rattle.session_model.specs.Lives.{Connection, Served, IsImage, served_on, written_of, accepted_of, first_events, Writes, KeepsConnections}
+use Rattle.session_model.specs.Lives.{Connection, Served, written_of, first_events, Writes, KeepsConnections}
 use Rattle.session_model.proofs.Images.{image_of_none}
 use Rattle.session_model.proofs.Kept.{serving_goes_on}
 use Rattle.session_model.proofs.Lists.{prefix_self}
-use Rattle.fixp_msgs.specs.declared.flow.Flow.TheVariants as flows
 use Rattle.fixp_shake.specs.declared.config.EndConfig.{EndConfig}
 use Rattle.reply_laws.specs.Machine.{State}
 use Rattle.growth_laws.specs.Accepting.{model_flow}
 use Rattle.connection_laws.specs.Writing.{events_written}
-use Rattle.connection_laws.specs.Courses.{Waiting, Course, inbox_of, beginning, course_after, Continues}
+use Rattle.connection_laws.specs.Courses.{Course, inbox_of, beginning, Continues}
 use Rattle.connection_laws.specs.Standing.{Stands}
-use Rattle.connection_laws.specs.Connections.{WasTaken, connection_of, served_by, refused_by, sent_part}
+use Rattle.connection_laws.specs.Connections.{served_by, refused_by, sent_part}
 use Rattle.connection_laws.specs.Living.{Leg, course_of, MayRun, AllMayRun, state_behind, inbox_behind, life_on, Opens, LifeServes, LifeRefused}
 use Rattle.connection_laws.proofs.Continuing.{calls_go_on}
 use Rattle.connection_laws.proofs.Going.{calls_keep, connection_begins}

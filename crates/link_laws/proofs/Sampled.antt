@@ -1,5 +1,5 @@
 -- The sample of two ends, computed.
-use Rattle.std.proofs.Common.{◌≡◌, ℕ, ◌<◌, nat_lt, Bool, true, List, [], ◌∷◌, map, refl, sym, subst, arith}
+use Rattle.std.proofs.Common.{◌≡◌, ℕ, ◌<◌, nat_lt, Bool, true, List, [], ◌∷◌, map, refl, sym, subst, arith, true≢false}
 use Rattle.std.specs.List.{AllByRecursion, AllZip, list_all}
 use Rattle.std.specs.Cmp.{first_so, second_so}
 use mathlib.Core.List.{IsPrefix}
@@ -8,6 +8,14 @@ use Rattle.std.proofs.lemmas.List.Elements.{All-from_recursion}
 use Rattle.sofh_frame.specs.Framing.{Frame, IsBytes}
 use Rattle.sofh_frame.specs.Splits.{frames_of}
 use Rattle.session_model.proofs.Lists.{prefix_self, prefix_equal}
+use Rattle.session_model.specs.Journal.{InOrder, entries, is_finished, history_of, BeginsHistory}
+use Rattle.session_model.specs.Inbox.{InboxRecord, applied, payloads_of}
+use Rattle.session_model.specs.Plans.{Continues, SendersDone, sent_by}
+use Rattle.session_model.specs.Lives.{IsImage, KeepsOutbox}
+use Rattle.session_model.specs.Samples.{silence}
+use Rattle.session_model.proofs.Images.{image_of_none}
+use Rattle.fixp_shake.specs.declared.config.EndConfig.{EndConfig}
+use Rattle.connection_laws.specs.Living.{Leg}
 use Rattle.fixp_msgs.specs.Canonical.{IsLegal}
 use Rattle.fixp_msgs.specs.Message.{Message}
 use Rattle.fixp_replies.specs.Incoming.{session}
@@ -17,8 +25,8 @@ use Rattle.connection_laws.specs.Courses.{Course}
 use Rattle.connection_laws.specs.Samples.{sample_config}
 use Rattle.link_laws.specs.Reading.{incoming_of, ReadsAs}
 use Rattle.link_laws.specs.Hearing.{came, AreFirstOf, CameFrom}
-use Rattle.link_laws.specs.Meeting.{TookWhole, no_more, paired}
-use Rattle.link_laws.specs.Samples.{acceptor, opening, answer, leg_a, leg_b, course_on, HandshakeSample}
+use Rattle.link_laws.specs.Meeting.{TookWhole, no_more, paired, life_in}
+use Rattle.link_laws.specs.Samples.{acceptor, opening, answer, leg_a, leg_b, life_on_leg, course_on, HandshakeSample}
 use Rattle.link_laws.proofs.Cutting.{all_is_read}
 
 -- bytes, by a test of each
@@ -62,38 +70,68 @@ took_whole c whole all same = record {
   all = λ more p _. subst (λ ps. IsPrefix more ps) (sym all) p;
 }
 
+-- nothing is sent, and nothing was to be
+sends_nothing : (config : EndConfig) (leg : Leg) → KeepsOutbox silence (life_in (life_on_leg config leg))
+sends_nothing config leg =
+    let inbox : List InboxRecord = (life_in (life_on_leg config leg)).served.closing_inbox in
+    let opening : List InboxRecord = (life_in (life_on_leg config leg)).served.opening_inbox in
+    record {
+      outbox_grows = prefix_self [];
+      history_grows = λ image i. image_of_none (λ k. BeginsHistory (history_of []) (history_of k)) [] image (record { made = prefix_self []; alone = λ _. refl }) i;
+      in_order = λ image i. image_of_none (λ k. InOrder (entries k)) [] image (λ s. refl) i;
+      plans = λ image i s.
+          image_of_none (λ k. Continues (silence s (payloads_of (applied inbox))) (sent_by [] s) (sent_by (entries k) s)) [] image (record { more = []; behind = refl; planned = prefix_self [] }) i;
+      finishes = λ image i _ t.
+          image_of_none (λ k. is_finished k ≡ true → SendersDone silence [] (entries k) opening inbox) [] image (λ f. absurd (true≢false (sym f))) i t;
+    }
+
+nothing_left : {A : Type 0} → IsImage {A = A} [] [] []
+nothing_left = record { kept = []; beginning = prefix_self []; holds = refl }
+
 pub handshake_sample : HandshakeSample
 handshake_sample = (
   record {
-    own_flow = refl;
-    peer_flow = refl;
-    opens = record { awaits = refl; enough = omega arith; before = λ _. omega arith };
-    legs = (
+    lives_a = (
       record {
-        calls = (record { may_call = tt; comes = omega arith }, (record { may_call = refl; comes = record { begun = refl; going = refl; done = refl } }, tt));
-        taken = record { first = prefix_self (said opening ∷ []); all = λ _. refl };
+        own_flow = refl;
+        peer_flow = refl;
+        opens = record { awaits = refl; enough = omega arith; before = λ _. omega arith };
+        legs = (
+          record {
+            calls = (record { may_call = tt; comes = omega arith }, (record { may_call = refl; comes = record { begun = refl; going = refl; done = refl } }, tt));
+            taken = record { first = prefix_self (said opening ∷ []); all = λ _. refl };
+          },
+          tt,
+        );
+        last = tt;
       },
       tt,
     );
-    last = tt;
-  },
-  record {
-    own_flow = refl;
-    peer_flow = refl;
-    opens = record { awaits = refl; enough = omega arith; before = λ _. omega arith };
-    legs = (
+    lives_b = (
       record {
-        calls = (record { may_call = refl; comes = record { begun = refl; going = refl; done = refl } }, (record { may_call = tt; comes = omega arith }, tt));
-        taken = record { first = prefix_self (said answer ∷ []); all = λ _. refl };
+        own_flow = refl;
+        peer_flow = refl;
+        opens = record { awaits = refl; enough = omega arith; before = λ _. omega arith };
+        legs = (
+          record {
+            calls = (record { may_call = refl; comes = record { begun = refl; going = refl; done = refl } }, (record { may_call = tt; comes = omega arith }, tt));
+            taken = record { first = prefix_self (said answer ∷ []); all = λ _. refl };
+          },
+          tt,
+        );
+        last = tt;
       },
       tt,
     );
-    last = tt;
+    chained_a = ([], [], record { opens_outbox = refl; opens_inbox = refl; outbox_image = nothing_left; inbox_image = nothing_left }, (refl, refl));
+    chained_b = ([], [], record { opens_outbox = refl; opens_inbox = refl; outbox_image = nothing_left; inbox_image = nothing_left }, (refl, refl));
+    outboxes_a = (sends_nothing sample_config leg_a, tt);
+    outboxes_b = (sends_nothing acceptor leg_b, tt);
+    linked = paired
+        (record { came = came_whole answer leg_a.calls answer_is_legal refl refl; legal = (answer_is_legal, tt); whole = took_whole (course_on acceptor leg_b) leg_b.whole refl refl })
+        (record { came = came_whole opening leg_b.calls opening_is_legal refl refl; legal = (opening_is_legal, tt); whole = took_whole (course_on sample_config leg_a) leg_a.whole refl refl })
+        no_more;
   },
-  paired
-      (record { came = came_whole answer leg_a.calls answer_is_legal refl refl; legal = (answer_is_legal, tt); whole = took_whole (course_on acceptor leg_b) leg_b.whole refl refl })
-      (record { came = came_whole opening leg_b.calls opening_is_legal refl refl; legal = (opening_is_legal, tt); whole = took_whole (course_on sample_config leg_a) leg_a.whole refl refl })
-      no_more,
   refl,
   refl,
 )

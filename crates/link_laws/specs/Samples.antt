@@ -1,6 +1,7 @@
--- Two ends that shake hands over one link: the premises of the laws are no empty words.
+-- Two ends that shake hands over one link: the premises of the laws can be met.
 use Rattle.std.specs.Prelude.{◌≡◌, true, [], ◌∷◌, length, Some, None}
 use Rattle.session_model.specs.Events.{announce, handshake}
+use Rattle.session_model.specs.Samples.{silence}
 use Rattle.fixp_msgs.specs.declared.flow.Flow.TheVariants as flows
 use Rattle.fixp_msgs.specs.Canonical.{frame_bytes}
 use Rattle.fixp_msgs.specs.Message.{Message, establish, establishment_ack}
@@ -13,7 +14,7 @@ use Rattle.connection_laws.specs.Writing.{said}
 use Rattle.connection_laws.specs.Courses.{Course}
 use Rattle.connection_laws.specs.Living.{Leg, course_of}
 use Rattle.connection_laws.specs.Samples.{id, sample_config}
-use Rattle.link_laws.specs.Meeting.{MachineLife, MayLive, LinkedByBytes, runs_of}
+use Rattle.link_laws.specs.Meeting.{MachineLife, TwoEnds}
 
 -- the acceptor of that session, with the flows of the initiator turned round
 abbrev pub acceptor : EndConfig
@@ -52,8 +53,6 @@ course_on config leg = course_of (fresh config recorded 100) [] leg
 
 abbrev pub HandshakeSample : Type 0
 HandshakeSample =
-    MayLive flows.Recoverable flows.Idempotent (life_on_leg sample_config leg_a)
-    × MayLive flows.Idempotent flows.Recoverable (life_on_leg acceptor leg_b)
-    × LinkedByBytes (runs_of (life_on_leg sample_config leg_a)) (runs_of (life_on_leg acceptor leg_b))
+    TwoEnds flows.Recoverable flows.Idempotent silence silence (life_on_leg sample_config leg_a ∷ []) (life_on_leg acceptor leg_b ∷ []) [] [] [] []
     × ((course_on sample_config leg_a).accepted ≡ announce handshake (Some 1) ∷ [])
     × ((course_on acceptor leg_b).accepted ≡ announce handshake (Some 1) ∷ [])

@@ -2,7 +2,7 @@
 
 ghost use Rattle.link_laws.specs.Samples.{HandshakeSample};
 
-/// Two ends that shake hands over one link are lives of the machine whose connections are linked by bytes.
+/// Two ends that shake hands over one link meet all premises, and each accepts the other's announcement.
 pub fn handshake_sample()
     ensures law { HandshakeSample }
 {}
