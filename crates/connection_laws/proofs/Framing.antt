@@ -19,19 +19,19 @@ use Rattle.connection_laws.specs.Writing.{Piece, said, entry, bytes_of_piece, ev
 use Rattle.connection_laws.specs.Framed.{AreFrames, PiecesAreFrames}
 
 -- one piece is one frame
-record IsFrameOf (p : Piece) (f : Frame) : Type 0 where
-  admissible : IsFrame f
-  bytes : spelled f ≡ bytes_of_piece p
-  events : option_to_list (event_of f) ≡ events_of_piece p
+pub record IsFrameOf (p : Piece) (f : Frame) : Type 0 where
+  pub admissible : IsFrame f
+  pub bytes : spelled f ≡ bytes_of_piece p
+  pub events : option_to_list (event_of f) ≡ events_of_piece p
 
-is_session : (m : Message) → IsLegal m → kind_of Little (message_bytes m) ≡ Session
+pub is_session : (m : Message) → IsLegal m → kind_of Little (message_bytes m) ≡ Session
 is_session m legal = ap (λ (b : Bool). if b then Session else App) (eq-eqb (schema_in (message_bytes m)) session_schema (message_spells m legal).schema)
 
 same_bytes : (m : Message) → spelled (record { order = Little; message = message_bytes m }) ≡ frame_bytes m
 unfolding header_of
 same_bytes m = refl
 
-frame_of_message : (m : Message) → IsLegal m → IsFrameOf (said m) (record { order = Little; message = message_bytes m })
+pub frame_of_message : (m : Message) → IsLegal m → IsFrameOf (said m) (record { order = Little; message = message_bytes m })
 frame_of_message m legal =
     let size : length (frame_bytes m) ≡ 6 + length (message_bytes m) = length-append (framing_bytes (6 + length (message_bytes m))) (message_bytes m) in
     record {
@@ -49,7 +49,7 @@ entry_bytes f payload e =
     append_assoc (to_be_bytes w32 (6 + length f.message)) code f.message
     ∙ (ap (λ n. to_be_bytes w32 n ++ payload_of f) size ∙ ap payload_frame e)
 
-frame_of_entry : (payload : List ℕ) (a : IsApplication payload) → IsFrameOf (entry payload) a.frame
+pub frame_of_entry : (payload : List ℕ) (a : IsApplication payload) → IsFrameOf (entry payload) a.frame
 frame_of_entry payload a = record {
   admissible = a.admissible;
   bytes = entry_bytes a.frame payload a.spelled;

@@ -1,39 +1,36 @@
 -- Over any connections a life keeps what the session model asks of it.
-use Rattle.std.proofs.Common.{◌≡◌, ℕ, ◌+◌, ◌≤◌, Bool, List, [], ◌∷◌, ◌++◌, map, length, Option, Some, None, refl, sym, ap, subst, ◌∙◌, arith, append-nil, append_assoc}
+use Rattle.std.proofs.Common.{◌≡◌, ℕ, ◌≤◌, List, [], ◌∷◌, ◌++◌, length, refl, sym, ap, subst, ◌∙◌, arith, append-nil, append_assoc}
 use Rattle.std.proofs.lemmas.List.{map-append}
-use Rattle.std.specs.List.{AllByRecursion, flat_map}
-use mathlib.Core.List.{IsPrefix}
 use Rattle.session_model.specs.Journal.{Entry}
 use Rattle.session_model.specs.Inbox.{InboxRecord}
-use Rattle.session_model.specs.Events.{Event, messages}
+use Rattle.session_model.specs.Events.{Event}
 use Rattle.session_model.specs.Growth as model
 use Rattle.session_model.specs.Growth.{GrownThrough}
-use Rattle.session_model.specs.Lives.{Connection, Served, IsImage, served_on, written_of, accepted_of, first_events, Writes, KeepsConnections}
+use Rattle.session_model.specs.Lives.{Connection, Served, written_of, first_events, Writes, KeepsConnections}
 use Rattle.session_model.proofs.Images.{image_of_none}
 use Rattle.session_model.proofs.Kept.{serving_goes_on}
 use Rattle.session_model.proofs.Lists.{prefix_self}
-use Rattle.fixp_msgs.specs.declared.flow.Flow.TheVariants as flows
 use Rattle.fixp_shake.specs.declared.config.EndConfig.{EndConfig}
 use Rattle.reply_laws.specs.Machine.{State}
 use Rattle.growth_laws.specs.Accepting.{model_flow}
 use Rattle.connection_laws.specs.Writing.{events_written}
-use Rattle.connection_laws.specs.Courses.{Waiting, Course, inbox_of, beginning, course_after, Continues}
+use Rattle.connection_laws.specs.Courses.{Course, inbox_of, beginning, Continues}
 use Rattle.connection_laws.specs.Standing.{Stands}
-use Rattle.connection_laws.specs.Connections.{WasTaken, connection_of, served_by, refused_by, sent_part}
+use Rattle.connection_laws.specs.Connections.{served_by, refused_by, sent_part}
 use Rattle.connection_laws.specs.Living.{Leg, course_of, MayRun, AllMayRun, state_behind, inbox_behind, life_on, Opens, LifeServes, LifeRefused}
 use Rattle.connection_laws.proofs.Continuing.{calls_go_on}
 use Rattle.connection_laws.proofs.Going.{calls_keep, connection_begins}
 use Rattle.connection_laws.proofs.Lived.{connection_kept, refused_kept, writing_goes_on, part_is_written}
 
 -- one connection that ran
-record Ran (opened h : List Entry) (s : State) (inbox : List InboxRecord) (leg : Leg) : Type 0 where
-  stands : Stands h (course_of s inbox leg)
-  config : (course_of s inbox leg).state.config ≡ s.config
-  start : (course_of s inbox leg).start ≡ inbox
-  sent_before : (course_of s inbox leg).sent_before ≡ s.facts.recorded.sent
-  next : Opens opened h (course_of s inbox leg).state (inbox_of (course_of s inbox leg))
+pub record Ran (opened h : List Entry) (s : State) (inbox : List InboxRecord) (leg : Leg) : Type 0 where
+  pub stands : Stands h (course_of s inbox leg)
+  pub config : (course_of s inbox leg).state.config ≡ s.config
+  pub start : (course_of s inbox leg).start ≡ inbox
+  pub sent_before : (course_of s inbox leg).sent_before ≡ s.facts.recorded.sent
+  pub next : Opens opened h (course_of s inbox leg).state (inbox_of (course_of s inbox leg))
 
-ran : (opened h : List Entry) (s : State) (inbox : List InboxRecord) (leg : Leg) → Opens opened h s inbox → MayRun h s inbox leg → Ran opened h s inbox leg
+pub ran : (opened h : List Entry) (s : State) (inbox : List InboxRecord) (leg : Leg) → Opens opened h s inbox → MayRun h s inbox leg → Ran opened h s inbox leg
 ran opened h s inbox leg o may =
     let c : Course = beginning s inbox leg.moment in
     let d : Course = course_of s inbox leg in
@@ -137,11 +134,11 @@ life_serves opened h s inbox (leg ∷ later) o all =
     (all_write opened h s inbox (leg ∷ later) [] o all (nothing_written own opened (sent_part own s.facts.recorded.sent h))))
 
 -- where a life has come to on some connections
-record Behind (opened h : List Entry) (s : State) (inbox : List InboxRecord) (legs : List Leg) : Type 0 where
-  config : (state_behind s inbox legs).config ≡ s.config
-  opens : Opens opened h (state_behind s inbox legs) (inbox_behind s inbox legs)
+pub record Behind (opened h : List Entry) (s : State) (inbox : List InboxRecord) (legs : List Leg) : Type 0 where
+  pub config : (state_behind s inbox legs).config ≡ s.config
+  pub opens : Opens opened h (state_behind s inbox legs) (inbox_behind s inbox legs)
 
-behind : (opened h : List Entry) (s : State) (inbox : List InboxRecord) (legs : List Leg) → Opens opened h s inbox → AllMayRun h s inbox legs → Behind opened h s inbox legs
+pub behind : (opened h : List Entry) (s : State) (inbox : List InboxRecord) (legs : List Leg) → Opens opened h s inbox → AllMayRun h s inbox legs → Behind opened h s inbox legs
 behind opened h s inbox [] o all = record { config = refl; opens = o }
 behind opened h s inbox (leg ∷ later) o all =
     let r = ran opened h s inbox leg o all.0 in

@@ -1,15 +1,15 @@
 -- A life of the machine: connections one behind another, in the words of the session model.
-use Rattle.std.specs.Prelude.{◌≡◌, ⊤, ℕ, ◌+◌, ◌≤◌, Bool, List, [], ◌∷◌, length, Some}
+use Rattle.std.specs.Prelude.{◌≡◌, ⊤, ℕ, ◌≤◌, Bool, List, [], ◌∷◌, length, Some}
 use Rattle.session_model.specs.Journal.{Entry}
 use Rattle.session_model.specs.Inbox.{InboxRecord, next_number}
-use Rattle.session_model.specs.Lives.{Served, Connection, served_on, KeepsConnections}
+use Rattle.session_model.specs.Lives.{Served, served_on, KeepsConnections}
 use Rattle.fixp_msgs.specs.declared.flow.Flow.TheVariants as flows
 use Rattle.reply_laws.specs.Machine.{State, Call}
 use Rattle.growth_laws.specs.Accepting.{model_flow}
 use Rattle.connection_laws.specs.Writing.{Piece}
 use Rattle.connection_laws.specs.Courses.{Waiting, Course, inbox_of, beginning, course_after}
 use Rattle.connection_laws.specs.Standing.{AllMayStand}
-use Rattle.connection_laws.specs.Connections.{WasTaken, connection_of, served_by, refused_by}
+use Rattle.connection_laws.specs.Connections.{WasTaken, served_by, refused_by}
 
 -- one connection of a life: the moment of its beginning, the calls that came on it, the frames that the link took whole, and
 -- whether all of its output was taken and it had not ended

@@ -1,0 +1,5 @@
+pub mod Reading
+pub mod Refusing
+pub mod Hearing
+pub mod Meeting
+pub mod Samples

@@ -1,0 +1,15 @@
+//! Laws of a link: what one end accepts on a connection is of what the other wrote on it, since the bytes that it read are a
+//! beginning of those that the other wrote. Each function has an empty body; its clause is a statement about the definitions.
+#![tactic(auto)]
+
+mod hearing;
+mod meeting;
+mod reading;
+mod refusing;
+mod samples;
+
+pub use hearing::linked_bytes;
+pub use meeting::{ends_hold, links_hold, session_of_ends};
+pub use reading::{all_is_read, event_is_carried, written_is_read};
+pub use refusing::{closing_is_deaf, nothing_more, refusal_ends};
+pub use samples::handshake_sample;
