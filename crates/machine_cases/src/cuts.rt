@@ -39,8 +39,8 @@ struct Runs<'a> {
     requests: u64,
     /// At how many places a second connection was cut too.
     second_places: u64,
-    /// The first and the last place of the first cuts behind which something was wrong, and what.
-    fault: Option<(u64, u64, &'static str)>,
+    /// The places of the first cuts behind which something was wrong, of the first connection and of the second, and what.
+    fault: Option<(Option<u64>, Option<u64>, &'static str)>,
 }
 
 impl<'a> Runs<'a> {
@@ -72,9 +72,9 @@ impl<'a> Runs<'a> {
             return;
         }
         if let Some(what) = session.fault(self.entries, moment) {
-            let first = cuts.first().copied().unwrap_or(0);
-            let last = cuts.last().copied().unwrap_or(0);
-            self.fault = Some((first, last, what));
+            let first = cuts.first().copied();
+            let second = cuts.get(1).copied();
+            self.fault = Some((first, second, what));
         }
     }
 
@@ -122,8 +122,8 @@ impl<'a> Runs<'a> {
     /// Whether all held, in words.
     fn verdict(&self) -> Result<String, AllocError> {
         match self.fault {
-            Some((first, last, what)) => {
-                format!(in self.alloc; "{what} where the cuts are at {first} and {last}")
+            Some((first, second, what)) => {
+                format!(in self.alloc; "{what} where the cuts are at {first:?} and {second:?}")
             }
             None => format!(in self.alloc; "holds"),
         }
