@@ -1,14 +1,18 @@
 -- The parts of a turn, as the loop has them, are those of the laws.
-use Rattle.std.proofs.Common.{◌≡◌, inl, inr, ℕ, [], sym, subst}
+use Rattle.std.proofs.Common.{◌≡◌, inl, inr, ℕ, List, [], ◌++◌, sym, subst, append-nil}
 use Rattle.std.specs.Prelude.{◌||◌}
 use Rattle.session_model.specs.Journal.{History}
+use Rattle.session_model.specs.Inbox.{InboxRecord}
 use Rattle.jr_record.specs.declared.journal.Journal.{Ghosts}
 use Rattle.jr_boxes.specs.declared.inbox.Inbox.{Inbox}
+use Rattle.jr_boxes.specs.Inbox.{HoldsBox}
 use Rattle.conn_turns.specs.Lines.{Line}
-use Rattle.conn_turns.specs.Turns.{Work, Turn, only_sends, works, link_lost, cut_short, is_end}
+use Rattle.conn_turns.specs.Frames.{added}
+use Rattle.conn_steps.specs.Settling.{Gains}
+use Rattle.conn_turns.specs.Turns.{Work, Turn, only_sends, works, link_lost, is_end}
 use Rattle.conn_turns.specs.Exact.{Served, line_ticked}
 use Rattle.conn_loop.specs.Turned.{Exchanged}
-use Rattle.turn_laws.specs.Turns.{Sends, Works, line_received, IsTurn}
+use Rattle.turn_laws.specs.Turns.{Sends, Works, line_received, IsTurn, adds_in}
 use Rattle.loop_laws.specs.Turned.{TurnIsOne, CutIsOne}
 
 -- a work's moment is the turn's
@@ -21,14 +25,28 @@ work_is_one now before seen old new behind w at served sends = record {
 }
 
 module _ {J : Type 0} {G : Ghosts J} where
+  -- an inbox that is as it was gained nothing
+  gains_none : (box since : Inbox J G) → since ≡ box → Gains box since []
+  gains_none box since is i h = subst (λ (x : Inbox J G). HoldsBox x (i ++ []) []) (sym is) (subst (λ (rs : List InboxRecord). HoldsBox box rs []) (sym (append-nil i)) h)
+
   pub turn_is_one : (box since : Inbox J G) → TurnIsOne box since
   turn_is_one box since now eager told_before later carried after before seen old new newer (inl x) =
-      (only_sends now x.sent.sent x.sent.lost, (record { front = x.sent.front; line = x.sent.line }, x.same_seen))
+      (only_sends now x.sent.sent x.sent.lost, (record { front = x.sent.front; line = x.sent.line }, x.same_seen), gains_none box since x.same_box)
   turn_is_one box since now eager told_before later carried after before seen old new newer (inr x) = by_kind x.exchanged
     where
-      by_kind : Exchanged now eager told_before later carried after before seen (line_ticked old now) new box since [] newer → (t : Turn) × IsTurn before seen old new t
-      by_kind (inl w) = (works w.work, work_is_one now before seen old new w.behind w.work w.at w.served (record { front = w.front; line = w.line }))
-      by_kind (inr l) = (link_lost now, (l.line, l.same_seen))
+      by_kind : Exchanged now eager told_before later carried after before seen (line_ticked old now) new box since [] newer → (t : Turn) × IsTurn before seen old new t × Gains box since (adds_in old t)
+      by_kind (inl w) = (
+        works w.work,
+        work_is_one now before seen old new w.behind w.work w.at w.served (record { front = w.front; line = w.line }),
+        subst (λ (n : ℕ). Gains box since (added n (line_received old n w.work.received (old.over || is_end w.work.got)) w.work.frames)) (sym w.at) w.gains,
+      )
+      by_kind (inr l) = (link_lost now, (l.line, l.same_seen), gains_none box since l.same_box)
 
   pub cut_is_one : (box since : Inbox J G) → CutIsOne box since
-  cut_is_one box since now old newer fault k = (cut_short now k.received k.cut.frames k.cut.refused, record { over = k.over; taken = k.cut.taken; next = k.cut.next })
+  cut_is_one box since now old newer fault k = record {
+    received = k.received;
+    frames = k.cut.frames;
+    refused = k.cut.refused;
+    cut = record { over = k.over; taken = k.cut.taken; next = k.cut.next };
+    holds = k.cut.holds;
+  }

@@ -108,7 +108,7 @@ first_go h c m now s =
     (one h (course_after c (reserve ∷ [])) (run m (reserve ∷ [])) (tick now) x.after (record { may_call = tt; comes = tt }) (tick_done (run m (reserve ∷ [])) now x.after.done))
 
 -- a frame, and its act
-frame_goes : (h : List Entry) (now : ℕ) (c : Course) (l : Line) (t : TakenFrame) → Steady h c l.machine → IsTaken now l t → Goes h c l.machine (frame_calls now t)
+pub frame_goes : (h : List Entry) (now : ℕ) (c : Course) (l : Line) (t : TakenFrame) → Steady h c l.machine → IsTaken now l t → Goes h c l.machine (frame_calls now t)
 frame_goes h now c l t s k = by_test t.recorded k.recorded
   where
     o : Outcome

@@ -3,3 +3,4 @@ pub mod Outbox
 pub mod Working
 pub mod Running
 pub mod Sent
+pub mod Adding

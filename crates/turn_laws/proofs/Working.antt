@@ -96,7 +96,7 @@ turn_makes_calls before after old new (link_lost now) k = ap (λ (l : Line). l.m
 turn_makes_calls before after old new (cut_short now received frames refused) k = absurd k
 turn_makes_calls before after old new not_begun k = absurd k
 
-steady_at : (h : List Entry) (c : Course) (l : Line) → StandsAt h c l → Steady h c l.machine
+pub steady_at : (h : List Entry) (c : Course) (l : Line) → StandsAt h c l → Steady h c l.machine
 steady_at h c l s = record { stands = s.stands; is = s.machine; done = s.done }
 
 pub turn_may_stand : TurnMayStand

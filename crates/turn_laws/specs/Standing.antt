@@ -1,12 +1,13 @@
 -- Each call of a turn may come where it came, in the words of the laws over connections.
-use Rattle.std.specs.Prelude.{◌≡◌, ◌^◌, ◌<◌, List, length, None}
+use Rattle.std.specs.Prelude.{◌≡◌, ℕ, ◌^◌, ◌<◌, List, ◌++◌, length, None}
 use mathlib.Core.List.{IsPrefix}
 use Rattle.session_model.specs.Journal.{Entry, History}
-use Rattle.conn_turns.specs.Lines.{Line}
-use Rattle.conn_turns.specs.Turns.{Turn, calls_of}
+use Rattle.conn_turns.specs.Lines.{Line, TakenFrame}
+use Rattle.conn_turns.specs.Frames.{added}
+use Rattle.conn_turns.specs.Turns.{Turn, cut_short, calls_of}
 use Rattle.connection_laws.specs.Courses.{Course, course_after}
 use Rattle.connection_laws.specs.Standing.{Stands, AllMayStand}
-use Rattle.turn_laws.specs.Turns.{IsTurn, IsCut}
+use Rattle.turn_laws.specs.Turns.{line_received, IsTurn, IsCutShort, IsCut, adds_in}
 
 -- a connection stands where the line of a turn is, with no act to be done
 pub record StandsAt (h : List Entry) (c : Course) (l : Line) : Type 0 where
@@ -31,3 +32,14 @@ TurnMayStand = (h : List Entry) (before after : History) (old new : Line) (t : T
 -- and each call of one that was cut short
 abbrev pub CutMayStand : Type 0
 CutMayStand = (h : List Entry) (old : Line) (t : Turn) (c : Course) → StandsAt h c old → IsCut old t → AllMayStand h c (calls_of t)
+
+-- what the connection adds to the inbox over a whole turn is what its frames add
+abbrev pub TurnAdds : Type 0
+TurnAdds = (h : List Entry) (before after : History) (old new : Line) (t : Turn) (c : Course)
+    → StandsAt h c old → IsTurn before after old new t → (course_after c (calls_of t)).added ≡ c.added ++ adds_in old t
+
+-- and over one that was cut short, without the frame whose act was refused, what those before it add
+abbrev pub CutAdds : Type 0
+CutAdds = (h : List Entry) (old : Line) (now : ℕ) (received : List ℕ) (frames : List TakenFrame) (c : Course)
+    → StandsAt h c old → (k : IsCutShort now received frames None old)
+    → (course_after c (calls_of (cut_short now received frames None))).added ≡ c.added ++ added now (line_received old now received k.over) frames

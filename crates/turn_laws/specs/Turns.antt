@@ -2,8 +2,10 @@
 use Rattle.std.specs.Prelude.{◌≡◌, ℕ, ◌||◌, Bool, List, [], ◌∷◌, ◌++◌, Option, IfSome}
 use mathlib.Core.List.{IsPrefix}
 use Rattle.session_model.specs.Journal.{History}
+use Rattle.session_model.specs.Inbox.{InboxRecord}
 use Rattle.reply_laws.specs.Machine.{link_end, run}
 use Rattle.conn_turns.specs.Lines.{Line, TakenFrame, IsNext, AreTaken, lines_after}
+use Rattle.conn_turns.specs.Frames.{added}
 use Rattle.conn_turns.specs.Turns.{Work, Turn, only_sends, works, link_lost, cut_short, not_begun, sending_calls, is_end}
 use Rattle.conn_turns.specs.Exact.{Served, line_ticked}
 
@@ -42,3 +44,11 @@ IsCut old (works w) = ⊥
 IsCut old (link_lost now) = ⊥
 IsCut old (cut_short now received frames refused) = IsCutShort now received frames refused old
 IsCut old not_begun = ⊥
+
+-- the records that a whole turn adds to the inbox: those of the frames that it took
+abbrev pub adds_in : Line → Turn → List InboxRecord
+adds_in old (only_sends now sent lost) = []
+adds_in old (works w) = added w.now (line_received old w.now w.received (old.over || is_end w.got)) w.frames
+adds_in old (link_lost now) = []
+adds_in old (cut_short now received frames refused) = []
+adds_in old not_begun = []

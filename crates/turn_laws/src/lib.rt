@@ -9,4 +9,4 @@ mod turns;
 pub use legs::{
     given_up_begins, refused_waits, sent_are_written, turns_refused, turns_run, turns_serve,
 };
-pub use turns::{cut_may_stand, turn_may_stand};
+pub use turns::{cut_adds, cut_may_stand, turn_adds, turn_may_stand};

@@ -1,6 +1,6 @@
 //! The calls of one turn.
 
-ghost use Rattle.turn_laws.specs.Standing.{TurnMayStand, CutMayStand};
+ghost use Rattle.turn_laws.specs.Standing.{TurnMayStand, CutMayStand, TurnAdds, CutAdds};
 
 /// Each call of a whole turn may come where it came, and the connection stands again where the turn left the line.
 pub fn turn_may_stand()
@@ -10,4 +10,14 @@ pub fn turn_may_stand()
 /// So may each call of a turn that was cut short, up to that of the frame whose act was refused.
 pub fn cut_may_stand()
     ensures law { CutMayStand }
+{}
+
+/// What a connection adds to the inbox over a whole turn is what the frames of the turn add.
+pub fn turn_adds()
+    ensures law { TurnAdds }
+{}
+
+/// So it is over a turn that was cut short behind frames.
+pub fn cut_adds()
+    ensures law { CutAdds }
 {}
