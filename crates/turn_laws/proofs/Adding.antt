@@ -1,5 +1,5 @@
 -- What a connection adds to the inbox over a turn is what the frames of the turn add.
-use Rattle.std.proofs.Common.{◌≡◌, ℕ, ◌-◌, Bool, true, false, if◌then◌else◌, List, [], ◌∷◌, ◌++◌, Option, Some, None, refl, sym, ap, subst, ◌∙◌, append-nil, append_assoc}
+use Rattle.std.proofs.Common.{◌≡◌, ℕ, ◌-◌, Bool, true, false, if◌then◌else◌, List, [], ◌∷◌, ◌++◌, Option, Some, refl, sym, ap, subst, ◌∙◌, append-nil, append_assoc}
 use Rattle.std.specs.Prelude.{⊤, ◌||◌}
 use Rattle.std.specs.List.{AllByRecursion}
 use Rattle.session_model.specs.Journal.{Entry}
@@ -12,13 +12,14 @@ use Rattle.reply_laws.specs.Machine.{State, Call, begin, frame, bad_frame, did, 
 use Rattle.growth_laws.specs.Accepting.{records_of}
 use Rattle.conn_turns.specs.Lines.{Line, TakenFrame, reply_at, frame_calls, line_after, AreTaken}
 use Rattle.conn_turns.specs.Frames.{adds, added}
-use Rattle.conn_turns.specs.Turns.{Work, only_sends, works, link_lost, cut_short, not_begun, first_calls, calls_of_frames, bad_calls, end_calls, closing_calls, again_calls, live_calls, finish_calls, outbox_calls, sending_calls, is_end}
+use Rattle.conn_turns.specs.Turns.{Work, only_sends, works, link_lost, cut_short, not_begun, first_calls, calls_of_frames, closing_calls, outbox_calls, sending_calls, is_end}
 use Rattle.connection_laws.specs.Courses.{Waiting, Course, counting, called, next_done, next_course, course_after}
 use Rattle.connection_laws.proofs.Continuing.{state_is_run}
 use Rattle.turn_laws.specs.Turns.{line_received}
 use Rattle.turn_laws.specs.Standing.{TurnAdds, CutAdds}
 use Rattle.turn_laws.proofs.Going.{Steady, Goes, after_append, first_go, frame_goes}
 use Rattle.turn_laws.proofs.Working.{steady_at}
+use Rattle.turn_laws.proofs.Each.{closing_all, outbox_all}
 
 -- a call by which nothing is added
 abbrev AddsNothing : Call → Type 0
@@ -53,35 +54,13 @@ add_nothing : (c : Course) (cs : List Call) → AllByRecursion AddsNothing cs �
 add_nothing c [] all = refl
 add_nothing c (call ∷ later) all = add_nothing (next_course c call) later all.1 ∙ adds_nothing c call all.0
 
-closing_adds : (now : ℕ) (broken : Option ℕ) (over : Bool) → AllByRecursion AddsNothing (bad_calls now broken ++ (end_calls over ++ turn_done now ∷ []))
-closing_adds now None true = (tt, (tt, tt))
-closing_adds now None false = (tt, tt)
-closing_adds now (Some at) true = (tt, (tt, (tt, tt)))
-closing_adds now (Some at) false = (tt, (tt, tt))
-
-again_adds : (now : ℕ) (sent : Option (List (List ℕ))) → AllByRecursion AddsNothing (again_calls now sent)
-again_adds now None = tt
-again_adds now (Some x) = (tt, tt)
-
-live_adds : (now : ℕ) (sent : Option (List (List ℕ))) → AllByRecursion AddsNothing (live_calls now sent)
-live_adds now None = tt
-live_adds now (Some x) = (tt, tt)
-
-finish_adds : (now : ℕ) (finish : Option ℕ) → AllByRecursion AddsNothing (finish_calls now finish)
-finish_adds now None = tt
-finish_adds now (Some n) = (tt, tt)
-
-outbox_adds : (w : Work) → AllByRecursion AddsNothing (outbox_calls w)
-outbox_adds w = all_append AddsNothing (again_calls w.now w.again) (live_calls w.now w.live ++ finish_calls w.now w.finish) (again_adds w.now w.again)
-    (all_append AddsNothing (live_calls w.now w.live) (finish_calls w.now w.finish) (live_adds w.now w.live) (finish_adds w.now w.finish))
-
 sending_adds : (sent : List ℕ) (lost : Bool) → AllByRecursion AddsNothing (sending_calls sent lost)
 sending_adds sent true = (tt, tt)
 sending_adds sent false = (tt, tt)
 
 behind_frames : (w : Work) → AllByRecursion AddsNothing (closing_calls w ++ (outbox_calls w ++ sending_calls w.sent w.lost))
-behind_frames w = all_append AddsNothing (closing_calls w) (outbox_calls w ++ sending_calls w.sent w.lost) (closing_adds w.now w.broken w.link_over)
-    (all_append AddsNothing (outbox_calls w) (sending_calls w.sent w.lost) (outbox_adds w) (sending_adds w.sent w.lost))
+behind_frames w = all_append AddsNothing (closing_calls w) (outbox_calls w ++ sending_calls w.sent w.lost) (closing_all AddsNothing w.now w.broken w.link_over (λ _. tt) tt tt)
+    (all_append AddsNothing (outbox_calls w) (sending_calls w.sent w.lost) (outbox_all AddsNothing w.now w.again w.live w.finish (λ _. tt) (λ _. tt) (λ _. tt)) (sending_adds w.sent w.lost))
 
 -- a frame, and its act
 did_adds : (d : Course) (now : ℕ) (o : Outcome) (w : Waiting) → d.state.pending ≡ Some o → d.waiting ≡ Some w → (next_course d (did now)).added ≡ d.added ++ records_of o.act w.incoming

@@ -1,4 +1,5 @@
 pub mod Going
+pub mod Each
 pub mod Outbox
 pub mod Working
 pub mod Running

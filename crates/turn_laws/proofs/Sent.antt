@@ -15,7 +15,7 @@ use Rattle.fixp_replies.specs.declared.act.Ending.{Ending}
 use Rattle.fixp_replies.specs.Events.{link_ending}
 use Rattle.reply_laws.specs.Machine.{State, Call, begin, frame, bad_frame, did, tick, turn_done, closed, link_end, live, again, taken, reserve, around, link_ended, run}
 use Rattle.conn_turns.specs.Lines.{Line, TakenFrame, frame_calls}
-use Rattle.conn_turns.specs.Turns.{Work, Turn, only_sends, works, link_lost, cut_short, not_begun, first_calls, calls_of_frames, bad_calls, end_calls, closing_calls, again_calls, live_calls, finish_calls, outbox_calls, sending_calls, calls_of}
+use Rattle.conn_turns.specs.Turns.{Work, Turn, only_sends, works, link_lost, cut_short, not_begun, first_calls, calls_of_frames, closing_calls, outbox_calls, sending_calls, calls_of}
 use Rattle.conn_turns.proofs.Taking.{run_append}
 use Rattle.connection_laws.specs.Writing.{Piece, bytes_of_piece, bytes_written}
 use Rattle.connection_laws.specs.Courses.{Waiting, Course, counting, called, next_done, next_course, beginning, course_after}
@@ -26,6 +26,7 @@ use Rattle.turn_laws.specs.Standing.{StandsAt, Has}
 use Rattle.turn_laws.specs.Legs.{AreTurns, first_line, sent_in, sent_on, whole_in, course_on, SentAreWritten, GivenUpBegins}
 use Rattle.turn_laws.proofs.Going.{after_append}
 use Rattle.turn_laws.proofs.Working.{turn_may_stand}
+use Rattle.turn_laws.proofs.Each.{closing_all, outbox_all}
 use Rattle.turn_laws.proofs.Running.{all_seen, turns_stand, begin_stands, cut_stands, whole_first}
 
 -- a call by which the link takes nothing
@@ -83,22 +84,6 @@ frames_take : (now : ℕ) (frames : List TakenFrame) → AllByRecursion TakesNot
 frames_take now [] = tt
 frames_take now (t ∷ later) = all_append TakesNothing (frame_calls now t) (calls_of_frames now later) (frame_takes now t) (frames_take now later)
 
-closing_takes : (now : ℕ) (broken : Option ℕ) (over : Bool) → AllByRecursion TakesNothing (bad_calls now broken ++ (end_calls over ++ turn_done now ∷ []))
-closing_takes now None true = (tt, (tt, tt))
-closing_takes now None false = (tt, tt)
-closing_takes now (Some at) true = (tt, (tt, (tt, tt)))
-closing_takes now (Some at) false = (tt, (tt, tt))
-
-outbox_takes : (now : ℕ) (agains lives : Option (List (List ℕ))) (finish : Option ℕ) → AllByRecursion TakesNothing (again_calls now agains ++ (live_calls now lives ++ finish_calls now finish))
-outbox_takes now None None None = tt
-outbox_takes now None None (Some n) = (tt, tt)
-outbox_takes now None (Some l) None = (tt, tt)
-outbox_takes now None (Some l) (Some n) = (tt, (tt, tt))
-outbox_takes now (Some a) None None = (tt, tt)
-outbox_takes now (Some a) None (Some n) = (tt, (tt, tt))
-outbox_takes now (Some a) (Some l) None = (tt, (tt, tt))
-outbox_takes now (Some a) (Some l) (Some n) = (tt, (tt, (tt, tt)))
-
 abbrev before_sending : Work → List Call
 before_sending w = first_calls w.now ++ (calls_of_frames w.now w.frames ++ (closing_calls w ++ outbox_calls w))
 
@@ -108,7 +93,7 @@ work_takes w = (
   (
     tt,
     all_append TakesNothing (calls_of_frames w.now w.frames) (closing_calls w ++ outbox_calls w) (frames_take w.now w.frames)
-        (all_append TakesNothing (closing_calls w) (outbox_calls w) (closing_takes w.now w.broken w.link_over) (outbox_takes w.now w.again w.live w.finish)),
+        (all_append TakesNothing (closing_calls w) (outbox_calls w) (closing_all TakesNothing w.now w.broken w.link_over (λ _. tt) tt tt) (outbox_all TakesNothing w.now w.again w.live w.finish (λ _. tt) (λ _. tt) (λ _. tt))),
   ),
 )
 
