@@ -7,8 +7,12 @@ use atomic_table::Seat;
 use std::hint::spin_loop;
 use std::sync::Wait;
 
-/// How often a pass looks for its turn before it sleeps.
-const LOOKS: u32 = 100;
+/// How often a caller without a ticket looks whether the lock is open before it sleeps. It is little: who looks for long meets
+/// the moment between two turns of whoever runs, and then both wait for each other at each turn.
+const LOOKS: u32 = 20;
+
+/// How often a pass with a ticket looks for its turn before it sleeps. It is much, since nobody goes before it while it sleeps.
+const TICKET_LOOKS: u32 = 2000;
 
 impl<T: Logged> TurnLock<T> {
     ghost use Rattle.std.specs.Prelude.{◌≡◌, [], ◌∷◌, Some, None};
@@ -78,7 +82,7 @@ impl<T: Logged> TurnLock<T> {
 
     /// Waits until another ticket than this one is served. It may also return for no reason.
     fn await_next<R: Wait>(&self, serving: u64, rt: &R) {
-        for _ in 0..LOOKS {
+        for _ in 0..TICKET_LOOKS {
             if self.table.shared.peek(SERVING) != serving {
                 return;
             }
