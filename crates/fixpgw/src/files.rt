@@ -178,7 +178,14 @@ impl<'a> Run<'a> {
                 }
                 None => input_line(alloc, self.input, outside.input.kept(), bad),
             },
-            Status::Done | Status::Words | Status::Memory => Ok(None),
+            Status::Done
+            | Status::Words
+            | Status::DialFault
+            | Status::Unfinished { .. }
+            | Status::Rejected { .. }
+            | Status::Full { .. }
+            | Status::Turns
+            | Status::Memory => Ok(None),
         }
     }
 
