@@ -12,8 +12,9 @@ mod usage;
 
 use files::run_over_files;
 use gateway::{Status, command_of};
+use gw_real::{FileDisk, Opening};
 use report::{Report, finish};
-use sessions::{Session, run_over_sockets};
+use sessions::{Session, SessionFiles, run_over_sockets};
 use std::io;
 use std::process::ExitCode;
 use std::rt::Env;
@@ -51,7 +52,13 @@ fn main(rt: HostRuntime) -> ExitCode {
     };
     let words = words.as_slice();
     if let Some(session) = Session::of(words) {
-        let report = run_over_sockets(&rt, session);
+        let (others, journals) = (session.others(), session.journals());
+        let files = SessionFiles {
+            out_disk: FileDisk::new(&rt, session.outbox, &journals, Opening::Write),
+            in_disk: FileDisk::new(&rt, session.inbox, &journals, Opening::Write),
+            others: &others,
+        };
+        let report = run_over_sockets(&rt, session, files);
         return finish(&rt, report);
     }
     if command_of(words).is_some() {

@@ -2,7 +2,7 @@
 
 use crate::again::text_of_file;
 use crate::lines::{disk_line, input_line, journal_line, sink_line, source_line};
-use crate::sessions::{Devices, Reasoned, Session};
+use crate::sessions::{Devices, SaysWhy, Session};
 use fault_text::{Wanted, config_fault, file_name, plan_line, rejected};
 use gateway::{Bad, Status, Which};
 use gw_outside::Disk;
@@ -10,7 +10,9 @@ use gw_real::{DiskReason, Named};
 use gw_sockets::SocketReason;
 use session_config::read_configuration;
 use std::alloc::{AllocError, Global};
+use std::fs::File;
 use std::io::ErrorKind;
+use std::rt::Files;
 
 /// A file's role and path behind each other, and what is wrong with it.
 fn said_of(alloc: Global, name: Named<'_>, what: &str) -> Result<Option<String>, AllocError> {
@@ -45,10 +47,10 @@ fn unfinished_line(alloc: Global, session: Session<'_>) -> Result<Option<String>
 }
 
 /// Which journal is full: the one whose file is as long as the full journal.
-fn full_line<N: Reasoned>(
+fn full_line<R, D: Disk, N>(
     alloc: Global,
     session: Session<'_>,
-    outside: &mut Devices<'_, N>,
+    outside: &mut Devices<'_, R, D, N>,
     entries: u64,
     bytes: u64,
 ) -> Result<Option<String>, AllocError> {
@@ -65,11 +67,11 @@ fn full_line<N: Reasoned>(
 }
 
 /// The line of INPUT that gives no payload to a sender, as far as INPUT can be read again.
-fn plan_fault_line<N: Reasoned>(
-    rt: &HostRuntime,
+fn plan_fault_line<R: Files<File = File>, D, N>(
+    rt: &R,
     alloc: Global,
     session: Session<'_>,
-    outside: &Devices<'_, N>,
+    outside: &Devices<'_, R, D, N>,
     bad: &Bad,
 ) -> Result<Option<String>, AllocError> {
     if let Bad::Line { line } = bad
@@ -98,7 +100,7 @@ fn advice(reason: SocketReason) -> &'static str {
 }
 
 /// Why a connection was not to be had.
-fn dial_line<N: Reasoned>(
+fn dial_line<N: SaysWhy<SocketReason>>(
     alloc: Global,
     session: Session<'_>,
     dialer: &N,
@@ -116,11 +118,11 @@ fn dial_line<N: Reasoned>(
 }
 
 /// What is wrong with a device, in a line; none where the status says all.
-fn device_line<N: Reasoned>(
+fn device_line<'a, R, D: SaysWhy<DiskReason<'a>>, N: SaysWhy<SocketReason>>(
     alloc: Global,
     session: Session<'_>,
     status: &Status,
-    outside: &Devices<'_, N>,
+    outside: &Devices<'_, R, D, N>,
 ) -> Result<Option<String>, AllocError> {
     match status {
         Status::InputFault => match (outside.config.reason(), outside.input.reason()) {
@@ -132,7 +134,7 @@ fn device_line<N: Reasoned>(
             Some(reason) => sink_line(alloc, outside.out.name(), reason),
             None => Ok(None),
         },
-        Status::JournalFault => match (outside.out_disk.reason(), outside.in_disk.reason()) {
+        Status::JournalFault => match (outside.out_disk.why(), outside.in_disk.why()) {
             (Some(reason), _) => journal_fault_line(alloc, session.outbox, reason),
             (None, Some(reason)) => journal_fault_line(alloc, session.inbox, reason),
             (None, None) => Ok(None),
@@ -143,12 +145,17 @@ fn device_line<N: Reasoned>(
 }
 
 /// What is wrong, in a line; none where the status says all.
-pub fn line_of<N: Reasoned>(
-    rt: &HostRuntime,
+pub fn line_of<
+    'a,
+    R: Files<File = File>,
+    D: Disk + SaysWhy<DiskReason<'a>>,
+    N: SaysWhy<SocketReason>,
+>(
+    rt: &R,
     alloc: Global,
     session: Session<'_>,
     status: &Status,
-    outside: &mut Devices<'_, N>,
+    outside: &mut Devices<'_, R, D, N>,
 ) -> Result<Option<String>, AllocError> {
     match status {
         Status::Config(fault) => {
