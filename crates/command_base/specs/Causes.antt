@@ -3,7 +3,7 @@ use Rattle.std.specs.Prelude.{ℕ, ◌≤◌, ◌⊎◌}
 use Rattle.gw_outside.specs.Faults.{HasRisen}
 use Rattle.command_base.specs.declared.outside.Outside.{Outside}
 use Rattle.command_base.specs.declared.status.Status.{Status}
-use Rattle.command_base.specs.declared.status.Status.TheVariants.{InputFault, OutputFault, JournalFault}
+use Rattle.command_base.specs.declared.status.Status.TheVariants.{InputFault, OutputFault, JournalFault, DialFault}
 
 -- the counts of faults of the six devices
 pub record Counts : Type 0 where
@@ -47,3 +47,29 @@ IsCaused before after InputFault = HasRisen before.config after.config ⊎ HasRi
 IsCaused before after OutputFault = HasRisen before.wire after.wire ⊎ HasRisen before.out after.out
 IsCaused before after JournalFault = HasRisen before.out_disk after.out_disk ⊎ HasRisen before.in_disk after.in_disk
 IsCaused before after _ = Unit {0}
+
+-- the counts of faults of the devices of a session, beside its clock, which has none
+pub record SessionCounts : Type 0 where
+  pub config : ℕ
+  pub input : ℕ
+  pub out : ℕ
+  pub out_disk : ℕ
+  pub in_disk : ℕ
+  pub dialer : ℕ
+
+-- no count fell
+pub record NoneFellInSession (before after : SessionCounts) : Type 0 where
+  pub config : before.config ≤ after.config
+  pub input : before.input ≤ after.input
+  pub out : before.out ≤ after.out
+  pub out_disk : before.out_disk ≤ after.out_disk
+  pub in_disk : before.in_disk ≤ after.in_disk
+  pub dialer : before.dialer ≤ after.dialer
+
+-- a status of a session that blames a device comes only where a count of such a device rose
+abbrev pub IsCausedInSession : SessionCounts → SessionCounts → Status → Type 0
+IsCausedInSession before after InputFault = HasRisen before.config after.config ⊎ HasRisen before.input after.input
+IsCausedInSession before after OutputFault = HasRisen before.out after.out
+IsCausedInSession before after JournalFault = HasRisen before.out_disk after.out_disk ⊎ HasRisen before.in_disk after.in_disk
+IsCausedInSession before after DialFault = HasRisen before.dialer after.dialer
+IsCausedInSession before after _ = Unit {0}

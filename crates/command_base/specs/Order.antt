@@ -4,13 +4,18 @@ use Rattle.std.specs.Prelude.{◌≡◌, ℕ, ◌⊎◌}
 use Rattle.gw_outside.specs.Faults.{HasRisen}
 use Rattle.command_base.specs.declared.outside.Outside.{Outside}
 use Rattle.command_base.specs.declared.status.Status.{Status}
-use Rattle.command_base.specs.declared.status.Status.TheVariants.{Words, InputFault, JournalFault, JournalBad}
+use Rattle.command_base.specs.declared.status.Status.TheVariants.{Words, InputFault, JournalFault, JournalBad, DialFault, Unfinished, Rejected, Full, Turns}
 
--- the statuses of a command that opens no journal, once its words are listed
+-- the statuses of a command that opens no journal and makes no connection, once its words are listed
 abbrev pub IsOfStreams : Status → Type 0
 IsOfStreams Words = ⊥
 IsOfStreams JournalFault = ⊥
 IsOfStreams (JournalBad which cause) = ⊥
+IsOfStreams DialFault = ⊥
+IsOfStreams (Unfinished phase) = ⊥
+IsOfStreams (Rejected template code) = ⊥
+IsOfStreams (Full entries bytes) = ⊥
+IsOfStreams Turns = ⊥
 IsOfStreams _ = Unit {0}
 
 -- the disks are as they were

@@ -2,7 +2,7 @@
 
 ghost use Rattle.std.specs.Prelude.{◌≡◌};
 
-use fixp_shake::Violation;
+use fixp_shake::{Phase, Violation};
 use jr_boxes::{JournalCause, Which};
 use sbe_encode::EncodeFault;
 use sbe_grammar::DecodeFault;
@@ -60,6 +60,21 @@ pub enum Status {
     /// A journal is none that the command can use.
     #[error("journal: {cause}")]
     JournalBad { which: Which, cause: JournalCause },
+    /// A connection was not to be had.
+    #[error("dial: a connection was not to be had")]
+    DialFault,
+    /// No connection is left, and both finishes were not exchanged; the last connection stood there.
+    #[error("no connection is left, and not all was exchanged")]
+    Unfinished { phase: Phase },
+    /// The peer rejected the handshake by a message of this template, with this code.
+    #[error("the peer rejected the session: message {template}, code {code}")]
+    Rejected { template: u16, code: u8 },
+    /// A journal is at its limit; it has so many entries, and so many bytes.
+    #[error("a journal is full at {entries} entries and {bytes} bytes")]
+    Full { entries: u64, bytes: u64 },
+    /// One connection took 2^40 turns, and did not end.
+    #[error("a connection took 2^40 turns and did not end")]
+    Turns,
     /// The input is wrong at some place.
     #[error("input: {0}")]
     Message(Bad),
@@ -84,6 +99,11 @@ impl Status {
             Status::OutputFault => 4,
             Status::JournalFault => 5,
             Status::JournalBad { .. } => 6,
+            Status::DialFault => 7,
+            Status::Unfinished { .. } => 8,
+            Status::Rejected { .. } => 9,
+            Status::Full { .. } => 10,
+            Status::Turns => 11,
             Status::Message(_) => 12,
             Status::Memory => 14,
         }
@@ -101,6 +121,11 @@ impl Status {
             Status::OutputFault => "output-fault",
             Status::JournalFault => "journal-fault",
             Status::JournalBad { .. } => "journal-bad",
+            Status::DialFault => "dial-fault",
+            Status::Unfinished { .. } => "unfinished",
+            Status::Rejected { .. } => "rejected",
+            Status::Full { .. } => "full",
+            Status::Turns => "turns",
             Status::Message(_) => "message",
             Status::Memory => "memory",
         }

@@ -9,7 +9,7 @@ use Rattle.sbe_layout.specs.declared.plan.Plan.{Plan}
 use Rattle.command_base.specs.declared.status.Bad.{Bad}
 use Rattle.command_base.specs.declared.status.Bad.TheVariants as bad
 use Rattle.command_base.specs.declared.status.Status.{Status}
-use Rattle.command_base.specs.declared.status.Status.TheVariants.{Done, Words, Config, InputFault, OutputFault, JournalFault, JournalBad, Message, Memory}
+use Rattle.command_base.specs.declared.status.Status.TheVariants.{Done, Words, Config, InputFault, OutputFault, JournalFault, JournalBad, DialFault, Unfinished, Rejected, Full, Turns, Message, Memory}
 use Rattle.decode_command.specs.declared.decoder.Decoder.{Decoder}
 use Rattle.decode_command.specs.Decoded.{Decoded, ends, behind, lines_of_frame, followed, next_number, next_place, status_at, frames_decoded, decoded_from}
 use Rattle.decode_command.specs.Progress.{goes_on, Keeps, Stops, Added, Wrong, Prints, Took, Takes}
@@ -117,3 +117,8 @@ takes-err A plan old new order message size InputFault e is = absurd is
 takes-err A plan old new order message size OutputFault e is = absurd is
 takes-err A plan old new order message size JournalFault e is = absurd is
 takes-err A plan old new order message size (JournalBad which cause) e is = absurd is
+takes-err A plan old new order message size DialFault e is = absurd is
+takes-err A plan old new order message size (Unfinished phase) e is = absurd is
+takes-err A plan old new order message size (Rejected template code) e is = absurd is
+takes-err A plan old new order message size (Full entries bytes) e is = absurd is
+takes-err A plan old new order message size Turns e is = absurd is

@@ -1,6 +1,8 @@
 //! What the value at a key has to be.
 
-use session_config::{DESKS, FLOW_WORDS, KEEPALIVE, ORDER_VERSION, REFERENCE, Range, SENDERS};
+use session_config::{
+    DESKS, FLOW_WORDS, KEEPALIVE, ORDER_VERSION, REFERENCE, Range, Role, SENDERS,
+};
 use std::alloc::AllocError;
 use toml::Value;
 
@@ -40,13 +42,57 @@ pub fn in_settings(key: &str) -> Admitted {
     }
 }
 
-/// What `answer` asks of a key on top, and what an absent key stands for.
-pub fn asked_by_answer(key: &str) -> Option<(&'static str, &'static str)> {
-    match key {
-        "client_flow" => Some(("\"unsequenced\"", "")),
-        "server_flow" => Some(("\"none\"", "")),
-        "senders" => Some(("0", "1")),
-        "desks" => Some(("0", "0")),
+/// What a command asks of a key on top.
+#[derive(Clone, Copy, Debug)]
+pub struct Asked {
+    /// Which command asks.
+    pub by: &'static str,
+    /// What it asks for.
+    pub value: &'static str,
+    /// Where it asks for that, behind a blank; nothing where it always does.
+    pub condition: &'static str,
+    /// What an absent key stands for.
+    pub default: &'static str,
+}
+
+/// What a command always asks of a key.
+const fn always(by: &'static str, value: &'static str, default: &'static str) -> Asked {
+    Asked {
+        by,
+        value,
+        condition: "",
+        default,
+    }
+}
+
+/// What a live command asks of `senders`, at which this is found: none exactly where its own flow is none.
+fn asked_of_senders(role: Role, by: &'static str, found: Option<&Value>) -> Asked {
+    let is_zero = matches!(found, Some(Value::Integer(0)));
+    let condition = match (role, is_zero) {
+        (Role::Connect, true) => " where client_flow is not \"none\"",
+        (Role::Connect, false) => " where client_flow is \"none\"",
+        (_, true) => " where server_flow is not \"none\"",
+        (_, false) => " where server_flow is \"none\"",
+    };
+    Asked {
+        by,
+        value: if is_zero { "from 1 to 16" } else { "0" },
+        condition,
+        default: "1",
+    }
+}
+
+/// What the command of a role asks of a key on top, at which this is found.
+pub fn asked_by(role: Role, key: &str, found: Option<&Value>) -> Option<Asked> {
+    match (role, key) {
+        (Role::Answer, "client_flow") => Some(always("answer", "\"unsequenced\"", "")),
+        (Role::Answer, "server_flow") => Some(always("answer", "\"none\"", "")),
+        (Role::Answer, "senders") => Some(always("answer", "0", "1")),
+        (Role::Answer, "desks") => Some(always("answer", "0", "0")),
+        (Role::Accept, "senders") => Some(asked_of_senders(role, "accept", found)),
+        (Role::Accept, "desks") => Some(always("accept", "0", "0")),
+        (Role::Connect, "senders") => Some(asked_of_senders(role, "connect", found)),
+        (Role::Connect, "desks") => Some(always("connect", "0", "0")),
         _ => None,
     }
 }

@@ -160,7 +160,7 @@ pub fn encode_line(
 }
 
 /// The line of a number, from 1.
-fn line_at(text: &[u8], number: u64) -> Option<&[u8]> {
+pub(crate) fn line_at(text: &[u8], number: u64) -> Option<&[u8]> {
     let mut left = text;
     for _ in 1..number {
         let (_, rest) = first_line(left)?;
@@ -168,6 +168,14 @@ fn line_at(text: &[u8], number: u64) -> Option<&[u8]> {
     }
     let (line, _) = first_line(left)?;
     Some(line)
+}
+
+/// Adds a line in quotes, as far as it is text.
+pub(crate) fn push_line_quoted(quoted: &mut String, line: &[u8]) -> Result<(), AllocError> {
+    match std::str::from_utf8(line) {
+        Ok(line) => push_quoted(quoted, line),
+        Err(_) => quoted.push_str("a line that is not UTF-8"),
+    }
 }
 
 /// The line of this number in a text, and what has to stand there.
@@ -183,10 +191,7 @@ pub fn text_line(
         return format!(in alloc; "line {number}: the text ends here, and {path} is awaited");
     };
     let mut quoted = String::new(alloc);
-    match std::str::from_utf8(line) {
-        Ok(line) => push_quoted(&mut quoted, line)?,
-        Err(_) => quoted.push_str("a line that is not UTF-8")?,
-    }
+    push_line_quoted(&mut quoted, line)?;
     let quoted = quoted.as_str();
     if has_path(line, awaited.as_slice()) {
         format!(in alloc; "line {number}: {quoted}: this is no value of {path}")

@@ -1,11 +1,12 @@
 //! What is wrong with CONFIG: the place, what was found there, and what would be right.
 
-use crate::admitted::{Admitted, asked_by_answer, in_schema, in_settings};
+use crate::admitted::{Admitted, Asked, asked_by, in_schema, in_settings};
 use crate::escape::push_path;
 use crate::schema::schema_fault;
 use crate::value::{found_at, last_key, push_value};
 use sbe_value::Path;
 use schema_toml::{ConfigFault, TEXT_LIMIT};
+use session_config::Role;
 use std::alloc::{AllocError, Global};
 use toml::Value;
 use toml_walk::TomlFault;
@@ -13,8 +14,8 @@ use toml_walk::TomlFault;
 /// What a command reads CONFIG as.
 #[derive(Clone, Copy, Debug)]
 pub enum Wanted {
-    /// The configuration of a session.
-    Settings,
+    /// The configuration of a session, for this role.
+    Session(Role),
     /// A schema.
     Schema,
 }
@@ -22,7 +23,7 @@ pub enum Wanted {
 /// What the value at a place has to be.
 fn admitted_at(wanted: Wanted, key: &str, found: Option<&Value>) -> Admitted {
     match wanted {
-        Wanted::Settings => in_settings(key),
+        Wanted::Session(_) => in_settings(key),
         Wanted::Schema => in_schema(key, found),
     }
 }
@@ -45,12 +46,25 @@ fn push_wrong_kind(
     admitted.push(line)
 }
 
+/// What a command asks of a key on top, at which this is found.
+fn asked_at(wanted: Wanted, key: &str, found: Option<&Value>) -> Option<Asked> {
+    match wanted {
+        Wanted::Session(role) => asked_by(role, key, found),
+        Wanted::Schema => None,
+    }
+}
+
 /// An absent key that is out of range has a default that the command does not take.
-fn push_absent(line: &mut String, key: &str) -> Result<(), AllocError> {
-    match asked_by_answer(key) {
-        Some((asked, default)) => write!(
+fn push_absent(line: &mut String, asked: Option<Asked>) -> Result<(), AllocError> {
+    match asked {
+        Some(Asked {
+            by,
+            value,
+            condition,
+            default,
+        }) => write!(
             line,
-            "is absent, which stands for {default}, and answer asks for {asked}"
+            "is absent, which stands for {default}, and {by} asks for {value}{condition}"
         ),
         None => line.push_str("is absent"),
     }
@@ -60,13 +74,18 @@ fn push_absent(line: &mut String, key: &str) -> Result<(), AllocError> {
 fn push_range(
     line: &mut String,
     admitted: Admitted,
-    key: &str,
-    value: &Value,
+    asked: Option<Asked>,
+    found: &Value,
 ) -> Result<(), AllocError> {
-    push_value(line, value)?;
-    match asked_by_answer(key) {
-        Some((asked, _default)) if admitted.holds(value) => {
-            write!(line, " is not {asked}, which answer asks for")
+    push_value(line, found)?;
+    match asked {
+        Some(Asked {
+            by,
+            value,
+            condition,
+            default: _,
+        }) if admitted.holds(found) => {
+            write!(line, " is not {value}, which {by} asks for{condition}")
         }
         _ => {
             line.push_str(" is not ")?;
@@ -158,11 +177,11 @@ fn push_toml_fault(
             line.push_str(" (WrongKind)")
         }
         (TomlFault::Range(_), Some(value)) => {
-            push_range(line, admitted, key, value)?;
+            push_range(line, admitted, asked_at(wanted, key, found), value)?;
             line.push_str(" (Range)")
         }
         (TomlFault::Range(_), None) => {
-            push_absent(line, key)?;
+            push_absent(line, asked_at(wanted, key, None))?;
             line.push_str(" (Range)")
         }
         _ => line.push_str("this key is not known here (UnknownKey)"),

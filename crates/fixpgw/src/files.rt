@@ -8,6 +8,7 @@ use gateway::{Bad, Command, Outside, Status, Which, command_of, run};
 use gw_real::{FileDisk, FileSink, FileSource, Named, Opening, STANDARD_OUTPUT};
 use schema_load::load;
 use schema_toml::TEXT_LIMIT;
+use session_config::Role;
 use sofh_frame::ROOM;
 use std::alloc::{AllocError, Global};
 use std::fs::File;
@@ -112,7 +113,7 @@ impl<'a> Run<'a> {
     /// What CONFIG is to the command.
     fn wanted(&self) -> Wanted {
         match self.command {
-            Command::Answer => Wanted::Settings,
+            Command::Answer => Wanted::Session(Role::Answer),
             Command::Check
             | Command::Decode
             | Command::Encode
@@ -177,7 +178,14 @@ impl<'a> Run<'a> {
                 }
                 None => input_line(alloc, self.input, outside.input.kept(), bad),
             },
-            Status::Done | Status::Words | Status::Memory => Ok(None),
+            Status::Done
+            | Status::Words
+            | Status::DialFault
+            | Status::Unfinished { .. }
+            | Status::Rejected { .. }
+            | Status::Full { .. }
+            | Status::Turns
+            | Status::Memory => Ok(None),
         }
     }
 

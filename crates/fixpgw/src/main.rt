@@ -6,11 +6,15 @@ mod again;
 mod files;
 mod lines;
 mod report;
+mod session_said;
+mod sessions;
 mod usage;
 
 use files::run_over_files;
 use gateway::{Status, command_of};
+use gw_real::{FileDisk, Opening};
 use report::{Report, finish};
+use sessions::{Session, SessionFiles, run_over_sockets};
 use std::io;
 use std::process::ExitCode;
 use std::rt::Env;
@@ -47,6 +51,16 @@ fn main(rt: HostRuntime) -> ExitCode {
         Err(_) => return finish(&rt, Report::bare(Status::Words)),
     };
     let words = words.as_slice();
+    if let Some(session) = Session::of(words) {
+        let (others, journals) = (session.others(), session.journals());
+        let files = SessionFiles {
+            out_disk: FileDisk::new(&rt, session.outbox, &journals, Opening::Write),
+            in_disk: FileDisk::new(&rt, session.inbox, &journals, Opening::Write),
+            others: &others,
+        };
+        let report = run_over_sockets(&rt, session, files);
+        return finish(&rt, report);
+    }
     if command_of(words).is_some() {
         let report = run_over_files(&rt, words);
         return finish(&rt, report);

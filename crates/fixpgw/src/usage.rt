@@ -1,15 +1,20 @@
 //! What the commands are, for people.
 
 use crate::report::Report;
+use crate::sessions::role_of;
 use fault_text::quoted;
 use gateway::Status;
-use std::alloc::AllocError;
+use std::alloc::{AllocError, Global};
 
 pub const VERSION: &str = "fixpgw 0.1.0";
 
 const USAGE: &str =
     "fixpgw: an order gateway for sessions of the FIX Performance Session Layer (FIXP) 1.1
 
+  fixpgw accept ADDRESS N CONFIG INPUT OUTBOX INBOX OUT
+                                        a session as the acceptor: listens at ADDRESS for up to N connections
+  fixpgw connect ADDRESS N CONFIG INPUT OUTBOX INBOX OUT
+                                        a session as the initiator: makes up to N connections to ADDRESS
   fixpgw answer CONFIG INPUT WIRE OUT   answers the recorded client in INPUT: replies to WIRE, messages to OUT
   fixpgw check CONFIG OUT               checks the schema in CONFIG, and prints its layout to OUT
   fixpgw decode CONFIG INPUT OUT        prints the messages in the frames of INPUT as text to OUT
@@ -22,7 +27,33 @@ const USAGE: &str =
 
 OUT may be -, which is standard output. The last line on standard output is `status N NAME`, and N is the
 exit status: 0 done, 1 words, 2 config, 3 input-fault, 4 output-fault, 5 journal-fault, 6 journal-bad,
-12 message, 14 memory.";
+7 dial-fault, 8 unfinished, 9 rejected, 10 full, 11 turns, 12 message, 14 memory.";
+
+const ACCEPT: &str = "usage: fixpgw accept ADDRESS N CONFIG INPUT OUTBOX INBOX OUT
+
+A session as the acceptor, which listens: what INPUT gives is sent, what the peer sends is taken, each message once and in
+order, over as many connections as it takes. Run again with the same journals, it goes on where they stand.
+
+  ADDRESS  where it listens, as 127.0.0.1:45617
+  N        how many connections there may be, 1 to 65535
+  CONFIG   the configuration of the session, as TOML (read)
+  INPUT    what the senders send: lines `SENDER HEX` (read)
+  OUTBOX   the journal of what is sent, made by fixpgw format (read and written)
+  INBOX    the journal of what is received, likewise
+  OUT      a line for each message received and each connection's end (written); - is standard output";
+
+const CONNECT: &str = "usage: fixpgw connect ADDRESS N CONFIG INPUT OUTBOX INBOX OUT
+
+A session as the initiator, which connects: what INPUT gives is sent, what the peer sends is taken, each message once and in
+order, over as many connections as it takes. Run again with the same journals, it goes on where they stand.
+
+  ADDRESS  where the acceptor listens, as 127.0.0.1:45617
+  N        how many connections there may be, 1 to 65535
+  CONFIG   the configuration of the session, as TOML (read)
+  INPUT    what the senders send: lines `SENDER HEX` (read)
+  OUTBOX   the journal of what is sent, made by fixpgw format (read and written)
+  INBOX    the journal of what is received, likewise
+  OUT      a line for each message received and each connection's end (written); - is standard output";
 
 const ANSWER: &str = "usage: fixpgw answer CONFIG INPUT WIRE OUT
 
@@ -74,8 +105,10 @@ Prints both journals of a session, a line for each record. Nothing is printed wh
 /// The usage of a command, if there is such a command.
 fn usage_of(command: &str) -> Option<&'static str> {
     match command {
+        "accept" => Some(ACCEPT),
         "answer" => Some(ANSWER),
         "check" => Some(CHECK),
+        "connect" => Some(CONNECT),
         "decode" => Some(DECODE),
         "encode" => Some(ENCODE),
         "format" => Some(FORMAT),
@@ -105,16 +138,33 @@ pub fn asked(words: &[String]) -> Option<&'static str> {
     None
 }
 
+/// The N of as many words as a session has, if they are one's; where these are no listed form it is at fault.
+fn connections_of(words: &[String]) -> Option<&str> {
+    match words {
+        [command, _, most, _, _, _, _, _] if role_of(command.as_str()).is_some() => {
+            Some(most.as_str())
+        }
+        _ => None,
+    }
+}
+
+/// What is wrong with the words of a command, in front of its usage.
+fn fault_of(alloc: Global, words: &[String], usage: &str) -> Result<String, AllocError> {
+    if let Some(most) = connections_of(words) {
+        let most = quoted(alloc, most)?;
+        return format!(in alloc; "N is {most}, and has to be a number from 1 to 65535\n\n{usage}");
+    }
+    let count = words.len();
+    format!(in alloc; "these {count} words are no form of this command\n\n{usage}")
+}
+
 /// What is wrong with words that are no listed form.
 fn line_of<R: AllocGlobal>(rt: &R, words: &[String]) -> Result<String, AllocError> {
     let Some(command) = words.first() else {
         return format!(in rt.alloc(); "no command is given\n\n{USAGE}");
     };
-    let count = words.len();
     match usage_of(command.as_str()) {
-        Some(usage) => {
-            format!(in rt.alloc(); "these {count} words are no form of this command\n\n{usage}")
-        }
+        Some(usage) => fault_of(rt.alloc(), words, usage),
         None => {
             let name = quoted(rt.alloc(), command.as_str())?;
             format!(in rt.alloc(); "there is no command {name}; fixpgw --help lists them")

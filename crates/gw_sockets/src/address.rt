@@ -1,9 +1,10 @@
 //! The addresses of a command line.
 
-ghost use Rattle.std.specs.Prelude.{string_bytes};
-ghost use Rattle.std.specs.Net.Grammar.{IsSocketV4Text, Parses};
+ghost use Rattle.std.specs.Prelude.{IfOk, IfErr};
+ghost use Rattle.std.specs.declared.net.socket_addr.SocketAddrV4.{SocketAddrV4};
+ghost use Rattle.session_words.specs.Words.{IsAddress};
 
-use std::net::{SocketAddr, SocketAddrV4};
+use std::net::SocketAddrV4;
 use thiserror::Error;
 
 /// A text is no address.
@@ -16,7 +17,11 @@ pub struct AddressFault;
 /// # Errors
 /// `AddressFault` exactly where it spells none.
 pub fn parse_address(text: &str) -> Result<SocketAddrV4, AddressFault>
-    ensures { Parses IsSocketV4Text text.now result }
+    ensures found { IfOk result (λ a. IsAddress text.now a) }
+    ensures fault { IfErr result (λ _. (a : SocketAddrV4) → IsAddress text.now a → ⊥) }
 {
-    text.parse::<SocketAddrV4>().map_err(|_fault| AddressFault)
+    match session_words::parse_address(text.as_bytes()) {
+        Some(address) => Ok(address),
+        None => Err(AddressFault),
+    }
 }

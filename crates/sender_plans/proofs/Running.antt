@@ -10,9 +10,11 @@ use Rattle.gate_turn.specs.Places.{known}
 use Rattle.gate_turn.proofs.Histories.{begins_self, begins_on}
 use Rattle.gate_senders.specs.Kept.{HasFailed}
 use Rattle.gate_senders.specs.Shown.{TakesTurn, Submitted, entry_after}
+use Rattle.gate_turn.specs.Calls.{IsFree}
+use Rattle.gate_senders.specs.Gate.{IsPassAt}
 use Rattle.gate_senders.specs.declared.gate.Gate.{Gate}
 use Rattle.sender_plans.specs.Sent.{entries_behind, StandAt, GoesOn, Sent, IsShown, refusals}
-use Rattle.sender_plans.specs.Runs.{plan_of, IsReady, WasRefused, Ran, Accepted, Refused}
+use Rattle.sender_plans.specs.Runs.{plan_of, IsReady, WasRefused, Ran, Counted, Accepted, Refused}
 use Rattle.sender_plans.specs.declared.sender.Sender.{Sender}
 
 -- the part of a list from a place on, by its first element
@@ -165,4 +167,15 @@ module _ {J : Type 0} {G : Ghosts J} (gate : Gate J G) where
     turns = r.turns;
     whole = r.whole;
     refused = λ f e. let w = r.refused f e in record { payload = w.payload; next = w.next; shown = w.shown };
+  }
+
+  -- what it has was counted
+  pub counts : (s t : Sender J G) → IsReady gate s → IsPassAt gate t.pass → IsFree t.pass → plan_of t ≡ plan_of s → TakesTurn (known s.pass) (known t.pass) → (known t.pass).mine ≡ (known s.pass).mine
+      → (known t.pass).ended ≡ (known s.pass).ended → t.done ≡ length (known t.pass).mine → Counted gate s t
+  counts s t ready own free plan turn mine ended done = record {
+    ready = record { own = record { own = own; sender = omega (arith, ready.own.sender, turn.number) }; free = free };
+    plan = plan;
+    pass = goes_turn (known s.pass) (known t.pass) turn ended;
+    mine = mine;
+    done = done;
   }

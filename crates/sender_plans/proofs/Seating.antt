@@ -1,7 +1,7 @@
 -- Passes that go from the list to senders, and back.
-use Rattle.std.proofs.Common.{◌≡◌, ◌≢◌, ⊎_elim, ℕ, ◌+◌, ◌<◌, ◌≤◌, List, [], ◌∷◌, ◌++◌, length, slice_index_or, All, Option, Some, None, refl, sym, ap, ◌∙◌, subst, arith, le_refl, length-append}
+use Rattle.std.proofs.Common.{◌≡◌, ◌≢◌, ⊎_elim, ℕ, ◌+◌, ◌<◌, ◌≤◌, List, [], ◌∷◌, ◌++◌, length, map, reverse, slice_index_or, All, Option, Some, None, refl, sym, ap, ◌∙◌, subst, arith, le_refl, length-append, append_assoc}
 use Rattle.std.proofs.lemmas.Option.{none-some, same_Some}
-use Rattle.std.proofs.lemmas.List.{get_or_append_left, get_or_push}
+use Rattle.std.proofs.lemmas.List.{get_or_append_left, get_or_push, map-append, reverse-append}
 use Rattle.std.proofs.lemmas.List.Elements.{All-push}
 use mathlib.Core.Logic.{dite}
 use Rattle.std.proofs.lemmas.Bool.{cases_lt}
@@ -17,7 +17,8 @@ use Rattle.gate_turn.specs.declared.passes.Passes.{Passes}
 use Rattle.gate_senders.specs.Gate.{IsPassAt, HasBackAt, MadeAt, AllBackAt}
 use Rattle.gate_senders.specs.declared.gate.Gate.{Gate}
 use Rattle.gate_senders.specs.declared.kept.Kept.{Kept}
-use Rattle.sender_plans.specs.Runs.{IsReady, RanEach}
+use Rattle.send_plans.specs.declared.plan.Plan.{Plan}
+use Rattle.sender_plans.specs.Runs.{IsReady, RanEach, CountedEach}
 use Rattle.sender_plans.specs.declared.sender.Sender.{Sender}
 use Rattle.sender_plans.specs.Seats.{IsBehind, Seated, HasBehind}
 
@@ -134,3 +135,30 @@ module _ {J : Type 0} {G : Ghosts J} (gate : Gate J G) (made : ℕ) where
     numbers = λ k d lt. let within : k < length before = omega (arith, lt, ran.long) in (ran.each k d within).pass.number ∙ h.numbers k d within;
     first = λ d lt. let within : 0 < length before = omega (arith, lt, ran.long) in (ran.each 0 d within).pass.made ∙ h.first d within;
   }
+
+  -- a count of what they have leaves them their passes
+  pub seated_counted : (before after : List (Sender J G)) → CountedEach gate before after → Seated gate before made → Seated gate after made
+  seated_counted before after counted h = record {
+    ready = λ k d lt. (counted.each k d (omega (arith, lt, counted.long))).ready;
+    numbers = λ k d lt. let within : k < length before = omega (arith, lt, counted.long) in (counted.each k d within).pass.number ∙ h.numbers k d within;
+    first = λ d lt. let within : 0 < length before = omega (arith, lt, counted.long) in (counted.each 0 d within).pass.made ∙ h.first d within;
+  }
+
+module _ {J : Type 0} {G : Ghosts J} where
+  -- one more plan was given out
+  pub plans_on : (all old rest : List Plan) (senders : List (Sender J G)) (s : Sender J G) → all ≡ old ++ reverse (map (λ (t : Sender J G). t.plan) senders) → old ≡ rest ++ s.plan ∷ []
+      → all ≡ rest ++ reverse (map (λ (t : Sender J G). t.plan) (senders ++ s ∷ []))
+  plans_on all old rest senders s whole split =
+      let given = map (λ (t : Sender J G). t.plan) senders in
+      whole ∙ ap (λ (ps : List Plan). ps ++ reverse given) split ∙ append_assoc rest (s.plan ∷ []) (reverse given)
+      ∙ sym (ap (λ (ps : List Plan). rest ++ ps) (ap reverse (map-append (λ (t : Sender J G). t.plan) senders (s ∷ [])) ∙ reverse-append given (s.plan ∷ [])))
+
+  -- each sender's pass is out of the list, with one more
+  pub passes_on : (old at : Passes (Kept J G)) (senders : List (Sender J G)) (s : Sender J G) (place : ℕ) → length senders ≡ place → Some s.pass ≡ pass_at at (place + 1)
+      → ((n : ℕ) → place < n → pass_at at n ≡ pass_at old n) → ((i : ℕ) (d : Sender J G) → i < place → pass_at old (i + 1) ≡ Some (slice_index_or senders i d).pass)
+      → (i : ℕ) (d : Sender J G) → i < place + 1 → pass_at old (i + 1) ≡ Some (slice_index_or (senders ++ s ∷ []) i d).pass
+  passes_on old at senders s place long there same before i d lt = dite (ℕ_discrete i place)
+      (λ e. ap (λ k. pass_at old (k + 1)) e ∙ sym (same (place + 1) (omega arith)) ∙ sym there ∙ ap (λ (t : Sender J G). Some t.pass) (sym (get_or_push senders s d i (long ∙ sym e))))
+      (λ ne.
+      let within : i < place = omega (arith, lt, ne) in
+      before i d within ∙ ap (λ (t : Sender J G). Some t.pass) (sym (get_or_append_left senders (s ∷ []) d i (omega (arith, within, long)))))

@@ -42,6 +42,19 @@ module _ {J : Type 0} {G : Ghosts J} where
     pub whole : t.refused ≡ None → length (plan_of s) ≤ t.done
     pub refused : (f : SubmitFault) → t.refused ≡ Some f → WasRefused s t f
 
+  -- the messages that the outbox has of it were counted as done, and nothing else changed
+  pub record Counted (gate : Gate J G) (s t : Sender J G) : Type 0 where
+    pub ready : IsReady gate t
+    pub plan : plan_of t ≡ plan_of s
+    pub pass : GoesOn (known s.pass) (known t.pass)
+    pub mine : (known t.pass).mine ≡ (known s.pass).mine
+    pub done : t.done ≡ length (known t.pass).mine
+
+  -- each sender was counted so, in its place
+  pub record CountedEach (gate : Gate J G) (before after : List (Sender J G)) : Type 0 where
+    pub long : length after ≡ length before
+    pub each : (i : ℕ) (d : Sender J G) → i < length before → Counted gate (slice_index_or before i d) (slice_index_or after i d)
+
   -- the next message of the plan was accepted, as some number
   pub record Accepted (gate : Gate J G) (s t : Sender J G) : Type 0 where
     pub ready : IsReady gate t

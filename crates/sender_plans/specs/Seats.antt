@@ -1,5 +1,5 @@
 -- Where the passes of a gate are while senders have them: so many with the senders, the others in the list.
-use Rattle.std.specs.Prelude.{◌≡◌, ℕ, ◌+◌, ◌<◌, ◌≤◌, List, length, slice_index_or, All, None}
+use Rattle.std.specs.Prelude.{◌≡◌, ℕ, ◌+◌, ◌<◌, ◌≤◌, List, length, map, reverse, slice_index_or, All, Some, None}
 use Rattle.jr_record.specs.declared.journal.Journal.{Ghosts}
 use Rattle.gate_turn.specs.Places.{known}
 use Rattle.gate_turn.specs.Listed.{pass_at, known_at}
@@ -7,6 +7,7 @@ use Rattle.gate_turn.specs.declared.passes.Passes.{Passes}
 use Rattle.gate_senders.specs.Gate.{HasBackAt}
 use Rattle.gate_senders.specs.declared.gate.Gate.{Gate}
 use Rattle.gate_senders.specs.declared.kept.Kept.{Kept}
+use Rattle.send_plans.specs.declared.plan.Plan.{Plan}
 use Rattle.sender_plans.specs.Runs.{IsReady}
 use Rattle.sender_plans.specs.declared.sender.Sender.{Sender}
 
@@ -21,6 +22,16 @@ module _ {J : Type 0} {G : Ghosts J} where
     pub ready : All (IsReady gate) senders
     pub numbers : (i : ℕ) (d : Sender J G) → i < length senders → (known (slice_index_or senders i d).pass).number ≡ i + 1
     pub first : (d : Sender J G) → 0 < length senders → (known (slice_index_or senders 0 d).pass).made ≡ made
+
+  -- they have them out of this list, and the plans of this list, of which the last is the first sender's
+  pub record SeatedFrom (passes : Passes (Kept J G)) (plans : List Plan) (senders : List (Sender J G)) : Type 0 where
+    pub passes_are : (i : ℕ) (d : Sender J G) → i < length senders → pass_at passes (i + 1) ≡ Some (slice_index_or senders i d).pass
+    pub plans_are : plans ≡ reverse (map (λ (s : Sender J G). s.plan) senders)
+
+  -- this list has the passes of the senders, and behind them those of the other list
+  pub record HasTheirs (old new : Passes (Kept J G)) (senders : List (Sender J G)) : Type 0 where
+    pub theirs : (i : ℕ) (d : Sender J G) → i < length senders → pass_at new (i + 1) ≡ Some (slice_index_or senders i d).pass
+    pub others : (n : ℕ) → length senders < n → pass_at new n ≡ pass_at old n
 
   -- the list has the passes behind the number k
   pub record HasBehind (gate : Gate J G) (passes : Passes (Kept J G)) (k made : ℕ) : Type 0 where

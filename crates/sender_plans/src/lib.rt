@@ -9,6 +9,6 @@ mod sender;
 
 pub use door::{Door, OpenDoor};
 pub use run::run_senders;
-pub use seats::{give_last, run_seated, seat, take_last, unseat};
+pub use seats::{count_done, give_last, run_seated, seat, take_last, unseat};
 pub use send_plans::Plan;
 pub use sender::Sender;

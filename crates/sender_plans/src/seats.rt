@@ -1,11 +1,11 @@
 //! The senders of a gate, made of its passes, run, and the passes given back.
-ghost use Rattle.std.specs.Prelude.{◌≡◌, ◌≢◌, ℕ, ◌+◌, ◌≤◌, All, [], length, vec_len, vec_capacity, None, Some, OnOk};
+ghost use Rattle.std.specs.Prelude.{◌≡◌, ◌≢◌, ℕ, ◌+◌, ◌<◌, ◌≤◌, All, [], length, vec_len, vec_capacity, None, Some, OnOk};
 ghost use Rattle.gate_turn.specs.Places.{known};
 ghost use Rattle.gate_turn.specs.Listed.{pass_at};
 ghost use Rattle.gate_turn.specs.Calls.{IsFree};
 ghost use Rattle.gate_senders.specs.Gate.{senders_of, IsPassAt, HasBackAt, MadeAt, AllBackAt};
-ghost use Rattle.sender_plans.specs.Runs.{IsReady, plan_of, RanEach, IsLowest};
-ghost use Rattle.sender_plans.specs.Seats.{Seated, HasBehind};
+ghost use Rattle.sender_plans.specs.Runs.{IsReady, plan_of, RanEach, IsLowest, CountedEach};
+ghost use Rattle.sender_plans.specs.Seats.{Seated, SeatedFrom, HasTheirs, HasBehind};
 
 use crate::door::Door;
 use crate::run::run_senders;
@@ -29,6 +29,7 @@ fn seated<J: Journal>(
     requires sender { number ≤ senders_of gate.now }
     ensures ready { IsReady gate.now result }
     ensures there { Some result.pass ≡ pass_at passes.old number }
+    ensures plan { result.plan ≡ plan }
     ensures number { (known result.pass).number ≡ number }
     ensures gone { pass_at passes.new number ≡ None }
     ensures others { (n : ℕ) → n ≢ number → pass_at passes.new n ≡ pass_at passes.old n }
@@ -58,6 +59,8 @@ pub fn seat<J: Journal>(
     ensures count { vec_len result ≡ vec_len plans }
     ensures seated { Seated gate.now result.items (vec_len plans + 1) }
     ensures behind { HasBehind gate.now passes.new (vec_len plans) (vec_len plans + 1) }
+    ensures from { SeatedFrom passes.old plans.items result.items }
+    ensures others { (n : ℕ) → vec_len plans < n → pass_at passes.new n ≡ pass_at passes.old n }
 {
     for place in 0..plans.len() as u16 {
         let Some(plan) = plans.pop() else {
@@ -66,6 +69,16 @@ pub fn seat<J: Journal>(
         senders.push_reserved(seated(gate, passes, place + 1, plan));
     }
     senders
+}
+
+/// Counts the messages that the outbox has of each sender as done, so that each goes on behind them.
+pub fn count_done<J: Journal, R: Wait>(gate: &Gate<J>, senders: &mut [Sender<J>], rt: &R)
+    requires ready { All (λ s. IsReady gate.now s) senders.old }
+    ensures each { CountedEach gate.now senders.old senders.new }
+{
+    for place in 0..senders.len() {
+        senders[place].count_done(gate, rt);
+    }
 }
 
 /// Runs the senders that were seated, as `run_senders` does.
@@ -100,6 +113,9 @@ pub fn take_last<J: Journal>(
     ensures own { IsPassAt gate.now result }
     ensures free { IsFree result }
     ensures number { (known result).number ≡ senders + 1 }
+    ensures first { senders ≡ 0 → (known result).made ≡ 1 }
+    ensures there { pass_at passes.old (senders + 1) ≡ Some result }
+    ensures others { (n : ℕ) → n ≢ senders + 1 → pass_at passes.new n ≡ pass_at passes.old n }
     ensures behind { HasBehind gate.now passes.new (senders + 1) (senders + 1) }
 {
     let _ = gate;
@@ -116,11 +132,13 @@ pub fn give_last<J: Journal>(
     senders: u16,
     pass: Pass<Kept<J>>,
 )
-    requires some { 1 ≤ senders }
     requires own { IsPassAt gate.now pass }
     requires free { IsFree pass }
     requires number { (known pass).number ≡ senders + 1 }
+    requires first { senders ≡ 0 → (known pass).made ≡ 1 }
     requires behind { HasBehind gate.now passes.old (senders + 1) (senders + 1) }
+    ensures there { pass_at passes.new (senders + 1) ≡ Some pass }
+    ensures others { (n : ℕ) → n ≢ senders + 1 → pass_at passes.new n ≡ pass_at passes.old n }
     ensures behind { HasBehind gate.now passes.new senders (senders + 1) }
 {
     let _ = gate;
@@ -134,6 +152,7 @@ pub fn unseat<J: Journal>(gate: &Gate<J>, mut senders: Vec<Sender<J>>, passes: &
     requires behind { HasBehind gate.now passes.old (vec_len senders) (vec_len senders + 1) }
     requires few { vec_len senders ≤ 16 }
     ensures back { AllBackAt gate.now passes.new }
+    ensures theirs { HasTheirs passes.old passes.new senders.items }
 {
     let _ = gate;
     for _ in 0..senders.len() {

@@ -21,7 +21,16 @@ pub struct Sender<J: Journal> {
 }
 
 impl<J: Journal> Sender<J> {
-    ghost use Rattle.sender_plans.specs.Runs.{IsReady, plan_of, Accepted, Refused, Ran};
+    ghost use Rattle.sender_plans.specs.Runs.{IsReady, plan_of, Accepted, Refused, Ran, Counted};
+
+    /// Counts the messages that the outbox has of it as done.
+    #[tactic(auto, using(crate::proofs::Running::counts))]
+    pub(crate) fn count_done<R: Wait>(&mut self, gate: &Gate<J>, rt: &R)
+        requires ready { IsReady gate.now self.old }
+        ensures counted { Counted gate.now self.old self.new }
+    {
+        self.done = gate.mine(&mut self.pass, rt);
+    }
 
     /// Submits what is left of the plan, message by message, until all is done or one is refused.
     pub(crate) fn submit_rest<D: Door, R: Wait>(&mut self, gate: &Gate<J>, door: &D, rt: &R)

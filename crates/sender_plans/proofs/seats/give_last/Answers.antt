@@ -1,4 +1,5 @@
-use Rattle.std.proofs.Common.{◌≡◌, ◌+◌, sym, ◌∙◌, arith, le_refl}
+use Rattle.std.proofs.Common.{◌≡◌, ◌+◌, sym, ap, ◌∙◌, arith, le_refl}
+use Rattle.gate_turn.specs.Listed.{pass_at}
 use Rattle.sender_plans.specs.Seats.{IsBehind}
 use Rattle.sender_plans.proofs.Seating.{put_back}
 use Rattle.sender_plans.proofs.seats.give_last.Goals as goal
@@ -12,6 +13,8 @@ pub returns : goal.returns
 returns g c =
     let at : c.args.pass.number ≡ c.args.senders + 1 = sym c.args.pass.numbered ∙ c.requires.number in
     record {
+      there = ap (pass_at c.give.new.self) (sym at) ∙ c.give.ensures.there;
+      others = λ n ne. c.give.ensures.others n (λ e. ne (e ∙ at));
       behind = put_back c.args.gate.now (c.args.senders + 1) c.args.passes.now c.give.new.self c.args.senders c.args.pass (le_refl (c.args.senders + 1)) at c.requires.own c.requires.free
-          (λ e. absurd (omega (arith, e, c.requires.some))) c.give.ensures.there c.give.ensures.others c.requires.behind;
+          (λ e. c.requires.first e ∙ omega (arith, e)) c.give.ensures.there c.give.ensures.others c.requires.behind;
     }

@@ -1,0 +1,228 @@
+//! A session over a socket and over the files that its words name: `accept` as the acceptor, `connect` as the initiator. `main`
+//! makes the disks of the journals: that their files may go from thread to thread is known of its own runtime alone.
+
+ghost use Rattle.std.specs.Prelude.{◌≡◌, false};
+
+use crate::report::Report;
+use crate::session_said::line_of;
+use gw_links::Dialer;
+use gw_outside::Disk;
+use gw_real::{DiskReason, FileDisk, FileSink, FileSource, Named, STANDARD_OUTPUT};
+use gw_sockets::{AcceptDialer, ConnectDialer, MachineClock, SocketReason};
+use schema_toml::TEXT_LIMIT;
+use session_command::{Role as EndRole, SessionOutside, run_session};
+use session_config::Role;
+use session_words::positive;
+use std::fs::File;
+use std::io::{self, Printer};
+use std::net::{Net, TcpListener, TcpStream};
+use std::rt::Files;
+use std::sync::Wait;
+use std::thread::Threads;
+use std::time::Clock;
+
+/// What the words of a session name.
+#[derive(Clone, Copy)]
+pub struct Session<'a> {
+    pub role: Role,
+    pub address: &'a str,
+    /// How many connections there may be.
+    pub most: u16,
+    pub config: Named<'a>,
+    pub input: Named<'a>,
+    pub outbox: Named<'a>,
+    pub inbox: Named<'a>,
+    pub out: Named<'a>,
+}
+
+/// The role of a command, if it runs a session over connections.
+pub fn role_of(command: &str) -> Option<Role> {
+    match command {
+        "accept" => Some(Role::Accept),
+        "connect" => Some(Role::Connect),
+        _ => None,
+    }
+}
+
+const fn named<'a>(role: &'static str, path: &'a str) -> Named<'a> {
+    Named { role, path }
+}
+
+impl<'a> Session<'a> {
+    /// The session of words that are one of its two forms.
+    pub fn of(words: &'a [String]) -> Option<Session<'a>> {
+        let [command, address, most, config, input, outbox, inbox, out] = words else {
+            return None;
+        };
+        let role = role_of(command.as_str())?;
+        let most = positive(most.as_str().as_bytes())?;
+        Some(Session {
+            role,
+            address: address.as_str(),
+            most,
+            config: named("CONFIG", config.as_str()),
+            input: named("INPUT", input.as_str()),
+            outbox: named("OUTBOX", outbox.as_str()),
+            inbox: named("INBOX", inbox.as_str()),
+            out: named("OUT", out.as_str()),
+        })
+    }
+
+    /// The role of this end.
+    fn end_role(&self) -> EndRole {
+        match self.role {
+            Role::Connect => EndRole::Initiator,
+            Role::Accept | Role::Answer => EndRole::Acceptor,
+        }
+    }
+
+    /// The files that OUT must not be the same as.
+    pub fn others(&self) -> [Named<'a>; 6] {
+        [
+            self.config,
+            self.input,
+            self.out,
+            self.outbox,
+            self.inbox,
+            STANDARD_OUTPUT,
+        ]
+    }
+
+    /// The files that a journal must not be the same as; OUT sees for itself that it is no journal.
+    pub fn journals(&self) -> [Named<'a>; 3] {
+        [self.outbox, self.inbox, STANDARD_OUTPUT]
+    }
+}
+
+/// A device that says why its last call that failed did.
+pub trait SaysWhy<W> {
+    /// Why the last call that failed did, if one has.
+    fn why(&self) -> Option<W>;
+}
+
+impl<'a, R> SaysWhy<DiskReason<'a>> for FileDisk<'a, R> {
+    fn why(&self) -> Option<DiskReason<'a>> {
+        self.reason()
+    }
+}
+
+impl<R: Net<Listener = TcpListener, Stream = TcpStream> + Clock> SaysWhy<SocketReason>
+    for AcceptDialer<'_, R> {
+    fn why(&self) -> Option<SocketReason> {
+        self.reason()
+    }
+}
+
+impl<R: Net<Listener = TcpListener, Stream = TcpStream> + Clock> SaysWhy<SocketReason>
+    for ConnectDialer<'_, R> {
+    fn why(&self) -> Option<SocketReason> {
+        self.reason()
+    }
+}
+
+/// The devices of a session over files.
+pub type Devices<'a, R, D, N> = SessionOutside<
+    FileSource<'a, R, File>,
+    FileSink<'a, R, File, Printer<'a, R>>,
+    D,
+    N,
+    MachineClock<'a, R>,
+>;
+
+/// The disks of a session's journals, and the files that OUT must not be the same as.
+pub struct SessionFiles<'a, D> {
+    pub out_disk: D,
+    pub in_disk: D,
+    pub others: &'a [Named<'a>],
+}
+
+/// The device for OUT; `-` is standard output.
+fn out_of<'a, R: Print>(
+    rt: &'a R,
+    out: Named<'a>,
+    others: &'a [Named<'a>],
+) -> FileSink<'a, R, File, Printer<'a, R>> {
+    if out.path == "-" {
+        FileSink::printing(rt, io::writer(rt), others)
+    } else {
+        FileSink::new(rt, out, others)
+    }
+}
+
+/// Runs a session over this dialer and these files. The devices are closed when it returns, before anything is printed: where
+/// standard output is closed, a file may stand in its place.
+fn run_over<
+    'a,
+    R: Threads + Wait + Sync + Clock + Files<File = File> + Print + AllocGlobal,
+    D: Disk + Send + Drop + SaysWhy<DiskReason<'a>>,
+    N: Dialer + Drop + SaysWhy<SocketReason>,
+>(
+    rt: &'a R,
+    session: Session<'a>,
+    files: SessionFiles<'a, D>,
+    dialer: N,
+) -> Report
+    requires { N.lent dialer ≡ false }
+{
+    let alloc = rt.alloc();
+    let SessionFiles {
+        out_disk,
+        in_disk,
+        others,
+    } = files;
+    let outside = SessionOutside {
+        config: FileSource::new(rt, alloc, session.config.path, TEXT_LIMIT + 1),
+        input: FileSource::new(rt, alloc, session.input.path, 0),
+        out: out_of(rt, session.out, others),
+        out_disk,
+        in_disk,
+        dialer,
+        clock: MachineClock::new(rt),
+    };
+    let (status, mut outside) = run_session(rt, alloc, session.end_role(), outside);
+    let line = match line_of(rt, alloc, session, &status, &mut outside) {
+        Ok(line) => line,
+        Err(_) => None,
+    };
+    let SessionOutside {
+        config: _,
+        input: _,
+        out: _,
+        out_disk: _,
+        in_disk: _,
+        dialer: _,
+        clock: _,
+    } = outside;
+    Report { status, line }
+}
+
+/// Runs a session over a socket, over the files that its words name, and over these disks of its journals. A listener is bound
+/// before anything else is looked at.
+pub fn run_over_sockets<
+    'a,
+    R: Threads
+        + Wait
+        + Sync
+        + Net<Listener = TcpListener, Stream = TcpStream>
+        + Clock
+        + Files<File = File>
+        + Print
+        + AllocGlobal,
+    D: Disk + Send + Drop + SaysWhy<DiskReason<'a>>,
+>(
+    rt: &'a R,
+    session: Session<'a>,
+    files: SessionFiles<'a, D>,
+) -> Report {
+    let (alloc, most) = (rt.alloc(), u64::from(session.most));
+    match session.role {
+        Role::Connect => {
+            let dialer = ConnectDialer::new(rt, alloc, session.address, most);
+            run_over(rt, session, files, dialer)
+        }
+        Role::Accept | Role::Answer => {
+            let dialer = AcceptDialer::new(rt, alloc, session.address, most);
+            run_over(rt, session, files, dialer)
+        }
+    }
+}

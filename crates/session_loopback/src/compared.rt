@@ -1,0 +1,63 @@
+//! What two journals hold of one another.
+
+use gw_fakes::MemDisk;
+use jr_log::LogJournal;
+use jr_record::{Journal, Limits, Record};
+use std::alloc::Global;
+
+/// The limits of a session.
+const LIMITS: Limits = Limits {
+    entries: 1 << 24,
+    bytes: 1 << 30,
+};
+
+/// The records of a journal.
+pub fn records(alloc: Global, disk: MemDisk) -> Option<Vec<Record>> {
+    let mut journal = LogJournal::open(alloc, disk, LIMITS).ok()?;
+    let count = journal.len();
+    let mut records = Vec::new(alloc);
+    for at in 0..count {
+        let record = journal.read(at).ok()?;
+        records.push(record).ok()?;
+    }
+    Some(records)
+}
+
+/// How many messages of an outbox an inbox has applied, where it applied them in order from the first on, each as it was sent,
+/// and jumped over none.
+pub fn applied(outbox: &[Record], inbox: &[Record]) -> Option<u64> {
+    let mut sent = outbox;
+    let mut next = 1u64;
+    for record in inbox {
+        match (record, sent) {
+            (Record::Apply { number, payload }, [Record::Entry { payload: entry, .. }, rest @ ..])
+                if *number == next && payload.as_slice() == entry.as_slice() =>
+            {
+                sent = rest;
+                next = next.saturating_add(1);
+            }
+            (Record::Apply { .. } | Record::Skip { .. }, _) => return None,
+            _ => {}
+        }
+    }
+    Some(next - 1)
+}
+
+/// How many messages of a sender an outbox has, where they are those of its plan from the first on, and in order.
+pub fn ordered(outbox: &[Record], number: u16) -> Option<u64> {
+    let mut next = 0u64;
+    for record in outbox {
+        if let Record::Entry { sender, k, payload } = record
+            && *sender == number
+        {
+            let [.., told, place] = payload.as_slice() else {
+                return None;
+            };
+            if *k != next + 1 || u16::from(*told) != number || u64::from(*place) != next {
+                return None;
+            }
+            next = next.saturating_add(1);
+        }
+    }
+    Some(next)
+}
