@@ -1,5 +1,8 @@
 //! How a life of connections ends.
 
+ghost use Rattle.std.specs.Prelude.{◌≡◌};
+ghost use Rattle.conn_serve.specs.Answers.{close_of, submit_fault, finish_fault};
+
 use conn_turns::{TurnEnd, TurnFault};
 use fixp_shake::Phase;
 use jr_boxes::{CloseFault, SubmitFault};
@@ -45,7 +48,9 @@ pub enum ServeFault {
 }
 
 /// How the connection came to its end, where it did: `None` where it goes on after the turn that answered so.
-pub(crate) fn close_of(answer: Result<TurnEnd, TurnFault>) -> Result<Option<Close>, ServeFault> {
+pub(crate) fn close_of(answer: Result<TurnEnd, TurnFault>) -> Result<Option<Close>, ServeFault>
+    ensures { result ≡ close_of answer }
+{
     match answer {
         Ok(TurnEnd::Go) => Ok(None),
         Ok(TurnEnd::Ended(ending)) => Ok(Some(Close::Ended(ending))),
@@ -57,7 +62,9 @@ pub(crate) fn close_of(answer: Result<TurnEnd, TurnFault>) -> Result<Option<Clos
 }
 
 /// What a refusal of a sender is to `serve`: a closed outbox is none.
-pub(crate) fn refused_submit(fault: SubmitFault) -> Option<ServeFault> {
+pub(crate) fn refused_submit(fault: SubmitFault) -> Option<ServeFault>
+    ensures { result ≡ submit_fault fault }
+{
     match fault {
         SubmitFault::Broken | SubmitFault::Fault => Some(ServeFault::Journal),
         SubmitFault::Closed => None,
@@ -67,7 +74,9 @@ pub(crate) fn refused_submit(fault: SubmitFault) -> Option<ServeFault> {
 }
 
 /// What a refusal of the Finish is to `serve`: an outbox that is closed already is none.
-pub(crate) fn refused_finish(fault: CloseFault) -> Option<ServeFault> {
+pub(crate) fn refused_finish(fault: CloseFault) -> Option<ServeFault>
+    ensures { result ≡ finish_fault fault }
+{
     match fault {
         CloseFault::Broken | CloseFault::Fault => Some(ServeFault::Journal),
         CloseFault::Closed => None,
