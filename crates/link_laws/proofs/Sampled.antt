@@ -63,10 +63,10 @@ came_whole m calls legal t same = record {
   frames = subst (λ is. AreFirstOf is (frames_of (bytes_written (said m ∷ [])))) (sym same) (comes m legal);
 }
 
-took_whole : (c : Course) (whole : List Piece) → whole ≡ c.output → bytes_written whole ≡ c.taken → TookWhole c whole
-took_whole c whole all same = record {
+took_whole : (c : Course) (whole : List Piece) → whole ≡ c.output → TookWhole c (bytes_written whole) whole
+took_whole c whole all = record {
   first = prefix_equal whole c.output all;
-  within = prefix_equal (bytes_written whole) c.taken same;
+  within = prefix_self (bytes_written whole);
   all = λ more p _. subst (λ ps. IsPrefix more ps) (sym all) p;
 }
 
@@ -128,8 +128,8 @@ handshake_sample = (
     outboxes_a = (sends_nothing sample_config leg_a, tt);
     outboxes_b = (sends_nothing acceptor leg_b, tt);
     linked = paired
-        (record { came = came_whole answer leg_a.calls answer_is_legal refl refl; legal = (answer_is_legal, tt); whole = took_whole (course_on acceptor leg_b) leg_b.whole refl refl })
-        (record { came = came_whole opening leg_b.calls opening_is_legal refl refl; legal = (opening_is_legal, tt); whole = took_whole (course_on sample_config leg_a) leg_a.whole refl refl })
+        (record { sent = bytes_written leg_b.whole; written = prefix_self (bytes_written leg_b.whole); came = came_whole answer leg_a.calls answer_is_legal refl refl; legal = (answer_is_legal, tt); whole = took_whole (course_on acceptor leg_b) leg_b.whole refl })
+        (record { sent = bytes_written leg_a.whole; written = prefix_self (bytes_written leg_a.whole); came = came_whole opening leg_b.calls opening_is_legal refl refl; legal = (opening_is_legal, tt); whole = took_whole (course_on sample_config leg_a) leg_a.whole refl })
         no_more;
   },
   refl,

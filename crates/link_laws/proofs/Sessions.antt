@@ -52,17 +52,13 @@ reads : (reader writer : Run) → MayBegin reader → MayBegin writer → ReadsF
 reads reader writer mine theirs from =
     takes_in (events_written writer.leg.whole) (course_in reader) reader.refused mine.refused
     (heard_from reader.outbox reader.state reader.inbox reader.leg.moment reader.leg.calls read (events_written writer.leg.whole) (frames_of from.came.bytes) mine.awaits mine.enough mine.calls
-    from.came.frames r.frames (events_begin read writer.leg.whole (from.whole.all read r.first (prefix_trans (bytes_written read) from.came.bytes d.taken r.whole from.came.begins))))
+    from.came.frames r.frames (events_begin read writer.leg.whole (from.whole.all read r.first (prefix_trans (bytes_written read) from.came.bytes from.sent r.whole from.came.begins))))
   where
     d : Course
     d = course_in writer
 
-    st : Stands writer.outbox d
-    st = calls_keep writer.outbox (beginning writer.state writer.inbox writer.leg.moment) writer.leg.calls
-        (connection_begins writer.outbox writer.state writer.inbox writer.leg.moment theirs.awaits theirs.enough) theirs.calls
-
     both : (read : List Piece) × AreRead d.output from.came.bytes read
-    both = written_is_read d.output from.came.bytes from.legal from.came.are_bytes (prefix_trans from.came.bytes d.taken (bytes_written d.output) from.came.begins (d.state.unsent, sym st.bytes))
+    both = written_is_read d.output from.came.bytes from.legal from.came.are_bytes (prefix_trans from.came.bytes from.sent (bytes_written d.output) from.came.begins from.written)
 
     read : List Piece
     read = both.0
