@@ -18,10 +18,8 @@ use Rattle.fixp_msgs.specs.declared.flow.Flow.TheVariants as flows
 use Rattle.reply_laws.specs.Machine.{State}
 use Rattle.growth_laws.specs.Accepting.{model_flow}
 use Rattle.connection_laws.specs.Writing.{Piece, bytes_written, events_written}
-use Rattle.connection_laws.specs.Courses.{Waiting, Course, inbox_of, beginning}
-use Rattle.connection_laws.specs.Standing.{Stands}
+use Rattle.connection_laws.specs.Courses.{Waiting, Course, inbox_of}
 use Rattle.connection_laws.specs.Living.{Leg, course_of, AllMayRun, state_behind, inbox_behind, life_on, Opens}
-use Rattle.connection_laws.proofs.Going.{calls_keep, connection_begins}
 use Rattle.connection_laws.proofs.Living.{ran, behind, life_serves, life_refused}
 use Rattle.link_laws.specs.Reading.{AreRead}
 use Rattle.link_laws.specs.Hearing.{came, AreFirstOf, TakesFrom}
