@@ -4,5 +4,7 @@
 #![tactic(auto)]
 
 mod loops;
+mod samples;
 
 pub use loops::{given_came, loops_are_a_session, loops_are_ends, loops_hold, sent_are_whole};
+pub use samples::turns_sample;
