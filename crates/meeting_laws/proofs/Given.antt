@@ -1,23 +1,27 @@
 -- The frames that came in the turns of a connection are the first of the bytes that the link gave.
 use Rattle.std.proofs.Common.{◌≡◌, ℕ, Bool, true, false, if◌then◌else◌, List, [], ◌∷◌, ◌++◌, map, drop, Option, Some, None, refl, sym, ap, subst, ◌∙◌, append-nil, append_assoc}
-use Rattle.std.specs.Prelude.{◌||◌, IfSome, option_to_list}
+use Rattle.std.specs.Prelude.{⊤, ◌<◌, ◌||◌, IfSome, option_to_list}
 use Rattle.std.specs.List.{AllByRecursion, AllZip, flat_map}
 use Rattle.std.proofs.lemmas.Grind.{flat_map-append}
-use Rattle.sofh_frame.specs.Framing.{Frame, IsFrame, spelled}
+use Rattle.std.proofs.lemmas.List.Elements.{All-from_recursion, recursion_from_All}
+use Rattle.sbe_prim.specs.declared.Order.{Order}
+use Rattle.sofh_frame.specs.Framing.{Frame, IsFrame, IsBytes, header_of, spelled}
 use Rattle.sofh_frame.specs.Splits.{spelled_all, frames_of}
 use Rattle.sofh_frame.proofs.SplitLemmas.{spelled_all-push, AllByRecursion-push, frames_of-spelled_all}
-use Rattle.session_model.specs.Journal.{History}
-use Rattle.session_model.proofs.Lists.{all_append}
-use Rattle.fixp_replies.specs.Incoming.{Incoming, IsIncoming}
-use Rattle.reply_laws.specs.Machine.{Call, did, link_end}
+use Rattle.session_model.specs.Journal.{Entry, History}
+use Rattle.session_model.proofs.Lists.{all_append, all_first, all_second}
+use Rattle.fixp_replies.specs.Incoming.{Incoming, application, session, wrong_order, too_short, unknown, IsIncoming}
+use Rattle.reply_laws.specs.Machine.{State, Call, did, link_end}
 use Rattle.reply_laws.specs.Machine as calls
 use Rattle.conn_turns.specs.Lines.{Line, TakenFrame, size_of, frame_calls, IsNext, line_after, lines_after, AreTaken}
 use Rattle.conn_turns.specs.Turns.{Work, Turn, only_sends, works, link_lost, cut_short, not_begun, first_calls, calls_of_frames, closing_calls, outbox_calls, sending_calls, calls_of, is_end}
+use Rattle.legal_laws.specs.Ranges.{IsInTime, FitsIncoming, FitsCall}
+use Rattle.legal_laws.proofs.Spelled.{spelled_fits}
 use Rattle.link_laws.specs.Hearing.{came_by, came, AreFirstOf}
 use Rattle.turn_laws.specs.Turns.{line_received, IsTurn, IsCut}
-use Rattle.turn_laws.specs.Legs.{AreTurns, calls_on}
+use Rattle.turn_laws.specs.Legs.{AreTurns, TurnedLeg, first_line, all_turns, AreTurnsOf, calls_on, given_in, given_on}
 use Rattle.turn_laws.proofs.Each.{closing_all, outbox_all}
-use Rattle.meeting_laws.specs.Loops.{given_in}
+use Rattle.meeting_laws.specs.Loops.{moment_of, IsTimely}
 use Rattle.meeting_laws.specs.Laws.{GivenCame}
 
 -- a call by which no frame came
@@ -177,14 +181,100 @@ reads_first : (given : List ℕ) (is : List Incoming) (held : List ℕ) → Read
 reads_first given is held r =
     subst (λ (fs : List Frame). AreFirstOf is fs) (sym (ap (λ (bs : List ℕ). frames_of bs) r.joins ∙ frames_of-spelled_all r.frames held r.each)) (zip_first is r.frames (frames_of held) r.are)
 
-pub given_came : GivenCame
-given_came h s t k =
+-- over a connection
+all_read : (h : List Entry) (s : State) (t : TurnedLeg) → AreTurnsOf h s t → (held : List ℕ) × Reads (given_on t) (came (calls_on t)) held
+all_read h s t k =
     let given : List ℕ = flat_map given_in t.turns in
     let is : List Incoming = came (flat_map calls_of t.turns) in
     let cut : List Turn = option_to_list t.cut in
     let start : Reads [] [] [] = record { frames = []; joins = refl; each = tt; are = tt } in
-    let x = last_reads k.last t.cut given is (turns_read k.before k.after _ k.last t.turns [] [] start k.turns) k.cut in
-    subst (λ (bs : List ℕ). AreFirstOf (came (calls_on t)) (frames_of bs)) (sym (flat_map-append given_in t.turns cut))
-    (subst (λ (js : List Incoming). AreFirstOf js (frames_of (given ++ flat_map given_in cut)))
-    (sym (ap (λ (cs : List Call). came cs) (flat_map-append calls_of t.turns cut) ∙ came_append (flat_map calls_of t.turns) (flat_map calls_of cut)))
-    (reads_first (given ++ flat_map given_in cut) (is ++ came (flat_map calls_of cut)) x.0 x.1))
+    let x = last_reads k.last t.cut given is (turns_read k.before k.after (first_line s t.moment) k.last t.turns [] [] start k.turns) k.cut in (
+      x.0,
+      subst (λ (bs : List ℕ). Reads bs (came (calls_on t)) x.0) (sym (flat_map-append given_in t.turns cut))
+          (subst (λ (js : List Incoming). Reads (given ++ flat_map given_in cut) js x.0)
+          (sym (ap (λ (cs : List Call). came cs) (flat_map-append calls_of t.turns cut) ∙ came_append (flat_map calls_of t.turns) (flat_map calls_of cut))) x.1),
+    )
+
+pub given_came : GivenCame
+given_came h s t k = let x = all_read h s t k in reads_first (given_on t) (came (calls_on t)) x.0 x.1
+
+-- of bytes the messages have numbers that fit
+abbrev IsByte : ℕ → Type 0
+IsByte b = b < 256
+
+incoming_fits : (order : Order) (message : List ℕ) (i : Incoming) → IsBytes message → IsIncoming order message i → FitsIncoming i
+incoming_fits order message (application payload) bytes is = tt
+incoming_fits order message (session m) bytes is = spelled_fits message m bytes is.1
+incoming_fits order message wrong_order bytes is = tt
+incoming_fits order message too_short bytes is = tt
+incoming_fits order message (unknown template) bytes is = tt
+
+read_fits : (is : List Incoming) (fs : List Frame) → AllByRecursion IsByte (spelled_all fs) → AllZip Is is fs → AllByRecursion FitsIncoming is
+read_fits [] fs bytes all = tt
+read_fits (i ∷ is) [] bytes all = absurd all
+read_fits (i ∷ is) (f ∷ fs) bytes all =
+    let here : AllByRecursion IsByte f.message = all_second IsByte (header_of f) f.message (all_first IsByte (spelled f) (spelled_all fs) bytes) in
+    (incoming_fits f.order f.message i (All-from_recursion IsByte f.message here) all.0, read_fits is fs (all_second IsByte (spelled f) (spelled_all fs) bytes) all.1)
+
+-- the frames of a turn come at its moment
+abbrev IsOnTime : Call → Type 0
+IsOnTime (calls.frame incoming at now) = IsInTime now
+IsOnTime _ = ⊤
+
+frames_on_time : (now : ℕ) (frames : List TakenFrame) → IsInTime now → AllByRecursion IsOnTime (calls_of_frames now frames)
+frames_on_time now [] time = tt
+frames_on_time now (t ∷ later) time = all_append IsOnTime (frame_calls now t) (calls_of_frames now later) (time, by_test t.recorded) (frames_on_time now later time)
+  where
+    by_test : (b : Bool) → AllByRecursion IsOnTime (if b then did now ∷ [] else [])
+    by_test true = (tt, tt)
+    by_test false = tt
+
+sending_on_time : (sent : List ℕ) (lost : Bool) → AllByRecursion IsOnTime (sending_calls sent lost)
+sending_on_time sent true = (tt, tt)
+sending_on_time sent false = (tt, tt)
+
+turn_on_time : (t : Turn) → IsInTime (moment_of t) → AllByRecursion IsOnTime (calls_of t)
+turn_on_time (only_sends now sent lost) time = (tt, (tt, sending_on_time sent lost))
+turn_on_time (works w) time = (
+  tt,
+  (
+    tt,
+    all_append IsOnTime (calls_of_frames w.now w.frames) (closing_calls w ++ (outbox_calls w ++ sending_calls w.sent w.lost)) (frames_on_time w.now w.frames time)
+        (all_append IsOnTime (closing_calls w) (outbox_calls w ++ sending_calls w.sent w.lost) (closing_all IsOnTime w.now w.broken w.link_over (λ _. tt) tt tt)
+        (all_append IsOnTime (outbox_calls w) (sending_calls w.sent w.lost) (outbox_all IsOnTime w.now w.again w.live w.finish (λ _. tt) (λ _. tt) (λ _. tt)) (sending_on_time w.sent w.lost))),
+  ),
+)
+turn_on_time (link_lost now) time = (tt, (tt, (tt, tt)))
+turn_on_time (cut_short now received frames None) time = (tt, (tt, frames_on_time now frames time))
+turn_on_time (cut_short now received frames (Some t)) time =
+    (tt, (tt, all_append IsOnTime (calls_of_frames now frames) (calls.frame t.incoming t.at now ∷ []) (frames_on_time now frames time) (time, tt)))
+turn_on_time not_begun time = tt
+
+turns_on_time : (turns : List Turn) → AllByRecursion (λ (t : Turn). IsInTime (moment_of t)) turns → AllByRecursion IsOnTime (flat_map calls_of turns)
+turns_on_time [] all = tt
+turns_on_time (t ∷ later) all = all_append IsOnTime (calls_of t) (flat_map calls_of later) (turn_on_time t all.0) (turns_on_time later all.1)
+
+call_fits : (call : Call) → AllByRecursion FitsIncoming (came_by call) → IsOnTime call → FitsCall call
+call_fits (calls.begin now) fits time = tt
+call_fits (calls.frame incoming at now) fits time = (fits.0, time)
+call_fits (calls.bad_frame at now) fits time = tt
+call_fits (calls.did now) fits time = tt
+call_fits (calls.tick now) fits time = tt
+call_fits (calls.turn_done now) fits time = tt
+call_fits (calls.closed last now) fits time = tt
+call_fits calls.link_end fits time = tt
+call_fits (calls.live payloads now) fits time = tt
+call_fits (calls.again payloads now) fits time = tt
+call_fits (calls.taken count) fits time = tt
+call_fits calls.reserve fits time = tt
+
+each_fits : (cs : List Call) → AllByRecursion FitsIncoming (came cs) → AllByRecursion IsOnTime cs → AllByRecursion FitsCall cs
+each_fits [] fits time = tt
+each_fits (call ∷ later) fits time =
+    (call_fits call (all_first FitsIncoming (came_by call) (came later) fits) time.0, each_fits later (all_second FitsIncoming (came_by call) (came later) fits) time.1)
+
+pub calls_fit : (h : List Entry) (s : State) (t : TurnedLeg) → AreTurnsOf h s t → IsTimely t → AllByRecursion FitsCall (calls_on t)
+calls_fit h s t k timely =
+    let x = all_read h s t k in
+    let bytes : AllByRecursion IsByte (spelled_all x.1.frames ++ x.0) = subst (λ (bs : List ℕ). AllByRecursion IsByte bs) x.1.joins (recursion_from_All IsByte (given_on t) timely.bytes) in
+    each_fits (calls_on t) (read_fits (came (calls_on t)) x.1.frames (all_first IsByte (spelled_all x.1.frames) x.0 bytes) x.1.are) (turns_on_time (all_turns t) timely.turns)

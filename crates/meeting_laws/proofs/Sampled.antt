@@ -1,27 +1,29 @@
 -- The sample of two loops, computed.
 use Rattle.std.proofs.Common.{◌≡◌, inr, ℕ, ◌+◌, true, false, List, [], ◌∷◌, ◌++◌, length, drop, refl, sym, ap, subst, ◌∙◌, arith, append-nil}
 use Rattle.std.specs.Prelude.{◌||◌, nat_lt}
-use Rattle.std.specs.List.{list_all}
+use Rattle.std.specs.List.{AllByRecursion, list_all}
 use Rattle.sofh_frame.specs.Framing.{Frame, IsBytes, spelled}
 use Rattle.sofh_frame.proofs.SplitLemmas.{drop-spelled}
 use Rattle.session_model.specs.Journal.{BeginsHistory}
-use Rattle.session_model.proofs.Lists.{prefix_self, prefix_equal}
+use Rattle.session_model.proofs.Lists.{prefix_self}
 use Rattle.fixp_msgs.specs.Canonical.{IsLegal, frame_bytes}
 use Rattle.fixp_msgs.specs.Message.{Message}
 use Rattle.fixp_msgs.proofs.Written.{message_spells}
+use Rattle.fixp_shake.specs.declared.config.EndConfig.{EndConfig}
 use Rattle.reply_laws.specs.Machine.{run}
 use Rattle.conn_turns.specs.Lines.{Line, IsNext, MayTake, line_after, lines_after}
 use Rattle.conn_turns.specs.Exact.{line_ticked}
-use Rattle.conn_turns.specs.Turns.{Work, calls_of_frames, closing_calls, outbox_calls, sending_calls, is_end}
+use Rattle.conn_turns.specs.Turns.{Turn, Work, calls_of_frames, closing_calls, outbox_calls, sending_calls, is_end}
 use Rattle.connection_laws.specs.Writing.{said, bytes_written}
 use Rattle.connection_laws.specs.Samples.{sample_config}
 use Rattle.connection_laws.proofs.Framing.{is_session, frame_of_message}
+use Rattle.legal_laws.specs.Ranges.{IsInRange, IsInTime}
 use Rattle.link_laws.specs.Meeting.{life_in}
 use Rattle.link_laws.specs.Samples.{acceptor, opening, answer}
 use Rattle.link_laws.proofs.Sampled.{opening_is_legal, answer_is_legal, are_bytes, sends_nothing, nothing_left}
 use Rattle.turn_laws.specs.Turns.{Sends, line_received, Works}
-use Rattle.turn_laws.specs.Legs.{TurnedLeg, first_line, AreTurnsOf, sent_on}
-use Rattle.meeting_laws.specs.Loops.{given_on, machine_life, ReadsOf, no_more, paired}
+use Rattle.turn_laws.specs.Legs.{TurnedLeg, all_turns, first_line, AreTurnsOf, given_on}
+use Rattle.meeting_laws.specs.Loops.{machine_life, moment_of, IsTimely, no_more, paired}
 use Rattle.meeting_laws.specs.Samples.{nothing, frame_of, hears, leg_a, leg_b, begins, life_on_leg, TurnsSample}
 
 -- what a turn that worked leaves, before and behind its sending
@@ -145,26 +147,30 @@ of_b = record {
   has = record { begins = prefix_self []; few = omega arith };
 }
 
--- the bytes that one end reads are those of the frame that the other wrote
-reads_message : (reader writer : TurnedLeg) (m : Message) → list_all (λ b. nat_lt b 256) (bytes_written (said m ∷ [])) ≡ true
-    → given_on reader ≡ bytes_written (said m ∷ []) → sent_on writer ≡ bytes_written (said m ∷ []) → ReadsOf reader writer
-reads_message reader writer m t given sent = record {
-  are_bytes = subst IsBytes (sym given) (are_bytes m t);
-  begins = prefix_equal (given_on reader) (sent_on writer) (given ∙ sym sent);
+-- the machine is in range, and what came on a connection
+in_range : (config : EndConfig) → length config.session ≡ 16 → config.keepalive ≡ 1000 → config.credentials ≡ [] → IsInRange (begins config)
+in_range config session keepalive credentials = record {
+  session = session;
+  keepalive = omega (arith, keepalive);
+  credentials = omega (arith, ap (λ (bs : List ℕ). length bs) credentials);
+  most = omega arith;
+  next = omega arith;
 }
+
+timely : (t : TurnedLeg) (m : Message) → list_all (λ b. nat_lt b 256) (bytes_written (said m ∷ [])) ≡ true → given_on t ≡ bytes_written (said m ∷ []) → t.moment ≡ 0
+    → AllByRecursion (λ (turn : Turn). IsInTime (moment_of turn)) (all_turns t) → IsTimely t
+timely t m small given zero turns = record { bytes = subst IsBytes (sym given) (are_bytes m small); begins = omega (arith, zero); turns = turns }
 
 pub turns_sample : TurnsSample
 turns_sample = (
   record {
-    lives_a = (record { own_flow = refl; peer_flow = refl; opens = record { awaits = refl; enough = omega arith; before = λ _. omega arith }; turns = (of_a, tt); last = tt }, tt);
-    lives_b = (record { own_flow = refl; peer_flow = refl; opens = record { awaits = refl; enough = omega arith; before = λ _. omega arith }; turns = (of_b, tt); last = tt }, tt);
+    lives_a = (record { own_flow = refl; peer_flow = refl; range = in_range sample_config refl refl refl; opens = record { awaits = refl; enough = omega arith; before = λ _. omega arith }; payloads = tt; turns = (of_a, tt); last = tt; timely = (timely leg_a answer refl refl refl (omega arith, (omega arith, tt)), tt) }, tt);
+    lives_b = (record { own_flow = refl; peer_flow = refl; range = in_range acceptor refl refl refl; opens = record { awaits = refl; enough = omega arith; before = λ _. omega arith }; payloads = tt; turns = (of_b, tt); last = tt; timely = (timely leg_b opening refl refl refl (omega arith, tt), tt) }, tt);
     chained_a = ([], [], record { opens_outbox = refl; opens_inbox = refl; outbox_image = nothing_left; inbox_image = nothing_left }, (refl, refl));
     chained_b = ([], [], record { opens_outbox = refl; opens_inbox = refl; outbox_image = nothing_left; inbox_image = nothing_left }, (refl, refl));
     outboxes_a = (sends_nothing (life_in (machine_life (life_on_leg sample_config leg_a))).served, tt);
     outboxes_b = (sends_nothing (life_in (machine_life (life_on_leg acceptor leg_b))).served, tt);
-    legal_a = (((opening_is_legal, tt), tt), tt);
-    legal_b = (((answer_is_legal, tt), tt), tt);
-    linked = paired (reads_message leg_a leg_b answer refl refl refl) (reads_message leg_b leg_a opening refl refl refl) no_more;
+    linked = paired (prefix_self (given_on leg_a)) (prefix_self (given_on leg_b)) no_more;
   },
   refl,
   refl,

@@ -9,8 +9,8 @@ use Rattle.reply_laws.specs.Machine.{State}
 use Rattle.growth_laws.specs.Accepting.{model_flow}
 use Rattle.link_laws.specs.Hearing.{came, AreFirstOf}
 use Rattle.link_laws.specs.Meeting.{TookWhole, TwoEnds, Holds}
-use Rattle.turn_laws.specs.Legs.{TurnedLeg, calls_on, AreTurnsOf, sent_on, course_on, leg_of}
-use Rattle.meeting_laws.specs.Loops.{given_on, LoopLife, machine_life, lives_of, TwoLoops}
+use Rattle.turn_laws.specs.Legs.{TurnedLeg, calls_on, AreTurnsOf, given_on, sent_on, course_on, leg_of}
+use Rattle.meeting_laws.specs.Loops.{LoopLife, machine_life, lives_of, TwoLoops}
 
 -- the frames that came in the turns of a connection are the first of the bytes that the link gave
 abbrev pub GivenCame : Type 0

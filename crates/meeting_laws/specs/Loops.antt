@@ -7,26 +7,16 @@ use Rattle.sofh_frame.specs.Splits.{frames_of}
 use Rattle.session_model.specs.Journal.{Entry, OutboxRecord, entries}
 use Rattle.session_model.specs.Inbox.{InboxRecord}
 use Rattle.session_model.specs.Lives.{Life, KeepsOutbox, Chained}
+use Rattle.fixp_msgs.specs.Payload.{IsApplication}
 use Rattle.fixp_msgs.specs.declared.flow.Flow.{Flow}
 use Rattle.reply_laws.specs.Machine.{State}
 use Rattle.conn_turns.specs.Turns.{Turn, only_sends, works, link_lost, cut_short, not_begun}
-use Rattle.connection_laws.specs.Framed.{IsLegalPiece}
 use Rattle.connection_laws.specs.Courses.{Waiting}
 use Rattle.connection_laws.specs.Living.{Opens}
-use Rattle.link_laws.specs.Meeting.{Run, course_in, Refused, MachineLife, life_in, runs_of}
-use Rattle.turn_laws.specs.Legs.{TurnedLeg, all_turns, AreTurnsOf, sent_on, course_on, leg_of}
+use Rattle.legal_laws.specs.Ranges.{IsInRange, IsInTime}
+use Rattle.link_laws.specs.Meeting.{Refused, MachineLife, life_in}
+use Rattle.turn_laws.specs.Legs.{TurnedLeg, all_turns, AreTurnsOf, given_on, sent_on, course_on, leg_of}
 use Rattle.turn_laws.specs.Lives.{AllAreTurns, legs_of, state_after, inbox_after}
-
--- the bytes that the link gave in a turn, and on a connection
-abbrev pub given_in : Turn → List ℕ
-given_in (only_sends now sent lost) = []
-given_in (works w) = w.received
-given_in (link_lost now) = []
-given_in (cut_short now received frames refused) = received
-given_in not_begun = []
-
-abbrev pub given_on : TurnedLeg → List ℕ
-given_on t = flat_map given_in (all_turns t)
 
 -- a last connection of a life, on which the append of the records of the frame that waits failed
 pub record RefusedLeg : Type 0 where
@@ -67,18 +57,6 @@ pub record IsRefusedOn (h : List Entry) (s : State) (inbox : List InboxRecord) (
   pub turns : AreTurnsOf h s r.leg
   pub waits : (course_on s inbox r.leg).waiting ≡ Some r.waiting
 
--- the life is of an end with these flows, opens where it may, and each of its connections is turns over its closing outbox
-pub record MayTurn (own peer : Flow) (l : LoopLife) : Type 0 where
-  pub own_flow : l.state.config.own_flow ≡ own
-  pub peer_flow : l.state.config.peer_flow ≡ peer
-  pub opens : Opens (entries l.opening_outbox) (entries l.closing_outbox) l.state l.inbox
-  pub turns : AllAreTurns (entries l.closing_outbox) l.state l.inbox l.legs
-  pub last : IfSome l.last (IsRefusedOn (entries l.closing_outbox) (state_after l.state l.inbox l.legs) (inbox_after l.state l.inbox l.legs))
-
--- all that it writes are legal frames
-abbrev pub WritesLegal : LoopLife → Type 0
-WritesLegal l = AllByRecursion (λ (r : Run). AllByRecursion IsLegalPiece (course_in r).output) (runs_of (machine_life l))
-
 -- its connections, one behind another
 abbrev pub last_leg : Option RefusedLeg → List TurnedLeg
 last_leg None = []
@@ -87,10 +65,35 @@ last_leg (Some r) = r.leg ∷ []
 abbrev pub legs_in : LoopLife → List TurnedLeg
 legs_in l = l.legs ++ last_leg l.last
 
--- what the link gave one end are bytes, the first of those that it took of the other
-pub record ReadsOf (reader writer : TurnedLeg) : Type 0 where
-  pub are_bytes : IsBytes (given_on reader)
-  pub begins : IsPrefix (given_on reader) (sent_on writer)
+-- the moment of a turn
+abbrev pub moment_of : Turn → ℕ
+moment_of (only_sends now sent lost) = now
+moment_of (works w) = w.now
+moment_of (link_lost now) = now
+moment_of (cut_short now received frames refused) = now
+moment_of not_begun = 0
+
+-- what the link gave on a connection are bytes, and its moments are below 2^44
+pub record IsTimely (t : TurnedLeg) : Type 0 where
+  pub bytes : IsBytes (given_on t)
+  pub begins : IsInTime t.moment
+  pub turns : AllByRecursion (λ (turn : Turn). IsInTime (moment_of turn)) (all_turns t)
+
+-- The life is of an end with these flows, whose numbers are in range, and opens where it may; its closing outbox has payloads of
+-- application messages; and each of its connections is turns over that outbox, of bytes and in time
+pub record MayTurn (own peer : Flow) (l : LoopLife) : Type 0 where
+  pub own_flow : l.state.config.own_flow ≡ own
+  pub peer_flow : l.state.config.peer_flow ≡ peer
+  pub range : IsInRange l.state
+  pub opens : Opens (entries l.opening_outbox) (entries l.closing_outbox) l.state l.inbox
+  pub payloads : AllByRecursion (λ (e : Entry). IsApplication e.payload) (entries l.closing_outbox)
+  pub turns : AllAreTurns (entries l.closing_outbox) l.state l.inbox l.legs
+  pub last : IfSome l.last (IsRefusedOn (entries l.closing_outbox) (state_after l.state l.inbox l.legs) (inbox_after l.state l.inbox l.legs))
+  pub timely : AllByRecursion IsTimely (legs_in l)
+
+-- what the link gave one end are the first of the bytes that it took of the other
+abbrev pub ReadsOf : (reader writer : TurnedLeg) → Type 0
+ReadsOf reader writer = IsPrefix (given_on reader) (sent_on writer)
 
 -- Connections linked by what went over their links: paired in the same order at both ends, each in at most one pair. In a pair the
 -- link gives each end of what it took of the other; to a connection in no pair it gave no whole frame
@@ -101,7 +104,7 @@ pub data LinkedLinks : List TurnedLeg → List TurnedLeg → Type 0 where
   paired : {a b : TurnedLeg} {as' bs : List TurnedLeg} → ReadsOf a b → ReadsOf b a → LinkedLinks as' bs → LinkedLinks (a ∷ as') (b ∷ bs)
 
 -- Two ends that run the loop: the flow that one sends the other receives; the lives of each are chained from empty journals, may
--- leave these now, keep their outboxes and write legal frames; and their connections are linked by what went over their links
+-- leave these now, and keep their outboxes; and their connections are linked by what went over their links
 pub record TwoLoops (flow_a flow_b : Flow) (plan_a plan_b : ℕ → List (List ℕ) → List (List ℕ)) (a b : List LoopLife)
     (outbox_a outbox_b : List OutboxRecord) (inbox_a inbox_b : List InboxRecord) : Type 0 where
   pub lives_a : AllByRecursion (MayTurn flow_a flow_b) a
@@ -110,6 +113,4 @@ pub record TwoLoops (flow_a flow_b : Flow) (plan_a plan_b : ℕ → List (List �
   pub chained_b : Chained [] [] (lives_of b) outbox_b inbox_b
   pub outboxes_a : AllByRecursion (KeepsOutbox plan_a) (lives_of a)
   pub outboxes_b : AllByRecursion (KeepsOutbox plan_b) (lives_of b)
-  pub legal_a : AllByRecursion WritesLegal a
-  pub legal_b : AllByRecursion WritesLegal b
   pub linked : LinkedLinks (flat_map legs_in a) (flat_map legs_in b)
