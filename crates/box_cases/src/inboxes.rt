@@ -1,15 +1,14 @@
 //! Cases of inboxes.
 
-use crate::made::{Made, WIDE, formatted, message, open_inbox};
+use crate::made::{Made, formatted, inbox_on, message, open_inbox};
 use fixp_msgs::{Flow, is_application};
 use gw_fakes::MemDisk;
 use jr_boxes::Inbox;
-use jr_log::LogJournal;
 use jr_record::{AppendFault, Journal};
 use std::alloc::{AllocError, Global};
 
 /// What opening on given records answers, in each flow.
-pub fn refusals(alloc: Global) -> Result<String, AllocError> {
+pub fn refusals(alloc: Global, line: &mut String) -> Result<(), AllocError> {
     let cases: [&[Made]; 10] = [
         &[
             Made::Negotiated,
@@ -27,16 +26,25 @@ pub fn refusals(alloc: Global) -> Result<String, AllocError> {
         &[Made::Apply(1), Made::Entry(1)],
         &[Made::Finish],
     ];
-    let mut line = String::new(alloc);
     for flow in [Flow::Recoverable, Flow::Idempotent, Flow::Unsequenced] {
-        line.push_str(format!(in alloc; "{flow:?}")?.as_str())?;
-        for records in cases {
-            let answer = open_inbox(alloc, records, flow)?;
-            line.push_str(format!(in alloc; " {answer:?};")?.as_str())?;
-        }
+        write!(line, "{flow:?}")?;
+        add_refusals(alloc, &cases, flow, line)?;
         line.push_str(" ")?;
     }
-    Ok(line)
+    Ok(())
+}
+
+fn add_refusals(
+    alloc: Global,
+    cases: &[&[Made]],
+    flow: Flow,
+    line: &mut String,
+) -> Result<(), AllocError> {
+    for records in cases {
+        let answer = open_inbox(alloc, records, flow);
+        write!(line, " {answer:?};")?;
+    }
+    Ok(())
 }
 
 /// The next message, of this template, where its number is within the limit.
@@ -72,58 +80,74 @@ fn marked<J: Journal>(
     Some((negotiated, inbox.peer_finished(4)))
 }
 
-/// What an inbox tells of itself, with the template of its last message.
-fn told<J: Journal>(alloc: Global, inbox: &mut Inbox<J>) -> Result<String, AllocError> {
-    let mut line = format!(in alloc;
-        "next {}, negotiated {}, peer's last {:?}, {} applied, {} bytes",
-        inbox.next(),
-        inbox.is_negotiated(),
-        inbox.peer_last(),
-        inbox.count(),
-        inbox.bytes()
-    )?;
+/// The template of the last message; none where there is none, or it is not read.
+fn last_template<J: Journal>(inbox: &mut Inbox<J>) -> Option<Option<u8>> {
     let count = inbox.count();
-    if count > 0
-        && let Ok(payload) = inbox.payload(count)
-    {
-        line.push_str(format!(in alloc;
-            ", the last of template {:?}",
-            payload.as_slice().get(4)
-        )?.as_str())?;
+    if count == 0 {
+        return None;
     }
-    Ok(line)
+    match inbox.payload(count) {
+        Ok(payload) => Some(payload.as_slice().get(4).copied()),
+        Err(_fault) => None,
+    }
 }
 
-/// An inbox over a disk; none where it is refused.
-fn opened(alloc: Global, disk: MemDisk, flow: Flow) -> Option<Inbox<LogJournal<MemDisk>>> {
-    let limits = WIDE;
-    let Ok(journal) = LogJournal::open(alloc, disk, limits) else {
-        return None;
-    };
-    Inbox::open(alloc, journal, limits, flow).ok()
+/// What an inbox tells of its peer.
+fn tell_peer<J: Journal>(inbox: &Inbox<J>, line: &mut String) -> Result<(), AllocError> {
+    let (next, negotiated, last) = (inbox.next(), inbox.is_negotiated(), inbox.peer_last());
+    write!(
+        line,
+        " next {next}, negotiated {negotiated}, peer's last {last:?}, "
+    )
+}
+
+/// What an inbox tells of itself, with the template of its last message.
+fn tell<J: Journal>(inbox: &mut Inbox<J>, line: &mut String) -> Result<(), AllocError> {
+    tell_peer(inbox, line)?;
+    let (count, bytes) = (inbox.count(), inbox.bytes());
+    write!(line, "{count} applied, {bytes} bytes")?;
+    match last_template(inbox) {
+        Some(template) => write!(line, ", the last of template {template:?};"),
+        None => line.push_str(";"),
+    }
+}
+
+/// Two messages with a jump between them.
+fn apply_two<J: Journal>(inbox: &mut Inbox<J>, line: &mut String) -> Result<(), AllocError> {
+    let first = applied(inbox, 1);
+    let jump = jumped(inbox);
+    let second = applied(inbox, 2);
+    write!(line, " {first:?} {jump:?} {second:?}")
+}
+
+/// What an inbox tells, and the messages of the first round, or the marks of a later one.
+fn play<J: Journal>(inbox: &mut Inbox<J>, round: u32, line: &mut String) -> Result<(), AllocError> {
+    tell(inbox, line)?;
+    if round == 0 {
+        return apply_two(inbox, line);
+    }
+    let marks = marked(inbox);
+    write!(line, " {marks:?}")
+}
+
+/// A round over a disk; none where there is none, no inbox opens on it, or memory runs out.
+fn play_round(
+    alloc: Global,
+    disk: Option<MemDisk>,
+    round: u32,
+    line: &mut String,
+) -> Option<MemDisk> {
+    let mut inbox = inbox_on(alloc, disk?, Flow::Idempotent).ok()?;
+    play(&mut inbox, round, line).ok()?;
+    Some(inbox.into_journal().close())
 }
 
 /// Messages, a jump and the marks of an idempotent peer, and what is there after opening again.
-pub fn reopened(alloc: Global) -> Result<String, AllocError> {
-    let mut line = format!(in alloc; "inbox")?;
-    let Some(mut disk) = formatted(alloc)? else {
-        return format!(in alloc; "no formatted disk");
-    };
+pub fn reopened(alloc: Global, line: &mut String) -> Result<(), AllocError> {
+    line.push_str("inbox")?;
+    let mut disk = formatted(alloc);
     for round in 0..3 {
-        let Some(mut inbox) = opened(alloc, disk, Flow::Idempotent) else {
-            return format!(in alloc; "no inbox");
-        };
-        line.push_str(format!(in alloc; " {};", told(alloc, &mut inbox)?)?.as_str())?;
-        if round == 0 {
-            let first = applied(&mut inbox, 1);
-            let jump = jumped(&mut inbox);
-            let second = applied(&mut inbox, 2);
-            line.push_str(format!(in alloc; " {first:?} {jump:?} {second:?}")?.as_str())?;
-        } else {
-            let marks = marked(&mut inbox);
-            line.push_str(format!(in alloc; " {marks:?}")?.as_str())?;
-        }
-        disk = inbox.into_journal().close();
+        disk = play_round(alloc, disk, round, line);
     }
-    Ok(line)
+    line.push_str(if disk.is_some() { "" } else { " no inbox" })
 }

@@ -1,7 +1,6 @@
 //! Journals that are made of given records, and boxes that are opened on them.
 
-ghost use Rattle.std.specs.Prelude.{◌≡◌, IfOk, IfSome};
-ghost use Rattle.jr_record.specs.Records.{IsRecord};
+ghost use Rattle.jr_record.specs.Records.{IsRecord, IsPayload};
 
 use fixp_msgs::Flow;
 use gw_fakes::MemDisk;
@@ -9,7 +8,10 @@ use gw_outside::Bytes;
 use jr_boxes::{BoxFault, Inbox, Outbox};
 use jr_log::{LogJournal, format};
 use jr_record::{Journal, Limits, Record};
-use std::alloc::{AllocError, Global};
+use std::alloc::Global;
+
+/// A journal on a disk in memory.
+pub type Log = LogJournal<MemDisk>;
 
 /// The room of each disk, in bytes.
 const ROOM: usize = 4096;
@@ -41,28 +43,34 @@ pub enum Made {
     Finish,
 }
 
-/// The payload of an entry.
-fn entry(alloc: Global, k: u64, payload: [u8; 10]) -> Result<Record, AllocError>
-    ensures legal { IfOk result IsRecord }
-{
-    Ok(Record::Entry {
-        sender: 1,
-        k: k.max(1),
-        payload: Bytes::from_slice(alloc, &payload)?,
-    })
+/// The payload of the record.
+const fn payload_of(made: Made) -> [u8; 10] {
+    match made {
+        Made::SessionEntry => [0xEB, 0x50, 8, 0, 7, 0, 0x11, 0xF0, 0, 0],
+        Made::NoFrame => [0xEB, 0x51, 0, 0, 7, 0, 0x64, 0, 1, 0],
+        _ => message(7),
+    }
 }
 
-/// The record.
-fn record(alloc: Global, made: Made) -> Result<Record, AllocError>
-    ensures legal { IfOk result IsRecord }
+/// The record with this payload, where it has one.
+fn record(made: Made, payload: Bytes) -> Record
+    requires payload { IsPayload payload }
+    ensures legal { IsRecord result }
 {
-    Ok(match made {
-        Made::Entry(k) => entry(alloc, k, message(7))?,
-        Made::SessionEntry => entry(alloc, 1, [0xEB, 0x50, 8, 0, 7, 0, 0x11, 0xF0, 0, 0])?,
-        Made::NoFrame => entry(alloc, 1, [0xEB, 0x51, 0, 0, 7, 0, 0x64, 0, 1, 0])?,
+    match made {
+        Made::Entry(k) => Record::Entry {
+            sender: 1,
+            k: k.max(1),
+            payload,
+        },
+        Made::SessionEntry | Made::NoFrame => Record::Entry {
+            sender: 1,
+            k: 1,
+            payload,
+        },
         Made::Apply(number) => Record::Apply {
             number: number.max(1),
-            payload: Bytes::from_slice(alloc, &message(7))?,
+            payload,
         },
         Made::Skip(from, count) => Record::Skip {
             from: from.max(1),
@@ -71,77 +79,79 @@ fn record(alloc: Global, made: Made) -> Result<Record, AllocError>
         Made::Negotiated => Record::Negotiated,
         Made::PeerFinished => Record::PeerFinished { last: 2 },
         Made::Finish => Record::Finish,
-    })
+    }
 }
 
-/// A formatted disk; none where it is refused.
-pub fn formatted(alloc: Global) -> Result<Option<MemDisk>, AllocError> {
-    let mut disk = MemDisk::without_faults(alloc, ROOM)?;
-    Ok(format(&mut disk).is_ok().then_some(disk))
+/// Appends the record; false where memory runs out or the journal refuses it.
+fn append<J: Journal>(alloc: Global, journal: &mut J, made: Made) -> bool {
+    let Ok(payload) = Bytes::from_slice(alloc, &payload_of(made)) else {
+        return false;
+    };
+    journal.append(&record(made, payload)).is_ok()
+}
+
+/// Appends the records; false where a call is refused.
+fn append_all<J: Journal>(alloc: Global, journal: &mut J, records: &[Made]) -> bool {
+    for made in records {
+        if !append(alloc, journal, *made) {
+            return false;
+        }
+    }
+    true
+}
+
+/// A formatted disk; none where memory runs out or it is refused.
+pub fn formatted(alloc: Global) -> Option<MemDisk> {
+    let mut disk = MemDisk::without_faults(alloc, ROOM).ok()?;
+    format(&mut disk).ok()?;
+    Some(disk)
 }
 
 /// A disk that holds these records; none where a call is refused.
-fn disk_of(alloc: Global, records: &[Made]) -> Result<Option<MemDisk>, AllocError> {
-    let Some(disk) = formatted(alloc)? else {
-        return Ok(None);
-    };
-    let Ok(mut journal) = LogJournal::open(alloc, disk, WIDE) else {
-        return Ok(None);
-    };
-    for made in records {
-        if journal.append(&record(alloc, *made)?).is_err() {
-            return Ok(None);
-        }
-    }
-    Ok(Some(journal.close()))
+fn disk_of(alloc: Global, records: &[Made]) -> Option<MemDisk> {
+    let mut journal = LogJournal::open(alloc, formatted(alloc)?, WIDE).ok()?;
+    append_all(alloc, &mut journal, records).then_some(journal.close())
 }
 
-/// How many entries an outbox on this disk has, or why it is refused; none where the disk holds no journal.
-fn outbox_on(alloc: Global, disk: MemDisk, limits: Limits) -> Option<Result<u64, BoxFault>> {
-    let Ok(journal) = LogJournal::open(alloc, disk, limits) else {
-        return None;
-    };
-    match Outbox::open(alloc, journal, limits) {
-        Ok(outbox) => Some(Ok(outbox.front())),
-        Err((_journal, fault)) => Some(Err(fault)),
-    }
-}
-
-/// The number that an inbox on this disk waits for, or why it is refused; none where the disk holds no journal.
-fn inbox_on(
+/// An outbox on this disk, or why it is refused; of a disk that holds no journal no reason is told.
+pub fn outbox_on(
     alloc: Global,
     disk: MemDisk,
     limits: Limits,
-    flow: Flow,
-) -> Option<Result<u64, BoxFault>> {
+) -> Result<Outbox<Log>, Option<BoxFault>> {
     let Ok(journal) = LogJournal::open(alloc, disk, limits) else {
-        return None;
+        return Err(None);
+    };
+    match Outbox::open(alloc, journal, limits) {
+        Ok(outbox) => Ok(outbox),
+        Err((_journal, fault)) => Err(Some(fault)),
+    }
+}
+
+/// An inbox on this disk, or why it is refused; of a disk that holds no journal no reason is told.
+pub fn inbox_on(alloc: Global, disk: MemDisk, flow: Flow) -> Result<Inbox<Log>, Option<BoxFault>> {
+    let limits = WIDE;
+    let Ok(journal) = LogJournal::open(alloc, disk, limits) else {
+        return Err(None);
     };
     match Inbox::open(alloc, journal, limits, flow) {
-        Ok(inbox) => Some(Ok(inbox.next())),
-        Err((_journal, fault)) => Some(Err(fault)),
+        Ok(inbox) => Ok(inbox),
+        Err((_journal, fault)) => Err(Some(fault)),
     }
 }
 
 /// What opening an outbox on these records answers: how many entries it has, or why it is refused.
-pub fn open_outbox(
-    alloc: Global,
-    records: &[Made],
-) -> Result<Option<Result<u64, BoxFault>>, AllocError> {
-    let Some(disk) = disk_of(alloc, records)? else {
-        return Ok(None);
-    };
-    Ok(outbox_on(alloc, disk, WIDE))
+pub fn open_outbox(alloc: Global, records: &[Made]) -> Option<Result<u64, BoxFault>> {
+    match outbox_on(alloc, disk_of(alloc, records)?, WIDE) {
+        Ok(outbox) => Some(Ok(outbox.front())),
+        Err(fault) => Some(Err(fault?)),
+    }
 }
 
 /// What opening an inbox on these records answers: the number that it waits for, or why it is refused.
-pub fn open_inbox(
-    alloc: Global,
-    records: &[Made],
-    flow: Flow,
-) -> Result<Option<Result<u64, BoxFault>>, AllocError> {
-    let Some(disk) = disk_of(alloc, records)? else {
-        return Ok(None);
-    };
-    Ok(inbox_on(alloc, disk, WIDE, flow))
+pub fn open_inbox(alloc: Global, records: &[Made], flow: Flow) -> Option<Result<u64, BoxFault>> {
+    match inbox_on(alloc, disk_of(alloc, records)?, flow) {
+        Ok(inbox) => Some(Ok(inbox.next())),
+        Err(fault) => Some(Err(fault?)),
+    }
 }

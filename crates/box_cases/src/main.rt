@@ -6,19 +6,26 @@ mod inboxes;
 mod made;
 mod outboxes;
 
+use std::alloc::{AllocError, Global};
 use std::io;
 
+/// The line of each group of cases, in order.
+fn write_all(alloc: Global, lines: &mut String) -> Result<(), AllocError> {
+    outboxes::limits(alloc, lines)?;
+    lines.push_str("\n")?;
+    outboxes::refusals(alloc, lines)?;
+    lines.push_str("\n")?;
+    outboxes::reopened(alloc, lines)?;
+    lines.push_str("\n")?;
+    outboxes::failing(alloc, lines)?;
+    lines.push_str("\n")?;
+    inboxes::refusals(alloc, lines)?;
+    lines.push_str("\n")?;
+    inboxes::reopened(alloc, lines)
+}
+
 fn main(rt: HostRuntime) -> io::Result<()> {
-    let alloc = rt.alloc();
-    for line in [
-        outboxes::limits(alloc)?,
-        outboxes::refusals(alloc)?,
-        outboxes::reopened(alloc)?,
-        outboxes::failing(alloc)?,
-        inboxes::refusals(alloc)?,
-        inboxes::reopened(alloc)?,
-    ] {
-        println!(rt; "{line}")?;
-    }
-    Ok(())
+    let mut lines = String::new(rt.alloc());
+    write_all(rt.alloc(), &mut lines)?;
+    rt.println(lines)
 }

@@ -2,24 +2,15 @@
 
 ghost use Rattle.std.specs.Prelude.{◌≤◌};
 
-use crate::made::{Made, WIDE, formatted, message, open_outbox};
+use crate::made::{Log, Made, WIDE, formatted, message, open_outbox, outbox_on};
 use fixp_msgs::is_application;
 use gw_fakes::MemDisk;
 use jr_boxes::{Outbox, SubmitFault};
-use jr_log::LogJournal;
 use jr_record::{Journal, Limits};
 use std::alloc::{AllocError, Global};
 
 /// The most device calls that are looked at.
 const MOST: u64 = 64;
-
-/// An outbox over a disk with these limits; none where it is refused.
-fn opened(alloc: Global, disk: MemDisk, limits: Limits) -> Option<Outbox<LogJournal<MemDisk>>> {
-    let Ok(journal) = LogJournal::open(alloc, disk, limits) else {
-        return None;
-    };
-    Outbox::open(alloc, journal, limits).ok()
-}
 
 /// A message of this template from sender 1, or from sender 2.
 fn accepted<J: Journal>(
@@ -34,44 +25,60 @@ fn accepted<J: Journal>(
     Some(outbox.accept(if second { 2 } else { 1 }, &payload))
 }
 
-/// Four messages by one of two limits that three fill, and the Finish.
-pub fn limits(alloc: Global) -> Result<String, AllocError> {
-    let mut line = String::new(alloc);
-    for limits in [
-        Limits {
-            entries: 3,
-            bytes: 100_000,
-        },
-        Limits {
-            entries: 1000,
-            bytes: 95,
-        },
-    ] {
-        let Some(disk) = formatted(alloc)? else {
-            return format!(in alloc; "no formatted disk");
-        };
-        let Some(mut outbox) = opened(alloc, disk, limits) else {
-            return format!(in alloc; "no outbox");
-        };
-        for template in 1..5 {
-            let answer = accepted(&mut outbox, false, template);
-            line.push_str(format!(in alloc; "{answer:?}, ")?.as_str())?;
-        }
-        let closed = outbox.close();
-        let behind = accepted(&mut outbox, false, 5);
-        let again = outbox.close();
-        line.push_str(format!(in alloc;
-            "close {closed:?}, {behind:?}, close {again:?}, {} entries, {} bytes; ",
-            outbox.front(),
-            outbox.bytes()
-        )?
-        .as_str())?;
+/// Four messages.
+fn fill<J: Journal>(outbox: &mut Outbox<J>, line: &mut String) -> Result<(), AllocError> {
+    for template in 1..5 {
+        let answer = accepted(outbox, false, template);
+        write!(line, "{answer:?}, ")?;
     }
-    Ok(line)
+    Ok(())
+}
+
+/// The Finish, a message behind it, and the Finish again.
+fn close<J: Journal>(outbox: &mut Outbox<J>, line: &mut String) -> Result<(), AllocError> {
+    let closed = outbox.close();
+    let behind = accepted(outbox, false, 5);
+    let again = outbox.close();
+    write!(line, "close {closed:?}, {behind:?}, close {again:?}, ")
+}
+
+/// Four messages, the Finish, and one of each behind it.
+fn play_full<J: Journal>(outbox: &mut Outbox<J>, line: &mut String) -> Result<(), AllocError> {
+    fill(outbox, line)?;
+    close(outbox, line)?;
+    let (front, bytes) = (outbox.front(), outbox.bytes());
+    write!(line, "{front} entries, {bytes} bytes; ")
+}
+
+/// An outbox on an empty disk; none where it is refused.
+fn fresh(alloc: Global, limits: Limits) -> Option<Outbox<Log>> {
+    outbox_on(alloc, formatted(alloc)?, limits).ok()
+}
+
+/// An outbox that three messages fill, by one of its limits.
+fn add_limit(alloc: Global, limits: Limits, line: &mut String) -> Result<(), AllocError> {
+    match fresh(alloc, limits) {
+        Some(mut outbox) => play_full(&mut outbox, line),
+        None => line.push_str("no outbox"),
+    }
+}
+
+/// Four messages by one of two limits that three fill, and the Finish.
+pub fn limits(alloc: Global, line: &mut String) -> Result<(), AllocError> {
+    let few = Limits {
+        entries: 3,
+        bytes: 100_000,
+    };
+    let small = Limits {
+        entries: 1000,
+        bytes: 95,
+    };
+    add_limit(alloc, few, line)?;
+    add_limit(alloc, small, line)
 }
 
 /// What opening on given records answers: the first three are outboxes, each of the others excludes a record.
-pub fn refusals(alloc: Global) -> Result<String, AllocError> {
+pub fn refusals(alloc: Global, line: &mut String) -> Result<(), AllocError> {
     let cases: [&[Made]; 10] = [
         &[],
         &[Made::Entry(1), Made::Entry(2)],
@@ -84,35 +91,27 @@ pub fn refusals(alloc: Global) -> Result<String, AllocError> {
         &[Made::NoFrame],
         &[Made::Entry(1), Made::Negotiated],
     ];
-    let mut line = format!(in alloc; "outboxes")?;
-    for records in cases {
-        let answer = open_outbox(alloc, records)?;
-        line.push_str(format!(in alloc; " {answer:?};")?.as_str())?;
-    }
-    Ok(line)
+    line.push_str("outboxes")?;
+    add_refusals(alloc, &cases, line)
 }
 
-/// What an outbox tells of itself, with its second entry.
-fn told<J: Journal>(alloc: Global, outbox: &mut Outbox<J>) -> Result<String, AllocError> {
-    let mut line = format!(in alloc;
-        "front {}, mine {} and {}, closed {}, {} bytes",
-        outbox.front(),
-        outbox.mine(1),
-        outbox.mine(2),
-        outbox.closed(),
-        outbox.bytes()
-    )?;
-    if outbox.front() >= 2
-        && let Ok(entry) = outbox.stable(2)
-    {
-        line.push_str(format!(in alloc;
-            ", entry {} is of template {}",
-            entry.number(),
-            template_of(entry.payload())
-        )?
-        .as_str())?;
+fn add_refusals(alloc: Global, cases: &[&[Made]], line: &mut String) -> Result<(), AllocError> {
+    for records in cases {
+        let answer = open_outbox(alloc, records);
+        write!(line, " {answer:?};")?;
     }
-    Ok(line)
+    Ok(())
+}
+
+/// The number and the template of the second entry; none where there is none, or it is not read.
+fn second_entry<J: Journal>(outbox: &mut Outbox<J>) -> Option<(u64, u8)> {
+    if outbox.front() < 2 {
+        return None;
+    }
+    match outbox.stable(2) {
+        Ok(entry) => Some((entry.number(), template_of(entry.payload()))),
+        Err(_fault) => None,
+    }
 }
 
 /// The template of a payload; 0 where it is too short.
@@ -120,61 +119,95 @@ fn template_of(payload: &[u8]) -> u8 {
     payload.get(4).copied().unwrap_or(0)
 }
 
-/// Messages of two senders, and what is there after opening again, also behind the Finish.
-pub fn reopened(alloc: Global) -> Result<String, AllocError> {
-    let mut line = format!(in alloc; "outbox")?;
-    let Some(mut disk) = formatted(alloc)? else {
-        return format!(in alloc; "no formatted disk");
-    };
-    for round in 0..3 {
-        let Some(mut outbox) = opened(alloc, disk, WIDE) else {
-            return format!(in alloc; "no outbox");
-        };
-        line.push_str(format!(in alloc; " {};", told(alloc, &mut outbox)?)?.as_str())?;
-        if round == 0 {
-            for (second, template) in [(false, 1), (true, 2), (false, 3)] {
-                let answer = accepted(&mut outbox, second, template);
-                line.push_str(format!(in alloc; " {answer:?}")?.as_str())?;
-            }
-        } else {
-            let answer = outbox.close();
-            line.push_str(format!(in alloc; " close {answer:?}")?.as_str())?;
-        }
-        disk = outbox.into_journal().close();
-    }
-    Ok(line)
+/// How many entries an outbox has, and how many of them each sender.
+fn tell_counts<J: Journal>(outbox: &Outbox<J>, line: &mut String) -> Result<(), AllocError> {
+    let (front, first, second) = (outbox.front(), outbox.mine(1), outbox.mine(2));
+    write!(line, " front {front}, mine {first} and {second}, ")
 }
 
-/// What a message answers, and the next one, over a disk that lets so many calls pass; none where the outbox is not opened.
-fn accepted_until(alloc: Global, calls: u64) -> Result<Option<String>, AllocError> {
-    let Some(mut disk) = formatted(alloc)? else {
-        return Ok(None);
-    };
+/// What an outbox tells of itself, with its second entry.
+fn tell<J: Journal>(outbox: &mut Outbox<J>, line: &mut String) -> Result<(), AllocError> {
+    tell_counts(outbox, line)?;
+    let (closed, bytes) = (outbox.closed(), outbox.bytes());
+    write!(line, "closed {closed}, {bytes} bytes")?;
+    match second_entry(outbox) {
+        Some((number, template)) => write!(line, ", entry {number} is of template {template};"),
+        None => line.push_str(";"),
+    }
+}
+
+/// Three messages of two senders.
+fn accept_three<J: Journal>(outbox: &mut Outbox<J>, line: &mut String) -> Result<(), AllocError> {
+    for (second, template) in [(false, 1), (true, 2), (false, 3)] {
+        let answer = accepted(outbox, second, template);
+        write!(line, " {answer:?}")?;
+    }
+    Ok(())
+}
+
+/// What an outbox tells, and the messages of the first round, or the Finish of a later one.
+fn play<J: Journal>(
+    outbox: &mut Outbox<J>,
+    round: u32,
+    line: &mut String,
+) -> Result<(), AllocError> {
+    tell(outbox, line)?;
+    if round == 0 {
+        return accept_three(outbox, line);
+    }
+    let answer = outbox.close();
+    write!(line, " close {answer:?}")
+}
+
+/// A round over a disk; none where there is none, no outbox opens on it, or memory runs out.
+fn play_round(
+    alloc: Global,
+    disk: Option<MemDisk>,
+    round: u32,
+    line: &mut String,
+) -> Option<MemDisk> {
+    let mut outbox = outbox_on(alloc, disk?, WIDE).ok()?;
+    play(&mut outbox, round, line).ok()?;
+    Some(outbox.into_journal().close())
+}
+
+/// Messages of two senders, and what is there after opening again, also behind the Finish.
+pub fn reopened(alloc: Global, line: &mut String) -> Result<(), AllocError> {
+    line.push_str("outbox")?;
+    let mut disk = formatted(alloc);
+    for round in 0..3 {
+        disk = play_round(alloc, disk, round, line);
+    }
+    line.push_str(if disk.is_some() { "" } else { " no outbox" })
+}
+
+/// An outbox over a disk that lets so many calls pass; none where it is not opened.
+fn opened_until(alloc: Global, calls: u64) -> Option<Outbox<Log>> {
+    let mut disk = formatted(alloc)?;
     disk.fuse(calls);
-    let Some(mut outbox) = opened(alloc, disk, WIDE) else {
-        return Ok(None);
-    };
-    let first = accepted(&mut outbox, false, 1);
-    let second = accepted(&mut outbox, false, 2);
+    outbox_on(alloc, disk, WIDE).ok()
+}
+
+/// What a message answers, and the next one, and the Finish.
+fn play_failing<J: Journal>(outbox: &mut Outbox<J>, line: &mut String) -> Result<(), AllocError> {
+    let first = accepted(outbox, false, 1);
+    let second = accepted(outbox, false, 2);
     let closed = outbox.close();
-    Ok(Some(format!(in alloc;
-        "{first:?} {second:?} {closed:?} {} {}",
-        outbox.broken(),
-        outbox.front()
-    )?))
+    let (broken, front) = (outbox.broken(), outbox.front());
+    write!(line, " {first:?} {second:?} {closed:?} {broken} {front};")
 }
 
 /// Two messages and the Finish over a disk that fails at each of their first nine calls in turn.
-pub fn failing(alloc: Global) -> Result<String, AllocError> {
-    let mut line = format!(in alloc; "failing")?;
+pub fn failing(alloc: Global, line: &mut String) -> Result<(), AllocError> {
+    line.push_str("failing")?;
     let mut shown = 0;
     for calls in 0..MOST {
         if shown < 9
-            && let Some(answers) = accepted_until(alloc, calls)?
+            && let Some(mut outbox) = opened_until(alloc, calls)
         {
-            line.push_str(format!(in alloc; " {answers};")?.as_str())?;
+            play_failing(&mut outbox, line)?;
             shown += 1;
         }
     }
-    Ok(line)
+    Ok(())
 }

@@ -15,8 +15,8 @@ struct Case<'a> {
 }
 
 /// How many bytes a read gave.
-fn read<D: Disk>(disk: &mut D, at: u64, into: &mut [u8]) -> Result<usize, Failed> {
-    disk.read_at(at, into)
+fn read<D: Disk>(disk: &mut D, at: u64) -> Result<usize, Failed> {
+    disk.read_at(at, &mut [0; 4])
 }
 
 /// A sync through the trait.
@@ -37,22 +37,34 @@ fn write(disk: &mut MemDisk, at: u64, bytes: &[u8]) -> Result<(), Failed> {
     disk.write_at(at, bytes)
 }
 
-/// Makes a call, and says what it gave.
-fn made(alloc: Global, disk: &mut MemDisk, call: &str) -> Result<String, AllocError> {
+/// Makes a call, and adds what it gave.
+fn add_call(
+    alloc: Global,
+    disk: &mut MemDisk,
+    call: &str,
+    line: &mut String,
+) -> Result<(), AllocError> {
     let (kind, others) = halves(call);
     let (at, content) = halves(others);
+    let bytes = bytes(alloc, content)?;
     match kind {
         "write" => {
-            let given = write(disk, number(at), bytes(alloc, content)?.as_slice());
-            format!(in alloc; " {given:?}")
+            let given = write(disk, number(at), bytes.as_slice());
+            write!(line, " {given:?}")
         }
-        "sync" => format!(in alloc; " {:?}", synced(disk)),
-        "read" => format!(in alloc; " {:?}", read(disk, number(at), &mut [0; 4])),
+        "sync" => {
+            let given = synced(disk);
+            write!(line, " {given:?}")
+        }
+        "read" => {
+            let given = read(disk, number(at));
+            write!(line, " {given:?}")
+        }
         "fuse" => {
             disk.fuse(number(at));
-            format!(in alloc; " fuse")
+            line.push_str(" fuse")
         }
-        _ => format!(in alloc; " no call"),
+        _ => line.push_str(" no call"),
     }
 }
 
@@ -64,34 +76,60 @@ fn disk(alloc: Global, room: u64, fail: &str) -> Result<MemDisk, AllocError> {
     MemDisk::new(alloc, room as usize, failing(alloc, fail)?)
 }
 
-/// What a stop leaves, how long it is, and what one more stop leaves.
-fn stopped(alloc: Global, disk: MemDisk, pick: Pick) -> Result<String, AllocError> {
+/// Adds the bytes of a disk.
+fn add_content(alloc: Global, disk: &MemDisk, line: &mut String) -> Result<(), AllocError> {
+    let content = digits(alloc, disk.content())?;
+    write!(line, " [{content}]")
+}
+
+/// Adds what a stop left, and how long it is.
+fn add_left(alloc: Global, disk: &mut MemDisk, line: &mut String) -> Result<(), AllocError> {
+    add_content(alloc, disk, line)?;
+    let length = length(disk);
+    write!(line, " {length:?}")
+}
+
+/// Adds what a stop leaves, how long it is, and what one more stop leaves.
+fn add_stopped(
+    alloc: Global,
+    disk: MemDisk,
+    pick: Pick,
+    line: &mut String,
+) -> Result<(), AllocError> {
     let mut disk = disk.stop(pick);
-    let left = digits(alloc, disk.content())?;
-    let length = length(&mut disk);
+    add_left(alloc, &mut disk, line)?;
     let again = disk.stop(Pick::Noise);
-    let same = digits(alloc, again.content())?;
-    format!(in alloc; "{pick:?} [{left}] {length:?} [{same}]")
+    add_content(alloc, &again, line)
 }
 
-fn all_made(alloc: Global, disk: &mut MemDisk, calls: &str) -> Result<String, AllocError> {
-    let mut given = String::new(alloc);
+fn add_calls(
+    alloc: Global,
+    disk: &mut MemDisk,
+    calls: &str,
+    line: &mut String,
+) -> Result<(), AllocError> {
     for call in calls.split(", ") {
-        given.push_str(made(alloc, disk, call)?.as_str())?;
+        add_call(alloc, disk, call, line)?;
     }
-    Ok(given)
+    Ok(())
 }
 
-/// What the calls give on a disk of this room, and what a stop leaves then.
-fn played(alloc: Global, case: Case<'_>, pick: Pick) -> Result<String, AllocError> {
+/// Adds what the calls give on a disk of this room, and what a stop leaves then.
+fn add_played(
+    alloc: Global,
+    case: Case<'_>,
+    pick: Pick,
+    line: &mut String,
+) -> Result<(), AllocError> {
+    line.push_str("disk")?;
     let mut disk = disk(alloc, case.room, case.fail)?;
-    let given = all_made(alloc, &mut disk, case.calls)?;
-    let left = stopped(alloc, disk, pick)?;
-    format!(in alloc; "disk{given} | {left}")
+    add_calls(alloc, &mut disk, case.calls, line)?;
+    write!(line, " | {pick:?}")?;
+    add_stopped(alloc, disk, pick, line)
 }
 
 /// Calls on a disk, `ROOM FAIL CALL, CALL, ..`: a line for each pick of a stop behind them.
-pub fn disk_line(alloc: Global, rest: &str) -> Result<String, AllocError> {
+pub fn add_disk(alloc: Global, rest: &str, line: &mut String) -> Result<(), AllocError> {
     let (room, others) = halves(rest);
     let (fail, calls) = halves(others);
     let case = Case {
@@ -99,8 +137,9 @@ pub fn disk_line(alloc: Global, rest: &str) -> Result<String, AllocError> {
         fail,
         calls,
     };
-    let old = played(alloc, case, Pick::Old)?;
-    let kept = played(alloc, case, Pick::Kept)?;
-    let noise = played(alloc, case, Pick::Noise)?;
-    format!(in alloc; "{old}\n{kept}\n{noise}")
+    add_played(alloc, case, Pick::Old, line)?;
+    line.push_str("\n")?;
+    add_played(alloc, case, Pick::Kept, line)?;
+    line.push_str("\n")?;
+    add_played(alloc, case, Pick::Noise, line)
 }

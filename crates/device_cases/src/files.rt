@@ -5,7 +5,6 @@ use gw_outside::{Disk, Failed};
 use gw_real::{DiskReason, FileDisk, Named, Opening};
 use std::alloc::{AllocError, Global};
 use std::fs::{File, Files};
-use std::io;
 
 /// The length through the trait.
 fn length<D: Disk>(disk: &mut D) -> Result<u64, Failed> {
@@ -37,41 +36,57 @@ fn reason<R>(disk: &FileDisk<'_, R>) -> &'static str {
     }
 }
 
-/// The length of a file that is opened, and why it is not had.
-fn opened<R: Files<File = File> + AllocGlobal>(rt: &R, file: &str) -> io::Result<String> {
+/// Adds the length of a file that is opened, and why it is not had.
+fn add_opened<R: Files<File = File> + AllocGlobal>(
+    rt: &R,
+    file: &str,
+    line: &mut String,
+) -> Result<(), AllocError> {
     let mut disk = FileDisk::new(rt, outbox(file), &[], Opening::Read);
     let length = length(&mut disk);
-    Ok(format!(in rt.alloc(); "{length:?} {}", reason(&disk))?)
+    let reason = reason(&disk);
+    write!(line, "{length:?} {reason}")
 }
 
-/// A write, a read and the length.
-fn worked<R: Files<File = File>>(
+/// Adds a write, a read and the length.
+fn add_worked<R: Files<File = File>>(
     alloc: Global,
     disk: &mut FileDisk<'_, R>,
-) -> Result<String, AllocError> {
+    line: &mut String,
+) -> Result<(), AllocError> {
     let written = disk.write_at(0, &[1, 2, 3]);
     let mut piece = [0; 4];
     let count = read_and_synced(disk, 1, &mut piece);
     let length = length(disk);
+    let reason = reason(disk);
     let front = digits(alloc, &piece[..2])?;
-    format!(in alloc; "{written:?} {count:?} {front} {length:?} {}", reason(disk))
+    write!(
+        line,
+        "{written:?} {count:?} {front} {length:?} {reason}, second: "
+    )
 }
 
-/// A file that is made, written and read, and opened again while it is open.
-fn kept<R: Files<File = File> + AllocGlobal>(rt: &R, file: &str) -> io::Result<String> {
+/// Adds what a file that is made gives, written and read, and opened again while it is open.
+fn add_kept<R: Files<File = File> + AllocGlobal>(
+    rt: &R,
+    file: &str,
+    line: &mut String,
+) -> Result<(), AllocError> {
     let mut disk = FileDisk::new(rt, outbox(file), &[], Opening::Make);
-    let told = worked(rt.alloc(), &mut disk)?;
-    let second = opened(rt, file)?;
-    Ok(format!(in rt.alloc(); "{told}, second: {second}")?)
+    add_worked(rt.alloc(), &mut disk, line)?;
+    add_opened(rt, file, line)
 }
 
 /// `open FILE`, or `keep FILE`.
-pub fn file_line<R: Files<File = File> + AllocGlobal>(rt: &R, rest: &str) -> io::Result<String> {
+pub fn add_file<R: Files<File = File> + AllocGlobal>(
+    rt: &R,
+    rest: &str,
+    line: &mut String,
+) -> Result<(), AllocError> {
     let (kind, file) = halves(rest);
-    let told = if kind == "open" {
-        opened(rt, file)?
-    } else {
-        kept(rt, file)?
-    };
-    Ok(format!(in rt.alloc(); "file {file}: {told}")?)
+    write!(line, "file {file}: ")?;
+    match kind {
+        "open" => add_opened(rt, file, line),
+        _ => add_kept(rt, file, line),
+    }
 }

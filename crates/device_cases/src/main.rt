@@ -11,22 +11,24 @@ use std::alloc::{AllocError, Global};
 use std::fs::{self, File, Files};
 use std::io;
 
-/// What a case shows.
-fn line_of(alloc: Global, kind: &str, rest: &str) -> Result<String, AllocError> {
+/// What a case of a device in memory shows.
+fn add_case(alloc: Global, kind: &str, rest: &str, line: &mut String) -> Result<(), AllocError> {
     match kind {
-        "source" => streams::source_line(alloc, rest),
-        "sink" => streams::sink_line(alloc, rest),
-        "disk" => disks::disk_line(alloc, rest),
-        _ => format!(in alloc; "no case"),
+        "source" => streams::add_source(alloc, rest, line),
+        "sink" => streams::add_sink(alloc, rest, line),
+        "disk" => disks::add_disk(alloc, rest, line),
+        _ => line.push_str("no case"),
     }
 }
 
 fn print_case<R: Files<File = File> + Print + AllocGlobal>(rt: &R, line: &str) -> io::Result<()> {
+    let mut told = String::new(rt.alloc());
     match line.split_once(": ") {
-        Some(("file", calls)) => rt.println(files::file_line(rt, calls)?),
-        Some((kind, rest)) => rt.println(line_of(rt.alloc(), kind, rest)?),
-        None => rt.println(line),
+        Some(("file", calls)) => files::add_file(rt, calls, &mut told)?,
+        Some((kind, rest)) => add_case(rt.alloc(), kind, rest, &mut told)?,
+        None => told.push_str(line)?,
     }
+    rt.println(told)
 }
 
 fn main(rt: HostRuntime) -> io::Result<()> {

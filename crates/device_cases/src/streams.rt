@@ -21,47 +21,48 @@ fn pushed<K: Sink>(sink: &mut K, bytes: &[u8]) -> Result<(), Failed> {
 }
 
 /// A source whose pull of this number fails; of no number, one that never fails.
-fn source(
-    alloc: Global,
-    content: Vec<u8>,
-    piece: u64,
-    fail: &str,
-) -> Result<MemSource, AllocError> {
+fn source(alloc: Global, content: &str, piece: u64, fail: &str) -> Result<MemSource, AllocError> {
     let piece = (piece as usize).max(1);
+    let content = Bytes::from(bytes(alloc, content)?);
     if fail == "none" {
-        return Ok(MemSource::without_faults(alloc, Bytes::from(content), piece));
+        return Ok(MemSource::without_faults(alloc, content, piece));
     }
-    Ok(MemSource::new(Bytes::from(content), piece, failing(alloc, fail)?))
+    Ok(MemSource::new(content, piece, failing(alloc, fail)?))
 }
 
-/// A pull, and the buffer's first two bytes behind it.
-fn pull_told(
+/// Adds a pull, and the buffer's first two bytes behind it.
+fn add_pull(
     alloc: Global,
     source: &mut MemSource,
     into: &mut [u8; 3],
-) -> Result<String, AllocError> {
+    line: &mut String,
+) -> Result<(), AllocError> {
     let given = pulled(source, into);
     let front = digits(alloc, &into[..2])?;
-    format!(in alloc; " {given:?} {front}")
+    write!(line, " {given:?} {front}")
 }
 
-fn pulls_told(alloc: Global, source: &mut MemSource, count: u64) -> Result<String, AllocError> {
-    let mut told = String::new(alloc);
+fn add_pulls(
+    alloc: Global,
+    source: &mut MemSource,
+    count: u64,
+    line: &mut String,
+) -> Result<(), AllocError> {
     let mut into = [0; 3];
     for _ in 0..count {
-        told.push_str(pull_told(alloc, source, &mut into)?.as_str())?;
+        add_pull(alloc, source, &mut into, line)?;
     }
-    Ok(told)
+    Ok(())
 }
 
 /// Pulls into a buffer of three bytes: `PIECE FAIL COUNT CONTENT`.
-pub fn source_line(alloc: Global, rest: &str) -> Result<String, AllocError> {
+pub fn add_source(alloc: Global, rest: &str, line: &mut String) -> Result<(), AllocError> {
     let (piece, others) = halves(rest);
     let (fail, others) = halves(others);
     let (count, content) = halves(others);
-    let mut source = source(alloc, bytes(alloc, content)?, number(piece), fail)?;
-    let told = pulls_told(alloc, &mut source, number(count))?;
-    format!(in alloc; "source{told}")
+    line.push_str("source")?;
+    let mut source = source(alloc, content, number(piece), fail)?;
+    add_pulls(alloc, &mut source, number(count), line)
 }
 
 /// A sink whose push of this number fails; of no number, one that never fails.
@@ -73,26 +74,36 @@ fn sink(alloc: Global, room: u64, fail: &str) -> Result<MemSink, AllocError> {
     MemSink::new(alloc, room, failing(alloc, fail)?)
 }
 
-fn push_told(alloc: Global, sink: &mut MemSink, word: &str) -> Result<String, AllocError> {
+fn add_push(
+    alloc: Global,
+    sink: &mut MemSink,
+    word: &str,
+    line: &mut String,
+) -> Result<(), AllocError> {
     let bytes = bytes(alloc, word)?;
     let given = pushed(sink, bytes.as_slice());
-    format!(in alloc; " {given:?}")
+    write!(line, " {given:?}")
 }
 
-fn pushes_told(alloc: Global, sink: &mut MemSink, pieces: &str) -> Result<String, AllocError> {
-    let mut told = String::new(alloc);
+/// Adds each push, and what the sink has taken then.
+fn add_pushes(
+    alloc: Global,
+    sink: &mut MemSink,
+    pieces: &str,
+    line: &mut String,
+) -> Result<(), AllocError> {
     for piece in pieces.split(" ") {
-        told.push_str(push_told(alloc, sink, piece)?.as_str())?;
+        add_push(alloc, sink, piece, line)?;
     }
-    Ok(told)
+    let taken = digits(alloc, sink.taken())?;
+    write!(line, ", taken {taken}")
 }
 
 /// Pushes: `ROOM FAIL BYTES..`, where `-` is no bytes.
-pub fn sink_line(alloc: Global, rest: &str) -> Result<String, AllocError> {
+pub fn add_sink(alloc: Global, rest: &str, line: &mut String) -> Result<(), AllocError> {
     let (room, others) = halves(rest);
     let (fail, pieces) = halves(others);
+    line.push_str("sink")?;
     let mut sink = sink(alloc, number(room), fail)?;
-    let told = pushes_told(alloc, &mut sink, pieces)?;
-    let taken = digits(alloc, sink.taken())?;
-    format!(in alloc; "sink{told}, taken {taken}")
+    add_pushes(alloc, &mut sink, pieces, line)
 }

@@ -68,22 +68,69 @@ fn small(word: &str) -> u16 {
     word.parse::<u16>().unwrap_or(0)
 }
 
+/// What is asked for, and how often.
+#[derive(Clone, Copy)]
+enum Task {
+    /// All messages, and four senders.
+    All(u64),
+    Codec(u64),
+    Write(u16, u64),
+    Read(u16, u64),
+    Senders(u16, u64),
+    Plans(u16, u64),
+    /// The words ask for nothing that there is.
+    Usage,
+}
+
+/// The task of a kind with one number.
+fn task_of_one(kind: &str, count: &str) -> Task {
+    match kind {
+        "all" => Task::All(number(count)),
+        "codec" => Task::Codec(number(count)),
+        _ => Task::Usage,
+    }
+}
+
+/// The task of a kind with two numbers.
+fn task_of_two(kind: &str, first: &str, count: &str) -> Task {
+    match kind {
+        "write" => Task::Write(small(first), number(count)),
+        "read" => Task::Read(small(first), number(count)),
+        "senders" => Task::Senders(small(first), number(count)),
+        "plans" => Task::Plans(small(first), number(count)),
+        _ => Task::Usage,
+    }
+}
+
+/// A word that may be absent, which is no word then.
+fn word(given: &Option<String>) -> &str {
+    match given {
+        Some(word) => word.as_str(),
+        None => "",
+    }
+}
+
+/// The task that the words behind the program's name ask for.
+fn asked<R: Env + AllocGlobal>(rt: &R) -> io::Result<Task> {
+    let mut args = std::env::args(rt)?;
+    let _ = args.next();
+    let kind = args.next();
+    let first = args.next();
+    let second = args.next();
+    if first.is_none() || args.next().is_some() {
+        return Ok(Task::Usage);
+    }
+    if second.is_none() {
+        return Ok(task_of_one(word(&kind), word(&first)));
+    }
+    Ok(task_of_two(word(&kind), word(&first), word(&second)))
+}
+
 /// One line for a message.
 fn print_codec<R: Print + AllocGlobal>(rt: &R, template: u16, count: u64) -> io::Result<()> {
     let (sizes, bytes) = written(rt.alloc(), template, count)?;
     let sum = read_back(rt.alloc(), template, count)?;
     println!(rt; "message {template}: {sizes} bytes written, their sum {bytes}, read {sum}")
-}
-
-/// The words behind the program's name.
-fn words_of<R: Env + AllocGlobal>(rt: &R) -> io::Result<Vec<String>> {
-    let mut args = std::env::args(rt)?;
-    let _ = args.next();
-    let mut words = Vec::new(rt.alloc());
-    for word in args {
-        words.push(word)?;
-    }
-    Ok(words)
 }
 
 /// All lines of all messages.
@@ -94,6 +141,17 @@ fn print_all_codec<R: Print + AllocGlobal>(rt: &R, count: u64) -> io::Result<()>
     Ok(())
 }
 
+/// The line of a message that is written so many times.
+fn print_written<R: Print + AllocGlobal>(rt: &R, template: u16, count: u64) -> io::Result<()> {
+    let (sizes, bytes) = written(rt.alloc(), template, count)?;
+    println!(rt; "{sizes} {bytes}")
+}
+
+/// The line of a message that is read so many times.
+fn print_read<R: Print + AllocGlobal>(rt: &R, template: u16, count: u64) -> io::Result<()> {
+    rt.println(read_back(rt.alloc(), template, count)?)
+}
+
 /// The line of so many senders at a gate, which are to run or not.
 fn print_senders<R: Print + Threads + Wait + Sync + AllocGlobal>(
     rt: &R,
@@ -102,38 +160,27 @@ fn print_senders<R: Print + Threads + Wait + Sync + AllocGlobal>(
     run: bool,
 ) -> io::Result<()> {
     match submitted(rt, senders, count, run) {
-        Some(entries) => println!(rt; "{entries}"),
-        None => println!(rt; "no outbox"),
+        Some(entries) => rt.println(entries),
+        None => rt.println("no outbox"),
     }
 }
 
+/// Does all that there is.
+fn print_all<R: Print + Threads + Wait + Sync + AllocGlobal>(rt: &R, count: u64) -> io::Result<()> {
+    print_all_codec(rt, count)?;
+    print_senders(rt, 4, count, true)
+}
+
 fn main(rt: HostRuntime) -> io::Result<()> {
-    let words = words_of(&rt)?;
-    match words.as_slice() {
-        [kind, count] if kind.as_str() == "all" => {
-            let count = number(count.as_str());
-            print_all_codec(&rt, count)?;
-            print_senders(&rt, 4, count, true)
-        }
-        [kind, count] if kind.as_str() == "codec" => print_all_codec(&rt, number(count.as_str())),
-        [kind, senders, count] if kind.as_str() == "senders" || kind.as_str() == "plans" => {
-            let run = kind.as_str() == "senders";
-            print_senders(&rt, small(senders.as_str()), number(count.as_str()), run)
-        }
-        [kind, template, count] if kind.as_str() == "write" => {
-            let (sizes, bytes) = written(
-                rt.alloc(),
-                small(template.as_str()),
-                number(count.as_str()),
-            )?;
-            println!(rt; "{sizes} {bytes}")
-        }
-        [kind, template, count] if kind.as_str() == "read" => {
-            let sum = read_back(rt.alloc(), small(template.as_str()), number(count.as_str()))?;
-            println!(rt; "{sum}")
-        }
-        _ => println!(rt;
-            "all COUNT, codec COUNT, write TEMPLATE COUNT, read TEMPLATE COUNT, senders SENDERS COUNT or plans SENDERS COUNT"
+    match asked(&rt)? {
+        Task::All(count) => print_all(&rt, count),
+        Task::Codec(count) => print_all_codec(&rt, count),
+        Task::Write(template, count) => print_written(&rt, template, count),
+        Task::Read(template, count) => print_read(&rt, template, count),
+        Task::Senders(senders, count) => print_senders(&rt, senders, count, true),
+        Task::Plans(senders, count) => print_senders(&rt, senders, count, false),
+        Task::Usage => rt.println(
+            "all COUNT, codec COUNT, write TEMPLATE COUNT, read TEMPLATE COUNT, senders SENDERS COUNT or plans SENDERS COUNT",
         ),
     }
 }

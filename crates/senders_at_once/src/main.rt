@@ -10,6 +10,7 @@ mod runs;
 
 use gw_fakes::Pick;
 use jr_record::Limits;
+use std::alloc::AllocError;
 use std::io;
 use std::sync::Wait;
 use std::thread::Threads;
@@ -17,41 +18,60 @@ use std::thread::Threads;
 /// The most device calls that are looked at.
 const MOST: u64 = 40;
 
+/// Limits that few entries fill, and limits that few bytes fill.
+const FEW: Limits = Limits {
+    entries: 30,
+    bytes: 100_000,
+};
+
+const SMALL: Limits = Limits {
+    entries: 1000,
+    bytes: 500,
+};
+
 /// A line for each call of the disk that may fail, once the outbox is open.
-fn print_failing<R: Threads + Wait + Sync + Print + AllocGlobal>(
+fn add_failing<R: Threads + Wait + Sync + AllocGlobal>(
     rt: &R,
     pick: Pick,
-) -> io::Result<()> {
+    lines: &mut String,
+) -> Result<(), AllocError> {
     let mut shown = 0u64;
+    let mut line = String::new(rt.alloc());
     for fuse in 0..MOST {
-        if shown < 17
-            && let Some(line) = cases::failing(rt.alloc(), fuse, pick, rt)?
-        {
-            println!(rt; "{pick:?} {shown}: {line}")?;
+        if shown < 17 && cases::failing(rt.alloc(), fuse, pick, rt, &mut line)? {
+            write!(lines, "{pick:?} {shown}: {line}\n")?;
+            line.clear();
             shown += 1;
         }
     }
     Ok(())
 }
 
-fn main(rt: HostRuntime) -> io::Result<()> {
+/// The cases of a disk that does not fail.
+fn add_cases<R: Threads + Wait + Sync + AllocGlobal>(
+    rt: &R,
+    lines: &mut String,
+) -> Result<(), AllocError> {
     let alloc = rt.alloc();
-    println!(rt; "{}", cases::meeting(alloc, &rt)?)?;
-    println!(rt; "{}", cases::plain(alloc, &[100, 30], &rt)?)?;
-    println!(rt; "{}", cases::plain(alloc, &[40, 0, 70, 25], &rt)?)?;
-    let few = Limits {
-        entries: 30,
-        bytes: 100_000,
-    };
-    println!(rt; "{}", cases::limits(alloc, few, &rt)?)?;
-    let small = Limits {
-        entries: 1000,
-        bytes: 500,
-    };
-    println!(rt; "{}", cases::limits(alloc, small, &rt)?)?;
-    println!(rt; "{}", cases::finishing(alloc, &rt)?)?;
-    for pick in [Pick::Old, Pick::Kept, Pick::Noise] {
-        print_failing(&rt, pick)?;
-    }
-    Ok(())
+    cases::meeting(alloc, rt, lines)?;
+    lines.push_str("\n")?;
+    cases::plain(alloc, &[100, 30], rt, lines)?;
+    lines.push_str("\n")?;
+    cases::plain(alloc, &[40, 0, 70, 25], rt, lines)?;
+    lines.push_str("\n")?;
+    cases::limits(alloc, FEW, rt, lines)?;
+    lines.push_str("\n")?;
+    cases::limits(alloc, SMALL, rt, lines)?;
+    lines.push_str("\n")?;
+    cases::finishing(alloc, rt, lines)?;
+    lines.push_str("\n")
+}
+
+fn main(rt: HostRuntime) -> io::Result<()> {
+    let mut lines = String::new(rt.alloc());
+    add_cases(&rt, &mut lines)?;
+    add_failing(&rt, Pick::Old, &mut lines)?;
+    add_failing(&rt, Pick::Kept, &mut lines)?;
+    add_failing(&rt, Pick::Noise, &mut lines)?;
+    rt.print(lines)
 }

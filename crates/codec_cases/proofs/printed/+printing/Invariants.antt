@@ -1,5 +1,5 @@
 use Rattle.std.proofs.Common.{◌+◌, ◌*◌}
-use Rattle.decode_cases.proofs.printed.+printing.Given as goal
+use Rattle.codec_cases.proofs.printed.+printing.Given as goal
 
 abbrev pub decreases-add_block : goal.decreases-add_block
 decreases-add_block l = 2 * l.depth + 1
