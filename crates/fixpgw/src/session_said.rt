@@ -40,7 +40,11 @@ fn journal_fault_line(
 /// That a session is not finished, and what to do.
 fn unfinished_line(alloc: Global, session: Session<'_>) -> Result<Option<String>, AllocError> {
     let most = session.most;
-    let connections = if most == 1 { "connection" } else { "connections" };
+    let connections = if most == 1 {
+        "connection"
+    } else {
+        "connections"
+    };
     Ok(Some(format!(in alloc;
         "the session is not finished after {most} {connections}: run it again with the same journals"
     )?))
@@ -75,8 +79,11 @@ fn plan_fault_line<R: Files<File = File>, D, N>(
     bad: &Bad,
 ) -> Result<Option<String>, AllocError> {
     if let Bad::Line { line } = bad
-        && let Ok(configuration) =
-            read_configuration(alloc, session.role, outside.config.kept().bytes())
+        && let Ok(configuration) = read_configuration(
+            alloc,
+            session.role,
+            outside.config.kept().bytes(),
+        )
         && let Some(text) = text_of_file(rt, alloc, session.input.path)
     {
         let senders = configuration.trade.senders;

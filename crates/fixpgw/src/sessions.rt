@@ -156,12 +156,7 @@ fn run_over<
     R: Threads + Wait + Sync + Clock + Files<File = File> + Print + AllocGlobal,
     D: Disk + Send + Drop + SaysWhy<DiskReason<'a>>,
     N: Dialer + Drop + SaysWhy<SocketReason>,
->(
-    rt: &'a R,
-    session: Session<'a>,
-    files: SessionFiles<'a, D>,
-    dialer: N,
-) -> Report
+>(rt: &'a R, session: Session<'a>, files: SessionFiles<'a, D>, dialer: N) -> Report
     requires { N.lent dialer ≡ false }
 {
     let alloc = rt.alloc();
@@ -209,11 +204,7 @@ pub fn run_over_sockets<
         + Print
         + AllocGlobal,
     D: Disk + Send + Drop + SaysWhy<DiskReason<'a>>,
->(
-    rt: &'a R,
-    session: Session<'a>,
-    files: SessionFiles<'a, D>,
-) -> Report {
+>(rt: &'a R, session: Session<'a>, files: SessionFiles<'a, D>) -> Report {
     let (alloc, most) = (rt.alloc(), u64::from(session.most));
     match session.role {
         Role::Connect => {
