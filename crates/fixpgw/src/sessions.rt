@@ -3,6 +3,7 @@
 
 ghost use Rattle.std.specs.Prelude.{◌≡◌, false};
 
+use crate::files::named;
 use crate::report::Report;
 use crate::session_said::line_of;
 use gw_links::Dialer;
@@ -42,10 +43,6 @@ pub fn role_of(command: &str) -> Option<Role> {
         "connect" => Some(Role::Connect),
         _ => None,
     }
-}
-
-const fn named<'a>(role: &'static str, path: &'a str) -> Named<'a> {
-    Named { role, path }
 }
 
 impl<'a> Session<'a> {
