@@ -57,12 +57,14 @@ fn asked_at(wanted: Wanted, key: &str, found: Option<&Value>) -> Option<Asked> {
 /// An absent key that is out of range has a default that the command does not take.
 fn push_absent(line: &mut String, asked: Option<Asked>) -> Result<(), AllocError> {
     match asked {
-        Some(Asked {
-            by,
-            value,
-            condition,
-            default,
-        }) => write!(
+        Some(
+            Asked {
+                by,
+                value,
+                condition,
+                default,
+            },
+        ) => write!(
             line,
             "is absent, which stands for {default}, and {by} asks for {value}{condition}"
         ),
@@ -79,12 +81,14 @@ fn push_range(
 ) -> Result<(), AllocError> {
     push_value(line, found)?;
     match asked {
-        Some(Asked {
-            by,
-            value,
-            condition,
-            default: _,
-        }) if admitted.holds(found) => {
+        Some(
+            Asked {
+                by,
+                value,
+                condition,
+                default: _,
+            },
+        ) if admitted.holds(found) => {
             write!(line, " is not {value}, which {by} asks for{condition}")
         }
         _ => {

@@ -16,7 +16,8 @@ use std::io::{self, Printer};
 use std::rt::Files;
 use std::sync::Wait;
 
-const fn named<'a>(role: &'static str, path: &'a str) -> Named<'a> {
+/// The file at a path, which is this to the command.
+pub const fn named<'a>(role: &'static str, path: &'a str) -> Named<'a> {
     Named { role, path }
 }
 

@@ -1,18 +1,21 @@
 //! What is wrong with a session, in a line.
 
 use crate::again::text_of_file;
+use crate::files::named;
 use crate::lines::{disk_line, input_line, journal_line, sink_line, source_line};
-use crate::sessions::{Devices, SaysWhy, Session};
+use crate::sessions::{Devices, Session};
 use fault_text::{Wanted, config_fault, file_name, plan_line, rejected};
 use gateway::{Bad, Status, Which};
 use gw_outside::Disk;
-use gw_real::{DiskReason, Named};
-use gw_sockets::SocketReason;
+use gw_real::{DiskReason, FileDisk, Named};
+use gw_sockets::{AcceptDialer, ConnectDialer, SocketReason};
 use session_config::read_configuration;
 use std::alloc::{AllocError, Global};
 use std::fs::File;
 use std::io::ErrorKind;
+use std::net::{Net, TcpListener, TcpStream};
 use std::rt::Files;
+use std::time::Clock;
 
 /// A file's role and path behind each other, and what is wrong with it.
 fn said_of(alloc: Global, name: Named<'_>, what: &str) -> Result<Option<String>, AllocError> {
@@ -40,7 +43,11 @@ fn journal_fault_line(
 /// That a session is not finished, and what to do.
 fn unfinished_line(alloc: Global, session: Session<'_>) -> Result<Option<String>, AllocError> {
     let most = session.most;
-    let connections = if most == 1 { "connection" } else { "connections" };
+    let connections = if most == 1 {
+        "connection"
+    } else {
+        "connections"
+    };
     Ok(Some(format!(in alloc;
         "the session is not finished after {most} {connections}: run it again with the same journals"
     )?))
@@ -75,8 +82,11 @@ fn plan_fault_line<R: Files<File = File>, D, N>(
     bad: &Bad,
 ) -> Result<Option<String>, AllocError> {
     if let Bad::Line { line } = bad
-        && let Ok(configuration) =
-            read_configuration(alloc, session.role, outside.config.kept().bytes())
+        && let Ok(configuration) = read_configuration(
+            alloc,
+            session.role,
+            outside.config.kept().bytes(),
+        )
         && let Some(text) = text_of_file(rt, alloc, session.input.path)
     {
         let senders = configuration.trade.senders;
@@ -100,25 +110,64 @@ fn advice(reason: SocketReason) -> &'static str {
 }
 
 /// Why a connection was not to be had.
-fn dial_line<N: SaysWhy<SocketReason>>(
+fn dial_line(
     alloc: Global,
-    session: Session<'_>,
-    dialer: &N,
+    name: Named<'_>,
+    reason: SocketReason,
 ) -> Result<Option<String>, AllocError> {
-    let Some(reason) = dialer.why() else {
-        return Ok(None);
-    };
-    let address = Named {
-        role: "ADDRESS",
-        path: session.address,
-    };
     let advice = advice(reason);
     let what = format!(in alloc; "{reason}{advice}")?;
-    said_of(alloc, address, what.as_str())
+    said_of(alloc, name, what.as_str())
+}
+
+/// A device that says in a line why its last call that failed did.
+pub trait SaysWhy {
+    /// The line, where a call has failed; the device is this to the command.
+    fn why(&self, alloc: Global, name: Named<'_>) -> Result<Option<String>, AllocError>;
+}
+
+impl<R> SaysWhy for FileDisk<'_, R> {
+    fn why(&self, alloc: Global, name: Named<'_>) -> Result<Option<String>, AllocError> {
+        match self.reason() {
+            Some(reason) => journal_fault_line(alloc, name, reason),
+            None => Ok(None),
+        }
+    }
+}
+
+impl<R: Net<Listener = TcpListener, Stream = TcpStream> + Clock> SaysWhy for AcceptDialer<'_, R> {
+    fn why(&self, alloc: Global, name: Named<'_>) -> Result<Option<String>, AllocError> {
+        match self.reason() {
+            Some(reason) => dial_line(alloc, name, reason),
+            None => Ok(None),
+        }
+    }
+}
+
+impl<R: Net<Listener = TcpListener, Stream = TcpStream> + Clock> SaysWhy for ConnectDialer<'_, R> {
+    fn why(&self, alloc: Global, name: Named<'_>) -> Result<Option<String>, AllocError> {
+        match self.reason() {
+            Some(reason) => dial_line(alloc, name, reason),
+            None => Ok(None),
+        }
+    }
+}
+
+/// Why the disk of a journal failed: that of the outbox, where it did.
+fn disks_line<D: SaysWhy>(
+    alloc: Global,
+    session: Session<'_>,
+    out_disk: &D,
+    in_disk: &D,
+) -> Result<Option<String>, AllocError> {
+    match out_disk.why(alloc, session.outbox)? {
+        Some(line) => Ok(Some(line)),
+        None => in_disk.why(alloc, session.inbox),
+    }
 }
 
 /// What is wrong with a device, in a line; none where the status says all.
-fn device_line<'a, R, D: SaysWhy<DiskReason<'a>>, N: SaysWhy<SocketReason>>(
+fn device_line<R, D: SaysWhy, N: SaysWhy>(
     alloc: Global,
     session: Session<'_>,
     status: &Status,
@@ -134,23 +183,18 @@ fn device_line<'a, R, D: SaysWhy<DiskReason<'a>>, N: SaysWhy<SocketReason>>(
             Some(reason) => sink_line(alloc, outside.out.name(), reason),
             None => Ok(None),
         },
-        Status::JournalFault => match (outside.out_disk.why(), outside.in_disk.why()) {
-            (Some(reason), _) => journal_fault_line(alloc, session.outbox, reason),
-            (None, Some(reason)) => journal_fault_line(alloc, session.inbox, reason),
-            (None, None) => Ok(None),
-        },
-        Status::DialFault => dial_line(alloc, session, &outside.dialer),
+        Status::JournalFault => {
+            disks_line(alloc, session, &outside.out_disk, &outside.in_disk)
+        }
+        Status::DialFault => outside
+            .dialer
+            .why(alloc, named("ADDRESS", session.address)),
         _ => Ok(None),
     }
 }
 
 /// What is wrong, in a line; none where the status says all.
-pub fn line_of<
-    'a,
-    R: Files<File = File>,
-    D: Disk + SaysWhy<DiskReason<'a>>,
-    N: SaysWhy<SocketReason>,
->(
+pub fn line_of<R: Files<File = File>, D: Disk + SaysWhy, N: SaysWhy>(
     rt: &R,
     alloc: Global,
     session: Session<'_>,

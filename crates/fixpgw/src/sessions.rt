@@ -3,12 +3,13 @@
 
 ghost use Rattle.std.specs.Prelude.{◌≡◌, false};
 
+use crate::files::named;
 use crate::report::Report;
-use crate::session_said::line_of;
+use crate::session_said::{SaysWhy, line_of};
 use gw_links::Dialer;
 use gw_outside::Disk;
-use gw_real::{DiskReason, FileDisk, FileSink, FileSource, Named, STANDARD_OUTPUT};
-use gw_sockets::{AcceptDialer, ConnectDialer, MachineClock, SocketReason};
+use gw_real::{FileSink, FileSource, Named, STANDARD_OUTPUT};
+use gw_sockets::{AcceptDialer, ConnectDialer, MachineClock};
 use schema_toml::TEXT_LIMIT;
 use session_command::{Role as EndRole, SessionOutside, run_session};
 use session_config::Role;
@@ -42,10 +43,6 @@ pub fn role_of(command: &str) -> Option<Role> {
         "connect" => Some(Role::Connect),
         _ => None,
     }
-}
-
-const fn named<'a>(role: &'static str, path: &'a str) -> Named<'a> {
-    Named { role, path }
 }
 
 impl<'a> Session<'a> {
@@ -94,32 +91,6 @@ impl<'a> Session<'a> {
     }
 }
 
-/// A device that says why its last call that failed did.
-pub trait SaysWhy<W> {
-    /// Why the last call that failed did, if one has.
-    fn why(&self) -> Option<W>;
-}
-
-impl<'a, R> SaysWhy<DiskReason<'a>> for FileDisk<'a, R> {
-    fn why(&self) -> Option<DiskReason<'a>> {
-        self.reason()
-    }
-}
-
-impl<R: Net<Listener = TcpListener, Stream = TcpStream> + Clock> SaysWhy<SocketReason>
-    for AcceptDialer<'_, R> {
-    fn why(&self) -> Option<SocketReason> {
-        self.reason()
-    }
-}
-
-impl<R: Net<Listener = TcpListener, Stream = TcpStream> + Clock> SaysWhy<SocketReason>
-    for ConnectDialer<'_, R> {
-    fn why(&self) -> Option<SocketReason> {
-        self.reason()
-    }
-}
-
 /// The devices of a session over files.
 pub type Devices<'a, R, D, N> = SessionOutside<
     FileSource<'a, R, File>,
@@ -143,10 +114,9 @@ fn out_of<'a, R: Print>(
     others: &'a [Named<'a>],
 ) -> FileSink<'a, R, File, Printer<'a, R>> {
     if out.path == "-" {
-        FileSink::printing(rt, io::writer(rt), others)
-    } else {
-        FileSink::new(rt, out, others)
+        return FileSink::printing(rt, io::writer(rt), others);
     }
+    FileSink::new(rt, out, others)
 }
 
 /// Runs a session over this dialer and these files. The devices are closed when it returns, before anything is printed: where
@@ -154,14 +124,9 @@ fn out_of<'a, R: Print>(
 fn run_over<
     'a,
     R: Threads + Wait + Sync + Clock + Files<File = File> + Print + AllocGlobal,
-    D: Disk + Send + Drop + SaysWhy<DiskReason<'a>>,
-    N: Dialer + Drop + SaysWhy<SocketReason>,
->(
-    rt: &'a R,
-    session: Session<'a>,
-    files: SessionFiles<'a, D>,
-    dialer: N,
-) -> Report
+    D: Disk + Send + Drop + SaysWhy,
+    N: Dialer + Drop + SaysWhy,
+>(rt: &'a R, session: Session<'a>, files: SessionFiles<'a, D>, dialer: N) -> Report
     requires { N.lent dialer ≡ false }
 {
     let alloc = rt.alloc();
@@ -208,12 +173,8 @@ pub fn run_over_sockets<
         + Files<File = File>
         + Print
         + AllocGlobal,
-    D: Disk + Send + Drop + SaysWhy<DiskReason<'a>>,
->(
-    rt: &'a R,
-    session: Session<'a>,
-    files: SessionFiles<'a, D>,
-) -> Report {
+    D: Disk + Send + Drop + SaysWhy,
+>(rt: &'a R, session: Session<'a>, files: SessionFiles<'a, D>) -> Report {
     let (alloc, most) = (rt.alloc(), u64::from(session.most));
     match session.role {
         Role::Connect => {

@@ -71,8 +71,18 @@ pub fn seat<J: Journal>(
     senders
 }
 
-/// Counts the messages that the outbox has of each sender as done, so that each goes on behind them.
-pub fn count_done<J: Journal, R: Wait>(gate: &Gate<J>, senders: &mut [Sender<J>], rt: &R)
+/// Counts the messages that the outbox has of each sender that was seated as done, so that each goes on behind them.
+pub fn count_done<J: Journal, R: Wait>(gate: &Gate<J>, senders: &mut Vec<Sender<J>>, rt: &R)
+    requires seated { Seated gate.now senders.old.items (vec_len senders.old + 1) }
+    ensures seated { Seated gate.now senders.new.items (vec_len senders.new + 1) }
+    ensures count { vec_len senders.new ≡ vec_len senders.old }
+    ensures each { CountedEach gate.now senders.old.items senders.new.items }
+{
+    count_each(gate, senders.as_mut_slice(), rt);
+}
+
+/// Counts the messages that the outbox has of each sender as done.
+fn count_each<J: Journal, R: Wait>(gate: &Gate<J>, senders: &mut [Sender<J>], rt: &R)
     requires ready { All (λ s. IsReady gate.now s) senders.old }
     ensures each { CountedEach gate.now senders.old senders.new }
 {

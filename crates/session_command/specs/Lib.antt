@@ -1,0 +1,4 @@
+pub mod Inputs
+pub mod Boxes
+pub mod Outsides
+pub mod Steps

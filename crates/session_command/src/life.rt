@@ -1,24 +1,42 @@
 //! The life of a session over its boxes: the senders seated at a gate, the connections served, and the outbox out of the gate
 //! again.
 
+ghost use Rattle.std.specs.Prelude.{◌≡◌, ℕ, ◌+◌, ◌≤◌, ◌^◌, false, [], length, vec_len, vec_capacity, Err, IfErr};
+ghost use Rattle.gw_outside.specs.Faults.{HasRisen};
+ghost use Rattle.jr_boxes.specs.Outbox as outboxes;
+ghost use Rattle.jr_boxes.specs.Inbox as inboxes;
+ghost use Rattle.gate_senders.specs.Gate.{senders_of, IsPassAt, MadeAt, AllBackAt};
+ghost use Rattle.gate_turn.specs.Places.{known};
+ghost use Rattle.gate_turn.specs.Calls.{IsFree};
+ghost use Rattle.conn_loop.specs.Conn.{Looks};
+ghost use Rattle.sender_plans.specs.Seats.{Seated};
+ghost use Rattle.conn_serve.specs.declared.answer.ServeFault.TheVariants as faults;
+ghost use Rattle.session_command.specs.Steps.{status_of, IsOfLife};
+
 use crate::boxes::MOST;
 use command_base::Status;
 use conn_serve::{ServeFault, serve};
 use fixp_shake::EndConfig;
-use gate_senders::Gate;
+use gate_senders::{Gate, Kept};
+use gate_turn::{Pass, Passes};
 use gw_links::{Clock, Dialer};
 use gw_outside::{Disk, Sink};
 use jr_boxes::{Inbox, Outbox};
 use jr_log::LogJournal;
 use jr_record::Journal;
 use send_plans::Plan;
-use sender_plans::{Sender, give_last, seat, take_last, unseat};
+use sender_plans::{Sender, count_done, give_last, seat, take_last, unseat};
 use std::alloc::Global;
 use std::sync::Wait;
 use std::thread::Threads;
 
 /// The status of a life that was served so.
-fn status_of(answer: Result<(), ServeFault>) -> Status {
+fn status_of(answer: Result<(), ServeFault>) -> Status
+    ensures value { result ≡ status_of answer }
+    ensures of_life { IsOfLife result }
+    ensures output { result ≡ Status.OutputFault → answer ≡ Err faults.Output }
+    ensures dial { result ≡ Status.DialFault → answer ≡ Err faults.Dial }
+{
     match answer {
         Ok(()) => Status::Done,
         Err(ServeFault::Output) => Status::OutputFault,
@@ -32,11 +50,120 @@ fn status_of(answer: Result<(), ServeFault>) -> Status {
     }
 }
 
-/// Counts what the outbox has of each sender as done, so that it goes on behind it.
-fn count_done<J: Journal, R: Wait>(gate: &Gate<J>, senders: &mut [Sender<J>], rt: &R) {
-    for sender in senders {
-        sender.done = gate.mine(&mut sender.pass, rt);
-    }
+/// Serves the connections of the dialer, with the senders that were seated beside them.
+fn serve_beside<
+    O: Journal + Send,
+    K: Sink,
+    I: Journal,
+    N: Dialer,
+    C: Clock,
+    R: Threads + Wait + Sync,
+>(
+    rt: &R,
+    alloc: Global,
+    config: EndConfig,
+    senders: &mut Vec<Sender<O>>,
+    out: &mut K,
+    dialer: &mut N,
+    clock: &mut C,
+    gate: &Gate<O>,
+    pass: &mut Pass<Kept<O>>,
+    inbox: &mut Inbox<I>,
+) -> Result<(), ServeFault>
+    requires seated { Seated gate.now senders.old.items (vec_len senders.old + 1) }
+    requires own { IsPassAt gate.now pass.old }
+    requires free { IsFree pass.old }
+    requires lent { N.lent dialer.old ≡ false }
+    requires flow { inboxes.flow_of inbox.old ≡ config.peer_flow }
+    requires limit { (inboxes.limits_of inbox.old).entries ≡ 2 ^ 24 }
+    requires least { 100 ≤ config.keepalive }
+    requires greatest { config.keepalive ≤ 60000 }
+    requires credentials { length config.credentials ≤ 2048 }
+    ensures seated { Seated gate.now senders.new.items (vec_len senders.new + 1) }
+    ensures count { vec_len senders.new ≡ vec_len senders.old }
+    ensures own { IsPassAt gate.now pass.new }
+    ensures free { IsFree pass.new }
+    ensures looks { Looks (known pass.old) (known pass.new) }
+    ensures output { IfErr result (λ fault. fault ≡ faults.Output → HasRisen (K.faults out.old) (K.faults out.new)) }
+    ensures dial { IfErr result (λ fault. fault ≡ faults.Dial → HasRisen (N.faults dialer.old) (N.faults dialer.new)) }
+    ensures lent { N.lent dialer.new ≡ false }
+    ensures never_falls { (inboxes.faults_of inbox.old ≤ inboxes.faults_of inbox.new) × (K.faults out.old ≤ K.faults out.new) × (N.faults dialer.old ≤ N.faults dialer.new) }
+{
+    serve(
+        alloc,
+        dialer,
+        out,
+        gate,
+        pass,
+        inbox,
+        clock,
+        config,
+        MOST,
+        senders.as_mut_slice(),
+        rt,
+    )
+}
+
+/// Seats a sender for each plan and counts what the outbox has of each as done, serves the connections beside them, and gives all
+/// passes back.
+fn serve_seated<
+    O: Journal + Send,
+    K: Sink,
+    I: Journal,
+    N: Dialer,
+    C: Clock,
+    R: Threads + Wait + Sync,
+>(
+    rt: &R,
+    alloc: Global,
+    config: EndConfig,
+    mut plans: Vec<Plan>,
+    seats: Vec<Sender<O>>,
+    out: &mut K,
+    dialer: &mut N,
+    clock: &mut C,
+    gate: &Gate<O>,
+    passes: &mut Passes<Kept<O>>,
+    inbox: &mut Inbox<I>,
+) -> Result<(), ServeFault>
+    requires made { MadeAt gate.now passes.old (vec_len plans + 1) }
+    requires count { senders_of gate.now ≡ vec_len plans }
+    requires few { vec_len plans ≤ 16 }
+    requires empty { seats.items ≡ [] }
+    requires room { vec_len plans ≤ vec_capacity seats }
+    requires lent { N.lent dialer.old ≡ false }
+    requires flow { inboxes.flow_of inbox.old ≡ config.peer_flow }
+    requires limit { (inboxes.limits_of inbox.old).entries ≡ 2 ^ 24 }
+    requires least { 100 ≤ config.keepalive }
+    requires greatest { config.keepalive ≤ 60000 }
+    requires credentials { length config.credentials ≤ 2048 }
+    ensures back { AllBackAt gate.now passes.new }
+    ensures output { IfErr result (λ fault. fault ≡ faults.Output → HasRisen (K.faults out.old) (K.faults out.new)) }
+    ensures dial { IfErr result (λ fault. fault ≡ faults.Dial → HasRisen (N.faults dialer.old) (N.faults dialer.new)) }
+    ensures lent { N.lent dialer.new ≡ false }
+    ensures never_falls { (inboxes.faults_of inbox.old ≤ inboxes.faults_of inbox.new) × (K.faults out.old ≤ K.faults out.new) × (N.faults dialer.old ≤ N.faults dialer.new) }
+{
+    let count = plans.len() as u16;
+    // Seats are given from the last plan on.
+    plans.as_mut_slice().reverse();
+    let mut senders = seat(gate, passes, plans, seats);
+    let mut pass = take_last(gate, passes, count);
+    count_done(gate, &mut senders, rt);
+    let answer = serve_beside(
+        rt,
+        alloc,
+        config,
+        &mut senders,
+        out,
+        dialer,
+        clock,
+        gate,
+        &mut pass,
+        inbox,
+    );
+    give_last(gate, passes, count, pass);
+    unseat(gate, senders, passes);
+    answer
 }
 
 /// Serves the connections of the dialer, with a sender for each plan beside them. The outbox comes back with the status.
@@ -44,40 +171,47 @@ pub fn live<K: Sink, D: Disk + Send, N: Dialer, C: Clock, R: Threads + Wait + Sy
     rt: &R,
     alloc: Global,
     config: EndConfig,
-    mut plans: Vec<Plan>,
+    plans: Vec<Plan>,
     out: &mut K,
     dialer: &mut N,
     clock: &mut C,
     outbox: Outbox<LogJournal<D>>,
     inbox: &mut Inbox<LogJournal<D>>,
-) -> (Status, Outbox<LogJournal<D>>) {
-    let count = plans.len() as u16;
+) -> (Status, Outbox<LogJournal<D>>)
+    requires sound { outboxes.is_broken outbox ≡ false }
+    requires few { vec_len plans ≤ 16 }
+    requires lent { N.lent dialer.old ≡ false }
+    requires flow { inboxes.flow_of inbox.old ≡ config.peer_flow }
+    requires limit { (inboxes.limits_of inbox.old).entries ≡ 2 ^ 24 }
+    requires least { 100 ≤ config.keepalive }
+    requires greatest { config.keepalive ≤ 60000 }
+    requires credentials { length config.credentials ≤ 2048 }
+    ensures of_life { IsOfLife result.0 }
+    ensures output { result.0 ≡ Status.OutputFault → HasRisen (K.faults out.old) (K.faults out.new) }
+    ensures dial { result.0 ≡ Status.DialFault → HasRisen (N.faults dialer.old) (N.faults dialer.new) }
+    ensures lent { N.lent dialer.new ≡ false }
+    ensures never_falls { (inboxes.faults_of inbox.old ≤ inboxes.faults_of inbox.new) × (K.faults out.old ≤ K.faults out.new) × (N.faults dialer.old ≤ N.faults dialer.new) }
+    ensures outbox_never_falls { outboxes.faults_of outbox ≤ outboxes.faults_of result.1 }
+{
     let Ok(seats) = Vec::with_capacity(alloc, plans.len()) else {
         return (Status::Memory, outbox);
     };
-    let (gate, mut passes) = match Gate::new(alloc, outbox, count) {
+    let (gate, mut passes) = match Gate::new(alloc, outbox, plans.len() as u16) {
         Ok(made) => made,
         Err(outbox) => return (Status::Memory, outbox),
     };
-    // Seats are given from the last plan on.
-    plans.reverse();
-    let mut senders = seat(&gate, &mut passes, plans, seats);
-    let mut pass = take_last(&gate, &mut passes, count);
-    count_done(&gate, senders.as_mut_slice(), rt);
-    let answer = serve(
-        alloc,
-        dialer,
-        out,
-        &gate,
-        &mut pass,
-        inbox,
-        clock,
-        config,
-        MOST,
-        senders.as_mut_slice(),
+    let answer = serve_seated(
         rt,
+        alloc,
+        config,
+        plans,
+        seats,
+        out,
+        dialer,
+        clock,
+        &gate,
+        &mut passes,
+        inbox,
     );
-    give_last(&gate, &mut passes, count, pass);
-    unseat(&gate, senders, &mut passes);
     (status_of(answer), gate.close(passes))
 }

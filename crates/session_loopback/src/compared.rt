@@ -31,8 +31,7 @@ pub fn applied(outbox: &[Record], inbox: &[Record]) -> Option<u64> {
     for record in inbox {
         match (record, sent) {
             (Record::Apply { number, payload }, [Record::Entry { payload: entry, .. }, rest @ ..])
-                if *number == next && payload.as_slice() == entry.as_slice() =>
-            {
+                if *number == next && payload.as_slice() == entry.as_slice() => {
                 sent = rest;
                 next = next.saturating_add(1);
             }

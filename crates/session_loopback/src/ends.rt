@@ -49,7 +49,9 @@ fn plans(alloc: Global) -> Result<Bytes, AllocError> {
     let mut text = Vec::new(alloc);
     for number in 0..100u8 {
         for sender in 1..3u8 {
-            let line = format!(in alloc; "{sender} eb500000010064000100{sender:02x}{number:02x}\n")?;
+            let line = format!(in alloc;
+                "{sender} eb500000010064000100{sender:02x}{number:02x}\n"
+            )?;
             text.extend_from_slice(line.as_bytes())?;
         }
     }
@@ -104,9 +106,7 @@ fn run_end<N: Dialer + Drop, R: Threads + Wait + Sync + Clock>(
 }
 
 /// Runs `accept`.
-pub fn acceptor<
-    R: Threads + Wait + Sync + Net<Listener = TcpListener, Stream = TcpStream> + Clock,
->(
+pub fn acceptor<R: Threads + Wait + Sync + Net<Listener = TcpListener, Stream = TcpStream> + Clock>(
     rt: &R,
     alloc: Global,
 ) -> Option<Ended> {
@@ -117,10 +117,7 @@ pub fn acceptor<
 /// Runs `connect`.
 pub fn initiator<
     R: Threads + Wait + Sync + Net<Listener = TcpListener, Stream = TcpStream> + Clock,
->(
-    rt: &R,
-    alloc: Global,
-) -> Option<Ended> {
+>(rt: &R, alloc: Global) -> Option<Ended> {
     let dialer = ConnectDialer::new(rt, alloc, ADDRESS, MOST);
     run_end(rt, alloc, Role::Initiator, dialer)
 }

@@ -32,15 +32,15 @@ fn print_end<R: Print + AllocGlobal>(
 }
 
 /// Runs both ends at once.
-fn both<
-    R: Threads + Wait + Sync + Net<Listener = TcpListener, Stream = TcpStream> + Clock,
->(
+fn both<R: Threads + Wait + Sync + Net<Listener = TcpListener, Stream = TcpStream> + Clock>(
     rt: &R,
     alloc: Global,
 ) -> (Option<Ended>, Option<Ended>) {
-    join_mut(rt, &mut || acceptor(rt, alloc), &mut || {
-        initiator(rt, alloc)
-    })
+    join_mut(
+        rt,
+        &mut || acceptor(rt, alloc),
+        &mut || { initiator(rt, alloc) },
+    )
 }
 
 fn main(rt: HostRuntime) -> io::Result<()> {

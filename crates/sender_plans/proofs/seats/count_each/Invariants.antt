@@ -1,7 +1,7 @@
 use Rattle.std.proofs.Common.{◌≡◌, ℕ, ◌+◌, ◌<◌, ◌≤◌, All, length, slice_index_or}
 use Rattle.sender_plans.specs.Runs.{IsReady, Counted}
 use Rattle.sender_plans.specs.declared.sender.Sender.{Sender}
-use Rattle.sender_plans.proofs.seats.count_done.Given as goal
+use Rattle.sender_plans.proofs.seats.count_each.Given as goal
 
 abbrev pub invariant-loop-place : goal.invariant-loop-place
 invariant-loop-place g l = record {

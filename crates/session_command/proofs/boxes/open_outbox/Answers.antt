@@ -1,0 +1,16 @@
+use Rattle.std.proofs.Common.{refl}
+use Rattle.session_command.proofs.boxes.open_outbox.Goals as goal
+
+pub returns-in-Err-clause-refused : goal.returns-in-Err-clause-refused
+returns-in-Err-clause-refused g c = λ flow. c.not_opened.ensures.refused flow (g.D.Disk.told c.args.disk) c.in-Err.ensures.refused
+
+pub returns-in-Ok-open-clause-told : goal.returns-in-Ok-open-clause-told
+returns-in-Ok-open-clause-told g c = λ flow x e.
+    let records = c.in-Ok.journal.records.items in
+    let opened = c.in-Ok-open.ensures.opened records refl in
+    record { records = records; journal = c.in-Ok.ensures.list x e; those = (opened.history, opened.outbox) }
+
+pub returns-in-Err-open-clause-refused : goal.returns-in-Err-open-clause-refused
+returns-in-Err-open-clause-refused g c = λ flow.
+    let records = c.in-Ok.journal.records.items in
+    c.excluded.ensures.refused flow (g.D.Disk.told c.args.disk) (λ at is x e. record { records = records; journal = c.in-Ok.ensures.list x e; wrong = c.in-Err-open.ensures.wrong at is records refl })
