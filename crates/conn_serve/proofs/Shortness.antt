@@ -30,11 +30,11 @@ payload_short o message (unknown id) few is = omega arith
 
 act_short : (a : Act) (i : Incoming) → length (payload_in i) ≤ 2 ^ 20 → All IsShort (told_by a i)
 act_short acts.Nothing i few = All-nil IsShort
-act_short (acts.Apply number) i few = All-cons IsShort _ _ few (All-nil IsShort)
+act_short (acts.Apply number) i few = All-cons IsShort _ [] few (All-nil IsShort)
 act_short (acts.Skip from count) i few = All-nil IsShort
 act_short acts.Negotiated i few = All-nil IsShort
 act_short (acts.PeerFinished last) i few = All-nil IsShort
-act_short (acts.Told from count) i few = All-cons IsShort _ _ tt (All-nil IsShort)
+act_short (acts.Told from count) i few = All-cons IsShort _ [] tt (All-nil IsShort)
 act_short acts.Ended i few = All-nil IsShort
 
 frame_short : (now : ℕ) (l : Line) (t : TakenFrame) → IsTaken now l t → All IsShort (tells now l t)

@@ -131,7 +131,7 @@ module _ {J : Type 0} {G : Ghosts J} where
   -- a connection was given up
   pub record GaveOneUp (why : Option ServeFault) (dialed later : Option DialerTold) (out now_out : Option (List ℕ)) (before seen : History) (m : State) (box since : Inbox J G) : Type 0 where
     pub connection : Connection
-    pub open : connection.close ≡ None
+    pub unclosed : connection.close ≡ None
     pub last : Line
     pub is : IsConnection before seen m last connection
     pub holds : (i : List InboxRecord) → HoldsBox box i [] → HoldsBox since (i ++ connection.adds) connection.refused
