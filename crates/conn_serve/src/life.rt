@@ -94,14 +94,19 @@ fn serve_next<N: Dialer, K: Sink, O: Journal, I: Journal, C: Clock, R: Wait>(
     ensures never_falls { (faults_of inbox.old ≤ faults_of inbox.new) × (K.faults out.old ≤ K.faults out.new) × (N.faults dialer.old ≤ N.faults dialer.new) }
     ensures told { C.told clock.new ≡ C.told clock.old }
 {
-    let mut link = next_link(dialer, conn)?;
+    let mut link = match next_link(dialer, conn) {
+        Ok(link) => link,
+        Err(fault) => return Err(fault),
+    };
     let answer = one_connection(
         conn, &mut link, out, gate, pass, inbox, clock, teller, stop, rt,
     );
     dialer.back(link);
     match answer {
         Ok(Some(close)) => {
-            teller.tell_close(out, number, close)?;
+            if let Err(fault) = teller.tell_close(out, number, close) {
+                return Err(fault);
+            }
             end_behind(close)
         }
         Ok(None) => Ok(Some(LifeEnd::Stopped)),
@@ -143,12 +148,11 @@ pub fn serve_connections<N: Dialer, K: Sink, O: Journal, I: Journal, C: Clock, R
     ensures told { C.told clock.new ≡ C.told clock.old }
 {
     let mut teller = Teller::new(alloc);
-    let mut number = 1u64;
-    for _ in rt.forever() {
+    for number in 1..u64::MAX {
         if stop.load(Ordering::SeqCst) {
             return Ok(LifeEnd::Stopped);
         }
-        if let Some(end) = serve_next(
+        match serve_next(
             dialer,
             out,
             gate,
@@ -160,10 +164,13 @@ pub fn serve_connections<N: Dialer, K: Sink, O: Journal, I: Journal, C: Clock, R
             number,
             stop,
             rt,
-        )? {
-            return Ok(end);
+        ) {
+            Ok(None) => {}
+            Ok(Some(end)) => return Ok(end),
+            Err(fault) => return Err(fault),
         }
-        number = number.saturating_add(1);
     }
+    // No dialer gives so many connections.
+    for _ in rt.forever() {}
     unreachable!()
 }
