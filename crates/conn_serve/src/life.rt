@@ -102,16 +102,17 @@ fn serve_next<N: Dialer, K: Sink, O: Journal, I: Journal, C: Clock, R: Wait>(
         conn, &mut link, out, gate, pass, inbox, clock, teller, stop, rt,
     );
     dialer.back(link);
-    match answer {
-        Ok(Some(close)) => {
-            if let Err(fault) = teller.tell_close(out, number, close) {
-                return Err(fault);
-            }
-            end_behind(close)
-        }
-        Ok(None) => Ok(Some(LifeEnd::Stopped)),
-        Err(fault) => Err(fault),
+    let ended = match answer {
+        Ok(ended) => ended,
+        Err(fault) => return Err(fault),
+    };
+    let Some(close) = ended else {
+        return Ok(Some(LifeEnd::Stopped));
+    };
+    if let Err(fault) = teller.tell_close(out, number, close) {
+        return Err(fault);
     }
+    end_behind(close)
 }
 
 /// Serves the connections that a dialer gives, one after another, until one ends with both finishes exchanged, or until `stop`
@@ -152,7 +153,7 @@ pub fn serve_connections<N: Dialer, K: Sink, O: Journal, I: Journal, C: Clock, R
         if stop.load(Ordering::SeqCst) {
             return Ok(LifeEnd::Stopped);
         }
-        match serve_next(
+        let answer = serve_next(
             dialer,
             out,
             gate,
@@ -164,10 +165,13 @@ pub fn serve_connections<N: Dialer, K: Sink, O: Journal, I: Journal, C: Clock, R
             number,
             stop,
             rt,
-        ) {
-            Ok(None) => {}
-            Ok(Some(end)) => return Ok(end),
+        );
+        let ended = match answer {
+            Ok(ended) => ended,
             Err(fault) => return Err(fault),
+        };
+        if let Some(end) = ended {
+            return Ok(end);
         }
     }
     // No dialer gives so many connections.
