@@ -386,3 +386,8 @@ module _ {J : Type 0} {G : Ghosts J} where
       over_ended (Err faults.Memory) n dialed between later out mid_out now_out before middle seen m mid new box mid_box since e.0 l e.1 tt
   over_err faults.Memory n dialed between later out mid_out now_out before middle seen m mid new box mid_box since l (inr g) =
       over_given (Err faults.Memory) (Some faults.Memory) n dialed between later out mid_out now_out before middle seen m mid box mid_box since l g refl tt
+
+  -- where there was no memory to begin, none was served
+  pub nothing_served : (dialed : Option DialerTold) (out : Option (List ℕ)) (seen : History) (m : State) (box : Inbox J G) → ServedLife dialed dialed out out seen seen m box box (Err faults.Memory)
+  nothing_served dialed out seen m box =
+      over_none (Err faults.Memory) 1 dialed dialed dialed out out out seen seen seen m m m box box box (lived_none dialed out seen m box) (made_none dialed dialed out seen m box refl) tt
