@@ -44,8 +44,7 @@ turns_on a b c l m n [] us news more adds rest first later =
     let P : Line → History → List NewsItem → List InboxRecord → Type 0 = λ x h ns rs. WereTurns h c x n us (ns ++ more) (rs ++ rest) in
     subst (λ (x : Line). P x a news adds) first.0 (subst (λ (h : History). P m h news adds) first.1 (subst (λ (ns : List NewsItem). P m b ns adds) (sym first.2) (subst (λ (rs : List InboxRecord). P m b [] rs) (sym first.3) later)))
 turns_on a b c l m n (t ∷ ts) us news more adds rest first later =
-    let (unended, mid, between, is, told, added, news_are, adds_are, behind) = first in
-    (
+    let (unended, mid, between, is, told, added, news_are, adds_are, behind) = first in (
       unended,
       mid,
       between,

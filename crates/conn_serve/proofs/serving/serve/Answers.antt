@@ -18,7 +18,7 @@ returns-in_default-clause-served g c = record {
 }
 
 pub serve_beside-requires-clause-may : goal.serve_beside-requires-clause-may
-serve_beside-requires-clause-may g c κs =
+serve_beside-requires-clause-may g c κs within =
     let r = c.requires in
     may_open c.args.config c.args.most (opening_of c.args.gate.now).history _ (known c.args.pass.now) c.args.inbox.now (ap (λ (l : Line). l.machine) c.in-Ok.ensures) r.opened r.sent r.credentials r.flow r.within
 
