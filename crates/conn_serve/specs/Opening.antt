@@ -1,5 +1,5 @@
 -- A whole life: where it opens, and what it did (this project's profile).
-use Rattle.std.specs.Prelude.{◌≡◌, ◌⊎◌, ℕ, if◌then◌else◌, List, length, Option, Some, None, Result, Ok, Err, IfErr}
+use Rattle.std.specs.Prelude.{◌≡◌, ◌⊎◌, ℕ, if◌then◌else◌, List, length, Option, Some, None, Result, Err, IfErr}
 use Rattle.session_model.specs.Journal.{History}
 use Rattle.fixp_replies.specs.declared.facts.EndState.{EndState}
 use Rattle.reply_laws.specs.Machine.{State}
