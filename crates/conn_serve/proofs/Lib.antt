@@ -1,3 +1,6 @@
 pub mod Shortness
 pub mod Making
 pub mod Turning
+pub mod Living
+pub mod Opening
+pub mod Marking

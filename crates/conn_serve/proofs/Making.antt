@@ -1,6 +1,6 @@
 -- What a turn answered, as its connection knows it.
-use Rattle.std.proofs.Common.{◌≡◌, ◌⊎◌, inl, inr, ℕ, ◌<◌, true, List, [], Option, Some, None, Result, Ok, Err, refl, sym, ap, subst, ◌∙◌, arith}
-use Rattle.std.specs.Prelude.{⊤, ◌≢◌, IsSome, is_some, IfOk, IfErr, OnOk}
+use Rattle.std.proofs.Common.{◌≡◌, ◌⊎◌, inl, inr, ℕ, ◌<◌, true, Option, Some, None, Result, Ok, Err, refl, sym, subst, ◌∙◌}
+use Rattle.std.specs.Prelude.{IsSome, is_some, IfOk, IfErr, OnOk}
 use Rattle.gw_outside.specs.Faults.{HasRisen}
 use Rattle.fixp_replies.specs.declared.act.Ending.{Ending}
 use Rattle.jr_record.specs.declared.journal.Journal.{Ghosts}
@@ -32,6 +32,12 @@ on_whole P (Err turn_faults.Broken) ok lost = tt
 on_whole P (Err (turn_faults.Full entries bytes)) ok lost = tt
 on_whole P (Err turn_faults.Memory) ok lost = tt
 
+pub whole_at : (P : Type 0) (r : Result TurnEnd TurnFault) (result : Result (Option Close) ServeFault) → result ≡ close_of r → OnOk r P → (r ≡ Err turn_faults.Link → P) → OnOk result P
+whole_at P r result is ok lost = subst (λ (x : Result (Option Close) ServeFault). OnOk x P) (sym is) (on_whole P r ok lost)
+
+pub err_at : (Q : ServeFault → Type 0) (r : Result TurnEnd TurnFault) (result : Result (Option Close) ServeFault) → result ≡ close_of r → IfErr (close_of r) Q → IfErr result Q
+err_at Q r result is q = subst (λ (x : Result (Option Close) ServeFault). IfErr x Q) (sym is) q
+
 -- what holds of each other fault holds where it was cut short
 pub on_cut : (P : TurnFault → Type 0) (Q : Type 0) (r : Result TurnEnd TurnFault) → ((f : TurnFault) → P f → Q) → IfErr r (λ f. (f ≡ turn_faults.Link → ⊥) → P f) → IfErr (close_of r) (λ _. Q)
 on_cut P Q (Ok turn_ends.Go) gives cut = tt
@@ -44,15 +50,9 @@ on_cut P Q (Err (turn_faults.Full entries bytes)) gives cut = gives (turn_faults
 on_cut P Q (Err turn_faults.Memory) gives cut = gives turn_faults.Memory (cut (λ e. cc))
 
 -- what both outcomes give
-pub on_either : (P : Type 0) (r : Result TurnEnd TurnFault) → OnOk r P → (r ≡ Err turn_faults.Link → P) → IfErr r (λ f. (f ≡ turn_faults.Link → ⊥) → P) → P
-on_either P (Ok turn_ends.Go) ok lost cut = ok
-on_either P (Ok (turn_ends.Ended e)) ok lost cut = ok
-on_either P (Err turn_faults.Link) ok lost cut = lost refl
-on_either P (Err turn_faults.Inbox) ok lost cut = cut (λ e. cc)
-on_either P (Err turn_faults.Outbox) ok lost cut = cut (λ e. cc)
-on_either P (Err turn_faults.Broken) ok lost cut = cut (λ e. cc)
-on_either P (Err (turn_faults.Full entries bytes)) ok lost cut = cut (λ e. cc)
-on_either P (Err turn_faults.Memory) ok lost cut = cut (λ e. cc)
+pub on_both : {A E : Type 0} (W C P : Type 0) (r : Result A E) → OnOk r W → IfErr r (λ _. C) → (W → P) → (C → P) → P
+on_both W C P (Ok a) ok err from_ok from_err = from_ok ok
+on_both W C P (Err e) ok err from_ok from_err = from_err err
 
 pub goes_made : (P : Type 0) (r : Result TurnEnd TurnFault) → (r ≡ Ok turn_ends.Go → P) → close_of r ≡ Ok None → P
 goes_made P (Ok turn_ends.Go) goes e = goes refl
@@ -70,7 +70,7 @@ ended_as x (Some y) e = cc
 
 some_of : (o : Option Ending) → is_some o ≡ true → IsSome o
 some_of None e = cc
-some_of (Some y) e = tt
+some_of (Some y) e = refl
 
 pub closed_made : (o : Option Ending) (r : Result TurnEnd TurnFault) → IfOk r (λ end. end ≡ answer_of o) → (r ≡ Err turn_faults.Link → is_some o ≡ true) → (close : Close) → close_of r ≡ Ok (Some close) → ClosesAs close o
 closed_made o (Ok turn_ends.Go) ok lost close e = cc

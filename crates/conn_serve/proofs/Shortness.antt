@@ -1,6 +1,6 @@
 -- A message in the news of a turn is short enough for its line.
-use Rattle.std.proofs.Common.{◌≡◌, ℕ, ◌+◌, ◌≤◌, List, [], ◌∷◌, ◌++◌, length, Option, Some, None, refl, ap, subst, sym, arith, length-append}
-use Rattle.std.specs.Prelude.{◌^◌, ◌||◌, All}
+use Rattle.std.proofs.Common.{◌≡◌, ℕ, ◌≤◌, List, [], ◌∷◌, length, refl, ap, arith, length-append}
+use Rattle.std.specs.Prelude.{◌^◌, All}
 use Rattle.std.specs.Int.{w16, to_be_bytes}
 use Rattle.std.proofs.lemmas.List.Elements.{All-append, All-cons, All-nil}
 use Rattle.session_model.specs.Journal.{History}
@@ -10,12 +10,11 @@ use Rattle.fixp_replies.specs.declared.act.Act.{Act}
 use Rattle.fixp_replies.specs.declared.act.Act.TheVariants as acts
 use Rattle.fixp_replies.specs.Incoming.{Incoming, IsIncoming, application, session, wrong_order, too_short, unknown}
 use Rattle.growth_laws.specs.Accepting.{payload_in}
-use Rattle.conn_turns.specs.declared.news.NewsItem.{NewsItem}
 use Rattle.conn_turns.specs.News.{told_by}
 use Rattle.conn_turns.specs.Lines.{Line, TakenFrame, IsTaken, AreTaken, reply_at, line_after}
 use Rattle.conn_turns.specs.Frames.{tells, told}
-use Rattle.conn_turns.specs.Turns.{Turn, only_sends, works, link_lost, cut_short, not_begun, is_end}
-use Rattle.turn_laws.specs.Turns.{line_received, IsTurn, tells_in}
+use Rattle.conn_turns.specs.Turns.{Turn, only_sends, works, link_lost, cut_short, not_begun}
+use Rattle.turn_laws.specs.Turns.{IsTurn, tells_in}
 use Rattle.conn_serve.specs.Lines.{IsShort}
 
 two_bytes : (n : ℕ) → length (to_be_bytes w16 n) ≡ 2
@@ -30,11 +29,11 @@ payload_short o message (unknown id) few is = omega arith
 
 act_short : (a : Act) (i : Incoming) → length (payload_in i) ≤ 2 ^ 20 → All IsShort (told_by a i)
 act_short acts.Nothing i few = All-nil IsShort
-act_short (acts.Apply number) i few = All-cons IsShort _ _ few (All-nil IsShort)
+act_short (acts.Apply number) i few = All-cons IsShort _ [] few (All-nil IsShort)
 act_short (acts.Skip from count) i few = All-nil IsShort
 act_short acts.Negotiated i few = All-nil IsShort
 act_short (acts.PeerFinished last) i few = All-nil IsShort
-act_short (acts.Told from count) i few = All-cons IsShort _ _ tt (All-nil IsShort)
+act_short (acts.Told from count) i few = All-cons IsShort _ [] tt (All-nil IsShort)
 act_short acts.Ended i few = All-nil IsShort
 
 frame_short : (now : ℕ) (l : Line) (t : TakenFrame) → IsTaken now l t → All IsShort (tells now l t)

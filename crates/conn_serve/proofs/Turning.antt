@@ -1,6 +1,6 @@
 -- Turns of a connection one behind another, and where it is given up.
-use Rattle.std.proofs.Common.{◌≡◌, ◌⊎◌, inl, inr, ℕ, ◌+◌, ◌*◌, ◌≤◌, ◌<◌, true, false, List, [], ◌∷◌, ◌++◌, length, Option, Some, None, refl, sym, ap, subst, ◌∙◌, arith, append-nil, append_assoc, length-append}
-use Rattle.std.specs.Prelude.{⊤, IsSome, All, take}
+use Rattle.std.proofs.Common.{◌≡◌, ◌⊎◌, inl, inr, ℕ, ◌+◌, ◌*◌, ◌≤◌, true, false, List, [], ◌∷◌, ◌++◌, length, Option, Some, None, Result, Ok, Err, refl, sym, ap, subst, ◌∙◌, arith, append-nil, append_assoc, length-append}
+use Rattle.std.specs.Prelude.{All, take, OnOk, IfErr}
 use Rattle.std.specs.List.{flat_map}
 use Rattle.std.specs.Io.KnownBytes.{Appends}
 use Rattle.std.proofs.KnownBytes.{Appends-nil, Appends-trans}
@@ -14,20 +14,25 @@ use Rattle.gw_links.proofs.Moving.{moved_none, moved_more}
 use Rattle.jr_record.specs.declared.journal.Journal.{Ghosts}
 use Rattle.jr_boxes.specs.declared.inbox.Inbox.{Inbox}
 use Rattle.jr_boxes.specs.Inbox.{HoldsBox}
-use Rattle.gate_turn.proofs.Histories.{begins_self, begins_on}
+use Rattle.gate_turn.proofs.Histories.{begins_self}
 use Rattle.conn_turns.specs.declared.news.NewsItem.{NewsItem}
-use Rattle.conn_turns.specs.Lines.{Line, TakenFrame, IsTaken, AreTaken, size_of, line_after, lines_after}
+use Rattle.conn_turns.specs.Lines.{Line, TakenFrame, AreTaken, size_of, line_after, lines_after}
 use Rattle.conn_turns.specs.Turns.{Turn, only_sends, works, link_lost, cut_short, not_begun}
+use Rattle.fixp_shake.specs.declared.config.EndConfig.{EndConfig}
+use Rattle.fixp_replies.specs.declared.facts.EndState.{EndState}
+use Rattle.reply_laws.specs.Machine.{State}
 use Rattle.conn_steps.specs.Settling.{Gains}
+use Rattle.conn_steps.specs.Agreeing.{Agrees}
+use Rattle.conn_loop.specs.Conn.{line_begun}
 use Rattle.turn_laws.specs.Turns.{IsTurn, adds_in, tells_in}
-use Rattle.turn_laws.specs.Legs.{given_in, sent_in, first_line}
+use Rattle.turn_laws.specs.Legs.{given_in, sent_in}
 use Rattle.loop_laws.specs.Turned.{WasTurn}
 use Rattle.conn_serve.specs.declared.answer.ServeFault.{ServeFault}
 use Rattle.conn_serve.specs.declared.answer.ServeFault.TheVariants as faults
 use Rattle.conn_serve.specs.Lines.{news_line, news_lines, IsShort}
-use Rattle.conn_serve.specs.Connections.{WereTurns, WasCutAt, CutAt}
+use Rattle.conn_serve.specs.Connections.{WereTurns}
 use Rattle.conn_serve.specs.Causes.{lacks, lacks_at, Tells}
-use Rattle.conn_serve.specs.Turned.{IsSpent, Turned, CutOff, GivenUp, TurnedOn, GivenUpOn}
+use Rattle.conn_serve.specs.Turned.{Turned, CutOff, GivenUp, TurnedOn, GivenUpOn}
 use Rattle.conn_serve.specs.Answers.{IsOfTurn}
 use Rattle.conn_serve.proofs.Shortness.{turn_short, told_short}
 
@@ -37,11 +42,10 @@ pub turns_on : (a b c : History) (l m n : Line) (ts us : List Turn) (news more :
     → WereTurns a b l m ts news adds → WereTurns b c m n us more rest → WereTurns a c l n (ts ++ us) (news ++ more) (adds ++ rest)
 turns_on a b c l m n [] us news more adds rest first later =
     let P : Line → History → List NewsItem → List InboxRecord → Type 0 = λ x h ns rs. WereTurns h c x n us (ns ++ more) (rs ++ rest) in
-    subst (λ (x : Line). P x a news adds) first.0 (subst (λ (h : History). P m h news adds) first.1 (subst (λ (ns : List NewsItem). P m b ns adds) (sym first.2.0) (subst (λ (rs : List InboxRecord). P m b [] rs) (sym first.2.1) later)))
+    subst (λ (x : Line). P x a news adds) first.0 (subst (λ (h : History). P m h news adds) first.1 (subst (λ (ns : List NewsItem). P m b ns adds) (sym first.2) (subst (λ (rs : List InboxRecord). P m b [] rs) (sym first.3) later)))
 turns_on a b c l m n (t ∷ ts) us news more adds rest first later =
-    let (open, mid, between, is, told, added, news_are, adds_are, behind) = first in
-    (
-      open,
+    let (unended, mid, between, is, told, added, news_are, adds_are, behind) = first in (
+      unended,
       mid,
       between,
       is,
@@ -53,17 +57,17 @@ turns_on a b c l m n (t ∷ ts) us news more adds rest first later =
     )
 
 pub one_turn : (a b : History) (l m : Line) (t : Turn) → l.machine.ending ≡ None → IsTurn a b l m t → WereTurns a b l m (t ∷ []) (tells_in l t) (adds_in l t)
-one_turn a b l m t open is = (open, m, b, is, [], [], sym (append-nil (tells_in l t)), sym (append-nil (adds_in l t)), (refl, refl, refl, refl))
+one_turn a b l m t unended is = (unended, m, b, is, [], [], sym (append-nil (tells_in l t)), sym (append-nil (adds_in l t)), (refl, refl, refl, refl))
 
 -- ---- the place
+
+place_after : (now : ℕ) (l : Line) (t : TakenFrame) → (line_after now l t).place ≡ l.place + size_of t.frame
+unfolding line_after
+place_after now l t = refl
 
 frames_place : (now : ℕ) (l : Line) (frames : List TakenFrame) → AreTaken now l frames → (lines_after now l frames).place ≤ l.place + length frames * 16390
 frames_place now l [] taken = omega arith
 frames_place now l (t ∷ later) taken = omega (arith, frames_place now (line_after now l t) later taken.1, taken.0.next.begins.admissible.most, place_after now l t)
-  where
-    place_after : (now : ℕ) (l : Line) (t : TakenFrame) → (line_after now l t).place ≡ l.place + size_of t.frame
-    unfolding line_after
-    place_after now l t = refl
 
 turn_place : (a b : History) (l m : Line) (t : Turn) → IsTurn a b l m t → m.place ≤ l.place + 262240
 turn_place a b l m (only_sends now sent lost) is = omega (arith, ap (λ (x : Line). x.place) is.0.line)
@@ -76,18 +80,14 @@ turn_place a b l m not_begun is = absurd is
 pub turns_place : (a b : History) (l m : Line) (ts : List Turn) (news : List NewsItem) (adds : List InboxRecord) → WereTurns a b l m ts news adds → m.place ≤ l.place + length ts * 262240
 turns_place a b l m [] news adds were = omega (arith, ap (λ (x : Line). x.place) were.0)
 turns_place a b l m (t ∷ ts) news adds were =
-    let (open, mid, between, is, told, added, news_are, adds_are, behind) = were in
+    let (unended, mid, between, is, told, added, news_are, adds_are, behind) = were in
     omega (arith, turn_place a between l mid t is, turns_place between b mid m ts told added behind)
 
 -- ---- lines
 
 pub lines_on : (news more : List NewsItem) → news_lines (news ++ more) ≡ news_lines news ++ news_lines more
-unfolding news_lines
-lines_on news more = flat_map-append news_line news more
-
-pub lines_none : news_lines [] ≡ []
-unfolding news_lines
-lines_none = refl
+lines_on [] more = refl
+lines_on (item ∷ later) more = ap (λ (ls : List ℕ). news_line item ++ ls) (lines_on later more) ∙ sym (append_assoc (news_line item) (news_lines later) (news_lines more))
 
 pub all_is_front : (old new : Option (List ℕ)) (bytes : List ℕ) → Appends old new bytes → TakesFront old new bytes
 all_is_front old new bytes appended = record { count = length bytes; within = omega arith; appended = subst (Appends old new) (sym (take-length bytes)) appended }
@@ -106,6 +106,18 @@ tells_on true old mid new first later whole tells = front_on old mid new first l
 pub tells_all : (lacking : _) (old new : Option (List ℕ)) (lines : List ℕ) → Appends old new lines → Tells lacking old new lines
 tells_all false old new lines whole = whole
 tells_all true old new lines whole = all_is_front old new lines whole
+
+lacking_tells : (fault : ServeFault) (H : Type 0) (out now_out : Option (List ℕ)) (lines : List ℕ) → ((fault ≡ faults.Output) × H) ⊎ (fault ≡ faults.Memory) → TakesFront out now_out lines → Tells (lacks fault) out now_out lines
+lacking_tells fault H out now_out lines (inl a) front = subst (λ (f : ServeFault). Tells (lacks f) out now_out lines) (sym a.0) front
+lacking_tells fault H out now_out lines (inr b) front = subst (λ (f : ServeFault). Tells (lacks f) out now_out lines) (sym b) front
+
+which_lacks : (fault : ServeFault) (H : Type 0) → ((fault ≡ faults.Output) × H) ⊎ (fault ≡ faults.Memory) → (fault ≡ faults.Output) ⊎ (fault ≡ faults.Memory)
+which_lacks fault H (inl a) = inl a.0
+which_lacks fault H (inr b) = inr b
+
+lacking_spent : (fault : ServeFault) (H : Type 0) → ((fault ≡ faults.Output) × H) ⊎ (fault ≡ faults.Memory) → fault ≡ faults.Turns → ⊥
+lacking_spent fault H (inl a) e = let f = a.0 in cc
+lacking_spent fault H (inr b) e = cc
 
 module _ {J : Type 0} {G : Ghosts J} where
   pub gains_none : (box : Inbox J G) → Gains box box []
@@ -134,18 +146,18 @@ module _ {J : Type 0} {G : Ghosts J} where
     were = (refl, refl, refl, refl);
     gains = gains_none box;
     moved = moved_none told carried;
-    lines = subst (Appends out out) (sym lines_none) (Appends-nil out);
+    lines = Appends-nil out;
   }
 
   pub turned_once : (told later : Option LinkTold) (carried after : Option Carried) (out now_out : Option (List ℕ)) (before seen : History) (old new : Line) (box since : Inbox J G) (news : List NewsItem)
       → old.machine.ending ≡ None → WasTurn told later carried after before seen old new box since news → Appends out now_out (news_lines news)
       → Turned told later carried after out now_out before seen old new box since 1
-  turned_once told later carried after out now_out before seen old new box since news open was lines = record {
+  turned_once told later carried after out now_out before seen old new box since news unended was lines = record {
     turns = was.turn ∷ [];
     news = tells_in old was.turn;
     adds = adds_in old was.turn;
     many = refl;
-    were = one_turn before seen old new was.turn open was.is;
+    were = one_turn before seen old new was.turn unended was.is;
     gains = was.gains;
     moved = subst (λ (g : List ℕ). Moved told later carried after g (flat_map sent_in (was.turn ∷ []))) (sym (append-nil (given_in was.turn)))
         (subst (Moved told later carried after (given_in was.turn)) (sym (append-nil (sent_in was.turn))) was.moved);
@@ -205,13 +217,13 @@ module _ {J : Type 0} {G : Ghosts J} where
       → old.machine.ending ≡ None → WasTurn told later carried after before seen old new box since news → Tells (lacks fault) out now_out (news_lines news)
       → (fault ≡ faults.Output) ⊎ (fault ≡ faults.Memory)
       → GivenUp (Some fault) out now_out before seen old box since
-  given_lacking fault told later carried after out now_out before seen old new box since news open was lines which = record {
+  given_lacking fault told later carried after out now_out before seen old new box since news unended was lines which = record {
     last = new;
     behind = seen;
     turns = was.turn ∷ [];
     news = tells_in old was.turn;
     adds = adds_in old was.turn;
-    were = one_turn before seen old new was.turn open was.is;
+    were = one_turn before seen old new was.turn unended was.is;
     grows = begins_self seen;
     cut = None;
     cut_told = [];
@@ -227,10 +239,10 @@ module _ {J : Type 0} {G : Ghosts J} where
       by_kind : {P : Type 0} → (fault ≡ faults.Output) ⊎ (fault ≡ faults.Memory) → (fault ≡ faults.Turns) ⊎ ((fault ≡ faults.Journal) ⊎ ((n : ℕ) × (m : ℕ) × (fault ≡ faults.Full n m))) → P
       by_kind (inl a) (inl b) = cc
       by_kind (inl a) (inr (inl b)) = cc
-      by_kind (inl a) (inr (inr b)) = let e = b.1.1 in cc
+      by_kind (inl a) (inr (inr b)) = let e = b.2 in cc
       by_kind (inr a) (inl b) = cc
       by_kind (inr a) (inr (inl b)) = cc
-      by_kind (inr a) (inr (inr b)) = let e = b.1.1 in cc
+      by_kind (inr a) (inr (inr b)) = let e = b.2 in cc
 
   -- at a turn that was cut short
   pub given_cut : (fault : ServeFault) (out now_out : Option (List ℕ)) (before seen : History) (old : Line) (box since : Inbox J G) (news : List NewsItem)
@@ -251,7 +263,7 @@ module _ {J : Type 0} {G : Ghosts J} where
     holds = c.cut.holds;
     lines = lines;
     spent = λ e. absurd (no_turns (cc));
-    cut_short = (λ e. tt, λ entries bytes e. tt);
+    cut_short = (λ e. refl, λ entries bytes e. refl);
   }
 
   -- behind further turns
@@ -279,3 +291,39 @@ module _ {J : Type 0} {G : Ghosts J} where
     spent = λ e. absurd (no_turns e);
     cut_short = y.cut_short;
   }
+
+  -- a turn whose lines are lacking, whole or cut short
+  pub given_told : {A E : Type 0} (r : Result A E) (fault : ServeFault) (H : Type 0) (told later : Option LinkTold) (carried after : Option Carried) (out now_out : Option (List ℕ)) (before seen : History) (old new : Line) (box since : Inbox J G) (news : List NewsItem)
+      → old.machine.ending ≡ None → BeginsHistory before seen → OnOk r (WasTurn told later carried after before seen old new box since news) → IfErr r (λ _. CutOff old box since news)
+      → TakesFront out now_out (news_lines news) → ((fault ≡ faults.Output) × H) ⊎ (fault ≡ faults.Memory) → GivenUp (Some fault) out now_out before seen old box since
+  given_told (Ok a) fault H told later carried after out now_out before seen old new box since news unended grows whole cut front cause =
+      given_lacking fault told later carried after out now_out before seen old new box since news unended whole (lacking_tells fault H out now_out (news_lines news) cause front) (which_lacks fault H cause)
+  given_told (Err e) fault H told later carried after out now_out before seen old new box since news unended grows whole cut front cause =
+      given_cut fault out now_out before seen old box since news grows cut (lacking_tells fault H out now_out (news_lines news) cause front) (lacking_spent fault H cause)
+
+  -- and one that was cut short, and whose lines were told
+  pub given_answer : {A : Type 0} (r : Result A ServeFault) (out now_out : Option (List ℕ)) (before seen : History) (old : Line) (box since : Inbox J G) (news : List NewsItem)
+      → BeginsHistory before seen → IfErr r (λ _. CutOff old box since news) → IfErr r IsOfTurn → Appends out now_out (news_lines news)
+      → IfErr r (λ fault. GivenUp (Some fault) out now_out before seen old box since)
+  given_answer (Ok a) out now_out before seen old box since news grows cut is lines = tt
+  given_answer (Err fault) out now_out before seen old box since news grows cut is lines =
+      given_cut fault out now_out before seen old box since news grows cut (tells_all (lacks fault) out now_out (news_lines news) lines) (λ e. subst IsOfTurn e is)
+
+  -- ---- where it begins
+
+  pub agrees_recorded : (m n : State) (box : Inbox J G) → n.config ≡ m.config → n.most ≡ m.most → n.facts.recorded ≡ m.facts.recorded → Agrees m box → Agrees n box
+  agrees_recorded m n box config most recorded a = record {
+    flow = a.flow ∙ sym (ap (λ (c : EndConfig). c.peer_flow) config);
+    most = omega (arith, most, a.most);
+    next = a.next ∙ sym (ap (λ (r : EndState). r.inbox_next) recorded);
+    negotiated = a.negotiated ∙ sym (ap (λ (r : EndState). r.negotiated) recorded);
+    peer_last = a.peer_last ∙ sym (ap (λ (r : EndState). r.peer_last) recorded);
+  }
+
+  pub given_first : (why : Option ServeFault) (out now_out : Option (List ℕ)) (before seen : History) (l start : Line) (now : ℕ) (box since : Inbox J G) → start ≡ line_begun l now
+      → GivenUp why out now_out before seen start box since → GivenUpOn why out now_out before seen l.machine box since
+  given_first why out now_out before seen l start now box since is g = record { moment = now; given_up = subst (λ (x : Line). GivenUp why out now_out before seen x box since) is g }
+
+  pub turned_first : (told later : Option LinkTold) (carried after : Option Carried) (out now_out : Option (List ℕ)) (before seen : History) (l start new : Line) (now : ℕ) (box since : Inbox J G) (n : ℕ) → start ≡ line_begun l now
+      → Turned told later carried after out now_out before seen start new box since n → TurnedOn told later carried after out now_out before seen l.machine new box since
+  turned_first told later carried after out now_out before seen l start new now box since n is t = record { moment = now; count = n; turned = subst (λ (x : Line). Turned told later carried after out now_out before seen x new box since n) is t }

@@ -1,5 +1,5 @@
 -- What the answers of the calls of a life are to those above them (this project's profile).
-use Rattle.std.specs.Prelude.{⊤, ◌≡◌, Option, Some, None, Result, Ok, Err}
+use Rattle.std.specs.Prelude.{⊤, Bool, true, false, if◌then◌else◌, Option, Some, None, Result, Ok, Err}
 use Rattle.fixp_replies.specs.declared.act.Ending.TheVariants as endings
 use Rattle.jr_boxes.specs.declared.faults.SubmitFault.{SubmitFault}
 use Rattle.jr_boxes.specs.declared.faults.SubmitFault.TheVariants as submit
@@ -70,3 +70,24 @@ IsOfConnection (faults.Rejected template code) = ⊥
 IsOfConnection (faults.Full entries bytes) = ⊤
 IsOfConnection faults.Turns = ⊤
 IsOfConnection faults.Memory = ⊤
+
+-- a fault of the connections' side that yields to a refusal of a sender or of the Finish
+abbrev pub yields : ServeFault → Bool
+yields faults.Output = false
+yields faults.Journal = false
+yields faults.Dial = false
+yields (faults.Unfinished phase) = true
+yields (faults.Rejected template code) = true
+yields (faults.Full entries bytes) = false
+yields faults.Turns = true
+yields faults.Memory = false
+
+-- a refusal is answered unless the connections' side ended with a fault that does not yield to it. Connections that were told to stop
+-- without one want memory
+abbrev pub answer_of : Result LifeEnd ServeFault → Option ServeFault → Result (Unit {0}) ServeFault
+answer_of (Ok ends.Finished) None = Ok tt
+answer_of (Ok ends.Finished) (Some refusal) = Err refusal
+answer_of (Ok ends.Stopped) None = Err faults.Memory
+answer_of (Ok ends.Stopped) (Some refusal) = Err refusal
+answer_of (Err fault) None = Err fault
+answer_of (Err fault) (Some refusal) = if yields fault then Err refusal else Err fault

@@ -1,6 +1,5 @@
 -- The lines on OUT of a life (this project's profile).
 use Rattle.std.specs.Prelude.{⊤, ℕ, ◌+◌, ◌^◌, ◌≤◌, length, List, [], ◌∷◌, ◌++◌, Option, Some, None}
-use Rattle.std.specs.List.{flat_map}
 use Rattle.conn_turns.specs.declared.news.NewsItem.{NewsItem}
 use Rattle.conn_turns.specs.declared.news.NewsItem.TheVariants as items
 use Rattle.session_lines.specs.declared.close.Close.{Close}
@@ -12,8 +11,9 @@ abbrev pub news_line : NewsItem → List ℕ
 news_line (items.Delivered number payload) = deliver_line number payload
 news_line (items.NotApplied from count) = not_applied_line from count
 
-unfoldable pub news_lines : List NewsItem → List ℕ
-news_lines news = flat_map news_line news
+abbrev pub news_lines : List NewsItem → List ℕ
+news_lines [] = []
+news_lines (item ∷ later) = news_line item ++ news_lines later
 
 -- the line of the end of the connection of this number; one that was given up has none
 abbrev pub close_line : ℕ → Option Close → List ℕ

@@ -1,7 +1,7 @@
 //! How a life of connections ends.
 
 ghost use Rattle.std.specs.Prelude.{◌≡◌};
-ghost use Rattle.conn_serve.specs.Answers.{close_of, submit_fault, finish_fault};
+ghost use Rattle.conn_serve.specs.Answers.{close_of, submit_fault, finish_fault, yields, answer_of};
 
 use conn_turns::{TurnEnd, TurnFault};
 use fixp_shake::Phase;
@@ -84,27 +84,41 @@ pub(crate) fn refused_finish(fault: CloseFault) -> Option<ServeFault>
     }
 }
 
+/// Whether a fault of the connections' side yields to a refusal of a sender: the life was not finished, and nothing failed.
+fn yields(fault: ServeFault) -> bool
+    ensures { result ≡ yields fault }
+{
+    match fault {
+        ServeFault::Unfinished { .. } | ServeFault::Rejected { .. } | ServeFault::Turns => true,
+        ServeFault::Output
+        | ServeFault::Journal
+        | ServeFault::Dial
+        | ServeFault::Full { .. }
+        | ServeFault::Memory => false,
+    }
+}
+
 /// The answer of a life whose connections ended so, and whose senders were refused so, if they were. A fault of the
 /// connections' side comes first, then a refusal, and then that the session was not finished.
 pub(crate) fn answer_of(
     connections: Result<LifeEnd, ServeFault>,
     refused: Option<ServeFault>,
-) -> Result<(), ServeFault> {
-    match (connections, refused) {
-        (
-            Err(
-                fault @ (ServeFault::Output
-                | ServeFault::Journal
-                | ServeFault::Dial
-                | ServeFault::Full { .. }
-                | ServeFault::Memory),
-            ),
-            _,
-        ) => Err(fault),
-        (_, Some(fault)) => Err(fault),
-        (Err(fault), None) => Err(fault),
-        (Ok(LifeEnd::Finished), None) => Ok(()),
-        // Nobody told the connections to stop.
-        (Ok(LifeEnd::Stopped), None) => Err(ServeFault::Memory),
+) -> Result<(), ServeFault>
+    ensures { result ≡ answer_of connections refused }
+{
+    match connections {
+        Ok(LifeEnd::Finished) => match refused {
+            Some(fault) => Err(fault),
+            None => Ok(()),
+        },
+        // Only a refusal tells the connections to stop.
+        Ok(LifeEnd::Stopped) => Err(refused.unwrap_or(ServeFault::Memory)),
+        Err(fault) => {
+            if yields(fault) {
+                Err(refused.unwrap_or(fault))
+            } else {
+                Err(fault)
+            }
+        }
     }
 }
