@@ -79,6 +79,7 @@ pub(crate) fn submit_all<O: Journal + Send, R: Threads + Wait + Sync>(
     rt: &R,
 ) -> Option<ServeFault>
     requires ready { All (λ s. IsReady gate.now s) senders.old }
+    ensures ready { All (λ s. IsReady gate.now s) senders.new }
     ensures submitted { SubmittedAll gate.now senders.old senders.new result }
 {
     let refused = match run_senders(gate, senders, &OpenDoor, rt) {

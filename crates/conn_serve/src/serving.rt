@@ -92,6 +92,7 @@ fn serve_beside<
     requires ready { All (λ s. IsReady gate.now s) senders.old }
     ensures own { IsPassAt gate.now pass.new }
     ensures free { IsFree pass.new }
+    ensures ready { All (λ s. IsReady gate.now s) senders.new }
     ensures looks { Looks (known pass.old) (known pass.new) }
     ensures lent { N.lent dialer.new ≡ false }
     ensures served { ServedBy gate.now (N.told dialer.old) (N.told dialer.new) (K.taken out.old) (K.taken out.new) (K.faults out.old) (K.faults out.new) (N.faults dialer.old) (N.faults dialer.new) (known pass.old) (known pass.new) (line_of conn.old).machine inbox.old inbox.new senders.old senders.new result }
@@ -151,6 +152,7 @@ pub fn serve<N: Dialer, K: Sink, O: Journal + Send, I: Journal, C: Clock, R: Thr
     requires ready { All (λ s. IsReady gate.now s) senders.old }
     ensures own { IsPassAt gate.now pass.new }
     ensures free { IsFree pass.new }
+    ensures ready { All (λ s. IsReady gate.now s) senders.new }
     ensures looks { Looks (known pass.old) (known pass.new) }
     ensures lent { N.lent dialer.new ≡ false }
     ensures served { ServedBy gate.now (N.told dialer.old) (N.told dialer.new) (K.taken out.old) (K.taken out.new) (K.faults out.old) (K.faults out.new) (N.faults dialer.old) (N.faults dialer.new) (known pass.old) (known pass.new) (fresh config (opened_state (opening_of gate.now).history inbox.old) most) inbox.old inbox.new senders.old senders.new result }
