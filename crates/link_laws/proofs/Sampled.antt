@@ -11,11 +11,9 @@ use Rattle.session_model.proofs.Lists.{prefix_self, prefix_equal}
 use Rattle.session_model.specs.Journal.{InOrder, entries, is_finished, history_of, BeginsHistory}
 use Rattle.session_model.specs.Inbox.{InboxRecord, applied, payloads_of}
 use Rattle.session_model.specs.Plans.{Continues, SendersDone, sent_by}
-use Rattle.session_model.specs.Lives.{IsImage, KeepsOutbox}
+use Rattle.session_model.specs.Lives.{Served, IsImage, KeepsOutbox}
 use Rattle.session_model.specs.Samples.{silence}
 use Rattle.session_model.proofs.Images.{image_of_none}
-use Rattle.fixp_shake.specs.declared.config.EndConfig.{EndConfig}
-use Rattle.connection_laws.specs.Living.{Leg}
 use Rattle.fixp_msgs.specs.Canonical.{IsLegal}
 use Rattle.fixp_msgs.specs.Message.{Message}
 use Rattle.fixp_replies.specs.Incoming.{session}
@@ -42,16 +40,16 @@ can_come [] frames reads = tt
 can_come (p ∷ pieces) [] reads = absurd reads
 can_come (p ∷ pieces) (f ∷ frames) reads = (reads.0.incoming, can_come pieces frames reads.1)
 
-opening_is_legal : IsLegal opening
+pub opening_is_legal : IsLegal opening
 opening_is_legal = record { fields = (refl, (omega arith, (omega arith, (omega arith, tt)))); datum = omega arith }
 
-answer_is_legal : IsLegal answer
+pub answer_is_legal : IsLegal answer
 answer_is_legal = record { fields = (refl, (omega arith, (omega arith, (omega arith, tt)))); datum = tt }
 
 comes : (m : Message) → IsLegal m → AreFirstOf (map incoming_of (said m ∷ [])) (frames_of (bytes_written (said m ∷ [])))
 comes m legal = can_come (said m ∷ []) (frames_of (bytes_written (said m ∷ []))) (all_is_read (said m ∷ []) (legal, tt))
 
-are_bytes : (m : Message) → list_all (λ b. nat_lt b 256) (bytes_written (said m ∷ [])) ≡ true → IsBytes (bytes_written (said m ∷ []))
+pub are_bytes : (m : Message) → list_all (λ b. nat_lt b 256) (bytes_written (said m ∷ [])) ≡ true → IsBytes (bytes_written (said m ∷ []))
 are_bytes m t = All-from_recursion (λ b. b < 256) (bytes_written (said m ∷ [])) (all_below (bytes_written (said m ∷ [])) t)
 
 -- one frame that was written and taken whole, and came
@@ -63,18 +61,18 @@ came_whole m calls legal t same = record {
   frames = subst (λ is. AreFirstOf is (frames_of (bytes_written (said m ∷ [])))) (sym same) (comes m legal);
 }
 
-took_whole : (c : Course) (whole : List Piece) → whole ≡ c.output → bytes_written whole ≡ c.taken → TookWhole c whole
-took_whole c whole all same = record {
+took_whole : (c : Course) (whole : List Piece) → whole ≡ c.output → TookWhole c (bytes_written whole) whole
+took_whole c whole all = record {
   first = prefix_equal whole c.output all;
-  within = prefix_equal (bytes_written whole) c.taken same;
+  within = prefix_self (bytes_written whole);
   all = λ more p _. subst (λ ps. IsPrefix more ps) (sym all) p;
 }
 
 -- nothing is sent, and nothing was to be
-sends_nothing : (config : EndConfig) (leg : Leg) → KeepsOutbox silence (life_in (life_on_leg config leg))
-sends_nothing config leg =
-    let inbox : List InboxRecord = (life_in (life_on_leg config leg)).served.closing_inbox in
-    let opening : List InboxRecord = (life_in (life_on_leg config leg)).served.opening_inbox in
+pub sends_nothing : (s : Served) → KeepsOutbox silence (record { opening_outbox = []; closing_outbox = []; refused_outbox = []; served = s })
+sends_nothing s =
+    let inbox : List InboxRecord = s.closing_inbox in
+    let opening : List InboxRecord = s.opening_inbox in
     record {
       outbox_grows = prefix_self [];
       history_grows = λ image i. image_of_none (λ k. BeginsHistory (history_of []) (history_of k)) [] image (record { made = prefix_self []; alone = λ _. refl }) i;
@@ -85,7 +83,7 @@ sends_nothing config leg =
           image_of_none (λ k. is_finished k ≡ true → SendersDone silence [] (entries k) opening inbox) [] image (λ f. absurd (true≢false (sym f))) i t;
     }
 
-nothing_left : {A : Type 0} → IsImage {A = A} [] [] []
+pub nothing_left : {A : Type 0} → IsImage {A = A} [] [] []
 nothing_left = record { kept = []; beginning = prefix_self []; holds = refl }
 
 pub handshake_sample : HandshakeSample
@@ -125,11 +123,11 @@ handshake_sample = (
     );
     chained_a = ([], [], record { opens_outbox = refl; opens_inbox = refl; outbox_image = nothing_left; inbox_image = nothing_left }, (refl, refl));
     chained_b = ([], [], record { opens_outbox = refl; opens_inbox = refl; outbox_image = nothing_left; inbox_image = nothing_left }, (refl, refl));
-    outboxes_a = (sends_nothing sample_config leg_a, tt);
-    outboxes_b = (sends_nothing acceptor leg_b, tt);
+    outboxes_a = (sends_nothing (life_in (life_on_leg sample_config leg_a)).served, tt);
+    outboxes_b = (sends_nothing (life_in (life_on_leg acceptor leg_b)).served, tt);
     linked = paired
-        (record { came = came_whole answer leg_a.calls answer_is_legal refl refl; legal = (answer_is_legal, tt); whole = took_whole (course_on acceptor leg_b) leg_b.whole refl refl })
-        (record { came = came_whole opening leg_b.calls opening_is_legal refl refl; legal = (opening_is_legal, tt); whole = took_whole (course_on sample_config leg_a) leg_a.whole refl refl })
+        (record { sent = bytes_written leg_b.whole; written = prefix_self (bytes_written leg_b.whole); came = came_whole answer leg_a.calls answer_is_legal refl refl; legal = (answer_is_legal, tt); whole = took_whole (course_on acceptor leg_b) leg_b.whole refl })
+        (record { sent = bytes_written leg_a.whole; written = prefix_self (bytes_written leg_a.whole); came = came_whole opening leg_b.calls opening_is_legal refl refl; legal = (opening_is_legal, tt); whole = took_whole (course_on sample_config leg_a) leg_a.whole refl })
         no_more;
   },
   refl,

@@ -18,10 +18,8 @@ use Rattle.fixp_msgs.specs.declared.flow.Flow.TheVariants as flows
 use Rattle.reply_laws.specs.Machine.{State}
 use Rattle.growth_laws.specs.Accepting.{model_flow}
 use Rattle.connection_laws.specs.Writing.{Piece, bytes_written, events_written}
-use Rattle.connection_laws.specs.Courses.{Waiting, Course, inbox_of, beginning}
-use Rattle.connection_laws.specs.Standing.{Stands}
+use Rattle.connection_laws.specs.Courses.{Waiting, Course, inbox_of}
 use Rattle.connection_laws.specs.Living.{Leg, course_of, AllMayRun, state_behind, inbox_behind, life_on, Opens}
-use Rattle.connection_laws.proofs.Going.{calls_keep, connection_begins}
 use Rattle.connection_laws.proofs.Living.{ran, behind, life_serves, life_refused}
 use Rattle.link_laws.specs.Reading.{AreRead}
 use Rattle.link_laws.specs.Hearing.{came, AreFirstOf, TakesFrom}
@@ -52,17 +50,13 @@ reads : (reader writer : Run) → MayBegin reader → MayBegin writer → ReadsF
 reads reader writer mine theirs from =
     takes_in (events_written writer.leg.whole) (course_in reader) reader.refused mine.refused
     (heard_from reader.outbox reader.state reader.inbox reader.leg.moment reader.leg.calls read (events_written writer.leg.whole) (frames_of from.came.bytes) mine.awaits mine.enough mine.calls
-    from.came.frames r.frames (events_begin read writer.leg.whole (from.whole.all read r.first (prefix_trans (bytes_written read) from.came.bytes d.taken r.whole from.came.begins))))
+    from.came.frames r.frames (events_begin read writer.leg.whole (from.whole.all read r.first (prefix_trans (bytes_written read) from.came.bytes from.sent r.whole from.came.begins))))
   where
     d : Course
     d = course_in writer
 
-    st : Stands writer.outbox d
-    st = calls_keep writer.outbox (beginning writer.state writer.inbox writer.leg.moment) writer.leg.calls
-        (connection_begins writer.outbox writer.state writer.inbox writer.leg.moment theirs.awaits theirs.enough) theirs.calls
-
     both : (read : List Piece) × AreRead d.output from.came.bytes read
-    both = written_is_read d.output from.came.bytes from.legal from.came.are_bytes (prefix_trans from.came.bytes d.taken (bytes_written d.output) from.came.begins (d.state.unsent, sym st.bytes))
+    both = written_is_read d.output from.came.bytes from.legal from.came.are_bytes (prefix_trans from.came.bytes from.sent (bytes_written d.output) from.came.begins from.written)
 
     read : List Piece
     read = both.0

@@ -48,17 +48,21 @@ pub record MayBegin (r : Run) : Type 0 where
   pub calls : AllMayStand r.outbox (beginning r.state r.inbox r.leg.moment) r.leg.calls
   pub refused : IfSome r.refused (λ w. (course_in r).waiting ≡ Some w)
 
--- the frames that the link took whole: of those written, the first, as far as it took all of their bytes
-pub record TookWhole (c : Course) (whole : List Piece) : Type 0 where
+-- the frames that the link took whole, where these are the bytes that it took: of those written, the first, as far as it took all
+-- of their bytes
+pub record TookWhole (c : Course) (sent : List ℕ) (whole : List Piece) : Type 0 where
   pub first : IsPrefix whole c.output
-  pub within : IsPrefix (bytes_written whole) c.taken
-  pub all : (more : List Piece) → IsPrefix more c.output → IsPrefix (bytes_written more) c.taken → IsPrefix more whole
+  pub within : IsPrefix (bytes_written whole) sent
+  pub all : (more : List Piece) → IsPrefix more c.output → IsPrefix (bytes_written more) sent → IsPrefix more whole
 
--- the frames that came to one end are the first of bytes that begin those that the link took of the other, which wrote legal ones
+-- The frames that came to one end are the first of bytes that begin those that the link took of the other, which wrote legal ones.
+-- What the link took are the first bytes of those written; a link that failed as it sent may have taken more than it said
 pub record ReadsFrom (reader writer : Run) : Type 0 where
-  pub came : CameFrom (course_in writer).taken reader.leg.calls
+  pub sent : List ℕ
+  pub written : IsPrefix sent (bytes_written (course_in writer).output)
+  pub came : CameFrom sent reader.leg.calls
   pub legal : AllByRecursion IsLegalPiece (course_in writer).output
-  pub whole : TookWhole (course_in writer) writer.leg.whole
+  pub whole : TookWhole (course_in writer) sent writer.leg.whole
 
 -- Connections linked by bytes: paired in the same order at both ends, each in at most one pair. In a pair each end reads from
 -- the other; to a connection in no pair no frame came

@@ -157,7 +157,7 @@ refused_waits h old c now received frames t s k records = waits
         ∙ (ap (λ (d : Course). (next_course d call).waiting) (sym (after_append c (first_calls now) (calls_of_frames now frames))) ∙ here)
 
 -- each connection of a life may run
-all_run : (h : List Entry) (s : State) (inbox : List InboxRecord) (legs : List TurnedLeg) → s.facts.recorded.inbox_next ≡ next_number inbox → s.facts.recorded.sent ≤ length h → AllAreTurns h s inbox legs
+pub all_run : (h : List Entry) (s : State) (inbox : List InboxRecord) (legs : List TurnedLeg) → s.facts.recorded.inbox_next ≡ next_number inbox → s.facts.recorded.sent ≤ length h → AllAreTurns h s inbox legs
     → AllMayRun h s inbox (legs_of s inbox legs)
 all_run h s inbox [] awaits enough all = tt
 all_run h s inbox (t ∷ later) awaits enough all =

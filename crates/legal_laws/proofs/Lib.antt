@@ -1,0 +1,4 @@
+pub mod Spelled
+pub mod Replied
+pub mod Called
+pub mod Written

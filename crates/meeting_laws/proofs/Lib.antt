@@ -1,0 +1,4 @@
+pub mod Given
+pub mod Whole
+pub mod Ends
+pub mod Sampled
