@@ -1,0 +1,3 @@
+pub mod Shortness
+pub mod Making
+pub mod Turning

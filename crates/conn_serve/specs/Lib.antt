@@ -1,0 +1,6 @@
+pub mod Answers
+pub mod Connections
+pub mod Lines
+pub mod Causes
+pub mod Turned
+pub mod Served

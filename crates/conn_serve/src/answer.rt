@@ -1,0 +1,124 @@
+//! How a life of connections ends.
+
+ghost use Rattle.std.specs.Prelude.{◌≡◌};
+ghost use Rattle.conn_serve.specs.Answers.{close_of, submit_fault, finish_fault, yields, answer_of};
+
+use conn_turns::{TurnEnd, TurnFault};
+use fixp_shake::Phase;
+use jr_boxes::{CloseFault, SubmitFault};
+use session_lines::Close;
+use thiserror::Error;
+
+/// How the connections of a life ended that did not fail.
+#[derive(Clone, Copy, Debug, PartialEq, Eq)]
+pub enum LifeEnd {
+    /// Both finishes were exchanged on the last connection.
+    Finished,
+    /// They were told to stop.
+    Stopped,
+}
+
+/// Why a life did not end with both finishes exchanged.
+#[derive(Clone, Copy, Debug, PartialEq, Eq, Error)]
+pub enum ServeFault {
+    /// OUT failed: it has taken a front of the lines.
+    #[error("the output failed")]
+    Output,
+    /// A call of the disk of the inbox or of the outbox failed, now or since its opening.
+    #[error("a journal's disk failed")]
+    Journal,
+    /// The dialer failed: it gave no further connection.
+    #[error("the dialer failed")]
+    Dial,
+    /// No connection is left, and none ended with both finishes exchanged. The phase is `Idle` where there was no connection,
+    /// and else `Ended`.
+    #[error("no connection is left in phase {phase:?}")]
+    Unfinished { phase: Phase },
+    /// The peer rejected the session by a message of this template and code, on the last connection.
+    #[error("rejected by message {template} with code {code}")]
+    Rejected { template: u16, code: u8 },
+    /// A journal is at a limit for the record to be added: it has so many messages, and so many bytes.
+    #[error("a journal is full at {entries} messages and {bytes} bytes")]
+    Full { entries: u64, bytes: u64 },
+    /// One connection took 2^40 turns, and has not ended.
+    #[error("a connection took 2^40 turns")]
+    Turns,
+    #[error("out of memory")]
+    Memory,
+}
+
+/// How the connection came to its end, where it did: `None` where it goes on after the turn that answered so.
+pub(crate) fn close_of(answer: Result<TurnEnd, TurnFault>) -> Result<Option<Close>, ServeFault>
+    ensures { result ≡ close_of answer }
+{
+    match answer {
+        Ok(TurnEnd::Go) => Ok(None),
+        Ok(TurnEnd::Ended(ending)) => Ok(Some(Close::Ended(ending))),
+        Err(TurnFault::Link) => Ok(Some(Close::LinkFault)),
+        Err(TurnFault::Inbox | TurnFault::Outbox | TurnFault::Broken) => Err(ServeFault::Journal),
+        Err(TurnFault::Full { entries, bytes }) => Err(ServeFault::Full { entries, bytes }),
+        Err(TurnFault::Memory) => Err(ServeFault::Memory),
+    }
+}
+
+/// What a refusal of a sender is to `serve`: a closed outbox is none.
+pub(crate) fn refused_submit(fault: SubmitFault) -> Option<ServeFault>
+    ensures { result ≡ submit_fault fault }
+{
+    match fault {
+        SubmitFault::Broken | SubmitFault::Fault => Some(ServeFault::Journal),
+        SubmitFault::Closed => None,
+        SubmitFault::Full { entries, bytes } => Some(ServeFault::Full { entries, bytes }),
+        SubmitFault::Memory => Some(ServeFault::Memory),
+    }
+}
+
+/// What a refusal of the Finish is to `serve`: an outbox that is closed already is none.
+pub(crate) fn refused_finish(fault: CloseFault) -> Option<ServeFault>
+    ensures { result ≡ finish_fault fault }
+{
+    match fault {
+        CloseFault::Broken | CloseFault::Fault => Some(ServeFault::Journal),
+        CloseFault::Closed => None,
+        CloseFault::Memory => Some(ServeFault::Memory),
+    }
+}
+
+/// Whether a fault of the connections' side yields to a refusal of a sender: the life was not finished, and nothing failed.
+fn yields(fault: ServeFault) -> bool
+    ensures { result ≡ yields fault }
+{
+    match fault {
+        ServeFault::Unfinished { .. } | ServeFault::Rejected { .. } | ServeFault::Turns => true,
+        ServeFault::Output
+        | ServeFault::Journal
+        | ServeFault::Dial
+        | ServeFault::Full { .. }
+        | ServeFault::Memory => false,
+    }
+}
+
+/// The answer of a life whose connections ended so, and whose senders were refused so, if they were. A fault of the
+/// connections' side comes first, then a refusal, and then that the session was not finished.
+pub(crate) fn answer_of(
+    connections: Result<LifeEnd, ServeFault>,
+    refused: Option<ServeFault>,
+) -> Result<(), ServeFault>
+    ensures { result ≡ answer_of connections refused }
+{
+    match connections {
+        Ok(LifeEnd::Finished) => match refused {
+            Some(fault) => Err(fault),
+            None => Ok(()),
+        },
+        // Only a refusal tells the connections to stop.
+        Ok(LifeEnd::Stopped) => Err(refused.unwrap_or(ServeFault::Memory)),
+        Err(fault) => {
+            if yields(fault) {
+                Err(refused.unwrap_or(fault))
+            } else {
+                Err(fault)
+            }
+        }
+    }
+}
