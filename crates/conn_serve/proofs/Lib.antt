@@ -1,3 +1,4 @@
 pub mod Shortness
 pub mod Making
 pub mod Turning
+pub mod Living

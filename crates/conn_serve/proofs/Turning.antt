@@ -18,7 +18,12 @@ use Rattle.gate_turn.proofs.Histories.{begins_self, begins_on}
 use Rattle.conn_turns.specs.declared.news.NewsItem.{NewsItem}
 use Rattle.conn_turns.specs.Lines.{Line, TakenFrame, IsTaken, AreTaken, size_of, line_after, lines_after}
 use Rattle.conn_turns.specs.Turns.{Turn, only_sends, works, link_lost, cut_short, not_begun}
+use Rattle.fixp_shake.specs.declared.config.EndConfig.{EndConfig}
+use Rattle.fixp_replies.specs.declared.facts.EndState.{EndState}
+use Rattle.reply_laws.specs.Machine.{State}
 use Rattle.conn_steps.specs.Settling.{Gains}
+use Rattle.conn_steps.specs.Agreeing.{Agrees}
+use Rattle.conn_loop.specs.Conn.{line_begun}
 use Rattle.turn_laws.specs.Turns.{IsTurn, adds_in, tells_in}
 use Rattle.turn_laws.specs.Legs.{given_in, sent_in, first_line}
 use Rattle.loop_laws.specs.Turned.{WasTurn}
@@ -304,3 +309,22 @@ module _ {J : Type 0} {G : Ghosts J} where
   given_answer (Ok a) out now_out before seen old box since news grows cut is lines = tt
   given_answer (Err fault) out now_out before seen old box since news grows cut is lines =
       given_cut fault out now_out before seen old box since news grows cut (tells_all (lacks fault) out now_out (news_lines news) lines) (λ e. subst IsOfTurn e is)
+
+  -- ---- where it begins
+
+  pub agrees_recorded : (m n : State) (box : Inbox J G) → n.config ≡ m.config → n.most ≡ m.most → n.facts.recorded ≡ m.facts.recorded → Agrees m box → Agrees n box
+  agrees_recorded m n box config most recorded a = record {
+    flow = a.flow ∙ sym (ap (λ (c : EndConfig). c.peer_flow) config);
+    most = omega (arith, most, a.most);
+    next = a.next ∙ sym (ap (λ (r : EndState). r.inbox_next) recorded);
+    negotiated = a.negotiated ∙ sym (ap (λ (r : EndState). r.negotiated) recorded);
+    peer_last = a.peer_last ∙ sym (ap (λ (r : EndState). r.peer_last) recorded);
+  }
+
+  pub given_first : (why : Option ServeFault) (out now_out : Option (List ℕ)) (before seen : History) (l start : Line) (now : ℕ) (box since : Inbox J G) → start ≡ line_begun l now
+      → GivenUp why out now_out before seen start box since → GivenUpOn why out now_out before seen l.machine box since
+  given_first why out now_out before seen l start now box since is g = record { moment = now; given_up = subst (λ (x : Line). GivenUp why out now_out before seen x box since) is g }
+
+  pub turned_first : (told later : Option LinkTold) (carried after : Option Carried) (out now_out : Option (List ℕ)) (before seen : History) (l start new : Line) (now : ℕ) (box since : Inbox J G) (n : ℕ) → start ≡ line_begun l now
+      → Turned told later carried after out now_out before seen start new box since n → TurnedOn told later carried after out now_out before seen l.machine new box since
+  turned_first told later carried after out now_out before seen l start new now box since n is t = record { moment = now; count = n; turned = subst (λ (x : Line). Turned told later carried after out now_out before seen x new box since n) is t }

@@ -24,17 +24,20 @@ use Rattle.conn_serve.specs.Lines.{news_lines, close_line, lines_from}
 use Rattle.conn_serve.specs.Causes.{lacks, lacks_at, Tells}
 use Rattle.conn_serve.specs.Turned.{IsSpent}
 
--- links came back to a dialer that tells it, which had carried this, each from one of the connections that were left
+-- links came back to a dialer that tells it, which had carried this, each of one of the connections that were left
 pub record Came (old new : DialerTold) (more : List (Option Carried)) : Type 0 where
   pub back : new.back ≡ old.back ++ more
   pub left : old.left ≡ new.left + length more
-  pub told : All (λ carried. IsTrue (is_some carried)) more
 
 abbrev pub AllCame : Option DialerTold → Option DialerTold → List (Option Carried) → Type 0
 AllCame None None more = ⊤
 AllCame None (Some new) more = ⊥
 AllCame (Some old) None more = ⊥
 AllCame (Some old) (Some new) more = Came old new more
+
+-- it tells what it carried
+abbrev pub IsTold : Connection → Type 0
+IsTold c = IsTrue (is_some c.carried)
 
 abbrev pub carried_by : List Connection → List (Option Carried)
 carried_by = map (λ (c : Connection). c.carried)
@@ -109,6 +112,7 @@ module _ {J : Type 0} {G : Ghosts J} where
     pub holds : (i : List InboxRecord) → HoldsBox box i [] → HoldsBox since (i ++ adds_of (ended ++ option_to_list given_up)) (refused_of_all (option_to_list given_up))
     pub lines : Tells (lacks_lines result) out now_out (lines_from 1 (ended ++ option_to_list given_up))
     pub came : AllCame dialed later (carried_by (ended ++ option_to_list given_up))
+    pub tells : IsTrue (is_some dialed) → All IsTold ended
     pub answer : IsLifeAnswer behind seen mid later ended given_up result
 
   -- connections that ended so far, each followed by the next
@@ -117,6 +121,7 @@ module _ {J : Type 0} {G : Ghosts J} where
     pub gains : Gains box since (adds_of ended)
     pub lines : Appends out now_out (lines_from 1 ended)
     pub came : AllCame dialed later (carried_by ended)
+    pub tells : IsTrue (is_some dialed) → All IsTold ended
     pub followed : All IsFollowed ended
 
   -- the connection of the number n ended so
@@ -127,6 +132,7 @@ module _ {J : Type 0} {G : Ghosts J} where
     pub gains : Gains box since connection.adds
     pub lines : Tells lacking out now_out (news_lines connection.news ++ close_line n connection.close)
     pub came : AllCame dialed later (connection.carried ∷ [])
+    pub tells : IsTrue (is_some dialed) → IsTold connection
 
   -- a connection was given up
   pub record GaveOneUp (why : Option ServeFault) (dialed later : Option DialerTold) (out now_out : Option (List ℕ)) (before seen : History) (m : State) (box since : Inbox J G) : Type 0 where

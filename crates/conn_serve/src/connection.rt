@@ -152,9 +152,10 @@ pub(crate) fn one_connection<L: Link, K: Sink, O: Journal, I: Journal, C: Clock,
             let _ = conn.cut();
             return Ok(None);
         }
-        let close = turn_once(conn, link, out, gate, pass, inbox, clock, teller, rt)?;
-        if close.is_some() {
-            return Ok(close);
+        match turn_once(conn, link, out, gate, pass, inbox, clock, teller, rt) {
+            Ok(None) => {}
+            Ok(Some(close)) => return Ok(Some(close)),
+            Err(fault) => return Err(fault),
         }
     }
     let _ = conn.cut();

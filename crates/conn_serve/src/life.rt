@@ -94,19 +94,25 @@ fn serve_next<N: Dialer, K: Sink, O: Journal, I: Journal, C: Clock, R: Wait>(
     ensures never_falls { (faults_of inbox.old ≤ faults_of inbox.new) × (K.faults out.old ≤ K.faults out.new) × (N.faults dialer.old ≤ N.faults dialer.new) }
     ensures told { C.told clock.new ≡ C.told clock.old }
 {
-    let mut link = next_link(dialer, conn)?;
+    let mut link = match next_link(dialer, conn) {
+        Ok(link) => link,
+        Err(fault) => return Err(fault),
+    };
     let answer = one_connection(
         conn, &mut link, out, gate, pass, inbox, clock, teller, stop, rt,
     );
     dialer.back(link);
-    match answer {
-        Ok(Some(close)) => {
-            teller.tell_close(out, number, close)?;
-            end_behind(close)
-        }
-        Ok(None) => Ok(Some(LifeEnd::Stopped)),
-        Err(fault) => Err(fault),
+    let ended = match answer {
+        Ok(ended) => ended,
+        Err(fault) => return Err(fault),
+    };
+    let Some(close) = ended else {
+        return Ok(Some(LifeEnd::Stopped));
+    };
+    if let Err(fault) = teller.tell_close(out, number, close) {
+        return Err(fault);
     }
+    end_behind(close)
 }
 
 /// Serves the connections that a dialer gives, one after another, until one ends with both finishes exchanged, or until `stop`
@@ -143,12 +149,11 @@ pub fn serve_connections<N: Dialer, K: Sink, O: Journal, I: Journal, C: Clock, R
     ensures told { C.told clock.new ≡ C.told clock.old }
 {
     let mut teller = Teller::new(alloc);
-    let mut number = 1u64;
-    for _ in rt.forever() {
+    for number in 1..u64::MAX {
         if stop.load(Ordering::SeqCst) {
             return Ok(LifeEnd::Stopped);
         }
-        if let Some(end) = serve_next(
+        let answer = serve_next(
             dialer,
             out,
             gate,
@@ -160,10 +165,16 @@ pub fn serve_connections<N: Dialer, K: Sink, O: Journal, I: Journal, C: Clock, R
             number,
             stop,
             rt,
-        )? {
+        );
+        let ended = match answer {
+            Ok(ended) => ended,
+            Err(fault) => return Err(fault),
+        };
+        if let Some(end) = ended {
             return Ok(end);
         }
-        number = number.saturating_add(1);
     }
+    // No dialer gives so many connections.
+    for _ in rt.forever() {}
     unreachable!()
 }
