@@ -73,7 +73,7 @@ all_behind h before after m mid i [] awaits enough has all = record {
   enough = subst (λ (s : State). s.facts.recorded.sent ≤ length h) (sym all.0) enough;
 }
 all_behind h before after m mid i (c ∷ later) awaits enough has all =
-    let k = all.2 in
+    let k : HasEnded before all.0 m all.1 c = all.2 in
     let x : IsTurnedOne h m i k.last c = connection_turned h before all.0 m i k.last c awaits enough (has_before h all.0 after has (seen_over_all all.0 after all.1 mid later all.3)) k.is in
     let d : Course = course_on m i c.leg in
     let here : d.state ≡ all.1 = ended_machine h before all.0 m all.1 i c k x in
@@ -99,7 +99,7 @@ inbox_append : (m : State) (i : List InboxRecord) (ts : List TurnedLeg) (t : Tur
 inbox_append m i [] t = refl
 inbox_append m i (x ∷ ts) t = inbox_append (course_on m i x).state (inbox_of (course_on m i x)) ts t
 
-pub adds_append : (cs : List Connection) (c : Connection) → adds_of (cs ++ c ∷ []) ≡ adds_of cs ++ c.adds
+adds_append : (cs : List Connection) (c : Connection) → adds_of (cs ++ c ∷ []) ≡ adds_of cs ++ c.adds
 adds_append cs c = flat_map-append (λ (d : Connection). d.adds) cs (c ∷ []) ∙ ap (λ (rs : List InboxRecord). adds_of cs ++ rs) (append-nil c.adds)
 
 pub turned_append : (cs : List Connection) (c : Connection) → turned (cs ++ c ∷ []) ≡ turned cs ++ c.leg ∷ []
@@ -111,6 +111,12 @@ pub given_turned : (h : List Entry) (before after : History) (m mid : State) (i 
 given_turned h before after m mid i cs c b has k =
     subst (λ (s : State). IsTurnedOne h s (inbox_after m i (turned cs)) k.0 c) (sym b.machine) (connection_turned h before after mid (inbox_after m i (turned cs)) k.0 c b.awaits b.enough has k.1)
 
+-- and what they all add
+pub given_adds : (h : List Entry) (m mid : State) (i : List InboxRecord) (last : Line) (cs : List Connection) (c : Connection) → AreBehind h m mid i cs
+    → IsTurnedOne h (state_after m i (turned cs)) (inbox_after m i (turned cs)) last c → inbox_of (course_on (state_after m i (turned cs)) (inbox_after m i (turned cs)) c.leg) ≡ i ++ adds_of (cs ++ c ∷ [])
+given_adds h m mid i last cs c b x =
+    x.adds ∙ (ap (λ (rs : List InboxRecord). rs ++ c.adds) b.adds ∙ (append_assoc i (adds_of cs) c.adds ∙ ap (λ (rs : List InboxRecord). i ++ rs) (sym (adds_append cs c))))
+
 -- all of them
 pub record AllTurned (h : List Entry) (m : State) (i : List InboxRecord) (cs : List Connection) : Type 0 where
   pub turns : AllAreTurns h m i (turned cs)
@@ -121,10 +127,7 @@ pub with_given : (h : List Entry) (m mid : State) (i : List InboxRecord) (last :
 with_given h m mid i last cs c b x = record {
   turns = subst (λ (ts : List TurnedLeg). AllAreTurns h m i ts) (sym (turned_append cs c)) (all_turns_append h m i (turned cs) c.leg b.turns x.turns);
   adds = ap (λ (ts : List TurnedLeg). inbox_after m i ts) (turned_append cs c)
-      ∙ (inbox_append m i (turned cs) c.leg
-      ∙ (x.adds
-      ∙ (ap (λ (rs : List InboxRecord). rs ++ c.adds) b.adds
-      ∙ (append_assoc i (adds_of cs) c.adds ∙ ap (λ (rs : List InboxRecord). i ++ rs) (sym (adds_append cs c))))));
+      ∙ (inbox_append m i (turned cs) c.leg ∙ given_adds h m mid i last cs c b x);
 }
 
 pub all_turned : (h : List Entry) (before after : History) (m mid : State) (i : List InboxRecord) (cs : List Connection) (given_up : Option Connection) → AreBehind h m mid i cs → Has h after

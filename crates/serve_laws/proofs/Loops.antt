@@ -1,5 +1,5 @@
 -- A served life is one of the loop.
-use Rattle.std.proofs.Common.{◌≡◌, ◌⊎◌, inl, inr, List, [], ◌∷◌, ◌++◌, Option, Some, None, refl, sym, ap, subst, ◌∙◌, append-nil, append_assoc}
+use Rattle.std.proofs.Common.{◌≡◌, ◌⊎◌, inl, inr, List, [], ◌∷◌, ◌++◌, Option, Some, None, refl, sym, ap, subst, ◌∙◌, append-nil}
 use Rattle.std.specs.Prelude.{IfSome, option_to_list, Result}
 use Rattle.std.specs.List.{AllByRecursion}
 use Rattle.session_model.specs.Journal.{Entry, OutboxRecord, entries, History}
@@ -10,7 +10,6 @@ use Rattle.gw_links.specs.Dialers.{DialerTold}
 use Rattle.jr_record.specs.declared.journal.Journal.{Ghosts}
 use Rattle.jr_boxes.specs.declared.inbox.Inbox.{Inbox}
 use Rattle.conn_turns.specs.Lines.{Line}
-use Rattle.connection_laws.specs.Courses.{course_after}
 use Rattle.connection_laws.specs.Living.{Leg, AllMayRun, Opens}
 use Rattle.connection_laws.proofs.Living.{opening_on, none_refused, closing_on}
 use Rattle.legal_laws.specs.Ranges.{IsInRange}
@@ -25,7 +24,7 @@ use Rattle.conn_serve.specs.Connections.{Connection, adds_of, refused_of_all}
 use Rattle.conn_serve.specs.Served.{WasGivenUp, ServedLife}
 use Rattle.serve_laws.specs.Lives.{turned, all_of, LifeOfLoop, LifeMayTurn, ServedKeeps}
 use Rattle.serve_laws.proofs.Turned.{IsTurnedOne}
-use Rattle.serve_laws.proofs.Behind.{AreBehind, given_turned, adds_append, turned_append, AllTurned, with_given, all_turned, life_behind}
+use Rattle.serve_laws.proofs.Behind.{AreBehind, given_turned, turned_append, given_adds, AllTurned, with_given, all_turned, life_behind}
 use Rattle.serve_laws.proofs.Waits.{Waits, waits_or_none}
 
 -- a life of which a stop may leave nothing that was refused
@@ -52,7 +51,6 @@ waiting_life : (opening closing refused : List OutboxRecord) (m mid : State) (i 
 waiting_life opening closing refused m mid i last cs c left o b x w =
     let legs : List Leg = legs_of m i (turned cs) in
     let may : AllMayRun (entries closing) m i legs = all_run (entries closing) m i (turned cs) o.awaits o.enough b.turns in
-    let all : AllTurned (entries closing) m i (cs ++ c ∷ []) = with_given (entries closing) m mid i last cs c b x in
     record {
       life = record { opening_outbox = opening; closing_outbox = closing; refused_outbox = refused; state = m; inbox = i; legs = turned cs; last = Some (record { leg = c.leg; waiting = w.waiting }) };
       outboxes = (refl, refl, refl);
@@ -60,7 +58,7 @@ waiting_life opening closing refused m mid i last cs c left o b x w =
       legs = sym (turned_append cs c);
       turns = b.turns;
       last = record { turns = x.turns; waits = w.is };
-      inbox = (opening_on m i legs (entries opening) (entries closing) o may, x.adds ∙ (ap (λ (rs : List InboxRecord). rs ++ c.adds) b.adds ∙ (append_assoc i (adds_of cs) c.adds ∙ ap (λ (rs : List InboxRecord). i ++ rs) (sym (adds_append cs c)))), w.left_are);
+      inbox = (opening_on m i legs (entries opening) (entries closing) o may, given_adds (entries closing) m mid i last cs c b x, w.left_are);
       keeps = turns_refused (entries opening) (entries closing) m i (turned cs) c.leg w.waiting o b.turns x.turns w.is;
     }
 
