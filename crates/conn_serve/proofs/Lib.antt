@@ -2,3 +2,4 @@ pub mod Shortness
 pub mod Making
 pub mod Turning
 pub mod Living
+pub mod Opening

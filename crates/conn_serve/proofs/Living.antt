@@ -1,15 +1,13 @@
 -- Connections of a life one behind another, and how it ends.
 use Rattle.std.proofs.Common.{◌≡◌, ◌⊎◌, inl, inr, ℕ, ◌+◌, ◌-◌, ◌<◌, Bool, true, false, All, List, [], ◌∷◌, ◌++◌, length, Option, Some, None, Result, Ok, Err, refl, sym, ap, subst, ◌∙◌, arith, append-nil, append_assoc, length-append}
-use Rattle.std.specs.Prelude.{⊤, IsSome, IfSome, IsTrue, is_some, option_to_list}
+use Rattle.std.specs.Prelude.{IsSome, IfSome, IsTrue, is_some}
 use Rattle.std.specs.List.{flat_map}
 use Rattle.std.specs.Option.{option_map}
 use Rattle.std.specs.Io.KnownBytes.{Appends}
 use Rattle.std.proofs.KnownBytes.{Appends-nil, Appends-trans}
-use Rattle.std.proofs.lemmas.Grind.{flat_map-append}
 use Rattle.std.proofs.lemmas.Bool.{false≢true}
 use Rattle.std.proofs.lemmas.List.Elements.{All-append, All-cons, All-nil}
-use Rattle.gw_outside.specs.Faults.{HasRisen, TakesFront}
-use Rattle.session_model.specs.Journal.{History, BeginsHistory}
+use Rattle.session_model.specs.Journal.{History}
 use Rattle.session_model.specs.Inbox.{InboxRecord}
 use Rattle.fixp_replies.specs.declared.act.Ending.{Ending}
 use Rattle.fixp_replies.specs.declared.act.Ending.TheVariants as endings
@@ -33,11 +31,11 @@ use Rattle.conn_serve.specs.declared.answer.ServeFault.TheVariants as faults
 use Rattle.conn_serve.specs.declared.answer.LifeEnd.{LifeEnd}
 use Rattle.conn_serve.specs.declared.answer.LifeEnd.TheVariants as ends
 use Rattle.conn_serve.specs.Answers.{end_behind, IsOfConnection}
-use Rattle.conn_serve.specs.Connections.{Connection, IsConnection, HasEnded, AllEnded, ClosesAs, Follows, IsFollowed, adds_of, refused_of_all}
+use Rattle.conn_serve.specs.Connections.{Connection, HasEnded, AllEnded, ClosesAs, Follows, IsFollowed, adds_of}
 use Rattle.conn_serve.specs.Lines.{news_lines, close_line, lines_from}
-use Rattle.conn_serve.specs.Causes.{lacks, lacks_at, Tells}
-use Rattle.conn_serve.specs.Turned.{IsSpent, TurnedOn, GivenUpOn, MayBegin}
-use Rattle.conn_serve.specs.Served.{Came, AllCame, carried_by, IsTold, IsNext, IsNextLink, EndsWith, WasGivenUp, SpentConnection, IsLifeAnswer, lacks_lines, ServedLife, Lived, EndedOne, GaveOneUp, MadeNone, IsRound}
+use Rattle.conn_serve.specs.Causes.{lacks_at, Tells}
+use Rattle.conn_serve.specs.Turned.{TurnedOn, GivenUpOn, MayBegin}
+use Rattle.conn_serve.specs.Served.{AllCame, carried_by, IsTold, IsNext, IsNextLink, IsLifeAnswer, lacks_lines, ServedLife, Lived, EndedOne, GaveOneUp, MadeNone, IsRound}
 use Rattle.conn_serve.proofs.Turning.{gains_none, gains_on, tells_on, tells_all}
 
 -- ---- links that come back
@@ -386,3 +384,8 @@ module _ {J : Type 0} {G : Ghosts J} where
       over_ended (Err faults.Memory) n dialed between later out mid_out now_out before middle seen m mid new box mid_box since e.0 l e.1 tt
   over_err faults.Memory n dialed between later out mid_out now_out before middle seen m mid new box mid_box since l (inr g) =
       over_given (Err faults.Memory) (Some faults.Memory) n dialed between later out mid_out now_out before middle seen m mid box mid_box since l g refl tt
+
+  -- where there was no memory to begin, none was served
+  pub nothing_served : (dialed : Option DialerTold) (out : Option (List ℕ)) (seen : History) (m : State) (box : Inbox J G) → ServedLife dialed dialed out out seen seen m box box (Err faults.Memory)
+  nothing_served dialed out seen m box =
+      over_none (Err faults.Memory) 1 dialed dialed dialed out out out seen seen seen m m m box box box (lived_none dialed out seen m box) (made_none dialed dialed out seen m box refl) tt

@@ -1,6 +1,6 @@
 -- What a turn answered, as its connection knows it.
-use Rattle.std.proofs.Common.{◌≡◌, ◌⊎◌, inl, inr, ℕ, ◌<◌, true, List, [], Option, Some, None, Result, Ok, Err, refl, sym, ap, subst, ◌∙◌, arith}
-use Rattle.std.specs.Prelude.{⊤, ◌≢◌, IsSome, is_some, IfOk, IfErr, OnOk}
+use Rattle.std.proofs.Common.{◌≡◌, ◌⊎◌, inl, inr, ℕ, ◌<◌, true, Option, Some, None, Result, Ok, Err, refl, sym, subst, ◌∙◌}
+use Rattle.std.specs.Prelude.{IsSome, is_some, IfOk, IfErr, OnOk}
 use Rattle.gw_outside.specs.Faults.{HasRisen}
 use Rattle.fixp_replies.specs.declared.act.Ending.{Ending}
 use Rattle.jr_record.specs.declared.journal.Journal.{Ghosts}

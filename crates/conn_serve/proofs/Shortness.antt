@@ -1,6 +1,6 @@
 -- A message in the news of a turn is short enough for its line.
-use Rattle.std.proofs.Common.{◌≡◌, ℕ, ◌+◌, ◌≤◌, List, [], ◌∷◌, ◌++◌, length, Option, Some, None, refl, ap, subst, sym, arith, length-append}
-use Rattle.std.specs.Prelude.{◌^◌, ◌||◌, All}
+use Rattle.std.proofs.Common.{◌≡◌, ℕ, ◌≤◌, List, [], ◌∷◌, length, refl, ap, arith, length-append}
+use Rattle.std.specs.Prelude.{◌^◌, All}
 use Rattle.std.specs.Int.{w16, to_be_bytes}
 use Rattle.std.proofs.lemmas.List.Elements.{All-append, All-cons, All-nil}
 use Rattle.session_model.specs.Journal.{History}
@@ -10,12 +10,11 @@ use Rattle.fixp_replies.specs.declared.act.Act.{Act}
 use Rattle.fixp_replies.specs.declared.act.Act.TheVariants as acts
 use Rattle.fixp_replies.specs.Incoming.{Incoming, IsIncoming, application, session, wrong_order, too_short, unknown}
 use Rattle.growth_laws.specs.Accepting.{payload_in}
-use Rattle.conn_turns.specs.declared.news.NewsItem.{NewsItem}
 use Rattle.conn_turns.specs.News.{told_by}
 use Rattle.conn_turns.specs.Lines.{Line, TakenFrame, IsTaken, AreTaken, reply_at, line_after}
 use Rattle.conn_turns.specs.Frames.{tells, told}
-use Rattle.conn_turns.specs.Turns.{Turn, only_sends, works, link_lost, cut_short, not_begun, is_end}
-use Rattle.turn_laws.specs.Turns.{line_received, IsTurn, tells_in}
+use Rattle.conn_turns.specs.Turns.{Turn, only_sends, works, link_lost, cut_short, not_begun}
+use Rattle.turn_laws.specs.Turns.{IsTurn, tells_in}
 use Rattle.conn_serve.specs.Lines.{IsShort}
 
 two_bytes : (n : ℕ) → length (to_be_bytes w16 n) ≡ 2

@@ -1,6 +1,6 @@
 -- Turns of a connection one behind another, and where it is given up.
-use Rattle.std.proofs.Common.{◌≡◌, ◌⊎◌, inl, inr, ℕ, ◌+◌, ◌*◌, ◌≤◌, ◌<◌, true, false, List, [], ◌∷◌, ◌++◌, length, Option, Some, None, Result, Ok, Err, refl, sym, ap, subst, ◌∙◌, arith, append-nil, append_assoc, length-append}
-use Rattle.std.specs.Prelude.{⊤, IsSome, All, take, OnOk, IfErr}
+use Rattle.std.proofs.Common.{◌≡◌, ◌⊎◌, inl, inr, ℕ, ◌+◌, ◌*◌, ◌≤◌, true, false, List, [], ◌∷◌, ◌++◌, length, Option, Some, None, Result, Ok, Err, refl, sym, ap, subst, ◌∙◌, arith, append-nil, append_assoc, length-append}
+use Rattle.std.specs.Prelude.{All, take, OnOk, IfErr}
 use Rattle.std.specs.List.{flat_map}
 use Rattle.std.specs.Io.KnownBytes.{Appends}
 use Rattle.std.proofs.KnownBytes.{Appends-nil, Appends-trans}
@@ -14,9 +14,9 @@ use Rattle.gw_links.proofs.Moving.{moved_none, moved_more}
 use Rattle.jr_record.specs.declared.journal.Journal.{Ghosts}
 use Rattle.jr_boxes.specs.declared.inbox.Inbox.{Inbox}
 use Rattle.jr_boxes.specs.Inbox.{HoldsBox}
-use Rattle.gate_turn.proofs.Histories.{begins_self, begins_on}
+use Rattle.gate_turn.proofs.Histories.{begins_self}
 use Rattle.conn_turns.specs.declared.news.NewsItem.{NewsItem}
-use Rattle.conn_turns.specs.Lines.{Line, TakenFrame, IsTaken, AreTaken, size_of, line_after, lines_after}
+use Rattle.conn_turns.specs.Lines.{Line, TakenFrame, AreTaken, size_of, line_after, lines_after}
 use Rattle.conn_turns.specs.Turns.{Turn, only_sends, works, link_lost, cut_short, not_begun}
 use Rattle.fixp_shake.specs.declared.config.EndConfig.{EndConfig}
 use Rattle.fixp_replies.specs.declared.facts.EndState.{EndState}
@@ -25,14 +25,14 @@ use Rattle.conn_steps.specs.Settling.{Gains}
 use Rattle.conn_steps.specs.Agreeing.{Agrees}
 use Rattle.conn_loop.specs.Conn.{line_begun}
 use Rattle.turn_laws.specs.Turns.{IsTurn, adds_in, tells_in}
-use Rattle.turn_laws.specs.Legs.{given_in, sent_in, first_line}
+use Rattle.turn_laws.specs.Legs.{given_in, sent_in}
 use Rattle.loop_laws.specs.Turned.{WasTurn}
 use Rattle.conn_serve.specs.declared.answer.ServeFault.{ServeFault}
 use Rattle.conn_serve.specs.declared.answer.ServeFault.TheVariants as faults
 use Rattle.conn_serve.specs.Lines.{news_line, news_lines, IsShort}
-use Rattle.conn_serve.specs.Connections.{WereTurns, WasCutAt, CutAt}
+use Rattle.conn_serve.specs.Connections.{WereTurns}
 use Rattle.conn_serve.specs.Causes.{lacks, lacks_at, Tells}
-use Rattle.conn_serve.specs.Turned.{IsSpent, Turned, CutOff, GivenUp, TurnedOn, GivenUpOn}
+use Rattle.conn_serve.specs.Turned.{Turned, CutOff, GivenUp, TurnedOn, GivenUpOn}
 use Rattle.conn_serve.specs.Answers.{IsOfTurn}
 use Rattle.conn_serve.proofs.Shortness.{turn_short, told_short}
 
@@ -44,8 +44,7 @@ turns_on a b c l m n [] us news more adds rest first later =
     let P : Line → History → List NewsItem → List InboxRecord → Type 0 = λ x h ns rs. WereTurns h c x n us (ns ++ more) (rs ++ rest) in
     subst (λ (x : Line). P x a news adds) first.0 (subst (λ (h : History). P m h news adds) first.1 (subst (λ (ns : List NewsItem). P m b ns adds) (sym first.2) (subst (λ (rs : List InboxRecord). P m b [] rs) (sym first.3) later)))
 turns_on a b c l m n (t ∷ ts) us news more adds rest first later =
-    let (unended, mid, between, is, told, added, news_are, adds_are, behind) = first in
-    (
+    let (unended, mid, between, is, told, added, news_are, adds_are, behind) = first in (
       unended,
       mid,
       between,

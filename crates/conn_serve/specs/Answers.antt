@@ -1,5 +1,5 @@
 -- What the answers of the calls of a life are to those above them (this project's profile).
-use Rattle.std.specs.Prelude.{⊤, ◌≡◌, Bool, true, false, if◌then◌else◌, Option, Some, None, Result, Ok, Err}
+use Rattle.std.specs.Prelude.{⊤, Bool, true, false, if◌then◌else◌, Option, Some, None, Result, Ok, Err}
 use Rattle.fixp_replies.specs.declared.act.Ending.TheVariants as endings
 use Rattle.jr_boxes.specs.declared.faults.SubmitFault.{SubmitFault}
 use Rattle.jr_boxes.specs.declared.faults.SubmitFault.TheVariants as submit

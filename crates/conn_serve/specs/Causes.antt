@@ -1,5 +1,5 @@
 -- What a fault of a life is caused by (this project's profile).
-use Rattle.std.specs.Prelude.{◌≡◌, ◌⊎◌, ℕ, ◌<◌, Bool, true, false, List, Option, Some, None, Result, Ok, Err}
+use Rattle.std.specs.Prelude.{◌≡◌, ◌⊎◌, ℕ, ◌<◌, Bool, true, false, List, Option, Some, None}
 use Rattle.std.specs.Io.KnownBytes.{Appends}
 use Rattle.gw_outside.specs.Faults.{HasRisen, TakesFront}
 use Rattle.jr_record.specs.declared.journal.Journal.{Ghosts}

@@ -1,6 +1,6 @@
 -- Connections of a life, one behind another: what they did, told, recorded and carried, and how they came to their end (this
 -- project's profile).
-use Rattle.std.specs.Prelude.{◌≡◌, ℕ, ◌+◌, ◌-◌, List, [], ◌∷◌, ◌++◌, map, length, Option, Some, None, IsSome, IfSome}
+use Rattle.std.specs.Prelude.{◌≡◌, ℕ, ◌-◌, List, [], ◌∷◌, ◌++◌, map, length, Option, Some, None, IsSome, IfSome}
 use Rattle.std.specs.List.{flat_map}
 use Rattle.session_model.specs.Journal.{History, BeginsHistory}
 use Rattle.session_model.specs.Inbox.{InboxRecord}

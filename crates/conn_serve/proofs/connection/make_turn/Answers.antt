@@ -1,12 +1,9 @@
-use Rattle.std.proofs.Common.{[], sym, ◌∙◌}
+use Rattle.std.proofs.Common.{sym, ◌∙◌}
 use Rattle.std.proofs.lemmas.Result.{on_ok_weaker}
 use Rattle.conn_turns.specs.declared.answer.TurnFault.{TurnFault}
-use Rattle.conn_turns.specs.declared.answer.TurnFault.TheVariants as faults
 use Rattle.gate_turn.specs.Places.{known}
-use Rattle.conn_turns.specs.News.{items_of}
 use Rattle.conn_loop.specs.Conn.{line_of}
 use Rattle.loop_laws.proofs.Repacking.{turn_is_one, cut_is_one}
-use Rattle.conn_serve.specs.Turned.{CutOff}
 use Rattle.conn_serve.proofs.Making.{whole_at, err_at, on_cut, on_both, goes_made, closed_made, of_turn_made, blamed_made}
 use Rattle.conn_serve.proofs.Turning.{was_short, cut_is_short}
 use Rattle.conn_serve.proofs.connection.make_turn.Goals as goal

@@ -1,4 +1,4 @@
-use Rattle.std.proofs.Common.{◌≡◌, inl, inr, refl, sym, ap, subst, ◌∙◌, arith}
+use Rattle.std.proofs.Common.{◌≡◌, refl, ap, subst, ◌∙◌, arith}
 use Rattle.fixp_replies.specs.declared.facts.EndState.{EndState}
 use Rattle.gate_turn.specs.Places.{known}
 use Rattle.conn_turns.specs.Lines.{Line}
@@ -6,7 +6,6 @@ use Rattle.conn_loop.specs.Conn.{line_of}
 use Rattle.conn_loop.proofs.Working.{seen_same, looks_self, looks_on}
 use Rattle.conn_serve.specs.declared.answer.ServeFault.TheVariants as faults
 use Rattle.conn_serve.specs.Answers.{IsOfTurn}
-use Rattle.conn_serve.specs.declared.answer.ServeFault.{ServeFault}
 use Rattle.conn_serve.proofs.Turning.{turned_none, turned_on, turned_place, given_whole, given_on, agrees_recorded, given_first, turned_first}
 use Rattle.conn_serve.proofs.connection.one_connection.Goals as goal
 

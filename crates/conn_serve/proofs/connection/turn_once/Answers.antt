@@ -1,5 +1,4 @@
 use Rattle.std.proofs.lemmas.Result.{on_ok_weaker}
-use Rattle.gate_turn.specs.Places.{known}
 use Rattle.conn_loop.specs.Conn.{line_of}
 use Rattle.conn_serve.proofs.Turning.{turned_once, given_told, given_answer}
 use Rattle.conn_serve.proofs.connection.turn_once.Goals as goal
