@@ -8,19 +8,15 @@ use mathlib.Core.List.{IsPrefix}
 use Rattle.session_model.specs.Journal.{Entry, History}
 use Rattle.session_model.specs.Inbox.{InboxRecord, next_number}
 use Rattle.session_model.proofs.Lists.{prefix_trans, prefix_equal, prefix_length}
-use Rattle.fixp_msgs.specs.declared.flow.Flow.TheVariants as flows
 use Rattle.reply_laws.specs.Machine.{State}
 use Rattle.gw_links.specs.Dialers.{DialerTold}
 use Rattle.jr_record.specs.declared.journal.Journal.{Ghosts}
 use Rattle.jr_boxes.specs.declared.inbox.Inbox.{Inbox}
 use Rattle.jr_boxes.specs.Inbox.{HoldsBox}
-use Rattle.gate_turn.specs.Views.{Part}
-use Rattle.conn_loop.specs.Conn.{Looks}
 use Rattle.conn_turns.specs.Lines.{Line}
 use Rattle.conn_turns.specs.Turns.{Turn, calls_of}
 use Rattle.connection_laws.specs.Courses.{Course, inbox_of, beginning, course_after}
 use Rattle.connection_laws.specs.Standing.{Stands}
-use Rattle.connection_laws.specs.Living.{Opens}
 use Rattle.connection_laws.proofs.Going.{calls_keep, connection_begins}
 use Rattle.turn_laws.specs.Standing.{Has}
 use Rattle.turn_laws.specs.Legs.{TurnedLeg, calls_on, first_line, AreTurnsOf, course_on}
@@ -29,9 +25,8 @@ use Rattle.turn_laws.proofs.Running.{all_seen, leg_stands}
 use Rattle.conn_serve.specs.declared.answer.ServeFault.{ServeFault}
 use Rattle.conn_serve.specs.declared.answer.LifeEnd.{LifeEnd}
 use Rattle.conn_serve.specs.Connections.{Connection, IsConnection, HasEnded, AllEnded, adds_of, refused_of_all}
-use Rattle.conn_serve.specs.Turned.{MayBegin}
 use Rattle.conn_serve.specs.Served.{WasGivenUp, ServedLife}
-use Rattle.serve_laws.specs.Lives.{turned, all_of, LifeOpens, IsTurned, ServedIsTurned}
+use Rattle.serve_laws.specs.Lives.{turned, all_of, LifeOpens, ServedIsTurned}
 use Rattle.serve_laws.proofs.Turned.{were_turns, has_before, IsTurnedOne, connection_turned}
 
 -- what was seen before a connection, and before several, begins what was seen behind them

@@ -1,27 +1,23 @@
 -- A served life is one of the loop.
 use Rattle.std.proofs.Common.{◌≡◌, ◌⊎◌, inl, inr, List, [], ◌∷◌, ◌++◌, Option, Some, None, refl, sym, ap, subst, ◌∙◌, append-nil}
-use Rattle.std.specs.Prelude.{IfSome, option_to_list, Result}
+use Rattle.std.specs.Prelude.{IfSome, option_to_list}
 use Rattle.std.specs.List.{AllByRecursion}
-use Rattle.session_model.specs.Journal.{Entry, OutboxRecord, entries, History}
+use Rattle.session_model.specs.Journal.{Entry, OutboxRecord, entries}
 use Rattle.session_model.specs.Inbox.{InboxRecord}
 use Rattle.fixp_msgs.specs.Payload.{IsApplication}
 use Rattle.reply_laws.specs.Machine.{State}
-use Rattle.gw_links.specs.Dialers.{DialerTold}
 use Rattle.jr_record.specs.declared.journal.Journal.{Ghosts}
 use Rattle.jr_boxes.specs.declared.inbox.Inbox.{Inbox}
 use Rattle.conn_turns.specs.Lines.{Line}
 use Rattle.connection_laws.specs.Living.{Leg, AllMayRun, Opens}
 use Rattle.connection_laws.proofs.Living.{opening_on, none_refused, closing_on}
 use Rattle.legal_laws.specs.Ranges.{IsInRange}
-use Rattle.turn_laws.specs.Standing.{Has}
 use Rattle.turn_laws.specs.Legs.{TurnedLeg, course_on}
 use Rattle.turn_laws.specs.Lives.{AllAreTurns, legs_of, state_after, inbox_after}
 use Rattle.turn_laws.proofs.Running.{all_run, turns_serve, turns_refused}
-use Rattle.meeting_laws.specs.Loops.{LoopLife, IsRefusedOn, legs_in, IsTimely, MayTurn}
-use Rattle.conn_serve.specs.declared.answer.ServeFault.{ServeFault}
-use Rattle.conn_serve.specs.declared.answer.LifeEnd.{LifeEnd}
-use Rattle.conn_serve.specs.Connections.{Connection, adds_of, refused_of_all}
-use Rattle.conn_serve.specs.Served.{WasGivenUp, ServedLife}
+use Rattle.meeting_laws.specs.Loops.{IsRefusedOn, IsTimely}
+use Rattle.conn_serve.specs.Connections.{Connection, refused_of_all}
+use Rattle.conn_serve.specs.Served.{WasGivenUp}
 use Rattle.serve_laws.specs.Lives.{turned, all_of, LifeOfLoop, LifeMayTurn, ServedKeeps}
 use Rattle.serve_laws.proofs.Turned.{IsTurnedOne}
 use Rattle.serve_laws.proofs.Behind.{AreBehind, given_turned, turned_append, given_adds, AllTurned, with_given, all_turned, life_behind}
