@@ -3,3 +3,4 @@ pub mod Making
 pub mod Turning
 pub mod Living
 pub mod Opening
+pub mod Marking

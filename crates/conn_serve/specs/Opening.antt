@@ -1,5 +1,5 @@
 -- A whole life: where it opens, and what it did (this project's profile).
-use Rattle.std.specs.Prelude.{◌≡◌, ◌⊎◌, ℕ, if◌then◌else◌, List, length, Option, Some, None, Result, Err, IfErr}
+use Rattle.std.specs.Prelude.{⊤, ◌≡◌, ◌⊎◌, ℕ, if◌then◌else◌, List, length, Option, Some, None, Result, Ok, Err, IfErr, IsTrue}
 use Rattle.session_model.specs.Journal.{History}
 use Rattle.fixp_replies.specs.declared.facts.EndState.{EndState}
 use Rattle.reply_laws.specs.Machine.{State}
@@ -13,10 +13,15 @@ use Rattle.sender_plans.specs.declared.sender.Sender.{Sender}
 use Rattle.conn_serve.specs.declared.answer.ServeFault.{ServeFault}
 use Rattle.conn_serve.specs.declared.answer.ServeFault.TheVariants as faults
 use Rattle.conn_serve.specs.declared.answer.LifeEnd.{LifeEnd}
-use Rattle.conn_serve.specs.Answers.{answer_of}
+use Rattle.conn_serve.specs.Answers.{answer_of, yields}
 use Rattle.conn_serve.specs.Causes.{IsBlamed}
 use Rattle.conn_serve.specs.Served.{ServedLife}
 use Rattle.conn_serve.specs.Senders.{SubmittedAll}
+
+-- no refusal of a sender or of the Finish is answered, and nothing failed
+abbrev pub IsUnrefused : Result (Unit {0}) ServeFault → Type 0
+IsUnrefused (Ok done) = ⊤
+IsUnrefused (Err fault) = IsTrue (yields fault)
 
 module _ {J : Type 0} {G : Ghosts J} where
   -- what is recorded as a life opens: what the inbox has, and, of the outbox, the entries that stood there and whether the mark did

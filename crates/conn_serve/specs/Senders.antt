@@ -58,3 +58,9 @@ module _ {J : Type 0} {G : Ghosts J} where
     pub ran : List (Sender J G)
     pub each : RanEach gate before ran
     pub finished : IsFinished ran after refused
+
+  -- the pass of a sender has seen the mark
+  pub record SomeMarked (senders : List (Sender J G)) : Type 0 where
+    pub sender : Sender J G
+    pub there : Contains senders sender
+    pub marked : (known sender.pass).seen.finished ≡ true

@@ -12,8 +12,8 @@ ghost use Rattle.sender_plans.specs.Runs.{IsReady};
 ghost use Rattle.conn_steps.specs.Settling.{SameKind};
 ghost use Rattle.conn_loop.specs.Conn.{line_of, new_line, Looks};
 ghost use Rattle.conn_serve.specs.Turned.{MayBegin};
-ghost use Rattle.conn_serve.specs.Senders.{SubmittedAll};
-ghost use Rattle.conn_serve.specs.Opening.{opened_state, ServedBy};
+ghost use Rattle.conn_serve.specs.Senders.{SomeMarked};
+ghost use Rattle.conn_serve.specs.Opening.{opened_state, ServedBy, IsUnrefused};
 
 use crate::answer::{LifeEnd, ServeFault, answer_of};
 use crate::life::serve_connections;
@@ -154,6 +154,7 @@ pub fn serve<N: Dialer, K: Sink, O: Journal + Send, I: Journal, C: Clock, R: Thr
     ensures looks { Looks (known pass.old) (known pass.new) }
     ensures lent { N.lent dialer.new ≡ false }
     ensures served { ServedBy gate.now (N.told dialer.old) (N.told dialer.new) (K.taken out.old) (K.taken out.new) (K.faults out.old) (K.faults out.new) (N.faults dialer.old) (N.faults dialer.new) (known pass.old) (known pass.new) (fresh config (opened_state (opening_of gate.now).history inbox.old) most) inbox.old inbox.new senders.old senders.new result }
+    ensures marked { IsUnrefused result → 0 < length senders.old → SomeMarked senders.new }
     ensures kind { SameKind inbox.old inbox.new }
     ensures never_falls { (faults_of inbox.old ≤ faults_of inbox.new) × (K.faults out.old ≤ K.faults out.new) × (N.faults dialer.old ≤ N.faults dialer.new) }
     ensures told { C.told clock.new ≡ C.told clock.old }

@@ -1,5 +1,5 @@
 //! The senders of a gate, made of its passes, run, and the passes given back.
-ghost use Rattle.std.specs.Prelude.{◌≡◌, ◌≢◌, ℕ, ◌+◌, ◌≤◌, All, [], length, vec_len, vec_capacity, None, Some, OnOk};
+ghost use Rattle.std.specs.Prelude.{◌≡◌, ◌≢◌, ℕ, ◌+◌, ◌<◌, ◌≤◌, All, [], length, vec_len, vec_capacity, None, Some, OnOk};
 ghost use Rattle.gate_turn.specs.Places.{known};
 ghost use Rattle.gate_turn.specs.Listed.{pass_at};
 ghost use Rattle.gate_turn.specs.Calls.{IsFree};
@@ -58,6 +58,7 @@ pub fn seat<J: Journal>(
     ensures count { vec_len result ≡ vec_len plans }
     ensures seated { Seated gate.now result.items (vec_len plans + 1) }
     ensures behind { HasBehind gate.now passes.new (vec_len plans) (vec_len plans + 1) }
+    ensures others { (n : ℕ) → vec_len plans < n → pass_at passes.new n ≡ pass_at passes.old n }
 {
     for place in 0..plans.len() as u16 {
         let Some(plan) = plans.pop() else {
@@ -100,6 +101,7 @@ pub fn take_last<J: Journal>(
     ensures own { IsPassAt gate.now result }
     ensures free { IsFree result }
     ensures number { (known result).number ≡ senders + 1 }
+    ensures there { Some result ≡ pass_at passes.old (senders + 1) }
     ensures behind { HasBehind gate.now passes.new (senders + 1) (senders + 1) }
 {
     let _ = gate;

@@ -5,6 +5,7 @@ use Rattle.conn_turns.specs.Lines.{Line}
 use Rattle.conn_serve.specs.declared.answer.ServeFault.TheVariants as faults
 use Rattle.conn_serve.proofs.Living.{nothing_served}
 use Rattle.conn_serve.proofs.Opening.{may_open, blamed_none, served_at}
+use Rattle.conn_serve.proofs.Marking.{marked_by}
 use Rattle.conn_serve.proofs.serving.serve.Goals as goal
 
 pub returns-in_default-clause-served : goal.returns-in_default-clause-served
@@ -25,3 +26,7 @@ serve_beside-requires-clause-may g c κs within =
 pub returns-clause-served : goal.returns-clause-served
 returns-clause-served g c =
     served_at c.args.gate.now _ _ _ _ _ _ _ _ _ _ _ _ c.args.inbox.now c.serve_beside.new.inbox _ _ _ (ap (λ (l : Line). l.machine) c.in-Ok.ensures) c.serve_beside.ensures.served
+
+pub returns-clause-marked : goal.returns-clause-marked
+returns-clause-marked g c = λ u many.
+    marked_by c.args.gate.now _ _ _ _ _ _ _ _ _ _ _ c.args.inbox.now c.serve_beside.new.inbox _ _ _ c.serve_beside.ensures.served u many

@@ -1,5 +1,6 @@
-use Rattle.std.proofs.Common.{◌≡◌, ◌+◌, ◌≤◌}
+use Rattle.std.proofs.Common.{◌≡◌, ℕ, ◌+◌, ◌<◌, ◌≤◌}
 use Rattle.std.specs.Prelude.{vec_len, vec_capacity}
+use Rattle.gate_turn.specs.Listed.{pass_at}
 use Rattle.gate_senders.specs.Gate.{senders_of}
 use Rattle.sender_plans.specs.Seats.{Seated, HasBehind}
 use Rattle.sender_plans.proofs.seats.seat.Given as goal
@@ -11,4 +12,5 @@ invariant-loop-place g l = record {
   room : vec_len l.fn.plans ≤ vec_capacity l.senders;
   seated : Seated l.gate l.senders.items (vec_len l.fn.plans + 1);
   behind : HasBehind l.gate l.passes l.place (vec_len l.fn.plans + 1);
+  others : (n : ℕ) → l.place < n → pass_at l.passes n ≡ pass_at l.fn.passes n;
 }

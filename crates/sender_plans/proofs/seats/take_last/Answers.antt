@@ -18,5 +18,6 @@ returns g c =
       own = subst (λ p. IsPassAt c.args.gate.now p) same b.own;
       free = subst (λ p. IsFree p) same b.free;
       number = c.in-Some.pass.numbered ∙ at;
+      there = sym c.in-Some.is ∙ c.take.ensures.exact;
       behind = taken_out c.args.gate.now (c.args.senders + 1) c.args.passes.now c.take.new.self c.args.senders c.take.ensures.gone c.take.ensures.others c.requires.behind;
     }

@@ -1,0 +1,116 @@
+-- Where no refusal of the senders is answered, the pass of one of them has seen the mark.
+use Rattle.std.proofs.Common.{◌≡◌, ◌⊎◌, inl, inr, ℕ, zero, suc, ◌<◌, true, false, List, [], ◌∷◌, length, slice_index_or, All, Option, Some, None, Result, Ok, Err, refl, sym, ap, subst, ◌∙◌, arith}
+use Rattle.std.specs.Prelude.{⊤, Contains, IsTrue, if◌then◌else◌}
+use Rattle.std.proofs.lemmas.Bool.{false≢true}
+use Rattle.std.proofs.lemmas.List.Elements.{All-cons, All-nil, All-head, All-tail}
+use Rattle.jr_record.specs.declared.journal.Journal.{Ghosts}
+use Rattle.jr_boxes.specs.declared.inbox.Inbox.{Inbox}
+use Rattle.jr_boxes.specs.declared.faults.SubmitFault.{SubmitFault}
+use Rattle.jr_boxes.specs.declared.faults.SubmitFault.TheVariants as submit
+use Rattle.gw_links.specs.Dialers.{DialerTold}
+use Rattle.reply_laws.specs.Machine.{State}
+use Rattle.gate_turn.specs.Views.{Part}
+use Rattle.gate_turn.specs.Places.{known}
+use Rattle.gate_senders.specs.declared.gate.Gate.{Gate}
+use Rattle.sender_plans.specs.Runs.{RanEach, HasNone}
+use Rattle.sender_plans.specs.declared.sender.Sender.{Sender}
+use Rattle.conn_serve.specs.declared.answer.ServeFault.{ServeFault}
+use Rattle.conn_serve.specs.declared.answer.ServeFault.TheVariants as faults
+use Rattle.conn_serve.specs.declared.answer.LifeEnd.{LifeEnd}
+use Rattle.conn_serve.specs.declared.answer.LifeEnd.TheVariants as ends
+use Rattle.conn_serve.specs.Answers.{submit_fault, answer_of, yields}
+use Rattle.conn_serve.specs.Senders.{refusal_of, OnlyClosed, IsRefusal, MetRefusal, FinishedFirst, SubmittedAll, SomeMarked}
+use Rattle.conn_serve.specs.Opening.{ServedBy, IsUnrefused}
+
+closed_of : (o : Option SubmitFault) (f : SubmitFault) → refusal_of o ≡ None → o ≡ Some f → f ≡ submit.Closed
+closed_of None f e is = cc
+closed_of (Some submit.Broken) f e is = cc
+closed_of (Some submit.Closed) f e is = cc
+closed_of (Some (submit.Full n m)) f e is = cc
+closed_of (Some submit.Memory) f e is = cc
+closed_of (Some submit.Fault) f e is = cc
+
+-- a refusal of a sender is never one that yields
+firm_submit : (o : Option SubmitFault) (fault : ServeFault) → refusal_of o ≡ Some fault → yields fault ≡ false
+firm_submit None fault e = cc
+firm_submit (Some submit.Broken) fault e = let s : faults.Journal ≡ fault = cc in ap yields (sym s)
+firm_submit (Some submit.Closed) fault e = cc
+firm_submit (Some (submit.Full n m)) fault e = let s : faults.Full n m ≡ fault = cc in ap yields (sym s)
+firm_submit (Some submit.Memory) fault e = let s : faults.Memory ≡ fault = cc in ap yields (sym s)
+firm_submit (Some submit.Fault) fault e = let s : faults.Journal ≡ fault = cc in ap yields (sym s)
+
+module _ {O : Type 0} {H : Ghosts O} where
+  -- a sender that met that the outbox is closed, by its place
+  record ClosedAt (ran : List (Sender O H)) : Type 0 where
+    at : ℕ
+    within : at < length ran
+    is : (d : Sender O H) → (slice_index_or ran at d).refused ≡ Some submit.Closed
+
+  find_closed : (ran : List (Sender O H)) → All OnlyClosed ran → (All HasNone ran → ⊥) → ClosedAt ran
+  find_closed [] only some = absurd (some (All-nil HasNone))
+  find_closed (s ∷ ran) only some = by_first (λ none. find_closed ran (All-tail OnlyClosed s ran only) (λ all. some (All-cons HasNone s ran none all))) s.refused refl
+    where
+      by_first : (s.refused ≡ None → ClosedAt ran) → (o : Option SubmitFault) → s.refused ≡ o → ClosedAt (s ∷ ran)
+      by_first later None e = let found = later e in record { at = suc found.at; within = omega (arith, found.within); is = found.is }
+      by_first later (Some f) e = record { at = zero; within = omega arith; is = λ d. e ∙ ap Some (closed_of s.refused f (All-head OnlyClosed s ran only) e) }
+
+  marked_at : (after : List (Sender O H)) (i : ℕ) → i < length after → ((d : Sender O H) → (known (slice_index_or after i d).pass).seen.finished ≡ true) → SomeMarked after
+  marked_at [] i within seen = absurd (omega (arith, within))
+  marked_at (x ∷ xs) i within seen =
+      let t : Sender O H = slice_index_or (x ∷ xs) i x in
+      record { sender = t; there = (i, within, same (x ∷ xs) i within x t); marked = seen x }
+    where
+      same : (ys : List (Sender O H)) (k : ℕ) → k < length ys → (d e : Sender O H) → slice_index_or ys k e ≡ slice_index_or ys k d
+      same [] k lt d e = absurd (omega (arith, lt))
+      same (y ∷ ys) zero lt d e = refl
+      same (y ∷ ys) (suc k) lt d e = same ys k (omega (arith, lt)) d e
+
+  pub marked_of : (gate : Gate O H) (before after : List (Sender O H)) → SubmittedAll gate before after None → 0 < length before → SomeMarked after
+  marked_of gate before after s many = by_kind s.finished
+    where
+      ran_many : 0 < length s.ran
+      ran_many = omega (arith, many, s.each.long)
+
+      by_kind : ((after ≡ s.ran) × IsRefusal s.ran None × (0 < length s.ran → (All HasNone s.ran → ⊥))) ⊎ (All HasNone s.ran × (0 < length s.ran) × FinishedFirst s.ran after None) → SomeMarked after
+      by_kind (inl x) =
+          let found = find_closed s.ran x.1 (x.2 ran_many) in
+          subst SomeMarked (sym x.0)
+          (marked_at s.ran found.at found.within (λ d. ((s.each.each found.at d (omega (arith, found.within, s.each.long))).refused submit.Closed (found.is d)).shown.closed refl))
+      by_kind (inr x) = marked_at after zero (omega (arith, x.1, x.2.long)) (λ d. (x.2.first d).marked refl)
+
+  firm_of : (gate : Gate O H) (before after : List (Sender O H)) (f : ServeFault) → SubmittedAll gate before after (Some f) → yields f ≡ false
+  firm_of gate before after f s = by_kind s.finished
+    where
+      by_few : (f ≡ faults.Journal) ⊎ (f ≡ faults.Memory) → yields f ≡ false
+      by_few (inl e) = ap yields e
+      by_few (inr e) = ap yields e
+
+      by_kind : ((after ≡ s.ran) × IsRefusal s.ran (Some f) × (0 < length s.ran → (All HasNone s.ran → ⊥))) ⊎ (All HasNone s.ran × (0 < length s.ran) × FinishedFirst s.ran after (Some f)) → yields f ≡ false
+      by_kind (inl x) = firm_submit x.1.sender.refused f x.1.is
+      by_kind (inr x) = by_few ((x.2.first (any s.ran x.1)).few f refl)
+        where
+          any : (xs : List (Sender O H)) → 0 < length xs → Sender O H
+          any [] lt = absurd (omega (arith, lt))
+          any (y ∷ ys) lt = y
+
+unanswered : (connections : Result LifeEnd ServeFault) (f : ServeFault) → yields f ≡ false → IsUnrefused (answer_of connections (Some f)) → ⊥
+unanswered (Ok ends.Finished) f firm u = false≢true (sym firm ∙ u)
+unanswered (Ok ends.Stopped) f firm u = false≢true (sym firm ∙ u)
+unanswered (Err e) f firm u = by_kind (yields e) refl u
+  where
+    by_kind : (b : _) → yields e ≡ b → IsUnrefused (if b then Err f else Err e) → ⊥
+    by_kind true is u = false≢true (sym firm ∙ u)
+    by_kind false is u = false≢true (sym is ∙ u)
+
+module _ {J : Type 0} {G : Ghosts J} {O : Type 0} {H : Ghosts O} where
+  pub marked_by : (gate : Gate O H) (dialed later : Option DialerTold) (out now_out : Option (List ℕ)) (a b c d : ℕ) (p q : Part) (m : State) (box since : Inbox J G) (before after : List (Sender O H)) (result : Result (Unit {0}) ServeFault)
+      → ServedBy gate dialed later out now_out a b c d p q m box since before after result → IsUnrefused result → 0 < length before → SomeMarked after
+  marked_by gate dialed later out now_out a b c d p q m box since before after result s u many = by_kind s.senders s.refused refl
+    where
+      answered : (o : Option ServeFault) → s.refused ≡ o → IsUnrefused (answer_of s.connections o)
+      answered o e = subst IsUnrefused (s.answer ∙ ap (answer_of s.connections) e) u
+
+      by_kind : SubmittedAll gate before after s.refused ⊎ ((after ≡ before) × (s.refused ≡ None) × (s.connections ≡ Err faults.Memory)) → (o : Option ServeFault) → s.refused ≡ o → SomeMarked after
+      by_kind (inl x) None e = marked_of gate before after (subst (SubmittedAll gate before after) e x) many
+      by_kind (inl x) (Some f) e = absurd (unanswered s.connections f (firm_of gate before after f (subst (SubmittedAll gate before after) e x)) (answered (Some f) e))
+      by_kind (inr x) o e = absurd (false≢true (subst (λ (r : Result LifeEnd ServeFault). IsUnrefused (answer_of r None)) x.2 (answered None x.1)))
