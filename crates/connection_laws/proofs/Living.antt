@@ -109,15 +109,15 @@ no_connection own peer opened h inbox = record {
   reports = tt;
 }
 
-opening_on : (s : State) (inbox : List InboxRecord) (legs : List Leg) (opened h : List Entry) → Opens opened h s inbox → AllMayRun h s inbox legs → (life_on s inbox legs).opening_inbox ≡ inbox
+pub opening_on : (s : State) (inbox : List InboxRecord) (legs : List Leg) (opened h : List Entry) → Opens opened h s inbox → AllMayRun h s inbox legs → (life_on s inbox legs).opening_inbox ≡ inbox
 opening_on s inbox [] opened h o all = refl
 opening_on s inbox (leg ∷ later) opened h o all = (ran opened h s inbox leg o all.0).start
 
-none_refused : (s : State) (inbox : List InboxRecord) (legs : List Leg) → (life_on s inbox legs).refused_inbox ≡ []
+pub none_refused : (s : State) (inbox : List InboxRecord) (legs : List Leg) → (life_on s inbox legs).refused_inbox ≡ []
 none_refused s inbox [] = refl
 none_refused s inbox (leg ∷ later) = none_refused (course_of s inbox leg).state (inbox_of (course_of s inbox leg)) later
 
-closing_on : (s : State) (inbox : List InboxRecord) (legs : List Leg) → (life_on s inbox legs).closing_inbox ≡ inbox_behind s inbox legs
+pub closing_on : (s : State) (inbox : List InboxRecord) (legs : List Leg) → (life_on s inbox legs).closing_inbox ≡ inbox_behind s inbox legs
 closing_on s inbox [] = refl
 closing_on s inbox (leg ∷ later) = closing_on (course_of s inbox leg).state (inbox_of (course_of s inbox leg)) later
 

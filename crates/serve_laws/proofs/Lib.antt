@@ -1,0 +1,4 @@
+pub mod Turned
+pub mod Behind
+pub mod Waits
+pub mod Loops
