@@ -35,7 +35,7 @@ seen_over before after m last c k =
     prefix_trans before.made k.seen.made after.made
     (all_seen before k.seen (first_line m c.leg.moment) last c.leg.turns (were_turns before k.seen (first_line m c.leg.moment) last c.leg.turns k.told k.added k.turns)) k.grows.made
 
-seen_over_all : (before after : History) (m new : State) (cs : List Connection) → AllEnded before after m new cs → IsPrefix before.made after.made
+pub seen_over_all : (before after : History) (m new : State) (cs : List Connection) → AllEnded before after m new cs → IsPrefix before.made after.made
 seen_over_all before after m new [] all = prefix_equal before.made after.made (ap (λ (x : History). x.made) (sym all.1))
 seen_over_all before after m new (c ∷ later) all =
     prefix_trans before.made all.0.made after.made (seen_over before all.0 m all.2.last c all.2.is) (seen_over_all all.0 after all.1 new later all.3)
