@@ -4,3 +4,4 @@ pub mod Turning
 pub mod Living
 pub mod Opening
 pub mod Marking
+pub mod Following

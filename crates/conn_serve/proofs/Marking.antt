@@ -1,6 +1,6 @@
 -- Where no refusal of the senders is answered, the pass of one of them has seen the mark.
 use Rattle.std.proofs.Common.{◌≡◌, ◌⊎◌, inl, inr, ℕ, zero, suc, ◌<◌, true, false, List, [], ◌∷◌, length, slice_index_or, All, Option, Some, None, Result, Ok, Err, refl, sym, ap, subst, ◌∙◌, arith}
-use Rattle.std.specs.Prelude.{⊤, Contains, IsTrue, if◌then◌else◌}
+use Rattle.std.specs.Prelude.{if◌then◌else◌}
 use Rattle.std.proofs.lemmas.Bool.{false≢true}
 use Rattle.std.proofs.lemmas.List.Elements.{All-cons, All-nil, All-head, All-tail}
 use Rattle.jr_record.specs.declared.journal.Journal.{Ghosts}
@@ -12,14 +12,14 @@ use Rattle.reply_laws.specs.Machine.{State}
 use Rattle.gate_turn.specs.Views.{Part}
 use Rattle.gate_turn.specs.Places.{known}
 use Rattle.gate_senders.specs.declared.gate.Gate.{Gate}
-use Rattle.sender_plans.specs.Runs.{RanEach, HasNone}
+use Rattle.sender_plans.specs.Runs.{HasNone}
 use Rattle.sender_plans.specs.declared.sender.Sender.{Sender}
 use Rattle.conn_serve.specs.declared.answer.ServeFault.{ServeFault}
 use Rattle.conn_serve.specs.declared.answer.ServeFault.TheVariants as faults
 use Rattle.conn_serve.specs.declared.answer.LifeEnd.{LifeEnd}
 use Rattle.conn_serve.specs.declared.answer.LifeEnd.TheVariants as ends
-use Rattle.conn_serve.specs.Answers.{submit_fault, answer_of, yields}
-use Rattle.conn_serve.specs.Senders.{refusal_of, OnlyClosed, IsRefusal, MetRefusal, FinishedFirst, SubmittedAll, SomeMarked}
+use Rattle.conn_serve.specs.Answers.{answer_of, yields}
+use Rattle.conn_serve.specs.Senders.{refusal_of, OnlyClosed, IsRefusal, FinishedFirst, SubmittedAll, SomeMarked}
 use Rattle.conn_serve.specs.Opening.{ServedBy, IsUnrefused}
 
 closed_of : (o : Option SubmitFault) (f : SubmitFault) → refusal_of o ≡ None → o ≡ Some f → f ≡ submit.Closed

@@ -6,3 +6,4 @@ pub mod Turned
 pub mod Served
 pub mod Senders
 pub mod Opening
+pub mod Laws

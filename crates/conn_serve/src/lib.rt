@@ -5,11 +5,13 @@
 
 mod answer;
 mod connection;
+mod laws;
 mod life;
 mod news;
 mod senders;
 mod serving;
 
 pub use answer::{LifeEnd, ServeFault};
+pub use laws::were_are_turns;
 pub use life::serve_connections;
 pub use serving::serve;

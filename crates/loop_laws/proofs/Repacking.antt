@@ -7,13 +7,12 @@ use Rattle.jr_record.specs.declared.journal.Journal.{Ghosts}
 use Rattle.jr_boxes.specs.declared.inbox.Inbox.{Inbox}
 use Rattle.jr_boxes.specs.Inbox.{HoldsBox}
 use Rattle.conn_turns.specs.Lines.{Line}
-use Rattle.conn_turns.specs.declared.news.NewsItem.{NewsItem}
 use Rattle.conn_turns.specs.Frames.{added, told}
 use Rattle.conn_steps.specs.Settling.{Gains}
-use Rattle.conn_turns.specs.Turns.{Work, Turn, only_sends, works, link_lost, is_end}
+use Rattle.conn_turns.specs.Turns.{Work, only_sends, works, link_lost, is_end}
 use Rattle.conn_turns.specs.Exact.{Served, line_ticked}
 use Rattle.conn_loop.specs.Turned.{Exchanged}
-use Rattle.turn_laws.specs.Turns.{Sends, Works, line_received, IsTurn, adds_in}
+use Rattle.turn_laws.specs.Turns.{Sends, Works, line_received}
 use Rattle.loop_laws.specs.Turned.{WasTurn, TurnIsOne, CutIsOne}
 
 -- a work's moment is the turn's

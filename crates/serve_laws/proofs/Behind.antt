@@ -27,15 +27,16 @@ use Rattle.conn_serve.specs.declared.answer.LifeEnd.{LifeEnd}
 use Rattle.conn_serve.specs.Connections.{Connection, IsConnection, HasEnded, AllEnded, adds_of, refused_of_all}
 use Rattle.conn_serve.specs.Served.{WasGivenUp, ServedLife}
 use Rattle.serve_laws.specs.Lives.{turned, all_of, LifeOpens, ServedIsTurned}
-use Rattle.serve_laws.proofs.Turned.{were_turns, has_before, IsTurnedOne, connection_turned}
+use Rattle.conn_serve.proofs.Following.{were_are_turns}
+use Rattle.serve_laws.proofs.Turned.{has_before, IsTurnedOne, connection_turned}
 
 -- what was seen before a connection, and before several, begins what was seen behind them
 seen_over : (before after : History) (m : State) (last : Line) (c : Connection) → IsConnection before after m last c → IsPrefix before.made after.made
 seen_over before after m last c k =
     prefix_trans before.made k.seen.made after.made
-    (all_seen before k.seen (first_line m c.leg.moment) last c.leg.turns (were_turns before k.seen (first_line m c.leg.moment) last c.leg.turns k.told k.added k.turns)) k.grows.made
+    (all_seen before k.seen (first_line m c.leg.moment) last c.leg.turns (were_are_turns before k.seen (first_line m c.leg.moment) last c.leg.turns k.told k.added k.turns)) k.grows.made
 
-seen_over_all : (before after : History) (m new : State) (cs : List Connection) → AllEnded before after m new cs → IsPrefix before.made after.made
+pub seen_over_all : (before after : History) (m new : State) (cs : List Connection) → AllEnded before after m new cs → IsPrefix before.made after.made
 seen_over_all before after m new [] all = prefix_equal before.made after.made (ap (λ (x : History). x.made) (sym all.1))
 seen_over_all before after m new (c ∷ later) all =
     prefix_trans before.made all.0.made after.made (seen_over before all.0 m all.2.last c all.2.is) (seen_over_all all.0 after all.1 new later all.3)

@@ -30,11 +30,7 @@ use Rattle.turn_laws.proofs.Working.{turn_may_stand}
 use Rattle.turn_laws.proofs.Running.{all_seen, turns_stand, begin_stands, leg_stands}
 use Rattle.turn_laws.proofs.Adding.{turn_adds, cut_adds}
 use Rattle.conn_serve.specs.Connections.{Connection, WereTurns, CutAt, IsConnection}
-
--- whole turns are so whatever they told and added
-pub were_turns : (before after : History) (old new : Line) (ts : List Turn) (news : List NewsItem) (adds : List InboxRecord) → WereTurns before after old new ts news adds → AreTurns before after old new ts
-were_turns before after old new [] news adds w = (w.0, w.1)
-were_turns before after old new (t ∷ later) news adds w = (w.0, w.1, w.2, w.3, were_turns w.2 after w.1 new later w.4 w.5 w.8)
+use Rattle.conn_serve.proofs.Following.{were_are_turns}
 
 -- an outbox that begins with what was seen begins with what was seen before
 pub has_before : (h : List Entry) (before after : History) → Has h after → IsPrefix before.made after.made → Has h before
@@ -47,7 +43,7 @@ turns_add h before after old new [] news adds c s has w = sym (append-nil c.adde
 turns_add h before after old new (t ∷ later) news adds c s has w =
     let mid : Line = w.1 in
     let between : History = w.2 in
-    let so_far : Has h between = has_before h between after has (all_seen between after mid new later (were_turns between after mid new later w.4 w.5 w.8)) in
+    let so_far : Has h between = has_before h between after has (all_seen between after mid new later (were_are_turns between after mid new later w.4 w.5 w.8)) in
     let x = turn_may_stand h before between old mid t c s so_far w.3 in
     let d : Course = course_after c (calls_of t) in
     ap (λ (e : Course). e.added) (after_append c (calls_of t) (flat_map calls_of later))
@@ -118,7 +114,7 @@ connection_turned h before after m i last c awaits enough has k =
     let b : Course = beginning m i t.moment in
     let first : List Call = flat_map calls_of t.turns in
     let so_far : Has h k.seen = has_before h k.seen after has k.grows.made in
-    let are : AreTurns before k.seen (first_line m t.moment) last t.turns = were_turns before k.seen (first_line m t.moment) last t.turns k.told k.added k.turns in
+    let are : AreTurns before k.seen (first_line m t.moment) last t.turns = were_are_turns before k.seen (first_line m t.moment) last t.turns k.told k.added k.turns in
     let turns : AreTurnsOf h m t = record { before = before; after = k.seen; last = last; turns = are; cut = is_cut last t.cut k.cut_told k.cut_added c.refused k.cut; has = so_far } in
     let start : StandsAt h b (first_line m t.moment) = begin_stands h m i t.moment awaits enough in
     let x = turns_stand h before k.seen (first_line m t.moment) last t.turns b start so_far are in

@@ -1,12 +1,14 @@
 -- What was served over a life, as a life of the laws over lists of turns, and so of the session model.
-use Rattle.std.specs.Prelude.{◌≡◌, ℕ, ◌≤◌, List, [], ◌++◌, map, length, Option, IfSome, option_to_list, Result}
+use Rattle.std.specs.Prelude.{◌≡◌, ℕ, ◌+◌, ◌^◌, ◌≤◌, List, [], ◌++◌, map, length, Option, IfSome, option_to_list, Result}
 use Rattle.std.specs.List.{AllByRecursion}
-use Rattle.session_model.specs.Journal.{Entry, OutboxRecord, entries, History}
+use mathlib.Core.List.{IsPrefix}
+use Rattle.session_model.specs.Journal.{Entry, OutboxRecord, entries, History, BeginsHistory}
 use Rattle.session_model.specs.Inbox.{InboxRecord, next_number}
 use Rattle.session_model.specs.Lives.{Served, KeepsConnections}
 use Rattle.fixp_msgs.specs.Payload.{IsApplication}
 use Rattle.fixp_msgs.specs.declared.flow.Flow.TheVariants as flows
-use Rattle.reply_laws.specs.Machine.{State}
+use Rattle.fixp_shake.specs.declared.config.EndConfig.{EndConfig}
+use Rattle.reply_laws.specs.Machine.{State, fresh}
 use Rattle.growth_laws.specs.Accepting.{model_flow}
 use Rattle.connection_laws.specs.Living.{Opens}
 use Rattle.legal_laws.specs.Ranges.{IsInRange}
@@ -14,7 +16,7 @@ use Rattle.link_laws.specs.Meeting.{life_in}
 use Rattle.gw_links.specs.Dialers.{DialerTold}
 use Rattle.jr_record.specs.declared.journal.Journal.{Ghosts}
 use Rattle.jr_boxes.specs.declared.inbox.Inbox.{Inbox}
-use Rattle.jr_boxes.specs.Inbox.{HoldsBox}
+use Rattle.jr_boxes.specs.Inbox.{HoldsBox, next_of}
 use Rattle.gate_turn.specs.Views.{Part}
 use Rattle.conn_loop.specs.Conn.{Looks}
 use Rattle.turn_laws.specs.Standing.{Has}
@@ -26,6 +28,7 @@ use Rattle.conn_serve.specs.declared.answer.LifeEnd.{LifeEnd}
 use Rattle.conn_serve.specs.Connections.{Connection, adds_of, refused_of_all}
 use Rattle.conn_serve.specs.Turned.{MayBegin}
 use Rattle.conn_serve.specs.Served.{ServedLife}
+use Rattle.conn_serve.specs.Opening.{opened_state}
 
 -- connections, by their turns
 abbrev pub turned : List Connection → List TurnedLeg
@@ -92,3 +95,30 @@ module _ {J : Type 0} {G : Ghosts J} where
       → (k : ServedLife dialed later out now_out before seen m box since result)
       → Has (entries closing) seen → Opens (entries opening) (entries closing) m i
       → LifeOfLoop opening closing refused m i (all_of k.ended k.given_up) (refused_of_all (option_to_list k.given_up))
+
+  -- a machine that is made of what the inbox has and the outbox had, as `serve` makes it, opens there
+  abbrev pub OpenedOpens : Inbox J G → Type 0
+  OpenedOpens box =
+      (opened : History) (config : EndConfig) (most : ℕ) (h : List Entry) (i : List InboxRecord)
+      → IsPrefix opened.made h → HoldsBox box i [] → Opens opened.made h (fresh config (opened_state opened box) most) i
+
+  -- and is in range, where its configuration is one that `serve` takes, and it takes the number that the inbox awaits, or those before
+  abbrev pub OpenedInRange : Inbox J G → Type 0
+  OpenedInRange box =
+      (opened : History) (config : EndConfig) (most : ℕ)
+      → length config.session ≡ 16 → config.keepalive ≤ 60000 → length config.credentials ≤ 2048 → most ≤ 2 ^ 24 → next_of box ≤ most + 1
+      → IsInRange (fresh config (opened_state opened box) most)
+
+  -- So what `serve` ensures of a life is a life of the loop that may turn, where the machine is in range, the closing outbox has less than
+  -- 2^40 entries, payloads of application messages, and begins with what its pass came to see, and what the links gave and the clock
+  -- told is in range
+  abbrev pub ServedIsALoopLife : (box since : Inbox J G) → Type 0
+  ServedIsALoopLife box since =
+      (dialed later : Option DialerTold) (out now_out : Option (List ℕ)) (before seen opened : History) (config : EndConfig) (most : ℕ) (result : Result LifeEnd ServeFault)
+      (opening closing refused : List OutboxRecord) (i : List InboxRecord)
+      → (k : ServedLife dialed later out now_out before seen (fresh config (opened_state opened box) most) box since result)
+      → entries opening ≡ opened.made → BeginsHistory opened before → Has (entries closing) seen → HoldsBox box i []
+      → IsInRange (fresh config (opened_state opened box) most) → AllByRecursion (λ (e : Entry). IsApplication e.payload) (entries closing)
+      → AllByRecursion IsTimely (turned (all_of k.ended k.given_up))
+      → (l : LifeOfLoop opening closing refused (fresh config (opened_state opened box) most) i (all_of k.ended k.given_up) (refused_of_all (option_to_list k.given_up)))
+      × MayTurn config.own_flow config.peer_flow l.life

@@ -1,6 +1,6 @@
 //! A served life, as a life of the connection loop.
 
-ghost use Rattle.serve_laws.specs.Lives.{LifeMayTurn, LifeOpens, ServedIsTurned, ServedKeeps};
+ghost use Rattle.serve_laws.specs.Lives.{LifeMayTurn, LifeOpens, OpenedInRange, OpenedOpens, ServedIsALoopLife, ServedIsTurned, ServedKeeps};
 
 use jr_boxes::Inbox;
 use jr_record::Journal;
@@ -24,4 +24,19 @@ pub fn served_keeps<I: Journal>(inbox: &Inbox<I>, since: &Inbox<I>)
 /// messages, and its links and its clock are as they have to be.
 pub fn life_may_turn()
     ensures law { LifeMayTurn }
+{}
+
+/// A life opens where `serve` makes its machine of what the inbox has and the outbox had.
+pub fn opened_opens<I: Journal>(inbox: &Inbox<I>)
+    ensures law { OpenedOpens inbox.now }
+{}
+
+/// That machine is in range.
+pub fn opened_in_range<I: Journal>(inbox: &Inbox<I>)
+    ensures law { OpenedInRange inbox.now }
+{}
+
+/// What `serve` ensures of a life is a life of the loop that may be one of two ends that run it.
+pub fn served_is_a_loop_life<I: Journal>(inbox: &Inbox<I>, since: &Inbox<I>)
+    ensures law { ServedIsALoopLife inbox.now since.now }
 {}
