@@ -1,5 +1,5 @@
 -- Where no refusal of the senders is answered, the pass of one of them has seen the mark.
-use Rattle.std.proofs.Common.{◌≡◌, ◌⊎◌, inl, inr, ℕ, zero, suc, ◌<◌, true, false, List, [], ◌∷◌, length, slice_index_or, All, Option, Some, None, Result, Ok, Err, refl, sym, ap, subst, ◌∙◌, arith}
+use Rattle.std.proofs.Common.{◌+◌, ◌≡◌, ◌⊎◌, inl, inr, ℕ, zero, suc, ◌<◌, true, false, List, [], ◌∷◌, length, slice_index_or, All, Option, Some, None, Result, Ok, Err, refl, sym, ap, subst, ◌∙◌, arith}
 use Rattle.std.specs.Prelude.{if◌then◌else◌}
 use Rattle.std.proofs.lemmas.Bool.{false≢true}
 use Rattle.std.proofs.lemmas.List.Elements.{All-cons, All-nil, All-head, All-tail}
@@ -12,7 +12,9 @@ use Rattle.reply_laws.specs.Machine.{State}
 use Rattle.gate_turn.specs.Views.{Part}
 use Rattle.gate_turn.specs.Places.{known}
 use Rattle.gate_senders.specs.declared.gate.Gate.{Gate}
-use Rattle.sender_plans.specs.Runs.{HasNone}
+use Rattle.sender_plans.specs.Runs.{IsReady, HasNone}
+use Rattle.sender_plans.specs.Seats.{Seated}
+use Rattle.sender_plans.proofs.Seating.{seated_still}
 use Rattle.sender_plans.specs.declared.sender.Sender.{Sender}
 use Rattle.conn_serve.specs.declared.answer.ServeFault.{ServeFault}
 use Rattle.conn_serve.specs.declared.answer.ServeFault.TheVariants as faults
@@ -93,6 +95,29 @@ module _ {O : Type 0} {H : Ghosts O} where
           any [] lt = absurd (omega (arith, lt))
           any (y ∷ ys) lt = y
 
+  -- ---- the senders stay in their seats
+
+  finished_seated : (gate : Gate O H) (made : ℕ) (ran after : List (Sender O H)) (refused : Option ServeFault) → All (IsReady gate) after → FinishedFirst ran after refused → Seated gate ran made → Seated gate after made
+  finished_seated gate made ran after refused ready f h = record {
+    ready = ready;
+    numbers = numbers_at;
+    first = λ d lt. (f.first d).turn.made ∙ h.first d (omega (arith, lt, f.long));
+  }
+    where
+      numbers_at : (i : ℕ) (d : Sender O H) → i < length after → (known (slice_index_or after i d).pass).number ≡ i + 1
+      numbers_at zero d lt = (f.first d).turn.number ∙ h.numbers zero d (omega (arith, lt, f.long))
+      numbers_at (suc i) d lt = ap (λ (s : Sender O H). (known s.pass).number) (f.others (suc i) d (omega arith)) ∙ h.numbers (suc i) d (omega (arith, lt, f.long))
+
+  seated_after : (gate : Gate O H) (made : ℕ) (before after : List (Sender O H)) (refused : Option ServeFault) → SubmittedAll gate before after refused → Seated gate before made → Seated gate after made
+  seated_after gate made before after refused s h = by_kind s.finished
+    where
+      ran_seated : Seated gate s.ran made
+      ran_seated = seated_still gate made before s.ran s.each h
+
+      by_kind : ((after ≡ s.ran) × IsRefusal s.ran refused × (0 < length s.ran → (All HasNone s.ran → ⊥))) ⊎ (All HasNone s.ran × (0 < length s.ran) × FinishedFirst s.ran after refused) → Seated gate after made
+      by_kind (inl x) = subst (λ (l : List (Sender O H)). Seated gate l made) (sym x.0) ran_seated
+      by_kind (inr x) = finished_seated gate made s.ran after refused s.ready x.2 ran_seated
+
 unanswered : (connections : Result LifeEnd ServeFault) (f : ServeFault) → yields f ≡ false → IsUnrefused (answer_of connections (Some f)) → ⊥
 unanswered (Ok ends.Finished) f firm u = false≢true (sym firm ∙ u)
 unanswered (Ok ends.Stopped) f firm u = false≢true (sym firm ∙ u)
@@ -114,3 +139,11 @@ module _ {J : Type 0} {G : Ghosts J} {O : Type 0} {H : Ghosts O} where
       by_kind (inl x) None e = marked_of gate before after (subst (SubmittedAll gate before after) e x) many
       by_kind (inl x) (Some f) e = absurd (unanswered s.connections f (firm_of gate before after f (subst (SubmittedAll gate before after) e x)) (answered (Some f) e))
       by_kind (inr x) o e = absurd (false≢true (subst (λ (r : Result LifeEnd ServeFault). IsUnrefused (answer_of r None)) x.2 (answered None x.1)))
+
+  pub seated_by : (gate : Gate O H) (dialed later : Option DialerTold) (out now_out : Option (List ℕ)) (a b c d : ℕ) (p q : Part) (m : State) (box since : Inbox J G) (before after : List (Sender O H)) (result : Result (Unit {0}) ServeFault)
+      → ServedBy gate dialed later out now_out a b c d p q m box since before after result → (made : ℕ) → Seated gate before made → Seated gate after made
+  seated_by gate dialed later out now_out a b c d p q m box since before after result s made h = by_kind s.senders
+    where
+      by_kind : SubmittedAll gate before after s.refused ⊎ ((after ≡ before) × (s.refused ≡ None) × (s.connections ≡ Err faults.Memory)) → Seated gate after made
+      by_kind (inl x) = seated_after gate made before after s.refused x h
+      by_kind (inr x) = subst (λ (l : List (Sender O H)). Seated gate l made) (sym x.0) h

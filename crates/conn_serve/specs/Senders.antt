@@ -6,7 +6,7 @@ use Rattle.gate_turn.specs.Views.{Part}
 use Rattle.gate_turn.specs.Places.{known}
 use Rattle.gate_senders.specs.Shown.{TakesTurn}
 use Rattle.gate_senders.specs.declared.gate.Gate.{Gate}
-use Rattle.sender_plans.specs.Runs.{RanEach, HasNone}
+use Rattle.sender_plans.specs.Runs.{IsReady, RanEach, HasNone}
 use Rattle.sender_plans.specs.declared.sender.Sender.{Sender}
 use Rattle.conn_serve.specs.declared.answer.ServeFault.{ServeFault}
 use Rattle.conn_serve.specs.declared.answer.ServeFault.TheVariants as faults
@@ -58,6 +58,7 @@ module _ {J : Type 0} {G : Ghosts J} where
     pub ran : List (Sender J G)
     pub each : RanEach gate before ran
     pub finished : IsFinished ran after refused
+    pub ready : All (IsReady gate) after
 
   -- the pass of a sender has seen the mark
   pub record SomeMarked (senders : List (Sender J G)) : Type 0 where

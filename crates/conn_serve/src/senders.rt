@@ -4,12 +4,13 @@ ghost use Rattle.std.specs.Prelude.{◌≡◌, All, Ok, Err, IfOk, IfErr, ◌<�
 ghost use Rattle.gate_turn.specs.Places.{known};
 ghost use Rattle.gate_turn.specs.Calls.{IsFree};
 ghost use Rattle.gate_senders.specs.Gate.{IsPassAt};
-ghost use Rattle.sender_plans.specs.Runs.{IsReady};
+ghost use Rattle.sender_plans.specs.Runs.{IsReady, RanEach, IsLowest};
 ghost use Rattle.conn_serve.specs.Senders.{refusal_of, Finishes, IsRefusal, FinishedFirst, SubmittedAll};
 
 use crate::answer::{ServeFault, refused_finish, refused_submit};
 use gate_senders::{Gate, Kept};
 use gate_turn::Pass;
+use jr_boxes::SubmitFault;
 use jr_record::Journal;
 use sender_plans::{OpenDoor, Sender, run_senders};
 use std::sync::Wait;
@@ -70,8 +71,37 @@ fn finish<O: Journal, R: Wait>(
     finish_by(gate, &mut senders[0].pass, rt)
 }
 
+/// Submits all plans.
+fn submit_plans<O: Journal + Send, R: Threads + Wait + Sync>(
+    gate: &Gate<O>,
+    senders: &mut [Sender<O>],
+    rt: &R,
+) -> Result<(), SubmitFault>
+    requires ready { All (λ s. IsReady gate.now s) senders.old }
+    ensures each { RanEach gate.now senders.old senders.new }
+    ensures lowest { IsLowest senders.new result }
+    ensures ready { All (λ s. IsReady gate.now s) senders.new }
+{
+    run_senders(gate, senders, &OpenDoor, rt)
+}
+
 /// Submits all plans, and adds the Finish where all are submitted and there are senders. Answers the refusal that was met, if one
-/// was other than that the outbox is closed, and then sets `stop`.
+/// was other than that the outbox is closed.
+fn submit_and_finish<O: Journal + Send, R: Threads + Wait + Sync>(
+    gate: &Gate<O>,
+    senders: &mut [Sender<O>],
+    rt: &R,
+) -> Option<ServeFault>
+    requires ready { All (λ s. IsReady gate.now s) senders.old }
+    ensures submitted { SubmittedAll gate.now senders.old senders.new result }
+{
+    match submit_plans(gate, senders, rt) {
+        Ok(()) if !senders.is_empty() => finish(gate, senders, rt),
+        _ => first_refusal(senders),
+    }
+}
+
+/// The same, and sets `stop` where a refusal was met.
 pub(crate) fn submit_all<O: Journal + Send, R: Threads + Wait + Sync>(
     gate: &Gate<O>,
     senders: &mut [Sender<O>],
@@ -82,10 +112,7 @@ pub(crate) fn submit_all<O: Journal + Send, R: Threads + Wait + Sync>(
     ensures ready { All (λ s. IsReady gate.now s) senders.new }
     ensures submitted { SubmittedAll gate.now senders.old senders.new result }
 {
-    let refused = match run_senders(gate, senders, &OpenDoor, rt) {
-        Ok(()) if !senders.is_empty() => finish(gate, senders, rt),
-        _ => first_refusal(senders),
-    };
+    let refused = submit_and_finish(gate, senders, rt);
     if refused.is_some() {
         stop.store(true, Ordering::SeqCst);
     }

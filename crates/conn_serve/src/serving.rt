@@ -1,6 +1,6 @@
 //! A whole life: the connections, and the senders beside them.
 
-ghost use Rattle.std.specs.Prelude.{◌≡◌, ◌≤◌, ◌<◌, ◌^◌, ◌+◌, false, All, IfOk, IfErr, if◌then◌else◌, Some, None, length};
+ghost use Rattle.std.specs.Prelude.{◌≡◌, ℕ, ◌≤◌, ◌<◌, ◌^◌, ◌+◌, false, All, IfOk, IfErr, if◌then◌else◌, Some, None, length};
 ghost use Rattle.session_model.specs.Journal.{BeginsHistory};
 ghost use Rattle.fixp_msgs.specs.declared.flow.Flow.TheVariants.{Recoverable};
 ghost use Rattle.reply_laws.specs.Machine.{fresh};
@@ -9,6 +9,7 @@ ghost use Rattle.gate_turn.specs.Places.{known};
 ghost use Rattle.gate_turn.specs.Calls.{IsFree};
 ghost use Rattle.gate_senders.specs.Gate.{IsPassAt, opening_of};
 ghost use Rattle.sender_plans.specs.Runs.{IsReady};
+ghost use Rattle.sender_plans.specs.Seats.{Seated};
 ghost use Rattle.conn_steps.specs.Settling.{SameKind};
 ghost use Rattle.conn_loop.specs.Conn.{line_of, new_line, Looks};
 ghost use Rattle.conn_serve.specs.Turned.{MayBegin};
@@ -156,6 +157,7 @@ pub fn serve<N: Dialer, K: Sink, O: Journal + Send, I: Journal, C: Clock, R: Thr
     ensures looks { Looks (known pass.old) (known pass.new) }
     ensures lent { N.lent dialer.new ≡ false }
     ensures served { ServedBy gate.now (N.told dialer.old) (N.told dialer.new) (K.taken out.old) (K.taken out.new) (K.faults out.old) (K.faults out.new) (N.faults dialer.old) (N.faults dialer.new) (known pass.old) (known pass.new) (fresh config (opened_state (opening_of gate.now).history inbox.old) most) inbox.old inbox.new senders.old senders.new result }
+    ensures seated { (made : ℕ) → Seated gate.now senders.old made → Seated gate.now senders.new made }
     ensures marked { IsUnrefused result → 0 < length senders.old → SomeMarked senders.new }
     ensures kind { SameKind inbox.old inbox.new }
     ensures never_falls { (faults_of inbox.old ≤ faults_of inbox.new) × (K.faults out.old ≤ K.faults out.new) × (N.faults dialer.old ≤ N.faults dialer.new) }

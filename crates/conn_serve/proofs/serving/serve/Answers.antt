@@ -5,7 +5,7 @@ use Rattle.conn_turns.specs.Lines.{Line}
 use Rattle.conn_serve.specs.declared.answer.ServeFault.TheVariants as faults
 use Rattle.conn_serve.proofs.Living.{nothing_served}
 use Rattle.conn_serve.proofs.Opening.{may_open, blamed_none, served_at}
-use Rattle.conn_serve.proofs.Marking.{marked_by}
+use Rattle.conn_serve.proofs.Marking.{marked_by, seated_by}
 use Rattle.conn_serve.proofs.serving.serve.Goals as goal
 
 pub returns-in_default-clause-served : goal.returns-in_default-clause-served
@@ -30,3 +30,7 @@ returns-clause-served g c =
 pub returns-clause-marked : goal.returns-clause-marked
 returns-clause-marked g c = λ u many.
     marked_by c.args.gate.now _ _ _ _ _ _ _ _ _ _ _ c.args.inbox.now c.serve_beside.new.inbox _ _ _ c.serve_beside.ensures.served u many
+
+pub returns-clause-seated : goal.returns-clause-seated
+returns-clause-seated g c = λ made h.
+    seated_by c.args.gate.now _ _ _ _ _ _ _ _ _ _ _ c.args.inbox.now c.serve_beside.new.inbox _ _ _ c.serve_beside.ensures.served made h
