@@ -1,7 +1,7 @@
 -- What holds of boxes that were opened, and of a pass of a gate that was made round one.
 use Rattle.std.proofs.Common.{◌≡◌, ℕ, ◌+◌, ◌<◌, ◌≤◌, ◌^◌, List, [], ◌∷◌, ◌++◌, length, Some, Option, refl, sym, ap, ◌∙◌, subst, arith, append-nil, append_assoc, length-append}
 use Rattle.std.proofs.Math.Logic.{∥∥₁_elim}
-use native.Mathlib.Decide.{ℕ_set}
+use native.Mathlib.Nat.{ℕ_set}
 use Rattle.fixp_msgs.specs.declared.flow.Flow.{Flow}
 use Rattle.fixp_msgs.specs.declared.flow.Flow.TheVariants as flows
 use Rattle.session_model.specs.Journal.{History, BeginsHistory}

@@ -17,8 +17,8 @@ use Rattle.conn_serve.specs.declared.answer.ServeFault.{ServeFault}
 use Rattle.conn_serve.specs.declared.answer.ServeFault.TheVariants as faults
 use Rattle.conn_serve.specs.declared.answer.LifeEnd.{LifeEnd}
 use Rattle.conn_serve.specs.declared.answer.LifeEnd.TheVariants as ends
-use Rattle.conn_serve.specs.Answers.{answer_of, submit_fault, yields}
-use Rattle.conn_serve.specs.Senders.{IsRefusal, FinishedFirst, SubmittedAll}
+use Rattle.conn_serve.specs.Answers.{answer_of, yields}
+use Rattle.conn_serve.specs.Senders.{refusal_of, IsRefusal, FinishedFirst, SubmittedAll}
 
 module _ {J : Type 0} {G : Ghosts J} (gate : Gate J G) (made : ℕ) where
   -- the Finish leaves them their passes
@@ -34,10 +34,10 @@ module _ {J : Type 0} {G : Ghosts J} (gate : Gate J G) (made : ℕ) where
   submitted_seated : (before after : List (Sender J G)) (refused : Option ServeFault) → SubmittedAll gate before after refused → All (IsReady gate) after → Seated gate before made → Seated gate after made
   submitted_seated before after refused w ready s =
       let ran = seated_still gate made before w.ran w.each s in
-      ⊎_elim (λ h. subst (λ xs. Seated gate xs made) (sym h.0) ran) (λ h. finished_seated w.ran after refused h.1.1 ready ran) w.finished
+      ⊎_elim (λ h. subst (λ xs. Seated gate xs made) (sym h.0) ran) (λ h. finished_seated w.ran after refused h.2 ready ran) w.finished
 
   submitted_long : (before after : List (Sender J G)) (refused : Option ServeFault) → SubmittedAll gate before after refused → length after ≡ length before
-  submitted_long before after refused w = ⊎_elim (λ h. ap length h.0 ∙ w.each.long) (λ h. h.1.1.long ∙ w.each.long) w.finished
+  submitted_long before after refused w = ⊎_elim (λ h. ap length h.0 ∙ w.each.long) (λ h. h.2.long ∙ w.each.long) w.finished
 
   -- a life leaves them their passes
   pub served_seated : {P Q : Type 0} (before after : List (Sender J G)) (refused : Option ServeFault) → SubmittedAll gate before after refused ⊎ ((after ≡ before) × P × Q) → All (IsReady gate) after
@@ -47,29 +47,31 @@ module _ {J : Type 0} {G : Ghosts J} (gate : Gate J G) (made : ℕ) where
   pub served_long : {P Q : Type 0} (before after : List (Sender J G)) (refused : Option ServeFault) → SubmittedAll gate before after refused ⊎ ((after ≡ before) × P × Q) → length after ≡ length before
   served_long before after refused w = ⊎_elim (λ h. submitted_long before after refused h) (λ h. ap length h.0) w
 
-never_output : (met : SubmitFault) → submit_fault met ≡ Some faults.Output → ⊥
-never_output submit.Broken e = cc
-never_output submit.Closed e = cc
-never_output (submit.Full entries bytes) e = cc
-never_output submit.Memory e = cc
-never_output submit.Fault e = cc
+never_output : (met : Option SubmitFault) → refusal_of met ≡ Some faults.Output → ⊥
+never_output None e = cc
+never_output (Some submit.Broken) e = cc
+never_output (Some submit.Closed) e = cc
+never_output (Some (submit.Full entries bytes)) e = cc
+never_output (Some submit.Memory) e = cc
+never_output (Some submit.Fault) e = cc
 
-never_dial : (met : SubmitFault) → submit_fault met ≡ Some faults.Dial → ⊥
-never_dial submit.Broken e = cc
-never_dial submit.Closed e = cc
-never_dial (submit.Full entries bytes) e = cc
-never_dial submit.Memory e = cc
-never_dial submit.Fault e = cc
+never_dial : (met : Option SubmitFault) → refusal_of met ≡ Some faults.Dial → ⊥
+never_dial None e = cc
+never_dial (Some submit.Broken) e = cc
+never_dial (Some submit.Closed) e = cc
+never_dial (Some (submit.Full entries bytes)) e = cc
+never_dial (Some submit.Memory) e = cc
+never_dial (Some submit.Fault) e = cc
 
 -- a refusal is none of these: it comes of no sender, and of no Finish
-not_refused : {J : Type 0} {G : Ghosts J} {Q : Type 0} (gate : Gate J G) (before after : List (Sender J G)) (refused : Option ServeFault) (x : ServeFault) → ((met : SubmitFault) → submit_fault met ≡ Some x → ⊥)
+not_refused : {J : Type 0} {G : Ghosts J} {Q : Type 0} (gate : Gate J G) (before after : List (Sender J G)) (refused : Option ServeFault) (x : ServeFault) → ((met : Option SubmitFault) → refusal_of met ≡ Some x → ⊥)
     → (x ≡ faults.Journal → ⊥) → (x ≡ faults.Memory → ⊥) → SubmittedAll gate before after refused ⊎ ((after ≡ before) × (refused ≡ None) × Q) → refused ≡ Some x → ⊥
 not_refused {J} {G} gate before after refused x met journal memory w e = ⊎_elim
     (λ h. ⊎_elim
-    (λ k. let m = subst (λ r. IsRefusal h.ran r) e k.1.0 in met m.met m.is)
-    (λ k. by_first h.ran k.1.0 k.1.1)
+    (λ k. let m = subst (λ r. IsRefusal h.ran r) e k.1 in met m.sender.refused m.is)
+    (λ k. by_first h.ran k.1 k.2)
     h.finished)
-    (λ h. none-some x (sym h.1.0 ∙ e))
+    (λ h. none-some x (sym h.1 ∙ e))
     w
   where
     by_first : (ran : List (Sender J G)) → 0 < length ran → FinishedFirst ran after refused → ⊥

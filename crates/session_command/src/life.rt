@@ -1,13 +1,13 @@
 //! The life of a session over its boxes: the senders seated at a gate, the connections served, and the outbox out of the gate
 //! again.
 
-ghost use Rattle.std.specs.Prelude.{◌≡◌, ◌+◌, ◌<◌, ◌≤◌, ◌^◌, false, [], length, vec_len, vec_capacity, Err};
+ghost use Rattle.std.specs.Prelude.{◌≡◌, ◌+◌, ◌<◌, ◌≤◌, ◌^◌, false, [], length, vec_len, vec_capacity, Err, IfOk, IfErr};
 ghost use Rattle.gw_outside.specs.Faults.{HasRisen};
 ghost use Rattle.session_model.specs.Journal.{BeginsHistory};
 ghost use Rattle.fixp_msgs.specs.declared.flow.Flow.TheVariants as flows;
 ghost use Rattle.jr_boxes.specs.Outbox as outboxes;
 ghost use Rattle.jr_boxes.specs.Inbox as inboxes;
-ghost use Rattle.gate_senders.specs.Gate.{opening_of, senders_of, IsPassAt, MadeAt, AllBackAt};
+ghost use Rattle.gate_senders.specs.Gate.{opening_of, senders_of, OpensOn, IsPassAt, MadeAt, AllBackAt};
 ghost use Rattle.gate_turn.specs.Places.{known};
 ghost use Rattle.gate_turn.specs.Calls.{IsFree};
 ghost use Rattle.conn_loop.specs.Conn.{Looks};
@@ -173,6 +173,33 @@ fn serve_seated<
     answer
 }
 
+/// The passes and the gate of an outbox.
+type Made<D> = (Gate<LogJournal<D>>, Passes<Kept<LogJournal<D>>>);
+
+/// A gate round an outbox for so many senders, and its passes.
+///
+/// # Errors
+/// The outbox comes back where memory runs out.
+fn made_gate<D: Disk>(
+    alloc: Global,
+    outbox: Outbox<LogJournal<D>>,
+    senders: u16,
+) -> Result<Made<D>, Outbox<LogJournal<D>>>
+    requires few { senders ≤ 16 }
+    requires sound { outboxes.is_broken outbox ≡ false }
+    requires few_entries { outboxes.front_of outbox < 2 ^ 40 }
+    ensures opened { IfOk result (λ r. OpensOn r.0 outbox) }
+    ensures sent { IfOk result (λ r. length (opening_of r.0).history.made < 2 ^ 40) }
+    ensures made { IfOk result (λ r. MadeAt r.0 r.1 (senders + 1)) }
+    ensures senders { IfOk result (λ r. senders_of r.0 ≡ senders) }
+    ensures refused { IfErr result (λ box. box ≡ outbox) }
+{
+    match Gate::new(alloc, outbox, senders) {
+        Ok(made) => Ok(made),
+        Err(outbox) => Err(outbox),
+    }
+}
+
 /// Serves the connections of the dialer, with a sender for each plan beside them. The outbox comes back with the status.
 pub fn live<K: Sink, D: Disk + Send, N: Dialer, C: Clock, R: Threads + Wait + Sync>(
     rt: &R,
@@ -205,7 +232,7 @@ pub fn live<K: Sink, D: Disk + Send, N: Dialer, C: Clock, R: Threads + Wait + Sy
     let Ok(seats) = Vec::with_capacity(alloc, plans.len()) else {
         return (Status::Memory, outbox);
     };
-    let (gate, mut passes) = match Gate::new(alloc, outbox, plans.len() as u16) {
+    let (gate, mut passes) = match made_gate(alloc, outbox, plans.len() as u16) {
         Ok(made) => made,
         Err(outbox) => return (Status::Memory, outbox),
     };

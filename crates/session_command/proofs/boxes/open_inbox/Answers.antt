@@ -26,5 +26,11 @@ returns-in-Ok-open-clause-numbered g c = λ recoverable.
     let j = box.journal in
     let opened = c.in-Ok-open.ensures.opened c.in-Ok.journal.records.items refl in
     let flow = c.in-Ok-open.ensures.flow in
-    omega (arith, few_records j.records.items j.size j.sized j.small, ap length opened.stands.journal, length-map opened.list record_of,
-      few_next box.flow opened.list (λ is. cc) opened.stands.inbox.fits, opened.stands.noticed.next)
+    omega (
+      arith,
+      few_records j.records.items j.size j.sized j.small,
+      ap length opened.stands.journal,
+      length-map opened.list record_of,
+      few_next box.flow opened.list (λ is. cc) opened.stands.inbox.fits,
+      opened.stands.noticed.next,
+    )
