@@ -2,7 +2,6 @@
 
 ghost use Rattle.std.specs.Prelude.{◌≡◌, ◌≤◌, ◌<◌, ◌^◌, length, IfSome};
 
-use crate::entries::entries;
 use crate::named::Named;
 use case_words::{digits, halves, number};
 use fixp_end::{Act, End, EndConfig, EndState, Flow, Role};
@@ -29,12 +28,11 @@ const PLACE: u64 = 7;
 /// The greatest moment that an end is told.
 const LAST_MOMENT: u64 = 1_000_000;
 
-/// An end in a connection, which has no act left to do, the entries that it may send, and the last moment that it was told.
+/// An end in a connection, which has no act left to do, and the last moment that it was told.
 #[derive(Drop)]
 struct Driven {
     end: End,
     own_flow: Flow,
-    entries: Vec<Stable>,
     now: u64,
     /// How many frames came since the last turn ended, at least.
     heard: u64,
@@ -75,40 +73,81 @@ fn entry_of(entries: &[Stable], wanted: u64) -> Option<&Stable>
     None
 }
 
+/// The words of an end: its side, the flow that it sends, the one that it receives, whether the session is negotiated, the
+/// inbox's next number and how many entries were sent.
+#[derive(Clone, Copy)]
+struct Kind<'a> {
+    side: &'a str,
+    own: &'a str,
+    peer: &'a str,
+    negotiated: &'a str,
+    inbox: &'a str,
+    sent: &'a str,
+}
+
+/// `SIDE OWN PEER NEGOTIATED NEXT SENT`; nothing for a word that is not there.
+fn kind_of(words: &str) -> Kind<'_> {
+    let (side, rest) = halves(words);
+    let (own, rest) = halves(rest);
+    let (peer, rest) = halves(rest);
+    let (negotiated, rest) = halves(rest);
+    let (inbox, sent) = halves(rest);
+    Kind {
+        side,
+        own,
+        peer,
+        negotiated,
+        inbox,
+        sent,
+    }
+}
+
+fn role_of(side: &str) -> Role {
+    match side {
+        "initiator" => Role::Initiator,
+        _ => Role::Acceptor,
+    }
+}
+
+fn config_of(alloc: Global, role: Role, own_flow: Flow, peer_flow: Flow) -> EndConfig
+    ensures keepalive { result.keepalive ≡ 1000 }
+    ensures credentials { length result.credentials ≡ 0 }
+    ensures own_flow { result.own_flow ≡ own_flow }
+{
+    EndConfig {
+        role,
+        session: ID,
+        own_flow,
+        peer_flow,
+        keepalive: 1000,
+        credentials: Bytes::from(Vec::new(alloc)),
+    }
+}
+
+fn recorded_of(kind: Kind<'_>) -> EndState
+    ensures first { 1 ≤ result.inbox_next }
+    ensures few { result.inbox_next ≤ 1000000 }
+    ensures sent { result.sent ≤ 1000000 }
+{
+    EndState {
+        negotiated: kind.negotiated == "negotiated",
+        inbox_next: number(kind.inbox).clamp(1, 1_000_000),
+        peer_last: None,
+        sent: number(kind.sent).min(1_000_000),
+        finish: None,
+    }
+}
+
 impl Driven {
-    /// The side, the flow that it sends, the one that it receives, whether the session is negotiated, the inbox's next number
-    /// and how many entries were sent: an end with these in its first connection. `SIDE OWN PEER NEGOTIATED NEXT SENT`.
-    fn new(alloc: Global, words: &str) -> Result<Driven, AllocError> {
-        let (side, rest) = halves(words);
-        let (own, rest) = halves(rest);
-        let (peer, rest) = halves(rest);
-        let (negotiated, rest) = halves(rest);
-        let (inbox, sent) = halves(rest);
-        let own_flow = flow_of(own);
-        let config = EndConfig {
-            role: match side {
-                "initiator" => Role::Initiator,
-                _ => Role::Acceptor,
-            },
-            session: ID,
-            own_flow,
-            peer_flow: flow_of(peer),
-            keepalive: 1000,
-            credentials: Bytes::from(Vec::new(alloc)),
-        };
-        let recorded = EndState {
-            negotiated: negotiated == "negotiated",
-            inbox_next: number(inbox).clamp(1, 1_000_000),
-            peer_last: None,
-            sent: number(sent).min(1_000_000),
-            finish: None,
-        };
-        let mut end = End::new(alloc, config, recorded, 1 << 24)?;
+    /// An end in its first connection.
+    fn new(alloc: Global, kind: Kind<'_>) -> Result<Driven, AllocError> {
+        let own_flow = flow_of(kind.own);
+        let config = config_of(alloc, role_of(kind.side), own_flow, flow_of(kind.peer));
+        let mut end = End::new(alloc, config, recorded_of(kind), 1 << 24)?;
         end.begin(BEGINNING);
         Ok(Driven {
             end,
             own_flow,
-            entries: entries(alloc)?,
             now: BEGINNING,
             heard: 0,
         })
@@ -144,7 +183,7 @@ impl Driven {
     }
 
     /// The next entry is sent live, where that may be.
-    fn live(&mut self) {
+    fn live(&mut self, entries: &[Stable]) {
         let is_open = self.end.ending().is_none() && is_established(self.end.phase());
         if !is_open || is_absent(self.own_flow) || self.end.serving().is_some() {
             return;
@@ -152,7 +191,7 @@ impl Driven {
         let Some(next) = self.end.sent().checked_add(1) else {
             return;
         };
-        let Some(entry) = entry_of(self.entries.as_slice(), next) else {
+        let Some(entry) = entry_of(entries, next) else {
             return;
         };
         if self.end.out().is_empty() {
@@ -161,11 +200,11 @@ impl Driven {
     }
 
     /// The next entry of the range that is served is sent again.
-    fn again(&mut self) {
+    fn again(&mut self, entries: &[Stable]) {
         let Some(range) = self.end.serving() else {
             return;
         };
-        let Some(entry) = entry_of(self.entries.as_slice(), range.from) else {
+        let Some(entry) = entry_of(entries, range.from) else {
             return;
         };
         if self.end.ending().is_none() && range.count > 0 && self.end.out().is_empty() {
@@ -199,65 +238,163 @@ impl Driven {
         }
     }
 
-    /// Its act at a frame or at bytes that are none, in words.
-    fn frame(&mut self, alloc: Global, bytes: &[u8]) -> Result<String, AllocError> {
+    /// Adds its act at a frame, in words.
+    fn frame(&mut self, line: &mut String, order: Order, message: &[u8]) -> Result<(), AllocError>
+        requires header { 8 ≤ length message.now }
+        requires most { length message.now ≤ 16384 }
+    {
+        match self.act(order, message)? {
+            Some((act, before)) => push_act(line, act, before),
+            None => line.push_str("not heard"),
+        }
+    }
+
+    /// Adds its act at a frame or at bytes that are none, in words.
+    fn hear(&mut self, line: &mut String, bytes: &[u8]) -> Result<(), AllocError> {
         match next(bytes) {
             FirstFrame::Frame { order, message, .. } if (8..=16384).contains(&message.len()) => {
-                match self.act(order, message)? {
-                    Some((act, before)) if act.is_record() => {
-                        format!(in alloc; "{act:?} after {before} bytes")
-                    }
-                    Some((act, _before)) => format!(in alloc; "{act:?}"),
-                    None => format!(in alloc; "not heard"),
-                }
+                self.frame(line, order, message)
             }
             _ => {
                 self.refuse();
-                format!(in alloc; "refused")
+                line.push_str("refused")
             }
         }
     }
 
-    /// What it does at an event, in words: a call, or a frame by name.
-    fn hear(&mut self, alloc: Global, named: Named<'_>, event: &str) -> Result<String, AllocError> {
-        let (call, given) = event.split_once("=").unwrap_or((event, ""));
+    /// A call.
+    fn call(&mut self, entries: &[Stable], call: Call) {
         match call {
-            "begin" => self.begin(),
-            "tick" => self.tick(number(given)),
-            "turn" => self.turn(),
-            "closed" => self.closed(number(given)),
-            "live" => self.live(),
-            "again" => self.again(),
-            "link-end" => self.end.on_link_end(),
-            _ => {
-                let bytes = named.bytes(alloc, event)?;
-                return self.frame(alloc, bytes.as_slice());
-            }
+            Call::Begin => self.begin(),
+            Call::Tick(moment) => self.tick(moment),
+            Call::Turn => self.turn(),
+            Call::Closed(last) => self.closed(last),
+            Call::Live => self.live(entries),
+            Call::Again => self.again(entries),
+            Call::LinkEnd => self.end.on_link_end(),
         }
-        format!(in alloc; "told")
     }
 
-    /// The link takes everything that is written, which are these bytes; and the phase and the ending.
-    fn taken(&mut self, alloc: Global) -> Result<String, AllocError> {
-        let written = digits(alloc, self.end.out())?;
+    /// The link takes everything that is written.
+    fn take(&mut self) {
         let count = self.end.out().len();
         self.end.taken(count);
-        let phase = self.end.phase();
-        let ending = self.end.ending();
-        format!(in alloc; "[{written}], {phase:?}, {ending:?}")
+    }
+
+    /// Adds the bytes that are written, the phase and the ending, and the link takes the bytes.
+    fn push_taken(&mut self, alloc: Global, line: &mut String) -> Result<(), AllocError> {
+        push_written(alloc, line, self.end.out())?;
+        self.take();
+        let (phase, ending) = (self.end.phase(), self.end.ending());
+        write!(line, ", {phase:?}, {ending:?}")
     }
 }
 
-/// What an end does at each event, a line each: `SIDE OWN PEER NEGOTIATED NEXT SENT, EVENT EVENT ..`.
-pub fn end_lines(alloc: Global, named: Named<'_>, words: &str) -> Result<String, AllocError> {
-    let (kind, events) = words.split_once(", ").unwrap_or((words, ""));
-    let mut driven = Driven::new(alloc, kind)?;
-    let begun = driven.taken(alloc)?;
-    let mut lines = format!(in alloc; "{kind}: {begun}")?;
-    for event in events.split_whitespace() {
-        let act = driven.hear(alloc, named, event)?;
-        let taken = driven.taken(alloc)?;
-        lines.push_str(format!(in alloc; "\n  {event}: {act}, {taken}")?.as_str())?;
+/// Adds an act, and for a record how many bytes were written before it.
+fn push_act(line: &mut String, act: Act, before: usize) -> Result<(), AllocError> {
+    if act.is_record() {
+        write!(line, "{act:?} after {before} bytes")
+    } else {
+        write!(line, "{act:?}")
     }
-    Ok(lines)
+}
+
+/// Adds bytes in hexadecimal, in brackets.
+fn push_written(alloc: Global, line: &mut String, bytes: &[u8]) -> Result<(), AllocError> {
+    let spelled = digits(alloc, bytes)?;
+    line.push_str("[")?;
+    line.push_str(spelled.as_str())?;
+    line.push_str("]")
+}
+
+/// A call on an end.
+#[derive(Clone, Copy)]
+enum Call {
+    Begin,
+    Tick(u64),
+    Turn,
+    Closed(u64),
+    Live,
+    Again,
+    LinkEnd,
+}
+
+/// The call that an event is, if it is one.
+fn call_of(event: &str) -> Option<Call> {
+    let (call, given) = event.split_once("=").unwrap_or((event, ""));
+    match call {
+        "begin" => Some(Call::Begin),
+        "tick" => Some(Call::Tick(number(given))),
+        "turn" => Some(Call::Turn),
+        "closed" => Some(Call::Closed(number(given))),
+        "live" => Some(Call::Live),
+        "again" => Some(Call::Again),
+        "link-end" => Some(Call::LinkEnd),
+        _ => None,
+    }
+}
+
+/// What an end is told from: frames by name, and the entries that it may send.
+#[derive(Clone, Copy)]
+pub struct Sources<'a> {
+    pub named: Named<'a>,
+    pub entries: &'a [Stable],
+}
+
+/// Adds what an end does at an event: a call, or a frame by name.
+fn push_event(
+    alloc: Global,
+    line: &mut String,
+    driven: &mut Driven,
+    sources: Sources<'_>,
+    event: &str,
+) -> Result<(), AllocError> {
+    if let Some(call) = call_of(event) {
+        driven.call(sources.entries, call);
+        return line.push_str("told");
+    }
+    let bytes = sources.named.bytes(alloc, event)?;
+    driven.hear(line, bytes.as_slice())
+}
+
+/// Adds the line of an event.
+fn push_event_line(
+    alloc: Global,
+    line: &mut String,
+    driven: &mut Driven,
+    sources: Sources<'_>,
+    event: &str,
+) -> Result<(), AllocError> {
+    write!(line, "\n  {event}: ")?;
+    push_event(alloc, line, driven, sources, event)?;
+    line.push_str(", ")?;
+    driven.push_taken(alloc, line)
+}
+
+/// Adds the lines of events.
+fn push_events(
+    alloc: Global,
+    line: &mut String,
+    driven: &mut Driven,
+    sources: Sources<'_>,
+    events: &str,
+) -> Result<(), AllocError> {
+    for event in events.split(" ") {
+        push_event_line(alloc, line, driven, sources, event)?;
+    }
+    Ok(())
+}
+
+/// Adds what an end does at each event, a line each: `SIDE OWN PEER NEGOTIATED NEXT SENT, EVENT EVENT ..`.
+pub fn push_end(
+    alloc: Global,
+    line: &mut String,
+    sources: Sources<'_>,
+    words: &str,
+) -> Result<(), AllocError> {
+    let (kind, events) = words.split_once(", ").unwrap_or((words, ""));
+    let mut driven = Driven::new(alloc, kind_of(kind))?;
+    write!(line, "{kind}: ")?;
+    driven.push_taken(alloc, line)?;
+    push_events(alloc, line, &mut driven, sources, events)
 }

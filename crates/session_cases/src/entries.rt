@@ -39,26 +39,44 @@ fn new_outbox(alloc: Global) -> Result<Option<Outbox<LogJournal<MemDisk>>>, Allo
     Ok(outbox_on(alloc, disk, WIDE))
 }
 
+/// The next entry, once it is on the disk; none where a call is refused.
+fn next_entry(outbox: &mut Outbox<LogJournal<MemDisk>>) -> Option<Stable> {
+    if !is_application(&PAYLOAD) {
+        return None;
+    }
+    let Ok(number) = outbox.accept(1, &PAYLOAD) else {
+        return None;
+    };
+    if number == 0 || number > outbox.front() {
+        return None;
+    }
+    outbox.stable(number).ok()
+}
+
+/// Adds the next entries.
+fn push_entries(
+    outbox: &mut Outbox<LogJournal<MemDisk>>,
+    entries: &mut Vec<Stable>,
+) -> Result<(), AllocError> {
+    for _ in 0..COUNT {
+        if let Some(entry) = next_entry(outbox) {
+            entries.push(entry)?;
+        }
+    }
+    Ok(())
+}
+
+/// Adds the entries of a new outbox.
+fn push_new(alloc: Global, entries: &mut Vec<Stable>) -> Result<(), AllocError> {
+    match new_outbox(alloc)? {
+        Some(mut outbox) => push_entries(&mut outbox, entries),
+        None => Ok(()),
+    }
+}
+
 /// The entries 1 to 5 of an outbox; fewer where a call is refused.
 pub fn entries(alloc: Global) -> Result<Vec<Stable>, AllocError> {
     let mut entries = Vec::new(alloc);
-    let Some(mut outbox) = new_outbox(alloc)? else {
-        return Ok(entries);
-    };
-    if !is_application(&PAYLOAD) {
-        return Ok(entries);
-    }
-    for _ in 0..COUNT {
-        let Ok(number) = outbox.accept(1, &PAYLOAD) else {
-            return Ok(entries);
-        };
-        if number == 0 || number > outbox.front() {
-            return Ok(entries);
-        }
-        let Ok(entry) = outbox.stable(number) else {
-            return Ok(entries);
-        };
-        entries.push(entry)?;
-    }
+    push_new(alloc, &mut entries)?;
     Ok(entries)
 }

@@ -6,8 +6,8 @@ use sbe_prim::Order;
 use sofh_frame::{FirstFrame, Framer, OwnedFrame, Split, next, split_pieces};
 use std::alloc::{AllocError, Global};
 
-/// A first frame: its order, message and size, or why there is none.
-fn told(alloc: Global, first: FirstFrame<'_>) -> Result<String, AllocError> {
+/// Adds a first frame: its order, message and size, or why there is none.
+fn push_told(alloc: Global, line: &mut String, first: FirstFrame<'_>) -> Result<(), AllocError> {
     match first {
         FirstFrame::Frame {
             order,
@@ -15,30 +15,46 @@ fn told(alloc: Global, first: FirstFrame<'_>) -> Result<String, AllocError> {
             size,
         } => {
             let spelled = digits(alloc, message)?;
-            format!(in alloc; "{order:?} {spelled} of {size} bytes")
+            write!(line, "{order:?} {spelled} of {size} bytes")
         }
-        other => format!(in alloc; "{other:?}"),
+        other => write!(line, "{other:?}"),
     }
 }
 
 /// The first frame of some bytes.
-pub fn first_line(alloc: Global, named: Named<'_>, word: &str) -> Result<String, AllocError> {
+pub fn push_first(
+    alloc: Global,
+    line: &mut String,
+    named: Named<'_>,
+    word: &str,
+) -> Result<(), AllocError> {
     let bytes = named.bytes(alloc, word)?;
-    let found = told(alloc, next(bytes.as_slice()))?;
-    format!(in alloc; "first of {word}: {found}")
+    write!(line, "first of {word}: ")?;
+    push_told(alloc, line, next(bytes.as_slice()))
 }
 
 /// How many of the fronts of a frame that are shorter than it are no whole frame.
-pub fn fronts_line(alloc: Global, named: Named<'_>, word: &str) -> Result<String, AllocError> {
-    let bytes = named.bytes(alloc, word)?;
+fn open_fronts(bytes: &[u8]) -> u64 {
     let mut open = 0u64;
     for size in 0..bytes.len() {
-        let (front, _) = bytes.as_slice().split_at(size);
+        let (front, _) = bytes.split_at(size);
         if next(front) == FirstFrame::Rest {
             open = open.saturating_add(1);
         }
     }
-    format!(in alloc; "fronts of {word}: {open} of {} are a rest", bytes.len())
+    open
+}
+
+/// The fronts of a frame.
+pub fn push_fronts(
+    alloc: Global,
+    line: &mut String,
+    named: Named<'_>,
+    word: &str,
+) -> Result<(), AllocError> {
+    let bytes = named.bytes(alloc, word)?;
+    let (open, count) = (open_fronts(bytes.as_slice()), bytes.len());
+    write!(line, "fronts of {word}: {open} of {count} are a rest")
 }
 
 /// Fills a framer with bytes, where it has the room.
@@ -57,23 +73,44 @@ fn let_go(framer: &mut Framer) {
     }
 }
 
-/// The framer's room, and the first frame that it holds.
-fn framer_told(alloc: Global, framer: &mut Framer) -> Result<String, AllocError> {
+/// Adds the framer's room, and the first frame that it holds.
+fn push_framer_told(
+    alloc: Global,
+    line: &mut String,
+    framer: &mut Framer,
+) -> Result<(), AllocError> {
     let room = framer.room().len();
-    let first = told(alloc, framer.peek())?;
-    format!(in alloc; "{room} with {first}")
+    write!(line, "{room} with ")?;
+    push_told(alloc, line, framer.peek())
 }
 
-/// A framer that is empty, is filled with a frame, and has let go of it.
-pub fn framer_line(alloc: Global, named: Named<'_>, word: &str) -> Result<String, AllocError> {
+/// A framer that is empty, is filled with bytes, and has let go of a frame.
+fn push_framer_steps(
+    alloc: Global,
+    line: &mut String,
+    framer: &mut Framer,
+    bytes: &[u8],
+) -> Result<(), AllocError> {
+    push_framer_told(alloc, line, framer)?;
+    fill(framer, bytes);
+    line.push_str(", ")?;
+    push_framer_told(alloc, line, framer)?;
+    let_go(framer);
+    line.push_str(", ")?;
+    push_framer_told(alloc, line, framer)
+}
+
+/// A framer that takes a frame.
+pub fn push_framer(
+    alloc: Global,
+    line: &mut String,
+    named: Named<'_>,
+    word: &str,
+) -> Result<(), AllocError> {
     let bytes = named.bytes(alloc, word)?;
     let mut framer = Framer::new(alloc)?;
-    let empty = framer_told(alloc, &mut framer)?;
-    fill(&mut framer, bytes.as_slice());
-    let full = framer_told(alloc, &mut framer)?;
-    let_go(&mut framer);
-    let left = framer_told(alloc, &mut framer)?;
-    format!(in alloc; "framer of {word}: {empty}, {full}, {left}")
+    write!(line, "framer of {word}: ")?;
+    push_framer_steps(alloc, line, &mut framer, bytes.as_slice())
 }
 
 /// The frames one behind another, so many times.
@@ -87,9 +124,14 @@ fn joined(alloc: Global, frames: &[Vec<u8>], times: usize) -> Result<Vec<u8>, Al
     Ok(bytes)
 }
 
-/// Splits `bytes` in pieces of `size` bytes each, the last one maybe shorter.
+/// The pieces of `size` bytes each, the last one maybe shorter.
+fn cut(alloc: Global, bytes: &[u8], size: usize) -> Result<Vec<&[u8]>, AllocError> {
+    bytes.chunks(size.max(1)).collect(alloc)
+}
+
+/// Splits `bytes` in pieces of `size` bytes each.
 fn split_by(alloc: Global, bytes: &[u8], size: usize) -> Result<Split, AllocError> {
-    let pieces: Vec<&[u8]> = bytes.chunks(size.max(1)).collect(alloc)?;
+    let pieces = cut(alloc, bytes, size)?;
     split_pieces(alloc, pieces.as_slice())
 }
 
@@ -128,31 +170,60 @@ fn all_named(alloc: Global, named: Named<'_>, words: &str) -> Result<Vec<Vec<u8>
     Ok(all)
 }
 
+/// Adds how a split ended.
+fn push_split_end(line: &mut String, split: &Split) -> Result<(), AllocError> {
+    write!(line, ", {:?} at {}", split.end, split.at)
+}
+
+/// Adds how many of the frames in pieces are the given ones, which come so many times.
+fn push_found(
+    alloc: Global,
+    line: &mut String,
+    frames: &[Vec<u8>],
+    times: usize,
+    size: usize,
+) -> Result<(), AllocError> {
+    let bytes = joined(alloc, frames, times)?;
+    let split = split_by(alloc, bytes.as_slice(), size)?;
+    let (same, count) = (
+        as_wanted(split.frames.as_slice(), frames),
+        split.frames.len(),
+    );
+    write!(line, "{same} of {count} frames as given")?;
+    push_split_end(line, &split)
+}
+
 /// Frames in pieces of a size: `SIZE TIMES NAME..`.
-pub fn pieces_line(alloc: Global, named: Named<'_>, rest: &str) -> Result<String, AllocError> {
+pub fn push_pieces(
+    alloc: Global,
+    line: &mut String,
+    named: Named<'_>,
+    rest: &str,
+) -> Result<(), AllocError> {
     let (size, others) = halves(rest);
     let (times, words) = halves(others);
     let frames = all_named(alloc, named, words)?;
-    let bytes = joined(alloc, frames.as_slice(), number(times) as usize)?;
-    let split = split_by(alloc, bytes.as_slice(), number(size) as usize)?;
-    let same = as_wanted(split.frames.as_slice(), frames.as_slice());
-    format!(in alloc;
-        "pieces of {size}: {same} of {} frames as given, {:?} at {}",
-        split.frames.len(),
-        split.end,
-        split.at
-    )
+    write!(line, "pieces of {size}: ")?;
+    let (times, size) = (number(times) as usize, number(size) as usize);
+    push_found(alloc, line, frames.as_slice(), times, size)
+}
+
+/// Splits pieces.
+fn split_parts(alloc: Global, parts: &[Vec<u8>]) -> Result<Split, AllocError> {
+    let pieces: Vec<&[u8]> = parts.iter().map(|part| part.as_slice()).collect(alloc)?;
+    split_pieces(alloc, pieces.as_slice())
 }
 
 /// Each word is one piece.
-pub fn parts_line(alloc: Global, named: Named<'_>, words: &str) -> Result<String, AllocError> {
+pub fn push_parts(
+    alloc: Global,
+    line: &mut String,
+    named: Named<'_>,
+    words: &str,
+) -> Result<(), AllocError> {
     let parts = all_named(alloc, named, words)?;
-    let pieces: Vec<&[u8]> = parts.iter().map(|part| part.as_slice()).collect(alloc)?;
-    let split = split_pieces(alloc, pieces.as_slice())?;
-    format!(in alloc;
-        "parts {words}: {} frames, {:?} at {}",
-        split.frames.len(),
-        split.end,
-        split.at
-    )
+    let split = split_parts(alloc, parts.as_slice())?;
+    let count = split.frames.len();
+    write!(line, "parts {words}: {count} frames")?;
+    push_split_end(line, &split)
 }

@@ -7,29 +7,59 @@ mod entries;
 mod frames;
 mod named;
 
+use crate::ends::Sources;
+use crate::entries::entries;
 use crate::named::Named;
 use std::alloc::{AllocError, Global};
 use std::{fs, io};
 
-/// What a case shows.
-fn line_of(alloc: Global, named: Named<'_>, line: &str) -> Result<String, AllocError> {
-    match line.split_once(": ") {
-        Some(("first", word)) => frames::first_line(alloc, named, word),
-        Some(("fronts", word)) => frames::fronts_line(alloc, named, word),
-        Some(("framer", word)) => frames::framer_line(alloc, named, word),
-        Some(("pieces", rest)) => frames::pieces_line(alloc, named, rest),
-        Some(("parts", words)) => frames::parts_line(alloc, named, words),
-        Some(("end", words)) => ends::end_lines(alloc, named, words),
-        _ => line.to_string(alloc),
+/// Adds what a case shows.
+fn push_line(
+    alloc: Global,
+    line: &mut String,
+    sources: Sources<'_>,
+    case: &str,
+) -> Result<(), AllocError> {
+    let Some((kind, words)) = case.split_once(": ") else {
+        return line.push_str(case);
+    };
+    match kind {
+        "first" => frames::push_first(alloc, line, sources.named, words),
+        "fronts" => frames::push_fronts(alloc, line, sources.named, words),
+        "framer" => frames::push_framer(alloc, line, sources.named, words),
+        "pieces" => frames::push_pieces(alloc, line, sources.named, words),
+        "parts" => frames::push_parts(alloc, line, sources.named, words),
+        "end" => ends::push_end(alloc, line, sources, words),
+        _ => line.push_str(case),
     }
+}
+
+/// Prints what a case shows.
+fn print_case<R: Print + AllocGlobal>(rt: &R, sources: Sources<'_>, case: &str) -> io::Result<()> {
+    let mut line = String::new(rt.alloc());
+    push_line(rt.alloc(), &mut line, sources, case)?;
+    rt.println(line)
+}
+
+/// Prints what each case shows.
+fn print_cases<R: Print + AllocGlobal>(
+    rt: &R,
+    sources: Sources<'_>,
+    cases: &str,
+) -> io::Result<()> {
+    for case in cases.lines() {
+        print_case(rt, sources, case)?;
+    }
+    Ok(())
 }
 
 fn main(rt: HostRuntime) -> io::Result<()> {
     let table = fs::read_to_string(&rt, "frames.txt")?;
-    let text = fs::read_to_string(&rt, "cases.txt")?;
-    let named = Named::of(table.as_str());
-    for line in text.lines() {
-        rt.println(line_of(rt.alloc(), named, line)?)?;
-    }
-    Ok(())
+    let cases = fs::read_to_string(&rt, "cases.txt")?;
+    let entries = entries(rt.alloc())?;
+    let sources = Sources {
+        named: Named::of(table.as_str()),
+        entries: entries.as_slice(),
+    };
+    print_cases(&rt, sources, cases.as_str())
 }
