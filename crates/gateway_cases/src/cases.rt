@@ -1,204 +1,190 @@
 //! The lines of the file of cases, and what each run is to give.
 
-use crate::clients::client_lines;
-use crate::coding::{frames_line, lines_line};
-use crate::devices::{Case, Failing, Outcome, ended};
-use crate::texts::{Answering, Checking, Coding};
-use case_words::{halves, number};
+use crate::devices::{NONE_FAILS, Numbers, Outcome, ended};
+use crate::forms::{ANSWER, DECODE, ENCODE, Form, form_of};
+use crate::texts::Text;
+use crate::told::{push_digits, push_frames, push_lines, push_told};
+use case_words::{bytes, halves, number};
 use std::alloc::{AllocError, Global};
 use std::sync::Wait;
 
-/// The number that the next word of a line spells.
-fn number_of(word: Option<&str>) -> u64 {
-    number(word.unwrap_or(""))
-}
-
-/// The numbers of a line: `PIECE CONFIG INPUT WIRE OUT ROOM`, of which four are calls that fail.
-fn case_of<'a>(words: &'a str, config: &'a [u8], input: &'a [u8], numbers: &str) -> Case<'a> {
-    let mut numbers = numbers.split(" ");
-    Case {
-        words,
+/// The numbers of a line: `PIECE CONFIG INPUT WIRE OUT ROOM`.
+fn numbers_of(words: &str) -> Numbers {
+    let mut all = [0u64; 6];
+    for (place, word) in all.iter_mut().zip(words.split(" ")) {
+        *place = number(word);
+    }
+    let [piece, config, input, wire, out, room] = all;
+    Numbers {
+        piece: piece as usize,
         config,
         input,
-        piece: number_of(numbers.next()) as usize,
-        failing: Failing {
-            config: number_of(numbers.next()),
-            input: number_of(numbers.next()),
-            wire: number_of(numbers.next()),
-            out: number_of(numbers.next()),
-        },
-        room: number_of(numbers.next()) as usize,
+        wire,
+        out,
+        room: room as usize,
     }
 }
 
-/// Whether bytes are a front of the whole, and how many they are.
-fn gained(alloc: Global, bytes: &[u8], whole: &[u8]) -> Result<String, AllocError> {
-    if whole.starts_with(bytes) {
-        format!(in alloc; "{}", bytes.len())
-    } else {
-        format!(in alloc; "other bytes")
-    }
-}
-
-/// The status, and how many bytes of the whole WIRE and OUT gained.
-fn told(alloc: Global, outcome: &Outcome, wire: &[u8], out: &[u8]) -> Result<String, AllocError> {
-    let wired = gained(alloc, outcome.wire.taken(), wire)?;
-    let written = gained(alloc, outcome.out.taken(), out)?;
-    format!(in alloc;
-        "status {}, WIRE {wired}, OUT {written}",
-        outcome.status.code()
-    )
-}
-
-/// A run of `answer`.
-fn answer_line<R: Wait>(
+/// A run of a command over its files: `PIECE CONFIG INPUT WIRE OUT ROOM`.
+fn push_run<R: Wait>(
     rt: &R,
     alloc: Global,
-    texts: &Answering,
-    numbers: &str,
-) -> Result<String, AllocError> {
-    let case = answer_of(texts, numbers);
-    let outcome = ended(rt, alloc, case)?;
-    let told = told(
-        alloc,
-        &outcome,
-        texts.wire.as_slice(),
-        texts.lines.as_bytes(),
-    )?;
-    format!(in alloc; "answer {numbers}: {told}")
-}
-
-fn answer_of<'a>(texts: &'a Answering, numbers: &str) -> Case<'a> {
-    case_of(
-        "answer C I W O",
-        texts.settings.as_bytes(),
-        texts.input.as_slice(),
-        numbers,
-    )
-}
-
-/// A run of `check`.
-fn check_line<R: Wait>(
-    rt: &R,
-    alloc: Global,
-    texts: &Checking,
-    numbers: &str,
-) -> Result<String, AllocError> {
-    let case = case_of("check C O", texts.schema.as_bytes(), &[], numbers);
-    let outcome = ended(rt, alloc, case)?;
-    let told = told(alloc, &outcome, &[], texts.layout.as_bytes())?;
-    format!(in alloc; "check {numbers}: {told}")
-}
-
-fn decode_of<'a>(texts: &'a Coding, numbers: &str) -> Case<'a> {
-    case_of(
-        "decode C I O",
-        texts.orders.as_bytes(),
-        texts.frames.as_slice(),
-        numbers,
-    )
-}
-
-/// A run of `decode`.
-fn decode_line<R: Wait>(
-    rt: &R,
-    alloc: Global,
-    texts: &Coding,
-    numbers: &str,
-) -> Result<String, AllocError> {
-    let outcome = ended(rt, alloc, decode_of(texts, numbers))?;
-    let told = told(alloc, &outcome, &[], texts.text.as_bytes())?;
-    format!(in alloc; "decode {numbers}: {told}")
-}
-
-fn encode_of<'a>(texts: &'a Coding, numbers: &str) -> Case<'a> {
-    case_of(
-        "encode C I W",
-        texts.orders.as_bytes(),
-        texts.text.as_bytes(),
-        numbers,
-    )
-}
-
-/// A run of `encode`.
-fn encode_line<R: Wait>(
-    rt: &R,
-    alloc: Global,
-    texts: &Coding,
-    numbers: &str,
-) -> Result<String, AllocError> {
-    let outcome = ended(rt, alloc, encode_of(texts, numbers))?;
-    let told = told(alloc, &outcome, texts.frames.as_slice(), &[])?;
-    format!(in alloc; "encode {numbers}: {told}")
+    line: &mut String,
+    texts: &[Text],
+    form: Form,
+    words: &str,
+) -> Result<(), AllocError> {
+    let outcome = ended(rt, alloc, form.case(texts), numbers_of(words))?;
+    push_told(line, &outcome, form.wire(texts), form.out(texts))
 }
 
 /// Whether a run gave all of WIRE and OUT.
-fn is_whole(outcome: &Outcome, wire: &[u8], out: &[u8]) -> bool {
-    outcome.status.code() == 0 && outcome.wire.taken() == wire && outcome.out.taken() == out
+fn is_whole(outcome: &Outcome, form: Form, texts: &[Text]) -> bool {
+    outcome.code() == 0 && outcome.wire() == form.wire(texts) && outcome.out() == form.out(texts)
+}
+
+/// Whether a run with INPUT in pieces of this size gives the whole.
+fn gives_whole<R: Wait>(
+    rt: &R,
+    alloc: Global,
+    texts: &[Text],
+    form: Form,
+    piece: usize,
+) -> Result<bool, AllocError> {
+    let numbers = Numbers {
+        piece,
+        ..NONE_FAILS
+    };
+    let outcome = ended(rt, alloc, form.case(texts), numbers)?;
+    Ok(is_whole(&outcome, form, texts))
 }
 
 /// How many of the runs with INPUT in pieces of 1 to `most` bytes give the whole.
-fn pieces_line<R: Wait>(
+fn whole_runs<R: Wait>(
     rt: &R,
     alloc: Global,
-    case: Case<'_>,
-    most: &str,
-    wire: &[u8],
-    out: &[u8],
-) -> Result<String, AllocError> {
+    texts: &[Text],
+    form: Form,
+    most: usize,
+) -> Result<u64, AllocError> {
     let mut count = 0u64;
-    for piece in 1..=number(most) as usize {
-        if is_whole(&ended(rt, alloc, Case { piece, ..case })?, wire, out) {
+    for piece in 1..=most {
+        if gives_whole(rt, alloc, texts, form, piece)? {
             count = count.saturating_add(1);
         }
     }
-    format!(in alloc; "pieces of 1 to {most}: {count} give the whole")
+    Ok(count)
 }
 
-/// The pieces of one command.
-fn pieces_of<R: Wait>(
+/// The runs of a command with its INPUT in pieces of each size: `COMMAND MOST`.
+fn push_pieces<R: Wait>(
     rt: &R,
     alloc: Global,
-    answering: &Answering,
-    coding: &Coding,
+    line: &mut String,
+    texts: &[Text],
     words: &str,
-) -> Result<String, AllocError> {
-    let numbers = "1 0 0 0 0 4096";
-    match halves(words) {
-        ("decode", most) => {
-            let case = decode_of(coding, numbers);
-            pieces_line(rt, alloc, case, most, &[], coding.text.as_bytes())
-        }
-        ("encode", most) => {
-            let case = encode_of(coding, numbers);
-            pieces_line(rt, alloc, case, most, coding.frames.as_slice(), &[])
-        }
-        (_, most) => {
-            let case = answer_of(answering, numbers);
-            let (wire, out) = (answering.wire.as_slice(), answering.lines.as_bytes());
-            pieces_line(rt, alloc, case, most, wire, out)
-        }
-    }
+) -> Result<(), AllocError> {
+    let (name, most) = halves(words);
+    let count = whole_runs(rt, alloc, texts, form_of(name), number(most) as usize)?;
+    write!(line, "pieces of 1 to {most}: {count} give the whole")
 }
 
-/// What a line of the file of cases shows.
-pub fn line_of<R: Wait>(
+/// The bytes of frames in hexadecimal, one behind another.
+fn joined(alloc: Global, words: &str) -> Result<Vec<u8>, AllocError> {
+    let mut all = Vec::new(alloc);
+    for word in words.split(" ") {
+        all.extend_from_slice(bytes(alloc, word)?.as_slice())?;
+    }
+    Ok(all)
+}
+
+/// What a client's run gave: its status, the frames of WIRE and the lines of OUT.
+fn push_client_told(alloc: Global, line: &mut String, outcome: &Outcome) -> Result<(), AllocError> {
+    let status = outcome.status();
+    write!(line, "client: {status:?}\n  WIRE")?;
+    push_frames(alloc, line, outcome.wire())?;
+    line.push_str("\n  OUT")?;
+    push_lines(line, outcome.out())
+}
+
+/// What `answer` makes of a client's frames in hexadecimal.
+fn push_client<R: Wait>(
     rt: &R,
     alloc: Global,
-    answering: &Answering,
-    checking: &Checking,
-    coding: &Coding,
-    line: &str,
-) -> Result<String, AllocError> {
-    match line.split_once(": ") {
-        Some(("decode", numbers)) => decode_line(rt, alloc, coding, numbers),
-        Some(("encode", numbers)) => encode_line(rt, alloc, coding, numbers),
-        Some(("lines", words)) => lines_line(rt, alloc, coding, words),
-        Some(("frames", words)) => frames_line(rt, alloc, coding, words),
-        Some(("answer", numbers)) => answer_line(rt, alloc, answering, numbers),
-        Some(("client", words)) => client_lines(rt, alloc, answering, words),
-        Some(("check", numbers)) => check_line(rt, alloc, checking, numbers),
-        Some(("pieces", words)) => pieces_of(rt, alloc, answering, coding, words),
-        _ => line.to_string(alloc),
+    line: &mut String,
+    texts: &[Text],
+    words: &str,
+) -> Result<(), AllocError> {
+    let input = joined(alloc, words)?;
+    let case = ANSWER.case_over(texts, input.as_slice());
+    let outcome = ended(rt, alloc, case, NONE_FAILS)?;
+    push_client_told(alloc, line, &outcome)
+}
+
+/// What `decode` prints of frames in hexadecimal, by the schema of a name: `NAME HEX`.
+fn push_decoded<R: Wait>(
+    rt: &R,
+    alloc: Global,
+    line: &mut String,
+    texts: &[Text],
+    words: &str,
+) -> Result<(), AllocError> {
+    let (name, hex) = halves(words);
+    let input = bytes(alloc, hex)?;
+    let case = DECODE.case_by(texts, name, input.as_slice());
+    let outcome = ended(rt, alloc, case, NONE_FAILS)?;
+    let code = outcome.code();
+    write!(line, "lines {name}: status {code}:")?;
+    push_lines(line, outcome.out())
+}
+
+/// The lines of a text that are parted by ` ; `.
+fn parted(alloc: Global, text: &str) -> Result<Vec<u8>, AllocError> {
+    let mut all = Vec::new(alloc);
+    for part in text.split(" ; ") {
+        all.extend_from_slice(part.as_bytes())?;
+        all.push(b'\n')?;
+    }
+    Ok(all)
+}
+
+/// What `encode` writes of a text whose lines are parted by ` ; `, by the schema of a name: `NAME TEXT`.
+fn push_encoded<R: Wait>(
+    rt: &R,
+    alloc: Global,
+    line: &mut String,
+    texts: &[Text],
+    words: &str,
+) -> Result<(), AllocError> {
+    let (name, text) = halves(words);
+    let input = parted(alloc, text)?;
+    let case = ENCODE.case_by(texts, name, input.as_slice());
+    let outcome = ended(rt, alloc, case, NONE_FAILS)?;
+    let code = outcome.code();
+    write!(line, "frames {name}: status {code}: ")?;
+    push_digits(alloc, line, outcome.wire())
+}
+
+/// Adds what a line of the file of cases shows.
+pub fn push_line<R: Wait>(
+    rt: &R,
+    alloc: Global,
+    line: &mut String,
+    texts: &[Text],
+    case: &str,
+) -> Result<(), AllocError> {
+    let Some((kind, words)) = case.split_once(": ") else {
+        return line.push_str(case);
+    };
+    match kind {
+        "lines" => push_decoded(rt, alloc, line, texts, words),
+        "frames" => push_encoded(rt, alloc, line, texts, words),
+        "client" => push_client(rt, alloc, line, texts, words),
+        "pieces" => push_pieces(rt, alloc, line, texts, words),
+        "answer" | "check" | "decode" | "encode" => {
+            write!(line, "{kind} {words}: ")?;
+            push_run(rt, alloc, line, texts, form_of(kind), words)
+        }
+        _ => line.push_str(case),
     }
 }

@@ -8,40 +8,63 @@ use gw_outside::Bytes;
 use std::alloc::{AllocError, Global};
 use std::sync::Wait;
 
-/// The calls of each device that fail; 0 is none.
+/// The greatest piece of INPUT, the call of each device that fails, and the room of both outputs; a call 0 is none.
 #[derive(Clone, Copy)]
-pub struct Failing {
+pub struct Numbers {
+    pub piece: usize,
     pub config: u64,
     pub input: u64,
     pub wire: u64,
     pub out: u64,
+    pub room: usize,
 }
 
-/// No call fails.
-pub const NONE_FAILS: Failing = Failing {
+/// No call fails, and INPUT comes in pieces of seven bytes.
+pub const NONE_FAILS: Numbers = Numbers {
+    piece: 7,
     config: 0,
     input: 0,
     wire: 0,
     out: 0,
+    room: 4096,
 };
 
-/// A run: its command, CONFIG and INPUT, the greatest piece of INPUT, the calls that fail, and the room of both outputs.
+/// What a run is over: the words of its command, CONFIG and INPUT.
 #[derive(Clone, Copy)]
 pub struct Case<'a> {
-    pub words: &'a str,
+    pub words: &'static str,
     pub config: &'a [u8],
     pub input: &'a [u8],
-    pub piece: usize,
-    pub failing: Failing,
-    pub room: usize,
 }
 
 /// How a run ended: its status, and the outputs.
 #[derive(Drop)]
 pub struct Outcome {
-    pub status: Status,
-    pub wire: MemSink,
-    pub out: MemSink,
+    status: Status,
+    wire: MemSink,
+    out: MemSink,
+}
+
+impl Outcome {
+    /// The status.
+    pub fn status(&self) -> &Status {
+        &self.status
+    }
+
+    /// The number of the status.
+    pub fn code(&self) -> u8 {
+        self.status.code()
+    }
+
+    /// The bytes of WIRE.
+    pub fn wire(&self) -> &[u8] {
+        self.wire.taken()
+    }
+
+    /// The bytes of OUT.
+    pub fn out(&self) -> &[u8] {
+        self.out.taken()
+    }
 }
 
 fn calls(alloc: Global, fail: u64) -> Result<Calls, AllocError> {
@@ -51,36 +74,66 @@ fn calls(alloc: Global, fail: u64) -> Result<Calls, AllocError> {
 fn source(alloc: Global, bytes: &[u8], piece: usize, fail: u64) -> Result<MemSource, AllocError>
     requires { 0 < piece }
 {
-    let bytes = Bytes::from(Vec::from_slice(alloc, bytes)?);
-    Ok(MemSource::new(bytes, piece, calls(alloc, fail)?))
+    let calls = calls(alloc, fail)?;
+    let bytes = Vec::from_slice(alloc, bytes)?;
+    Ok(MemSource::new(Bytes::from(bytes), piece, calls))
 }
 
 fn sink(alloc: Global, room: usize, fail: u64) -> Result<MemSink, AllocError> {
     MemSink::new(alloc, room, calls(alloc, fail)?)
 }
 
-/// The words of a command.
-fn split(alloc: Global, text: &str) -> Result<Vec<String>, AllocError> {
-    let mut words = Vec::new(alloc);
-    for word in text.split_whitespace() {
-        words.push(String::from_str(alloc, word)?)?;
-    }
-    Ok(words)
+/// CONFIG and INPUT.
+fn sources(
+    alloc: Global,
+    case: Case<'_>,
+    numbers: Numbers,
+) -> Result<(MemSource, MemSource), AllocError> {
+    let config = source(alloc, case.config, 64, numbers.config)?;
+    let input = source(alloc, case.input, numbers.piece.max(1), numbers.input)?;
+    Ok((config, input))
+}
+
+/// WIRE and OUT.
+fn sinks(alloc: Global, numbers: Numbers) -> Result<(MemSink, MemSink), AllocError> {
+    let wire = sink(alloc, numbers.room, numbers.wire)?;
+    let out = sink(alloc, numbers.room, numbers.out)?;
+    Ok((wire, out))
+}
+
+/// The disks of OUTBOX and INBOX, which no case names.
+fn disks(alloc: Global) -> Result<(MemDisk, MemDisk), AllocError> {
+    let outbox = MemDisk::without_faults(alloc, 0)?;
+    let inbox = MemDisk::without_faults(alloc, 0)?;
+    Ok((outbox, inbox))
 }
 
 /// The devices of a case.
 fn outside(
     alloc: Global,
     case: Case<'_>,
+    numbers: Numbers,
 ) -> Result<Outside<MemSource, MemSink, MemDisk>, AllocError> {
+    let (config, input) = sources(alloc, case, numbers)?;
+    let (wire, out) = sinks(alloc, numbers)?;
+    let (out_disk, in_disk) = disks(alloc)?;
     Ok(Outside {
-        config: source(alloc, case.config, 64, case.failing.config)?,
-        input: source(alloc, case.input, case.piece.max(1), case.failing.input)?,
-        wire: sink(alloc, case.room, case.failing.wire)?,
-        out: sink(alloc, case.room, case.failing.out)?,
-        out_disk: MemDisk::without_faults(alloc, 0)?,
-        in_disk: MemDisk::without_faults(alloc, 0)?,
+        config,
+        input,
+        wire,
+        out,
+        out_disk,
+        in_disk,
     })
+}
+
+/// The words of a command.
+fn split(alloc: Global, text: &str) -> Result<Vec<String>, AllocError> {
+    let mut words = Vec::new(alloc);
+    for word in text.split(" ") {
+        words.push(String::from_str(alloc, word)?)?;
+    }
+    Ok(words)
 }
 
 /// Runs words over devices.
@@ -103,8 +156,13 @@ fn run_over<R: Wait>(
 }
 
 /// Runs a case.
-pub fn ended<R: Wait>(rt: &R, alloc: Global, case: Case<'_>) -> Result<Outcome, AllocError> {
+pub fn ended<R: Wait>(
+    rt: &R,
+    alloc: Global,
+    case: Case<'_>,
+    numbers: Numbers,
+) -> Result<Outcome, AllocError> {
     let words = split(alloc, case.words)?;
-    let outside = outside(alloc, case)?;
+    let outside = outside(alloc, case, numbers)?;
     Ok(run_over(rt, alloc, words.as_slice(), outside))
 }

@@ -3,33 +3,37 @@
 #![tactic(auto)]
 
 mod cases;
-mod clients;
-mod coding;
 mod devices;
+mod forms;
 mod texts;
+mod told;
 
-use crate::texts::{Answering, Checking, Coding, read_answering, read_checking, read_coding};
+use crate::cases::push_line;
+use crate::texts::{Text, read_texts};
 use std::sync::Wait;
 use std::{fs, io};
+
+/// Prints what a line of the file of cases shows.
+fn print_case<R: Print + AllocGlobal + Wait>(rt: &R, texts: &[Text], case: &str) -> io::Result<()> {
+    let mut line = String::new(rt.alloc());
+    push_line(rt, rt.alloc(), &mut line, texts, case)?;
+    rt.println(line)
+}
 
 /// Prints what each line of the file of cases shows.
 fn print_cases<R: Print + AllocGlobal + Wait>(
     rt: &R,
-    answering: &Answering,
-    checking: &Checking,
-    coding: &Coding,
+    texts: &[Text],
     cases: &str,
 ) -> io::Result<()> {
-    for line in cases.lines() {
-        rt.println(cases::line_of(rt, rt.alloc(), answering, checking, coding, line)?)?;
+    for case in cases.lines() {
+        print_case(rt, texts, case)?;
     }
     Ok(())
 }
 
 fn main(rt: HostRuntime) -> io::Result<()> {
-    let answering = read_answering(&rt)?;
-    let checking = read_checking(&rt)?;
-    let coding = read_coding(&rt)?;
+    let texts = read_texts(&rt)?;
     let cases = fs::read_to_string(&rt, "cases.txt")?;
-    print_cases(&rt, &answering, &checking, &coding, cases.as_str())
+    print_cases(&rt, texts.as_slice(), cases.as_str())
 }

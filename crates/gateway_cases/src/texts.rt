@@ -5,91 +5,83 @@ use std::alloc::{AllocError, Global};
 use std::fs::{self, Files};
 use std::io;
 
-/// The CONFIG and INPUT of `answer`, and all of WIRE and OUT.
+/// The files that runs are over, and those of what they have to give.
+const FILES: [&str; 12] = [
+    "answer.toml",
+    "client.hex",
+    "wire.hex",
+    "lines.txt",
+    "schema.toml",
+    "layout.txt",
+    "orders.toml",
+    "orders-v1.toml",
+    "mix.toml",
+    "trade.toml",
+    "orders.hex",
+    "orders.txt",
+];
+
+/// What stands in a file.
 #[derive(Drop)]
-pub struct Answering {
-    pub settings: String,
-    pub input: Vec<u8>,
-    pub wire: Vec<u8>,
-    pub lines: String,
+pub struct Text {
+    name: &'static str,
+    bytes: Vec<u8>,
 }
 
-/// The CONFIG of `check`, and all of OUT.
-#[derive(Drop)]
-pub struct Checking {
-    pub schema: String,
-    pub layout: String,
-}
-
-/// The schemas of messages, and orders as frames and as text.
-#[derive(Drop)]
-pub struct Coding {
-    pub orders: String,
-    pub older: String,
-    pub mix: String,
-    pub trade: String,
-    pub frames: Vec<u8>,
-    pub text: String,
-}
-
-/// The bytes that the lines of a text spell, one behind another.
-fn unhexed(alloc: Global, text: &str) -> Result<Vec<u8>, AllocError> {
-    let mut all = Vec::new(alloc);
+/// Adds the bytes that the lines of a text spell in hexadecimal.
+fn push_spelled(alloc: Global, all: &mut Vec<u8>, text: &str) -> Result<(), AllocError> {
     for line in text.lines() {
-        all.extend_from_slice(bytes(alloc, line)?.as_slice())?;
+        let spelled = bytes(alloc, line)?;
+        all.extend_from_slice(spelled.as_slice())?;
     }
-    Ok(all)
+    Ok(())
 }
 
-fn bytes_of_file<R: Files + AllocGlobal>(rt: &R, file: &str) -> io::Result<Vec<u8>> {
-    let text = fs::read_to_string(rt, file)?;
-    Ok(unhexed(rt.alloc(), text.as_str())?)
+/// Adds what a file's text stands for: bytes in hexadecimal, or itself.
+fn push_meant(alloc: Global, all: &mut Vec<u8>, name: &str, text: &str) -> Result<(), AllocError> {
+    if name.ends_with(".hex") {
+        push_spelled(alloc, all, text)
+    } else {
+        all.extend_from_slice(text.as_bytes())
+    }
 }
 
-/// Reads the texts of `answer`.
+/// Adds what a file's text stands for.
+fn push_read<R: Files + AllocGlobal>(
+    rt: &R,
+    bytes: &mut Vec<u8>,
+    name: &'static str,
+) -> io::Result<()> {
+    let text = fs::read_to_string(rt, name)?;
+    push_meant(rt.alloc(), bytes, name, text.as_str())?;
+    Ok(())
+}
+
+/// Reads a file.
+fn read_text<R: Files + AllocGlobal>(rt: &R, name: &'static str) -> io::Result<Text> {
+    let mut bytes = Vec::new(rt.alloc());
+    push_read(rt, &mut bytes, name)?;
+    Ok(Text { name, bytes })
+}
+
+/// Reads all files.
 ///
 /// # Errors
 /// A file that cannot be read, or want of memory.
-pub fn read_answering<R: Files + AllocGlobal>(rt: &R) -> io::Result<Answering> {
-    let settings = fs::read_to_string(rt, "answer.toml")?;
-    let input = bytes_of_file(rt, "client.hex")?;
-    let wire = bytes_of_file(rt, "wire.hex")?;
-    let lines = fs::read_to_string(rt, "lines.txt")?;
-    Ok(Answering {
-        settings,
-        input,
-        wire,
-        lines,
-    })
+pub fn read_texts<R: Files + AllocGlobal>(rt: &R) -> io::Result<Vec<Text>> {
+    let mut texts = Vec::new(rt.alloc());
+    for name in FILES {
+        texts.push(read_text(rt, name)?)?;
+    }
+    Ok(texts)
 }
 
-/// Reads the texts of `check`.
-///
-/// # Errors
-/// A file that cannot be read, or want of memory.
-pub fn read_checking<R: Files + AllocGlobal>(rt: &R) -> io::Result<Checking> {
-    let schema = fs::read_to_string(rt, "schema.toml")?;
-    let layout = fs::read_to_string(rt, "layout.txt")?;
-    Ok(Checking { schema, layout })
-}
-
-/// Reads the schemas and the orders of `decode` and `encode`.
-///
-/// # Errors
-/// A file that cannot be read, or want of memory.
-pub fn read_coding<R: Files + AllocGlobal>(rt: &R) -> io::Result<Coding> {
-    let orders = fs::read_to_string(rt, "orders.toml")?;
-    let older = fs::read_to_string(rt, "orders-v1.toml")?;
-    let mix = fs::read_to_string(rt, "mix.toml")?;
-    let trade = fs::read_to_string(rt, "trade.toml")?;
-    let frames = bytes_of_file(rt, "orders.hex")?;
-    let text = fs::read_to_string(rt, "orders.txt")?;
-    Ok(Coding {
-        orders,
-        older,
-        mix,
-        trade,
-        frames,
-        text,
-    })
+/// The bytes of the file of this name; none where there is no such file.
+pub fn bytes_named<'a>(texts: &'a [Text], name: &str) -> &'a [u8] {
+    for text in texts {
+        if text.name == name {
+            return text.bytes.as_slice();
+        }
+    }
+    &[]
 }
