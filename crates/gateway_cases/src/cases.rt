@@ -1,6 +1,6 @@
 //! The lines of the file of cases, and what each run is to give.
 
-use crate::devices::{NONE_FAILS, Numbers, Outcome, ended};
+use crate::devices::{Case, NONE_FAILS, Numbers, Outcome, ended};
 use crate::forms::{ANSWER, DECODE, ENCODE, Form, form_of};
 use crate::texts::Text;
 use crate::told::{push_digits, push_frames, push_lines, push_told};
@@ -98,13 +98,56 @@ fn joined(alloc: Global, words: &str) -> Result<Vec<u8>, AllocError> {
     Ok(all)
 }
 
-/// What a client's run gave: its status, the frames of WIRE and the lines of OUT.
+/// What is shown of a run in which no device fails.
+#[derive(Clone, Copy)]
+enum Shown<'a> {
+    /// Its status by name, the frames of WIRE and the lines of OUT.
+    Client,
+    /// Its status and the lines of OUT, behind the name of the schema.
+    Lines(&'a str),
+    /// Its status and the bytes of WIRE, behind the name of the schema.
+    Frames(&'a str),
+}
+
 fn push_client_told(alloc: Global, line: &mut String, outcome: &Outcome) -> Result<(), AllocError> {
     let status = outcome.status();
     write!(line, "client: {status:?}\n  WIRE")?;
     push_frames(alloc, line, outcome.wire())?;
     line.push_str("\n  OUT")?;
     push_lines(line, outcome.out())
+}
+
+/// Adds what is shown of a run.
+fn push_shown(
+    alloc: Global,
+    line: &mut String,
+    shown: Shown<'_>,
+    outcome: &Outcome,
+) -> Result<(), AllocError> {
+    let code = outcome.code();
+    match shown {
+        Shown::Client => push_client_told(alloc, line, outcome),
+        Shown::Lines(schema) => {
+            write!(line, "lines {schema}: status {code}:")?;
+            push_lines(line, outcome.out())
+        }
+        Shown::Frames(schema) => {
+            write!(line, "frames {schema}: status {code}: ")?;
+            push_digits(alloc, line, outcome.wire())
+        }
+    }
+}
+
+/// A run in which no device fails.
+fn push_whole_run<R: Wait>(
+    rt: &R,
+    alloc: Global,
+    line: &mut String,
+    case: Case<'_>,
+    shown: Shown<'_>,
+) -> Result<(), AllocError> {
+    let outcome = ended(rt, alloc, case, NONE_FAILS)?;
+    push_shown(alloc, line, shown, &outcome)
 }
 
 /// What `answer` makes of a client's frames in hexadecimal.
@@ -117,8 +160,7 @@ fn push_client<R: Wait>(
 ) -> Result<(), AllocError> {
     let input = joined(alloc, words)?;
     let case = ANSWER.case_over(texts, input.as_slice());
-    let outcome = ended(rt, alloc, case, NONE_FAILS)?;
-    push_client_told(alloc, line, &outcome)
+    push_whole_run(rt, alloc, line, case, Shown::Client)
 }
 
 /// What `decode` prints of frames in hexadecimal, by the schema of a name: `NAME HEX`.
@@ -132,10 +174,7 @@ fn push_decoded<R: Wait>(
     let (name, hex) = halves(words);
     let input = bytes(alloc, hex)?;
     let case = DECODE.case_by(texts, name, input.as_slice());
-    let outcome = ended(rt, alloc, case, NONE_FAILS)?;
-    let code = outcome.code();
-    write!(line, "lines {name}: status {code}:")?;
-    push_lines(line, outcome.out())
+    push_whole_run(rt, alloc, line, case, Shown::Lines(name))
 }
 
 /// The lines of a text that are parted by ` ; `.
@@ -159,10 +198,7 @@ fn push_encoded<R: Wait>(
     let (name, text) = halves(words);
     let input = parted(alloc, text)?;
     let case = ENCODE.case_by(texts, name, input.as_slice());
-    let outcome = ended(rt, alloc, case, NONE_FAILS)?;
-    let code = outcome.code();
-    write!(line, "frames {name}: status {code}: ")?;
-    push_digits(alloc, line, outcome.wire())
+    push_whole_run(rt, alloc, line, case, Shown::Frames(name))
 }
 
 /// Adds what a line of the file of cases shows.
