@@ -69,34 +69,34 @@ fn push_key(line: &mut String, key: &[u8]) -> Result<(), AllocError> {
     }
 }
 
+/// Adds a step of a path: a dot and a key, the first of them without a dot, or `[N]`.
+fn push_step(line: &mut String, is_first: bool, step: &Step) -> Result<(), AllocError> {
+    match step {
+        Step::Key(key) => {
+            line.push_str(if is_first { "" } else { "." })?;
+            push_key(line, key.as_slice())
+        }
+        Step::At(place) => write!(line, "[{place}]"),
+    }
+}
+
 /// Adds a path: its keys joined by dots, and `[N]` for a place in a list.
 pub fn push_path(line: &mut String, path: &Path) -> Result<(), AllocError> {
-    let mut is_first = true;
-    for step in path.as_slice() {
-        match step {
-            Step::Key(key) => {
-                if !is_first {
-                    line.push_str(".")?;
-                }
-                push_key(line, key.as_slice())?;
-            }
-            Step::At(place) => write!(line, "[{place}]")?,
-        }
-        is_first = false;
+    for (at, step) in path.as_slice().iter().enumerate() {
+        push_step(line, at == 0, step)?;
     }
     Ok(())
 }
 
-/// A file of the command line: what it is to the command, and its path.
-pub fn file_name(alloc: Global, role: &str, path: &str) -> Result<String, AllocError> {
-    let mut line = String::from_str(alloc, role)?;
+/// Adds a file of the command line: what it is to the command, and its path.
+pub fn push_file(line: &mut String, role: &str, path: &str) -> Result<(), AllocError> {
+    line.push_str(role)?;
     line.push_str(" ")?;
     if is_bare(path) {
-        line.push_str(path)?;
+        line.push_str(path)
     } else {
-        push_quoted(&mut line, path)?;
+        push_quoted(line, path)
     }
-    Ok(line)
 }
 
 /// A text in quotes.

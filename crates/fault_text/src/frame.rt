@@ -1,71 +1,80 @@
 //! What is wrong with a frame.
 
+use crate::filled::{Filled, plain, with_one};
 use fixp_msgs::{FrameKind, MsgFault, kind, read};
 use sofh_frame::{FirstFrame, Order, next};
-use std::alloc::{AllocError, Global};
+use std::alloc::AllocError;
+
+/// The template of a message, which stands in its third and fourth byte.
+fn template_of(message: &[u8]) -> u16 {
+    match message {
+        [_, _, low, high, ..] => u16::from_le_bytes([*low, *high]),
+        _ => 0,
+    }
+}
+
+/// What is wrong with a session message that is too short.
+fn short_message(message: &[u8]) -> Filled {
+    with_one(
+        "the block or the data of the session message with template # are too short",
+        template_of(message) as u128,
+    )
+}
 
 /// What is wrong with a whole frame.
-fn malformed_message(
-    alloc: Global,
-    order: Order,
-    message: &[u8],
-) -> Result<Option<String>, AllocError> {
+fn malformed_message(order: Order, message: &[u8]) -> Option<Filled> {
     if message.len() < 8 {
-        return Ok(None);
+        return None;
     }
     match kind(order, message) {
-        FrameKind::Wrong => Ok(Some(String::from_str(
-            alloc,
-            "a session message in big-endian order",
-        )?)),
+        FrameKind::Wrong => Some(plain("a session message in big-endian order")),
         FrameKind::Session => match read(message) {
-            Err(MsgFault::Short) => {
-                let template = u16::from_le_bytes([message[2], message[3]]);
-                let text = format!(in alloc;
-                    "the block or the data of the session message with template {template} are too short"
-                )?;
-                Ok(Some(text))
-            }
-            _ => Ok(None),
+            Err(MsgFault::Short) => Some(short_message(message)),
+            _ => None,
         },
-        FrameKind::App => Ok(None),
+        FrameKind::App => None,
     }
 }
 
-/// Why no frame of a schema's messages begins with these bytes, if that can be told.
-pub fn refused_frame(alloc: Global, bytes: &[u8]) -> Result<Option<String>, AllocError> {
+/// Adds why no frame of a schema's messages begins with these bytes, behind a colon, if that can be told.
+pub fn push_refused(line: &mut String, bytes: &[u8]) -> Result<(), AllocError> {
+    let FirstFrame::Frame { order, .. } = next(bytes) else {
+        return push_malformed(line, bytes);
+    };
+    let encoding = match order {
+        Order::Little => 0xEB50u16,
+        Order::Big => 0x5BE0u16,
+    };
+    write!(
+        line,
+        ": the frame's encoding type is 0x{encoding:04x}, which is not of the schema's byte order"
+    )
+}
+
+/// Adds why the frame at the front of these bytes is malformed, behind a colon, if that can be told.
+pub fn push_malformed(line: &mut String, bytes: &[u8]) -> Result<(), AllocError> {
     match next(bytes) {
-        FirstFrame::Frame { order, .. } => {
-            let encoding = match order {
-                Order::Little => 0xEB50u16,
-                Order::Big => 0x5BE0u16,
-            };
-            let text = format!(in alloc;
-                "the frame's encoding type is 0x{encoding:04x}, which is not of the schema's byte order"
-            )?;
-            Ok(Some(text))
+        FirstFrame::BadLength(length) => write!(
+            line,
+            ": the frame's length is {length}, not from 14 to 16390 bytes"
+        ),
+        FirstFrame::BadEncoding(encoding) => write!(
+            line,
+            ": the frame's encoding type is 0x{encoding:04x}, neither 0xeb50 nor 0x5be0"
+        ),
+        FirstFrame::Frame { order, message, .. } => {
+            push_behind_colon(line, malformed_message(order, message))
         }
-        FirstFrame::BadLength(_) | FirstFrame::BadEncoding(_) => malformed_frame(alloc, bytes),
-        FirstFrame::Rest => Ok(None),
+        FirstFrame::Rest => Ok(()),
     }
 }
 
-/// Why the frame at the front of these bytes is malformed, if that can be told.
-pub fn malformed_frame(alloc: Global, bytes: &[u8]) -> Result<Option<String>, AllocError> {
-    match next(bytes) {
-        FirstFrame::BadLength(length) => {
-            let text = format!(in alloc;
-                "the frame's length is {length}, not from 14 to 16390 bytes"
-            )?;
-            Ok(Some(text))
+fn push_behind_colon(line: &mut String, what: Option<Filled>) -> Result<(), AllocError> {
+    match what {
+        Some(what) => {
+            line.push_str(": ")?;
+            what.push(line)
         }
-        FirstFrame::BadEncoding(encoding) => {
-            let text = format!(in alloc;
-                "the frame's encoding type is 0x{encoding:04x}, neither 0xeb50 nor 0x5be0"
-            )?;
-            Ok(Some(text))
-        }
-        FirstFrame::Frame { order, message, .. } => malformed_message(alloc, order, message),
-        FirstFrame::Rest => Ok(None),
+        None => Ok(()),
     }
 }

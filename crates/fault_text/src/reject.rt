@@ -1,6 +1,6 @@
 //! A peer's reject of the handshake, in words.
 
-use std::alloc::{AllocError, Global};
+use std::alloc::AllocError;
 
 /// What a NegotiationReject says by its code.
 fn negotiation(code: u8) -> &'static str {
@@ -26,16 +26,15 @@ fn establishment(code: u8) -> &'static str {
     }
 }
 
-/// A reject of this template with this code.
+/// Adds a reject of this template with this code.
 ///
 /// # Errors
 /// Want of memory.
-pub fn rejected(alloc: Global, template: u16, code: u8) -> Result<String, AllocError> {
-    if template == 3 {
-        let words = negotiation(code);
-        format!(in alloc; "the peer answered Negotiate by NegotiationReject {code}, {words}")
+pub fn push_rejected(line: &mut String, template: u16, code: u8) -> Result<(), AllocError> {
+    let (asked, answer, words) = if template == 3 {
+        ("Negotiate", "NegotiationReject", negotiation(code))
     } else {
-        let words = establishment(code);
-        format!(in alloc; "the peer answered Establish by EstablishmentReject {code}, {words}")
-    }
+        ("Establish", "EstablishmentReject", establishment(code))
+    };
+    write!(line, "the peer answered {asked} by {answer} {code}, {words}")
 }

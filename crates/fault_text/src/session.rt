@@ -1,7 +1,8 @@
 //! The rules of a session that a client broke, in words.
 
+use crate::filled::{Filled, plain, with_one, with_two};
 use fixp_shake::{Phase, Violation};
-use std::alloc::{AllocError, Global};
+use std::alloc::AllocError;
 
 /// A message by its template id; 0 stands for an application message.
 fn message_name(template: u16) -> &'static str {
@@ -38,84 +39,130 @@ fn phase_name(phase: Phase) -> &'static str {
     }
 }
 
+/// A broken rule: the name of the message that breaks it, if it is told, and what is said of it.
+#[derive(Clone, Copy)]
+struct Rule {
+    name: &'static str,
+    what: Filled,
+    /// How far the connection had come, if it is told.
+    phase: &'static str,
+}
+
+const fn unnamed(what: Filled) -> Rule {
+    Rule {
+        name: "",
+        what,
+        phase: "",
+    }
+}
+
+fn of_message(template: u16, words: &'static str) -> Rule {
+    Rule {
+        name: message_name(template),
+        what: plain(words),
+        phase: "",
+    }
+}
+
 /// What is wrong with a retransmission: 0 as the number awaited stands for none that was asked for, and 0 as the number that
 /// came for none.
-fn retransmission_fault(alloc: Global, expected: u64, found: u64) -> Result<String, AllocError> {
-    match (expected, found) {
-        (0, 0) => format!(in alloc; "a retransmission is refused that was not asked for"),
-        (0, found) => {
-            format!(in alloc; "a retransmission gives {found}, which was not asked for")
-        }
-        (expected, 0) => format!(in alloc; "a retransmission ends where {expected} is awaited"),
-        (expected, found) => {
-            format!(in alloc; "a retransmission gives {found} where {expected} is awaited")
-        }
+fn retransmission_fault(expected: u64, found: u64) -> Filled {
+    match (expected as u128, found as u128) {
+        (0, 0) => plain("a retransmission is refused that was not asked for"),
+        (0, found) => with_one("a retransmission gives #, which was not asked for", found),
+        (expected, 0) => with_one("a retransmission ends where # is awaited", expected),
+        (expected, found) => with_two(
+            "a retransmission gives # where # is awaited",
+            found,
+            expected,
+        ),
     }
 }
 
 /// What is wrong with a message that its phase does not await.
-fn misplaced(alloc: Global, template: u16, phase: Phase) -> Result<String, AllocError> {
+fn misplaced(template: u16, phase: Phase) -> Rule {
     match (template, phase) {
-        (9, Phase::Established) => {
-            format!(in alloc; "RetransmitRequest comes while an earlier one is served")
-        }
-        (15, Phase::Established) => {
-            format!(in alloc; "FinishedReceiving comes, and no FinishedSending awaits it")
-        }
-        (template, phase) => {
-            let (name, phase) = (message_name(template), phase_name(phase));
-            format!(in alloc; "{name} may not come {phase}")
-        }
+        (9, Phase::Established) => of_message(9, " comes while an earlier one is served"),
+        (15, Phase::Established) => of_message(15, " comes, and no FinishedSending awaits it"),
+        (template, phase) => Rule {
+            name: message_name(template),
+            what: plain(" may not come "),
+            phase: phase_name(phase),
+        },
     }
 }
 
-/// The rule that the frame at this place of the input breaks, with its numbers.
+/// Adds the rule that the frame at this place of the input breaks, with its numbers.
 ///
 /// # Errors
 /// Want of memory.
-pub fn broken_rule(alloc: Global, at: u64, violation: Violation) -> Result<String, AllocError> {
-    let rule = rule_of(alloc, violation)?;
-    format!(in alloc; "frame at byte {at}: {rule}")
+pub fn push_broken_rule(
+    line: &mut String,
+    at: u64,
+    violation: Violation,
+) -> Result<(), AllocError> {
+    write!(line, "frame at byte {at}: ")?;
+    push_rule(line, rule_of(violation))
+}
+
+fn push_rule(line: &mut String, rule: Rule) -> Result<(), AllocError> {
+    line.push_str(rule.name)?;
+    rule.what.push(line)?;
+    line.push_str(rule.phase)
 }
 
 /// A broken rule.
-fn rule_of(alloc: Global, violation: Violation) -> Result<String, AllocError> {
+fn rule_of(violation: Violation) -> Rule {
     match violation {
-        Violation::BadFrame { .. } => format!(in alloc; "it is malformed"),
-        Violation::UnknownTemplate { id } => {
-            format!(in alloc; "template {id} is no session message's; they have 1 to 16")
-        }
-        Violation::NotInPhase { template, phase } => misplaced(alloc, template, phase),
+        Violation::NotInPhase { template, phase } => misplaced(template, phase),
         Violation::OtherSession { template } => {
-            let name = message_name(template);
-            format!(in alloc; "{name} names another session than CONFIG")
+            of_message(template, " names another session than CONFIG")
         }
+        Violation::MissingNext { template } => {
+            of_message(template, " gives no number, and the flow has numbers")
+        }
+        Violation::FlowNone { template } => {
+            of_message(template, " comes on a flow that CONFIG says is none")
+        }
+        other => unnamed(rule_on_numbers(other)),
+    }
+}
+
+/// A broken rule that names no message.
+fn rule_on_numbers(violation: Violation) -> Filled {
+    match violation {
+        Violation::UnknownTemplate { id } => with_one(
+            "template # is no session message's; they have 1 to 16",
+            id as u128,
+        ),
         Violation::WentBack {
             announced,
             expected,
-        } => format!(in alloc; "number {announced} is announced where {expected} is the least"),
-        Violation::MissingNext { template } => {
-            let name = message_name(template);
-            format!(in alloc; "{name} gives no number, and the flow has numbers")
-        }
-        Violation::NumberTooLarge { announced } => {
-            format!(in alloc; "number {announced} is above the limit of 16777216 messages")
-        }
-        Violation::BadRetransmission { expected, found } => {
-            retransmission_fault(alloc, expected, found)
-        }
-        Violation::AfterFinish { last, found } => {
-            format!(in alloc; "number {found} comes after the flow was finished with {last}")
-        }
-        Violation::FlowNone { template } => {
-            let name = message_name(template);
-            format!(in alloc; "{name} comes on a flow that CONFIG says is none")
-        }
-        Violation::Silent { last, now } => {
-            format!(in alloc; "nothing came from {last} ms to {now} ms, three intervals long")
-        }
-        Violation::HandshakeLate { start, now } => {
-            format!(in alloc; "the handshake begun at {start} ms is not done at {now} ms")
-        }
+        } => with_two(
+            "number # is announced where # is the least",
+            announced as u128,
+            expected as u128,
+        ),
+        Violation::NumberTooLarge { announced } => with_one(
+            "number # is above the limit of 16777216 messages",
+            announced as u128,
+        ),
+        Violation::BadRetransmission { expected, found } => retransmission_fault(expected, found),
+        Violation::AfterFinish { last, found } => with_two(
+            "number # comes after the flow was finished with #",
+            found as u128,
+            last as u128,
+        ),
+        Violation::Silent { last, now } => with_two(
+            "nothing came from # ms to # ms, three intervals long",
+            last as u128,
+            now as u128,
+        ),
+        Violation::HandshakeLate { start, now } => with_two(
+            "the handshake begun at # ms is not done at # ms",
+            start as u128,
+            now as u128,
+        ),
+        _ => plain("it is malformed"),
     }
 }

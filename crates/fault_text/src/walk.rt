@@ -1,7 +1,8 @@
 //! Elements of a message, and of its text, found by the plan of their schema.
 
-use sbe_layout::{BlockPlan, DataPlan, ItemPlan, MessagePlan, Plan};
-use sbe_text::{count_lines, first_line, first_message, names_begin};
+use crate::codec::behind_message;
+use sbe_layout::{BlockPlan, DataPlan, GroupPlan, ItemPlan, MessagePlan, Plan};
+use sbe_text::{count_lines, first_line, names_begin};
 use sbe_value::{Block, Bytes, Datum, Group, Item, Message, Step};
 use std::alloc::{AllocError, Global};
 
@@ -117,11 +118,11 @@ impl<'a> Cursor<'a> {
     }
 }
 
-/// The path of an element.
-fn path_to(alloc: Global, before: &[u8], name: &Bytes) -> Result<Option<Bytes>, AllocError> {
-    let mut path = Bytes::from_slice(alloc, before)?;
+/// Adds the path of an element.
+fn push_path_to(path: &mut Vec<u8>, before: &[u8], name: &Bytes) -> Result<bool, AllocError> {
+    path.extend_from_slice(before)?;
     path.extend_from_slice(name.as_slice())?;
-    Ok(Some(path))
+    Ok(true)
 }
 
 /// The number of entries that the line of a group tells.
@@ -133,32 +134,34 @@ fn entries_on(line: &[u8]) -> u64 {
     }
 }
 
-fn awaited_item(
-    alloc: Global,
+/// Whether an item is awaited at the line that is looked for; adds its path.
+fn push_item(
+    path: &mut Vec<u8>,
     before: &[u8],
     items: &[ItemPlan],
     cursor: &mut Cursor<'_>,
-) -> Result<Option<Bytes>, AllocError> {
+) -> Result<bool, AllocError> {
     for item in items {
         if cursor.next().is_none() {
-            return path_to(alloc, before, &item.name);
+            return push_path_to(path, before, &item.name);
         }
     }
-    Ok(None)
+    Ok(false)
 }
 
-fn awaited_datum(
-    alloc: Global,
+/// Whether a datum is awaited there; adds its path.
+fn push_datum(
+    path: &mut Vec<u8>,
     before: &[u8],
     vars: &[DataPlan],
     cursor: &mut Cursor<'_>,
-) -> Result<Option<Bytes>, AllocError> {
+) -> Result<bool, AllocError> {
     for datum in vars {
         if cursor.next().is_none() {
-            return path_to(alloc, before, &datum.name);
+            return push_path_to(path, before, &datum.name);
         }
     }
-    Ok(None)
+    Ok(false)
 }
 
 /// Whether a block has any elements.
@@ -168,48 +171,58 @@ fn has_elements(plan: &BlockPlan) -> bool {
         && plan.vars.as_slice().is_empty())
 }
 
-/// The path of the element of a block that is awaited at the line that is looked for.
-fn awaited_element(
+/// How many entries of a group have lines, by the group's line: entries without elements have none.
+fn lined_entries(group: &GroupPlan, line: &[u8]) -> u64 {
+    if has_elements(&group.block) {
+        entries_on(line)
+    } else {
+        0
+    }
+}
+
+/// Whether an element of a block is awaited at the line that is looked for; adds its path.
+fn push_element(
     alloc: Global,
     depth: u8,
+    path: &mut Vec<u8>,
     before: &[u8],
     plan: &BlockPlan,
     cursor: &mut Cursor<'_>,
-) -> Result<Option<Bytes>, AllocError> {
+) -> Result<bool, AllocError> {
     if depth == 0 {
-        return Ok(None);
+        return Ok(false);
     }
-    if let Some(path) = awaited_item(alloc, before, plan.items.as_slice(), cursor)? {
-        return Ok(Some(path));
+    if push_item(path, before, plan.items.as_slice(), cursor)? {
+        return Ok(true);
     }
     for group in plan.groups.as_slice() {
         let Some(line) = cursor.next() else {
-            return path_to(alloc, before, &group.name);
+            return push_path_to(path, before, &group.name);
         };
-        // entries without elements have no lines
-        let lined = if has_elements(&group.block) {
-            entries_on(line)
-        } else {
-            0
-        };
-        for at in 0..lined {
+        for at in 0..lined_entries(group, line) {
             let inner = names_begin(alloc, before, group, at as u128)?;
-            let path = awaited_element(alloc, depth - 1, inner.as_slice(), &group.block, cursor)?;
-            if path.is_some() {
-                return Ok(path);
+            if push_element(
+                alloc,
+                depth - 1,
+                path,
+                inner.as_slice(),
+                &group.block,
+                cursor,
+            )? {
+                return Ok(true);
             }
         }
     }
-    awaited_datum(alloc, before, plan.vars.as_slice(), cursor)
+    push_datum(path, before, plan.vars.as_slice(), cursor)
 }
 
 /// The text from the first message on that cannot be read.
 fn first_refused<'a>(alloc: Global, plan: &Plan, text: &'a [u8]) -> &'a [u8] {
     let mut left = text;
     for _ in 0..text.len() {
-        match first_message(alloc, plan, left) {
-            Ok((_, rest)) => left = rest,
-            Err(_) => return left,
+        match behind_message(alloc, plan, left) {
+            Some(rest) => left = rest,
+            None => return left,
         }
     }
     left
@@ -224,14 +237,15 @@ fn layout_on<'a>(plan: &'a Plan, line: &[u8]) -> Option<&'a MessagePlan> {
         .find(|message| message.name.as_slice() == name)
 }
 
-/// What is awaited at the line of this number, the first that is refused: an element by its path, `end`, or the line of a
+/// Adds what is awaited at the line of this number, the first that is refused: an element by its path, `end`, or the line of a
 /// message.
-pub fn awaited_at(
+pub fn push_awaited(
     alloc: Global,
+    path: &mut Vec<u8>,
     plan: &Plan,
     text: &[u8],
     number: u64,
-) -> Result<Bytes, AllocError> {
+) -> Result<(), AllocError> {
     let refused = first_refused(alloc, plan, text);
     let lines_before = count_lines(text).saturating_sub(count_lines(refused));
     let mut cursor = Cursor {
@@ -243,10 +257,10 @@ pub fn awaited_at(
         None => None,
     };
     let Some(layout) = layout else {
-        return Bytes::from_slice(alloc, b"the name of a message, as message NAME,");
+        return path.extend_from_slice(b"the name of a message, as message NAME,");
     };
-    match awaited_element(alloc, DEEPEST, b"", &layout.root, &mut cursor)? {
-        Some(path) => Ok(path),
-        None => Bytes::from_slice(alloc, b"end"),
+    if push_element(alloc, DEEPEST, path, b"", &layout.root, &mut cursor)? {
+        return Ok(());
     }
+    path.extend_from_slice(b"end")
 }

@@ -35,18 +35,8 @@ fn read_on<S: Source>(source: &mut S, framer: &mut Framer) -> bool {
     }
 }
 
-/// The place of a frame in a file, in bytes from 0, by its number, from 1.
-pub fn place_of_frame<R: Files<File = File>>(
-    rt: &R,
-    alloc: Global,
-    path: &str,
-    number: u64,
-) -> Option<u64> {
-    if !is_file(rt, path) {
-        return None;
-    }
-    let mut source: FileSource<'_, R, File> = FileSource::new(rt, alloc, path, 0);
-    let mut framer = Framer::new(alloc).ok()?;
+/// The place of a frame of a source, in bytes from 0, by its number, from 1.
+fn place_in<S: Source>(source: &mut S, framer: &mut Framer, number: u64) -> Option<u64> {
     let mut place = 0u64;
     let mut at = 1u64;
     for _ in 0..u64::MAX {
@@ -58,7 +48,7 @@ pub fn place_of_frame<R: Files<File = File>>(
                 at = at.saturating_add(1);
             }
             FirstFrame::Rest => {
-                if !read_on(&mut source, &mut framer) {
+                if !read_on(source, framer) {
                     return None;
                 }
             }
@@ -68,20 +58,46 @@ pub fn place_of_frame<R: Files<File = File>>(
     None
 }
 
+/// The place of a frame in a file, in bytes from 0, by its number, from 1.
+pub fn place_of_frame<R: Files<File = File>>(
+    rt: &R,
+    alloc: Global,
+    path: &str,
+    number: u64,
+) -> Option<u64> {
+    if !is_file(rt, path) {
+        return None;
+    }
+    let mut source: FileSource<'_, R, File> = FileSource::new(rt, alloc, path, 0);
+    match Framer::new(alloc) {
+        Ok(mut framer) => place_in(&mut source, &mut framer, number),
+        Err(_) => None,
+    }
+}
+
+/// Whether a source is a text; adds it.
+fn push_text<S: Source>(source: &mut S, text: &mut Vec<u8>) -> bool {
+    let mut piece = [0u8; PIECE];
+    for _ in 0..=TEXT {
+        match source.pull(&mut piece) {
+            Ok(0) => return true,
+            Ok(count) => {
+                if text.extend_from_slice(&piece[..count]).is_err() {
+                    return false;
+                }
+            }
+            Err(_) => return false,
+        }
+    }
+    false
+}
+
 /// The text of a file.
 pub fn text_of_file<R: Files<File = File>>(rt: &R, alloc: Global, path: &str) -> Option<Vec<u8>> {
     if !is_file(rt, path) {
         return None;
     }
     let mut source: FileSource<'_, R, File> = FileSource::new(rt, alloc, path, 0);
-    let mut piece = [0u8; PIECE];
     let mut text = Vec::new(alloc);
-    for _ in 0..=TEXT {
-        match source.pull(&mut piece) {
-            Ok(0) => return Some(text),
-            Ok(count) => text.extend_from_slice(&piece[..count]).ok()?,
-            Err(_) => return None,
-        }
-    }
-    None
+    push_text(&mut source, &mut text).then_some(text)
 }

@@ -1,13 +1,18 @@
 //! A run over the files that its words name.
 
 use crate::again::{place_of_frame, text_of_file};
-use crate::lines::{disk_line, input_line, journal_line, sink_line, source_line};
+use crate::lines::{push_disk, push_input, push_journal, push_place, push_sink, push_source};
 use crate::report::Report;
-use fault_text::{Wanted, config_fault, decode_line, encode_line, file_name, text_line};
+use fault_text::{
+    Wanted, push_config_fault, push_decode_fault, push_encode_fault, push_text_fault,
+};
 use gateway::{Bad, Command, Outside, Status, Which, command_of, run};
-use gw_real::{FileDisk, FileSink, FileSource, Named, Opening, STANDARD_OUTPUT};
+use gw_real::{
+    DiskReason, FileDisk, FileSink, FileSource, Kept, Named, Opening, Reason, STANDARD_OUTPUT,
+};
+use sbe_layout::Plan;
 use schema_load::load;
-use schema_toml::TEXT_LIMIT;
+use schema_toml::{ConfigFault, TEXT_LIMIT};
 use session_config::Role;
 use sofh_frame::ROOM;
 use std::alloc::{AllocError, Global};
@@ -16,16 +21,24 @@ use std::io::{self, Printer};
 use std::rt::Files;
 use std::sync::Wait;
 
-/// The file at a path, which is this to the command.
-pub const fn named<'a>(role: &'static str, path: &'a str) -> Named<'a> {
+/// The file that the word at a place names, from 1, behind the command; 0 is no file.
+fn named<'a>(role: &'static str, words: &'a [String], at: usize) -> Named<'a> {
+    let path = match words.get(at) {
+        Some(word) if at > 0 => word.as_str(),
+        _ => "",
+    };
     Named { role, path }
 }
 
-/// The word at a place behind the command.
-fn word(words: &[String], at: usize) -> &str {
-    match words.get(at) {
-        Some(word) => word.as_str(),
-        None => "",
+/// The places of the words that name CONFIG, INPUT, WIRE, OUT, OUTBOX and INBOX.
+const fn places(command: Command) -> [usize; 6] {
+    match command {
+        Command::Answer => [1, 2, 3, 4, 0, 0],
+        Command::Check => [1, 0, 0, 2, 0, 0],
+        Command::Decode => [1, 2, 0, 3, 0, 0],
+        Command::Encode => [1, 2, 3, 0, 0, 0],
+        Command::Format => [0, 0, 0, 0, 1, 2],
+        Command::Journal => [0, 0, 0, 3, 1, 2],
     }
 }
 
@@ -45,51 +58,15 @@ impl<'a> Run<'a> {
     /// The run of words that are a listed form.
     fn of(words: &'a [String]) -> Option<Run<'a>> {
         let command = command_of(words)?;
-        let unnamed = Run {
+        let [config, input, wire, out, outbox, inbox] = places(command);
+        Some(Run {
             command,
-            config: named("CONFIG", ""),
-            input: named("INPUT", ""),
-            wire: named("WIRE", ""),
-            out: named("OUT", ""),
-            outbox: named("OUTBOX", ""),
-            inbox: named("INBOX", ""),
-        };
-        Some(match command {
-            Command::Answer => Run {
-                config: named("CONFIG", word(words, 1)),
-                input: named("INPUT", word(words, 2)),
-                wire: named("WIRE", word(words, 3)),
-                out: named("OUT", word(words, 4)),
-                ..unnamed
-            },
-            Command::Check => Run {
-                config: named("CONFIG", word(words, 1)),
-                out: named("OUT", word(words, 2)),
-                ..unnamed
-            },
-            Command::Decode => Run {
-                config: named("CONFIG", word(words, 1)),
-                input: named("INPUT", word(words, 2)),
-                out: named("OUT", word(words, 3)),
-                ..unnamed
-            },
-            Command::Encode => Run {
-                config: named("CONFIG", word(words, 1)),
-                input: named("INPUT", word(words, 2)),
-                wire: named("WIRE", word(words, 3)),
-                ..unnamed
-            },
-            Command::Format => Run {
-                outbox: named("OUTBOX", word(words, 1)),
-                inbox: named("INBOX", word(words, 2)),
-                ..unnamed
-            },
-            Command::Journal => Run {
-                out: named("OUT", word(words, 3)),
-                outbox: named("OUTBOX", word(words, 1)),
-                inbox: named("INBOX", word(words, 2)),
-                ..unnamed
-            },
+            config: named("CONFIG", words, config),
+            input: named("INPUT", words, input),
+            wire: named("WIRE", words, wire),
+            out: named("OUT", words, out),
+            outbox: named("OUTBOX", words, outbox),
+            inbox: named("INBOX", words, inbox),
         })
     }
 
@@ -135,50 +112,36 @@ impl<'a> Run<'a> {
         }
     }
 
-    /// What is wrong, in a line; none where the status says all.
-    fn line<R: Files<File = File> + AllocGlobal, P>(
+    /// Adds what is wrong; nothing where the status says all.
+    fn push_line<R: Files<File = File> + AllocGlobal, P>(
         &self,
         rt: &R,
         alloc: Global,
+        line: &mut String,
         status: &Status,
         outside: &Devices<'_, R, P>,
-    ) -> Result<Option<String>, AllocError> {
+    ) -> Result<(), AllocError> {
         match status {
             Status::Config(fault) => {
-                let file = file_name(alloc, self.config.role, self.config.path)?;
-                let what = config_fault(
-                    alloc,
-                    self.wanted(),
-                    fault,
-                    outside.config.kept().bytes(),
-                )?;
-                Ok(Some(format!(in alloc; "{file}: {what}")?))
+                self.push_config(alloc, line, fault, outside.config.kept().bytes())
             }
-            Status::InputFault => match (outside.config.reason(), outside.input.reason()) {
-                (Some(reason), _) => source_line(alloc, self.config, reason),
-                (None, Some(reason)) => source_line(alloc, self.input, reason),
-                (None, None) => Ok(None),
-            },
-            Status::OutputFault => match (outside.out.reason(), outside.wire.reason()) {
-                (Some(reason), _) => sink_line(alloc, outside.out.name(), reason),
-                (None, Some(reason)) => sink_line(alloc, self.wire, reason),
-                (None, None) => Ok(None),
-            },
-            Status::JournalFault => match (outside.out_disk.reason(), outside.in_disk.reason()) {
-                (Some(reason), _) => disk_line(alloc, self.outbox, reason),
-                (None, Some(reason)) => disk_line(alloc, self.inbox, reason),
-                (None, None) => Ok(None),
-            },
+            Status::InputFault => {
+                self.push_unread(line, outside.config.reason(), outside.input.reason())
+            }
+            Status::OutputFault => {
+                let out = outside.out.name();
+                self.push_unwritten(line, out, outside.out.reason(), outside.wire.reason())
+            }
+            Status::JournalFault => {
+                self.push_failed(line, outside.out_disk.reason(), outside.in_disk.reason())
+            }
             Status::JournalBad { which, cause } => {
-                journal_line(alloc, self.journal(*which), *which, *cause)
+                push_journal(line, self.journal(*which), *which, *cause)
             }
-            Status::Message(bad) => match self.message_fault(rt, alloc, outside, bad)? {
-                Some(what) => {
-                    let file = file_name(alloc, self.input.role, self.input.path)?;
-                    Ok(Some(format!(in alloc; "{file}: {what}")?))
-                }
-                None => input_line(alloc, self.input, outside.input.kept(), bad),
-            },
+            Status::Message(bad) => {
+                let config = outside.config.kept().bytes();
+                self.push_message(rt, alloc, line, config, outside.input.kept(), bad)
+            }
             Status::Done
             | Status::Words
             | Status::DialFault
@@ -186,41 +149,107 @@ impl<'a> Run<'a> {
             | Status::Rejected { .. }
             | Status::Full { .. }
             | Status::Turns
-            | Status::Memory => Ok(None),
+            | Status::Memory => Ok(()),
         }
     }
 
-    /// What is wrong with a message or a line of INPUT, as far as it can be read again.
-    fn message_fault<R: Files<File = File> + AllocGlobal, P>(
+    /// Adds what is wrong with CONFIG, whose text this is.
+    fn push_config(
+        &self,
+        alloc: Global,
+        line: &mut String,
+        fault: &ConfigFault,
+        text: &[u8],
+    ) -> Result<(), AllocError> {
+        push_place(line, self.config)?;
+        push_config_fault(alloc, line, self.wanted(), fault, text)
+    }
+
+    /// Adds which input could not be read.
+    fn push_unread(
+        &self,
+        line: &mut String,
+        config: Option<io::Error>,
+        input: Option<io::Error>,
+    ) -> Result<(), AllocError> {
+        match (config, input) {
+            (Some(reason), _) => push_source(line, self.config, reason),
+            (None, Some(reason)) => push_source(line, self.input, reason),
+            (None, None) => Ok(()),
+        }
+    }
+
+    /// Adds which output could not be written; OUT may be standard output.
+    fn push_unwritten(
+        &self,
+        line: &mut String,
+        out_name: Named<'_>,
+        out: Option<Reason<'_>>,
+        wire: Option<Reason<'_>>,
+    ) -> Result<(), AllocError> {
+        match (out, wire) {
+            (Some(reason), _) => push_sink(line, out_name, reason),
+            (None, Some(reason)) => push_sink(line, self.wire, reason),
+            (None, None) => Ok(()),
+        }
+    }
+
+    /// Adds which journal failed.
+    fn push_failed(
+        &self,
+        line: &mut String,
+        outbox: Option<DiskReason<'_>>,
+        inbox: Option<DiskReason<'_>>,
+    ) -> Result<(), AllocError> {
+        match (outbox, inbox) {
+            (Some(reason), _) => push_disk(line, self.outbox, reason),
+            (None, Some(reason)) => push_disk(line, self.inbox, reason),
+            (None, None) => Ok(()),
+        }
+    }
+
+    /// Adds what is wrong with a message or a line of INPUT: a part of it is read again for that, where it can be.
+    fn push_message<R: Files<File = File> + AllocGlobal>(
         &self,
         rt: &R,
         alloc: Global,
-        outside: &Devices<'_, R, P>,
+        line: &mut String,
+        config: &[u8],
+        kept: &Kept,
         bad: &Bad,
-    ) -> Result<Option<String>, AllocError> {
-        if let Bad::Decode { frame, fault } = bad {
-            let place = place_of_frame(rt, alloc, self.input.path, *frame);
-            return Ok(Some(decode_line(alloc, *frame, place, *fault)?));
-        }
-        if !matches!(bad, Bad::Encode { .. } | Bad::Line { .. }) {
-            return Ok(None);
-        }
-        let Ok(plan) = load(alloc, outside.config.kept().bytes()) else {
-            return Ok(None);
-        };
-        let Some(text) = text_of_file(rt, alloc, self.input.path) else {
-            return Ok(None);
-        };
+    ) -> Result<(), AllocError> {
         match bad {
-            Bad::Encode { message, fault } => Ok(Some(encode_line(
-                alloc,
-                &plan,
-                text.as_slice(),
-                *message,
-                fault,
-            )?)),
-            Bad::Line { line } => Ok(Some(text_line(alloc, &plan, text.as_slice(), *line)?)),
-            _ => Ok(None),
+            Bad::Decode { frame, fault } => {
+                let place = place_of_frame(rt, alloc, self.input.path, *frame);
+                push_place(line, self.input)?;
+                push_decode_fault(line, *frame, place, *fault)
+            }
+            Bad::Encode { .. } | Bad::Line { .. } => {
+                match Again::read(rt, alloc, config, self.input.path) {
+                    Some(again) => self.push_again(alloc, line, &again, bad),
+                    None => push_input(line, self.input, kept, bad),
+                }
+            }
+            _ => push_input(line, self.input, kept, bad),
+        }
+    }
+
+    /// Adds what is wrong with a text that was read again.
+    fn push_again(
+        &self,
+        alloc: Global,
+        line: &mut String,
+        again: &Again,
+        bad: &Bad,
+    ) -> Result<(), AllocError> {
+        push_place(line, self.input)?;
+        let (plan, text) = (&again.plan, again.text.as_slice());
+        match bad {
+            Bad::Encode { message, fault } => {
+                push_encode_fault(alloc, line, plan, text, *message, fault)
+            }
+            Bad::Line { line: number } => push_text_fault(alloc, line, plan, text, *number),
+            _ => Ok(()),
         }
     }
 
@@ -229,6 +258,29 @@ impl<'a> Run<'a> {
         match which {
             Which::Outbox => self.outbox,
             Which::Inbox => self.inbox,
+        }
+    }
+}
+
+/// A text that was read again, and the layout of its messages.
+#[derive(Drop)]
+struct Again {
+    plan: Plan,
+    text: Vec<u8>,
+}
+
+impl Again {
+    /// Reads a text again, by the schema of CONFIG; none where it cannot be read.
+    fn read<R: Files<File = File>>(
+        rt: &R,
+        alloc: Global,
+        config: &[u8],
+        path: &str,
+    ) -> Option<Again> {
+        let text = text_of_file(rt, alloc, path)?;
+        match load(alloc, config) {
+            Ok(plan) => Some(Again { plan, text }),
+            Err(_) => None,
         }
     }
 }
@@ -247,6 +299,39 @@ struct Apart<'a> {
     journals: &'a [Named<'a>],
 }
 
+/// The devices of a run, with this one for OUT. Of INPUT as many of the last bytes are kept as are read at once: they say what is
+/// wrong with a frame.
+fn devices<'a, R: Files<File = File> + Print + AllocGlobal>(
+    rt: &'a R,
+    files: Run<'a>,
+    apart: Apart<'a>,
+    out: FileSink<'a, R, File, Printer<'a, R>>,
+) -> Devices<'a, R, Printer<'a, R>> {
+    let alloc = rt.alloc();
+    Outside {
+        config: FileSource::new(rt, alloc, files.config.path, TEXT_LIMIT + 1),
+        input: FileSource::new(rt, alloc, files.input.path, ROOM),
+        wire: FileSink::new(rt, files.wire, apart.outputs),
+        out,
+        out_disk: FileDisk::new(rt, files.outbox, apart.journals, files.opening()),
+        in_disk: FileDisk::new(rt, files.inbox, apart.journals, files.opening()),
+    }
+}
+
+/// What is wrong, in a line; none where the status says all, or where there is no memory to say it.
+fn line_of<R: Files<File = File> + AllocGlobal, P>(
+    rt: &R,
+    files: Run<'_>,
+    status: &Status,
+    outside: &Devices<'_, R, P>,
+) -> Option<String> {
+    let mut line = String::new(rt.alloc());
+    match files.push_line(rt, rt.alloc(), &mut line, status, outside) {
+        Ok(()) if !line.is_empty() => Some(line),
+        _ => None,
+    }
+}
+
 /// Runs the command, with this device for OUT. The files are closed when it returns, before anything is printed: where
 /// standard output is closed, a file may stand in its place.
 fn run_with<'a, R: Wait + Files<File = File> + Print + AllocGlobal>(
@@ -256,21 +341,8 @@ fn run_with<'a, R: Wait + Files<File = File> + Print + AllocGlobal>(
     apart: Apart<'a>,
     out: FileSink<'a, R, File, Printer<'a, R>>,
 ) -> Report {
-    let alloc = rt.alloc();
-    // Of INPUT as many of the last bytes are kept as are read at once: they say what is wrong with a frame.
-    let outside = Outside {
-        config: FileSource::new(rt, alloc, files.config.path, TEXT_LIMIT + 1),
-        input: FileSource::new(rt, alloc, files.input.path, ROOM),
-        wire: FileSink::new(rt, files.wire, apart.outputs),
-        out,
-        out_disk: FileDisk::new(rt, files.outbox, apart.journals, files.opening()),
-        in_disk: FileDisk::new(rt, files.inbox, apart.journals, files.opening()),
-    };
-    let (status, outside) = run(rt, alloc, words, outside);
-    let line = match files.line(rt, alloc, &status, &outside) {
-        Ok(line) => line,
-        Err(_) => None,
-    };
+    let (status, outside) = run(rt, rt.alloc(), words, devices(rt, files, apart, out));
+    let line = line_of(rt, files, &status, &outside);
     let Outside {
         config: _,
         input: _,

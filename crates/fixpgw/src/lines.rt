@@ -1,127 +1,129 @@
 //! What is wrong with a file of a run, in a line.
 
-use fault_text::{broken_rule, file_name, malformed_frame, refused_frame};
+use fault_text::{push_broken_rule, push_file, push_malformed, push_refused};
 use fixp_shake::Violation;
 use gateway::{Bad, JournalCause, Which};
 use gw_real::{DiskReason, Kept, Named, Reason, STANDARD_OUTPUT};
-use std::alloc::{AllocError, Global};
+use std::alloc::AllocError;
 use std::io;
 
-/// A file that is the same as another one of the command.
-fn same_line(alloc: Global, file: &str, other: Named<'_>) -> Result<String, AllocError> {
-    let other = name_of(alloc, other)?;
-    format!(in alloc; "{file}: this is the same file as {other}")
-}
-
-/// A file's role and path; standard output has no path.
-fn name_of(alloc: Global, name: Named<'_>) -> Result<String, AllocError> {
+/// Adds a file's role and path; standard output has no path.
+fn push_name(line: &mut String, name: Named<'_>) -> Result<(), AllocError> {
     if name.role == STANDARD_OUTPUT.role {
-        String::from_str(alloc, name.role)
+        line.push_str(name.role)
     } else {
-        file_name(alloc, name.role, name.path)
+        push_file(line, name.role, name.path)
     }
 }
 
-/// The file of an input, and why it failed.
-pub fn source_line(
-    alloc: Global,
+/// Adds a file's role and path, and a colon.
+pub fn push_place(line: &mut String, name: Named<'_>) -> Result<(), AllocError> {
+    push_name(line, name)?;
+    line.push_str(": ")
+}
+
+/// Adds that a file is the same as another one of the command.
+fn push_same(line: &mut String, other: Named<'_>) -> Result<(), AllocError> {
+    line.push_str("this is the same file as ")?;
+    push_name(line, other)
+}
+
+/// Adds the file of an input, and why it failed.
+pub fn push_source(
+    line: &mut String,
     name: Named<'_>,
     reason: io::Error,
-) -> Result<Option<String>, AllocError> {
-    let file = name_of(alloc, name)?;
-    Ok(Some(format!(in alloc; "{file}: {reason}")?))
+) -> Result<(), AllocError> {
+    push_place(line, name)?;
+    write!(line, "{reason}")
 }
 
-/// The file of an output, and why it failed.
-pub fn sink_line(
-    alloc: Global,
-    name: Named<'_>,
-    reason: Reason<'_>,
-) -> Result<Option<String>, AllocError> {
-    let file = name_of(alloc, name)?;
-    Ok(Some(match reason {
-        Reason::System(error) => format!(in alloc; "{file}: {error}")?,
-        Reason::SameFile(other) => same_line(alloc, file.as_str(), other)?,
+/// Adds the file of an output, and why it failed.
+pub fn push_sink(line: &mut String, name: Named<'_>, reason: Reason<'_>) -> Result<(), AllocError> {
+    push_place(line, name)?;
+    match reason {
+        Reason::System(error) => write!(line, "{error}"),
+        Reason::SameFile(other) => push_same(line, other),
         Reason::NotHere => {
-            format!(in alloc; "{file}: standard output can stand for OUT alone; ./- names a file")?
+            line.push_str("standard output can stand for OUT alone; ./- names a file")
         }
-    }))
+    }
 }
 
-/// The file of a journal, and why it failed.
-pub fn disk_line(
-    alloc: Global,
+/// Adds the file of a journal, and why it failed.
+pub fn push_disk(
+    line: &mut String,
     name: Named<'_>,
     reason: DiskReason<'_>,
-) -> Result<Option<String>, AllocError> {
-    let file = name_of(alloc, name)?;
-    Ok(Some(match reason {
-        DiskReason::System(error) => format!(in alloc; "{file}: {error}")?,
-        DiskReason::Locked => format!(in alloc; "{file}: held by another process")?,
-        DiskReason::SameFile(other) => same_line(alloc, file.as_str(), other)?,
-        DiskReason::TooLong => format!(in alloc; "{file}: longer than 2^40 bytes")?,
-    }))
+) -> Result<(), AllocError> {
+    push_place(line, name)?;
+    match reason {
+        DiskReason::System(error) => write!(line, "{error}"),
+        DiskReason::Locked => line.push_str("held by another process"),
+        DiskReason::SameFile(other) => push_same(line, other),
+        DiskReason::TooLong => line.push_str("longer than 2^40 bytes"),
+    }
 }
 
-/// The file of a journal that is none that the command can use, and why.
-pub fn journal_line(
-    alloc: Global,
+/// What a journal is.
+fn kind_of(which: Which) -> &'static str {
+    match which {
+        Which::Outbox => "an outbox",
+        Which::Inbox => "an inbox",
+    }
+}
+
+/// Adds the file of a journal that is none that the command can use, and why.
+pub fn push_journal(
+    line: &mut String,
     name: Named<'_>,
     which: Which,
     cause: JournalCause,
-) -> Result<Option<String>, AllocError> {
-    let file = name_of(alloc, name)?;
-    let journal = match which {
-        Which::Outbox => "an outbox",
-        Which::Inbox => "an inbox",
-    };
-    Ok(Some(match cause {
+) -> Result<(), AllocError> {
+    push_place(line, name)?;
+    match cause {
         JournalCause::Wrong { at } => {
-            format!(in alloc;
-                "{file}: record {at}, counted from 0, does not belong into {journal}"
-            )?
+            let journal = kind_of(which);
+            write!(
+                line,
+                "record {at}, counted from 0, does not belong into {journal}"
+            )
         }
-        JournalCause::NotFormatted => {
-            format!(in alloc; "{file}: {cause}: for a new session run fixpgw format OUTBOX INBOX")?
-        }
-        JournalCause::Damaged { .. } | JournalCause::Already => {
-            format!(in alloc; "{file}: {cause}")?
-        }
-    }))
+        JournalCause::NotFormatted => write!(
+            line,
+            "{cause}: for a new session run fixpgw format OUTBOX INBOX"
+        ),
+        JournalCause::Damaged { .. } | JournalCause::Already => write!(line, "{cause}"),
+    }
 }
 
-/// What is wrong with the input, as far as it was kept.
-pub fn input_line(
-    alloc: Global,
+/// Adds what is wrong with the bytes of the input, as far as they were kept.
+fn push_bytes(line: &mut String, kept: &Kept, bad: &Bad) -> Result<(), AllocError> {
+    match bad {
+        Bad::Session {
+            at,
+            violation: Violation::BadFrame { .. },
+        } => {
+            write!(line, "malformed frame at byte {at}")?;
+            push_malformed(line, kept.from_place(*at))
+        }
+        Bad::Session { at, violation } => push_broken_rule(line, *at, *violation),
+        Bad::Frame { at } => {
+            write!(line, "{bad}")?;
+            push_refused(line, kept.from_place(*at))
+        }
+        Bad::TooLong => line.push_str("the text is longer than 67108864 bytes"),
+        _ => write!(line, "{bad}"),
+    }
+}
+
+/// Adds the input, and what is wrong with it, as far as it was kept.
+pub fn push_input(
+    line: &mut String,
     name: Named<'_>,
     kept: &Kept,
     bad: &Bad,
-) -> Result<Option<String>, AllocError> {
-    let file = name_of(alloc, name)?;
-    if let Bad::Session {
-        at,
-        violation: Violation::BadFrame { .. },
-    } = bad
-    {
-        let bytes = kept.from_place(*at);
-        return Ok(Some(match malformed_frame(alloc, bytes)? {
-            Some(why) => format!(in alloc; "{file}: malformed frame at byte {at}: {why}")?,
-            None => format!(in alloc; "{file}: malformed frame at byte {at}")?,
-        }));
-    }
-    if let Bad::Session { at, violation } = bad {
-        let rule = broken_rule(alloc, *at, *violation)?;
-        return Ok(Some(format!(in alloc; "{file}: {rule}")?));
-    }
-    if let Bad::Frame { at } = bad {
-        let bytes = kept.from_place(*at);
-        return Ok(Some(match refused_frame(alloc, bytes)? {
-            Some(why) => format!(in alloc; "{file}: {bad}: {why}")?,
-            None => format!(in alloc; "{file}: {bad}")?,
-        }));
-    }
-    if let Bad::TooLong = bad {
-        return Ok(Some(format!(in alloc; "{file}: the text is longer than 67108864 bytes")?));
-    }
-    Ok(Some(format!(in alloc; "{file}: {bad}")?))
+) -> Result<(), AllocError> {
+    push_place(line, name)?;
+    push_bytes(line, kept, bad)
 }

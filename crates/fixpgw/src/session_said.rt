@@ -1,107 +1,128 @@
 //! What is wrong with a session, in a line.
 
 use crate::again::text_of_file;
-use crate::files::named;
-use crate::lines::{disk_line, input_line, journal_line, sink_line, source_line};
-use crate::sessions::{Devices, Session};
-use fault_text::{Wanted, config_fault, file_name, plan_line, rejected};
-use gateway::{Bad, Status, Which};
+use crate::lines::{push_disk, push_input, push_journal, push_place, push_sink, push_source};
+use crate::sessions::{Devices, Session, named};
+use fault_text::{Wanted, push_config_fault, push_plan_fault, push_rejected};
+use gateway::{Bad, JournalCause, Status, Which};
 use gw_outside::Disk;
-use gw_real::{DiskReason, FileDisk, Named};
+use gw_real::{DiskReason, FileDisk, Kept, Named, Reason};
 use gw_sockets::{AcceptDialer, ConnectDialer, SocketReason};
+use schema_toml::ConfigFault;
 use session_config::read_configuration;
 use std::alloc::{AllocError, Global};
 use std::fs::File;
-use std::io::ErrorKind;
+use std::io::{self, ErrorKind};
 use std::net::{Net, TcpListener, TcpStream};
 use std::rt::Files;
 use std::time::Clock;
 
-/// A file's role and path behind each other, and what is wrong with it.
-fn said_of(alloc: Global, name: Named<'_>, what: &str) -> Result<Option<String>, AllocError> {
-    let file = file_name(alloc, name.role, name.path)?;
-    Ok(Some(format!(in alloc; "{file}: {what}")?))
-}
-
-/// Why a journal's file failed; one that is missing has to be made first.
-fn journal_fault_line(
-    alloc: Global,
+/// Adds why a journal's file failed; one that is missing has to be made first.
+fn push_journal_fault(
+    line: &mut String,
     name: Named<'_>,
     reason: DiskReason<'_>,
-) -> Result<Option<String>, AllocError> {
+) -> Result<(), AllocError> {
     match reason {
         DiskReason::System(error) if error.kind() == ErrorKind::NotFound => {
-            let what = format!(in alloc;
+            push_place(line, name)?;
+            write!(
+                line,
                 "{error}: for a new session run fixpgw format OUTBOX INBOX"
-            )?;
-            said_of(alloc, name, what.as_str())
+            )
         }
-        reason => disk_line(alloc, name, reason),
+        reason => push_disk(line, name, reason),
     }
 }
 
-/// That a session is not finished, and what to do.
-fn unfinished_line(alloc: Global, session: Session<'_>) -> Result<Option<String>, AllocError> {
-    let most = session.most;
+/// Adds that a session is not finished after so many connections, and what to do.
+fn push_unfinished(line: &mut String, most: u16) -> Result<(), AllocError> {
     let connections = if most == 1 {
         "connection"
     } else {
         "connections"
     };
-    Ok(Some(format!(in alloc;
+    write!(
+        line,
         "the session is not finished after {most} {connections}: run it again with the same journals"
-    )?))
+    )
 }
 
-/// Which journal is full: the one whose file is as long as the full journal.
-fn full_line<R, D: Disk, N>(
-    alloc: Global,
+/// Whether the file of a journal has so many bytes.
+fn has_length<D: Disk>(disk: &mut D, bytes: u64) -> bool {
+    matches!(disk.length(), Ok(length) if length == bytes)
+}
+
+/// Adds which journal is full: the one whose file is as long as the full journal.
+fn push_full<R, D: Disk, N>(
+    line: &mut String,
     session: Session<'_>,
     outside: &mut Devices<'_, R, D, N>,
     entries: u64,
     bytes: u64,
-) -> Result<Option<String>, AllocError> {
-    let is_out = matches!(outside.out_disk.length(), Ok(length) if length == bytes);
-    let is_in = matches!(outside.in_disk.length(), Ok(length) if length == bytes);
-    let what = format!(in alloc;
-        "full at {entries} messages and {bytes} bytes: a new session needs new journals"
-    )?;
+) -> Result<(), AllocError> {
+    let is_out = has_length(&mut outside.out_disk, bytes);
+    let is_in = has_length(&mut outside.in_disk, bytes);
     match (is_out, is_in) {
-        (true, false) => said_of(alloc, session.outbox, what.as_str()),
-        (false, true) => said_of(alloc, session.inbox, what.as_str()),
-        _ => Ok(Some(format!(in alloc; "OUTBOX or INBOX: {what}")?)),
+        (true, false) => push_place(line, session.outbox)?,
+        (false, true) => push_place(line, session.inbox)?,
+        _ => line.push_str("OUTBOX or INBOX: ")?,
     }
+    write!(
+        line,
+        "full at {entries} messages and {bytes} bytes: a new session needs new journals"
+    )
 }
 
-/// The line of INPUT that gives no payload to a sender, as far as INPUT can be read again.
-fn plan_fault_line<R: Files<File = File>, D, N>(
+/// What the plans of INPUT are read again with.
+#[derive(Drop)]
+struct Plans {
+    senders: u8,
+    text: Vec<u8>,
+}
+
+/// Reads INPUT again, and CONFIG, whose text this is; none where either cannot be read.
+fn plans_again<R: Files<File = File>>(
     rt: &R,
     alloc: Global,
     session: Session<'_>,
-    outside: &Devices<'_, R, D, N>,
-    bad: &Bad,
-) -> Result<Option<String>, AllocError> {
-    if let Bad::Line { line } = bad
-        && let Ok(configuration) = read_configuration(
-            alloc,
-            session.role,
-            outside.config.kept().bytes(),
-        )
-        && let Some(text) = text_of_file(rt, alloc, session.input.path)
-    {
-        let senders = configuration.trade.senders;
-        let what = plan_line(alloc, senders, text.as_slice(), *line)?;
-        return said_of(alloc, session.input, what.as_str());
+    config: &[u8],
+) -> Option<Plans> {
+    let text = text_of_file(rt, alloc, session.input.path)?;
+    match read_configuration(alloc, session.role, config) {
+        Ok(configuration) => Some(Plans {
+            senders: configuration.trade.senders,
+            text,
+        }),
+        Err(_) => None,
     }
-    input_line(alloc, session.input, outside.input.kept(), bad)
+}
+
+/// Adds the line of INPUT that gives no payload to a sender, as far as INPUT can be read again.
+fn push_plans<R: Files<File = File>>(
+    rt: &R,
+    alloc: Global,
+    line: &mut String,
+    session: Session<'_>,
+    config: &[u8],
+    kept: &Kept,
+    bad: &Bad,
+) -> Result<(), AllocError> {
+    let Bad::Line { line: number } = bad else {
+        return push_input(line, session.input, kept, bad);
+    };
+    match plans_again(rt, alloc, session, config) {
+        Some(plans) => {
+            push_place(line, session.input)?;
+            push_plan_fault(alloc, line, plans.senders, plans.text.as_slice(), *number)
+        }
+        None => push_input(line, session.input, kept, bad),
+    }
 }
 
 /// What to look at where a connection was not to be had.
-fn advice(reason: SocketReason) -> &'static str {
-    let SocketReason::System(error) = reason else {
-        return "";
-    };
-    match error.kind() {
+fn advice(kind: ErrorKind) -> &'static str {
+    match kind {
         ErrorKind::ConnectionRefused => ": nobody listens there (tried for 5 seconds)",
         ErrorKind::AddrInUse => ": another process has it (tried for a second)",
         ErrorKind::AddrNotAvailable => ": it is no address of this machine",
@@ -109,118 +130,196 @@ fn advice(reason: SocketReason) -> &'static str {
     }
 }
 
-/// Why a connection was not to be had.
-fn dial_line(
-    alloc: Global,
+/// Adds why a connection was not to be had.
+fn push_dial(
+    line: &mut String,
     name: Named<'_>,
     reason: SocketReason,
-) -> Result<Option<String>, AllocError> {
-    let advice = advice(reason);
-    let what = format!(in alloc; "{reason}{advice}")?;
-    said_of(alloc, name, what.as_str())
+) -> Result<(), AllocError> {
+    push_place(line, name)?;
+    let advice = match &reason {
+        SocketReason::System(error) => advice(error.kind()),
+        _ => "",
+    };
+    write!(line, "{reason}{advice}")
 }
 
-/// A device that says in a line why its last call that failed did.
+/// A device that says why its last call that failed did.
 pub trait SaysWhy {
-    /// The line, where a call has failed; the device is this to the command.
-    fn why(&self, alloc: Global, name: Named<'_>) -> Result<Option<String>, AllocError>;
+    /// Adds why, where a call has failed, and says whether one has; the device is this to the command.
+    fn push_why(&self, line: &mut String, name: Named<'_>) -> Result<bool, AllocError>;
 }
 
 impl<R> SaysWhy for FileDisk<'_, R> {
-    fn why(&self, alloc: Global, name: Named<'_>) -> Result<Option<String>, AllocError> {
-        match self.reason() {
-            Some(reason) => journal_fault_line(alloc, name, reason),
-            None => Ok(None),
-        }
+    fn push_why(&self, line: &mut String, name: Named<'_>) -> Result<bool, AllocError> {
+        let Some(reason) = self.reason() else {
+            return Ok(false);
+        };
+        push_journal_fault(line, name, reason)?;
+        Ok(true)
     }
 }
 
 impl<R: Net<Listener = TcpListener, Stream = TcpStream> + Clock> SaysWhy for AcceptDialer<'_, R> {
-    fn why(&self, alloc: Global, name: Named<'_>) -> Result<Option<String>, AllocError> {
-        match self.reason() {
-            Some(reason) => dial_line(alloc, name, reason),
-            None => Ok(None),
-        }
+    fn push_why(&self, line: &mut String, name: Named<'_>) -> Result<bool, AllocError> {
+        let Some(reason) = self.reason() else {
+            return Ok(false);
+        };
+        push_dial(line, name, reason)?;
+        Ok(true)
     }
 }
 
 impl<R: Net<Listener = TcpListener, Stream = TcpStream> + Clock> SaysWhy for ConnectDialer<'_, R> {
-    fn why(&self, alloc: Global, name: Named<'_>) -> Result<Option<String>, AllocError> {
-        match self.reason() {
-            Some(reason) => dial_line(alloc, name, reason),
-            None => Ok(None),
-        }
+    fn push_why(&self, line: &mut String, name: Named<'_>) -> Result<bool, AllocError> {
+        let Some(reason) = self.reason() else {
+            return Ok(false);
+        };
+        push_dial(line, name, reason)?;
+        Ok(true)
     }
 }
 
-/// Why the disk of a journal failed: that of the outbox, where it did.
-fn disks_line<D: SaysWhy>(
+/// Adds what is wrong with CONFIG, whose text this is.
+fn push_config(
     alloc: Global,
+    line: &mut String,
+    session: Session<'_>,
+    fault: &ConfigFault,
+    text: &[u8],
+) -> Result<(), AllocError> {
+    push_place(line, session.config)?;
+    push_config_fault(alloc, line, Wanted::Session(session.role), fault, text)
+}
+
+/// Adds which input could not be read.
+fn push_unread(
+    line: &mut String,
+    session: Session<'_>,
+    config: Option<io::Error>,
+    input: Option<io::Error>,
+) -> Result<(), AllocError> {
+    match (config, input) {
+        (Some(reason), _) => push_source(line, session.config, reason),
+        (None, Some(reason)) => push_source(line, session.input, reason),
+        (None, None) => Ok(()),
+    }
+}
+
+/// Adds why OUT, which is this, could not be written.
+fn push_unwritten(
+    line: &mut String,
+    name: Named<'_>,
+    reason: Option<Reason<'_>>,
+) -> Result<(), AllocError> {
+    match reason {
+        Some(reason) => push_sink(line, name, reason),
+        None => Ok(()),
+    }
+}
+
+/// Adds which journal failed: the outbox, where it did.
+fn push_failed<D: SaysWhy>(
+    line: &mut String,
     session: Session<'_>,
     out_disk: &D,
     in_disk: &D,
-) -> Result<Option<String>, AllocError> {
-    match out_disk.why(alloc, session.outbox)? {
-        Some(line) => Ok(Some(line)),
-        None => in_disk.why(alloc, session.inbox),
+) -> Result<(), AllocError> {
+    if !out_disk.push_why(line, session.outbox)? {
+        let _ = in_disk.push_why(line, session.inbox)?;
     }
+    Ok(())
 }
 
-/// What is wrong with a device, in a line; none where the status says all.
-fn device_line<R, D: SaysWhy, N: SaysWhy>(
+/// Adds that a journal is none that the session can use, and why.
+fn push_bad(
+    line: &mut String,
+    session: Session<'_>,
+    which: Which,
+    cause: JournalCause,
+) -> Result<(), AllocError> {
+    let name = match which {
+        Which::Outbox => session.outbox,
+        Which::Inbox => session.inbox,
+    };
+    push_journal(line, name, which, cause)
+}
+
+/// Adds that the peer rejected the session.
+fn push_reject(
+    line: &mut String,
+    session: Session<'_>,
+    template: u16,
+    code: u8,
+) -> Result<(), AllocError> {
+    push_place(line, session.config)?;
+    push_rejected(line, template, code)
+}
+
+/// Adds why there was no connection.
+fn push_undialed<N: SaysWhy>(
+    line: &mut String,
+    session: Session<'_>,
+    dialer: &N,
+) -> Result<(), AllocError> {
+    let _ = dialer.push_why(line, named("ADDRESS", session.address))?;
+    Ok(())
+}
+
+/// Adds what is wrong; nothing where the status says all.
+fn push_line<R: Files<File = File>, D: Disk + SaysWhy, N: SaysWhy>(
+    rt: &R,
     alloc: Global,
+    line: &mut String,
     session: Session<'_>,
     status: &Status,
-    outside: &Devices<'_, R, D, N>,
-) -> Result<Option<String>, AllocError> {
+    outside: &mut Devices<'_, R, D, N>,
+) -> Result<(), AllocError> {
     match status {
-        Status::InputFault => match (outside.config.reason(), outside.input.reason()) {
-            (Some(reason), _) => source_line(alloc, session.config, reason),
-            (None, Some(reason)) => source_line(alloc, session.input, reason),
-            (None, None) => Ok(None),
-        },
-        Status::OutputFault => match outside.out.reason() {
-            Some(reason) => sink_line(alloc, outside.out.name(), reason),
-            None => Ok(None),
-        },
-        Status::JournalFault => {
-            disks_line(alloc, session, &outside.out_disk, &outside.in_disk)
+        Status::Config(fault) => {
+            push_config(alloc, line, session, fault, outside.config.kept().bytes())
         }
-        Status::DialFault => outside
-            .dialer
-            .why(alloc, named("ADDRESS", session.address)),
-        _ => Ok(None),
+        Status::InputFault => push_unread(
+            line,
+            session,
+            outside.config.reason(),
+            outside.input.reason(),
+        ),
+        Status::OutputFault => {
+            push_unwritten(line, outside.out.name(), outside.out.reason())
+        }
+        Status::JournalFault => {
+            push_failed(line, session, &outside.out_disk, &outside.in_disk)
+        }
+        Status::JournalBad { which, cause } => push_bad(line, session, *which, *cause),
+        Status::DialFault => push_undialed(line, session, &outside.dialer),
+        Status::Unfinished { .. } => push_unfinished(line, session.most),
+        Status::Rejected { template, code } => push_reject(line, session, *template, *code),
+        Status::Full { entries, bytes } => push_full(line, session, outside, *entries, *bytes),
+        Status::Message(bad) => push_plans(
+            rt,
+            alloc,
+            line,
+            session,
+            outside.config.kept().bytes(),
+            outside.input.kept(),
+            bad,
+        ),
+        Status::Done | Status::Words | Status::Turns | Status::Memory => Ok(()),
     }
 }
 
-/// What is wrong, in a line; none where the status says all.
+/// What is wrong, in a line; none where the status says all, or where there is no memory to say it.
 pub fn line_of<R: Files<File = File>, D: Disk + SaysWhy, N: SaysWhy>(
     rt: &R,
     alloc: Global,
     session: Session<'_>,
     status: &Status,
     outside: &mut Devices<'_, R, D, N>,
-) -> Result<Option<String>, AllocError> {
-    match status {
-        Status::Config(fault) => {
-            let wanted = Wanted::Session(session.role);
-            let what = config_fault(alloc, wanted, fault, outside.config.kept().bytes())?;
-            said_of(alloc, session.config, what.as_str())
-        }
-        Status::JournalBad { which, cause } => {
-            let name = match which {
-                Which::Outbox => session.outbox,
-                Which::Inbox => session.inbox,
-            };
-            journal_line(alloc, name, *which, *cause)
-        }
-        Status::Unfinished { .. } => unfinished_line(alloc, session),
-        Status::Rejected { template, code } => {
-            let what = rejected(alloc, *template, *code)?;
-            said_of(alloc, session.config, what.as_str())
-        }
-        Status::Full { entries, bytes } => full_line(alloc, session, outside, *entries, *bytes),
-        Status::Message(bad) => plan_fault_line(rt, alloc, session, outside, bad),
-        status => device_line(alloc, session, status, outside),
+) -> Option<String> {
+    let mut line = String::new(alloc);
+    match push_line(rt, alloc, &mut line, session, status, outside) {
+        Ok(()) if !line.is_empty() => Some(line),
+        _ => None,
     }
 }

@@ -3,7 +3,6 @@
 
 ghost use Rattle.std.specs.Prelude.{◌≡◌, false};
 
-use crate::files::named;
 use crate::report::Report;
 use crate::session_said::{SaysWhy, line_of};
 use gw_links::Dialer;
@@ -21,6 +20,11 @@ use std::rt::Files;
 use std::sync::Wait;
 use std::thread::Threads;
 use std::time::Clock;
+
+/// The file at a path, or the address, which is this to the command.
+pub const fn named<'a>(role: &'static str, path: &'a str) -> Named<'a> {
+    Named { role, path }
+}
 
 /// What the words of a session name.
 #[derive(Clone, Copy)]
@@ -145,10 +149,7 @@ fn run_over<
         clock: MachineClock::new(rt),
     };
     let (status, mut outside) = run_session(rt, alloc, session.end_role(), outside);
-    let line = match line_of(rt, alloc, session, &status, &mut outside) {
-        Ok(line) => line,
-        Err(_) => None,
-    };
+    let line = line_of(rt, alloc, session, &status, &mut outside);
     let SessionOutside {
         config: _,
         input: _,
