@@ -131,11 +131,7 @@ fn advice(kind: ErrorKind) -> &'static str {
 }
 
 /// Adds why a connection was not to be had.
-fn push_dial(
-    line: &mut String,
-    name: Named<'_>,
-    reason: SocketReason,
-) -> Result<(), AllocError> {
+fn push_dial(line: &mut String, name: Named<'_>, reason: SocketReason) -> Result<(), AllocError> {
     push_place(line, name)?;
     let advice = match &reason {
         SocketReason::System(error) => advice(error.kind()),
@@ -285,12 +281,8 @@ fn push_line<R: Files<File = File>, D: Disk + SaysWhy, N: SaysWhy>(
             outside.config.reason(),
             outside.input.reason(),
         ),
-        Status::OutputFault => {
-            push_unwritten(line, outside.out.name(), outside.out.reason())
-        }
-        Status::JournalFault => {
-            push_failed(line, session, &outside.out_disk, &outside.in_disk)
-        }
+        Status::OutputFault => { push_unwritten(line, outside.out.name(), outside.out.reason()) }
+        Status::JournalFault => { push_failed(line, session, &outside.out_disk, &outside.in_disk) }
         Status::JournalBad { which, cause } => push_bad(line, session, *which, *cause),
         Status::DialFault => push_undialed(line, session, &outside.dialer),
         Status::Unfinished { .. } => push_unfinished(line, session.most),
