@@ -3,7 +3,7 @@ use Rattle.std.specs.Prelude.{ℕ, ◌≤◌, ◌⊎◌}
 use Rattle.gw_outside.specs.Faults.{HasRisen}
 use Rattle.command_base.specs.declared.outside.Outside.{Outside}
 use Rattle.command_base.specs.declared.status.Status.{Status}
-use Rattle.command_base.specs.declared.status.Status.TheVariants.{InputFault, OutputFault, JournalFault, DialFault}
+use Rattle.command_base.specs.declared.status.Status.TheVariants.{InputFault, OutputFault, JournalFault}
 
 -- the counts of faults of the six devices
 pub record Counts : Type 0 where
@@ -65,11 +65,3 @@ pub record NoneFellInSession (before after : SessionCounts) : Type 0 where
   pub out_disk : before.out_disk ≤ after.out_disk
   pub in_disk : before.in_disk ≤ after.in_disk
   pub dialer : before.dialer ≤ after.dialer
-
--- a status of a session that blames a device comes only where a count of such a device rose
-abbrev pub IsCausedInSession : SessionCounts → SessionCounts → Status → Type 0
-IsCausedInSession before after InputFault = HasRisen before.config after.config ⊎ HasRisen before.input after.input
-IsCausedInSession before after OutputFault = HasRisen before.out after.out
-IsCausedInSession before after JournalFault = HasRisen before.out_disk after.out_disk ⊎ HasRisen before.in_disk after.in_disk
-IsCausedInSession before after DialFault = HasRisen before.dialer after.dialer
-IsCausedInSession before after _ = Unit {0}

@@ -1,5 +1,8 @@
 //! How a life of connections ends.
 
+ghost use Rattle.std.specs.Prelude.{◌≡◌};
+ghost use Rattle.conn_serve.specs.Answers.{close_of, submit_fault, finish_fault, yields, answer_of};
+
 use conn_turns::{TurnEnd, TurnFault};
 use fixp_shake::Phase;
 use jr_boxes::{CloseFault, SubmitFault};
@@ -45,7 +48,9 @@ pub enum ServeFault {
 }
 
 /// How the connection came to its end, where it did: `None` where it goes on after the turn that answered so.
-pub(crate) fn close_of(answer: Result<TurnEnd, TurnFault>) -> Result<Option<Close>, ServeFault> {
+pub(crate) fn close_of(answer: Result<TurnEnd, TurnFault>) -> Result<Option<Close>, ServeFault>
+    ensures { result ≡ close_of answer }
+{
     match answer {
         Ok(TurnEnd::Go) => Ok(None),
         Ok(TurnEnd::Ended(ending)) => Ok(Some(Close::Ended(ending))),
@@ -57,7 +62,9 @@ pub(crate) fn close_of(answer: Result<TurnEnd, TurnFault>) -> Result<Option<Clos
 }
 
 /// What a refusal of a sender is to `serve`: a closed outbox is none.
-pub(crate) fn refused_submit(fault: SubmitFault) -> Option<ServeFault> {
+pub(crate) fn refused_submit(fault: SubmitFault) -> Option<ServeFault>
+    ensures { result ≡ submit_fault fault }
+{
     match fault {
         SubmitFault::Broken | SubmitFault::Fault => Some(ServeFault::Journal),
         SubmitFault::Closed => None,
@@ -67,11 +74,27 @@ pub(crate) fn refused_submit(fault: SubmitFault) -> Option<ServeFault> {
 }
 
 /// What a refusal of the Finish is to `serve`: an outbox that is closed already is none.
-pub(crate) fn refused_finish(fault: CloseFault) -> Option<ServeFault> {
+pub(crate) fn refused_finish(fault: CloseFault) -> Option<ServeFault>
+    ensures { result ≡ finish_fault fault }
+{
     match fault {
         CloseFault::Broken | CloseFault::Fault => Some(ServeFault::Journal),
         CloseFault::Closed => None,
         CloseFault::Memory => Some(ServeFault::Memory),
+    }
+}
+
+/// Whether a fault of the connections' side yields to a refusal of a sender: the life was not finished, and nothing failed.
+fn yields(fault: ServeFault) -> bool
+    ensures { result ≡ yields fault }
+{
+    match fault {
+        ServeFault::Unfinished { .. } | ServeFault::Rejected { .. } | ServeFault::Turns => true,
+        ServeFault::Output
+        | ServeFault::Journal
+        | ServeFault::Dial
+        | ServeFault::Full { .. }
+        | ServeFault::Memory => false,
     }
 }
 
@@ -80,22 +103,22 @@ pub(crate) fn refused_finish(fault: CloseFault) -> Option<ServeFault> {
 pub(crate) fn answer_of(
     connections: Result<LifeEnd, ServeFault>,
     refused: Option<ServeFault>,
-) -> Result<(), ServeFault> {
-    match (connections, refused) {
-        (
-            Err(
-                fault @ (ServeFault::Output
-                | ServeFault::Journal
-                | ServeFault::Dial
-                | ServeFault::Full { .. }
-                | ServeFault::Memory),
-            ),
-            _,
-        ) => Err(fault),
-        (_, Some(fault)) => Err(fault),
-        (Err(fault), None) => Err(fault),
-        (Ok(LifeEnd::Finished), None) => Ok(()),
-        // Nobody told the connections to stop.
-        (Ok(LifeEnd::Stopped), None) => Err(ServeFault::Memory),
+) -> Result<(), ServeFault>
+    ensures { result ≡ answer_of connections refused }
+{
+    match connections {
+        Ok(LifeEnd::Finished) => match refused {
+            Some(fault) => Err(fault),
+            None => Ok(()),
+        },
+        // Only a refusal tells the connections to stop.
+        Ok(LifeEnd::Stopped) => Err(refused.unwrap_or(ServeFault::Memory)),
+        Err(fault) => {
+            if yields(fault) {
+                Err(refused.unwrap_or(fault))
+            } else {
+                Err(fault)
+            }
+        }
     }
 }

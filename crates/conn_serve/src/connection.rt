@@ -1,9 +1,27 @@
 //! One connection: its turns, one after another, until it ends, is told to stop, or is given up.
 
+ghost use Rattle.std.specs.Prelude.{◌≡◌, ℕ, ◌<◌, ◌≤◌, ◌^◌, All, Ok, Some, None, IfOk, IfErr, OnOk};
+ghost use Rattle.jr_boxes.specs.Inbox.{faults_of};
+ghost use Rattle.gate_turn.specs.Places.{known};
+ghost use Rattle.gate_turn.specs.Calls.{IsFree};
+ghost use Rattle.gate_senders.specs.Gate.{IsPassAt};
+ghost use Rattle.conn_turns.specs.News.{items_of};
+ghost use Rattle.session_lines.specs.declared.close.Close.{Close};
+ghost use Rattle.conn_steps.specs.Settling.{SameKind};
+ghost use Rattle.conn_steps.specs.Agreeing.{Agrees};
+ghost use Rattle.conn_loop.specs.Conn.{line_of, GoesOn, HasSeen, Looks};
+ghost use Rattle.conn_loop.specs.Turned.{Leaves};
+ghost use Rattle.loop_laws.specs.Turned.{WasTurn};
+ghost use Rattle.conn_serve.specs.Answers.{IsOfTurn, IsOfConnection};
+ghost use Rattle.conn_serve.specs.Connections.{ClosesAs};
+ghost use Rattle.conn_serve.specs.Lines.{IsShort};
+ghost use Rattle.conn_serve.specs.Causes.{IsBlamed};
+ghost use Rattle.conn_serve.specs.Turned.{CutOff, Turned, GivenUp, TurnedOn, GivenUpOn, MayBegin};
+
 use crate::answer::{ServeFault, close_of};
 use crate::news::Teller;
 use conn_loop::Conn;
-use conn_turns::{TurnEnd, TurnFault};
+use conn_turns::News;
 use gate_senders::{Gate, Kept};
 use gate_turn::Pass;
 use gw_links::{Clock, Link};
@@ -17,9 +35,40 @@ use std::sync::atomic::{AtomicBool, Ordering};
 /// The most turns of a connection.
 const TURNS: u64 = 1 << 40;
 
-/// Whether a turn that answered so is whole, so that its connection stands between two turns.
-fn is_whole(answer: &Result<TurnEnd, TurnFault>) -> bool {
-    matches!(answer, Ok(_) | Err(TurnFault::Link))
+/// One turn. Answers how the connection came to its end, where it did.
+fn make_turn<L: Link, O: Journal, I: Journal, C: Clock, R: Wait>(
+    conn: &mut Conn,
+    link: &mut L,
+    gate: &Gate<O>,
+    pass: &mut Pass<Kept<O>>,
+    inbox: &mut Inbox<I>,
+    clock: &mut C,
+    news: &mut News,
+    rt: &R,
+) -> Result<Option<Close>, ServeFault>
+    requires own { IsPassAt gate.now pass.old }
+    requires free { IsFree pass.old }
+    requires goes { GoesOn (line_of conn.old).machine }
+    requires place { (line_of conn.old).place < 2 ^ 63 }
+    requires seen { HasSeen (line_of conn.old).machine (known pass.old) }
+    requires agrees { Agrees (line_of conn.old).machine inbox.old }
+    ensures own { IsPassAt gate.now pass.new }
+    ensures free { IsFree pass.new }
+    ensures looks { Looks (known pass.old) (known pass.new) }
+    ensures whole { OnOk result (WasTurn (L.told link.old) (L.told link.new) (L.carried link.old) (L.carried link.new) (known pass.old).seen (known pass.new).seen (line_of conn.old) (line_of conn.new) inbox.old inbox.new (items_of news.new)) }
+    ensures cut { IfErr result (λ _. CutOff (line_of conn.old) inbox.old inbox.new (items_of news.new)) }
+    ensures short { All IsShort (items_of news.new) }
+    ensures goes { result ≡ Ok None → GoesOn (line_of conn.new).machine }
+    ensures closed { (close : Close) → result ≡ Ok (Some close) → ClosesAs close (line_of conn.new).machine.ending }
+    ensures leaves { OnOk result (Leaves (line_of conn.new).machine (known pass.new) inbox.new) }
+    ensures blamed { IfErr result (IsBlamed 0 0 0 0 (known pass.old) (known pass.new) inbox.old inbox.new) }
+    ensures of_turn { IfErr result IsOfTurn }
+    ensures kind { SameKind inbox.old inbox.new }
+    ensures never_falls { faults_of inbox.old ≤ faults_of inbox.new }
+    ensures stays { L.place link.new ≡ L.place link.old }
+    ensures told { C.told clock.new ≡ C.told clock.old }
+{
+    close_of(conn.turn(link, gate, pass, inbox, clock, news, rt))
 }
 
 /// One turn, whose news are told as soon as it is over, also where it answers a fault. Answers how the connection came to its
@@ -34,15 +83,36 @@ fn turn_once<L: Link, K: Sink, O: Journal, I: Journal, C: Clock, R: Wait>(
     clock: &mut C,
     teller: &mut Teller,
     rt: &R,
-) -> Result<Option<Close>, ServeFault> {
-    let answer = conn.turn(link, gate, pass, inbox, clock, &mut teller.news, rt);
+) -> Result<Option<Close>, ServeFault>
+    requires own { IsPassAt gate.now pass.old }
+    requires free { IsFree pass.old }
+    requires goes { GoesOn (line_of conn.old).machine }
+    requires place { (line_of conn.old).place < 2 ^ 63 }
+    requires seen { HasSeen (line_of conn.old).machine (known pass.old) }
+    requires agrees { Agrees (line_of conn.old).machine inbox.old }
+    ensures own { IsPassAt gate.now pass.new }
+    ensures free { IsFree pass.new }
+    ensures looks { Looks (known pass.old) (known pass.new) }
+    ensures turned { OnOk result (Turned (L.told link.old) (L.told link.new) (L.carried link.old) (L.carried link.new) (K.taken out.old) (K.taken out.new) (known pass.old).seen (known pass.new).seen (line_of conn.old) (line_of conn.new) inbox.old inbox.new 1) }
+    ensures goes { result ≡ Ok None → GoesOn (line_of conn.new).machine }
+    ensures closed { (close : Close) → result ≡ Ok (Some close) → ClosesAs close (line_of conn.new).machine.ending }
+    ensures leaves { OnOk result (Leaves (line_of conn.new).machine (known pass.new) inbox.new) }
+    ensures given_up { IfErr result (λ fault. GivenUp (Some fault) (K.taken out.old) (K.taken out.new) (known pass.old).seen (known pass.new).seen (line_of conn.old) inbox.old inbox.new) }
+    ensures blamed { IfErr result (IsBlamed (K.faults out.old) (K.faults out.new) 0 0 (known pass.old) (known pass.new) inbox.old inbox.new) }
+    ensures of_turn { IfErr result IsOfTurn }
+    ensures kind { SameKind inbox.old inbox.new }
+    ensures never_falls { (faults_of inbox.old ≤ faults_of inbox.new) × (K.faults out.old ≤ K.faults out.new) }
+    ensures stays { L.place link.new ≡ L.place link.old }
+    ensures told { C.told clock.new ≡ C.told clock.old }
+{
+    let answer = make_turn(conn, link, gate, pass, inbox, clock, &mut teller.news, rt);
     if let Err(fault) = teller.tell_news(out) {
-        if is_whole(&answer) {
+        if answer.is_ok() {
             let _ = conn.cut();
         }
         return Err(fault);
     }
-    close_of(answer)
+    answer
 }
 
 /// A connection over a link, from its beginning on. Answers how it came to its end, or `None` where it was told to stop.
@@ -57,16 +127,35 @@ pub(crate) fn one_connection<L: Link, K: Sink, O: Journal, I: Journal, C: Clock,
     teller: &mut Teller,
     stop: &AtomicBool,
     rt: &R,
-) -> Result<Option<Close>, ServeFault> {
+) -> Result<Option<Close>, ServeFault>
+    requires own { IsPassAt gate.now pass.old }
+    requires free { IsFree pass.old }
+    requires may { MayBegin (line_of conn.old).machine (known pass.old) inbox.old }
+    ensures own { IsPassAt gate.now pass.new }
+    ensures free { IsFree pass.new }
+    ensures looks { Looks (known pass.old) (known pass.new) }
+    ensures turned { (close : Close) → result ≡ Ok (Some close) → TurnedOn (L.told link.old) (L.told link.new) (L.carried link.old) (L.carried link.new) (K.taken out.old) (K.taken out.new) (known pass.old).seen (known pass.new).seen (line_of conn.old).machine (line_of conn.new) inbox.old inbox.new }
+    ensures closed { (close : Close) → result ≡ Ok (Some close) → ClosesAs close (line_of conn.new).machine.ending }
+    ensures leaves { (close : Close) → result ≡ Ok (Some close) → Leaves (line_of conn.new).machine (known pass.new) inbox.new }
+    ensures stopped { result ≡ Ok None → GivenUpOn None (K.taken out.old) (K.taken out.new) (known pass.old).seen (known pass.new).seen (line_of conn.old).machine inbox.old inbox.new }
+    ensures given_up { IfErr result (λ fault. GivenUpOn (Some fault) (K.taken out.old) (K.taken out.new) (known pass.old).seen (known pass.new).seen (line_of conn.old).machine inbox.old inbox.new) }
+    ensures blamed { IfErr result (IsBlamed (K.faults out.old) (K.faults out.new) 0 0 (known pass.old) (known pass.new) inbox.old inbox.new) }
+    ensures of_connection { IfErr result IsOfConnection }
+    ensures kind { SameKind inbox.old inbox.new }
+    ensures never_falls { (faults_of inbox.old ≤ faults_of inbox.new) × (K.faults out.old ≤ K.faults out.new) }
+    ensures stays { L.place link.new ≡ L.place link.old }
+    ensures told { C.told clock.new ≡ C.told clock.old }
+{
     conn.begin(clock);
     for _ in 0..TURNS {
         if stop.load(Ordering::SeqCst) {
             let _ = conn.cut();
             return Ok(None);
         }
-        let close = turn_once(conn, link, out, gate, pass, inbox, clock, teller, rt)?;
-        if close.is_some() {
-            return Ok(close);
+        match turn_once(conn, link, out, gate, pass, inbox, clock, teller, rt) {
+            Ok(None) => {}
+            Ok(Some(close)) => return Ok(Some(close)),
+            Err(fault) => return Err(fault),
         }
     }
     let _ = conn.cut();

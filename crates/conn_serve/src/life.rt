@@ -1,5 +1,20 @@
 //! The connections of a life, one after another.
 
+ghost use Rattle.std.specs.Prelude.{◌≡◌, ◌≤◌, true, false, OnErr, Ok, Some, None, Err, IfOk, IfErr, IfSome, OnOk};
+ghost use Rattle.gw_outside.specs.Faults.{HasRisen};
+ghost use Rattle.reply_laws.specs.Machine.{phase_of};
+ghost use Rattle.jr_boxes.specs.Inbox.{faults_of};
+ghost use Rattle.gate_turn.specs.Places.{known};
+ghost use Rattle.gate_turn.specs.Calls.{IsFree};
+ghost use Rattle.gate_senders.specs.Gate.{IsPassAt};
+ghost use Rattle.conn_steps.specs.Settling.{SameKind};
+ghost use Rattle.conn_loop.specs.Conn.{line_of, Looks};
+ghost use Rattle.conn_serve.specs.Answers.{end_behind};
+ghost use Rattle.conn_serve.specs.declared.answer.ServeFault.TheVariants as faults;
+ghost use Rattle.conn_serve.specs.Causes.{IsBlamed};
+ghost use Rattle.conn_serve.specs.Turned.{MayBegin};
+ghost use Rattle.conn_serve.specs.Served.{IsRound, ServedLife, IsNext};
+
 use crate::answer::{LifeEnd, ServeFault};
 use crate::connection::one_connection;
 use crate::news::Teller;
@@ -17,7 +32,15 @@ use std::sync::Wait;
 use std::sync::atomic::{AtomicBool, Ordering};
 
 /// The next link; it is a fault where none is left.
-fn next_link<N: Dialer>(dialer: &mut N, conn: &Conn) -> Result<N::Link, ServeFault> {
+fn next_link<N: Dialer>(dialer: &mut N, conn: &Conn) -> Result<N::Link, ServeFault>
+    requires lent { N.lent dialer.old ≡ false }
+    ensures next { IsNext N.Link.carried (N.told dialer.old) (N.told dialer.new) result }
+    ensures phase { (phase : _) → result ≡ Err (faults.Unfinished phase) → phase ≡ phase_of (line_of conn.now).machine }
+    ensures lent { OnOk result (N.lent dialer.new ≡ true) }
+    ensures back { OnErr result (N.lent dialer.new ≡ false) }
+    ensures dial { result ≡ Err faults.Dial → HasRisen (N.faults dialer.old) (N.faults dialer.new) }
+    ensures never_falls { N.faults dialer.old ≤ N.faults dialer.new }
+{
     match dialer.next() {
         Ok(Some(link)) => Ok(link),
         Ok(None) => Err(ServeFault::Unfinished {
@@ -28,7 +51,9 @@ fn next_link<N: Dialer>(dialer: &mut N, conn: &Conn) -> Result<N::Link, ServeFau
 }
 
 /// How the life ends behind a connection that came to its end so, or `None` where the next one follows.
-fn end_behind(close: Close) -> Result<Option<LifeEnd>, ServeFault> {
+fn end_behind(close: Close) -> Result<Option<LifeEnd>, ServeFault>
+    ensures { result ≡ end_behind close }
+{
     match close {
         Close::Ended(Ending::Finished) => Ok(Some(LifeEnd::Finished)),
         Close::Ended(Ending::Rejected { template, code }) => {
@@ -53,20 +78,41 @@ fn serve_next<N: Dialer, K: Sink, O: Journal, I: Journal, C: Clock, R: Wait>(
     number: u64,
     stop: &AtomicBool,
     rt: &R,
-) -> Result<Option<LifeEnd>, ServeFault> {
-    let mut link = next_link(dialer, conn)?;
+) -> Result<Option<LifeEnd>, ServeFault>
+    requires own { IsPassAt gate.now pass.old }
+    requires free { IsFree pass.old }
+    requires may { MayBegin (line_of conn.old).machine (known pass.old) inbox.old }
+    requires lent { N.lent dialer.old ≡ false }
+    ensures own { IsPassAt gate.now pass.new }
+    ensures free { IsFree pass.new }
+    ensures looks { Looks (known pass.old) (known pass.new) }
+    ensures lent { N.lent dialer.new ≡ false }
+    ensures round { IsRound number (N.told dialer.old) (N.told dialer.new) (K.taken out.old) (K.taken out.new) (known pass.old).seen (known pass.new).seen (line_of conn.old).machine (line_of conn.new).machine inbox.old inbox.new result }
+    ensures goes { result ≡ Ok None → MayBegin (line_of conn.new).machine (known pass.new) inbox.new }
+    ensures blamed { IfErr result (IsBlamed (K.faults out.old) (K.faults out.new) (N.faults dialer.old) (N.faults dialer.new) (known pass.old) (known pass.new) inbox.old inbox.new) }
+    ensures kind { SameKind inbox.old inbox.new }
+    ensures never_falls { (faults_of inbox.old ≤ faults_of inbox.new) × (K.faults out.old ≤ K.faults out.new) × (N.faults dialer.old ≤ N.faults dialer.new) }
+    ensures told { C.told clock.new ≡ C.told clock.old }
+{
+    let mut link = match next_link(dialer, conn) {
+        Ok(link) => link,
+        Err(fault) => return Err(fault),
+    };
     let answer = one_connection(
         conn, &mut link, out, gate, pass, inbox, clock, teller, stop, rt,
     );
     dialer.back(link);
-    match answer {
-        Ok(Some(close)) => {
-            teller.tell_close(out, number, close)?;
-            end_behind(close)
-        }
-        Ok(None) => Ok(Some(LifeEnd::Stopped)),
-        Err(fault) => Err(fault),
+    let ended = match answer {
+        Ok(ended) => ended,
+        Err(fault) => return Err(fault),
+    };
+    let Some(close) = ended else {
+        return Ok(Some(LifeEnd::Stopped));
+    };
+    if let Err(fault) = teller.tell_close(out, number, close) {
+        return Err(fault);
     }
+    end_behind(close)
 }
 
 /// Serves the connections that a dialer gives, one after another, until one ends with both finishes exchanged, or until `stop`
@@ -87,14 +133,27 @@ pub fn serve_connections<N: Dialer, K: Sink, O: Journal, I: Journal, C: Clock, R
     conn: &mut Conn,
     stop: &AtomicBool,
     rt: &R,
-) -> Result<LifeEnd, ServeFault> {
+) -> Result<LifeEnd, ServeFault>
+    requires own { IsPassAt gate.now pass.old }
+    requires free { IsFree pass.old }
+    requires may { MayBegin (line_of conn.old).machine (known pass.old) inbox.old }
+    requires lent { N.lent dialer.old ≡ false }
+    ensures own { IsPassAt gate.now pass.new }
+    ensures free { IsFree pass.new }
+    ensures looks { Looks (known pass.old) (known pass.new) }
+    ensures lent { N.lent dialer.new ≡ false }
+    ensures served { ServedLife (N.told dialer.old) (N.told dialer.new) (K.taken out.old) (K.taken out.new) (known pass.old).seen (known pass.new).seen (line_of conn.old).machine inbox.old inbox.new result }
+    ensures blamed { IfErr result (IsBlamed (K.faults out.old) (K.faults out.new) (N.faults dialer.old) (N.faults dialer.new) (known pass.old) (known pass.new) inbox.old inbox.new) }
+    ensures kind { SameKind inbox.old inbox.new }
+    ensures never_falls { (faults_of inbox.old ≤ faults_of inbox.new) × (K.faults out.old ≤ K.faults out.new) × (N.faults dialer.old ≤ N.faults dialer.new) }
+    ensures told { C.told clock.new ≡ C.told clock.old }
+{
     let mut teller = Teller::new(alloc);
-    let mut number = 1u64;
-    for _ in rt.forever() {
+    for number in 1..u64::MAX {
         if stop.load(Ordering::SeqCst) {
             return Ok(LifeEnd::Stopped);
         }
-        if let Some(end) = serve_next(
+        let answer = serve_next(
             dialer,
             out,
             gate,
@@ -106,10 +165,16 @@ pub fn serve_connections<N: Dialer, K: Sink, O: Journal, I: Journal, C: Clock, R
             number,
             stop,
             rt,
-        )? {
+        );
+        let ended = match answer {
+            Ok(ended) => ended,
+            Err(fault) => return Err(fault),
+        };
+        if let Some(end) = ended {
             return Ok(end);
         }
-        number = number.saturating_add(1);
     }
+    // No dialer gives so many connections.
+    for _ in rt.forever() {}
     unreachable!()
 }

@@ -1,5 +1,13 @@
 //! The lines on OUT: the news of a turn, and the end of a connection.
 
+ghost use Rattle.std.specs.Prelude.{◌≡◌, ◌⊎◌, ◌≤◌, ◌++◌, [], All, OnOk, OnErr, IfErr};
+ghost use Rattle.std.specs.Io.KnownBytes.{Appends};
+ghost use Rattle.gw_outside.specs.Faults.{HasRisen, TakesFront};
+ghost use Rattle.conn_turns.specs.News.{items_of};
+ghost use Rattle.session_lines.specs.Lines.{connection_line};
+ghost use Rattle.conn_serve.specs.Lines.{news_line, news_lines, IsShort};
+ghost use Rattle.conn_serve.specs.declared.answer.ServeFault.TheVariants as faults;
+
 use crate::answer::ServeFault;
 use conn_turns::{News, NewsItem};
 use gw_outside::{Sink, push_all};
@@ -14,7 +22,10 @@ pub(crate) struct Teller {
 }
 
 /// Adds the line of a piece of news.
-fn push_item(lines: &mut Vec<u8>, item: &NewsItem) -> Result<(), AllocError> {
+fn push_item(lines: &mut Vec<u8>, item: &NewsItem) -> Result<(), AllocError>
+    requires short { IsShort item.now }
+    ensures added { OnOk result (lines.new.items ≡ lines.old.items ++ news_line item.now) }
+{
     match item {
         NewsItem::Delivered { number, payload } => {
             push_deliver_line(lines, *number, payload.as_slice())
@@ -24,7 +35,10 @@ fn push_item(lines: &mut Vec<u8>, item: &NewsItem) -> Result<(), AllocError> {
 }
 
 /// Adds the lines of all news.
-fn push_items(lines: &mut Vec<u8>, items: &[NewsItem]) -> Result<(), AllocError> {
+fn push_items(lines: &mut Vec<u8>, items: &[NewsItem]) -> Result<(), AllocError>
+    requires short { All IsShort items.now }
+    ensures added { OnOk result (lines.new.items ≡ lines.old.items ++ news_lines items.now) }
+{
     for item in items {
         push_item(lines, item)?;
     }
@@ -41,7 +55,13 @@ impl Teller {
     }
 
     /// Tells the news of the last turn.
-    pub(crate) fn tell_news<K: Sink>(&mut self, out: &mut K) -> Result<(), ServeFault> {
+    pub(crate) fn tell_news<K: Sink>(&mut self, out: &mut K) -> Result<(), ServeFault>
+        requires short { All IsShort (items_of self.old.news) }
+        ensures told { OnOk result (Appends (K.taken out.old) (K.taken out.new) (news_lines (items_of self.old.news))) }
+        ensures front { OnErr result (TakesFront (K.taken out.old) (K.taken out.new) (news_lines (items_of self.old.news))) }
+        ensures never_falls { K.faults out.old ≤ K.faults out.new }
+        ensures cause { IfErr result (λ fault. ((fault ≡ faults.Output) × HasRisen (K.faults out.old) (K.faults out.new)) ⊎ (fault ≡ faults.Memory)) }
+    {
         self.lines.clear();
         if push_items(&mut self.lines, self.news.items()).is_err() {
             return Err(ServeFault::Memory);
@@ -55,7 +75,12 @@ impl Teller {
         out: &mut K,
         number: u64,
         close: Close,
-    ) -> Result<(), ServeFault> {
+    ) -> Result<(), ServeFault>
+        ensures told { OnOk result (Appends (K.taken out.old) (K.taken out.new) (connection_line number close)) }
+        ensures front { OnErr result (TakesFront (K.taken out.old) (K.taken out.new) (connection_line number close)) }
+        ensures never_falls { K.faults out.old ≤ K.faults out.new }
+        ensures cause { IfErr result (λ fault. ((fault ≡ faults.Output) × HasRisen (K.faults out.old) (K.faults out.new)) ⊎ (fault ≡ faults.Memory)) }
+    {
         self.lines.clear();
         if push_connection_line(&mut self.lines, number, close).is_err() {
             return Err(ServeFault::Memory);
@@ -65,7 +90,12 @@ impl Teller {
 }
 
 /// Pushes lines to OUT.
-fn push_lines<K: Sink>(out: &mut K, lines: &[u8]) -> Result<(), ServeFault> {
+fn push_lines<K: Sink>(out: &mut K, lines: &[u8]) -> Result<(), ServeFault>
+    ensures told { OnOk result (Appends (K.taken out.old) (K.taken out.new) lines.now) }
+    ensures front { OnErr result (TakesFront (K.taken out.old) (K.taken out.new) lines.now) }
+    ensures never_falls { K.faults out.old ≤ K.faults out.new }
+    ensures cause { IfErr result (λ fault. (fault ≡ faults.Output) × HasRisen (K.faults out.old) (K.faults out.new)) }
+{
     match push_all(out, lines) {
         Ok(()) => Ok(()),
         Err(_) => Err(ServeFault::Output),

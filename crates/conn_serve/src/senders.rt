@@ -1,49 +1,90 @@
 //! The senders of a life: all plans at once, and the Finish behind them.
 
+ghost use Rattle.std.specs.Prelude.{◌≡◌, All, Ok, Err, IfOk, IfErr, ◌<◌, length};
+ghost use Rattle.gate_turn.specs.Places.{known};
+ghost use Rattle.gate_turn.specs.Calls.{IsFree};
+ghost use Rattle.gate_senders.specs.Gate.{IsPassAt};
+ghost use Rattle.sender_plans.specs.Runs.{IsReady};
+ghost use Rattle.conn_serve.specs.Senders.{refusal_of, Finishes, IsRefusal, FinishedFirst, SubmittedAll};
+
 use crate::answer::{ServeFault, refused_finish, refused_submit};
-use gate_senders::Gate;
+use gate_senders::{Gate, Kept};
+use gate_turn::Pass;
 use jr_record::Journal;
 use sender_plans::{OpenDoor, Sender, run_senders};
 use std::sync::Wait;
 use std::sync::atomic::{AtomicBool, Ordering};
 use std::thread::Threads;
 
+/// What the refusal that a sender met, if it met one, is to the life.
+fn refusal_of<O: Journal>(sender: &Sender<O>) -> Option<ServeFault>
+    ensures { result ≡ refusal_of sender.now.refused }
+{
+    match sender.refused {
+        Some(fault) => refused_submit(fault),
+        None => None,
+    }
+}
+
 /// The refusal of the first sender in the list that met one, other than that the outbox is closed.
-fn first_refusal<O: Journal>(senders: &[Sender<O>]) -> Option<ServeFault> {
+fn first_refusal<O: Journal>(senders: &[Sender<O>]) -> Option<ServeFault>
+    ensures { IsRefusal senders.now result }
+{
     for sender in senders {
-        if let Some(fault) = sender.refused
-            && let Some(refused) = refused_submit(fault)
-        {
-            return Some(refused);
+        if let Some(fault) = refusal_of(sender) {
+            return Some(fault);
         }
     }
     None
 }
 
-/// Adds the Finish by the first sender's pass, where there are senders.
-fn finish<O: Journal, R: Wait>(
+/// Adds the Finish by a pass. Answers the refusal that was met, if one was other than that it stands already.
+fn finish_by<O: Journal, R: Wait>(
     gate: &Gate<O>,
-    senders: &mut [Sender<O>],
+    pass: &mut Pass<Kept<O>>,
     rt: &R,
-) -> Option<ServeFault> {
-    let first = senders.first_mut()?;
-    match gate.finish(&mut first.pass, rt) {
+) -> Option<ServeFault>
+    requires own { IsPassAt gate.now pass.old }
+    requires free { IsFree pass.old }
+    ensures own { IsPassAt gate.now pass.new }
+    ensures free { IsFree pass.new }
+    ensures finishes { Finishes (known pass.old) (known pass.new) result }
+{
+    match gate.finish(pass, rt) {
         Ok(()) => None,
         Err(fault) => refused_finish(fault),
     }
 }
 
-/// Submits all plans, and adds the Finish where all are submitted. Answers the refusal that was met, if one was other than that
-/// the outbox is closed, and then sets `stop`.
+/// Adds the Finish by the first sender's pass.
+fn finish<O: Journal, R: Wait>(
+    gate: &Gate<O>,
+    senders: &mut [Sender<O>],
+    rt: &R,
+) -> Option<ServeFault>
+    requires some { 0 < length senders.old }
+    requires ready { All (λ s. IsReady gate.now s) senders.old }
+    ensures ready { All (λ s. IsReady gate.now s) senders.new }
+    ensures finished { FinishedFirst senders.old senders.new result }
+{
+    finish_by(gate, &mut senders[0].pass, rt)
+}
+
+/// Submits all plans, and adds the Finish where all are submitted and there are senders. Answers the refusal that was met, if one
+/// was other than that the outbox is closed, and then sets `stop`.
 pub(crate) fn submit_all<O: Journal + Send, R: Threads + Wait + Sync>(
     gate: &Gate<O>,
     senders: &mut [Sender<O>],
     stop: &AtomicBool,
     rt: &R,
-) -> Option<ServeFault> {
+) -> Option<ServeFault>
+    requires ready { All (λ s. IsReady gate.now s) senders.old }
+    ensures ready { All (λ s. IsReady gate.now s) senders.new }
+    ensures submitted { SubmittedAll gate.now senders.old senders.new result }
+{
     let refused = match run_senders(gate, senders, &OpenDoor, rt) {
-        Ok(()) => finish(gate, senders, rt),
-        Err(_) => first_refusal(senders),
+        Ok(()) if !senders.is_empty() => finish(gate, senders, rt),
+        _ => first_refusal(senders),
     };
     if refused.is_some() {
         stop.store(true, Ordering::SeqCst);

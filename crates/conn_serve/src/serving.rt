@@ -1,6 +1,21 @@
 //! A whole life: the connections, and the senders beside them.
 
-use crate::answer::{ServeFault, answer_of};
+ghost use Rattle.std.specs.Prelude.{◌≡◌, ◌≤◌, ◌<◌, ◌^◌, ◌+◌, false, All, IfOk, IfErr, if◌then◌else◌, Some, None, length};
+ghost use Rattle.session_model.specs.Journal.{BeginsHistory};
+ghost use Rattle.fixp_msgs.specs.declared.flow.Flow.TheVariants.{Recoverable};
+ghost use Rattle.reply_laws.specs.Machine.{fresh};
+ghost use Rattle.jr_boxes.specs.Inbox.{faults_of, flow_of, next_of, is_negotiated, peer_last_of, limits_of};
+ghost use Rattle.gate_turn.specs.Places.{known};
+ghost use Rattle.gate_turn.specs.Calls.{IsFree};
+ghost use Rattle.gate_senders.specs.Gate.{IsPassAt, opening_of};
+ghost use Rattle.sender_plans.specs.Runs.{IsReady};
+ghost use Rattle.conn_steps.specs.Settling.{SameKind};
+ghost use Rattle.conn_loop.specs.Conn.{line_of, new_line, Looks};
+ghost use Rattle.conn_serve.specs.Turned.{MayBegin};
+ghost use Rattle.conn_serve.specs.Senders.{SubmittedAll};
+ghost use Rattle.conn_serve.specs.Opening.{opened_state, ServedBy};
+
+use crate::answer::{LifeEnd, ServeFault, answer_of};
 use crate::life::serve_connections;
 use crate::senders::submit_all;
 use conn_loop::Conn;
@@ -18,7 +33,9 @@ use std::sync::atomic::AtomicBool;
 use std::thread::{Threads, join_mut};
 
 /// What the journals record as the life opens: what the inbox has, and how many entries the outbox had.
-fn opened_state<O: Journal, I: Journal>(gate: &Gate<O>, inbox: &Inbox<I>) -> EndState {
+fn opened_state<O: Journal, I: Journal>(gate: &Gate<O>, inbox: &Inbox<I>) -> EndState
+    ensures { result ≡ opened_state (opening_of gate.now).history inbox.now }
+{
     let (sent, finished) = gate.opened();
     EndState {
         negotiated: inbox.is_negotiated(),
@@ -36,9 +53,68 @@ fn opened<O: Journal, I: Journal>(
     inbox: &Inbox<I>,
     config: EndConfig,
     most: u64,
-) -> Result<Conn, AllocError> {
+) -> Result<Conn, AllocError>
+    requires keepalive { (100 ≤ config.keepalive) × (config.keepalive ≤ 60000) }
+    requires credentials { length config.credentials ≤ 2048 }
+    requires most { most ≤ 2 ^ 24 }
+    requires numbered { config.peer_flow ≡ Recoverable → next_of inbox.now + 1 < 2 ^ 64 }
+    requires sent { length (opening_of gate.now).history.made < 2 ^ 40 }
+    ensures { IfOk result (λ conn. line_of conn ≡ new_line (fresh config (opened_state (opening_of gate.now).history inbox.now) most)) }
+{
     let end = End::new(alloc, config, opened_state(gate, inbox), most)?;
     Conn::new(alloc, end)
+}
+
+/// Serves the connections, with the senders beside them.
+fn serve_beside<
+    N: Dialer,
+    K: Sink,
+    O: Journal + Send,
+    I: Journal,
+    C: Clock,
+    R: Threads + Wait + Sync,
+>(
+    alloc: Global,
+    dialer: &mut N,
+    out: &mut K,
+    gate: &Gate<O>,
+    pass: &mut Pass<Kept<O>>,
+    inbox: &mut Inbox<I>,
+    clock: &mut C,
+    conn: &mut Conn,
+    senders: &mut [Sender<O>],
+    rt: &R,
+) -> Result<(), ServeFault>
+    requires own { IsPassAt gate.now pass.old }
+    requires free { IsFree pass.old }
+    requires may { MayBegin (line_of conn.old).machine (known pass.old) inbox.old }
+    requires lent { N.lent dialer.old ≡ false }
+    requires ready { All (λ s. IsReady gate.now s) senders.old }
+    ensures own { IsPassAt gate.now pass.new }
+    ensures free { IsFree pass.new }
+    ensures ready { All (λ s. IsReady gate.now s) senders.new }
+    ensures looks { Looks (known pass.old) (known pass.new) }
+    ensures lent { N.lent dialer.new ≡ false }
+    ensures served { ServedBy gate.now (N.told dialer.old) (N.told dialer.new) (K.taken out.old) (K.taken out.new) (K.faults out.old) (K.faults out.new) (N.faults dialer.old) (N.faults dialer.new) (known pass.old) (known pass.new) (line_of conn.old).machine inbox.old inbox.new senders.old senders.new result }
+    ensures kind { SameKind inbox.old inbox.new }
+    ensures never_falls { (faults_of inbox.old ≤ faults_of inbox.new) × (K.faults out.old ≤ K.faults out.new) × (N.faults dialer.old ≤ N.faults dialer.new) }
+    ensures told { C.told clock.new ≡ C.told clock.old }
+{
+    let stop = AtomicBool::new(false);
+    let (refused, connections) = join_mut(
+        rt,
+        &mut || -> Option<ServeFault>
+            requires { All (λ s. IsReady gate.now s) senders.now }
+        { submit_all(gate, senders, &stop, rt) },
+        &mut || -> Result<LifeEnd, ServeFault>
+            requires { IsPassAt gate.now pass.now × IsFree pass.now × MayBegin (line_of conn.now).machine (known pass.now) inbox.now × (N.lent dialer.now ≡ false) }
+        {
+            serve_connections(
+                alloc, dialer, out, gate, pass, inbox, clock, conn, &stop, rt,
+            )
+        },
+    );
+    answer_of(connections, refused)
 }
 
 /// Serves one life: the connections of the dialer, one after another, and beside them the senders, each of which submits its plan;
@@ -61,19 +137,33 @@ pub fn serve<N: Dialer, K: Sink, O: Journal + Send, I: Journal, C: Clock, R: Thr
     most: u64,
     senders: &mut [Sender<O>],
     rt: &R,
-) -> Result<(), ServeFault> {
+) -> Result<(), ServeFault>
+    requires own { IsPassAt gate.now pass.old }
+    requires free { IsFree pass.old }
+    requires opened { BeginsHistory (opening_of gate.now).history (known pass.old).seen }
+    requires sent { length (opening_of gate.now).history.made < 2 ^ 40 }
+    requires lent { N.lent dialer.old ≡ false }
+    requires keepalive { (100 ≤ config.keepalive) × (config.keepalive ≤ 60000) }
+    requires credentials { length config.credentials ≤ 2048 }
+    requires most { most ≤ 2 ^ 24 }
+    requires within { most ≤ (limits_of inbox.old).entries }
+    requires flow { flow_of inbox.old ≡ config.peer_flow }
+    requires numbered { config.peer_flow ≡ Recoverable → next_of inbox.old + 1 < 2 ^ 64 }
+    requires ready { All (λ s. IsReady gate.now s) senders.old }
+    ensures own { IsPassAt gate.now pass.new }
+    ensures free { IsFree pass.new }
+    ensures ready { All (λ s. IsReady gate.now s) senders.new }
+    ensures looks { Looks (known pass.old) (known pass.new) }
+    ensures lent { N.lent dialer.new ≡ false }
+    ensures served { ServedBy gate.now (N.told dialer.old) (N.told dialer.new) (K.taken out.old) (K.taken out.new) (K.faults out.old) (K.faults out.new) (N.faults dialer.old) (N.faults dialer.new) (known pass.old) (known pass.new) (fresh config (opened_state (opening_of gate.now).history inbox.old) most) inbox.old inbox.new senders.old senders.new result }
+    ensures kind { SameKind inbox.old inbox.new }
+    ensures never_falls { (faults_of inbox.old ≤ faults_of inbox.new) × (K.faults out.old ≤ K.faults out.new) × (N.faults dialer.old ≤ N.faults dialer.new) }
+    ensures told { C.told clock.new ≡ C.told clock.old }
+{
     let Ok(mut conn) = opened(alloc, gate, inbox, config, most) else {
         return Err(ServeFault::Memory);
     };
-    let stop = AtomicBool::new(false);
-    let (refused, connections) = join_mut(
-        rt,
-        &mut || submit_all(gate, senders, &stop, rt),
-        &mut || {
-            serve_connections(
-                alloc, dialer, out, gate, pass, inbox, clock, &mut conn, &stop, rt,
-            )
-        },
-    );
-    answer_of(connections, refused)
+    serve_beside(
+        alloc, dialer, out, gate, pass, inbox, clock, &mut conn, senders, rt,
+    )
 }

@@ -7,13 +7,14 @@ use Rattle.jr_record.specs.declared.journal.Journal.{Ghosts}
 use Rattle.jr_boxes.specs.declared.inbox.Inbox.{Inbox}
 use Rattle.jr_boxes.specs.Inbox.{HoldsBox}
 use Rattle.conn_turns.specs.Lines.{Line}
-use Rattle.conn_turns.specs.Frames.{added}
+use Rattle.conn_turns.specs.declared.news.NewsItem.{NewsItem}
+use Rattle.conn_turns.specs.Frames.{added, told}
 use Rattle.conn_steps.specs.Settling.{Gains}
 use Rattle.conn_turns.specs.Turns.{Work, Turn, only_sends, works, link_lost, is_end}
 use Rattle.conn_turns.specs.Exact.{Served, line_ticked}
 use Rattle.conn_loop.specs.Turned.{Exchanged}
 use Rattle.turn_laws.specs.Turns.{Sends, Works, line_received, IsTurn, adds_in}
-use Rattle.loop_laws.specs.Turned.{TurnIsOne, CutIsOne}
+use Rattle.loop_laws.specs.Turned.{WasTurn, TurnIsOne, CutIsOne}
 
 -- a work's moment is the turn's
 work_is_one : (now : ℕ) (before seen : History) (old new behind : Line) (w : Work) → w.now ≡ now → Served before seen (line_received old now w.received (old.over || is_end w.got)) behind w
@@ -30,17 +31,30 @@ module _ {J : Type 0} {G : Ghosts J} where
   gains_none box since is i h = subst (λ (x : Inbox J G). HoldsBox x (i ++ []) []) (sym is) (subst (λ (rs : List InboxRecord). HoldsBox box rs []) (sym (append-nil i)) h)
 
   pub turn_is_one : (box since : Inbox J G) → TurnIsOne box since
-  turn_is_one box since now eager told_before later carried after before seen old new newer (inl x) =
-      (only_sends now x.sent.sent x.sent.lost, (record { front = x.sent.front; line = x.sent.line }, x.same_seen), gains_none box since x.same_box)
+  turn_is_one box since now eager told_before later carried after before seen old new newer (inl x) = record {
+    turn = only_sends now x.sent.sent x.sent.lost;
+    is = (record { front = x.sent.front; line = x.sent.line }, x.same_seen);
+    gains = gains_none box since x.same_box;
+    news_are = x.no_news;
+    moved = x.sent.moved;
+  }
   turn_is_one box since now eager told_before later carried after before seen old new newer (inr x) = by_kind x.exchanged
     where
-      by_kind : Exchanged now eager told_before later carried after before seen (line_ticked old now) new box since [] newer → (t : Turn) × IsTurn before seen old new t × Gains box since (adds_in old t)
-      by_kind (inl w) = (
-        works w.work,
-        work_is_one now before seen old new w.behind w.work w.at w.served (record { front = w.front; line = w.line }),
-        subst (λ (n : ℕ). Gains box since (added n (line_received old n w.work.received (old.over || is_end w.work.got)) w.work.frames)) (sym w.at) w.gains,
-      )
-      by_kind (inr l) = (link_lost now, (l.line, l.same_seen), gains_none box since l.same_box)
+      by_kind : Exchanged now eager told_before later carried after before seen (line_ticked old now) new box since [] newer → WasTurn told_before later carried after before seen old new box since newer
+      by_kind (inl w) = record {
+        turn = works w.work;
+        is = work_is_one now before seen old new w.behind w.work w.at w.served (record { front = w.front; line = w.line });
+        gains = subst (λ (n : ℕ). Gains box since (added n (line_received old n w.work.received (old.over || is_end w.work.got)) w.work.frames)) (sym w.at) w.gains;
+        news_are = subst (λ (n : ℕ). newer ≡ told n (line_received old n w.work.received (old.over || is_end w.work.got)) w.work.frames) (sym w.at) w.news_are;
+        moved = w.moved;
+      }
+      by_kind (inr l) = record {
+        turn = link_lost now;
+        is = (l.line, l.same_seen);
+        gains = gains_none box since l.same_box;
+        news_are = l.same_news;
+        moved = l.moved;
+      }
 
   pub cut_is_one : (box since : Inbox J G) → CutIsOne box since
   cut_is_one box since now old newer fault k = record {
@@ -49,4 +63,5 @@ module _ {J : Type 0} {G : Ghosts J} where
     refused = k.cut.refused;
     cut = record { over = k.over; taken = k.cut.taken; next = k.cut.next };
     holds = k.cut.holds;
+    news_are = k.cut.news_are;
   }

@@ -1,2 +1,4 @@
 mod Reading
 mod Counting
+mod Opened
+mod Served

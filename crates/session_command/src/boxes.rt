@@ -1,11 +1,12 @@
 //! The journals of a session: opened as its boxes, and closed to their disks.
 
-ghost use Rattle.std.specs.Prelude.{◌≡◌, ℕ, ◌≤◌, ◌^◌, false, List, [], Option, IfOk, IfErr};
+ghost use Rattle.std.specs.Prelude.{◌≡◌, ℕ, ◌+◌, ◌<◌, ◌≤◌, ◌^◌, false, List, [], Option, IfOk, IfErr};
 ghost use Rattle.std.specs.Option.{ForSome};
 ghost use Rattle.gw_outside.specs.Faults.{HasRisen};
 ghost use Rattle.session_model.specs.Journal.{History};
 ghost use Rattle.session_model.specs.Inbox.{InboxRecord};
 ghost use Rattle.fixp_msgs.specs.declared.flow.Flow as flows;
+ghost use Rattle.fixp_msgs.specs.declared.flow.Flow.TheVariants as flow_variants;
 ghost use Rattle.jr_record.specs.declared.faults.OpenFault.TheVariants as open_fault;
 ghost use Rattle.jr_log.specs.Log.{disk_of};
 ghost use Rattle.jr_log.specs.Opening.{Refuses};
@@ -74,6 +75,7 @@ fn excluded(which: Which, fault: BoxFault) -> Status
 pub fn open_outbox<D: Disk>(alloc: Global, disk: D) -> Result<Outbox<LogJournal<D>>, (D, Status)>
     ensures told { IfOk result (λ _. (flow : flows.Flow) → ForSome (D.told disk) (IsBox boxes.Outbox flow)) }
     ensures sound { IfOk result (λ box. outboxes.is_broken box ≡ false) }
+    ensures few { IfOk result (λ box. outboxes.front_of box < 2 ^ 40) }
     ensures never_falls { IfOk result (λ box. D.faults disk ≤ outboxes.faults_of box) }
     ensures refused { IfErr result (λ e. (flow : flows.Flow) → IsNotOpened boxes.Outbox flow (D.told disk) e.1) }
     ensures refused_never_falls { IfErr result (λ e. D.faults disk ≤ D.faults e.0) }
@@ -103,6 +105,7 @@ pub fn open_inbox<D: Disk>(
     ensures sound { IfOk result (λ box. inboxes.is_broken box ≡ false) }
     ensures flow { IfOk result (λ box. inboxes.flow_of box ≡ flow) }
     ensures limit { IfOk result (λ box. (inboxes.limits_of box).entries ≡ 2 ^ 24) }
+    ensures numbered { IfOk result (λ box. flow ≡ flow_variants.Recoverable → inboxes.next_of box + 1 < 2 ^ 64) }
     ensures never_falls { IfOk result (λ box. D.faults disk ≤ inboxes.faults_of box) }
     ensures refused { IfErr result (λ e. IsNotOpened boxes.Inbox flow (D.told disk) e.1) }
     ensures refused_never_falls { IfErr result (λ e. D.faults disk ≤ D.faults e.0) }

@@ -1,7 +1,8 @@
 //! The whole of `accept` and `connect`.
 
-ghost use Rattle.std.specs.Prelude.{◌≡◌, ◌≤◌, ◌^◌, ◌⊎◌, false, IfOk, IfErr};
+ghost use Rattle.std.specs.Prelude.{◌≡◌, ◌+◌, ◌<◌, ◌≤◌, ◌^◌, ◌⊎◌, false, IfOk, IfErr};
 ghost use Rattle.session_config.specs.Settings.{IsLinkInRange, IsTradeInRange};
+ghost use Rattle.fixp_msgs.specs.declared.flow.Flow.TheVariants as flows;
 ghost use Rattle.jr_boxes.specs.Outbox as outboxes;
 ghost use Rattle.jr_boxes.specs.Inbox as inboxes;
 ghost use Rattle.command_base.specs.Causes.{NoneFellInSession};
@@ -41,6 +42,8 @@ fn open_boxes<D: Disk>(
     ensures sound { IfOk result (λ boxes. outboxes.is_broken boxes.0 ≡ false) }
     ensures flow { IfOk result (λ boxes. inboxes.flow_of boxes.1 ≡ flow) }
     ensures limit { IfOk result (λ boxes. (inboxes.limits_of boxes.1).entries ≡ 2 ^ 24) }
+    ensures numbered { IfOk result (λ boxes. flow ≡ flows.Recoverable → inboxes.next_of boxes.1 + 1 < 2 ^ 64) }
+    ensures few { IfOk result (λ boxes. outboxes.front_of boxes.0 < 2 ^ 40) }
     ensures never_falls { IfOk result (λ boxes. (D.faults out_disk ≤ outboxes.faults_of boxes.0) × (D.faults in_disk ≤ inboxes.faults_of boxes.1)) }
     ensures refused { IfErr result (λ e. RefusedBoxes D.told D.faults flow out_disk e.1 in_disk e.2 e.0) }
     ensures refused_never_falls { IfErr result (λ e. (D.faults out_disk ≤ D.faults e.1) × (D.faults in_disk ≤ D.faults e.2)) }
@@ -81,6 +84,8 @@ fn run_over_boxes<
     requires lent { N.lent dialer.old ≡ false }
     requires flow { inboxes.flow_of inbox.old ≡ flow_received role configuration.link }
     requires limit { (inboxes.limits_of inbox.old).entries ≡ 2 ^ 24 }
+    requires numbered { inboxes.flow_of inbox.old ≡ flows.Recoverable → inboxes.next_of inbox.old + 1 < 2 ^ 64 }
+    requires few_entries { outboxes.front_of outbox < 2 ^ 40 }
     ensures ended { RefusedInput S.left S.faults configuration.trade.senders input.old input.new out.old out.new dialer.old dialer.new clock.old clock.new result.0
         ⊎ Lived S.left K.faults N.faults configuration.trade.senders input.old out.old out.new dialer.old dialer.new result.0 }
     ensures lent { N.lent dialer.new ≡ false }

@@ -1,11 +1,13 @@
 //! The life of a session over its boxes: the senders seated at a gate, the connections served, and the outbox out of the gate
 //! again.
 
-ghost use Rattle.std.specs.Prelude.{◌≡◌, ℕ, ◌+◌, ◌≤◌, ◌^◌, false, [], length, vec_len, vec_capacity, Err, IfErr};
+ghost use Rattle.std.specs.Prelude.{◌≡◌, ◌+◌, ◌<◌, ◌≤◌, ◌^◌, false, [], length, vec_len, vec_capacity, Err, IfOk, IfErr};
 ghost use Rattle.gw_outside.specs.Faults.{HasRisen};
+ghost use Rattle.session_model.specs.Journal.{BeginsHistory};
+ghost use Rattle.fixp_msgs.specs.declared.flow.Flow.TheVariants as flows;
 ghost use Rattle.jr_boxes.specs.Outbox as outboxes;
 ghost use Rattle.jr_boxes.specs.Inbox as inboxes;
-ghost use Rattle.gate_senders.specs.Gate.{senders_of, IsPassAt, MadeAt, AllBackAt};
+ghost use Rattle.gate_senders.specs.Gate.{opening_of, senders_of, OpensOn, IsPassAt, MadeAt, AllBackAt};
 ghost use Rattle.gate_turn.specs.Places.{known};
 ghost use Rattle.gate_turn.specs.Calls.{IsFree};
 ghost use Rattle.conn_loop.specs.Conn.{Looks};
@@ -73,9 +75,12 @@ fn serve_beside<
     requires seated { Seated gate.now senders.old.items (vec_len senders.old + 1) }
     requires own { IsPassAt gate.now pass.old }
     requires free { IsFree pass.old }
+    requires opened { BeginsHistory (opening_of gate.now).history (known pass.old).seen }
+    requires sent { length (opening_of gate.now).history.made < 2 ^ 40 }
     requires lent { N.lent dialer.old ≡ false }
     requires flow { inboxes.flow_of inbox.old ≡ config.peer_flow }
     requires limit { (inboxes.limits_of inbox.old).entries ≡ 2 ^ 24 }
+    requires numbered { inboxes.flow_of inbox.old ≡ flows.Recoverable → inboxes.next_of inbox.old + 1 < 2 ^ 64 }
     requires least { 100 ≤ config.keepalive }
     requires greatest { config.keepalive ≤ 60000 }
     requires credentials { length config.credentials ≤ 2048 }
@@ -84,8 +89,8 @@ fn serve_beside<
     ensures own { IsPassAt gate.now pass.new }
     ensures free { IsFree pass.new }
     ensures looks { Looks (known pass.old) (known pass.new) }
-    ensures output { IfErr result (λ fault. fault ≡ faults.Output → HasRisen (K.faults out.old) (K.faults out.new)) }
-    ensures dial { IfErr result (λ fault. fault ≡ faults.Dial → HasRisen (N.faults dialer.old) (N.faults dialer.new)) }
+    ensures output { result ≡ Err faults.Output → HasRisen (K.faults out.old) (K.faults out.new) }
+    ensures dial { result ≡ Err faults.Dial → HasRisen (N.faults dialer.old) (N.faults dialer.new) }
     ensures lent { N.lent dialer.new ≡ false }
     ensures never_falls { (inboxes.faults_of inbox.old ≤ inboxes.faults_of inbox.new) × (K.faults out.old ≤ K.faults out.new) × (N.faults dialer.old ≤ N.faults dialer.new) }
 {
@@ -131,15 +136,17 @@ fn serve_seated<
     requires few { vec_len plans ≤ 16 }
     requires empty { seats.items ≡ [] }
     requires room { vec_len plans ≤ vec_capacity seats }
+    requires sent { length (opening_of gate.now).history.made < 2 ^ 40 }
     requires lent { N.lent dialer.old ≡ false }
     requires flow { inboxes.flow_of inbox.old ≡ config.peer_flow }
     requires limit { (inboxes.limits_of inbox.old).entries ≡ 2 ^ 24 }
+    requires numbered { inboxes.flow_of inbox.old ≡ flows.Recoverable → inboxes.next_of inbox.old + 1 < 2 ^ 64 }
     requires least { 100 ≤ config.keepalive }
     requires greatest { config.keepalive ≤ 60000 }
     requires credentials { length config.credentials ≤ 2048 }
     ensures back { AllBackAt gate.now passes.new }
-    ensures output { IfErr result (λ fault. fault ≡ faults.Output → HasRisen (K.faults out.old) (K.faults out.new)) }
-    ensures dial { IfErr result (λ fault. fault ≡ faults.Dial → HasRisen (N.faults dialer.old) (N.faults dialer.new)) }
+    ensures output { result ≡ Err faults.Output → HasRisen (K.faults out.old) (K.faults out.new) }
+    ensures dial { result ≡ Err faults.Dial → HasRisen (N.faults dialer.old) (N.faults dialer.new) }
     ensures lent { N.lent dialer.new ≡ false }
     ensures never_falls { (inboxes.faults_of inbox.old ≤ inboxes.faults_of inbox.new) × (K.faults out.old ≤ K.faults out.new) × (N.faults dialer.old ≤ N.faults dialer.new) }
 {
@@ -166,6 +173,33 @@ fn serve_seated<
     answer
 }
 
+/// The passes and the gate of an outbox.
+type Made<D> = (Gate<LogJournal<D>>, Passes<Kept<LogJournal<D>>>);
+
+/// A gate round an outbox for so many senders, and its passes.
+///
+/// # Errors
+/// The outbox comes back where memory runs out.
+fn made_gate<D: Disk>(
+    alloc: Global,
+    outbox: Outbox<LogJournal<D>>,
+    senders: u16,
+) -> Result<Made<D>, Outbox<LogJournal<D>>>
+    requires few { senders ≤ 16 }
+    requires sound { outboxes.is_broken outbox ≡ false }
+    requires few_entries { outboxes.front_of outbox < 2 ^ 40 }
+    ensures opened { IfOk result (λ r. OpensOn r.0 outbox) }
+    ensures sent { IfOk result (λ r. length (opening_of r.0).history.made < 2 ^ 40) }
+    ensures made { IfOk result (λ r. MadeAt r.0 r.1 (senders + 1)) }
+    ensures senders { IfOk result (λ r. senders_of r.0 ≡ senders) }
+    ensures refused { IfErr result (λ box. box ≡ outbox) }
+{
+    match Gate::new(alloc, outbox, senders) {
+        Ok(made) => Ok(made),
+        Err(outbox) => Err(outbox),
+    }
+}
+
 /// Serves the connections of the dialer, with a sender for each plan beside them. The outbox comes back with the status.
 pub fn live<K: Sink, D: Disk + Send, N: Dialer, C: Clock, R: Threads + Wait + Sync>(
     rt: &R,
@@ -179,10 +213,12 @@ pub fn live<K: Sink, D: Disk + Send, N: Dialer, C: Clock, R: Threads + Wait + Sy
     inbox: &mut Inbox<LogJournal<D>>,
 ) -> (Status, Outbox<LogJournal<D>>)
     requires sound { outboxes.is_broken outbox ≡ false }
+    requires few_entries { outboxes.front_of outbox < 2 ^ 40 }
     requires few { vec_len plans ≤ 16 }
     requires lent { N.lent dialer.old ≡ false }
     requires flow { inboxes.flow_of inbox.old ≡ config.peer_flow }
     requires limit { (inboxes.limits_of inbox.old).entries ≡ 2 ^ 24 }
+    requires numbered { inboxes.flow_of inbox.old ≡ flows.Recoverable → inboxes.next_of inbox.old + 1 < 2 ^ 64 }
     requires least { 100 ≤ config.keepalive }
     requires greatest { config.keepalive ≤ 60000 }
     requires credentials { length config.credentials ≤ 2048 }
@@ -196,7 +232,7 @@ pub fn live<K: Sink, D: Disk + Send, N: Dialer, C: Clock, R: Threads + Wait + Sy
     let Ok(seats) = Vec::with_capacity(alloc, plans.len()) else {
         return (Status::Memory, outbox);
     };
-    let (gate, mut passes) = match Gate::new(alloc, outbox, plans.len() as u16) {
+    let (gate, mut passes) = match made_gate(alloc, outbox, plans.len() as u16) {
         Ok(made) => made,
         Err(outbox) => return (Status::Memory, outbox),
     };

@@ -53,6 +53,17 @@ sent_in (link_lost now) = []
 sent_in (cut_short now received frames refused) = []
 sent_in not_begun = []
 
+-- and those that it gave
+abbrev pub given_in : Turn → List ℕ
+given_in (only_sends now sent lost) = []
+given_in (works w) = w.received
+given_in (link_lost now) = []
+given_in (cut_short now received frames refused) = received
+given_in not_begun = []
+
+abbrev pub given_on : TurnedLeg → List ℕ
+given_on t = flat_map given_in (all_turns t)
+
 abbrev pub sent_on : TurnedLeg → List ℕ
 sent_on t = flat_map sent_in (all_turns t)
 

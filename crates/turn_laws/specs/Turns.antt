@@ -5,7 +5,8 @@ use Rattle.session_model.specs.Journal.{History}
 use Rattle.session_model.specs.Inbox.{InboxRecord}
 use Rattle.reply_laws.specs.Machine.{link_end, run}
 use Rattle.conn_turns.specs.Lines.{Line, TakenFrame, IsNext, AreTaken, lines_after}
-use Rattle.conn_turns.specs.Frames.{added}
+use Rattle.conn_turns.specs.declared.news.NewsItem.{NewsItem}
+use Rattle.conn_turns.specs.Frames.{added, told}
 use Rattle.conn_turns.specs.Turns.{Work, Turn, only_sends, works, link_lost, cut_short, not_begun, sending_calls, is_end}
 use Rattle.conn_turns.specs.Exact.{Served, line_ticked}
 
@@ -52,3 +53,11 @@ adds_in old (works w) = added w.now (line_received old w.now w.received (old.ove
 adds_in old (link_lost now) = []
 adds_in old (cut_short now received frames refused) = []
 adds_in old not_begun = []
+
+-- what a whole turn tells: what the frames that it took tell
+abbrev pub tells_in : Line → Turn → List NewsItem
+tells_in old (only_sends now sent lost) = []
+tells_in old (works w) = told w.now (line_received old w.now w.received (old.over || is_end w.got)) w.frames
+tells_in old (link_lost now) = []
+tells_in old (cut_short now received frames refused) = []
+tells_in old not_begun = []

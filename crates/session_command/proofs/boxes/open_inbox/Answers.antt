@@ -1,4 +1,8 @@
-use Rattle.std.proofs.Common.{refl, subst}
+use Rattle.std.proofs.Common.{refl, subst, ap, length, arith}
+use Rattle.std.proofs.lemmas.List.{length-map}
+use Rattle.jr_log.specs.Behind.{few_records}
+use Rattle.jr_boxes.specs.Inboxes.{record_of}
+use Rattle.session_command.proofs.Opened.{few_next}
 use Rattle.jr_boxes.specs.Inboxes.{IsInbox}
 use Rattle.session_command.proofs.boxes.open_inbox.Goals as goal
 
@@ -15,3 +19,18 @@ pub returns-in-Err-open-clause-refused : goal.returns-in-Err-open-clause-refused
 returns-in-Err-open-clause-refused g c =
     let records = c.in-Ok.journal.records.items in
     c.excluded.ensures.refused c.args.flow (g.D.Disk.told c.args.disk) (λ at is x e. record { records = records; journal = c.in-Ok.ensures.list x e; wrong = c.in-Err-open.ensures.wrong at is records refl })
+
+pub returns-in-Ok-open-clause-numbered : goal.returns-in-Ok-open-clause-numbered
+returns-in-Ok-open-clause-numbered g c = λ recoverable.
+    let box = c.in-Ok-open.inbox in
+    let j = box.journal in
+    let opened = c.in-Ok-open.ensures.opened c.in-Ok.journal.records.items refl in
+    let flow = c.in-Ok-open.ensures.flow in
+    omega (
+      arith,
+      few_records j.records.items j.size j.sized j.small,
+      ap length opened.stands.journal,
+      length-map opened.list record_of,
+      few_next box.flow opened.list (λ is. cc) opened.stands.inbox.fits,
+      opened.stands.noticed.next,
+    )

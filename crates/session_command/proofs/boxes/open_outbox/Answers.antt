@@ -1,4 +1,5 @@
-use Rattle.std.proofs.Common.{refl}
+use Rattle.std.proofs.Common.{refl, arith}
+use Rattle.jr_log.specs.Behind.{few_records}
 use Rattle.session_command.proofs.boxes.open_outbox.Goals as goal
 
 pub returns-in-Err-clause-refused : goal.returns-in-Err-clause-refused
@@ -14,3 +15,8 @@ pub returns-in-Err-open-clause-refused : goal.returns-in-Err-open-clause-refused
 returns-in-Err-open-clause-refused g c = λ flow.
     let records = c.in-Ok.journal.records.items in
     c.excluded.ensures.refused flow (g.D.Disk.told c.args.disk) (λ at is x e. record { records = records; journal = c.in-Ok.ensures.list x e; wrong = c.in-Err-open.ensures.wrong at is records refl })
+
+pub returns-in-Ok-open-clause-few : goal.returns-in-Ok-open-clause-few
+returns-in-Ok-open-clause-few g c =
+    let j = c.in-Ok-open.outbox.journal in
+    omega (arith, c.in-Ok-open.outbox.within.all, few_records j.records.items j.size j.sized j.small)

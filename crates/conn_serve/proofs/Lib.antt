@@ -1,0 +1,5 @@
+pub mod Shortness
+pub mod Making
+pub mod Turning
+pub mod Living
+pub mod Opening

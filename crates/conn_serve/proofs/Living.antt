@@ -1,0 +1,391 @@
+-- Connections of a life one behind another, and how it ends.
+use Rattle.std.proofs.Common.{◌≡◌, ◌⊎◌, inl, inr, ℕ, ◌+◌, ◌-◌, ◌<◌, Bool, true, false, All, List, [], ◌∷◌, ◌++◌, length, Option, Some, None, Result, Ok, Err, refl, sym, ap, subst, ◌∙◌, arith, append-nil, append_assoc, length-append}
+use Rattle.std.specs.Prelude.{IsSome, IfSome, IsTrue, is_some}
+use Rattle.std.specs.List.{flat_map}
+use Rattle.std.specs.Option.{option_map}
+use Rattle.std.specs.Io.KnownBytes.{Appends}
+use Rattle.std.proofs.KnownBytes.{Appends-nil, Appends-trans}
+use Rattle.std.proofs.lemmas.Bool.{false≢true}
+use Rattle.std.proofs.lemmas.List.Elements.{All-append, All-cons, All-nil}
+use Rattle.session_model.specs.Journal.{History}
+use Rattle.session_model.specs.Inbox.{InboxRecord}
+use Rattle.fixp_replies.specs.declared.act.Ending.{Ending}
+use Rattle.fixp_replies.specs.declared.act.Ending.TheVariants as endings
+use Rattle.reply_laws.specs.Machine.{State, phase_of}
+use Rattle.gw_links.specs.Links.{LinkTold, Carried, HasCarried, CarriedNothing, carry}
+use Rattle.gw_links.specs.Dialers.{DialerTold, returned}
+use Rattle.jr_record.specs.declared.journal.Journal.{Ghosts}
+use Rattle.jr_boxes.specs.declared.inbox.Inbox.{Inbox}
+use Rattle.jr_boxes.specs.Inbox.{HoldsBox}
+use Rattle.gate_turn.specs.Views.{Part}
+use Rattle.gate_turn.proofs.Histories.{begins_self}
+use Rattle.session_lines.specs.declared.close.Close.{Close}
+use Rattle.session_lines.specs.declared.close.Close.TheVariants as closes
+use Rattle.session_lines.specs.Lines.{connection_line}
+use Rattle.conn_turns.specs.Lines.{Line}
+use Rattle.conn_steps.specs.Settling.{Gains}
+use Rattle.conn_loop.specs.Turned.{Leaves}
+use Rattle.turn_laws.specs.Legs.{TurnedLeg, given_in, sent_in, given_on, sent_on}
+use Rattle.conn_serve.specs.declared.answer.ServeFault.{ServeFault}
+use Rattle.conn_serve.specs.declared.answer.ServeFault.TheVariants as faults
+use Rattle.conn_serve.specs.declared.answer.LifeEnd.{LifeEnd}
+use Rattle.conn_serve.specs.declared.answer.LifeEnd.TheVariants as ends
+use Rattle.conn_serve.specs.Answers.{end_behind, IsOfConnection}
+use Rattle.conn_serve.specs.Connections.{Connection, HasEnded, AllEnded, ClosesAs, Follows, IsFollowed, adds_of}
+use Rattle.conn_serve.specs.Lines.{news_lines, close_line, lines_from}
+use Rattle.conn_serve.specs.Causes.{lacks_at, Tells}
+use Rattle.conn_serve.specs.Turned.{TurnedOn, GivenUpOn, MayBegin}
+use Rattle.conn_serve.specs.Served.{AllCame, carried_by, IsTold, IsNext, IsNextLink, IsLifeAnswer, lacks_lines, ServedLife, Lived, EndedOne, GaveOneUp, MadeNone, IsRound}
+use Rattle.conn_serve.proofs.Turning.{gains_none, gains_on, tells_on, tells_all}
+
+-- ---- links that come back
+
+pub came_none : (d : Option DialerTold) → AllCame d d []
+came_none None = tt
+came_none (Some t) = record { back = sym (append-nil t.back); left = omega arith }
+
+pub came_on : (a b c : Option DialerTold) (xs ys : List (Option Carried)) → AllCame a b xs → AllCame b c ys → AllCame a c (xs ++ ys)
+came_on None None None xs ys x y = tt
+came_on None None (Some c) xs ys x y = y
+came_on None (Some b) c xs ys x y = absurd x
+came_on (Some a) None c xs ys x y = absurd x
+came_on (Some a) (Some b) None xs ys x y = y
+came_on (Some a) (Some b) (Some c) xs ys x y = record {
+  back = y.back ∙ ap (λ (l : List (Option Carried)). l ++ ys) x.back ∙ append_assoc a.back xs ys;
+  left = omega (arith, x.left, y.left, length-append xs ys);
+}
+
+abbrev pub fewer : DialerTold → DialerTold
+fewer t = record t { left = t.left - 1 }
+
+came_so : (a b c : Option DialerTold) (q : Option Carried) → b ≡ option_map fewer a → IfSome a (λ t. 0 < t.left) → c ≡ option_map (returned q) b → AllCame a c (q ∷ [])
+came_so a b c q next left back = subst (λ (x : Option DialerTold). AllCame a x (q ∷ [])) (sym (back ∙ ap (option_map (returned q)) next)) (step a left)
+  where
+    step : (a : Option DialerTold) → IfSome a (λ t. 0 < t.left) → AllCame a (option_map (returned q) (option_map fewer a)) (q ∷ [])
+    step None left = tt
+    step (Some t) left = record { back = refl; left = omega (arith, left) }
+
+carried_all : (p q : Option Carried) (given sent : List ℕ) → CarriedNothing p → q ≡ option_map (carry given sent) p → HasCarried q given sent
+carried_all None q given sent fresh is = subst (λ (x : Option Carried). HasCarried x given sent) (sym is) tt
+carried_all (Some c) q given sent fresh is = subst (λ (x : Option Carried). HasCarried x given sent) (sym is) (ap (λ (l : List ℕ). l ++ given) fresh.0, ap (λ (l : List ℕ). l ++ sent) fresh.1)
+
+still_tells : (p q : Option Carried) (given sent : List ℕ) → q ≡ option_map (carry given sent) p → IsTrue (is_some p) → IsTrue (is_some q)
+still_tells None q given sent is t = absurd (false≢true t)
+still_tells (Some c) q given sent is t = subst (λ (x : Option Carried). IsTrue (is_some x)) (sym is) refl
+
+-- ---- lists of connections
+
+pub ended_on : (a b c : History) (m mid new : State) (cs : List Connection) (x : Connection) → AllEnded a b m mid cs → HasEnded b c mid new x → AllEnded a c m new (cs ++ x ∷ [])
+ended_on a b c m mid new [] x were is =
+    (c, new, subst (λ (s : State). HasEnded a c s new x) were.0 (subst (λ (h : History). HasEnded h c mid new x) were.1 is), (refl, refl))
+ended_on a b c m mid new (y ∷ cs) x were is =
+    let (between, middle, first, later) = were in
+    (between, middle, first, ended_on between b c middle mid new cs x later is)
+
+pub lines_append : (k : ℕ) (cs : List Connection) (x : Connection) → lines_from k (cs ++ x ∷ []) ≡ lines_from k cs ++ (news_lines x.news ++ close_line (k + length cs) x.close)
+lines_append k [] x = append-nil _ ∙ ap (λ (n : ℕ). news_lines x.news ++ close_line n x.close) (omega arith)
+lines_append k (c ∷ cs) x =
+    ap (λ (l : List ℕ). (news_lines c.news ++ close_line k c.close) ++ l) (lines_append (k + 1) cs x ∙ ap (λ (n : ℕ). lines_from (k + 1) cs ++ (news_lines x.news ++ close_line n x.close)) (omega arith))
+    ∙ sym (append_assoc (news_lines c.news ++ close_line k c.close) (lines_from (k + 1) cs) (news_lines x.news ++ close_line (k + length (c ∷ cs)) x.close))
+
+pub carried_append : (cs : List Connection) (x : Connection) → carried_by (cs ++ x ∷ []) ≡ carried_by cs ++ x.carried ∷ []
+carried_append [] x = refl
+carried_append (c ∷ cs) x = ap (λ (l : List (Option Carried)). c.carried ∷ l) (carried_append cs x)
+
+pub adds_append : (cs : List Connection) (x : Connection) → adds_of (cs ++ x ∷ []) ≡ adds_of cs ++ x.adds
+adds_append [] x = append-nil x.adds
+adds_append (c ∷ cs) x = ap (λ (l : List InboxRecord). c.adds ++ l) (adds_append cs x) ∙ sym (append_assoc c.adds (adds_of cs) x.adds)
+
+some_ending : (close : Close) (o : Option Ending) → ClosesAs close o → IsSome o
+some_ending (closes.Ended e) o is = subst (λ (x : Option Ending). IsSome x) (sym is) refl
+some_ending closes.LinkFault o is = is
+
+lines_so : (lacking : Bool) (n : ℕ) (out mid_out now_out : Option (List ℕ)) (cs : List Connection) (x : Connection) → n ≡ 1 + length cs → Appends out mid_out (lines_from 1 cs)
+    → Tells lacking mid_out now_out (news_lines x.news ++ close_line n x.close) → Tells lacking out now_out (lines_from 1 (cs ++ x ∷ []))
+lines_so lacking n out mid_out now_out cs x number first later =
+    subst (Tells lacking out now_out) (sym (lines_append 1 cs x))
+    (tells_on lacking out mid_out now_out (lines_from 1 cs) _ first (subst (λ (k : ℕ). Tells lacking mid_out now_out (news_lines x.news ++ close_line k x.close)) number later))
+
+came_with : (a b c : Option DialerTold) (cs : List Connection) (x : Connection) → AllCame a b (carried_by cs) → AllCame b c (x.carried ∷ []) → AllCame a c (carried_by (cs ++ x ∷ []))
+came_with a b c cs x first later = subst (AllCame a c) (sym (carried_append cs x)) (came_on a b c (carried_by cs) (x.carried ∷ []) first later)
+
+told_with : (a b c : Option DialerTold) (cs : List Connection) (x : Connection) → AllCame a b (carried_by cs) → (IsTrue (is_some a) → All IsTold cs) → (IsTrue (is_some b) → IsTold x) → IsTrue (is_some a) → All IsTold (cs ++ x ∷ [])
+told_with None b c cs x came first later t = absurd (false≢true t)
+told_with (Some a) None c cs x came first later t = absurd came
+told_with (Some a) (Some b) c cs x came first later t = All-append IsTold cs (x ∷ []) (first t) (All-cons IsTold x [] (later refl) (All-nil IsTold))
+
+module _ {J : Type 0} {G : Ghosts J} where
+  pub may_begin : (close : Close) (m : State) (p : Part) (box : Inbox J G) → ClosesAs close m.ending → Leaves m p box → MayBegin m p box
+  may_begin close m p box closed l = record { over = λ _. some_ending close m.ending closed; time = l.time; sent = l.sent; credentials = l.credentials; seen = l.seen; agrees = l.agrees }
+
+  -- ---- one connection
+
+  pub ended_one : {L : Type 0} (carried_of : L → Option Carried) (first last : L) (told later_told : Option LinkTold) (n : ℕ) (lacking : Bool) (dialed between later : Option DialerTold) (out mid_out now_out : Option (List ℕ)) (before seen : History) (m : State) (new : Line) (box since : Inbox J G) (close : Close)
+      → IsNextLink carried_of first dialed between → TurnedOn told later_told (carried_of first) (carried_of last) out mid_out before seen m new box since
+      → later ≡ option_map (returned (carried_of last)) between → ClosesAs close new.machine.ending → Tells lacking mid_out now_out (connection_line n close)
+      → EndedOne n lacking dialed later out now_out before seen m new.machine box since close
+  ended_one carried_of first last told later_told n lacking dialed between later out mid_out now_out before seen m new box since close next on back closed lines =
+      let t = on.turned in
+      let leg : TurnedLeg = record { moment = on.moment; turns = t.turns; cut = None } in
+      let given : given_on leg ≡ flat_map given_in t.turns = ap (flat_map given_in) (append-nil t.turns) in
+      let sent : sent_on leg ≡ flat_map sent_in t.turns = ap (flat_map sent_in) (append-nil t.turns) in
+      record {
+        connection = record { leg = leg; news = t.news; adds = t.adds; refused = []; close = Some close; carried = carried_of last };
+        closed = refl;
+        ended = record {
+          last = new;
+          is = record {
+            seen = seen;
+            told = t.news;
+            added = t.adds;
+            turns = t.were;
+            grows = begins_self seen;
+            cut_told = [];
+            cut_added = [];
+            cut = (refl, refl, refl);
+            news = sym (append-nil t.news);
+            adds = sym (append-nil t.adds);
+          };
+          machine = refl;
+          whole = refl;
+          close = close;
+          closed = refl;
+          ending = closed;
+          carried = subst (λ (g : List ℕ). HasCarried (carried_of last) g (sent_on leg)) (sym given)
+              (subst (HasCarried (carried_of last) (flat_map given_in t.turns)) (sym sent) (carried_all (carried_of first) (carried_of last) _ _ next.fresh t.moved.carries));
+        };
+        gains = t.gains;
+        lines = tells_on lacking out mid_out now_out (news_lines t.news) (connection_line n close) t.lines lines;
+        came = came_so dialed between later (carried_of last) next.told next.left back;
+        tells = λ told. still_tells (carried_of first) (carried_of last) _ _ t.moved.carries (next.tells told);
+      }
+
+  pub gave_one : {L : Type 0} (carried_of : L → Option Carried) (first : L) (last : Option Carried) (why : Option ServeFault) (dialed between later : Option DialerTold) (out now_out : Option (List ℕ)) (before seen : History) (m : State) (box since : Inbox J G)
+      → IsNextLink carried_of first dialed between → GivenUpOn why out now_out before seen m box since → later ≡ option_map (returned last) between
+      → GaveOneUp why dialed later out now_out before seen m box since
+  gave_one carried_of first last why dialed between later out now_out before seen m box since next on back =
+      let g = on.given_up in
+      record {
+        connection = record { leg = record { moment = on.moment; turns = g.turns; cut = g.cut }; news = g.news ++ g.cut_told; adds = g.adds ++ g.cut_added; refused = g.refused; close = None; carried = last };
+        unclosed = refl;
+        last = g.last;
+        is = record {
+          seen = g.behind;
+          told = g.news;
+          added = g.adds;
+          turns = g.were;
+          grows = g.grows;
+          cut_told = g.cut_told;
+          cut_added = g.cut_added;
+          cut = g.is_cut;
+          news = refl;
+          adds = refl;
+        };
+        holds = g.holds;
+        lines = g.lines;
+        came = came_so dialed between later last next.told next.left back;
+        spent = g.spent;
+        cut_short = g.cut_short;
+      }
+
+  -- ---- a round
+
+  pub round_lacking : (n : ℕ) (dialed later : Option DialerTold) (out now_out : Option (List ℕ)) (before seen : History) (m new : State) (box since : Inbox J G) (close : Close) (fault : ServeFault) (H : Type 0)
+      → ((fault ≡ faults.Output) × H) ⊎ (fault ≡ faults.Memory) → EndedOne n true dialed later out now_out before seen m new box since close
+      → IsRound n dialed later out now_out before seen m new box since (Err fault)
+  round_lacking n dialed later out now_out before seen m new box since close fault H (inl a) e =
+      subst (λ (f : ServeFault). IsRound n dialed later out now_out before seen m new box since (Err f)) (sym a.0) (inl (close, e))
+  round_lacking n dialed later out now_out before seen m new box since close fault H (inr b) e =
+      subst (λ (f : ServeFault). IsRound n dialed later out now_out before seen m new box since (Err f)) (sym b) (inl (close, e))
+
+  pub round_ended : (n : ℕ) (dialed later : Option DialerTold) (out now_out : Option (List ℕ)) (before seen : History) (m new : State) (box since : Inbox J G) (close : Close)
+      → EndedOne n false dialed later out now_out before seen m new box since close → IsRound n dialed later out now_out before seen m new box since (end_behind close)
+  round_ended n dialed later out now_out before seen m new box since (closes.Ended endings.Finished) e = e
+  round_ended n dialed later out now_out before seen m new box since (closes.Ended (endings.PeerTerminated code)) e = (closes.Ended (endings.PeerTerminated code), tt, e)
+  round_ended n dialed later out now_out before seen m new box since (closes.Ended endings.LinkEnded) e = (closes.Ended endings.LinkEnded, tt, e)
+  round_ended n dialed later out now_out before seen m new box since (closes.Ended (endings.Rejected template code)) e = e
+  round_ended n dialed later out now_out before seen m new box since (closes.Ended (endings.Violation violation)) e = (closes.Ended (endings.Violation violation), tt, e)
+  round_ended n dialed later out now_out before seen m new box since closes.LinkFault e = (closes.LinkFault, tt, e)
+
+  pub round_given : (n : ℕ) (dialed later : Option DialerTold) (out now_out : Option (List ℕ)) (before seen : History) (m new : State) (box since : Inbox J G) (fault : ServeFault)
+      → IsOfConnection fault → GaveOneUp (Some fault) dialed later out now_out before seen m box since → IsRound n dialed later out now_out before seen m new box since (Err fault)
+  round_given n dialed later out now_out before seen m new box since faults.Output is g = inr g
+  round_given n dialed later out now_out before seen m new box since faults.Journal is g = g
+  round_given n dialed later out now_out before seen m new box since faults.Dial is g = absurd is
+  round_given n dialed later out now_out before seen m new box since (faults.Unfinished phase) is g = absurd is
+  round_given n dialed later out now_out before seen m new box since (faults.Rejected template code) is g = absurd is
+  round_given n dialed later out now_out before seen m new box since (faults.Full entries bytes) is g = g
+  round_given n dialed later out now_out before seen m new box since faults.Turns is g = g
+  round_given n dialed later out now_out before seen m new box since faults.Memory is g = inr g
+
+  made_none : (dialed later : Option DialerTold) (out : Option (List ℕ)) (seen : History) (m : State) (box : Inbox J G) → later ≡ dialed → MadeNone dialed later out out seen seen m m box box
+  made_none dialed later out seen m box same = record {
+    same_dialer = subst (λ (d : Option DialerTold). AllCame dialed d []) (sym same) (came_none dialed);
+    same_out = Appends-nil out;
+    same_seen = refl;
+    same_machine = refl;
+    same_box = gains_none box;
+  }
+
+  pub round_none : {L : Type 0} (carried_of : L → Option Carried) (n : ℕ) (dialed later : Option DialerTold) (out : Option (List ℕ)) (seen : History) (m : State) (box : Inbox J G) (fault : ServeFault)
+      → IsNext carried_of dialed later (Err fault) → ((phase : _) → fault ≡ faults.Unfinished phase → phase ≡ phase_of m) → IsRound n dialed later out out seen seen m m box box (Err fault)
+  round_none carried_of n dialed later out seen m box faults.Output next phase_is = absurd next
+  round_none carried_of n dialed later out seen m box faults.Journal next phase_is = absurd next
+  round_none carried_of n dialed later out seen m box faults.Dial next phase_is = made_none dialed later out seen m box next
+  round_none carried_of n dialed later out seen m box (faults.Unfinished phase) next phase_is = (made_none dialed later out seen m box next.0, phase_is phase refl, next.1)
+  round_none carried_of n dialed later out seen m box (faults.Rejected template code) next phase_is = absurd next
+  round_none carried_of n dialed later out seen m box (faults.Full entries bytes) next phase_is = absurd next
+  round_none carried_of n dialed later out seen m box faults.Turns next phase_is = absurd next
+  round_none carried_of n dialed later out seen m box faults.Memory next phase_is = absurd next
+
+  -- ---- a life so far: the connection of the number n is next
+
+  pub record LivedTo (n : ℕ) (dialed later : Option DialerTold) (out now_out : Option (List ℕ)) (before seen : History) (m new : State) (box since : Inbox J G) : Type 0 where
+    pub ended : List Connection
+    pub number : n ≡ 1 + length ended
+    pub lived : Lived dialed later out now_out before seen m new box since ended
+
+  pub lived_none : (dialed : Option DialerTold) (out : Option (List ℕ)) (seen : History) (m : State) (box : Inbox J G) → LivedTo 1 dialed dialed out out seen seen m m box box
+  lived_none dialed out seen m box = record {
+    ended = [];
+    number = refl;
+    lived = record { were = (refl, refl); gains = gains_none box; lines = Appends-nil out; came = came_none dialed; tells = λ told. All-nil IsTold; followed = All-nil IsFollowed };
+  }
+
+  gains_with : (a b c : Inbox J G) (cs : List Connection) (x : Connection) → Gains a b (adds_of cs) → Gains b c x.adds → Gains a c (adds_of (cs ++ x ∷ []))
+  gains_with a b c cs x first later = subst (Gains a c) (sym (adds_append cs x)) (gains_on a b c (adds_of cs) x.adds first later)
+
+  pub lived_more : (n : ℕ) (dialed between later : Option DialerTold) (out mid_out now_out : Option (List ℕ)) (before middle seen : History) (m mid new : State) (box mid_box since : Inbox J G)
+      → LivedTo n dialed between out mid_out before middle m mid box mid_box → IsRound n between later mid_out now_out middle seen mid new mid_box since (Ok None)
+      → LivedTo (n + 1) dialed later out now_out before seen m new box since
+  lived_more n dialed between later out mid_out now_out before middle seen m mid new box mid_box since l r =
+      let (close, follows, e) = r in
+      let x = e.connection in
+      record {
+        ended = l.ended ++ x ∷ [];
+        number = omega (arith, l.number, length-append l.ended (x ∷ []));
+        lived = record {
+          were = ended_on before middle seen m mid new l.ended x l.lived.were e.ended;
+          gains = gains_with box mid_box since l.ended x l.lived.gains e.gains;
+          lines = lines_so false n out mid_out now_out l.ended x l.number l.lived.lines e.lines;
+          came = came_with dialed between later l.ended x l.lived.came e.came;
+          tells = told_with dialed between later l.ended x l.lived.came l.lived.tells e.tells;
+          followed = All-append IsFollowed l.ended (x ∷ []) l.lived.followed (All-cons IsFollowed x [] (subst (λ (o : Option Close). IfSome o Follows) (sym e.closed) follows) (All-nil IsFollowed));
+        };
+      }
+
+  -- ---- and how it ends
+
+  -- behind a last connection that ended
+  over_ended : (result : Result LifeEnd ServeFault) (n : ℕ) (dialed between later : Option DialerTold) (out mid_out now_out : Option (List ℕ)) (before middle seen : History) (m mid new : State) (box mid_box since : Inbox J G) (close : Close)
+      → (l : LivedTo n dialed between out mid_out before middle m mid box mid_box) → (e : EndedOne n (lacks_lines result) between later mid_out now_out middle seen mid new mid_box since close)
+      → IsLifeAnswer seen seen new later (l.ended ++ e.connection ∷ []) None result → ServedLife dialed later out now_out before seen m box since result
+  over_ended result n dialed between later out mid_out now_out before middle seen m mid new box mid_box since close l e answer =
+      let x = e.connection in
+      let cs : List Connection = l.ended ++ x ∷ [] in
+      record {
+        ended = cs;
+        given_up = None;
+        behind = seen;
+        mid = new;
+        were = ended_on before middle seen m mid new l.ended x l.lived.were e.ended;
+        gave_up = refl;
+        holds = subst (λ (ds : List Connection). Gains box since (adds_of ds)) (sym (append-nil cs)) (gains_with box mid_box since l.ended x l.lived.gains e.gains);
+        lines = subst (λ (ds : List Connection). Tells (lacks_lines result) out now_out (lines_from 1 ds)) (sym (append-nil cs)) (lines_so (lacks_lines result) n out mid_out now_out l.ended x l.number l.lived.lines e.lines);
+        came = subst (λ (ds : List Connection). AllCame dialed later (carried_by ds)) (sym (append-nil cs)) (came_with dialed between later l.ended x l.lived.came e.came);
+        tells = told_with dialed between later l.ended x l.lived.came l.lived.tells e.tells;
+        answer = answer;
+      }
+
+  -- behind a connection that was given up
+  over_given : (result : Result LifeEnd ServeFault) (why : Option ServeFault) (n : ℕ) (dialed between later : Option DialerTold) (out mid_out now_out : Option (List ℕ)) (before middle seen : History) (m mid : State) (box mid_box since : Inbox J G)
+      → (l : LivedTo n dialed between out mid_out before middle m mid box mid_box) → (g : GaveOneUp why between later mid_out now_out middle seen mid mid_box since) → lacks_at why ≡ lacks_lines result
+      → IsLifeAnswer middle seen mid later l.ended (Some g.connection) result → ServedLife dialed later out now_out before seen m box since result
+  over_given result why n dialed between later out mid_out now_out before middle seen m mid box mid_box since l g lacking answer =
+      let x = g.connection in
+      let told : Tells (lacks_at why) mid_out now_out (news_lines x.news ++ close_line n x.close) = subst (λ (o : Option Close). Tells (lacks_at why) mid_out now_out (news_lines x.news ++ close_line n o)) (sym g.unclosed)
+      (subst (Tells (lacks_at why) mid_out now_out) (sym (append-nil (news_lines x.news))) g.lines) in
+      record {
+        ended = l.ended;
+        given_up = Some x;
+        behind = middle;
+        mid = mid;
+        were = l.lived.were;
+        gave_up = (g.last, g.is, g.unclosed);
+        holds = λ i h.
+            subst (λ (rs : List InboxRecord). HoldsBox since (i ++ rs) (x.refused ++ [])) (sym (adds_append l.ended x))
+            (subst (λ (rs : List InboxRecord). HoldsBox since rs (x.refused ++ [])) (append_assoc i (adds_of l.ended) x.adds)
+            (subst (HoldsBox since ((i ++ adds_of l.ended) ++ x.adds)) (sym (append-nil x.refused)) (g.holds (i ++ adds_of l.ended) (l.lived.gains i h))));
+        lines = lines_so (lacks_lines result) n out mid_out now_out l.ended x l.number l.lived.lines (subst (λ (b : Bool). Tells b mid_out now_out (news_lines x.news ++ close_line n x.close)) lacking told);
+        came = came_with dialed between later l.ended x l.lived.came g.came;
+        tells = l.lived.tells;
+        answer = answer;
+      }
+
+  -- behind those that ended, with no further one
+  over_none : (result : Result LifeEnd ServeFault) (n : ℕ) (dialed between later : Option DialerTold) (out mid_out now_out : Option (List ℕ)) (before middle seen : History) (m mid new : State) (box mid_box since : Inbox J G)
+      → (l : LivedTo n dialed between out mid_out before middle m mid box mid_box) → MadeNone between later mid_out now_out middle seen mid new mid_box since
+      → IsLifeAnswer middle seen mid later l.ended None result → ServedLife dialed later out now_out before seen m box since result
+  over_none result n dialed between later out mid_out now_out before middle seen m mid new box mid_box since l none answer =
+      let cs = l.ended in
+      record {
+        ended = cs;
+        given_up = None;
+        behind = middle;
+        mid = mid;
+        were = l.lived.were;
+        gave_up = none.same_seen;
+        holds = λ i h. subst (λ (ds : List Connection). HoldsBox since (i ++ adds_of ds) []) (sym (append-nil cs))
+            (subst (λ (rs : List InboxRecord). HoldsBox since rs []) (append-nil (i ++ adds_of cs)) (none.same_box (i ++ adds_of cs) (l.lived.gains i h)));
+        lines = subst (λ (ds : List Connection). Tells (lacks_lines result) out now_out (lines_from 1 ds)) (sym (append-nil cs))
+            (tells_all (lacks_lines result) out now_out (lines_from 1 cs) (subst (Appends out now_out) (append-nil (lines_from 1 cs)) (Appends-trans out mid_out now_out (lines_from 1 cs) [] l.lived.lines none.same_out)));
+        came = subst (λ (ds : List Connection). AllCame dialed later (carried_by ds)) (sym (append-nil cs)) (subst (AllCame dialed later) (append-nil (carried_by cs)) (came_on dialed between later (carried_by cs) [] l.lived.came none.same_dialer));
+        tells = l.lived.tells;
+        answer = answer;
+      }
+
+  pub over_stopped : (n : ℕ) (dialed later : Option DialerTold) (out now_out : Option (List ℕ)) (before seen : History) (m new : State) (box since : Inbox J G)
+      → LivedTo n dialed later out now_out before seen m new box since → ServedLife dialed later out now_out before seen m box since (Ok ends.Stopped)
+  over_stopped n dialed later out now_out before seen m new box since l =
+      over_none (Ok ends.Stopped) n dialed later later out now_out now_out before seen seen m new new box since since l (made_none later later now_out seen new since refl) l.lived.followed
+
+  pub over_ok : (end : LifeEnd) (n : ℕ) (dialed between later : Option DialerTold) (out mid_out now_out : Option (List ℕ)) (before middle seen : History) (m mid new : State) (box mid_box since : Inbox J G)
+      → LivedTo n dialed between out mid_out before middle m mid box mid_box → IsRound n between later mid_out now_out middle seen mid new mid_box since (Ok (Some end))
+      → ServedLife dialed later out now_out before seen m box since (Ok end)
+  over_ok ends.Finished n dialed between later out mid_out now_out before middle seen m mid new box mid_box since l r =
+      over_ended (Ok ends.Finished) n dialed between later out mid_out now_out before middle seen m mid new box mid_box since (closes.Ended endings.Finished) l r
+      (refl, record { earlier = l.ended; last = r.connection; are = refl; closed = r.closed; followed = l.lived.followed })
+  over_ok ends.Stopped n dialed between later out mid_out now_out before middle seen m mid new box mid_box since l r =
+      over_given (Ok ends.Stopped) None n dialed between later out mid_out now_out before middle seen m mid box mid_box since l r refl l.lived.followed
+
+  pub over_err : (fault : ServeFault) (n : ℕ) (dialed between later : Option DialerTold) (out mid_out now_out : Option (List ℕ)) (before middle seen : History) (m mid new : State) (box mid_box since : Inbox J G)
+      → LivedTo n dialed between out mid_out before middle m mid box mid_box → IsRound n between later mid_out now_out middle seen mid new mid_box since (Err fault)
+      → ServedLife dialed later out now_out before seen m box since (Err fault)
+  over_err faults.Output n dialed between later out mid_out now_out before middle seen m mid new box mid_box since l (inl e) =
+      over_ended (Err faults.Output) n dialed between later out mid_out now_out before middle seen m mid new box mid_box since e.0 l e.1 tt
+  over_err faults.Output n dialed between later out mid_out now_out before middle seen m mid new box mid_box since l (inr g) =
+      over_given (Err faults.Output) (Some faults.Output) n dialed between later out mid_out now_out before middle seen m mid box mid_box since l g refl tt
+  over_err faults.Journal n dialed between later out mid_out now_out before middle seen m mid new box mid_box since l r =
+      over_given (Err faults.Journal) (Some faults.Journal) n dialed between later out mid_out now_out before middle seen m mid box mid_box since l r refl (l.lived.followed, r.connection, refl, r.cut_short.0 refl)
+  over_err faults.Dial n dialed between later out mid_out now_out before middle seen m mid new box mid_box since l r =
+      over_none (Err faults.Dial) n dialed between later out mid_out now_out before middle seen m mid new box mid_box since l r (l.lived.followed, refl)
+  over_err (faults.Unfinished phase) n dialed between later out mid_out now_out before middle seen m mid new box mid_box since l r =
+      over_none (Err (faults.Unfinished phase)) n dialed between later out mid_out now_out before middle seen m mid new box mid_box since l r.0 (l.lived.followed, refl, r.1, r.2)
+  over_err (faults.Rejected template code) n dialed between later out mid_out now_out before middle seen m mid new box mid_box since l r =
+      over_ended (Err (faults.Rejected template code)) n dialed between later out mid_out now_out before middle seen m mid new box mid_box since (closes.Ended (endings.Rejected template code)) l r
+      (refl, record { earlier = l.ended; last = r.connection; are = refl; closed = r.closed; followed = l.lived.followed })
+  over_err (faults.Full entries bytes) n dialed between later out mid_out now_out before middle seen m mid new box mid_box since l r =
+      over_given (Err (faults.Full entries bytes)) (Some (faults.Full entries bytes)) n dialed between later out mid_out now_out before middle seen m mid box mid_box since l r refl
+      (l.lived.followed, r.connection, refl, r.cut_short.1 entries bytes refl)
+  over_err faults.Turns n dialed between later out mid_out now_out before middle seen m mid new box mid_box since l r =
+      over_given (Err faults.Turns) (Some faults.Turns) n dialed between later out mid_out now_out before middle seen m mid box mid_box since l r refl
+      (l.lived.followed, r.connection, refl, record { last = r.last; is = r.is; spent = r.spent refl })
+  over_err faults.Memory n dialed between later out mid_out now_out before middle seen m mid new box mid_box since l (inl e) =
+      over_ended (Err faults.Memory) n dialed between later out mid_out now_out before middle seen m mid new box mid_box since e.0 l e.1 tt
+  over_err faults.Memory n dialed between later out mid_out now_out before middle seen m mid new box mid_box since l (inr g) =
+      over_given (Err faults.Memory) (Some faults.Memory) n dialed between later out mid_out now_out before middle seen m mid box mid_box since l g refl tt
+
+  -- where there was no memory to begin, none was served
+  pub nothing_served : (dialed : Option DialerTold) (out : Option (List ℕ)) (seen : History) (m : State) (box : Inbox J G) → ServedLife dialed dialed out out seen seen m box box (Err faults.Memory)
+  nothing_served dialed out seen m box =
+      over_none (Err faults.Memory) 1 dialed dialed dialed out out out seen seen seen m m m box box box (lived_none dialed out seen m box) (made_none dialed dialed out seen m box refl) tt

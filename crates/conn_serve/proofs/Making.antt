@@ -1,0 +1,121 @@
+-- What a turn answered, as its connection knows it.
+use Rattle.std.proofs.Common.{◌≡◌, ◌⊎◌, inl, inr, ℕ, ◌<◌, true, Option, Some, None, Result, Ok, Err, refl, sym, subst, ◌∙◌}
+use Rattle.std.specs.Prelude.{IsSome, is_some, IfOk, IfErr, OnOk}
+use Rattle.gw_outside.specs.Faults.{HasRisen}
+use Rattle.fixp_replies.specs.declared.act.Ending.{Ending}
+use Rattle.jr_record.specs.declared.journal.Journal.{Ghosts}
+use Rattle.jr_boxes.specs.declared.inbox.Inbox.{Inbox}
+use Rattle.jr_boxes.specs.Inbox.{faults_of, is_broken, size_of, count_of}
+use Rattle.gate_turn.specs.Views.{Part}
+use Rattle.gate_senders.specs.Kept.{HasFailed}
+use Rattle.session_lines.specs.declared.close.Close.{Close}
+use Rattle.session_lines.specs.declared.close.Close.TheVariants as closes
+use Rattle.conn_turns.specs.declared.answer.TurnEnd.{TurnEnd}
+use Rattle.conn_turns.specs.declared.answer.TurnEnd.TheVariants as turn_ends
+use Rattle.conn_turns.specs.declared.answer.TurnFault.{TurnFault}
+use Rattle.conn_turns.specs.declared.answer.TurnFault.TheVariants as turn_faults
+use Rattle.conn_loop.specs.Conn.{answer_of}
+use Rattle.conn_serve.specs.declared.answer.ServeFault.{ServeFault}
+use Rattle.conn_serve.specs.declared.answer.ServeFault.TheVariants as faults
+use Rattle.conn_serve.specs.Answers.{close_of, IsOfTurn}
+use Rattle.conn_serve.specs.Connections.{ClosesAs}
+use Rattle.conn_serve.specs.Causes.{BlamesJournal, IsBlamed}
+
+-- what holds where it answers, and where its link failed, holds where the connection goes on or has ended
+pub on_whole : (P : Type 0) (r : Result TurnEnd TurnFault) → OnOk r P → (r ≡ Err turn_faults.Link → P) → OnOk (close_of r) P
+on_whole P (Ok turn_ends.Go) ok lost = ok
+on_whole P (Ok (turn_ends.Ended e)) ok lost = ok
+on_whole P (Err turn_faults.Link) ok lost = lost refl
+on_whole P (Err turn_faults.Inbox) ok lost = tt
+on_whole P (Err turn_faults.Outbox) ok lost = tt
+on_whole P (Err turn_faults.Broken) ok lost = tt
+on_whole P (Err (turn_faults.Full entries bytes)) ok lost = tt
+on_whole P (Err turn_faults.Memory) ok lost = tt
+
+pub whole_at : (P : Type 0) (r : Result TurnEnd TurnFault) (result : Result (Option Close) ServeFault) → result ≡ close_of r → OnOk r P → (r ≡ Err turn_faults.Link → P) → OnOk result P
+whole_at P r result is ok lost = subst (λ (x : Result (Option Close) ServeFault). OnOk x P) (sym is) (on_whole P r ok lost)
+
+pub err_at : (Q : ServeFault → Type 0) (r : Result TurnEnd TurnFault) (result : Result (Option Close) ServeFault) → result ≡ close_of r → IfErr (close_of r) Q → IfErr result Q
+err_at Q r result is q = subst (λ (x : Result (Option Close) ServeFault). IfErr x Q) (sym is) q
+
+-- what holds of each other fault holds where it was cut short
+pub on_cut : (P : TurnFault → Type 0) (Q : Type 0) (r : Result TurnEnd TurnFault) → ((f : TurnFault) → P f → Q) → IfErr r (λ f. (f ≡ turn_faults.Link → ⊥) → P f) → IfErr (close_of r) (λ _. Q)
+on_cut P Q (Ok turn_ends.Go) gives cut = tt
+on_cut P Q (Ok (turn_ends.Ended e)) gives cut = tt
+on_cut P Q (Err turn_faults.Link) gives cut = tt
+on_cut P Q (Err turn_faults.Inbox) gives cut = gives turn_faults.Inbox (cut (λ e. cc))
+on_cut P Q (Err turn_faults.Outbox) gives cut = gives turn_faults.Outbox (cut (λ e. cc))
+on_cut P Q (Err turn_faults.Broken) gives cut = gives turn_faults.Broken (cut (λ e. cc))
+on_cut P Q (Err (turn_faults.Full entries bytes)) gives cut = gives (turn_faults.Full entries bytes) (cut (λ e. cc))
+on_cut P Q (Err turn_faults.Memory) gives cut = gives turn_faults.Memory (cut (λ e. cc))
+
+-- what both outcomes give
+pub on_both : {A E : Type 0} (W C P : Type 0) (r : Result A E) → OnOk r W → IfErr r (λ _. C) → (W → P) → (C → P) → P
+on_both W C P (Ok a) ok err from_ok from_err = from_ok ok
+on_both W C P (Err e) ok err from_ok from_err = from_err err
+
+pub goes_made : (P : Type 0) (r : Result TurnEnd TurnFault) → (r ≡ Ok turn_ends.Go → P) → close_of r ≡ Ok None → P
+goes_made P (Ok turn_ends.Go) goes e = goes refl
+goes_made P (Ok (turn_ends.Ended x)) goes e = cc
+goes_made P (Err turn_faults.Link) goes e = cc
+goes_made P (Err turn_faults.Inbox) goes e = cc
+goes_made P (Err turn_faults.Outbox) goes e = cc
+goes_made P (Err turn_faults.Broken) goes e = cc
+goes_made P (Err (turn_faults.Full entries bytes)) goes e = cc
+goes_made P (Err turn_faults.Memory) goes e = cc
+
+ended_as : (x : Ending) (o : Option Ending) → turn_ends.Ended x ≡ answer_of o → o ≡ Some x
+ended_as x None e = cc
+ended_as x (Some y) e = cc
+
+some_of : (o : Option Ending) → is_some o ≡ true → IsSome o
+some_of None e = cc
+some_of (Some y) e = refl
+
+pub closed_made : (o : Option Ending) (r : Result TurnEnd TurnFault) → IfOk r (λ end. end ≡ answer_of o) → (r ≡ Err turn_faults.Link → is_some o ≡ true) → (close : Close) → close_of r ≡ Ok (Some close) → ClosesAs close o
+closed_made o (Ok turn_ends.Go) ok lost close e = cc
+closed_made o (Ok (turn_ends.Ended x)) ok lost close e =
+    let same : closes.Ended x ≡ close = cc in
+    subst (λ (c : Close). ClosesAs c o) same (ended_as x o ok)
+closed_made o (Err turn_faults.Link) ok lost close e =
+    let same : closes.LinkFault ≡ close = cc in
+    subst (λ (c : Close). ClosesAs c o) same (some_of o (lost refl))
+closed_made o (Err turn_faults.Inbox) ok lost close e = cc
+closed_made o (Err turn_faults.Outbox) ok lost close e = cc
+closed_made o (Err turn_faults.Broken) ok lost close e = cc
+closed_made o (Err (turn_faults.Full entries bytes)) ok lost close e = cc
+closed_made o (Err turn_faults.Memory) ok lost close e = cc
+
+pub of_turn_made : (r : Result TurnEnd TurnFault) → IfErr (close_of r) IsOfTurn
+of_turn_made (Ok turn_ends.Go) = tt
+of_turn_made (Ok (turn_ends.Ended x)) = tt
+of_turn_made (Err turn_faults.Link) = tt
+of_turn_made (Err turn_faults.Inbox) = tt
+of_turn_made (Err turn_faults.Outbox) = tt
+of_turn_made (Err turn_faults.Broken) = tt
+of_turn_made (Err (turn_faults.Full entries bytes)) = tt
+of_turn_made (Err turn_faults.Memory) = tt
+
+module _ {J : Type 0} {G : Ghosts J} where
+  blames : (p q : Part) (box since : Inbox J G) → BlamesJournal p q box since → IsBlamed 0 0 0 0 p q box since faults.Journal
+  blames p q box since b = record { output = λ e. cc; journal = λ _. b; dial = λ e. cc; full = λ entries bytes e. cc }
+
+  pub blamed_made : (p q : Part) (box since : Inbox J G) (r : Result TurnEnd TurnFault)
+      → (r ≡ Err turn_faults.Inbox → HasRisen (faults_of box) (faults_of since))
+      → (r ≡ Err turn_faults.Outbox → HasFailed p.faults q.faults)
+      → (r ≡ Err turn_faults.Broken → (is_broken since ≡ true) ⊎ (q.opening.faults < q.faults))
+      → ((entries bytes : ℕ) → r ≡ Err (turn_faults.Full entries bytes) → (entries ≡ count_of since) × (bytes ≡ size_of since))
+      → IfErr (close_of r) (IsBlamed 0 0 0 0 p q box since)
+  blamed_made p q box since (Ok turn_ends.Go) inbox outbox broken full = tt
+  blamed_made p q box since (Ok (turn_ends.Ended x)) inbox outbox broken full = tt
+  blamed_made p q box since (Err turn_faults.Link) inbox outbox broken full = tt
+  blamed_made p q box since (Err turn_faults.Inbox) inbox outbox broken full = blames p q box since (inl (inbox refl))
+  blamed_made p q box since (Err turn_faults.Outbox) inbox outbox broken full = blames p q box since (inr (inr (inl (outbox refl).rose)))
+  blamed_made p q box since (Err turn_faults.Broken) inbox outbox broken full = blames p q box since (by_kind (broken refl))
+    where
+      by_kind : (is_broken since ≡ true) ⊎ (q.opening.faults < q.faults) → BlamesJournal p q box since
+      by_kind (inl b) = inr (inl b)
+      by_kind (inr b) = inr (inr (inr b))
+  blamed_made p q box since (Err (turn_faults.Full entries bytes)) inbox outbox broken full =
+      record { output = λ e. cc; journal = λ e. cc; dial = λ e. cc; full = λ n m e. let a : n ≡ entries = cc in let b : m ≡ bytes = cc in (a ∙ (full entries bytes refl).0, b ∙ (full entries bytes refl).1) }
+  blamed_made p q box since (Err turn_faults.Memory) inbox outbox broken full = record { output = λ e. cc; journal = λ e. cc; dial = λ e. cc; full = λ entries bytes e. cc }

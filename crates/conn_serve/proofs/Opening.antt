@@ -1,0 +1,44 @@
+-- Where a life opens.
+use Rattle.std.proofs.Common.{◌≡◌, ◌≤◌, ℕ, Bool, true, false, List, length, Option, Some, None, Result, refl, sym, ap, subst, ◌∙◌, arith}
+use Rattle.std.specs.Prelude.{◌<◌, if◌then◌else◌, IfSome}
+use Rattle.std.proofs.lemmas.Bool.{false≢true}
+use Rattle.session_model.specs.Journal.{History, BeginsHistory}
+use Rattle.session_model.proofs.Lists.{prefix_length}
+use Rattle.fixp_shake.specs.declared.config.EndConfig.{EndConfig}
+use Rattle.reply_laws.specs.Machine.{State, fresh}
+use Rattle.gw_links.specs.Dialers.{DialerTold}
+use Rattle.jr_record.specs.declared.journal.Journal.{Ghosts}
+use Rattle.jr_boxes.specs.declared.inbox.Inbox.{Inbox}
+use Rattle.jr_boxes.specs.Inbox.{flow_of, limits_of}
+use Rattle.gate_turn.specs.Views.{Part}
+use Rattle.gate_senders.specs.declared.gate.Gate.{Gate}
+use Rattle.sender_plans.specs.declared.sender.Sender.{Sender}
+use Rattle.conn_serve.specs.declared.answer.ServeFault.{ServeFault}
+use Rattle.conn_serve.specs.declared.answer.ServeFault.TheVariants as faults
+use Rattle.conn_serve.specs.Causes.{IsBlamed}
+use Rattle.conn_serve.specs.Turned.{MayBegin}
+use Rattle.conn_serve.specs.Opening.{opened_state, ServedBy}
+
+mark : (h s : History) → BeginsHistory h s → (b : Bool) → h.finished ≡ b → IfSome (if b then Some (length h.made) else None) (λ n. (s.finished ≡ true) × (length s.made ≡ n))
+mark h s begins true e = (ap (λ (x : History). x.finished) (sym (begins.alone e)) ∙ e, ap (λ (x : History). length x.made) (sym (begins.alone e)))
+mark h s begins false e = tt
+
+module _ {J : Type 0} {G : Ghosts J} where
+  pub may_open : (config : EndConfig) (most : ℕ) (h : History) (n : State) (p : Part) (box : Inbox J G) → n ≡ fresh config (opened_state h box) most → BeginsHistory h p.seen → length h.made < 1099511627776
+      → length config.credentials ≤ 2048 → flow_of box ≡ config.peer_flow → most ≤ (limits_of box).entries → MayBegin n p box
+  may_open config most h n p box is begins few credentials flow within = subst (λ (s : State). MayBegin s p box) (sym is) (record {
+    over = λ e. absurd (false≢true e);
+    time = omega arith;
+    sent = few;
+    credentials = credentials;
+    seen = record { entries = prefix_length h.made p.seen.made begins.made; finish = mark h p.seen begins h.finished refl };
+    agrees = record { flow = flow; most = within; next = refl; negotiated = refl; peer_last = refl };
+  })
+
+  pub blamed_none : (a b c d : ℕ) (p q : Part) (box since : Inbox J G) → IsBlamed a b c d p q box since faults.Memory
+  blamed_none a b c d p q box since = record { output = λ e. cc; journal = λ e. cc; dial = λ e. cc; full = λ entries bytes e. cc }
+
+module _ {J : Type 0} {G : Ghosts J} {O : Type 0} {H : Ghosts O} where
+  pub served_at : (gate : Gate O H) (dialed later : Option DialerTold) (out now_out : Option (List ℕ)) (a b c d : ℕ) (p q : Part) (m n : State) (box since : Inbox J G) (before after : List (Sender O H)) (result : Result (Unit {0}) ServeFault)
+      → m ≡ n → ServedBy gate dialed later out now_out a b c d p q m box since before after result → ServedBy gate dialed later out now_out a b c d p q n box since before after result
+  served_at gate dialed later out now_out a b c d p q m n box since before after result is served = subst (λ (s : State). ServedBy gate dialed later out now_out a b c d p q s box since before after result) is served

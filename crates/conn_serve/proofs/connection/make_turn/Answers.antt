@@ -1,0 +1,43 @@
+use Rattle.std.proofs.Common.{sym, ◌∙◌}
+use Rattle.std.proofs.lemmas.Result.{on_ok_weaker}
+use Rattle.conn_turns.specs.declared.answer.TurnFault.{TurnFault}
+use Rattle.gate_turn.specs.Places.{known}
+use Rattle.conn_loop.specs.Conn.{line_of}
+use Rattle.loop_laws.proofs.Repacking.{turn_is_one, cut_is_one}
+use Rattle.conn_serve.proofs.Making.{whole_at, err_at, on_cut, on_both, goes_made, closed_made, of_turn_made, blamed_made}
+use Rattle.conn_serve.proofs.Turning.{was_short, cut_is_short}
+use Rattle.conn_serve.proofs.connection.make_turn.Goals as goal
+
+pub returns-clause-whole : goal.returns-clause-whole
+returns-clause-whole g c =
+    let one = turn_is_one c.args.inbox.now c.turn.new.inbox _ _ _ _ _ _ _ _ (line_of c.args.conn.now) (line_of c.turn.new.self) _ in
+    whole_at _ c.turn.result c.close_of.result c.close_of.ensures (on_ok_weaker c.turn.result one c.turn.ensures.did) (λ e. one (c.turn.ensures.lost e))
+
+pub returns-clause-cut : goal.returns-clause-cut
+returns-clause-cut g c =
+    err_at _ c.turn.result c.close_of.result c.close_of.ensures
+    (on_cut _ _ c.turn.result (λ (f : TurnFault) k. record { now = _; fault = f; cut = cut_is_one c.args.inbox.now c.turn.new.inbox _ (line_of c.args.conn.now) _ f k }) c.turn.ensures.cut)
+
+pub returns-clause-short : goal.returns-clause-short
+returns-clause-short g c =
+    on_both _ _ _ c.close_of.result (returns-clause-whole g c) (returns-clause-cut g c)
+    (was_short _ _ _ _ _ _ (line_of c.args.conn.now) (line_of c.turn.new.self) c.args.inbox.now c.turn.new.inbox _)
+    (cut_is_short (line_of c.args.conn.now) c.args.inbox.now c.turn.new.inbox _)
+
+pub returns-clause-goes : goal.returns-clause-goes
+returns-clause-goes g c = λ e. goes_made _ c.turn.result c.turn.ensures.goes (sym c.close_of.ensures ∙ e)
+
+pub returns-clause-closed : goal.returns-clause-closed
+returns-clause-closed g c = λ close e. closed_made _ c.turn.result c.turn.ensures.answer c.turn.ensures.ended_lost close (sym c.close_of.ensures ∙ e)
+
+pub returns-clause-leaves : goal.returns-clause-leaves
+returns-clause-leaves g c = whole_at _ c.turn.result c.close_of.result c.close_of.ensures c.turn.ensures.leaves c.turn.ensures.leaves_lost
+
+pub returns-clause-blamed : goal.returns-clause-blamed
+returns-clause-blamed g c =
+    let e = c.turn.ensures in
+    err_at _ c.turn.result c.close_of.result c.close_of.ensures
+    (blamed_made (known c.args.pass.now) (known c.turn.new.pass) c.args.inbox.now c.turn.new.inbox c.turn.result e.inbox e.outbox e.broken e.full)
+
+pub returns-clause-of_turn : goal.returns-clause-of_turn
+returns-clause-of_turn g c = err_at _ c.turn.result c.close_of.result c.close_of.ensures (of_turn_made c.turn.result)

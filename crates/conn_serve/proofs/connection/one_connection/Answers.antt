@@ -1,0 +1,88 @@
+use Rattle.std.proofs.Common.{◌≡◌, refl, ap, subst, ◌∙◌, arith}
+use Rattle.fixp_replies.specs.declared.facts.EndState.{EndState}
+use Rattle.gate_turn.specs.Places.{known}
+use Rattle.conn_turns.specs.Lines.{Line}
+use Rattle.conn_loop.specs.Conn.{line_of}
+use Rattle.conn_loop.proofs.Working.{seen_same, looks_self, looks_on}
+use Rattle.conn_serve.specs.declared.answer.ServeFault.TheVariants as faults
+use Rattle.conn_serve.specs.Answers.{IsOfTurn}
+use Rattle.conn_serve.proofs.Turning.{turned_none, turned_on, turned_place, given_whole, given_on, agrees_recorded, given_first, turned_first}
+use Rattle.conn_serve.proofs.connection.one_connection.Goals as goal
+
+pub loop-init : goal.loop-init
+loop-init g c =
+    let b = c.begin.ensures in
+    let m = c.args.conn.now.end in
+    let n = c.begin.new.self.end in
+    let may = c.requires.may in
+    record {
+      own = c.requires.own;
+      free = c.requires.free;
+      looks = looks_self (known c.args.pass.now);
+      turned = turned_none _ _ _ _ (line_of c.begin.new.self) c.args.inbox.now;
+      goes = b.goes may.credentials may.sent;
+      seen = seen_same m n (known c.args.pass.now) (ap (λ (r : EndState). r.sent) b.recorded) (ap (λ (r : EndState). r.finish) b.recorded) may.seen;
+      agrees = agrees_recorded m n c.args.inbox.now b.config b.most b.recorded may.agrees;
+      kind = record { flow = refl; limits = refl };
+      inbox = omega arith;
+      out = omega arith;
+      stays = refl;
+      told = b.told;
+    }
+
+pub returns-then-load-clause-stopped : goal.returns-then-load-clause-stopped
+returns-then-load-clause-stopped g c = λ e.
+    given_first _ _ _ _ _ (line_of c.args.conn.now) (line_of c.begin.new.self) _ c.args.inbox.now c.loop.inbox c.begin.ensures.begun
+    (given_whole _ _ _ _ _ _ _ _ _ (line_of c.begin.new.self) (line_of c.loop.conn) c.args.inbox.now c.loop.inbox _ c.loop.invariant.turned (λ x. cc) (λ x. cc) (λ n k x. cc))
+
+pub turn_once-requires-clause-place : goal.turn_once-requires-clause-place
+turn_once-requires-clause-place g c =
+    omega (
+      arith,
+      turned_place _ _ _ _ _ _ _ _ (line_of c.begin.new.self) (line_of c.loop.conn) c.args.inbox.now c.loop.inbox _ c.loop.invariant.turned,
+      ap (λ (l : Line). l.place) c.begin.ensures.begun,
+      c.loop-test.true,
+    )
+
+pub returns-in-Err-clause-looks : goal.returns-in-Err-clause-looks
+returns-in-Err-clause-looks g c = looks_on _ _ _ c.loop.invariant.looks c.turn_once.ensures.looks
+
+pub returns-in-Err-clause-given_up : goal.returns-in-Err-clause-given_up
+returns-in-Err-clause-given_up g c =
+    given_first _ _ _ _ _ (line_of c.args.conn.now) (line_of c.begin.new.self) _ c.args.inbox.now c.turn_once.new.inbox c.begin.ensures.begun
+    (given_on _ _ _ _ _ _ _ _ _ _ _ (line_of c.begin.new.self) (line_of c.loop.conn) c.args.inbox.now c.loop.inbox c.turn_once.new.inbox _ c.loop.invariant.turned c.in-Err.ensures.given_up
+    (λ e. let same : c.in-Err.fault ≡ faults.Turns = cc in subst IsOfTurn same c.in-Err.ensures.of_turn))
+
+pub returns-in-Ok-Some-clause-turned : goal.returns-in-Ok-Some-clause-turned
+returns-in-Ok-Some-clause-turned g c = λ close e.
+    turned_first _ _ _ _ _ _ _ _ (line_of c.args.conn.now) (line_of c.begin.new.self) (line_of c.turn_once.new.conn) _ c.args.inbox.now c.turn_once.new.inbox _ c.begin.ensures.begun
+    (turned_on _ _ _ _ _ _ _ _ _ _ _ _ (line_of c.begin.new.self) (line_of c.loop.conn) (line_of c.turn_once.new.conn) c.args.inbox.now c.loop.inbox c.turn_once.new.inbox _ 1 c.loop.invariant.turned c.in-Ok-Some.ensures.turned)
+
+pub returns-in-Ok-Some-clause-looks : goal.returns-in-Ok-Some-clause-looks
+returns-in-Ok-Some-clause-looks g c = looks_on _ _ _ c.loop.invariant.looks c.turn_once.ensures.looks
+
+pub loop-preserved : goal.loop-preserved
+loop-preserved g c =
+    let one = c.turn_once.ensures in
+    let was = c.loop.invariant in
+    let left = c.in-Ok-None.ensures.leaves in
+    record {
+      own = one.own;
+      free = one.free;
+      looks = looks_on _ _ _ was.looks one.looks;
+      turned = turned_on _ _ _ _ _ _ _ _ _ _ _ _ (line_of c.begin.new.self) (line_of c.loop.conn) (line_of c.turn_once.new.conn) c.args.inbox.now c.loop.inbox c.turn_once.new.inbox _ 1 was.turned c.in-Ok-None.ensures.turned;
+      goes = c.in-Ok-None.ensures.goes (cc);
+      seen = left.seen;
+      agrees = left.agrees;
+      kind = record { flow = one.kind.flow ∙ was.kind.flow; limits = one.kind.limits ∙ was.kind.limits };
+      inbox = omega (arith, was.inbox, one.never_falls.0);
+      out = omega (arith, was.out, one.never_falls.1);
+      stays = one.stays ∙ was.stays;
+      told = one.told ∙ was.told;
+    }
+
+pub returns-clause-given_up : goal.returns-clause-given_up
+returns-clause-given_up g c =
+    given_first _ _ _ _ _ (line_of c.args.conn.now) (line_of c.begin.new.self) _ c.args.inbox.now c.loop.inbox c.begin.ensures.begun
+    (given_whole _ _ _ _ _ _ _ _ _ (line_of c.begin.new.self) (line_of c.loop.conn) c.args.inbox.now c.loop.inbox _ c.loop.invariant.turned
+    (λ e. (omega (arith, c.loop-test.false, c.loop.auto.counter-end), c.loop.invariant.goes.unended)) (λ x. cc) (λ n k x. cc))

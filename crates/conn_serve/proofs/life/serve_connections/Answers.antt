@@ -1,0 +1,56 @@
+use Rattle.std.proofs.Common.{Ok, refl, ap, subst, ◌∙◌, arith}
+use Rattle.gate_turn.specs.Places.{known}
+use Rattle.conn_loop.proofs.Working.{looks_self, looks_on}
+use Rattle.conn_serve.specs.Served.{IsRound}
+use Rattle.conn_serve.proofs.Living.{lived_none, lived_more, over_stopped, over_ok, over_err}
+use Rattle.conn_serve.proofs.life.serve_connections.Goals as goal
+
+pub loop-number-init : goal.loop-number-init
+loop-number-init g c = record {
+  own = c.requires.own;
+  free = c.requires.free;
+  looks = looks_self (known c.args.pass.now);
+  may = c.requires.may;
+  lent = c.requires.lent;
+  lived = lived_none _ _ _ _ c.args.inbox.now;
+  kind = record { flow = refl; limits = refl };
+  inbox = omega arith;
+  out = omega arith;
+  dialer = omega arith;
+  told = refl;
+}
+
+pub returns-then-load-clause-served : goal.returns-then-load-clause-served
+returns-then-load-clause-served g c = over_stopped _ _ _ _ _ _ _ _ _ c.args.inbox.now c.loop-number.inbox c.loop-number.invariant.lived
+
+pub returns-in-Some-clause-looks : goal.returns-in-Some-clause-looks
+returns-in-Some-clause-looks g c = looks_on _ _ _ c.loop-number.invariant.looks c.serve_next-answer.ensures.looks
+
+pub returns-in-Some-clause-served : goal.returns-in-Some-clause-served
+returns-in-Some-clause-served g c =
+    over_ok c.in-Some.end _ _ _ _ _ _ _ _ _ _ _ _ _ c.args.inbox.now c.loop-number.inbox c.serve_next-answer.new.inbox c.loop-number.invariant.lived (subst (IsRound _ _ _ _ _ _ _ _ _ c.loop-number.inbox c.serve_next-answer.new.inbox) (c.in-Ok.is ∙ ap Ok c.in-Some.is) c.serve_next-answer.ensures.round)
+
+pub returns-in-Err-clause-looks : goal.returns-in-Err-clause-looks
+returns-in-Err-clause-looks g c = looks_on _ _ _ c.loop-number.invariant.looks c.serve_next-answer.ensures.looks
+
+pub returns-in-Err-clause-served : goal.returns-in-Err-clause-served
+returns-in-Err-clause-served g c =
+    over_err c.in-Err.fault _ _ _ _ _ _ _ _ _ _ _ _ _ c.args.inbox.now c.loop-number.inbox c.serve_next-answer.new.inbox c.loop-number.invariant.lived c.in-Err.ensures.round
+
+pub loop-number-preserved : goal.loop-number-preserved
+loop-number-preserved g c =
+    let one = c.serve_next-answer.ensures in
+    let was = c.loop-number.invariant in
+    record {
+      own = one.own;
+      free = one.free;
+      looks = looks_on _ _ _ was.looks one.looks;
+      may = one.goes (c.in-Ok.is ∙ ap Ok c.in_default.is);
+      lent = one.lent;
+      lived = lived_more _ _ _ _ _ _ _ _ _ _ _ _ _ c.args.inbox.now c.loop-number.inbox c.serve_next-answer.new.inbox was.lived (subst (IsRound _ _ _ _ _ _ _ _ _ c.loop-number.inbox c.serve_next-answer.new.inbox) (c.in-Ok.is ∙ ap Ok c.in_default.is) one.round);
+      kind = record { flow = one.kind.flow ∙ was.kind.flow; limits = one.kind.limits ∙ was.kind.limits };
+      inbox = omega (arith, was.inbox, one.never_falls.0);
+      out = omega (arith, was.out, one.never_falls.1);
+      dialer = omega (arith, was.dialer, one.never_falls.2);
+      told = one.told ∙ was.told;
+    }

@@ -1,0 +1,30 @@
+use Rattle.std.proofs.Common.{◌≡◌, ◌≤◌, false}
+use Rattle.std.specs.Prelude.{⊤}
+use Rattle.jr_boxes.specs.Inbox.{faults_of}
+use Rattle.gate_turn.specs.Places.{known}
+use Rattle.gate_turn.specs.Calls.{IsFree}
+use Rattle.gate_senders.specs.Gate.{IsPassAt}
+use Rattle.conn_steps.specs.Settling.{SameKind}
+use Rattle.conn_loop.specs.Conn.{line_of, Looks}
+use Rattle.conn_serve.specs.Turned.{MayBegin}
+use Rattle.conn_serve.proofs.Living.{LivedTo}
+use Rattle.conn_serve.proofs.life.serve_connections.Given as goal
+
+abbrev pub invariant-loop-number : goal.invariant-loop-number
+invariant-loop-number g l = record {
+  own : IsPassAt l.gate l.pass;
+  free : IsFree l.pass;
+  looks : Looks (known l.fn.pass) (known l.pass);
+  may : MayBegin (line_of l.conn).machine (known l.pass) l.inbox;
+  lent : g.N.Dialer.lent l.dialer ≡ false;
+  lived : LivedTo l.number (g.N.Dialer.told l.fn.dialer) (g.N.Dialer.told l.dialer) (g.K.Sink.taken l.fn.out) (g.K.Sink.taken l.out) (known l.fn.pass).seen (known l.pass).seen (line_of l.fn.conn).machine (line_of l.conn).machine l.fn.inbox l.inbox;
+  kind : SameKind l.fn.inbox l.inbox;
+  inbox : faults_of l.fn.inbox ≤ faults_of l.inbox;
+  out : g.K.Sink.faults l.fn.out ≤ g.K.Sink.faults l.out;
+  dialer : g.N.Dialer.faults l.fn.dialer ≤ g.N.Dialer.faults l.dialer;
+  told : g.C.Clock.told l.clock ≡ g.C.Clock.told l.fn.clock;
+}
+
+-- nothing is promised behind the connections that no dialer gives
+abbrev pub invariant-loop : goal.invariant-loop
+invariant-loop g l = ⊤

@@ -1,0 +1,27 @@
+use Rattle.std.proofs.Common.{None, Err, inr, refl, ap}
+use Rattle.gate_turn.specs.Places.{known}
+use Rattle.gate_senders.specs.Gate.{opening_of}
+use Rattle.conn_turns.specs.Lines.{Line}
+use Rattle.conn_serve.specs.declared.answer.ServeFault.TheVariants as faults
+use Rattle.conn_serve.proofs.Living.{nothing_served}
+use Rattle.conn_serve.proofs.Opening.{may_open, blamed_none, served_at}
+use Rattle.conn_serve.proofs.serving.serve.Goals as goal
+
+pub returns-in_default-clause-served : goal.returns-in_default-clause-served
+returns-in_default-clause-served g c = record {
+  connections = Err faults.Memory;
+  refused = None;
+  life = nothing_served _ _ _ _ c.args.inbox.now;
+  blamed = blamed_none _ _ _ _ _ _ c.args.inbox.now c.args.inbox.now;
+  senders = inr (refl, refl, refl);
+  answer = refl;
+}
+
+pub serve_beside-requires-clause-may : goal.serve_beside-requires-clause-may
+serve_beside-requires-clause-may g c κs within =
+    let r = c.requires in
+    may_open c.args.config c.args.most (opening_of c.args.gate.now).history _ (known c.args.pass.now) c.args.inbox.now (ap (λ (l : Line). l.machine) c.in-Ok.ensures) r.opened r.sent r.credentials r.flow r.within
+
+pub returns-clause-served : goal.returns-clause-served
+returns-clause-served g c =
+    served_at c.args.gate.now _ _ _ _ _ _ _ _ _ _ _ _ c.args.inbox.now c.serve_beside.new.inbox _ _ _ (ap (λ (l : Line). l.machine) c.in-Ok.ensures) c.serve_beside.ensures.served

@@ -1,0 +1,44 @@
+-- What a fault of a life is caused by (this project's profile).
+use Rattle.std.specs.Prelude.{◌≡◌, ◌⊎◌, ℕ, ◌<◌, Bool, true, false, List, Option, Some, None}
+use Rattle.std.specs.Io.KnownBytes.{Appends}
+use Rattle.gw_outside.specs.Faults.{HasRisen, TakesFront}
+use Rattle.jr_record.specs.declared.journal.Journal.{Ghosts}
+use Rattle.jr_boxes.specs.declared.inbox.Inbox.{Inbox}
+use Rattle.jr_boxes.specs.Inbox.{faults_of, is_broken, size_of, count_of}
+use Rattle.gate_turn.specs.Views.{Part}
+use Rattle.conn_serve.specs.declared.answer.ServeFault.{ServeFault}
+use Rattle.conn_serve.specs.declared.answer.ServeFault.TheVariants as faults
+
+-- behind these faults lines may be lacking on OUT
+abbrev pub lacks : ServeFault → Bool
+lacks faults.Output = true
+lacks faults.Journal = false
+lacks faults.Dial = false
+lacks (faults.Unfinished phase) = false
+lacks (faults.Rejected template code) = false
+lacks (faults.Full entries bytes) = false
+lacks faults.Turns = false
+lacks faults.Memory = true
+
+abbrev pub lacks_at : Option ServeFault → Bool
+lacks_at None = false
+lacks_at (Some fault) = lacks fault
+
+-- OUT took all of these lines; or, where some may be lacking, a front of them
+abbrev pub Tells : Bool → Option (List ℕ) → Option (List ℕ) → List ℕ → Type 0
+Tells false old new lines = Appends old new lines
+Tells true old new lines = TakesFront old new lines
+
+module _ {J : Type 0} {G : Ghosts J} where
+  -- a journal is to blame: the inbox's count rose, or it is broken, or the count of the outbox that the pass has seen rose, or is
+  -- above that of its opening
+  abbrev pub BlamesJournal : (p q : Part) (box since : Inbox J G) → Type 0
+  BlamesJournal p q box since =
+      HasRisen (faults_of box) (faults_of since) ⊎ ((is_broken since ≡ true) ⊎ ((p.faults < q.faults) ⊎ (q.opening.faults < q.faults)))
+
+  -- what a fault is to blame for
+  pub record IsBlamed (out now_out dialer now_dialer : ℕ) (p q : Part) (box since : Inbox J G) (fault : ServeFault) : Type 0 where
+    pub output : fault ≡ faults.Output → HasRisen out now_out
+    pub journal : fault ≡ faults.Journal → BlamesJournal p q box since
+    pub dial : fault ≡ faults.Dial → HasRisen dialer now_dialer
+    pub full : (entries bytes : ℕ) → fault ≡ faults.Full entries bytes → (entries ≡ count_of since) × (bytes ≡ size_of since)

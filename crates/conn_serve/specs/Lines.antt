@@ -1,0 +1,31 @@
+-- The lines on OUT of a life (this project's profile).
+use Rattle.std.specs.Prelude.{⊤, ℕ, ◌+◌, ◌^◌, ◌≤◌, length, List, [], ◌∷◌, ◌++◌, Option, Some, None}
+use Rattle.conn_turns.specs.declared.news.NewsItem.{NewsItem}
+use Rattle.conn_turns.specs.declared.news.NewsItem.TheVariants as items
+use Rattle.session_lines.specs.declared.close.Close.{Close}
+use Rattle.session_lines.specs.Lines.{deliver_line, not_applied_line, connection_line}
+use Rattle.conn_serve.specs.Connections.{Connection}
+
+-- the line of a piece of news
+abbrev pub news_line : NewsItem → List ℕ
+news_line (items.Delivered number payload) = deliver_line number payload
+news_line (items.NotApplied from count) = not_applied_line from count
+
+abbrev pub news_lines : List NewsItem → List ℕ
+news_lines [] = []
+news_lines (item ∷ later) = news_line item ++ news_lines later
+
+-- the line of the end of the connection of this number; one that was given up has none
+abbrev pub close_line : ℕ → Option Close → List ℕ
+close_line n None = []
+close_line n (Some close) = connection_line n close
+
+-- those of connections, the first of which has the number n: of each its news, and then its end
+abbrev pub lines_from : ℕ → List Connection → List ℕ
+lines_from n [] = []
+lines_from n (c ∷ later) = (news_lines c.news ++ close_line n c.close) ++ lines_from (n + 1) later
+
+-- a message in the news is short enough for its line
+abbrev pub IsShort : NewsItem → Type 0
+IsShort (items.Delivered number payload) = length payload ≤ 2 ^ 20
+IsShort (items.NotApplied from count) = ⊤

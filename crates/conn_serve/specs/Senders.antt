@@ -1,0 +1,60 @@
+-- What a life makes of its senders, and of the Finish behind them (this project's profile).
+use Rattle.std.specs.Prelude.{◌≡◌, ◌⊎◌, ℕ, ◌<◌, true, All, Contains, List, length, slice_index_or, Option, Some, None}
+use Rattle.jr_record.specs.declared.journal.Journal.{Ghosts}
+use Rattle.jr_boxes.specs.declared.faults.SubmitFault.{SubmitFault}
+use Rattle.gate_turn.specs.Views.{Part}
+use Rattle.gate_turn.specs.Places.{known}
+use Rattle.gate_senders.specs.Shown.{TakesTurn}
+use Rattle.gate_senders.specs.declared.gate.Gate.{Gate}
+use Rattle.sender_plans.specs.Runs.{RanEach, HasNone}
+use Rattle.sender_plans.specs.declared.sender.Sender.{Sender}
+use Rattle.conn_serve.specs.declared.answer.ServeFault.{ServeFault}
+use Rattle.conn_serve.specs.declared.answer.ServeFault.TheVariants as faults
+use Rattle.conn_serve.specs.Answers.{submit_fault}
+
+-- The Finish was added, or refused so: the pass took one turn and made nothing. Where it was not refused, or only since the outbox is
+-- closed, the pass has seen the mark; a journal is to blame where its count rose, or is above that of its opening
+pub record Finishes (p q : Part) (refused : Option ServeFault) : Type 0 where
+  pub turn : TakesTurn p q
+  pub mine : q.mine ≡ p.mine
+  pub marked : refused ≡ None → q.seen.finished ≡ true
+  pub journal : refused ≡ Some faults.Journal → (p.faults < q.faults) ⊎ (q.opening.faults < q.faults)
+  pub few : (fault : ServeFault) → refused ≡ Some fault → (fault ≡ faults.Journal) ⊎ (fault ≡ faults.Memory)
+
+-- what the refusal that a sender met, if it met one, is to a life
+abbrev pub refusal_of : Option SubmitFault → Option ServeFault
+refusal_of None = None
+refusal_of (Some f) = submit_fault f
+
+module _ {J : Type 0} {G : Ghosts J} where
+  -- it met no refusal, or only that the outbox is closed
+  abbrev pub OnlyClosed : Sender J G → Type 0
+  OnlyClosed s = refusal_of s.refused ≡ None
+
+  -- a sender met this refusal
+  pub record MetRefusal (senders : List (Sender J G)) (fault : ServeFault) : Type 0 where
+    pub sender : Sender J G
+    pub there : Contains senders sender
+    pub is : refusal_of sender.refused ≡ Some fault
+
+  -- the refusal of a sender other than that the outbox is closed, where one met such
+  abbrev pub IsRefusal : List (Sender J G) → Option ServeFault → Type 0
+  IsRefusal senders None = All OnlyClosed senders
+  IsRefusal senders (Some fault) = MetRefusal senders fault
+
+  -- the first sender's pass was used for the Finish, and nothing else of the senders changed
+  pub record FinishedFirst (ran after : List (Sender J G)) (refused : Option ServeFault) : Type 0 where
+    pub long : length after ≡ length ran
+    pub first : (d : Sender J G) → Finishes (known (slice_index_or ran 0 d).pass) (known (slice_index_or after 0 d).pass) refused
+    pub others : (i : ℕ) (d : Sender J G) → 0 < i → slice_index_or after i d ≡ slice_index_or ran i d
+
+  -- behind their plans: where all are submitted and there are senders, the Finish was added or refused; else nothing more was done
+  abbrev pub IsFinished : (ran after : List (Sender J G)) → Option ServeFault → Type 0
+  IsFinished ran after refused =
+      ((after ≡ ran) × IsRefusal ran refused × (0 < length ran → (All HasNone ran → ⊥))) ⊎ (All HasNone ran × (0 < length ran) × FinishedFirst ran after refused)
+
+  -- each sender submitted its plan until it was done or refused, and then came the Finish
+  pub record SubmittedAll (gate : Gate J G) (before after : List (Sender J G)) (refused : Option ServeFault) : Type 0 where
+    pub ran : List (Sender J G)
+    pub each : RanEach gate before ran
+    pub finished : IsFinished ran after refused

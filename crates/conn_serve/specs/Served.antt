@@ -1,0 +1,173 @@
+-- What a life of connections did (this project's profile).
+use Rattle.std.specs.Prelude.{⊤, ◌≡◌, ◌⊎◌, ℕ, ◌+◌, ◌-◌, ◌<◌, Bool, true, false, All, List, [], ◌∷◌, ◌++◌, map, length, Option, Some, None, IsSome, IfSome, IsTrue, is_some, option_to_list, Result, Ok, Err}
+use Rattle.std.specs.Io.KnownBytes.{Appends}
+use Rattle.session_model.specs.Journal.{History}
+use Rattle.session_model.specs.Inbox.{InboxRecord}
+use Rattle.fixp_replies.specs.declared.act.Ending.TheVariants as endings
+use Rattle.reply_laws.specs.Machine.{State, phase_of}
+use Rattle.std.specs.Option.{option_map}
+use Rattle.gw_links.specs.Links.{Carried, CarriedNothing}
+use Rattle.gw_links.specs.Dialers.{DialerTold}
+use Rattle.jr_record.specs.declared.journal.Journal.{Ghosts}
+use Rattle.jr_boxes.specs.declared.inbox.Inbox.{Inbox}
+use Rattle.jr_boxes.specs.Inbox.{HoldsBox}
+use Rattle.session_lines.specs.declared.close.Close.{Close}
+use Rattle.session_lines.specs.declared.close.Close.TheVariants as closes
+use Rattle.conn_turns.specs.Lines.{Line}
+use Rattle.conn_steps.specs.Settling.{Gains}
+use Rattle.conn_serve.specs.declared.answer.ServeFault.{ServeFault}
+use Rattle.conn_serve.specs.declared.answer.ServeFault.TheVariants as faults
+use Rattle.conn_serve.specs.declared.answer.LifeEnd.{LifeEnd}
+use Rattle.conn_serve.specs.declared.answer.LifeEnd.TheVariants as ends
+use Rattle.conn_serve.specs.Connections.{Connection, IsConnection, HasEnded, AllEnded, Follows, IsFollowed, adds_of, refused_of_all}
+use Rattle.conn_serve.specs.Lines.{news_lines, close_line, lines_from}
+use Rattle.conn_serve.specs.Causes.{lacks, lacks_at, Tells}
+use Rattle.conn_serve.specs.Turned.{IsSpent}
+
+-- links came back to a dialer that tells it, which had carried this, each of one of the connections that were left
+pub record Came (old new : DialerTold) (more : List (Option Carried)) : Type 0 where
+  pub back : new.back ≡ old.back ++ more
+  pub left : old.left ≡ new.left + length more
+
+abbrev pub AllCame : Option DialerTold → Option DialerTold → List (Option Carried) → Type 0
+AllCame None None more = ⊤
+AllCame None (Some new) more = ⊥
+AllCame (Some old) None more = ⊥
+AllCame (Some old) (Some new) more = Came old new more
+
+-- it tells what it carried
+abbrev pub IsTold : Connection → Type 0
+IsTold c = IsTrue (is_some c.carried)
+
+abbrev pub carried_by : List Connection → List (Option Carried)
+carried_by = map (λ (c : Connection). c.carried)
+
+-- a link was given, of the connections that were left
+pub record IsNextLink {L : Type 0} (carried : L → Option Carried) (link : L) (old new : Option DialerTold) : Type 0 where
+  pub told : new ≡ option_map (λ (t : DialerTold). record t { left = t.left - 1 }) old
+  pub left : IfSome old (λ t. 0 < t.left)
+  pub fresh : CarriedNothing (carried link)
+  pub tells : IsTrue (is_some old) → IsTrue (is_some (carried link))
+
+-- The next link of a dialer, which had carried nothing, and tells what it carried where the dialer tells its links; where there was
+-- none, none is left exactly where the answer says so
+abbrev pub IsNext : {L : Type 0} → (L → Option Carried) → (old new : Option DialerTold) → Result L ServeFault → Type 0
+IsNext carried old new (Ok link) = IsNextLink carried link old new
+IsNext carried old new (Err faults.Output) = ⊥
+IsNext carried old new (Err faults.Journal) = ⊥
+IsNext carried old new (Err faults.Dial) = new ≡ old
+IsNext carried old new (Err (faults.Unfinished phase)) = (new ≡ old) × IfSome new (λ t. t.left ≡ 0)
+IsNext carried old new (Err (faults.Rejected template code)) = ⊥
+IsNext carried old new (Err (faults.Full entries bytes)) = ⊥
+IsNext carried old new (Err faults.Turns) = ⊥
+IsNext carried old new (Err faults.Memory) = ⊥
+
+-- the last of some connections came to its end so, and each before it was followed by the next
+pub record EndsWith (close : Close) (ended : List Connection) : Type 0 where
+  pub earlier : List Connection
+  pub last : Connection
+  pub are : ended ≡ earlier ++ last ∷ []
+  pub closed : last.close ≡ Some close
+  pub followed : All IsFollowed earlier
+
+-- the connection behind those that ended was given up, if one was
+abbrev pub WasGivenUp : (before after : History) (m : State) → Option Connection → Type 0
+WasGivenUp before after m None = after ≡ before
+WasGivenUp before after m (Some c) = (last : Line) × IsConnection before after m last c × (c.close ≡ None)
+
+-- it was given up after all its turns
+pub record SpentConnection (before after : History) (m : State) (c : Connection) : Type 0 where
+  pub last : Line
+  pub is : IsConnection before after m last c
+  pub spent : IsSpent last c.leg.turns c.leg.cut
+
+-- Why it answers so. m: the machine behind the connections that ended. Where OUT or memory failed nothing more is said
+abbrev pub IsLifeAnswer : (before after : History) (m : State) (later : Option DialerTold) (ended : List Connection) → Option Connection → Result LifeEnd ServeFault → Type 0
+IsLifeAnswer before after m later ended given (Ok ends.Finished) = (given ≡ None) × EndsWith (closes.Ended endings.Finished) ended
+IsLifeAnswer before after m later ended given (Ok ends.Stopped) = All IsFollowed ended
+IsLifeAnswer before after m later ended given (Err faults.Output) = ⊤
+IsLifeAnswer before after m later ended given (Err faults.Journal) = All IsFollowed ended × (c : Connection) × (given ≡ Some c) × IsSome c.leg.cut
+IsLifeAnswer before after m later ended given (Err faults.Dial) = All IsFollowed ended × (given ≡ None)
+IsLifeAnswer before after m later ended given (Err (faults.Unfinished phase)) = All IsFollowed ended × (given ≡ None) × (phase ≡ phase_of m) × IfSome later (λ t. t.left ≡ 0)
+IsLifeAnswer before after m later ended given (Err (faults.Rejected template code)) = (given ≡ None) × EndsWith (closes.Ended (endings.Rejected template code)) ended
+IsLifeAnswer before after m later ended given (Err (faults.Full entries bytes)) = All IsFollowed ended × (c : Connection) × (given ≡ Some c) × IsSome c.leg.cut
+IsLifeAnswer before after m later ended given (Err faults.Turns) = All IsFollowed ended × (c : Connection) × (given ≡ Some c) × SpentConnection before after m c
+IsLifeAnswer before after m later ended given (Err faults.Memory) = ⊤
+
+-- lines may be lacking at this answer
+abbrev pub lacks_lines : {A : Type 0} → Result A ServeFault → Bool
+lacks_lines (Ok a) = false
+lacks_lines (Err fault) = lacks fault
+
+module _ {J : Type 0} {G : Ghosts J} where
+  -- Connections ended, one behind another, each but the last followed by the next, and a last one was given up, if one was. The inbox
+  -- gained what they add; OUT took their lines, numbered from 1; and their links came back
+  pub record ServedLife (dialed later : Option DialerTold) (out now_out : Option (List ℕ)) (before seen : History) (m : State) (box since : Inbox J G) (result : Result LifeEnd ServeFault) : Type 0 where
+    pub ended : List Connection
+    pub given_up : Option Connection
+    pub behind : History
+    pub mid : State
+    pub were : AllEnded before behind m mid ended
+    pub gave_up : WasGivenUp behind seen mid given_up
+    pub holds : (i : List InboxRecord) → HoldsBox box i [] → HoldsBox since (i ++ adds_of (ended ++ option_to_list given_up)) (refused_of_all (option_to_list given_up))
+    pub lines : Tells (lacks_lines result) out now_out (lines_from 1 (ended ++ option_to_list given_up))
+    pub came : AllCame dialed later (carried_by (ended ++ option_to_list given_up))
+    pub tells : IsTrue (is_some dialed) → All IsTold ended
+    pub answer : IsLifeAnswer behind seen mid later ended given_up result
+
+  -- connections that ended so far, each followed by the next
+  pub record Lived (dialed later : Option DialerTold) (out now_out : Option (List ℕ)) (before seen : History) (m new : State) (box since : Inbox J G) (ended : List Connection) : Type 0 where
+    pub were : AllEnded before seen m new ended
+    pub gains : Gains box since (adds_of ended)
+    pub lines : Appends out now_out (lines_from 1 ended)
+    pub came : AllCame dialed later (carried_by ended)
+    pub tells : IsTrue (is_some dialed) → All IsTold ended
+    pub followed : All IsFollowed ended
+
+  -- the connection of the number n ended so
+  pub record EndedOne (n : ℕ) (lacking : Bool) (dialed later : Option DialerTold) (out now_out : Option (List ℕ)) (before seen : History) (m new : State) (box since : Inbox J G) (close : Close) : Type 0 where
+    pub connection : Connection
+    pub closed : connection.close ≡ Some close
+    pub ended : HasEnded before seen m new connection
+    pub gains : Gains box since connection.adds
+    pub lines : Tells lacking out now_out (news_lines connection.news ++ close_line n connection.close)
+    pub came : AllCame dialed later (connection.carried ∷ [])
+    pub tells : IsTrue (is_some dialed) → IsTold connection
+
+  -- a connection was given up
+  pub record GaveOneUp (why : Option ServeFault) (dialed later : Option DialerTold) (out now_out : Option (List ℕ)) (before seen : History) (m : State) (box since : Inbox J G) : Type 0 where
+    pub connection : Connection
+    pub unclosed : connection.close ≡ None
+    pub last : Line
+    pub is : IsConnection before seen m last connection
+    pub holds : (i : List InboxRecord) → HoldsBox box i [] → HoldsBox since (i ++ connection.adds) connection.refused
+    pub lines : Tells (lacks_at why) out now_out (news_lines connection.news)
+    pub came : AllCame dialed later (connection.carried ∷ [])
+    pub spent : why ≡ Some faults.Turns → IsSpent last connection.leg.turns connection.leg.cut
+    pub cut_short : (why ≡ Some faults.Journal → IsSome connection.leg.cut) × ((entries bytes : ℕ) → why ≡ Some (faults.Full entries bytes) → IsSome connection.leg.cut)
+
+  -- no connection was made
+  pub record MadeNone (dialed later : Option DialerTold) (out now_out : Option (List ℕ)) (before seen : History) (m new : State) (box since : Inbox J G) : Type 0 where
+    pub same_dialer : AllCame dialed later []
+    pub same_out : Appends out now_out []
+    pub same_seen : seen ≡ before
+    pub same_machine : new ≡ m
+    pub same_box : Gains box since []
+
+  -- One round of a life, for the connection of the number n, as it answers: None where the next one follows
+  abbrev pub IsRound : (n : ℕ) (dialed later : Option DialerTold) (out now_out : Option (List ℕ)) (before seen : History) (m new : State) (box since : Inbox J G) → Result (Option LifeEnd) ServeFault → Type 0
+  IsRound n dialed later out now_out before seen m new box since (Ok None) = (close : Close) × Follows close × EndedOne n false dialed later out now_out before seen m new box since close
+  IsRound n dialed later out now_out before seen m new box since (Ok (Some ends.Finished)) = EndedOne n false dialed later out now_out before seen m new box since (closes.Ended endings.Finished)
+  IsRound n dialed later out now_out before seen m new box since (Ok (Some ends.Stopped)) = GaveOneUp None dialed later out now_out before seen m box since
+  IsRound n dialed later out now_out before seen m new box since (Err faults.Output) =
+      ((close : Close) × EndedOne n true dialed later out now_out before seen m new box since close) ⊎ GaveOneUp (Some faults.Output) dialed later out now_out before seen m box since
+  IsRound n dialed later out now_out before seen m new box since (Err faults.Journal) = GaveOneUp (Some faults.Journal) dialed later out now_out before seen m box since
+  IsRound n dialed later out now_out before seen m new box since (Err faults.Dial) = MadeNone dialed later out now_out before seen m new box since
+  IsRound n dialed later out now_out before seen m new box since (Err (faults.Unfinished phase)) =
+      MadeNone dialed later out now_out before seen m new box since × (phase ≡ phase_of m) × IfSome later (λ t. t.left ≡ 0)
+  IsRound n dialed later out now_out before seen m new box since (Err (faults.Rejected template code)) =
+      EndedOne n false dialed later out now_out before seen m new box since (closes.Ended (endings.Rejected template code))
+  IsRound n dialed later out now_out before seen m new box since (Err (faults.Full entries bytes)) = GaveOneUp (Some (faults.Full entries bytes)) dialed later out now_out before seen m box since
+  IsRound n dialed later out now_out before seen m new box since (Err faults.Turns) = GaveOneUp (Some faults.Turns) dialed later out now_out before seen m box since
+  IsRound n dialed later out now_out before seen m new box since (Err faults.Memory) =
+      ((close : Close) × EndedOne n true dialed later out now_out before seen m new box since close) ⊎ GaveOneUp (Some faults.Memory) dialed later out now_out before seen m box since
