@@ -14,9 +14,11 @@ const LIMITS: Limits = Limits {
 /// The records of a journal.
 pub fn records(alloc: Global, disk: MemDisk) -> Option<Vec<Record>> {
     let mut journal = LogJournal::open(alloc, disk, LIMITS).ok()?;
-    let count = journal.len();
     let mut records = Vec::new(alloc);
-    for at in 0..count {
+    for at in 0..journal.len() {
+        if at >= journal.len() {
+            return None;
+        }
         let record = journal.read(at).ok()?;
         records.push(record).ok()?;
     }
@@ -27,19 +29,19 @@ pub fn records(alloc: Global, disk: MemDisk) -> Option<Vec<Record>> {
 /// and jumped over none.
 pub fn applied(outbox: &[Record], inbox: &[Record]) -> Option<u64> {
     let mut sent = outbox;
-    let mut next = 1u64;
+    let mut count = 0u64;
     for record in inbox {
         match (record, sent) {
             (Record::Apply { number, payload }, [Record::Entry { payload: entry, .. }, rest @ ..])
-                if *number == next && payload.as_slice() == entry.as_slice() => {
+                if *number == count.saturating_add(1) && payload.as_slice() == entry.as_slice() => {
                 sent = rest;
-                next = next.saturating_add(1);
+                count = count.saturating_add(1);
             }
             (Record::Apply { .. } | Record::Skip { .. }, _) => return None,
             _ => {}
         }
     }
-    Some(next - 1)
+    Some(count)
 }
 
 /// How many messages of a sender an outbox has, where they are those of its plan from the first on, and in order.
@@ -52,7 +54,10 @@ pub fn ordered(outbox: &[Record], number: u16) -> Option<u64> {
             let [.., told, place] = payload.as_slice() else {
                 return None;
             };
-            if *k != next + 1 || u16::from(*told) != number || u64::from(*place) != next {
+            if *k != next.saturating_add(1)
+                || u16::from(*told) != number
+                || u64::from(*place) != next
+            {
                 return None;
             }
             next = next.saturating_add(1);

@@ -44,11 +44,13 @@ fn both<R: Threads + Wait + Sync + Net<Listener = TcpListener, Stream = TcpStrea
 }
 
 fn main(rt: HostRuntime) -> io::Result<()> {
-    match both(&rt, rt.alloc()) {
-        (Some(accept), Some(connect)) => {
-            print_end(&rt, "accept", &accept, &connect)?;
-            print_end(&rt, "connect", &connect, &accept)
-        }
-        _ => println!(rt; "an end was not set up"),
-    }
+    let (accept, connect) = both(&rt, rt.alloc());
+    let Some(accept) = accept else {
+        return println!(rt; "accept was not set up");
+    };
+    let Some(connect) = connect else {
+        return println!(rt; "connect was not set up");
+    };
+    print_end(&rt, "accept", &accept, &connect)?;
+    print_end(&rt, "connect", &connect, &accept)
 }
