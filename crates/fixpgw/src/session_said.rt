@@ -183,12 +183,8 @@ fn device_line<R, D: SaysWhy, N: SaysWhy>(
             Some(reason) => sink_line(alloc, outside.out.name(), reason),
             None => Ok(None),
         },
-        Status::JournalFault => {
-            disks_line(alloc, session, &outside.out_disk, &outside.in_disk)
-        }
-        Status::DialFault => outside
-            .dialer
-            .why(alloc, named("ADDRESS", session.address)),
+        Status::JournalFault => { disks_line(alloc, session, &outside.out_disk, &outside.in_disk) }
+        Status::DialFault => outside.dialer.why(alloc, named("ADDRESS", session.address)),
         _ => Ok(None),
     }
 }
