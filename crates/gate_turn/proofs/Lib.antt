@@ -1,3 +1,4 @@
+pub mod Failing
 pub mod Puts
 pub mod Histories
 pub mod Layers

@@ -7,7 +7,7 @@ use mathlib.Core.Option.{none, some}
 use lib.ListN.{get_elem?}
 use Rattle.atomic_table.specs.Table.{State}
 use Rattle.session_model.specs.Journal.{Entry, History, BeginsHistory, entries_of}
-use Rattle.gate_turn.specs.Views.{Account, Part, View}
+use Rattle.gate_turn.specs.Views.{Account, HasFailed, Part, View}
 
 -- n is the number of a pass, where so many were made
 pub record In (made n : ℕ) : Type 0 where
@@ -66,11 +66,11 @@ pub record Grown (part : ℕ → Part) (opening : Account) (made : ℕ) (log : H
   pub once : (m n : ℕ) → In made m → In made n → (part m).ended ≡ true → (part n).ended ≡ true → m ≡ n
 
 -- a value that may be at home: it has the opening's limits, a count of faults not below the opening's, and is broken only
--- where its count is above that
+-- where a call of its device failed since the opening
 pub record Sound (opening now : Account) : Type 0 where
   pub limits : now.limits ≡ opening.limits
   pub faults : opening.faults ≤ now.faults
-  pub broken : now.broken ≡ true → opening.faults < now.faults
+  pub broken : now.broken ≡ true → HasFailed opening.faults now.faults
 
 module _ {T : Type 0} (tells : T → Account) where
   -- no pass has the turn, and the value is at home

@@ -1,5 +1,5 @@
 -- What a locked value says of itself, and what a pass of its lock knows. Locks whose turns are tickets are this project's profile.
-use Rattle.std.specs.Prelude.{ℕ, ◌+◌, Bool, false, not, ◌&&◌, ◌||◌, List, [], ◌∷◌, ◌++◌, length, drop, Option, Some, None}
+use Rattle.std.specs.Prelude.{ℕ, ◌+◌, ◌^◌, ◌<◌, ◌≤◌, min, Bool, false, not, ◌&&◌, ◌||◌, List, [], ◌∷◌, ◌++◌, length, drop, Option, Some, None}
 use Rattle.session_model.specs.Journal.{Entry, History, entries_of}
 
 -- the two numbers that bound a locked value: entries, and bytes
@@ -14,6 +14,12 @@ pub record Account : Type 0 where
   pub faults : ℕ
   pub limits : Limits
   pub broken : Bool
+
+-- A call of the device failed, and the value has taken nothing any more since: the count rose, and, where it is not at its
+-- greatest, by two at least
+pub record HasFailed (before after : ℕ) : Type 0 where
+  pub rose : before < after
+  pub disk : min (before + 2) (2 ^ 64) ≤ after
 
 -- What the pass of one number knows.
 -- ticket: the place in the queue that it drew, if it waits or has the turn. seen: the longest history that it had in hand.
