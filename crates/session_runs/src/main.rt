@@ -54,12 +54,21 @@ fn print_line<R: Print + AllocGlobal + Threads + Wait + Sync>(
     Ok(disks)
 }
 
+/// Prints what each line of the file of cases shows.
+fn print_cases<R: Print + AllocGlobal + Threads + Wait + Sync>(
+    rt: &R,
+    config: &str,
+    cases: &str,
+) -> io::Result<()> {
+    let mut disks = disks_of(rt.alloc(), "")?;
+    for line in cases.lines() {
+        disks = print_line(rt, config, line, disks)?;
+    }
+    Ok(())
+}
+
 fn main(rt: HostRuntime) -> io::Result<()> {
     let config = fs::read_to_string(&rt, "config.toml")?;
     let cases = fs::read_to_string(&rt, "cases.txt")?;
-    let mut disks = disks_of(rt.alloc(), "")?;
-    for line in cases.lines() {
-        disks = print_line(&rt, config.as_str(), line, disks)?;
-    }
-    Ok(())
+    print_cases(&rt, config.as_str(), cases.as_str())
 }
