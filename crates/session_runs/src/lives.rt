@@ -74,21 +74,14 @@ fn streams_of(alloc: Global, life: Life<'_>) -> Result<Streams, AllocError> {
     })
 }
 
-/// A tape of a word.
-fn tape_of(alloc: Global, word: &str) -> Result<MemTape, AllocError>
-    ensures unused { IfOk result IsUnused }
-{
-    let given = Bytes::from(bytes(alloc, word)?);
-    MemTape::without_faults(alloc, given, 4096)
-}
-
 /// A tape of each word.
 fn tapes_of(alloc: Global, words: &str) -> Result<Vec<MemTape>, AllocError>
     ensures unused { IfOk result (λ tapes. All IsUnused tapes.items) }
 {
     let mut tapes = Vec::new(alloc);
     for word in words.split_whitespace() {
-        tapes.push(tape_of(alloc, word)?)?;
+        let given = Bytes::from(bytes(alloc, word)?);
+        tapes.push(MemTape::without_faults(alloc, given, 4096)?)?;
     }
     Ok(tapes)
 }
