@@ -1,8 +1,8 @@
 //! What is wrong with a message of a schema: with its bytes, with its values, with its text.
 
-use crate::escape::push_quoted;
 use crate::filled::{Filled, plain, with_one, with_three, with_two};
 use crate::walk::{Found, found_at, push_awaited};
+use config_faults::push_quoted;
 use sbe_encode::EncodeFault;
 use sbe_grammar::DecodeFault;
 use sbe_layout::{ItemKind, ItemPlan, Plan};

@@ -3,10 +3,10 @@
 use crate::again::{place_of_frame, text_of_file};
 use crate::lines::{push_disk, push_input, push_journal, push_place, push_sink, push_source};
 use crate::report::Report;
-use fault_text::{
-    Wanted, push_config_fault, push_decode_fault, push_encode_fault, push_text_fault,
-};
+use config_faults::{Wanted, push_config_fault};
+use fault_text::{push_decode_fault, push_encode_fault, push_text_fault};
 use gateway::{Bad, Command, Outside, Status, Which, command_of, run};
+use gw_outside::{Disk, Sink, Source};
 use gw_real::{
     DiskReason, FileDisk, FileSink, FileSource, Kept, Named, Opening, Reason, STANDARD_OUTPUT,
 };
@@ -332,16 +332,23 @@ fn line_of<R: Files<File = File> + AllocGlobal, P>(
     }
 }
 
-/// Runs the command, with this device for OUT. The files are closed when it returns, before anything is printed: where
-/// standard output is closed, a file may stand in its place.
-fn run_with<'a, R: Wait + Files<File = File> + Print + AllocGlobal>(
-    rt: &'a R,
+/// Runs the command over devices of any kind. Its caller needs no more of what `run` promises than that they come back.
+fn run_over<R: Wait, S: Source, K: Sink, D: Disk>(
+    rt: &R,
+    alloc: Global,
     words: &[String],
-    files: Run<'a>,
-    apart: Apart<'a>,
-    out: FileSink<'a, R, File, Printer<'a, R>>,
+    outside: Outside<S, K, D>,
+) -> (Status, Outside<S, K, D>) {
+    run(rt, alloc, words, outside)
+}
+
+/// The report of a run that ended so. It closes the files.
+fn report_of<R: Files<File = File> + AllocGlobal, P: Drop>(
+    rt: &R,
+    files: Run<'_>,
+    status: Status,
+    outside: Devices<'_, R, P>,
 ) -> Report {
-    let (status, outside) = run(rt, rt.alloc(), words, devices(rt, files, apart, out));
     let line = line_of(rt, files, &status, &outside);
     let Outside {
         config: _,
@@ -352,6 +359,20 @@ fn run_with<'a, R: Wait + Files<File = File> + Print + AllocGlobal>(
         in_disk: _,
     } = outside;
     Report { status, line }
+}
+
+/// Runs the command, with this device for OUT. The files are closed when it returns, before anything is printed: where
+/// standard output is closed, a file may stand in its place.
+fn run_with<'a, R: Wait + Files<File = File> + Print + AllocGlobal>(
+    rt: &'a R,
+    words: &[String],
+    files: Run<'a>,
+    apart: Apart<'a>,
+    out: FileSink<'a, R, File, Printer<'a, R>>,
+) -> Report {
+    let devices = devices(rt, files, apart, out);
+    let (status, devices) = run_over(rt, rt.alloc(), words, devices);
+    report_of(rt, files, status, devices)
 }
 
 /// Runs the command over the files that its words name; `-` as OUT is standard output.

@@ -1,6 +1,7 @@
 //! What is wrong with a file of a run, in a line.
 
-use fault_text::{push_broken_rule, push_file, push_malformed, push_refused};
+use config_faults::push_file;
+use fault_text::{push_broken_rule, push_malformed, push_refused};
 use fixp_shake::Violation;
 use gateway::{Bad, JournalCause, Which};
 use gw_real::{DiskReason, Kept, Named, Reason, STANDARD_OUTPUT};

@@ -3,7 +3,8 @@
 use crate::again::text_of_file;
 use crate::lines::{push_disk, push_input, push_journal, push_place, push_sink, push_source};
 use crate::sessions::{Devices, Session, named};
-use fault_text::{Wanted, push_config_fault, push_plan_fault, push_rejected};
+use config_faults::{Wanted, push_config_fault};
+use fault_text::{push_plan_fault, push_rejected};
 use gateway::{Bad, JournalCause, Status, Which};
 use gw_outside::Disk;
 use gw_real::{DiskReason, FileDisk, Kept, Named, Reason};

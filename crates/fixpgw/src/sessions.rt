@@ -5,14 +5,16 @@ ghost use Rattle.std.specs.Prelude.{◌≡◌, false};
 
 use crate::report::Report;
 use crate::session_said::{SaysWhy, line_of};
-use gw_links::Dialer;
-use gw_outside::Disk;
+use gateway::Status;
+use gw_links::{Clock as LinkClock, Dialer};
+use gw_outside::{Disk, Sink, Source};
 use gw_real::{FileSink, FileSource, Named, STANDARD_OUTPUT};
 use gw_sockets::{AcceptDialer, ConnectDialer, MachineClock};
 use schema_toml::TEXT_LIMIT;
 use session_command::{Role as EndRole, SessionOutside, run_session};
 use session_config::Role;
 use session_words::positive;
+use std::alloc::Global;
 use std::fs::File;
 use std::io::{self, Printer};
 use std::net::{Net, TcpListener, TcpStream};
@@ -123,15 +125,14 @@ fn out_of<'a, R: Print>(
     FileSink::new(rt, out, others)
 }
 
-/// Runs a session over this dialer and these files. The devices are closed when it returns, before anything is printed: where
-/// standard output is closed, a file may stand in its place.
-fn run_over<
-    'a,
-    R: Threads + Wait + Sync + Clock + Files<File = File> + Print + AllocGlobal,
-    D: Disk + Send + Drop + SaysWhy,
-    N: Dialer + Drop + SaysWhy,
->(rt: &'a R, session: Session<'a>, files: SessionFiles<'a, D>, dialer: N) -> Report
-    requires { N.lent dialer ≡ false }
+/// The devices of a session over this dialer and these files.
+fn devices<'a, R: Files<File = File> + Print + AllocGlobal, D, N>(
+    rt: &'a R,
+    session: Session<'a>,
+    files: SessionFiles<'a, D>,
+    dialer: N,
+) -> Devices<'a, R, D, N>
+    ensures { result.dialer ≡ dialer }
 {
     let alloc = rt.alloc();
     let SessionFiles {
@@ -139,7 +140,7 @@ fn run_over<
         in_disk,
         others,
     } = files;
-    let outside = SessionOutside {
+    SessionOutside {
         config: FileSource::new(rt, alloc, session.config.path, TEXT_LIMIT + 1),
         input: FileSource::new(rt, alloc, session.input.path, 0),
         out: out_of(rt, session.out, others),
@@ -147,9 +148,29 @@ fn run_over<
         in_disk,
         dialer,
         clock: MachineClock::new(rt),
-    };
-    let (status, mut outside) = run_session(rt, alloc, session.end_role(), outside);
-    let line = line_of(rt, alloc, session, &status, &mut outside);
+    }
+}
+
+/// Runs a session over devices of any kind. Its caller needs no more of what `run_session` promises than that they come back.
+fn run_over<R: Threads + Wait + Sync, S: Source, K: Sink, D: Disk + Send, N: Dialer, C: LinkClock>(
+    rt: &R,
+    alloc: Global,
+    role: EndRole,
+    outside: SessionOutside<S, K, D, N, C>,
+) -> (Status, SessionOutside<S, K, D, N, C>)
+    requires { N.lent outside.dialer ≡ false }
+{
+    run_session(rt, alloc, role, outside)
+}
+
+/// The report of a session that ended so. It closes the devices.
+fn report_of<
+    R: Files<File = File> + Print + AllocGlobal,
+    D: Disk + Drop + SaysWhy,
+    N: Drop + SaysWhy,
+>(rt: &R, session: Session<'_>, status: Status, outside: Devices<'_, R, D, N>) -> Report {
+    let mut outside = outside;
+    let line = line_of(rt, rt.alloc(), session, &status, &mut outside);
     let SessionOutside {
         config: _,
         input: _,
@@ -160,6 +181,21 @@ fn run_over<
         clock: _,
     } = outside;
     Report { status, line }
+}
+
+/// Runs a session over this dialer and these files. The devices are closed when it returns, before anything is printed: where
+/// standard output is closed, a file may stand in its place.
+fn run_with<
+    'a,
+    R: Threads + Wait + Sync + Clock + Files<File = File> + Print + AllocGlobal,
+    D: Disk + Send + Drop + SaysWhy,
+    N: Dialer + Drop + SaysWhy,
+>(rt: &'a R, session: Session<'a>, files: SessionFiles<'a, D>, dialer: N) -> Report
+    requires { N.lent dialer ≡ false }
+{
+    let devices = devices(rt, session, files, dialer);
+    let (status, devices) = run_over(rt, rt.alloc(), session.end_role(), devices);
+    report_of(rt, session, status, devices)
 }
 
 /// Runs a session over a socket, over the files that its words name, and over these disks of its journals. A listener is bound
@@ -180,11 +216,11 @@ pub fn run_over_sockets<
     match session.role {
         Role::Connect => {
             let dialer = ConnectDialer::new(rt, alloc, session.address, most);
-            run_over(rt, session, files, dialer)
+            run_with(rt, session, files, dialer)
         }
         Role::Accept | Role::Answer => {
             let dialer = AcceptDialer::new(rt, alloc, session.address, most);
-            run_over(rt, session, files, dialer)
+            run_with(rt, session, files, dialer)
         }
     }
 }

@@ -2,7 +2,7 @@
 
 use crate::report::Report;
 use crate::sessions::role_of;
-use fault_text::quoted;
+use config_faults::quoted;
 use gateway::Status;
 use std::alloc::{AllocError, Global};
 

@@ -3,7 +3,8 @@
 use case_words::bytes;
 use command_base::Outside;
 use gw_fakes::{MemDisk, MemSink, MemSource};
-use gw_outside::{Bytes, Disk};
+use gw_outside::{Bytes, Disk, Sink};
+use journal_command::journal;
 use jr_log::format;
 use std::alloc::{AllocError, Global};
 
@@ -35,18 +36,28 @@ pub fn disks_of(alloc: Global, words: &str) -> Result<Disks, AllocError> {
     })
 }
 
-/// The lines of both journals, as the command `journal` prints them, and the disks again.
-pub fn journals(alloc: Global, disks: Disks) -> Result<(MemSink, Disks), AllocError> {
-    let Disks { outbox, inbox } = disks;
+/// A source without bytes.
+fn no_bytes(alloc: Global) -> MemSource {
+    MemSource::without_faults(alloc, Bytes::new(alloc), 1)
+}
+
+/// Runs the command `journal` over these disks: OUT, and the disks.
+fn printed<K: Sink + Drop, D: Disk>(
+    alloc: Global,
+    wire: K,
+    out: K,
+    out_disk: D,
+    in_disk: D,
+) -> (K, D, D) {
     let outside = Outside {
-        config: MemSource::without_faults(alloc, Bytes::new(alloc), 1),
-        input: MemSource::without_faults(alloc, Bytes::new(alloc), 1),
-        wire: MemSink::without_faults(alloc, 0)?,
-        out: MemSink::without_faults(alloc, 4096)?,
-        out_disk: outbox,
-        in_disk: inbox,
+        config: no_bytes(alloc),
+        input: no_bytes(alloc),
+        wire,
+        out,
+        out_disk,
+        in_disk,
     };
-    let (_, outside) = journal_command::journal(alloc, outside);
+    let (_, outside) = journal(alloc, outside);
     let Outside {
         config: _,
         input: _,
@@ -55,11 +66,22 @@ pub fn journals(alloc: Global, disks: Disks) -> Result<(MemSink, Disks), AllocEr
         out_disk,
         in_disk,
     } = outside;
-    Ok((
-        out,
-        Disks {
-            outbox: out_disk,
-            inbox: in_disk,
-        },
-    ))
+    (out, out_disk, in_disk)
+}
+
+/// Adds what an output took.
+pub fn add_out(text: &mut String, out: &MemSink) -> Result<(), AllocError> {
+    match str::from_utf8(out.taken()) {
+        Ok(lines) => text.push_str(lines),
+        Err(_) => text.push_str("no text\n"),
+    }
+}
+
+/// Adds the lines of both journals, as the command `journal` prints them; the disks come back.
+pub fn add_journals(alloc: Global, text: &mut String, disks: Disks) -> Result<Disks, AllocError> {
+    let wire = MemSink::without_faults(alloc, 0)?;
+    let out = MemSink::without_faults(alloc, 4096)?;
+    let (out, outbox, inbox) = printed(alloc, wire, out, disks.outbox, disks.inbox);
+    add_out(text, &out)?;
+    Ok(Disks { outbox, inbox })
 }

@@ -4,11 +4,13 @@ ghost use Rattle.std.specs.Prelude.{◌≡◌, false, IfOk};
 ghost use Rattle.std.specs.List.{All};
 ghost use Rattle.gw_link_fakes.specs.Tapes.{IsUnused};
 
-use crate::disks::{Disks, journals};
+use crate::disks::{Disks, add_journals, add_out};
 use case_words::{bytes, digits};
-use gw_fakes::{MemSink, MemSource};
+use command_base::Status;
+use gw_fakes::{MemDisk, MemSink, MemSource};
 use gw_link_fakes::{MemClock, MemDialer, MemTape};
-use gw_outside::Bytes;
+use gw_links::{Clock, Dialer};
+use gw_outside::{Bytes, Disk, Sink, Source};
 use session_command::{Role, SessionOutside, run_session};
 use std::alloc::{AllocError, Global};
 use std::sync::Wait;
@@ -24,11 +26,22 @@ pub struct Life<'a> {
     pub tapes: &'a str,
 }
 
-/// What is printed of a life, and its disks.
+/// The streams of a life.
 #[derive(Drop)]
-pub struct Taken {
-    pub text: String,
-    pub disks: Disks,
+struct Streams {
+    config: MemSource,
+    input: MemSource,
+    out: MemSink,
+}
+
+/// How a life ended, and the devices that are looked at then.
+#[derive(Drop)]
+struct Ended<K, D, N> {
+    status: Status,
+    out: K,
+    out_disk: D,
+    in_disk: D,
+    dialer: N,
 }
 
 /// The bytes of INPUT.
@@ -45,6 +58,22 @@ fn input_of(alloc: Global, word: &str) -> Result<Vec<u8>, AllocError> {
     Ok(text)
 }
 
+/// A source that gives these bytes.
+fn source(alloc: Global, bytes: Bytes) -> MemSource {
+    MemSource::without_faults(alloc, bytes, 64)
+}
+
+fn streams_of(alloc: Global, life: Life<'_>) -> Result<Streams, AllocError> {
+    let config = Bytes::from_slice(alloc, life.config.as_bytes())?;
+    let input = Bytes::from(input_of(alloc, life.input)?);
+    let out = MemSink::without_faults(alloc, 4096)?;
+    Ok(Streams {
+        config: source(alloc, config),
+        input: source(alloc, input),
+        out,
+    })
+}
+
 /// A tape of each word.
 fn tapes_of(alloc: Global, words: &str) -> Result<Vec<MemTape>, AllocError>
     ensures unused { IfOk result (λ tapes. All IsUnused tapes.items) }
@@ -57,52 +86,18 @@ fn tapes_of(alloc: Global, words: &str) -> Result<Vec<MemTape>, AllocError>
     Ok(tapes)
 }
 
-/// What each link of the dialer was sent, in hexadecimal.
-fn add_sent(
-    alloc: Global,
-    text: &mut String,
-    dialer: &MemDialer,
-    count: usize,
-) -> Result<(), AllocError> {
-    for place in 0..count {
-        if let Some(link) = dialer.link(place) {
-            text.push_str("sent ")?;
-            text.push_str(digits(alloc, link.taken())?.as_str())?;
-            text.push_str("\n")?;
-        }
-    }
-    Ok(())
-}
-
-/// Adds what an output took.
-fn add_out(text: &mut String, out: &MemSink) -> Result<(), AllocError> {
-    match str::from_utf8(out.taken()) {
-        Ok(lines) => text.push_str(lines),
-        Err(_) => text.push_str("no text\n"),
-    }
-}
-
-/// Runs a life, and tells its status, OUT, what the links were sent, and the journals.
-pub fn live<R: Threads + Wait + Sync>(
-    rt: &R,
-    alloc: Global,
-    life: Life<'_>,
-    disks: Disks,
-) -> Result<Taken, AllocError> {
-    let Disks { outbox, inbox } = disks;
-    let tapes = tapes_of(alloc, life.tapes)?;
-    let count = tapes.len();
-    let config = Bytes::from_slice(alloc, life.config.as_bytes())?;
-    let outside = SessionOutside {
-        config: MemSource::without_faults(alloc, config, 64),
-        input: MemSource::without_faults(alloc, Bytes::from(input_of(alloc, life.input)?), 64),
-        out: MemSink::without_faults(alloc, 4096)?,
-        out_disk: outbox,
-        in_disk: inbox,
-        dialer: MemDialer::without_faults(alloc, tapes),
-        clock: MemClock::new(0),
-    };
-    let (status, outside) = run_session(rt, alloc, life.role, outside);
+/// Runs a session over these devices.
+fn end_of<
+    S: Source + Drop,
+    K: Sink,
+    D: Disk + Send,
+    N: Dialer,
+    C: Clock + Drop,
+    R: Threads + Wait + Sync,
+>(rt: &R, alloc: Global, role: Role, outside: SessionOutside<S, K, D, N, C>) -> Ended<K, D, N>
+    requires { N.lent outside.dialer ≡ false }
+{
+    let (status, outside) = run_session(rt, alloc, role, outside);
     let SessionOutside {
         config: _,
         input: _,
@@ -112,14 +107,78 @@ pub fn live<R: Threads + Wait + Sync>(
         dialer,
         clock: _,
     } = outside;
-    let mut text = format!(in alloc; "status {} {status:?}\n", status.code())?;
-    add_out(&mut text, &out)?;
-    add_sent(alloc, &mut text, &dialer, count)?;
-    let disks = Disks {
-        outbox: out_disk,
-        inbox: in_disk,
+    Ended {
+        status,
+        out,
+        out_disk,
+        in_disk,
+        dialer,
+    }
+}
+
+/// Adds what the link of each tape was sent, in hexadecimal.
+fn add_sent(
+    alloc: Global,
+    text: &mut String,
+    dialer: &MemDialer,
+    tapes: &str,
+) -> Result<(), AllocError> {
+    for (place, _) in tapes.split_whitespace().enumerate() {
+        if let Some(link) = dialer.link(place) {
+            let sent = digits(alloc, link.taken())?;
+            write!(text, "sent {sent}\n")?;
+        }
+    }
+    Ok(())
+}
+
+/// Adds the status, OUT, and what the links were sent.
+fn add_end(
+    alloc: Global,
+    text: &mut String,
+    ended: &Ended<MemSink, MemDisk, MemDialer>,
+    tapes: &str,
+) -> Result<(), AllocError> {
+    let (code, status) = (ended.status.code(), &ended.status);
+    write!(text, "status {code} {status:?}\n")?;
+    add_out(text, &ended.out)?;
+    add_sent(alloc, text, &ended.dialer, tapes)
+}
+
+/// Runs a life over devices in memory.
+fn lived<R: Threads + Wait + Sync>(
+    rt: &R,
+    alloc: Global,
+    life: Life<'_>,
+    disks: Disks,
+) -> Result<Ended<MemSink, MemDisk, MemDialer>, AllocError> {
+    let tapes = tapes_of(alloc, life.tapes)?;
+    let Streams { config, input, out } = streams_of(alloc, life)?;
+    let outside = SessionOutside {
+        config,
+        input,
+        out,
+        out_disk: disks.outbox,
+        in_disk: disks.inbox,
+        dialer: MemDialer::without_faults(alloc, tapes),
+        clock: MemClock::new(0),
     };
-    let (lines, disks) = journals(alloc, disks)?;
-    add_out(&mut text, &lines)?;
-    Ok(Taken { text, disks })
+    Ok(end_of(rt, alloc, life.role, outside))
+}
+
+/// Runs a life on these disks, which come back, and adds its status, OUT, what the links were sent, and the journals.
+pub fn add_life<R: Threads + Wait + Sync>(
+    rt: &R,
+    alloc: Global,
+    text: &mut String,
+    life: Life<'_>,
+    disks: Disks,
+) -> Result<Disks, AllocError> {
+    let ended = lived(rt, alloc, life, disks)?;
+    add_end(alloc, text, &ended, life.tapes)?;
+    let disks = Disks {
+        outbox: ended.out_disk,
+        inbox: ended.in_disk,
+    };
+    add_journals(alloc, text, disks)
 }

@@ -6,56 +6,63 @@
 mod disks;
 mod lives;
 
-use disks::{Disks, disks_of, journals};
-use lives::{Life, Taken, live};
+use disks::{Disks, disks_of};
+use lives::{Life, add_life};
 use session_command::Role;
 use std::alloc::{AllocError, Global};
 use std::sync::Wait;
 use std::thread::Threads;
 use std::{fs, io};
 
-/// A life of an end of this role, on these disks, which come back with what is to be printed.
-fn life_line<R: Threads + Wait + Sync>(
+/// Adds what a line of the cases shows: a line of disks makes them, and one of a life runs on those that stand, which come back.
+fn add_line<R: Threads + Wait + Sync>(
     rt: &R,
     alloc: Global,
-    role: Role,
+    text: &mut String,
     config: &str,
-    words: &str,
+    line: &str,
     disks: Disks,
-) -> Result<Taken, AllocError> {
-    let (input, tapes) = case_words::halves(words);
+) -> Result<Disks, AllocError> {
+    let (word, rest) = case_words::halves(line);
+    let role = match word {
+        "disks" => return disks_of(alloc, rest),
+        "connect" => Role::Initiator,
+        "accept" => Role::Acceptor,
+        _ => return Ok(disks),
+    };
+    let (input, tapes) = case_words::halves(rest);
     let life = Life {
         role,
         config,
         input,
         tapes,
     };
-    live(rt, alloc, life, disks)
+    add_life(rt, alloc, text, life, disks)
 }
 
-/// Prints what each line of the file of cases shows: a line of disks makes them, and any other runs on those that stand.
+/// Prints a line of the cases and what it shows; the disks that stand behind it come back.
+fn print_line<R: Print + AllocGlobal + Threads + Wait + Sync>(
+    rt: &R,
+    config: &str,
+    line: &str,
+    disks: Disks,
+) -> io::Result<Disks> {
+    rt.println(line)?;
+    let mut text = String::new(rt.alloc());
+    let disks = add_line(rt, rt.alloc(), &mut text, config, line, disks)?;
+    rt.print(text.as_str())?;
+    Ok(disks)
+}
+
+/// Prints what each line of the file of cases shows.
 fn print_cases<R: Print + AllocGlobal + Threads + Wait + Sync>(
     rt: &R,
     config: &str,
     cases: &str,
 ) -> io::Result<()> {
-    let alloc = rt.alloc();
-    let mut disks = disks_of(alloc, "")?;
+    let mut disks = disks_of(rt.alloc(), "")?;
     for line in cases.lines() {
-        rt.println(line)?;
-        let (word, rest) = case_words::halves(line);
-        let role = match word {
-            "disks" => {
-                disks = disks_of(alloc, rest)?;
-                continue;
-            }
-            "connect" => Role::Initiator,
-            "accept" => Role::Acceptor,
-            _ => continue,
-        };
-        let taken = life_line(rt, alloc, role, config, rest, disks)?;
-        rt.print(taken.text.as_str())?;
-        disks = taken.disks;
+        disks = print_line(rt, config, line, disks)?;
     }
     Ok(())
 }
