@@ -1,0 +1,6 @@
+pub mod Shapes
+pub mod Deciding
+pub mod Replying
+pub mod Opening
+pub mod Moving
+pub mod Phased
