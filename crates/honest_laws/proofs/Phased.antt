@@ -33,6 +33,7 @@ use Rattle.honest_laws.specs.Worlds.{World, Step, meets, initiator_reads, accept
 use Rattle.honest_laws.proofs.Shapes.{IsFree, IsFlowing, IsAsk, IsAnswer, IsAck, OneAtMost, AckFirst, none_of, one_behind, one_before, ack_behind, ack_before, all_free_flow, free_flows}
 use Rattle.honest_laws.proofs.Replying.{Peer, Left, Plain, shaken_reply}
 use Rattle.honest_laws.proofs.Opening.{Quiet, quiet_same, number_given, Spares, free_reply, Asked, answers, acknowledged, ask_reply, AsksAgain, answer_reply, Acknowledged, stands, lost, ack_reply}
+use Rattle.honest_laws.proofs.Finishing.{counts}
 use Rattle.honest_laws.proofs.Moving.{Reads, reads_as, Does, does_as}
 
 -- How far the two ends are: the handshake is asked for or answered, or neither is under way; it is acknowledged; it is done; or the
