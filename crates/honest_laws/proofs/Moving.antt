@@ -198,7 +198,7 @@ applied_free cfg [] = tt
 applied_free cfg (r ∷ runs) = (tt, applied_free cfg runs)
 
 -- the end of a turn
-abbrev turned : Bool → Around → Facts → List Range → Made
+abbrev pub turned : Bool → Around → Facts → List Range → Made
 turned b x f runs = if b then record { written = applied_runs runs ++ terminate x.config.session 1 [] ∷ []; next = in_phase f phases.Closing } else record { written = applied_runs runs; next = f }
 
 turning : (s : State) (now : ℕ) → Does s (step s (turn_done now)) (writes s (turn_done now))
@@ -229,7 +229,7 @@ turning s now = by_end (is_some s.ending) refl
     by_end false e = by_close (closes x s.facts) refl
 
 -- the outbox's finish
-abbrev told : Bool → Around → Facts → ℕ → Made
+abbrev pub told : Bool → Around → Facts → ℕ → Made
 told b x f last =
     if b then record { written = finished_sending x.config.session (if is_sequenced x.config.own_flow then Some last else None) ∷ []; next = own_finishing (outbox_finished f last) own.Told }
     else record { written = []; next = outbox_finished f last }

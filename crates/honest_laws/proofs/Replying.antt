@@ -27,9 +27,10 @@ use Rattle.fixp_replies.specs.declared.act.Ending.{Ending}
 use Rattle.fixp_replies.specs.declared.act.Ending.TheVariants as endings
 use Rattle.fixp_replies.specs.declared.facts.Facts.{Facts}
 use Rattle.fixp_replies.specs.declared.facts.PeerFinish.TheVariants as peer
+use Rattle.fixp_replies.specs.declared.facts.OwnFinish.{OwnFinish}
 use Rattle.fixp_replies.specs.declared.facts.OwnFinish.TheVariants as own
 use Rattle.fixp_replies.specs.Incoming.{Incoming, application, session}
-use Rattle.fixp_replies.specs.Facts.{Around, is_own, in_phase, receiving, requesting, serves, negotiated as as_negotiated, awaiting, gap_to_ask, having_asked, announced_number, expected_number, message_number, peer_last, awaits_gap, finishes_exchanged, live_number}
+use Rattle.fixp_replies.specs.Facts.{Around, is_own, in_phase, receiving, requesting, serves, negotiated as as_negotiated, awaiting, gap_to_ask, having_asked, announced_number, expected_number, message_number, peer_last, awaits_gap, finishes_exchanged, live_number, is_told}
 use Rattle.fixp_replies.specs.Outcomes.{Outcome, Row, row, within, goes_on, accepts, rejects, ignores, ends, breaks, not_in_phase, request_for, skip_of, told_skip, opening_negotiate, opening_establish}
 use Rattle.fixp_replies.specs.Announcing.{Announced, jumped_over, announced, announcement_fault, refuses, announcement_rows}
 use Rattle.fixp_replies.specs.Handshake.{awaits_client, rejects_negotiate, rejects_establish, established, acknowledges, negotiate_rows, establish_rows, shaken, negotiation_response_rows, negotiation_reject_rows, establishment_ack_rows, establishment_reject_rows}
@@ -42,6 +43,7 @@ use Rattle.connection_laws.specs.Writing.{Piece, said, entry, said_all}
 use Rattle.link_laws.specs.Reading.{incoming_of}
 use Rattle.honest_laws.specs.Laws.{IsLeft}
 use Rattle.honest_laws.proofs.Shapes.{IsFree, IsFlowing, IsAsk, IsAnswer, IsAck, OneAtMost, AckFirst}
+use Rattle.honest_laws.proofs.Finishing.{answers, tells, awaited}
 use Rattle.honest_laws.proofs.Deciding.{Decides, decided, decides_within, same_bytes, never}
 
 -- the peer of this end is in its session, and sends what it receives
@@ -231,63 +233,66 @@ sequence_plain x f next =
           (following x f g next (announced x g (Some next)) refl (announced_phase x g (Some next))),
     )
 
+untold : (q : OwnFinish) → is_told q ≡ false → 1 ≤ awaited q → ⊥
+untold own.Open e one = omega (arith, one)
+untold own.Told e one = true≢false e
+untold own.Exchanged e one = omega (arith, one)
+
 -- the reply to a Terminate, in any phase
 terminating : (x : Around) (f : Facts) (theirs : EndConfig) (id : List ℕ) (code : ℕ) (reason : List ℕ) → Peer x.config theirs → id ≡ theirs.session → Plain x.config f (answer_of x f (session (terminate id code reason)))
 terminating x f theirs id code reason are flows =
     heard (Plain x.config f) x f (session (terminate id code reason)) (foreign x id (flows ∙ are.session), λ _. (λ _. record { phase = refl; writes = (refl, tt); ends = λ w same. terminated_left (finishes_exchanged x f) code w same }, λ e. absurd (true≢false e)))
 
 -- the reply to a message that is written once the handshake is done, in Established
-answered : (x : Around) (f : Facts) (theirs : EndConfig) (p : Piece) → Peer x.config theirs → is_established f.connection.phase ≡ true → IsFlowing theirs p → Plain x.config f (answer_of x f (incoming_of p))
-answered x f theirs (entry payload) are here flows =
+answered : (x : Around) (f : Facts) (theirs : EndConfig) (p : Piece) → Peer x.config theirs → answers p ≤ tells f → is_established f.connection.phase ≡ true → IsFlowing theirs p → Plain x.config f (answer_of x f (incoming_of p))
+answered x f theirs (entry payload) are told here flows =
     heard (Plain x.config f) x f (application payload) (decides_within (Plain x.config f) (is_established f.connection.phase) (application_rows x f) here
     (application_plain x f (ap (λ flow. is_absent flow) are.flow ∙ flows)))
-answered x f theirs (said (negotiate id timestamp flow credentials)) are here flows = absurd flows
-answered x f theirs (said (negotiation_response id timestamp flow credentials)) are here flows = absurd flows
-answered x f theirs (said (negotiation_reject id timestamp code reason)) are here flows = absurd flows
-answered x f theirs (said (establish id timestamp keepalive next credentials)) are here flows = absurd flows
-answered x f theirs (said (establishment_ack id timestamp keepalive next)) are here flows = absurd flows
-answered x f theirs (said (establishment_reject id timestamp code reason)) are here flows = absurd flows
-answered x f theirs (said (sequence next)) are here flows =
+answered x f theirs (said (negotiate id timestamp flow credentials)) are told here flows = absurd flows
+answered x f theirs (said (negotiation_response id timestamp flow credentials)) are told here flows = absurd flows
+answered x f theirs (said (negotiation_reject id timestamp code reason)) are told here flows = absurd flows
+answered x f theirs (said (establish id timestamp keepalive next credentials)) are told here flows = absurd flows
+answered x f theirs (said (establishment_ack id timestamp keepalive next)) are told here flows = absurd flows
+answered x f theirs (said (establishment_reject id timestamp code reason)) are told here flows = absurd flows
+answered x f theirs (said (sequence next)) are told here flows =
     heard (Plain x.config f) x f (session (sequence next)) (decides_within (Plain x.config f) (is_established f.connection.phase) (sequence_rows x f next) here (sequence_plain x f next))
-answered x f theirs (said unsequenced_heartbeat) are here flows = going x f f acts.Nothing [] refl tt
-answered x f theirs (said (retransmit_request id timestamp first count)) are here flows =
+answered x f theirs (said unsequenced_heartbeat) are told here flows = going x f f acts.Nothing [] refl tt
+answered x f theirs (said (retransmit_request id timestamp first count)) are told here flows =
     heard (Plain x.config f) x f (session (retransmit_request id timestamp first count)) (decides_within (Plain x.config f) (is_established f.connection.phase) (retransmit_request_rows x f id timestamp first count) here (
-      λ _. breaking x f f 4 (NotInPhase 9 f.connection.phase) refl (inl refl, is_it_established f.connection.phase here),
+      λ _. breaking x f f 4 (NotInPhase 9 f.connection.phase) refl (refl, is_it_established f.connection.phase here),
       λ _. (λ _. requested x f id timestamp (judged (is_own x id) (is_recoverable x.config.own_flow) first count f.recorded.sent) (flows ∙ are.session), λ e. absurd (true≢false e)),
     ))
-answered x f theirs (said (retransmission id next timestamp count)) are here flows =
+answered x f theirs (said (retransmission id next timestamp count)) are told here flows =
     heard (Plain x.config f) x f (session (retransmission id next timestamp count)) (foreign x id (flows ∙ are.session), λ _. (decides_within (Plain x.config f) (is_established f.connection.phase) (retransmission_rows x f next count) here (
       λ _. bad x f (request_is.start_fault (request_is.outstanding f.connection.requester) next count),
       λ _. (λ _. going x f (restarted f next count) acts.Nothing [] refl tt, λ e. absurd (true≢false e)),
     )))
-answered x f theirs (said (retransmit_reject id timestamp code reason)) are here flows =
+answered x f theirs (said (retransmit_reject id timestamp code reason)) are told here flows =
     heard (Plain x.config f) x f (session (retransmit_reject id timestamp code reason)) (foreign x id (flows ∙ are.session), λ _. (decides_within (Plain x.config f) (is_established f.connection.phase) (retransmit_reject_rows x f) here (
       λ _. breaking x f f 2 _ refl tt,
       λ e. absurd (true≢false e),
     )))
-answered x f theirs (said (applied first count)) are here flows = going x f f acts.Nothing [] refl tt
-answered x f theirs (said (not_applied first count)) are here flows =
+answered x f theirs (said (applied first count)) are told here flows = going x f f acts.Nothing [] refl tt
+answered x f theirs (said (not_applied first count)) are told here flows =
     by_row (Plain x.config f) (is_idempotent x.config.own_flow) (goes_on x (acts.Told first count) [] f) (accepts x [] f)
     (λ _. going x f f (acts.Told first count) [] refl tt) (λ _. going x f f acts.Nothing [] refl tt)
-answered x f theirs (said (finished_sending id last)) are here flows =
+answered x f theirs (said (finished_sending id last)) are told here flows =
     heard (Plain x.config f) x f (session (finished_sending id last)) (foreign x id (flows.0 ∙ are.session), λ _. (decides_within (Plain x.config f) (is_established f.connection.phase) (finished_sending_rows x f last) here (
       λ _. refusing x f f (finish_fault x f last) refl (finish_left x f last (ap (λ flow. is_absent flow) are.flow ∙ flows.1) (λ n. flows.2 (ap (λ flow. is_sequenced flow) (sym are.flow) ∙ n))),
       λ _. (λ _. finishing x f (finished_last x last), λ e. absurd (true≢false e)),
     )))
-answered x f theirs (said (finished_receiving id)) are here flows =
-    all_rows (Plain x.config f) (not_in_phase x f 15) (of_session x f 15 id (within (is_established f.connection.phase) (finished_receiving_rows x f)))
-    (breaking x f f 2 (NotInPhase 15 f.connection.phase) refl (inr refl, is_it_established f.connection.phase here)) (
-      λ n. never (is_own x id) (same_bytes id x.config.session (flows ∙ are.session)) n,
-      λ _. all_within (Plain x.config f) (is_established f.connection.phase) (finished_receiving_rows x f) (λ _. (λ _. going x f (own_finishing f own.Exchanged) acts.Nothing [] refl tt, λ _. tt)),
-    )
-answered x f theirs (said (terminate id code reason)) are here flows = terminating x f theirs id code reason are flows
+answered x f theirs (said (finished_receiving id)) are told here flows =
+    heard (Plain x.config f) x f (session (finished_receiving id)) (foreign x id (flows ∙ are.session), λ _.
+        decides_within (Plain x.config f) (is_established f.connection.phase) (finished_receiving_rows x f) here
+        (λ _. going x f (own_finishing f own.Exchanged) acts.Nothing [] refl tt, λ n. absurd (untold f.connection.own_finish n told)))
+answered x f theirs (said (terminate id code reason)) are told here flows = terminating x f theirs id code reason are flows
 
 -- the reply to it once the handshake is done: an initiator that has written its Terminate ignores all but one
-pub shaken_reply : (x : Around) (f : Facts) (theirs : EndConfig) (p : Piece) → Peer x.config theirs → is_shaken f.connection.phase ≡ true → IsFlowing theirs p → Plain x.config f (reply_of x f (incoming_of p))
-shaken_reply x f theirs p are done flows =
+pub shaken_reply : (x : Around) (f : Facts) (theirs : EndConfig) (p : Piece) → Peer x.config theirs → answers p ≤ tells f → is_shaken f.connection.phase ≡ true → IsFlowing theirs p → Plain x.config f (reply_of x f (incoming_of p))
+shaken_reply x f theirs p are due done flows =
     by_row (Plain x.config f) (is_closing f.connection.phase && not (terminates x (incoming_of p))) (ignores f) (answer_of x f (incoming_of p))
     (λ _. ignoring x f f refl)
-    (λ e. told p flows e)
+    (λ e. hears p flows due e)
   where
     stands : (q : Phase) → is_shaken q ≡ true → (is_closing q && true) ≡ false → is_established q ≡ true
     stands phases.Idle s e = absurd (true≢false (sym s))
@@ -297,21 +302,21 @@ shaken_reply x f theirs p are done flows =
     stands phases.Closing s e = absurd (true≢false e)
     stands phases.Ended s e = absurd (true≢false (sym s))
 
-    told : (q : Piece) → IsFlowing theirs q → (is_closing f.connection.phase && not (terminates x (incoming_of q))) ≡ false → Plain x.config f (answer_of x f (incoming_of q))
-    told (entry payload) w e = answered x f theirs (entry payload) are (stands f.connection.phase done e) w
-    told (said (negotiate id timestamp flow credentials)) w e = absurd w
-    told (said (negotiation_response id timestamp flow credentials)) w e = absurd w
-    told (said (negotiation_reject id timestamp code reason)) w e = absurd w
-    told (said (establish id timestamp keepalive next credentials)) w e = absurd w
-    told (said (establishment_ack id timestamp keepalive next)) w e = absurd w
-    told (said (establishment_reject id timestamp code reason)) w e = absurd w
-    told (said (sequence next)) w e = answered x f theirs (said (sequence next)) are (stands f.connection.phase done e) w
-    told (said unsequenced_heartbeat) w e = answered x f theirs (said unsequenced_heartbeat) are (stands f.connection.phase done e) w
-    told (said (retransmit_request id timestamp first count)) w e = answered x f theirs (said (retransmit_request id timestamp first count)) are (stands f.connection.phase done e) w
-    told (said (retransmission id next timestamp count)) w e = answered x f theirs (said (retransmission id next timestamp count)) are (stands f.connection.phase done e) w
-    told (said (retransmit_reject id timestamp code reason)) w e = answered x f theirs (said (retransmit_reject id timestamp code reason)) are (stands f.connection.phase done e) w
-    told (said (applied first count)) w e = answered x f theirs (said (applied first count)) are (stands f.connection.phase done e) w
-    told (said (not_applied first count)) w e = answered x f theirs (said (not_applied first count)) are (stands f.connection.phase done e) w
-    told (said (finished_sending id last)) w e = answered x f theirs (said (finished_sending id last)) are (stands f.connection.phase done e) w
-    told (said (finished_receiving id)) w e = answered x f theirs (said (finished_receiving id)) are (stands f.connection.phase done e) w
-    told (said (terminate id code reason)) w e = terminating x f theirs id code reason are w
+    hears : (q : Piece) → IsFlowing theirs q → answers q ≤ tells f → (is_closing f.connection.phase && not (terminates x (incoming_of q))) ≡ false → Plain x.config f (answer_of x f (incoming_of q))
+    hears (entry payload) w d e = answered x f theirs (entry payload) are d (stands f.connection.phase done e) w
+    hears (said (negotiate id timestamp flow credentials)) w d e = absurd w
+    hears (said (negotiation_response id timestamp flow credentials)) w d e = absurd w
+    hears (said (negotiation_reject id timestamp code reason)) w d e = absurd w
+    hears (said (establish id timestamp keepalive next credentials)) w d e = absurd w
+    hears (said (establishment_ack id timestamp keepalive next)) w d e = absurd w
+    hears (said (establishment_reject id timestamp code reason)) w d e = absurd w
+    hears (said (sequence next)) w d e = answered x f theirs (said (sequence next)) are d (stands f.connection.phase done e) w
+    hears (said unsequenced_heartbeat) w d e = answered x f theirs (said unsequenced_heartbeat) are d (stands f.connection.phase done e) w
+    hears (said (retransmit_request id timestamp first count)) w d e = answered x f theirs (said (retransmit_request id timestamp first count)) are d (stands f.connection.phase done e) w
+    hears (said (retransmission id next timestamp count)) w d e = answered x f theirs (said (retransmission id next timestamp count)) are d (stands f.connection.phase done e) w
+    hears (said (retransmit_reject id timestamp code reason)) w d e = answered x f theirs (said (retransmit_reject id timestamp code reason)) are d (stands f.connection.phase done e) w
+    hears (said (applied first count)) w d e = answered x f theirs (said (applied first count)) are d (stands f.connection.phase done e) w
+    hears (said (not_applied first count)) w d e = answered x f theirs (said (not_applied first count)) are d (stands f.connection.phase done e) w
+    hears (said (finished_sending id last)) w d e = answered x f theirs (said (finished_sending id last)) are d (stands f.connection.phase done e) w
+    hears (said (finished_receiving id)) w d e = answered x f theirs (said (finished_receiving id)) are d (stands f.connection.phase done e) w
+    hears (said (terminate id code reason)) w d e = terminating x f theirs id code reason are w

@@ -1,5 +1,5 @@
 -- Which violations end no connection of two ends of one session.
-use Rattle.std.specs.Prelude.{◌≡◌, ⊤, ◌⊎◌, ℕ, List, Some}
+use Rattle.std.specs.Prelude.{◌≡◌, ⊤, ℕ, List, Some}
 use Rattle.session_model.specs.Journal.{Entry}
 use Rattle.fixp_shake.specs.declared.phase.Phase.TheVariants.{Established}
 use Rattle.fixp_shake.specs.declared.violation.Violation.{Violation}
@@ -9,11 +9,11 @@ use Rattle.reply_laws.specs.Machine.{State}
 use Rattle.honest_laws.specs.Worlds.{World, Step, world_after, AllMayStep, Starts}
 
 -- Of the violations these alone are left: of numbers, of a retransmission, behind a finish, of silence, and of a late handshake; and in
--- Established a second request while a range is served, and an answer to a finish that was not told
+-- Established a second request while a range is served
 abbrev pub IsLeft : Violation → Type 0
 IsLeft (BadFrame at) = ⊥
 IsLeft (UnknownTemplate id) = ⊥
-IsLeft (NotInPhase template phase) = ((template ≡ 9) ⊎ (template ≡ 15)) × (phase ≡ Established)
+IsLeft (NotInPhase template phase) = (template ≡ 9) × (phase ≡ Established)
 IsLeft (OtherSession template) = ⊥
 IsLeft (WentBack announced expected) = ⊤
 IsLeft (MissingNext template) = ⊥
