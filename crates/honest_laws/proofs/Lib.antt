@@ -1,6 +1,7 @@
 pub mod Shapes
 pub mod Deciding
 pub mod Finishing
+pub mod Asking
 pub mod Replying
 pub mod Opening
 pub mod Moving
