@@ -270,7 +270,7 @@ answered : (x : Around) (f : Facts) → is_some f.connection.serving ≡ false �
 answered x f free id timestamp (Ok range) = going x f (serves f (Some range)) 1 0 Same acts.Nothing (retransmission x.config.session range.from timestamp range.count ∷ []) refl (omega arith) (omega arith) refl refl
 answered x f free id timestamp (Err code) = staying f 1 _ (record { no_request = refl; no_restart = refl; no_turn = λ b. refl })
 
-at_most_one : (q : Request) → unanswered_of q ≤ 1
+pub at_most_one : (q : Request) → unanswered_of q ≤ 1
 at_most_one requests.Nothing = omega arith
 at_most_one (requests.Asked range) = omega arith
 at_most_one (requests.Coming range next left) = omega arith

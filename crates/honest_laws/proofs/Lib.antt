@@ -6,4 +6,5 @@ pub mod Replying
 pub mod Opening
 pub mod Moving
 pub mod Telling
+pub mod Serving
 pub mod Phased

@@ -33,7 +33,8 @@ use Rattle.honest_laws.specs.Worlds.{World, Step, meets, initiator_reads, accept
 use Rattle.honest_laws.proofs.Shapes.{IsFree, IsFlowing, IsAsk, IsAnswer, IsAck, OneAtMost, AckFirst, none_of, one_behind, one_before, ack_behind, ack_before, all_free_flow, free_flows}
 use Rattle.honest_laws.proofs.Replying.{Peer, Left, Plain, shaken_reply}
 use Rattle.honest_laws.proofs.Opening.{Quiet, quiet_same, number_given, Spares, free_reply, Asked, answers, acknowledged, ask_reply, AsksAgain, answer_reply, Acknowledged, stands, lost, ack_reply}
-use Rattle.honest_laws.proofs.Asking.{asks_of, closing_asks}
+use Rattle.honest_laws.proofs.Asking.{asks, restarts, unanswered, inside, coming, is_serving}
+use Rattle.honest_laws.proofs.Serving.{Requests, asked_by_reader, asked_by_writer, free_for, served_by_writer, served_by_reader, serves_as}
 use Rattle.honest_laws.proofs.Finishing.{counts, total, sendings, answers as answer_count, waiting, reads, tells}
 use Rattle.honest_laws.proofs.Telling.{Awaits, read_by_reader, read_by_writer, due, told_by_writer, told_by_reader, tells_as}
 use Rattle.honest_laws.proofs.Moving.{Reads, reads_as, Does, does_as}
