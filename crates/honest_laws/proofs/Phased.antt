@@ -1,6 +1,7 @@
 -- The phases of the two ends and what is under way between them, over any steps.
 use Rattle.std.proofs.Common.{◌≡◌, ◌⊎◌, inl, inr, ℕ, ◌+◌, ◌≤◌, ◌&&◌, not, Bool, true, false, if◌then◌else◌, List, [], ◌∷◌, ◌++◌, Option, Some, None, refl, sym, ap, subst, ◌∙◌, arith, true≢false}
-use Rattle.std.specs.Prelude.{⊤, IsSome}
+use Rattle.std.specs.Prelude.{⊤, is_some, IsSome}
+use Rattle.flow_retrans.specs.Requests.{is_coming}
 use Rattle.std.specs.List.{AllByRecursion}
 use Rattle.session_model.specs.Journal.{Entry}
 use Rattle.session_model.proofs.Lists.{all_append}
@@ -65,6 +66,8 @@ pub record Holds (w : World) : Type 0 where
   pub shaking : Shaking w.initiator.config w.acceptor.config w.initiator.facts w.initiator.ending w.acceptor.facts w.outward w.homeward
   pub outward_finish : Awaits w.initiator.facts w.acceptor.facts w.outward w.homeward
   pub homeward_finish : Awaits w.acceptor.facts w.initiator.facts w.homeward w.outward
+  pub outward_requests : Requests w.initiator.facts w.acceptor.facts w.acceptor.ending w.outward w.homeward
+  pub homeward_requests : Requests w.acceptor.facts w.initiator.facts w.initiator.ending w.homeward w.outward
 
 to_acceptor : (i a : EndConfig) → Match i a → Peer a i
 to_acceptor i a m = record { session = sym m.session; flow = m.outward }
@@ -95,28 +98,28 @@ unshaken p q e h = ap (λ r. is_shaken r) e ∙ h
 abbrev Replied : EndConfig → Facts → Option Ending → List Piece → List Piece → EndConfig → Outcome → Type 0
 Replied ci fi ei left homeward ca o = Shaking ci ca fi ei o.next left (homeward ++ said_all o.written) × Left o
 
-acceptor_hears : (ci : EndConfig) (fi : Facts) (ei : Option Ending) (x : Around) (fa : Facts) (p : Piece) (left homeward : List Piece) → Match ci x.config → answer_count p ≤ tells fa
+acceptor_hears : (ci : EndConfig) (fi : Facts) (ei : Option Ending) (x : Around) (fa : Facts) (p : Piece) (left homeward : List Piece) → Match ci x.config → answer_count p ≤ tells fa → (1 ≤ asks p → is_serving fa ≡ false)
     → Shaking ci x.config fi ei fa (p ∷ left) homeward → Replied ci fi ei left homeward x.config (reply_of x fa (incoming_of p))
-acceptor_hears ci fi ei x fa p left homeward m told (opens bi qi idle qa (inl one) free) =
+acceptor_hears ci fi ei x fa p left homeward m told unserved (opens bi qi idle qa (inl one) free) =
     by_reply (ask_reply x fa ci fi.connection.phase p (to_acceptor ci x.config m) (sym m.credentials) m.keepalive (waits_for_client x.config.role fa.connection.phase m.accepts idle) (unshaken fa.connection.phase phases.Idle idle refl) qa one.0)
   where
     by_reply : Asked x.config fi.connection.phase fa (reply_of x fa (incoming_of p)) → Replied ci fi ei left homeward x.config (reply_of x fa (incoming_of p))
     by_reply (answers same quiet some l) = (answering bi qi (same ∙ idle) quiet one.1 (one_behind x.config (IsAnswer x.config fi.connection.phase) homeward _ free some), l)
     by_reply (acknowledged e now first l) = (acknowledging e qi now one.1 (ack_behind x.config homeward _ free first), l)
-acceptor_hears ci fi ei x fa p left homeward m told (opens bi qi idle qa (inr more) free) =
+acceptor_hears ci fi ei x fa p left homeward m told unserved (opens bi qi idle qa (inr more) free) =
     let r = free_reply x fa ci p (to_acceptor ci x.config m) qa more.0 in
     (opens bi qi (ap (λ f. f.connection.phase) r.same ∙ idle) (subst (λ (f : Facts). Quiet f) (sym r.same) qa) more.1 (all_append (IsFree x.config) homeward _ free r.writes), r.ends)
-acceptor_hears ci fi ei x fa p left homeward m told (answering bi qi idle qa free one) =
+acceptor_hears ci fi ei x fa p left homeward m told unserved (answering bi qi idle qa free one) =
     let r = free_reply x fa ci p (to_acceptor ci x.config m) qa free.0 in
     (answering bi qi (ap (λ f. f.connection.phase) r.same ∙ idle) (subst (λ (f : Facts). Quiet f) (sym r.same) qa) free.1 (one_before x.config (IsAnswer x.config fi.connection.phase) homeward _ one r.writes), r.ends)
-acceptor_hears ci fi ei x fa p left homeward m told (acknowledging e qi est free first) =
-    let r = shaken_reply x fa ci p (to_acceptor ci x.config m) told (ap (λ q. is_shaken q) est) (free_flows ci p free.0) in
+acceptor_hears ci fi ei x fa p left homeward m told unserved (acknowledging e qi est free first) =
+    let r = shaken_reply x fa ci p (to_acceptor ci x.config m) told unserved (ap (λ q. is_shaken q) est) (free_flows ci p free.0) in
     (acknowledging e qi (r.phase ∙ est) free.1 (ack_before x.config homeward _ first r.writes), r.ends)
-acceptor_hears ci fi ei x fa p left homeward m told (standing done est out home) =
-    let r = shaken_reply x fa ci p (to_acceptor ci x.config m) told (ap (λ q. is_shaken q) est) out.0 in
+acceptor_hears ci fi ei x fa p left homeward m told unserved (standing done est out home) =
+    let r = shaken_reply x fa ci p (to_acceptor ci x.config m) told unserved (ap (λ q. is_shaken q) est) out.0 in
     (standing done (r.phase ∙ est) out.1 (all_append (IsFlowing x.config) homeward _ home r.writes), r.ends)
-acceptor_hears ci fi ei x fa p left homeward m told (refusing over bi qi est free) =
-    let r = shaken_reply x fa ci p (to_acceptor ci x.config m) told (ap (λ q. is_shaken q) est) (free_flows ci p free.0) in
+acceptor_hears ci fi ei x fa p left homeward m told unserved (refusing over bi qi est free) =
+    let r = shaken_reply x fa ci p (to_acceptor ci x.config m) told unserved (ap (λ q. is_shaken q) est) (free_flows ci p free.0) in
     (refusing over bi qi (r.phase ∙ est) free.1, r.ends)
 
 -- and the initiator the first one to it, where its connection has not ended
@@ -127,32 +130,32 @@ no_ending : (e : Option Ending) → e ≡ None → IsSome e → ⊥
 no_ending None same h = true≢false (sym h)
 no_ending (Some a) same h = cc same
 
-initiator_hears : (x : Around) (fi : Facts) (ei : Option Ending) (ca : EndConfig) (fa : Facts) (p : Piece) (outward left : List Piece) → Match x.config ca → answer_count p ≤ tells fi → ei ≡ None
+initiator_hears : (x : Around) (fi : Facts) (ei : Option Ending) (ca : EndConfig) (fa : Facts) (p : Piece) (outward left : List Piece) → Match x.config ca → answer_count p ≤ tells fi → (1 ≤ asks p → is_serving fi ≡ false) → ei ≡ None
     → Shaking x.config ca fi ei fa outward (p ∷ left) → Resolved ca fa outward left x.config (reply_of x fi (incoming_of p))
-initiator_hears x fi ei ca fa p outward left m told going (opens bi qi idle qa one free) =
+initiator_hears x fi ei ca fa p outward left m told unserved going (opens bi qi idle qa one free) =
     let r = free_reply x fi ca p (to_initiator x.config ca m) qi free.0 in
     (opens (ap (λ f. is_shaken f.connection.phase) r.same ∙ bi) (subst (λ (f : Facts). Quiet f) (sym r.same) qi) idle qa
     (subst (λ (f : Facts). OneAtMost x.config (IsAsk x.config f.connection.phase) (outward ++ said_all (reply_of x fi (incoming_of p)).written)) (sym r.same) (one_before x.config (IsAsk x.config fi.connection.phase) outward _ one r.writes)) free.1, r.ends)
-initiator_hears x fi ei ca fa p outward left m told going (answering bi qi idle qa free (inl one)) =
+initiator_hears x fi ei ca fa p outward left m told unserved going (answering bi qi idle qa free (inl one)) =
     let r = answer_reply x fi ca fi.connection.phase p (to_initiator x.config ca m) refl bi qi one.0 in
     (opens r.before r.quiet idle qa (one_behind x.config _ outward _ free r.writes) one.1, r.ends)
-initiator_hears x fi ei ca fa p outward left m told going (answering bi qi idle qa free (inr more)) =
+initiator_hears x fi ei ca fa p outward left m told unserved going (answering bi qi idle qa free (inr more)) =
     let r = free_reply x fi ca p (to_initiator x.config ca m) qi more.0 in
     (answering (ap (λ f. is_shaken f.connection.phase) r.same ∙ bi) (subst (λ (f : Facts). Quiet f) (sym r.same) qi) idle qa (all_append (IsFree x.config) outward _ free r.writes)
     (subst (λ (f : Facts). OneAtMost ca (IsAnswer ca f.connection.phase) left) (sym r.same) more.1), r.ends)
-initiator_hears x fi ei ca fa p outward left m told going (acknowledging e qi est free (inl first)) =
+initiator_hears x fi ei ca fa p outward left m told unserved going (acknowledging e qi est free (inl first)) =
     by_reply (ack_reply x fi ca p (to_initiator x.config ca m) e (unshaken fi.connection.phase phases.Establishing e refl) first.0)
   where
     by_reply : Acknowledged x.config fi (reply_of x fi (incoming_of p)) → Resolved ca fa outward left x.config (reply_of x fi (incoming_of p))
     by_reply (stands now w l) = (standing (ap (λ q. is_shaken q) now) est (all_append (IsFlowing x.config) outward _ (all_free_flow x.config outward free) w) first.1, l)
     by_reply (lost over same w l) = (refusing over (ap (λ f. is_shaken f.connection.phase) same ∙ unshaken fi.connection.phase phases.Establishing e refl) (subst (λ (f : Facts). Quiet f) (sym same) qi) est (all_append (IsFree x.config) outward _ free w), l)
-initiator_hears x fi ei ca fa p outward left m told going (acknowledging e qi est free (inr more)) =
+initiator_hears x fi ei ca fa p outward left m told unserved going (acknowledging e qi est free (inr more)) =
     let r = free_reply x fi ca p (to_initiator x.config ca m) qi more.0 in
     (acknowledging (ap (λ f. f.connection.phase) r.same ∙ e) (subst (λ (f : Facts). Quiet f) (sym r.same) qi) est (all_append (IsFree x.config) outward _ free r.writes) more.1, r.ends)
-initiator_hears x fi ei ca fa p outward left m told going (standing done est out home) =
-    let r = shaken_reply x fi ca p (to_initiator x.config ca m) told done home.0 in
+initiator_hears x fi ei ca fa p outward left m told unserved going (standing done est out home) =
+    let r = shaken_reply x fi ca p (to_initiator x.config ca m) told unserved done home.0 in
     (standing (ap (λ q. is_shaken q) r.phase ∙ done) est (all_append (IsFlowing x.config) outward _ out r.writes) home.1, r.ends)
-initiator_hears x fi ei ca fa p outward left m told going (refusing over bi qi est free) = absurd (no_ending ei going over)
+initiator_hears x fi ei ca fa p outward left m told unserved going (refusing over bi qi est free) = absurd (no_ending ei going over)
 
 -- the initiator has another call
 initiator_does_so : (s t : State) (out : List Piece) (ca : EndConfig) (fa : Facts) (outward homeward : List Piece) → Does s t out → Shaking s.config ca s.facts s.ending fa outward homeward
@@ -205,6 +208,11 @@ record Unfinished (m : Made) : Type 0 where
   sends : total sendings (said_all m.written) ≡ 0
   answers_none : total answer_count (said_all m.written) ≡ 0
   unread : reads m.next ≡ 0
+  asks_none : total asks (said_all m.written) ≡ 0
+  restarts_none : total restarts (said_all m.written) ≡ 0
+  stays : inside false (said_all m.written) ≡ false
+  none_coming : coming m.next ≡ false
+  none_served : is_serving m.next ≡ false
 
 record Opened (c : EndConfig) (m : Made) : Type 0 where
   before : is_shaken m.next.connection.phase ≡ false
@@ -220,9 +228,9 @@ initiator_begins x recorded role = by_case (is_initiator x.config.role) recorded
       before = refl;
       quiet = quiet_beginning recorded phases.Establishing;
       asks = inl ((refl, refl, (λ n. number_given (is_sequenced x.config.own_flow) (recorded.sent + 1) n), refl), tt);
-      fresh = record { sends = refl; answers_none = refl; unread = refl };
+      fresh = record { sends = refl; answers_none = refl; unread = refl; asks_none = refl; restarts_none = refl; stays = refl; none_coming = refl; none_served = refl };
     }
-    by_case true false e = record { before = refl; quiet = quiet_beginning recorded phases.Negotiating; asks = inl ((refl, refl, refl), tt); fresh = record { sends = refl; answers_none = refl; unread = refl } }
+    by_case true false e = record { before = refl; quiet = quiet_beginning recorded phases.Negotiating; asks = inl ((refl, refl, refl), tt); fresh = record { sends = refl; answers_none = refl; unread = refl; asks_none = refl; restarts_none = refl; stays = refl; none_coming = refl; none_served = refl } }
     by_case false n e = absurd (true≢false (sym e))
 
 record Waits (c : EndConfig) (m : Made) : Type 0 where
@@ -235,7 +243,7 @@ acceptor_begins : (x : Around) (recorded : EndState) → is_initiator x.config.r
 acceptor_begins x recorded role = by_case (is_initiator x.config.role) recorded.negotiated role
   where
     by_case : (i n : Bool) → i ≡ false → Waits x.config (begun_as x recorded i n)
-    by_case false n e = record { idle = refl; quiet = quiet_beginning recorded phases.Idle; silent = tt; fresh = record { sends = refl; answers_none = refl; unread = refl } }
+    by_case false n e = record { idle = refl; quiet = quiet_beginning recorded phases.Idle; silent = tt; fresh = record { sends = refl; answers_none = refl; unread = refl; asks_none = refl; restarts_none = refl; stays = refl; none_coming = refl; none_served = refl } }
     by_case true n e = absurd (true≢false e)
 
 no_violation : (e : Option Ending) → e ≡ None → (v : Violation) → e ≡ Some (endings.Violation v) → IsLeft v
@@ -243,6 +251,16 @@ no_violation e none v is = absurd (cc (none, is))
 
 unfinished : (m n : Made) → Unfinished m → Unfinished n → Awaits m.next n.next (said_all m.written) (said_all n.written)
 unfinished m n a b = let e = a.sends in let k = b.answers_none in let r = b.unread in record { once = omega (arith, e, k, r) }
+
+unasked : (m n : Made) → Unfinished m → Unfinished n → Requests m.next n.next None (said_all m.written) (said_all n.written)
+unasked m n a b =
+    let e = a.restarts_none in
+    let k = b.asks_none in
+    record {
+      once = omega (arith, e, k);
+      free = λ some. a.none_served;
+      even = λ _ _. ap (λ c. inside c (said_all m.written)) b.none_coming ∙ (a.stays ∙ sym a.none_served);
+    }
 
 holds_meeting : (w : World) (now_i now_a : ℕ) → Holds w → Holds (after w (meets now_i now_a))
 holds_meeting w now_i now_a h =
@@ -255,6 +273,8 @@ holds_meeting w now_i now_a h =
       shaking = opens i.before i.quiet a.idle a.quiet i.asks a.silent;
       outward_finish = unfinished (begun (around w.initiator 0 now_i) w.initiator.facts.recorded) (begun (around w.acceptor 0 now_a) w.acceptor.facts.recorded) i.fresh a.fresh;
       homeward_finish = unfinished (begun (around w.acceptor 0 now_a) w.acceptor.facts.recorded) (begun (around w.initiator 0 now_i) w.initiator.facts.recorded) a.fresh i.fresh;
+      outward_requests = unasked (begun (around w.initiator 0 now_i) w.initiator.facts.recorded) (begun (around w.acceptor 0 now_a) w.acceptor.facts.recorded) i.fresh a.fresh;
+      homeward_requests = unasked (begun (around w.acceptor 0 now_a) w.acceptor.facts.recorded) (begun (around w.initiator 0 now_i) w.initiator.facts.recorded) a.fresh i.fresh;
     }
 
 -- what holds with these parts holds with equal ones
@@ -269,10 +289,12 @@ initiator_reading w (p ∷ left) at now e h going =
     let o : Outcome = reply_of (around s at now) s.facts (incoming_of p) in
     let rd = reads_as s p at now in
     let sh = subst (λ (way : List Piece). Shaking s.config w.acceptor.config s.facts s.ending w.acceptor.facts w.outward way) e h.shaking in
+    let out_asks = subst (λ (way : List Piece). Requests s.facts w.acceptor.facts w.acceptor.ending w.outward way) e h.outward_requests in
+    let home_asks = subst (λ (way : List Piece). Requests w.acceptor.facts s.facts s.ending way w.outward) e h.homeward_requests in
     let out_way = subst (λ (way : List Piece). Awaits s.facts w.acceptor.facts w.outward way) e h.outward_finish in
     let home_way = subst (λ (way : List Piece). Awaits w.acceptor.facts s.facts way w.outward) e h.homeward_finish in
     let c = counts (around s at now) s.facts p in
-    let r = initiator_hears (around s at now) s.facts s.ending w.acceptor.config w.acceptor.facts p w.outward left h.matches (due s.facts w.acceptor.facts p w.outward left out_way) going.going sh in
+    let r = initiator_hears (around s at now) s.facts s.ending w.acceptor.config w.acceptor.facts p w.outward left h.matches (due s.facts w.acceptor.facts p w.outward left out_way) (free_for s.facts w.acceptor.facts w.acceptor.ending p w.outward left out_asks) going.going sh in
     let k = keeps_replying (around s at now) s.facts s.ending (incoming_of p) h.initiator r.1 in
     record {
       matches = subst (λ (c : EndConfig). Match c w.acceptor.config) (sym rd.config) h.matches;
@@ -281,19 +303,25 @@ initiator_reading w (p ∷ left) at now e h going =
       shaking = carried (λ c f g out. Shaking c w.acceptor.config f g w.acceptor.facts (w.outward ++ out) left) rd.config rd.facts rd.ending rd.writes r.0;
       outward_finish = carried (λ c f g out. Awaits f w.acceptor.facts (w.outward ++ out) left) rd.config rd.facts rd.ending rd.writes (read_by_writer s.facts w.acceptor.facts p w.outward left o out_way c);
       homeward_finish = carried (λ c f g out. Awaits w.acceptor.facts f left (w.outward ++ out)) rd.config rd.facts rd.ending rd.writes (read_by_reader w.acceptor.facts s.facts p left w.outward o home_way c);
+      outward_requests = carried (λ c f g out. Requests f w.acceptor.facts w.acceptor.ending (w.outward ++ out) left) rd.config rd.facts rd.ending rd.writes
+          (asked_by_writer (around s at now) s.facts w.acceptor.facts w.acceptor.ending p w.outward left out_asks);
+      homeward_requests = carried (λ c f g out. Requests w.acceptor.facts f g left (w.outward ++ out)) rd.config rd.facts rd.ending rd.writes
+          (asked_by_reader w.acceptor.facts (around s at now) s.facts s.ending p left w.outward going.going home_asks);
     }
 
-acceptor_reading : (w : World) (way : List Piece) (at now : ℕ) → w.outward ≡ way → Holds w → Holds (acceptor_read w way at now)
-acceptor_reading w [] at now e h = h
-acceptor_reading w (p ∷ left) at now e h =
+acceptor_reading : (w : World) (way : List Piece) (at now : ℕ) → w.outward ≡ way → Holds w → IsOpen w.acceptor → Holds (acceptor_read w way at now)
+acceptor_reading w [] at now e h going = h
+acceptor_reading w (p ∷ left) at now e h going =
     let s = w.acceptor in
     let rd = reads_as s p at now in
     let sh = subst (λ (way : List Piece). Shaking w.initiator.config s.config w.initiator.facts w.initiator.ending s.facts way w.homeward) e h.shaking in
     let o : Outcome = reply_of (around s at now) s.facts (incoming_of p) in
+    let out_asks = subst (λ (way : List Piece). Requests w.initiator.facts s.facts s.ending way w.homeward) e h.outward_requests in
+    let home_asks = subst (λ (way : List Piece). Requests s.facts w.initiator.facts w.initiator.ending w.homeward way) e h.homeward_requests in
     let out_way = subst (λ (way : List Piece). Awaits w.initiator.facts s.facts way w.homeward) e h.outward_finish in
     let home_way = subst (λ (way : List Piece). Awaits s.facts w.initiator.facts w.homeward way) e h.homeward_finish in
     let c = counts (around s at now) s.facts p in
-    let r = acceptor_hears w.initiator.config w.initiator.facts w.initiator.ending (around s at now) s.facts p left w.homeward h.matches (due s.facts w.initiator.facts p w.homeward left home_way) sh in
+    let r = acceptor_hears w.initiator.config w.initiator.facts w.initiator.ending (around s at now) s.facts p left w.homeward h.matches (due s.facts w.initiator.facts p w.homeward left home_way) (free_for s.facts w.initiator.facts w.initiator.ending p w.homeward left home_asks) sh in
     let k = keeps_replying (around s at now) s.facts s.ending (incoming_of p) h.acceptor r.1 in
     record {
       matches = subst (λ (c : EndConfig). Match w.initiator.config c) (sym rd.config) h.matches;
@@ -302,12 +330,16 @@ acceptor_reading w (p ∷ left) at now e h =
       shaking = carried (λ c f g out. Shaking w.initiator.config c w.initiator.facts w.initiator.ending f left (w.homeward ++ out)) rd.config rd.facts rd.ending rd.writes r.0;
       outward_finish = carried (λ c f g out. Awaits w.initiator.facts f left (w.homeward ++ out)) rd.config rd.facts rd.ending rd.writes (read_by_reader w.initiator.facts s.facts p left w.homeward o out_way c);
       homeward_finish = carried (λ c f g out. Awaits f w.initiator.facts (w.homeward ++ out) left) rd.config rd.facts rd.ending rd.writes (read_by_writer s.facts w.initiator.facts p w.homeward left o home_way c);
+      outward_requests = carried (λ c f g out. Requests w.initiator.facts f g left (w.homeward ++ out)) rd.config rd.facts rd.ending rd.writes
+          (asked_by_reader w.initiator.facts (around s at now) s.facts s.ending p left w.homeward going.going out_asks);
+      homeward_requests = carried (λ c f g out. Requests f w.initiator.facts w.initiator.ending (w.homeward ++ out) left) rd.config rd.facts rd.ending rd.writes
+          (asked_by_writer (around s at now) s.facts w.initiator.facts w.initiator.ending p w.homeward left home_asks);
     }
 
 holds_step : (hi ha : List Entry) (w : World) (step : Step) → Holds w → MayStep hi ha w step → Holds (after w step)
 holds_step hi ha w (meets now_i now_a) h may = holds_meeting w now_i now_a h
 holds_step hi ha w (initiator_reads at now) h may = initiator_reading w w.homeward at now refl h may
-holds_step hi ha w (acceptor_reads at now) h may = acceptor_reading w w.outward at now refl h
+holds_step hi ha w (acceptor_reads at now) h may = acceptor_reading w w.outward at now refl h may
 holds_step hi ha w (initiator_does call) h may =
     let d = does_as hi w.initiator call may.0 may.1 h.initiator.serves in
     let t = run w.initiator (call ∷ []) in
@@ -319,6 +351,8 @@ holds_step hi ha w (initiator_does call) h may =
           (initiator_does_so w.initiator t (written w.initiator (call ∷ [])) w.acceptor.config w.acceptor.facts w.outward w.homeward d h.shaking);
       outward_finish = told_by_writer w.initiator.facts t.facts w.acceptor.facts w.outward w.homeward (written w.initiator (call ∷ [])) h.outward_finish (tells_as hi w.initiator call may.0);
       homeward_finish = told_by_reader w.acceptor.facts w.initiator.facts t.facts w.homeward w.outward (written w.initiator (call ∷ [])) h.homeward_finish (tells_as hi w.initiator call may.0);
+      outward_requests = served_by_writer w.initiator t w.acceptor.facts w.acceptor.ending w.outward w.homeward (written w.initiator (call ∷ [])) h.outward_requests (serves_as hi w.initiator call may.0);
+      homeward_requests = served_by_reader w.acceptor.facts w.initiator t w.homeward w.outward (written w.initiator (call ∷ [])) d.over h.homeward_requests (serves_as hi w.initiator call may.0);
     }
 holds_step hi ha w (acceptor_does call) h may =
     let d = does_as ha w.acceptor call may.0 may.1 h.acceptor.serves in
@@ -331,6 +365,8 @@ holds_step hi ha w (acceptor_does call) h may =
           (acceptor_does_so w.acceptor t (written w.acceptor (call ∷ [])) w.initiator.config w.initiator.facts w.initiator.ending w.outward w.homeward (ap (λ r. is_initiator r) h.matches.accepts) d h.shaking);
       outward_finish = told_by_reader w.initiator.facts w.acceptor.facts t.facts w.outward w.homeward (written w.acceptor (call ∷ [])) h.outward_finish (tells_as ha w.acceptor call may.0);
       homeward_finish = told_by_writer w.acceptor.facts t.facts w.initiator.facts w.homeward w.outward (written w.acceptor (call ∷ [])) h.homeward_finish (tells_as ha w.acceptor call may.0);
+      outward_requests = served_by_reader w.initiator.facts w.acceptor t w.outward w.homeward (written w.acceptor (call ∷ [])) d.over h.outward_requests (serves_as ha w.acceptor call may.0);
+      homeward_requests = served_by_writer w.acceptor t w.initiator.facts w.initiator.ending w.homeward w.outward (written w.acceptor (call ∷ [])) h.homeward_requests (serves_as ha w.acceptor call may.0);
     }
 
 holds_after : (hi ha : List Entry) (w : World) (steps : List Step) → Holds w → AllMayStep hi ha w steps → Holds (world_after w steps)
@@ -339,6 +375,11 @@ holds_after hi ha w (step ∷ later) h may = holds_after hi ha (after w step) la
 
 nothing_told : (f g : Facts) (way back : List Piece) → reads g ≡ 0 → way ≡ [] → back ≡ [] → Awaits f g way back
 nothing_told f g way back e none no_more = subst (λ (ps : List Piece). Awaits f g ps back) (sym none) (subst (λ (ps : List Piece). Awaits f g [] ps) (sym no_more) (record { once = omega (arith, e) }))
+
+nothing_asked : (f g : Facts) (e : Option Ending) (way back : List Piece) → is_serving f ≡ false → coming g ≡ false → way ≡ [] → back ≡ [] → Requests f g e way back
+nothing_asked f g e way back served comes none no_more =
+    subst (λ (ps : List Piece). Requests f g e ps back) (sym none) (subst (λ (ps : List Piece). Requests f g e [] ps) (sym no_more)
+    (record { once = omega arith; free = λ _. served; even = λ _ _. comes ∙ sym served }))
 
 holds_at_first : (w : World) → Starts w → Holds w
 holds_at_first w st =
@@ -355,6 +396,8 @@ holds_at_first w st =
           (subst (λ (way : List Piece). AllByRecursion (IsFree w.acceptor.config) way) (sym st.homeward) tt);
       outward_finish = nothing_told w.initiator.facts w.acceptor.facts w.outward w.homeward (ap (λ c. waiting c.peer_finish) fa) st.outward st.homeward;
       homeward_finish = nothing_told w.acceptor.facts w.initiator.facts w.homeward w.outward (ap (λ c. waiting c.peer_finish) fi) st.homeward st.outward;
+      outward_requests = nothing_asked w.initiator.facts w.acceptor.facts w.acceptor.ending w.outward w.homeward (ap (λ c. is_some c.serving) fi) (ap (λ c. is_coming c.requester) fa) st.outward st.homeward;
+      homeward_requests = nothing_asked w.acceptor.facts w.initiator.facts w.initiator.ending w.homeward w.outward (ap (λ c. is_some c.serving) fa) (ap (λ c. is_coming c.requester) fi) st.homeward st.outward;
     }
 
 pub phases_hold : PhasesHold

@@ -44,6 +44,7 @@ use Rattle.link_laws.specs.Reading.{incoming_of}
 use Rattle.honest_laws.specs.Laws.{IsLeft}
 use Rattle.honest_laws.proofs.Shapes.{IsFree, IsFlowing, IsAsk, IsAnswer, IsAck, OneAtMost, AckFirst}
 use Rattle.honest_laws.proofs.Finishing.{answers, tells, awaited}
+use Rattle.honest_laws.proofs.Asking.{asks, is_serving}
 use Rattle.honest_laws.proofs.Deciding.{Decides, decided, decides_within, same_bytes, never}
 
 -- the peer of this end is in its session, and sends what it receives
@@ -194,17 +195,6 @@ finishing x f n = by_row (Plain x.config f) (is_some (receiver_is.gap f.connecti
     (λ _. going x f (peer_finished f (peer.Read n) f.recorded.peer_last) acts.Nothing [] refl tt)
     (λ _. answering x f f n refl)
 
-is_it_established : (p : Phase) → is_established p ≡ true → p ≡ phases.Established
-is_it_established phases.Idle e = absurd (true≢false (sym e))
-is_it_established phases.Negotiating e = absurd (true≢false (sym e))
-is_it_established phases.Establishing e = absurd (true≢false (sym e))
-is_it_established phases.Established e = refl
-is_it_established phases.Closing e = absurd (true≢false (sym e))
-is_it_established phases.Ended e = absurd (true≢false (sym e))
-
-ends_here : (P : Type 0) → true ≡ false → P
-ends_here P e = absurd (true≢false e)
-
 application_plain : (x : Around) (f : Facts) → is_absent x.config.peer_flow ≡ false → Decides (Plain x.config f) (application_rows x f)
 application_plain x f present = (
   λ absent. absurd (true≢false (sym absent ∙ present)),
@@ -244,55 +234,55 @@ terminating x f theirs id code reason are flows =
     heard (Plain x.config f) x f (session (terminate id code reason)) (foreign x id (flows ∙ are.session), λ _. (λ _. record { phase = refl; writes = (refl, tt); ends = λ w same. terminated_left (finishes_exchanged x f) code w same }, λ e. absurd (true≢false e)))
 
 -- the reply to a message that is written once the handshake is done, in Established
-answered : (x : Around) (f : Facts) (theirs : EndConfig) (p : Piece) → Peer x.config theirs → answers p ≤ tells f → is_established f.connection.phase ≡ true → IsFlowing theirs p → Plain x.config f (answer_of x f (incoming_of p))
-answered x f theirs (entry payload) are told here flows =
+answered : (x : Around) (f : Facts) (theirs : EndConfig) (p : Piece) → Peer x.config theirs → answers p ≤ tells f → (1 ≤ asks p → is_serving f ≡ false) → is_established f.connection.phase ≡ true → IsFlowing theirs p → Plain x.config f (answer_of x f (incoming_of p))
+answered x f theirs (entry payload) are told free here flows =
     heard (Plain x.config f) x f (application payload) (decides_within (Plain x.config f) (is_established f.connection.phase) (application_rows x f) here
     (application_plain x f (ap (λ flow. is_absent flow) are.flow ∙ flows)))
-answered x f theirs (said (negotiate id timestamp flow credentials)) are told here flows = absurd flows
-answered x f theirs (said (negotiation_response id timestamp flow credentials)) are told here flows = absurd flows
-answered x f theirs (said (negotiation_reject id timestamp code reason)) are told here flows = absurd flows
-answered x f theirs (said (establish id timestamp keepalive next credentials)) are told here flows = absurd flows
-answered x f theirs (said (establishment_ack id timestamp keepalive next)) are told here flows = absurd flows
-answered x f theirs (said (establishment_reject id timestamp code reason)) are told here flows = absurd flows
-answered x f theirs (said (sequence next)) are told here flows =
+answered x f theirs (said (negotiate id timestamp flow credentials)) are told free here flows = absurd flows
+answered x f theirs (said (negotiation_response id timestamp flow credentials)) are told free here flows = absurd flows
+answered x f theirs (said (negotiation_reject id timestamp code reason)) are told free here flows = absurd flows
+answered x f theirs (said (establish id timestamp keepalive next credentials)) are told free here flows = absurd flows
+answered x f theirs (said (establishment_ack id timestamp keepalive next)) are told free here flows = absurd flows
+answered x f theirs (said (establishment_reject id timestamp code reason)) are told free here flows = absurd flows
+answered x f theirs (said (sequence next)) are told free here flows =
     heard (Plain x.config f) x f (session (sequence next)) (decides_within (Plain x.config f) (is_established f.connection.phase) (sequence_rows x f next) here (sequence_plain x f next))
-answered x f theirs (said unsequenced_heartbeat) are told here flows = going x f f acts.Nothing [] refl tt
-answered x f theirs (said (retransmit_request id timestamp first count)) are told here flows =
+answered x f theirs (said unsequenced_heartbeat) are told free here flows = going x f f acts.Nothing [] refl tt
+answered x f theirs (said (retransmit_request id timestamp first count)) are told free here flows =
     heard (Plain x.config f) x f (session (retransmit_request id timestamp first count)) (decides_within (Plain x.config f) (is_established f.connection.phase) (retransmit_request_rows x f id timestamp first count) here (
-      λ _. breaking x f f 4 (NotInPhase 9 f.connection.phase) refl (refl, is_it_established f.connection.phase here),
+      λ busy. absurd (true≢false (sym busy ∙ free (omega arith))),
       λ _. (λ _. requested x f id timestamp (judged (is_own x id) (is_recoverable x.config.own_flow) first count f.recorded.sent) (flows ∙ are.session), λ e. absurd (true≢false e)),
     ))
-answered x f theirs (said (retransmission id next timestamp count)) are told here flows =
+answered x f theirs (said (retransmission id next timestamp count)) are told free here flows =
     heard (Plain x.config f) x f (session (retransmission id next timestamp count)) (foreign x id (flows ∙ are.session), λ _. (decides_within (Plain x.config f) (is_established f.connection.phase) (retransmission_rows x f next count) here (
       λ _. bad x f (request_is.start_fault (request_is.outstanding f.connection.requester) next count),
       λ _. (λ _. going x f (restarted f next count) acts.Nothing [] refl tt, λ e. absurd (true≢false e)),
     )))
-answered x f theirs (said (retransmit_reject id timestamp code reason)) are told here flows =
+answered x f theirs (said (retransmit_reject id timestamp code reason)) are told free here flows =
     heard (Plain x.config f) x f (session (retransmit_reject id timestamp code reason)) (foreign x id (flows ∙ are.session), λ _. (decides_within (Plain x.config f) (is_established f.connection.phase) (retransmit_reject_rows x f) here (
       λ _. breaking x f f 2 _ refl tt,
       λ e. absurd (true≢false e),
     )))
-answered x f theirs (said (applied first count)) are told here flows = going x f f acts.Nothing [] refl tt
-answered x f theirs (said (not_applied first count)) are told here flows =
+answered x f theirs (said (applied first count)) are told free here flows = going x f f acts.Nothing [] refl tt
+answered x f theirs (said (not_applied first count)) are told free here flows =
     by_row (Plain x.config f) (is_idempotent x.config.own_flow) (goes_on x (acts.Told first count) [] f) (accepts x [] f)
     (λ _. going x f f (acts.Told first count) [] refl tt) (λ _. going x f f acts.Nothing [] refl tt)
-answered x f theirs (said (finished_sending id last)) are told here flows =
+answered x f theirs (said (finished_sending id last)) are told free here flows =
     heard (Plain x.config f) x f (session (finished_sending id last)) (foreign x id (flows.0 ∙ are.session), λ _. (decides_within (Plain x.config f) (is_established f.connection.phase) (finished_sending_rows x f last) here (
       λ _. refusing x f f (finish_fault x f last) refl (finish_left x f last (ap (λ flow. is_absent flow) are.flow ∙ flows.1) (λ n. flows.2 (ap (λ flow. is_sequenced flow) (sym are.flow) ∙ n))),
       λ _. (λ _. finishing x f (finished_last x last), λ e. absurd (true≢false e)),
     )))
-answered x f theirs (said (finished_receiving id)) are told here flows =
+answered x f theirs (said (finished_receiving id)) are told free here flows =
     heard (Plain x.config f) x f (session (finished_receiving id)) (foreign x id (flows ∙ are.session), λ _.
         decides_within (Plain x.config f) (is_established f.connection.phase) (finished_receiving_rows x f) here
         (λ _. going x f (own_finishing f own.Exchanged) acts.Nothing [] refl tt, λ n. absurd (untold f.connection.own_finish n told)))
-answered x f theirs (said (terminate id code reason)) are told here flows = terminating x f theirs id code reason are flows
+answered x f theirs (said (terminate id code reason)) are told free here flows = terminating x f theirs id code reason are flows
 
 -- the reply to it once the handshake is done: an initiator that has written its Terminate ignores all but one
-pub shaken_reply : (x : Around) (f : Facts) (theirs : EndConfig) (p : Piece) → Peer x.config theirs → answers p ≤ tells f → is_shaken f.connection.phase ≡ true → IsFlowing theirs p → Plain x.config f (reply_of x f (incoming_of p))
-shaken_reply x f theirs p are due done flows =
+pub shaken_reply : (x : Around) (f : Facts) (theirs : EndConfig) (p : Piece) → Peer x.config theirs → answers p ≤ tells f → (1 ≤ asks p → is_serving f ≡ false) → is_shaken f.connection.phase ≡ true → IsFlowing theirs p → Plain x.config f (reply_of x f (incoming_of p))
+shaken_reply x f theirs p are due free done flows =
     by_row (Plain x.config f) (is_closing f.connection.phase && not (terminates x (incoming_of p))) (ignores f) (answer_of x f (incoming_of p))
     (λ _. ignoring x f f refl)
-    (λ e. hears p flows due e)
+    (λ e. hears p flows due free e)
   where
     stands : (q : Phase) → is_shaken q ≡ true → (is_closing q && true) ≡ false → is_established q ≡ true
     stands phases.Idle s e = absurd (true≢false (sym s))
@@ -302,21 +292,21 @@ shaken_reply x f theirs p are due done flows =
     stands phases.Closing s e = absurd (true≢false e)
     stands phases.Ended s e = absurd (true≢false (sym s))
 
-    hears : (q : Piece) → IsFlowing theirs q → answers q ≤ tells f → (is_closing f.connection.phase && not (terminates x (incoming_of q))) ≡ false → Plain x.config f (answer_of x f (incoming_of q))
-    hears (entry payload) w d e = answered x f theirs (entry payload) are d (stands f.connection.phase done e) w
-    hears (said (negotiate id timestamp flow credentials)) w d e = absurd w
-    hears (said (negotiation_response id timestamp flow credentials)) w d e = absurd w
-    hears (said (negotiation_reject id timestamp code reason)) w d e = absurd w
-    hears (said (establish id timestamp keepalive next credentials)) w d e = absurd w
-    hears (said (establishment_ack id timestamp keepalive next)) w d e = absurd w
-    hears (said (establishment_reject id timestamp code reason)) w d e = absurd w
-    hears (said (sequence next)) w d e = answered x f theirs (said (sequence next)) are d (stands f.connection.phase done e) w
-    hears (said unsequenced_heartbeat) w d e = answered x f theirs (said unsequenced_heartbeat) are d (stands f.connection.phase done e) w
-    hears (said (retransmit_request id timestamp first count)) w d e = answered x f theirs (said (retransmit_request id timestamp first count)) are d (stands f.connection.phase done e) w
-    hears (said (retransmission id next timestamp count)) w d e = answered x f theirs (said (retransmission id next timestamp count)) are d (stands f.connection.phase done e) w
-    hears (said (retransmit_reject id timestamp code reason)) w d e = answered x f theirs (said (retransmit_reject id timestamp code reason)) are d (stands f.connection.phase done e) w
-    hears (said (applied first count)) w d e = answered x f theirs (said (applied first count)) are d (stands f.connection.phase done e) w
-    hears (said (not_applied first count)) w d e = answered x f theirs (said (not_applied first count)) are d (stands f.connection.phase done e) w
-    hears (said (finished_sending id last)) w d e = answered x f theirs (said (finished_sending id last)) are d (stands f.connection.phase done e) w
-    hears (said (finished_receiving id)) w d e = answered x f theirs (said (finished_receiving id)) are d (stands f.connection.phase done e) w
-    hears (said (terminate id code reason)) w d e = terminating x f theirs id code reason are w
+    hears : (q : Piece) → IsFlowing theirs q → answers q ≤ tells f → (1 ≤ asks q → is_serving f ≡ false) → (is_closing f.connection.phase && not (terminates x (incoming_of q))) ≡ false → Plain x.config f (answer_of x f (incoming_of q))
+    hears (entry payload) w d n e = answered x f theirs (entry payload) are d n (stands f.connection.phase done e) w
+    hears (said (negotiate id timestamp flow credentials)) w d n e = absurd w
+    hears (said (negotiation_response id timestamp flow credentials)) w d n e = absurd w
+    hears (said (negotiation_reject id timestamp code reason)) w d n e = absurd w
+    hears (said (establish id timestamp keepalive next credentials)) w d n e = absurd w
+    hears (said (establishment_ack id timestamp keepalive next)) w d n e = absurd w
+    hears (said (establishment_reject id timestamp code reason)) w d n e = absurd w
+    hears (said (sequence next)) w d n e = answered x f theirs (said (sequence next)) are d n (stands f.connection.phase done e) w
+    hears (said unsequenced_heartbeat) w d n e = answered x f theirs (said unsequenced_heartbeat) are d n (stands f.connection.phase done e) w
+    hears (said (retransmit_request id timestamp first count)) w d n e = answered x f theirs (said (retransmit_request id timestamp first count)) are d n (stands f.connection.phase done e) w
+    hears (said (retransmission id next timestamp count)) w d n e = answered x f theirs (said (retransmission id next timestamp count)) are d n (stands f.connection.phase done e) w
+    hears (said (retransmit_reject id timestamp code reason)) w d n e = answered x f theirs (said (retransmit_reject id timestamp code reason)) are d n (stands f.connection.phase done e) w
+    hears (said (applied first count)) w d n e = answered x f theirs (said (applied first count)) are d n (stands f.connection.phase done e) w
+    hears (said (not_applied first count)) w d n e = answered x f theirs (said (not_applied first count)) are d n (stands f.connection.phase done e) w
+    hears (said (finished_sending id last)) w d n e = answered x f theirs (said (finished_sending id last)) are d n (stands f.connection.phase done e) w
+    hears (said (finished_receiving id)) w d n e = answered x f theirs (said (finished_receiving id)) are d n (stands f.connection.phase done e) w
+    hears (said (terminate id code reason)) w d n e = terminating x f theirs id code reason are w

@@ -1,19 +1,17 @@
 -- Which violations end no connection of two ends of one session.
 use Rattle.std.specs.Prelude.{◌≡◌, ⊤, ℕ, List, Some}
 use Rattle.session_model.specs.Journal.{Entry}
-use Rattle.fixp_shake.specs.declared.phase.Phase.TheVariants.{Established}
 use Rattle.fixp_shake.specs.declared.violation.Violation.{Violation}
 use Rattle.fixp_shake.specs.declared.violation.Violation.TheVariants.{BadFrame, UnknownTemplate, NotInPhase, OtherSession, WentBack, MissingNext, NumberTooLarge, BadRetransmission, AfterFinish, FlowNone, Silent, HandshakeLate}
 use Rattle.fixp_replies.specs.declared.act.Ending.TheVariants as endings
 use Rattle.reply_laws.specs.Machine.{State}
 use Rattle.honest_laws.specs.Worlds.{World, Step, world_after, AllMayStep, Starts}
 
--- Of the violations these alone are left: of numbers, of a retransmission, behind a finish, of silence, and of a late handshake; and in
--- Established a second request while a range is served
+-- of the violations these alone are left: of numbers, of a retransmission, behind a finish, of silence, and of a late handshake
 abbrev pub IsLeft : Violation → Type 0
 IsLeft (BadFrame at) = ⊥
 IsLeft (UnknownTemplate id) = ⊥
-IsLeft (NotInPhase template phase) = (template ≡ 9) × (phase ≡ Established)
+IsLeft (NotInPhase template phase) = ⊥
 IsLeft (OtherSession template) = ⊥
 IsLeft (WentBack announced expected) = ⊤
 IsLeft (MissingNext template) = ⊥
