@@ -8,3 +8,4 @@ pub mod Moving
 pub mod Telling
 pub mod Serving
 pub mod Phased
+pub mod Sampled

@@ -3,5 +3,7 @@
 #![tactic(auto)]
 
 mod phases;
+mod samples;
 
 pub use phases::phases_hold;
+pub use samples::session_sample;
