@@ -2,7 +2,9 @@ pub mod Shapes
 pub mod Deciding
 pub mod Finishing
 pub mod Asking
+pub mod Numbers
 pub mod Replying
+pub mod Lining
 pub mod Opening
 pub mod Moving
 pub mod Telling

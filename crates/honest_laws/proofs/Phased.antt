@@ -36,6 +36,8 @@ use Rattle.honest_laws.proofs.Replying.{Peer, Left, Plain, shaken_reply}
 use Rattle.honest_laws.proofs.Opening.{Quiet, quiet_same, number_given, Spares, free_reply, Asked, answers, acknowledged, ask_reply, AsksAgain, answer_reply, Acknowledged, stands, lost, ack_reply}
 use Rattle.honest_laws.proofs.Asking.{asks, restarts, unanswered, inside, coming, is_serving}
 use Rattle.honest_laws.proofs.Serving.{Requests, asked_by_reader, asked_by_writer, free_for, served_by_writer, served_by_reader, serves_as}
+use Rattle.honest_laws.proofs.Numbers.{Runs}
+use Rattle.honest_laws.proofs.Lining.{Line}
 use Rattle.honest_laws.proofs.Finishing.{counts, total, sendings, answers as answer_count, waiting, reads, tells}
 use Rattle.honest_laws.proofs.Telling.{Awaits, read_by_reader, read_by_writer, due, told_by_writer, told_by_reader, tells_as}
 use Rattle.honest_laws.proofs.Moving.{Reads, reads_as, Does, does_as}
