@@ -1,8 +1,8 @@
 pub mod Shapes
 pub mod Deciding
 pub mod Finishing
-pub mod Asking
 pub mod Numbers
+pub mod Asking
 pub mod Replying
 pub mod Lining
 pub mod Opening

@@ -309,13 +309,13 @@ following x g next a b l h =
     (λ _. going x a.facts (skip_of a.skipped) (told_skip a.skipped) b l h))
 
 -- The reader of a recoverable flow
-record Before (x : Around) (f : Facts) (p : Piece) : Type 0 where
-  recoverable : is_recoverable x.config.peer_flow ≡ true
-  line : Line f
-  fits : Fits p f.connection.receiver.live (left_of f.connection.requester)
-  top : bound_after p f.connection.receiver.live (left_of f.connection.requester) ≤ x.most + 1
+pub record Before (x : Around) (f : Facts) (p : Piece) : Type 0 where
+  pub recoverable : is_recoverable x.config.peer_flow ≡ true
+  pub line : Line f
+  pub fits : Fits p f.connection.receiver.live (left_of f.connection.requester)
+  pub top : bound_after p f.connection.receiver.live (left_of f.connection.requester) ≤ x.most + 1
 
-abbrev After : Facts → Piece → Outcome → Type 0
+abbrev pub After : Facts → Piece → Outcome → Type 0
 After f p o = Lined (bound_after p f.connection.receiver.live (left_of f.connection.requester)) (left_after p (left_of f.connection.requester)) o
 
 -- nothing of it moves
@@ -419,7 +419,7 @@ finishing x f n line = by_row (Lined f.connection.receiver.live (left_of f.conne
     (λ _. passing x f (peer_finished f (peer.Exchanged n) (Some (unwrap_or f.recorded.peer_last n))) _ (finished_receiving x.config.session ∷ []) line refl refl refl)
 
 -- the reply in Established of a reader of a recoverable flow
-recoverable_reply : (x : Around) (f : Facts) (theirs : EndConfig) (p : Piece) → Peer x.config theirs → is_established f.connection.phase ≡ true → IsFlowing theirs p → Before x f p → After f p (answer_of x f (incoming_of p))
+pub recoverable_reply : (x : Around) (f : Facts) (theirs : EndConfig) (p : Piece) → Peer x.config theirs → is_established f.connection.phase ≡ true → IsFlowing theirs p → Before x f p → After f p (answer_of x f (incoming_of p))
 recoverable_reply x f theirs (entry payload) are now flows k =
     heard (After f (entry payload)) x f (application payload) (decides_within (After f (entry payload)) (is_established f.connection.phase) (application_rows x f) now (message_lined x f payload k))
 recoverable_reply x f theirs (said (negotiate id timestamp flow credentials)) are now flows k = absurd flows
@@ -462,5 +462,176 @@ recoverable_reply x f theirs (said (finished_receiving id)) are now flows k =
     (foreign x id (flows ∙ are.session), λ _. all_within P (is_established f.connection.phase) (finished_receiving_rows x f) (λ _. (λ _. passing x f (own_finishing f own.Exchanged) acts.Nothing [] k.line refl refl refl, λ _. tt)))
 recoverable_reply x f theirs (said (terminate id code reason)) are now flows k =
     let P = Lined f.connection.receiver.live (left_of f.connection.requester) in
+    heard P x f (session (terminate id code reason)) (foreign x id (flows ∙ are.session), λ _.
+        (λ _. record { fine = λ w same. terminated_fine (finishes_exchanged x f) code w same; next = λ none. absurd cc }, λ e. absurd (true≢false e)))
+
+-- The reader of another flow
+pub record Rests (f : Facts) (b : ℕ) : Type 0 where
+  pub idle : Idle f
+  pub bound : f.recorded.inbox_next ≤ b
+
+pub record Other (b : ℕ) (o : Outcome) : Type 0 where
+  pub fine : InNumbers o
+  pub next : o.ending ≡ None → Rests o.next b
+
+asks_none : (f : Facts) → receiver_is.gap f.connection.receiver ≡ None → gap_to_ask f ≡ None
+asks_none f e = by_test (is_none (request_is.outstanding f.connection.requester))
+  where
+    by_test : (b : Bool) → (if b then receiver_is.gap f.connection.receiver else None) ≡ None
+    by_test true = e
+    by_test false = refl
+
+rests : (x : Around) (g : Facts) (act : Act) (written : List Message) (b : ℕ) → Rests g b → Other b (goes_on x act written g)
+rests x g act written b h = record { fine = no_violation; next = λ _. subst (λ (r : Option Range). Rests (having_asked g r) b) (sym (asks_none g h.idle.even)) h }
+
+stops : (x : Around) (f : Facts) (code : ℕ) (v : Violation) (b : ℕ) → NotNumber v → Other b (ends x f code (endings.Violation v))
+stops x f code v b h = record { fine = λ w e. fine_of (finishes_exchanged x f) v w e h; next = λ none. absurd cc }
+
+bad_other : (x : Around) (f : Facts) (k : Option BadStart) (b : ℕ) → is_some k ≡ true → Other b (bad_retransmission x f k)
+bad_other x f None b some = absurd (true≢false (sym some))
+bad_other x f (Some k) b some = stops x f 2 _ b tt
+
+refusing_other : (x : Around) (f : Facts) (v : Option Violation) (b : ℕ) → is_some v ≡ true → ((w : Violation) → v ≡ Some w → NotNumber w) → Other b (refuses x f v)
+refusing_other x f None b some h = absurd (true≢false (sym some))
+refusing_other x f (Some v) b some h = stops x f 2 v b (h v refl)
+
+pub record BeforeOther (x : Around) (f : Facts) (p : Piece) : Type 0 where
+  pub other : is_recoverable x.config.peer_flow ≡ false
+  pub idle : Idle f
+  pub fits : Fits p f.recorded.inbox_next None
+  pub top : bound_after p f.recorded.inbox_next None ≤ x.most + 1
+
+rest : (f : Facts) → Idle f → Rests f f.recorded.inbox_next
+rest f idle = record { idle = idle; bound = omega arith }
+
+message_rests : (x : Around) (f : Facts) (payload : List ℕ) → BeforeOther x f (entry payload) → Decides (Other (f.recorded.inbox_next + 1)) (application_rows x f)
+message_rests x f payload k =
+    let b : ℕ = f.recorded.inbox_next + 1 in
+    (
+      λ _. stops x f 2 _ b tt,
+      λ _. (
+        λ _. stops x f 2 _ b tt,
+        λ _. (
+          λ large. absurd (true≢false (sym large ∙ not_less x.most (message_number x f) low)),
+          λ _. (
+            λ _. rests x (awaiting f (f.recorded.inbox_next + 1)) (acts.Apply f.recorded.inbox_next) [] b (record { idle = record { even = k.idle.even; none = k.idle.none }; bound = omega arith }),
+            λ rec. absurd (true≢false (sym (ap not k.other) ∙ rec)),
+          ),
+        ),
+      ),
+    )
+  where
+    low : message_number x f ≤ x.most
+    low = subst (λ (r : Bool). (if r then receiver_is.number f.connection.receiver else f.recorded.inbox_next) ≤ x.most) (sym k.other) (let top = k.top in omega (arith, top))
+
+following_other : (x : Around) (g : Facts) (next : ℕ) (a : Announced) (b : ℕ) → Rests a.facts b → Other b (sequence_follows x g next a)
+following_other x g next a b h =
+    by_row (Other b) (is_past_finish x g next) (breaks x g (AfterFinish (unwrap_or (peer_last g) 0) next)) (sequence_taken x a)
+    (λ _. stops x g 2 _ b tt)
+    (λ _. by_row (Other b) (is_filled a.facts) (answers_finish x a.facts (unwrap_or (awaits_gap a.facts.connection.peer_finish) 0)) (goes_on x (skip_of a.skipped) (told_skip a.skipped) a.facts)
+    (λ _. rests x (peer_finished a.facts (peer.Exchanged (unwrap_or (awaits_gap a.facts.connection.peer_finish) 0)) (Some (unwrap_or a.facts.recorded.peer_last (unwrap_or (awaits_gap a.facts.connection.peer_finish) 0)))) _ (finished_receiving x.config.session ∷ []) b
+        (record { idle = record { even = h.idle.even; none = h.idle.none }; bound = h.bound }))
+    (λ _. rests x a.facts (skip_of a.skipped) (told_skip a.skipped) b h))
+
+pub announced_rests : (x : Around) (g : Facts) (next : Option ℕ) (b : ℕ) → is_recoverable x.config.peer_flow ≡ false → Idle g → g.recorded.inbox_next ≤ b → (is_idempotent x.config.peer_flow ≡ true → unwrap_or next 0 ≤ b)
+    → Rests (announced x g next).facts b
+announced_rests x g next b other idle low high = by_flow (is_recoverable x.config.peer_flow) (is_idempotent x.config.peer_flow) other high
+  where
+    chosen : (r i : Bool) → Announced
+    chosen r i = if r then record { facts = receiving g (receiver_is.announced g.connection.receiver (unwrap_or next 0)); skipped = None }
+        else if i then record { facts = awaiting g (unwrap_or next 0); skipped = jumped_over g.recorded.inbox_next (unwrap_or next 0) }
+        else record { facts = g; skipped = None }
+
+    by_flow : (r i : Bool) → r ≡ false → (i ≡ true → unwrap_or next 0 ≤ b) → Rests (chosen r i).facts b
+    by_flow true i e h = absurd (true≢false e)
+    by_flow false true e h = record { idle = record { even = idle.even; none = idle.none }; bound = h refl }
+    by_flow false false e h = record { idle = idle; bound = low }
+
+sequence_rests : (x : Around) (f : Facts) (next : ℕ) → BeforeOther x f (said (sequence next)) → Decides (Other next) (sequence_rows x f next)
+sequence_rests x f next k =
+    (
+      λ some. bad_other x f (request_is.sequence_fault f.connection.requester) next some,
+      λ _. (
+        λ some. refusing_other x g (announcement_fault x g 7 (Some next)) next some
+            (number_fault x g 7 (Some next) (not_less (x.most + 1) next k.top) (not_less next (expected_number x g) high)),
+        λ _. (λ _. following_other x g next (announced x g (Some next)) next (announced_rests x g (Some next) next k.other idle k.fits.0 (λ _. omega arith)), λ e. absurd (true≢false e)),
+      ),
+    )
+  where
+    g : Facts
+    g = requesting f (request_is.after_sequence f.connection.requester)
+
+    idle : Idle g
+    idle = record { even = k.idle.even; none = ap (λ q. request_is.after_sequence q) k.idle.none }
+
+    high : expected_number x g ≤ next
+    high = subst (λ (r : Bool). (if r then receiver_is.expected f.connection.receiver else f.recorded.inbox_next) ≤ next) (sym k.other) k.fits.0
+
+passing_other : (x : Around) (f g : Facts) (act : Act) (written : List Message) → Idle f → g.connection.receiver ≡ f.connection.receiver → g.connection.requester ≡ f.connection.requester
+    → g.recorded.inbox_next ≡ f.recorded.inbox_next → Other f.recorded.inbox_next (goes_on x act written g)
+passing_other x f g act written idle r q n = rests x g act written f.recorded.inbox_next
+    (record { idle = record { even = ap (λ k. receiver_is.gap k) r ∙ idle.even; none = q ∙ idle.none }; bound = omega (arith, n) })
+
+requested_other : (x : Around) (f : Facts) (id : List ℕ) (timestamp : ℕ) (r : Result Range RetransmitCode) → Idle f → Other f.recorded.inbox_next (request_answered x f id timestamp r)
+requested_other x f id timestamp (Ok range) idle = passing_other x f (serves f (Some range)) acts.Nothing (retransmission x.config.session range.from timestamp range.count ∷ []) idle refl refl refl
+requested_other x f id timestamp (Err code) idle = record { fine = no_violation; next = λ _. rest f idle }
+
+finishing_other : (x : Around) (f : Facts) (n : ℕ) → Idle f → Other f.recorded.inbox_next (finished x f n)
+finishing_other x f n idle = by_row (Other f.recorded.inbox_next) (is_some (receiver_is.gap f.connection.receiver)) (accepts x [] (peer_finished f (peer.Read n) f.recorded.peer_last)) (answers_finish x f n)
+    (λ _. passing_other x f (peer_finished f (peer.Read n) f.recorded.peer_last) acts.Nothing [] idle refl refl refl)
+    (λ _. passing_other x f (peer_finished f (peer.Exchanged n) (Some (unwrap_or f.recorded.peer_last n))) _ (finished_receiving x.config.session ∷ []) idle refl refl refl)
+
+never_starts : (q : Request) (next count : ℕ) → q ≡ requests.Nothing → is_some (request_is.start_fault (request_is.outstanding q) next count) ≡ true
+never_starts q next count e = ap (λ k. is_some (request_is.start_fault (request_is.outstanding k) next count)) e
+
+-- the reply in Established of a reader of a flow that is not recoverable
+pub other_reply : (x : Around) (f : Facts) (theirs : EndConfig) (p : Piece) → Peer x.config theirs → is_established f.connection.phase ≡ true → IsFlowing theirs p → BeforeOther x f p
+    → Other (bound_after p f.recorded.inbox_next None) (answer_of x f (incoming_of p))
+other_reply x f theirs (entry payload) are now flows k =
+    let P = Other (f.recorded.inbox_next + 1) in
+    heard P x f (application payload) (decides_within P (is_established f.connection.phase) (application_rows x f) now (message_rests x f payload k))
+other_reply x f theirs (said (negotiate id timestamp flow credentials)) are now flows k = absurd flows
+other_reply x f theirs (said (negotiation_response id timestamp flow credentials)) are now flows k = absurd flows
+other_reply x f theirs (said (negotiation_reject id timestamp code reason)) are now flows k = absurd flows
+other_reply x f theirs (said (establish id timestamp keepalive next credentials)) are now flows k = absurd flows
+other_reply x f theirs (said (establishment_ack id timestamp keepalive next)) are now flows k = absurd flows
+other_reply x f theirs (said (establishment_reject id timestamp code reason)) are now flows k = absurd flows
+other_reply x f theirs (said (sequence next)) are now flows k =
+    heard (Other next) x f (session (sequence next)) (decides_within (Other next) (is_established f.connection.phase) (sequence_rows x f next) now (sequence_rests x f next k))
+other_reply x f theirs (said unsequenced_heartbeat) are now flows k = passing_other x f f acts.Nothing [] k.idle refl refl refl
+other_reply x f theirs (said (retransmit_request id timestamp first count)) are now flows k =
+    let P = Other f.recorded.inbox_next in
+    heard P x f (session (retransmit_request id timestamp first count)) (decides_within P (is_established f.connection.phase) (retransmit_request_rows x f id timestamp first count) now (
+      λ _. stops x f 4 _ f.recorded.inbox_next tt,
+      λ _. (λ _. requested_other x f id timestamp (judged (is_own x id) (is_recoverable x.config.own_flow) first count f.recorded.sent) k.idle, λ e. absurd (true≢false e)),
+    ))
+other_reply x f theirs (said (retransmission id next timestamp count)) are now flows k =
+    let P = Other f.recorded.inbox_next in
+    heard P x f (session (retransmission id next timestamp count)) (foreign x id (flows ∙ are.session), λ _.
+        decides_within P (is_established f.connection.phase) (retransmission_rows x f next count) now (
+          λ some. bad_other x f (request_is.start_fault (request_is.outstanding f.connection.requester) next count) f.recorded.inbox_next some,
+          λ fits. absurd (true≢false (sym (never_starts f.connection.requester next count k.idle.none) ∙ fits)),
+        ))
+other_reply x f theirs (said (retransmit_reject id timestamp code reason)) are now flows k =
+    let P = Other f.recorded.inbox_next in
+    heard P x f (session (retransmit_reject id timestamp code reason)) (foreign x id (flows ∙ are.session), λ _.
+        decides_within P (is_established f.connection.phase) (retransmit_reject_rows x f) now (λ _. stops x f 2 _ f.recorded.inbox_next tt, λ e. absurd (true≢false e)))
+other_reply x f theirs (said (applied first count)) are now flows k = passing_other x f f acts.Nothing [] k.idle refl refl refl
+other_reply x f theirs (said (not_applied first count)) are now flows k =
+    by_row (Other f.recorded.inbox_next) (is_idempotent x.config.own_flow) (goes_on x (acts.Told first count) [] f) (accepts x [] f)
+    (λ _. passing_other x f f (acts.Told first count) [] k.idle refl refl refl) (λ _. passing_other x f f acts.Nothing [] k.idle refl refl refl)
+other_reply x f theirs (said (finished_sending id last)) are now flows k =
+    let P = Other f.recorded.inbox_next in
+    heard P x f (session (finished_sending id last)) (foreign x id (flows.0 ∙ are.session), λ _.
+        decides_within P (is_established f.connection.phase) (finished_sending_rows x f last) now (
+          λ some. refusing_other x f (finish_fault x f last) f.recorded.inbox_next some (finish_fine x f last),
+          λ _. (λ _. finishing_other x f (finished_last x last) k.idle, λ e. absurd (true≢false e)),
+        ))
+other_reply x f theirs (said (finished_receiving id)) are now flows k =
+    let P = Other f.recorded.inbox_next in
+    all_rows P (not_in_phase x f 15) (rows_of x f (session (finished_receiving id))) (stops x f 2 _ f.recorded.inbox_next tt)
+    (foreign x id (flows ∙ are.session), λ _. all_within P (is_established f.connection.phase) (finished_receiving_rows x f) (λ _. (λ _. passing_other x f (own_finishing f own.Exchanged) acts.Nothing [] k.idle refl refl refl, λ _. tt)))
+other_reply x f theirs (said (terminate id code reason)) are now flows k =
+    let P = Other f.recorded.inbox_next in
     heard P x f (session (terminate id code reason)) (foreign x id (flows ∙ are.session), λ _.
         (λ _. record { fine = λ w same. terminated_fine (finishes_exchanged x f) code w same; next = λ none. absurd cc }, λ e. absurd (true≢false e)))
