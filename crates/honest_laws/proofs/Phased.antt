@@ -353,8 +353,8 @@ holds_step hi ha w (initiator_does call) h may =
           (initiator_does_so w.initiator t (written w.initiator (call ∷ [])) w.acceptor.config w.acceptor.facts w.outward w.homeward d h.shaking);
       outward_finish = told_by_writer w.initiator.facts t.facts w.acceptor.facts w.outward w.homeward (written w.initiator (call ∷ [])) h.outward_finish (tells_as hi w.initiator call may.0);
       homeward_finish = told_by_reader w.acceptor.facts w.initiator.facts t.facts w.homeward w.outward (written w.initiator (call ∷ [])) h.homeward_finish (tells_as hi w.initiator call may.0);
-      outward_requests = served_by_writer w.initiator t w.acceptor.facts w.acceptor.ending w.outward w.homeward (written w.initiator (call ∷ [])) h.outward_requests (serves_as hi w.initiator call may.0);
-      homeward_requests = served_by_reader w.acceptor.facts w.initiator t w.homeward w.outward (written w.initiator (call ∷ [])) d.over h.homeward_requests (serves_as hi w.initiator call may.0);
+      outward_requests = served_by_writer w.initiator t w.acceptor.facts w.acceptor.ending w.outward w.homeward (written w.initiator (call ∷ [])) h.outward_requests (serves_as hi w.initiator call may.0 may.1);
+      homeward_requests = served_by_reader w.acceptor.facts w.initiator t w.homeward w.outward (written w.initiator (call ∷ [])) d.over h.homeward_requests (serves_as hi w.initiator call may.0 may.1);
     }
 holds_step hi ha w (acceptor_does call) h may =
     let d = does_as ha w.acceptor call may.0 may.1 h.acceptor.serves in
@@ -367,8 +367,8 @@ holds_step hi ha w (acceptor_does call) h may =
           (acceptor_does_so w.acceptor t (written w.acceptor (call ∷ [])) w.initiator.config w.initiator.facts w.initiator.ending w.outward w.homeward (ap (λ r. is_initiator r) h.matches.accepts) d h.shaking);
       outward_finish = told_by_reader w.initiator.facts w.acceptor.facts t.facts w.outward w.homeward (written w.acceptor (call ∷ [])) h.outward_finish (tells_as ha w.acceptor call may.0);
       homeward_finish = told_by_writer w.acceptor.facts t.facts w.initiator.facts w.homeward w.outward (written w.acceptor (call ∷ [])) h.homeward_finish (tells_as ha w.acceptor call may.0);
-      outward_requests = served_by_reader w.initiator.facts w.acceptor t w.outward w.homeward (written w.acceptor (call ∷ [])) d.over h.outward_requests (serves_as ha w.acceptor call may.0);
-      homeward_requests = served_by_writer w.acceptor t w.initiator.facts w.initiator.ending w.homeward w.outward (written w.acceptor (call ∷ [])) h.homeward_requests (serves_as ha w.acceptor call may.0);
+      outward_requests = served_by_reader w.initiator.facts w.acceptor t w.outward w.homeward (written w.acceptor (call ∷ [])) d.over h.outward_requests (serves_as ha w.acceptor call may.0 may.1);
+      homeward_requests = served_by_writer w.acceptor t w.initiator.facts w.initiator.ending w.homeward w.outward (written w.acceptor (call ∷ [])) h.homeward_requests (serves_as ha w.acceptor call may.0 may.1);
     }
 
 holds_after : (hi ha : List Entry) (w : World) (steps : List Step) → Holds w → AllMayStep hi ha w steps → Holds (world_after w steps)

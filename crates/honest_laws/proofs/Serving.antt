@@ -1,5 +1,5 @@
 -- The requests and retransmissions under way between two ends, and how each call of an end moves them.
-use Rattle.std.proofs.Common.{◌≡◌, ◌⊎◌, inl, inr, ℕ, zero, suc, ◌+◌, ◌≤◌, ◌==◌, ◌&&◌, not, Bool, true, false, if◌then◌else◌, List, [], ◌∷◌, ◌++◌, length, Option, Some, None, refl, sym, ap, subst, ◌∙◌, arith, true≢false, append-nil}
+use Rattle.std.proofs.Common.{◌≡◌, ◌⊎◌, inl, inr, ℕ, zero, suc, ◌+◌, ◌-◌, ◌≤◌, ◌==◌, ◌&&◌, not, Bool, true, false, if◌then◌else◌, List, [], ◌∷◌, ◌++◌, length, Option, Some, None, refl, sym, ap, subst, ◌∙◌, arith, true≢false, append-nil, eqb-true}
 use Rattle.std.specs.Prelude.{⊤, is_some, is_none, IsSome}
 use Rattle.session_model.specs.Journal.{Entry}
 use Rattle.fixp_msgs.specs.declared.numbering.Range.{Range}
@@ -22,9 +22,11 @@ use Rattle.reply_laws.specs.Machine.{State, Call, begin, frame, bad_frame, did, 
 use Rattle.connection_laws.specs.Writing.{Piece, said, entry, said_all, entries, said_breaking, range_closed, written_again, writes}
 use Rattle.link_laws.specs.Reading.{incoming_of}
 use Rattle.link_laws.proofs.Refused.{closing_is_deaf}
+use Rattle.connection_laws.specs.Standing.{MayStand}
 use Rattle.honest_laws.specs.Worlds.{written, IsOther}
 use Rattle.honest_laws.proofs.Finishing.{total, total_append}
 use Rattle.honest_laws.proofs.Asking.{asks, restarts, turns_in, turns, inside, unanswered_of, unanswered, coming, is_serving, Asks, asks_of, closing_asks, at_most_one}
+use Rattle.honest_laws.proofs.Numbers.{Runs, served, runs_append, live_run, again_run}
 use Rattle.honest_laws.proofs.Moving.{turned, told}
 
 -- A reader's request is under way on the way back, or its answer to the reader, or neither: at most where it is yet. As long as it is under
@@ -128,6 +130,9 @@ pub record Serves (s t : State) (out : List Piece) : Type 0 where
   pub serves : inside (is_serving s.facts) out ≡ is_serving t.facts
   pub requester : t.facts.connection.requester ≡ s.facts.connection.requester
   pub closing : is_closing t.facts.connection.phase ≡ false → is_closing s.facts.connection.phase ≡ false
+  pub receiver : t.facts.connection.receiver ≡ s.facts.connection.receiver
+  pub inbox : t.facts.recorded.inbox_next ≡ s.facts.recorded.inbox_next
+  pub runs : Runs (s.facts.recorded.sent + 1) (served s.facts.connection.serving) out (t.facts.recorded.sent + 1) (served t.facts.connection.serving)
 
 pub served_by_writer : (s t : State) (reader : Facts) (over : Option Ending) (way back out : List Piece) → Requests s.facts reader over way back → Serves s t out → Requests t.facts reader over (way ++ out) back
 served_by_writer s t reader over way back out a c =
@@ -180,13 +185,24 @@ map_more (x ∷ xs) ys = ap (λ ps. said x ∷ ps) (map_more xs ys)
 said_more : (ms more : List Message) → Silent (said_all ms) → Silent (said_all more) → Silent (said_all (ms ++ more))
 said_more ms more a b = subst (λ (ps : List Piece). Silent ps) (sym (map_more ms more)) (silent_both (said_all ms) (said_all more) a b)
 
-serves_silent : (s t : State) (out : List Piece) → t.facts.connection ≡ s.facts.connection → Silent out → Serves s t out
-serves_silent s t out e a = record {
+-- messages without a number
+abbrev Plain : List Piece → Type 0
+Plain ps = (b : ℕ) (l : Option ℕ) → Runs b l ps b l
+
+still : Plain []
+still b l = (omega arith, refl)
+
+serves_silent : (s t : State) (out : List Piece) → t.facts.connection ≡ s.facts.connection → t.facts.recorded.inbox_next ≡ s.facts.recorded.inbox_next
+    → Runs (s.facts.recorded.sent + 1) (served s.facts.connection.serving) out (t.facts.recorded.sent + 1) (served t.facts.connection.serving) → Silent out → Serves s t out
+serves_silent s t out e n r a = record {
   asks_none = a.no_request;
   begins_none = a.no_restart;
   serves = a.no_turn (is_serving s.facts) ∙ sym (ap (λ c. is_some c.serving) e);
   requester = ap (λ c. c.requester) e;
   closing = λ n. ap (λ c. is_closing c.phase) (sym e) ∙ n;
+  receiver = ap (λ c. c.receiver) e;
+  inbox = n;
+  runs = r;
 }
 
 -- what a tick writes: a heartbeat where nothing is served
@@ -194,16 +210,21 @@ record Beats (f : Facts) (ps : List Piece) : Type 0 where
   no_request : total asks ps ≡ 0
   no_restart : total restarts ps ≡ 0
   stays : inside (is_serving f) ps ≡ is_serving f
+  runs : Runs (f.recorded.sent + 1) (served f.connection.serving) ps (f.recorded.sent + 1) (served f.connection.serving)
+
+none_whole : (f : Facts) (s : Option Range) → is_some s ≡ false → Runs (f.recorded.sent + 1) (served s) (said (sequence (f.recorded.sent + 1)) ∷ []) (f.recorded.sent + 1) (served s)
+none_whole f None e = ((omega arith, tt), (omega arith, refl))
+none_whole f (Some r) e = absurd (true≢false e)
 
 beating : (x : Around) (f : Facts) → is_some f.connection.serving ≡ false → Beats f (said_all (heartbeat x f ∷ []))
 beating x f free = by_flow (is_sequenced x.config.own_flow)
   where
     by_flow : (b : Bool) → Beats f (said_all ((if b then sequence (f.recorded.sent + 1) else unsequenced_heartbeat) ∷ []))
-    by_flow true = record { no_request = refl; no_restart = refl; stays = sym free }
-    by_flow false = record { no_request = refl; no_restart = refl; stays = refl }
+    by_flow true = record { no_request = refl; no_restart = refl; stays = sym free; runs = none_whole f f.connection.serving free }
+    by_flow false = record { no_request = refl; no_restart = refl; stays = refl; runs = (tt, (omega arith, refl)) }
 
 no_beat : (f : Facts) → Beats f []
-no_beat f = record { no_request = refl; no_restart = refl; stays = refl }
+no_beat f = record { no_request = refl; no_restart = refl; stays = refl; runs = (omega arith, refl) }
 
 beats : (x : Around) (f : Facts) (last : ℕ) (unsent : List ℕ) → Beats f (said_all (heartbeats x f last unsent))
 beats x f last (b ∷ unsent) = no_beat f
@@ -221,6 +242,10 @@ beats x f last [] = by_test (is_established f.connection.phase && is_none f.conn
 breaks_silent : (s : State) (v : Option Violation) (now : ℕ) → Silent (said_all (said_breaking s v now))
 breaks_silent s None now = none_silent
 breaks_silent s (Some v) now = record { no_request = refl; no_restart = refl; no_turn = λ b. refl }
+
+breaks_plain : (s : State) (v : Option Violation) (now : ℕ) → Plain (said_all (said_breaking s v now))
+breaks_plain s None now b l = (omega arith, refl)
+breaks_plain s (Some v) now b l = (tt, (omega arith, refl))
 
 broken_same : (s : State) (v : Option Violation) (now : ℕ) → (broken_by s v now).facts ≡ s.facts
 broken_same s None now = refl
@@ -254,16 +279,29 @@ ticking s now = by_end (is_some s.ending)
               ∙ (r.no_turn (inside (is_serving s.facts) (said_all h)) ∙ (b.stays ∙ sym (ap (λ f. is_serving f) same))));
           requester = ap (λ f. f.connection.requester) same;
           closing = λ n. ap (λ f. is_closing f.connection.phase) (sym same) ∙ n;
+          receiver = ap (λ f. f.connection.receiver) same;
+          inbox = ap (λ f. f.recorded.inbox_next) same;
+          runs = subst (λ (g : Facts). Runs (s.facts.recorded.sent + 1) (served s.facts.connection.serving) (said_all (h ++ q)) (g.recorded.sent + 1) (served g.connection.serving)) (sym same)
+              (subst (λ (ps : List Piece). Runs (s.facts.recorded.sent + 1) (served s.facts.connection.serving) ps (s.facts.recorded.sent + 1) (served s.facts.connection.serving)) (sym (map_more h q))
+              (runs_append (s.facts.recorded.sent + 1) (served s.facts.connection.serving) (said_all h) (said_all q) (s.facts.recorded.sent + 1) (served s.facts.connection.serving)
+              (s.facts.recorded.sent + 1) (served s.facts.connection.serving) b.runs (breaks_plain s v now (s.facts.recorded.sent + 1) (served s.facts.connection.serving))));
         }
 
     by_end : (b : Bool) → Serves s (if b then record s { moment = now } else broken_by beat v now) (if b then [] else said_all (heartbeats x s.facts s.last_sent s.unsent ++ said_breaking s v now))
-    by_end true = serves_silent s (record s { moment = now }) [] refl none_silent
+    by_end true = serves_silent s (record s { moment = now }) [] refl refl (omega arith, refl) none_silent
     by_end false = going
 
 applied_silent : (runs : List Range) → Silent (said_all (applied_runs runs))
 applied_silent [] = none_silent
 applied_silent (r ∷ runs) =
     let s = applied_silent runs in let e = s.no_request in let k = s.no_restart in record { no_request = omega (arith, e); no_restart = omega (arith, k); no_turn = s.no_turn }
+
+applied_plain : (runs : List Range) → Plain (said_all (applied_runs runs))
+applied_plain [] b l = (omega arith, refl)
+applied_plain (r ∷ runs) b l = (tt, applied_plain runs b l)
+
+closing_plain : (ms : List Message) (m : Message) → Plain (said_all ms) → Plain (said m ∷ []) → Plain (said_all (ms ++ m ∷ []))
+closing_plain ms m a c b l = subst (λ (ps : List Piece). Runs b l ps b l) (sym (map_more ms (m ∷ []))) (runs_append b l (said_all ms) (said m ∷ []) b l b l (a b l) (c b l))
 
 turning : (s : State) (now : ℕ) → Serves s (step s (turn_done now)) (writes s (turn_done now))
 turning s now = by_end (is_some s.ending)
@@ -277,11 +315,12 @@ turning s now = by_end (is_some s.ending)
     by_close : (b : Bool) → Serves s (behind (turned b x s.facts (runs_of s.untold))) (said_all (turned b x s.facts (runs_of s.untold)).written)
     by_close true =
         let q = said_more (applied_runs (runs_of s.untold)) (terminate s.config.session 1 [] ∷ []) (applied_silent (runs_of s.untold)) (record { no_request = refl; no_restart = refl; no_turn = λ b. refl }) in
-        record { asks_none = q.no_request; begins_none = q.no_restart; serves = q.no_turn (is_serving s.facts); requester = refl; closing = λ n. absurd (true≢false n) }
-    by_close false = serves_silent s (behind (turned false x s.facts (runs_of s.untold))) _ refl (applied_silent (runs_of s.untold))
+        record { asks_none = q.no_request; begins_none = q.no_restart; serves = q.no_turn (is_serving s.facts); requester = refl; closing = λ n. absurd (true≢false n); receiver = refl; inbox = refl;
+          runs = closing_plain (applied_runs (runs_of s.untold)) (terminate s.config.session 1 []) (applied_plain (runs_of s.untold)) (λ b l. (tt, (omega arith, refl))) (s.facts.recorded.sent + 1) (served s.facts.connection.serving) }
+    by_close false = serves_silent s (behind (turned false x s.facts (runs_of s.untold))) _ refl refl (applied_plain (runs_of s.untold) (s.facts.recorded.sent + 1) (served s.facts.connection.serving)) (applied_silent (runs_of s.untold))
 
     by_end : (b : Bool) → Serves s (if b then record s { moment = now } else behind (turn_ended x s.facts (runs_of s.untold))) (if b then [] else said_all (turn_ended x s.facts (runs_of s.untold)).written)
-    by_end true = serves_silent s (record s { moment = now }) [] refl none_silent
+    by_end true = serves_silent s (record s { moment = now }) [] refl refl (omega arith, refl) none_silent
     by_end false = by_close (closes x s.facts)
 
 finishing : (s : State) (last now : ℕ) → Serves s (step s (closed last now)) (writes s (closed last now))
@@ -294,20 +333,20 @@ finishing s last now = by_end (is_some s.ending)
     behind m = made (record s { moment = now }) m now
 
     by_test : (b : Bool) → Serves s (behind (told b x s.facts last)) (said_all (told b x s.facts last).written)
-    by_test true = record { asks_none = refl; begins_none = refl; serves = refl; requester = refl; closing = λ n. n }
-    by_test false = serves_silent s (behind (told false x s.facts last)) [] refl none_silent
+    by_test true = record { asks_none = refl; begins_none = refl; serves = refl; requester = refl; closing = λ n. n; receiver = refl; inbox = refl; runs = (tt, (omega arith, refl)) }
+    by_test false = serves_silent s (behind (told false x s.facts last)) [] refl refl (omega arith, refl) none_silent
 
     by_end : (b : Bool)
         → Serves s (if b then record s { moment = now; facts = outbox_finished s.facts last } else behind (finish_told x s.facts last)) (if b then [] else said_all (finish_told x s.facts last).written)
-    by_end true = serves_silent s (record s { moment = now; facts = outbox_finished s.facts last }) [] refl none_silent
+    by_end true = serves_silent s (record s { moment = now; facts = outbox_finished s.facts last }) [] refl refl (omega arith, refl) none_silent
     by_end false = by_test (tells_finish x s.facts last)
 
 cut : (s : State) → Serves s (step s link_end) []
 cut s = by_end (is_some s.ending)
   where
     by_end : (b : Bool) → Serves s (if b then s else record s { ending = Some (link_ending (around s 0 s.moment) s.facts); pending = None }) []
-    by_end true = serves_silent s s [] refl none_silent
-    by_end false = serves_silent s (record s { ending = Some (link_ending (around s 0 s.moment) s.facts); pending = None }) [] refl none_silent
+    by_end true = serves_silent s s [] refl refl (omega arith, refl) none_silent
+    by_end false = serves_silent s (record s { ending = Some (link_ending (around s 0 s.moment) s.facts); pending = None }) [] refl refl (omega arith, refl) none_silent
 
 entries_silent : (payloads : List (List ℕ)) → Silent (entries payloads)
 entries_silent [] = none_silent
@@ -324,9 +363,19 @@ closing_range : (f : Facts) (r : Option Range) → Closes (range_closed f r) r
 closing_range f None = record { no_request = refl; no_restart = refl; ends = refl }
 closing_range f (Some r) = record { no_request = refl; no_restart = refl; ends = refl }
 
-resending : (s : State) (r : Option Range) (payloads : List (List ℕ)) (now : ℕ) → s.facts.connection.serving ≡ r → Serves s (served_again s r payloads now) (written_again s.facts r payloads)
-resending s None payloads now same = serves_silent s s [] refl none_silent
-resending s (Some r) payloads now same =
+again_closed : (f : Facts) (r : Range) (n : ℕ) → n ≤ r.count → Runs (f.recorded.sent + 1) (Some (r.count - n)) (range_closed f (rest_of r n)) (f.recorded.sent + 1) (served (rest_of r n))
+again_closed f r n h = by_test (r.count == n) refl
+  where
+    rest : Bool → Option Range
+    rest b = if b then None else Some (record { from = r.from + n; count = r.count - n })
+
+    by_test : (b : Bool) → (r.count == n) ≡ b → Runs (f.recorded.sent + 1) (Some (r.count - n)) (range_closed f (rest b)) (f.recorded.sent + 1) (served (rest b))
+    by_test true e = let same = eqb-true r.count n e in ((omega arith, omega (arith, same)), (omega arith, refl))
+    by_test false e = (omega arith, refl)
+
+resending : (s : State) (r : Option Range) (payloads : List (List ℕ)) (now : ℕ) → ((k : Range) → r ≡ Some k → length payloads ≤ k.count) → s.facts.connection.serving ≡ r → Serves s (served_again s r payloads now) (written_again s.facts r payloads)
+resending s None payloads now within same = serves_silent s s [] refl refl (omega arith, refl) none_silent
+resending s (Some r) payloads now within same =
     let rest = rest_of r (length payloads) in
     let a = entries_silent payloads in let b = closing_range s.facts rest in
     let e = total_append asks (entries payloads) (range_closed s.facts rest) in let k = total_append restarts (entries payloads) (range_closed s.facts rest) in
@@ -338,21 +387,35 @@ resending s (Some r) payloads now same =
           ∙ (inside_append true (entries payloads) (range_closed s.facts rest) ∙ (ap (λ c. inside c (range_closed s.facts rest)) (a.no_turn true) ∙ b.ends));
       requester = refl;
       closing = λ n. n;
+      receiver = refl;
+      inbox = refl;
+      runs = subst (λ (k : Option Range). Runs (s.facts.recorded.sent + 1) (served k) (entries payloads ++ range_closed s.facts rest) (s.facts.recorded.sent + 1) (served rest)) (sym same)
+          (runs_append (s.facts.recorded.sent + 1) (Some r.count) (entries payloads) (range_closed s.facts rest) (s.facts.recorded.sent + 1) (Some (r.count - length payloads)) (s.facts.recorded.sent + 1) (served rest)
+          (again_run (s.facts.recorded.sent + 1) r.count payloads (within r refl)) (again_closed s.facts r (length payloads) (within r refl)));
     }
 
-serves_call : (h : List Entry) (s : State) (call : Call) → IsOther h call → Serves s (step s call) (writes s call)
-serves_call h s (begin now) other = absurd other
-serves_call h s (frame incoming at now) other = absurd other
-serves_call h s (bad_frame at now) other = absurd other
-serves_call h s (did now) other = absurd other
-serves_call h s (tick now) other = ticking s now
-serves_call h s (turn_done now) other = turning s now
-serves_call h s (closed last now) other = finishing s last now
-serves_call h s link_end other = cut s
-serves_call h s (live payloads now) other = serves_silent s (step s (live payloads now)) (entries payloads) refl (entries_silent payloads)
-serves_call h s (again payloads now) other = resending s s.facts.connection.serving payloads now refl
-serves_call h s (taken count) other = serves_silent s (step s (taken count)) [] refl none_silent
-serves_call h s reserve other = serves_silent s (step s reserve) [] refl none_silent
+range_within : (s : Option Range) (range : Range) (n : ℕ) → s ≡ Some range → n ≤ range.count → (k : Range) → s ≡ Some k → n ≤ k.count
+range_within s range n e h k is = let same : range ≡ k = cc (e, is) in subst (λ (j : Range). n ≤ j.count) same h
 
-pub serves_as : (h : List Entry) (s : State) (call : Call) → IsOther h call → Serves s (run s (call ∷ [])) (written s (call ∷ []))
-serves_as h s call other = subst (λ (out : List Piece). Serves s (step s call) out) (sym (append-nil (writes s call))) (serves_call h s call other)
+live_runs : (s : State) (payloads : List (List ℕ)) → s.facts.connection.serving ≡ None
+    → Runs (s.facts.recorded.sent + 1) (served s.facts.connection.serving) (entries payloads) (s.facts.recorded.sent + length payloads + 1) (served s.facts.connection.serving)
+live_runs s payloads free =
+    subst (λ (k : Option Range). Runs (s.facts.recorded.sent + 1) (served k) (entries payloads) (s.facts.recorded.sent + length payloads + 1) (served k)) (sym free)
+    (subst (λ (n : ℕ). Runs (s.facts.recorded.sent + 1) None (entries payloads) n None) (omega arith) (live_run (s.facts.recorded.sent + 1) payloads))
+
+serves_call : (h : List Entry) (s : State) (call : Call) → IsOther h call → MayStand h s call → Serves s (step s call) (writes s call)
+serves_call h s (begin now) other may = absurd other
+serves_call h s (frame incoming at now) other may = absurd other
+serves_call h s (bad_frame at now) other may = absurd other
+serves_call h s (did now) other may = absurd other
+serves_call h s (tick now) other may = ticking s now
+serves_call h s (turn_done now) other may = turning s now
+serves_call h s (closed last now) other may = finishing s last now
+serves_call h s link_end other may = cut s
+serves_call h s (live payloads now) other may = serves_silent s (step s (live payloads now)) (entries payloads) refl refl (live_runs s payloads may.comes.free) (entries_silent payloads)
+serves_call h s (again payloads now) other may = resending s s.facts.connection.serving payloads now (range_within s.facts.connection.serving may.comes.range (length payloads) may.comes.serves may.comes.within) refl
+serves_call h s (taken count) other may = serves_silent s (step s (taken count)) [] refl refl (omega arith, refl) none_silent
+serves_call h s reserve other may = serves_silent s (step s reserve) [] refl refl (omega arith, refl) none_silent
+
+pub serves_as : (h : List Entry) (s : State) (call : Call) → IsOther h call → MayStand h s call → Serves s (run s (call ∷ [])) (written s (call ∷ []))
+serves_as h s call other may = subst (λ (out : List Piece). Serves s (step s call) out) (sym (append-nil (writes s call))) (serves_call h s call other may)
