@@ -1,6 +1,6 @@
 -- How a reply moves the requests for what is missing and the ranges that are sent again, row by row: one request is open at a time, and a
 -- range is served in answer to one.
-use Rattle.std.proofs.Common.{◌≡◌, ◌⊎◌, inl, inr, ℕ, ◌+◌, ◌≤◌, ◌==◌, ◌&&◌, ◌||◌, min, max, nat_lt, not, Bool, true, false, if◌then◌else◌, List, [], ◌∷◌, ◌++◌, Option, Some, None, refl, sym, ap, subst, ◌∙◌, arith, true≢false}
+use Rattle.std.proofs.Common.{◌≡◌, ◌⊎◌, inl, inr, ℕ, ◌+◌, ◌≤◌, ◌&&◌, min, max, not, Bool, true, false, if◌then◌else◌, List, [], ◌∷◌, ◌++◌, Option, Some, None, refl, sym, ap, subst, ◌∙◌, arith, true≢false}
 use Rattle.std.specs.Prelude.{⊤, is_some, is_none, unwrap_or, Result, Ok, Err}
 use Rattle.fixp_msgs.specs.declared.numbering.Range.{Range}
 use Rattle.fixp_msgs.specs.Flow.{flow_code}
@@ -22,25 +22,22 @@ use Rattle.fixp_replies.specs.declared.act.Act.TheVariants as acts
 use Rattle.fixp_replies.specs.declared.act.Ending.{Ending}
 use Rattle.fixp_replies.specs.declared.act.Ending.TheVariants as endings
 use Rattle.fixp_replies.specs.declared.facts.Facts.{Facts}
-use Rattle.fixp_replies.specs.declared.facts.OwnFinish.{OwnFinish}
 use Rattle.fixp_replies.specs.declared.facts.OwnFinish.TheVariants as own
 use Rattle.flow_retrans.specs.declared.request.Request.{Request}
 use Rattle.flow_retrans.specs.declared.request.Request.TheVariants as requests
-use Rattle.fixp_replies.specs.declared.facts.PeerFinish.{PeerFinish}
 use Rattle.fixp_replies.specs.declared.facts.PeerFinish.TheVariants as peer
-use Rattle.fixp_replies.specs.Incoming.{Incoming, application, session}
-use Rattle.fixp_replies.specs.Facts.{Around, is_own, in_phase, receiving, requesting, serves, negotiated as as_negotiated, awaiting, gap_to_ask, having_asked, announced_number, peer_last, awaits_gap, is_told}
-use Rattle.fixp_replies.specs.Outcomes.{Outcome, Row, row, within, goes_on, accepts, rejects, ignores, ends_with, ends, breaks, not_in_phase, request_for, skip_of, told_skip, opening_negotiate, opening_establish}
+use Rattle.fixp_replies.specs.Incoming.{application, session}
+use Rattle.fixp_replies.specs.Facts.{Around, is_own, in_phase, receiving, requesting, serves, negotiated as as_negotiated, awaiting, gap_to_ask, having_asked, announced_number, peer_last, awaits_gap}
+use Rattle.fixp_replies.specs.Outcomes.{Outcome, Row, row, goes_on, accepts, rejects, ignores, ends_with, ends, breaks, not_in_phase, request_for, skip_of, told_skip, opening_negotiate, opening_establish}
 use Rattle.fixp_replies.specs.Announcing.{Announced, jumped_over, announced, announcement_fault, refuses, announcement_rows}
-use Rattle.fixp_replies.specs.Handshake.{awaits_client, serves_client, rejects_negotiate, rejects_establish, established, acknowledges, negotiate_rows, establish_rows, established_again_rows, establish_rows_in, shaken, rejected, negotiation_response_rows, negotiation_reject_rows, establishment_ack_rows, establishment_reject_rows}
-use Rattle.fixp_replies.specs.Flowing.{bad_retransmission, counted, taken_as, finish_act, peer_finished, answers_finish, is_filled, is_past_finish, sequence_follows, sequence_taken, restarted, finished_last, finish_fault, finished, application_rows, sequence_rows, retransmission_rows, retransmit_reject_rows, finished_sending_rows}
+use Rattle.fixp_replies.specs.Handshake.{awaits_client, serves_client, established, acknowledges, negotiate_rows, establish_rows, established_again_rows, shaken, negotiation_response_rows, negotiation_reject_rows, establishment_ack_rows, establishment_reject_rows}
+use Rattle.fixp_replies.specs.Flowing.{bad_retransmission, counted, taken_as, peer_finished, answers_finish, is_filled, is_past_finish, sequence_follows, sequence_taken, restarted, finished_last, finish_fault, finished, application_rows, sequence_rows, retransmission_rows, retransmit_reject_rows, finished_sending_rows}
 use Rattle.fixp_replies.specs.Serving.{request_answered, own_finishing, retransmit_request_rows, finished_receiving_rows}
 use Rattle.fixp_replies.specs.Replies.{reply_of, rows_of, answer_of, of_session, terminates, template_of}
 use Rattle.reply_laws.proofs.Rows.{AllRows, by_row, all_rows, all_within, own_rows}
-use Rattle.reply_laws.proofs.Tests.{some-none}
 use Rattle.connection_laws.specs.Writing.{Piece, said, entry, said_all}
 use Rattle.link_laws.specs.Reading.{incoming_of}
-use Rattle.honest_laws.proofs.Finishing.{total, total_append}
+use Rattle.honest_laws.proofs.Finishing.{total}
 use Rattle.honest_laws.proofs.Numbers.{Runs, served}
 
 -- how many requests and retransmissions a message is
@@ -290,9 +287,9 @@ following x f next a u =
     (λ _. ending x f g 0 0 Never 2 _ (omega (arith, same)) refl refl)
     (λ _. by_row (Asks f 0 0 Never) (is_filled a.facts) (answers_finish x a.facts (unwrap_or (awaits_gap a.facts.connection.peer_finish) 0)) (goes_on x (skip_of a.skipped) (told_skip a.skipped) a.facts)
     (λ _. going x f (peer_finished a.facts _ _) 0 0 Never _ (finished_receiving x.config.session ∷ []) refl (omega (arith, same, here)) (omega arith) (ap (λ q. request_is.is_coming q) u.requester ∙ e.1)
-        (sym (ap (λ r. is_some r) u.serving)) (tt, (let n = u.sent in omega (arith, n), ap served (sym u.serving))))
+    (sym (ap (λ r. is_some r) u.serving)) (tt, (let n = u.sent in omega (arith, n), ap served (sym u.serving))))
     (λ _. let p = skip_plain a.skipped in let n = p.no_restart in going x f a.facts 0 0 Never (skip_of a.skipped) (told_skip a.skipped) p.no_request (omega (arith, same, here)) (omega (arith, n))
-        (ap (λ q. request_is.is_coming q) u.requester ∙ e.1) (p.no_turn (is_serving f) ∙ sym (ap (λ r. is_some r) u.serving)) (runs_told f a.facts (said_all (told_skip a.skipped)) u.serving u.sent p.no_number)))
+    (ap (λ q. request_is.is_coming q) u.requester ∙ e.1) (p.no_turn (is_serving f) ∙ sym (ap (λ r. is_some r) u.serving)) (runs_told f a.facts (said_all (told_skip a.skipped)) u.serving u.sent p.no_number)))
 
 free_runs : (s : Option Range) → is_some s ≡ false → served s ≡ None
 free_runs None e = refl
@@ -393,8 +390,7 @@ session_rows x f (negotiation_reject id timestamp code reason) = in_session x f 
   λ _. (λ _. rejecting x f 0 0 Same _, λ _. tt),
 )))
 session_rows x f (establish id timestamp keepalive next credentials) =
-    choosing (Asks f 0 0 Same) (awaits_client x f) (serves_client x f) (establish_rows x f id timestamp keepalive next credentials) (established_again_rows x f id timestamp)
-    (
+    choosing (Asks f 0 0 Same) (awaits_client x f) (serves_client x f) (establish_rows x f id timestamp keepalive next credentials) (established_again_rows x f id timestamp) (
       λ _. replies x f _ refl refl (λ b. refl) (λ b l. same_number b l),
       λ _. (
         λ _. replies x f _ refl refl (λ b. refl) (λ b l. same_number b l),
@@ -409,7 +405,7 @@ session_rows x f (establishment_ack id timestamp keepalive next) = in_session x 
     announced_all (Asks f 0 0 Same) x f 5 next (λ (a : Announced). goes_on x (skip_of a.skipped) (told_skip a.skipped) (established a.facts (min 60000 (max 100 keepalive))))
     (λ some. refusing x f f 0 0 Same (announcement_fault x f 5 next) some (omega arith) refl refl)
     (let a = announced x f next in let u = untouched x f next in
-        passing x f (established a.facts (min 60000 (max 100 keepalive))) 0 (skip_of a.skipped) (told_skip a.skipped) (record { requester = u.requester; serving = u.serving; sent = u.sent }) (skip_plain a.skipped))))
+    passing x f (established a.facts (min 60000 (max 100 keepalive))) 0 (skip_of a.skipped) (told_skip a.skipped) (record { requester = u.requester; serving = u.serving; sent = u.sent }) (skip_plain a.skipped))))
 session_rows x f (establishment_reject id timestamp code reason) = in_session x f 0 0 Same 6 id _ (all_within (Asks f 0 0 Same) (is_establishing f.connection.phase) (establishment_reject_rows x f code) (λ _. (
   λ _. asks_again x f (in_phase f phases.Negotiating) acts.Nothing (opening_negotiate x) (same_parts f (in_phase f phases.Negotiating) refl refl refl) refl refl (λ b. refl) (λ b l. same_number b l),
   λ _. (λ _. rejecting x f 0 0 Same _, λ _. tt),

@@ -1,11 +1,7 @@
 -- The row that decides: there is one, and what holds of each that may is what holds of the reply.
-use Rattle.std.proofs.Common.{◌≡◌, ℕ, ◌&&◌, not, nat_lt, ◌+◌, Bool, true, false, if◌then◌else◌, List, [], ◌∷◌, Option, Some, None, refl, sym, ◌∙◌, true≢false}
-use Rattle.std.specs.Prelude.{is_some, is_none, unwrap_or}
+use Rattle.std.proofs.Common.{◌≡◌, ℕ, not, Bool, true, false, List, [], ◌∷◌, sym, true≢false}
 use Rattle.std.specs.Str.{bytes_eq}
 use Rattle.std.proofs.lemmas.Slice.Eq.{bytes_eq-Decides}
-use Rattle.fixp_shake.specs.declared.phase.Phase.{Phase}
-use Rattle.fixp_shake.specs.declared.phase.Phase.TheVariants as phases
-use Rattle.fixp_shake.specs.Phases.{is_established, is_idle, is_closing, is_shaken}
 use Rattle.fixp_replies.specs.Outcomes.{Outcome, Row, first_row, within}
 use Rattle.reply_laws.proofs.Rows.{by_row}
 

@@ -1,7 +1,7 @@
 -- How a reply moves the finishes of both flows, row by row: each FinishedSending is read or answered once, and only a finish that was told
 -- is ended by its answer.
-use Rattle.std.proofs.Common.{◌≡◌, ℕ, ◌+◌, ◌≤◌, ◌==◌, ◌&&◌, ◌||◌, min, max, nat_lt, not, Bool, true, false, if◌then◌else◌, List, [], ◌∷◌, ◌++◌, Option, Some, None, refl, sym, ap, subst, ◌∙◌, arith, true≢false}
-use Rattle.std.specs.Prelude.{⊤, is_some, is_none, unwrap_or, Result, Ok, Err}
+use Rattle.std.proofs.Common.{◌≡◌, ℕ, ◌+◌, ◌≤◌, ◌&&◌, min, max, not, Bool, true, false, if◌then◌else◌, List, [], ◌∷◌, ◌++◌, Option, Some, None, refl, sym, ap, ◌∙◌, arith, true≢false}
+use Rattle.std.specs.Prelude.{is_some, is_none, unwrap_or, Result, Ok, Err}
 use Rattle.fixp_msgs.specs.declared.numbering.Range.{Range}
 use Rattle.fixp_msgs.specs.Flow.{flow_code}
 use Rattle.fixp_msgs.specs.Message.{Message, negotiate, negotiation_response, negotiation_reject, establish, establishment_ack, establishment_reject, sequence, unsequenced_heartbeat, retransmit_request, retransmission, retransmit_reject, applied, not_applied, finished_sending, finished_receiving, terminate}
@@ -26,11 +26,11 @@ use Rattle.fixp_replies.specs.declared.facts.OwnFinish.{OwnFinish}
 use Rattle.fixp_replies.specs.declared.facts.OwnFinish.TheVariants as own
 use Rattle.fixp_replies.specs.declared.facts.PeerFinish.{PeerFinish}
 use Rattle.fixp_replies.specs.declared.facts.PeerFinish.TheVariants as peer
-use Rattle.fixp_replies.specs.Incoming.{Incoming, application, session}
+use Rattle.fixp_replies.specs.Incoming.{application, session}
 use Rattle.fixp_replies.specs.Facts.{Around, is_own, in_phase, receiving, requesting, serves, negotiated as as_negotiated, awaiting, gap_to_ask, having_asked, announced_number, peer_last, awaits_gap, is_told}
-use Rattle.fixp_replies.specs.Outcomes.{Outcome, Row, row, within, goes_on, accepts, rejects, ignores, ends_with, ends, breaks, not_in_phase, request_for, skip_of, told_skip, opening_negotiate, opening_establish}
-use Rattle.fixp_replies.specs.Announcing.{Announced, jumped_over, announced, announcement_fault, refuses, announcement_rows}
-use Rattle.fixp_replies.specs.Handshake.{awaits_client, serves_client, rejects_negotiate, rejects_establish, established, acknowledges, negotiate_rows, establish_rows, established_again_rows, establish_rows_in, shaken, rejected, negotiation_response_rows, negotiation_reject_rows, establishment_ack_rows, establishment_reject_rows}
+use Rattle.fixp_replies.specs.Outcomes.{Outcome, Row, row, goes_on, accepts, rejects, ignores, ends_with, ends, breaks, not_in_phase, request_for, skip_of, told_skip, opening_negotiate, opening_establish}
+use Rattle.fixp_replies.specs.Announcing.{Announced, jumped_over, announced, refuses}
+use Rattle.fixp_replies.specs.Handshake.{awaits_client, serves_client, established, acknowledges, negotiate_rows, establish_rows, established_again_rows, negotiation_response_rows, negotiation_reject_rows, establishment_ack_rows, establishment_reject_rows}
 use Rattle.fixp_replies.specs.Flowing.{bad_retransmission, counted, taken_as, finish_act, peer_finished, answers_finish, is_filled, is_past_finish, sequence_follows, sequence_taken, restarted, finished_last, finish_fault, finished, application_rows, sequence_rows, retransmission_rows, retransmit_reject_rows, finished_sending_rows}
 use Rattle.fixp_replies.specs.Serving.{request_answered, own_finishing, retransmit_request_rows, finished_receiving_rows}
 use Rattle.fixp_replies.specs.Replies.{reply_of, rows_of, answer_of, of_session, terminates, template_of}
@@ -190,7 +190,7 @@ following x f g next a u v =
     (λ _. ending x f g 0 0 2 _ (ap waiting u.theirs) (ap awaited u.own))
     (λ _. by_row (Counts f 0 0) (is_filled a.facts) (answers_finish x a.facts (unwrap_or (awaits_gap a.facts.connection.peer_finish) 0)) (goes_on x (skip_of a.skipped) (told_skip a.skipped) a.facts)
     (λ filled. let one = waits a.facts.connection.peer_finish (is_none (receiver_is.gap a.facts.connection.receiver)) filled in
-        let was = ap waiting theirs in answering x f a.facts 0 (unwrap_or (awaits_gap a.facts.connection.peer_finish) 0) (omega (arith, one, was)) same)
+    let was = ap waiting theirs in answering x f a.facts 0 (unwrap_or (awaits_gap a.facts.connection.peer_finish) 0) (omega (arith, one, was)) same)
     (λ _. passing x f a.facts 0 0 (skip_of a.skipped) (told_skip a.skipped) (ap waiting theirs) same (skip_answers a.skipped) (skip_sends a.skipped)))
 
 requested : (x : Around) (f : Facts) (id : List ℕ) (timestamp : ℕ) (r : Result Range RetransmitCode) → Counts f 0 0 (request_answered x f id timestamp r)
@@ -274,8 +274,7 @@ session_rows x f (negotiation_reject id timestamp code reason) = in_session x f 
   λ _. (λ _. rejecting x f 0 0 _, λ _. tt),
 )))
 session_rows x f (establish id timestamp keepalive next credentials) =
-    choosing (Counts f 0 0) (awaits_client x f) (serves_client x f) (establish_rows x f id timestamp keepalive next credentials) (established_again_rows x f id timestamp)
-    (
+    choosing (Counts f 0 0) (awaits_client x f) (serves_client x f) (establish_rows x f id timestamp keepalive next credentials) (established_again_rows x f id timestamp) (
       λ _. staying f f 0 0 _ refl refl refl refl,
       λ _. (
         λ _. staying f f 0 0 _ refl refl refl refl,
@@ -289,7 +288,7 @@ session_rows x f (establish id timestamp keepalive next credentials) =
 session_rows x f (establishment_ack id timestamp keepalive next) = in_session x f 0 0 5 id _ (all_within (Counts f 0 0) (is_establishing f.connection.phase) (establishment_ack_rows x f keepalive next) (λ _.
     announced_rows (Counts f 0 0) x f 5 next (λ (a : Announced). goes_on x (skip_of a.skipped) (told_skip a.skipped) (established a.facts (min 60000 (max 100 keepalive)))) (λ v. refusing x f f 0 0 v refl refl)
     (λ _. let a = announced x f next in let u = untouched x f next in
-        passing x f (established a.facts (min 60000 (max 100 keepalive))) 0 0 (skip_of a.skipped) (told_skip a.skipped) (ap waiting u.theirs) (ap awaited u.own) (skip_answers a.skipped) (skip_sends a.skipped))))
+    passing x f (established a.facts (min 60000 (max 100 keepalive))) 0 0 (skip_of a.skipped) (told_skip a.skipped) (ap waiting u.theirs) (ap awaited u.own) (skip_answers a.skipped) (skip_sends a.skipped))))
 session_rows x f (establishment_reject id timestamp code reason) = in_session x f 0 0 6 id _ (all_within (Counts f 0 0) (is_establishing f.connection.phase) (establishment_reject_rows x f code) (λ _. (
   λ _. asks_again x f (in_phase f phases.Negotiating) acts.Nothing (opening_negotiate x) refl refl refl refl,
   λ _. (λ _. rejecting x f 0 0 _, λ _. tt),

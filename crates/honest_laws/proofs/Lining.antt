@@ -1,8 +1,7 @@
 -- What a reader in Established expects of numbers behind each message that is under way to it.
-use Rattle.std.proofs.Common.{◌≡◌, ◌⊎◌, inl, inr, ℕ, ◌+◌, ◌-◌, ◌≤◌, ◌==◌, ◌&&◌, ◌||◌, min, max, nat_lt, not, Bool, true, false, if◌then◌else◌, List, [], ◌∷◌, ◌++◌, Option, Some, None, refl, sym, ap, subst, ◌∙◌, arith, true≢false, eqb-true, eq-eqb}
+use Rattle.std.proofs.Common.{◌≡◌, ℕ, ◌+◌, ◌-◌, ◌≤◌, ◌==◌, ◌&&◌, ◌||◌, nat_lt, not, Bool, true, false, if◌then◌else◌, List, [], ◌∷◌, Option, Some, None, refl, sym, ap, subst, ◌∙◌, arith, true≢false, eqb-true, eq-eqb}
 use Rattle.std.specs.Prelude.{⊤, is_some, is_none, unwrap_or, Result, Ok, Err}
 use Rattle.fixp_msgs.specs.declared.numbering.Range.{Range}
-use Rattle.fixp_msgs.specs.Flow.{flow_code}
 use Rattle.fixp_msgs.specs.Message.{Message, negotiate, negotiation_response, negotiation_reject, establish, establishment_ack, establishment_reject, sequence, unsequenced_heartbeat, retransmit_request, retransmission, retransmit_reject, applied, not_applied, finished_sending, finished_receiving, terminate}
 use Rattle.flow_recover.specs.declared.receiver.Seen.{Seen}
 use Rattle.flow_recover.specs.declared.receiver.Seen.TheVariants.{Deliver, Gap, Repeat}
@@ -11,45 +10,39 @@ use Rattle.flow_retrans.specs.declared.requester.BadStart.{BadStart}
 use Rattle.flow_retrans.specs.declared.judging.RetransmitCode.{RetransmitCode}
 use Rattle.flow_retrans.specs.Judging.{judged}
 use Rattle.flow_retrans.specs.Requests as request_is
-use Rattle.fixp_shake.specs.declared.phase.Phase.TheVariants as phases
 use Rattle.fixp_shake.specs.declared.violation.Violation.{Violation}
 use Rattle.fixp_shake.specs.declared.violation.Violation.TheVariants.{AfterFinish, OtherSession, WentBack, MissingNext, NumberTooLarge, FlowNone}
 use Rattle.fixp_shake.specs.Flows.{is_recoverable, is_idempotent, is_sequenced, is_absent}
-use Rattle.fixp_shake.specs.Phases.{is_negotiating, is_establishing, is_established, is_closing}
+use Rattle.fixp_shake.specs.Phases.{is_established}
 use Rattle.fixp_replies.specs.declared.act.Act.{Act}
 use Rattle.fixp_replies.specs.declared.act.Act.TheVariants as acts
-use Rattle.fixp_replies.specs.declared.act.Ending.{Ending}
 use Rattle.fixp_replies.specs.declared.act.Ending.TheVariants as endings
 use Rattle.fixp_replies.specs.declared.facts.Facts.{Facts}
-use Rattle.fixp_replies.specs.declared.facts.OwnFinish.{OwnFinish}
 use Rattle.fixp_replies.specs.declared.facts.OwnFinish.TheVariants as own
 use Rattle.flow_retrans.specs.declared.request.Request.{Request}
 use Rattle.flow_retrans.specs.declared.request.Request.TheVariants as requests
-use Rattle.fixp_replies.specs.declared.facts.PeerFinish.{PeerFinish}
 use Rattle.fixp_replies.specs.declared.facts.PeerFinish.TheVariants as peer
-use Rattle.fixp_replies.specs.Incoming.{Incoming, application, session}
-use Rattle.fixp_replies.specs.Facts.{Around, is_own, in_phase, receiving, requesting, serves, negotiated as as_negotiated, awaiting, gap_to_ask, having_asked, announced_number, expected_number, message_number, live_number, finishes_exchanged, peer_last, awaits_gap, is_told}
-use Rattle.fixp_replies.specs.Outcomes.{Outcome, Row, row, within, goes_on, accepts, rejects, ignores, ends_with, ends, breaks, not_in_phase, request_for, skip_of, told_skip, opening_negotiate, opening_establish}
-use Rattle.fixp_replies.specs.Announcing.{Announced, jumped_over, announced, announcement_fault, refuses, announcement_rows}
-use Rattle.fixp_replies.specs.Handshake.{awaits_client, serves_client, rejects_negotiate, rejects_establish, established, acknowledges, negotiate_rows, establish_rows, established_again_rows, establish_rows_in, shaken, rejected, negotiation_response_rows, negotiation_reject_rows, establishment_ack_rows, establishment_reject_rows}
-use Rattle.fixp_replies.specs.Flowing.{bad_retransmission, counted, taken_as, finish_act, peer_finished, answers_finish, is_filled, is_past_finish, sequence_follows, sequence_taken, restarted, finished_last, finish_fault, finished, is_last, application_rows, sequence_rows, retransmission_rows, retransmit_reject_rows, finished_sending_rows}
+use Rattle.fixp_replies.specs.Incoming.{application, session}
+use Rattle.fixp_replies.specs.Facts.{Around, is_own, receiving, requesting, serves, awaiting, gap_to_ask, having_asked, expected_number, message_number, live_number, finishes_exchanged, peer_last, awaits_gap}
+use Rattle.fixp_replies.specs.Outcomes.{Outcome, goes_on, accepts, ends, breaks, not_in_phase, skip_of, told_skip}
+use Rattle.fixp_replies.specs.Announcing.{Announced, jumped_over, announced, announcement_fault, refuses}
+use Rattle.fixp_replies.specs.Flowing.{bad_retransmission, counted, taken_as, peer_finished, answers_finish, is_filled, is_past_finish, sequence_follows, sequence_taken, restarted, finished_last, finish_fault, finished, is_last, application_rows, sequence_rows, retransmission_rows, retransmit_reject_rows, finished_sending_rows}
 use Rattle.fixp_replies.specs.Serving.{request_answered, own_finishing, retransmit_request_rows, finished_receiving_rows}
-use Rattle.fixp_replies.specs.Replies.{reply_of, rows_of, answer_of, of_session, terminates, template_of}
-use Rattle.reply_laws.proofs.Rows.{AllRows, by_row, all_rows, all_within, own_rows}
-use Rattle.connection_laws.specs.Writing.{Piece, said, entry, said_all}
+use Rattle.fixp_replies.specs.Replies.{rows_of, answer_of}
+use Rattle.reply_laws.proofs.Rows.{by_row, all_rows, all_within}
+use Rattle.connection_laws.specs.Writing.{Piece, said, entry}
 use Rattle.link_laws.specs.Reading.{incoming_of}
 use Rattle.fixp_shake.specs.declared.violation.Violation.TheVariants as violations
 use Rattle.fixp_shake.specs.declared.config.EndConfig.{EndConfig}
 use Rattle.flow_recover.specs.Receiving.{Receiving}
 use Rattle.flow_recover.proofs.Chains.{next_counted}
-use Rattle.std.proofs.lemmas.Bool.{ltb-true, ltb-false}
+use Rattle.std.proofs.lemmas.Bool.{ltb-false}
 use Rattle.std.proofs.lemmas.Bool.Decides.{nat_tests}
 use Rattle.reply_laws.proofs.Tests.{delivers, passes}
 use Rattle.honest_laws.proofs.Shapes.{IsFlowing}
-use Rattle.honest_laws.proofs.Deciding.{Decides, decides_within, never}
+use Rattle.honest_laws.proofs.Deciding.{Decides, decides_within}
 use Rattle.honest_laws.proofs.Replying.{Peer, foreign, heard}
-use Rattle.honest_laws.proofs.Asking.{asks, is_serving}
-use Rattle.honest_laws.proofs.Numbers.{bound_after, left_after, HasOne, IsWhole, Fits}
+use Rattle.honest_laws.proofs.Numbers.{bound_after, left_after, HasOne, Fits}
 
 -- a violation that is not of numbers
 abbrev pub NotNumber : Violation → Type 0
@@ -305,7 +298,7 @@ following x g next a b l h =
     (λ _. ending x g 2 _ b l tt)
     (λ _. by_row (Lined b l) (is_filled a.facts) (answers_finish x a.facts (unwrap_or (awaits_gap a.facts.connection.peer_finish) 0)) (goes_on x (skip_of a.skipped) (told_skip a.skipped) a.facts)
     (λ _. going x (peer_finished a.facts (peer.Exchanged (unwrap_or (awaits_gap a.facts.connection.peer_finish) 0)) (Some (unwrap_or a.facts.recorded.peer_last (unwrap_or (awaits_gap a.facts.connection.peer_finish) 0)))) _ (finished_receiving x.config.session ∷ []) b l
-        (same_receiver a.facts _ b l refl refl refl h))
+    (same_receiver a.facts _ b l refl refl refl h))
     (λ _. going x a.facts (skip_of a.skipped) (told_skip a.skipped) b l h))
 
 -- The reader of a recoverable flow
@@ -329,8 +322,7 @@ passing x f g act written line r q n = going x g act written f.connection.receiv
 message_lined : (x : Around) (f : Facts) (payload : List ℕ) → Before x f (entry payload) → Decides (After f (entry payload)) (application_rows x f)
 message_lined x f payload k =
     let b : ℕ = bound_after (entry payload) f.connection.receiver.live (left_of f.connection.requester) in
-    let l : Option ℕ = left_after (entry payload) (left_of f.connection.requester) in
-    (
+    let l : Option ℕ = left_after (entry payload) (left_of f.connection.requester) in (
       λ _. ending x f 2 _ b l tt,
       λ _. (
         λ _. ending x f 2 _ b l tt,
@@ -352,15 +344,14 @@ message_lined x f payload k =
         (number_low x.most f.connection.receiver.live f.connection.receiver.again f.connection.receiver.next f.connection.requester k.line.matches k.fits k.top)
 
 sequence_lined : (x : Around) (f : Facts) (next : ℕ) → Before x f (said (sequence next)) → Decides (After f (said (sequence next))) (sequence_rows x f next)
-sequence_lined x f next k =
-    (
-      λ some. bad x f (request_is.sequence_fault f.connection.requester) next None some,
-      λ _. (
-        λ some. refusing x g (announcement_fault x g 7 (Some next)) next None some
-            (number_fault x g 7 (Some next) (not_less (x.most + 1) next k.top) (not_less next (expected_number x g) high)),
-        λ _. (λ _. following x g next (announced x g (Some next)) next None reached, λ e. absurd (true≢false e)),
-      ),
-    )
+sequence_lined x f next k = (
+  λ some. bad x f (request_is.sequence_fault f.connection.requester) next None some,
+  λ _. (
+    λ some. refusing x g (announcement_fault x g 7 (Some next)) next None some
+        (number_fault x g 7 (Some next) (not_less (x.most + 1) next k.top) (not_less next (expected_number x g) high)),
+    λ _. (λ _. following x g next (announced x g (Some next)) next None reached, λ e. absurd (true≢false e)),
+  ),
+)
   where
     g : Facts
     g = requesting f (request_is.after_sequence f.connection.requester)
@@ -401,13 +392,15 @@ begins r (requests.Coming range n left) next count none m e = absurd (cc none)
 
 restart_lined : (x : Around) (f : Facts) (id : List ℕ) (next timestamp count : ℕ) → Before x f (said (retransmission id next timestamp count))
     → Decides (After f (said (retransmission id next timestamp count))) (retransmission_rows x f next count)
-restart_lined x f id next timestamp count k =
-    (
-      λ some. bad x f (request_is.start_fault (request_is.outstanding f.connection.requester) next count) f.connection.receiver.live (Some count) some,
-      λ fits. (λ _. let m = begins f.connection.receiver f.connection.requester next count k.fits k.line.matches fits in
-          going x (restarted f next count) acts.Nothing [] f.connection.receiver.live (Some count)
-          (record { line = record { waits = k.line.waits; low = k.line.low; matches = m.0 }; bound = omega arith; left = m.1 }), λ e. absurd (true≢false e)),
-    )
+restart_lined x f id next timestamp count k = (
+  λ some. bad x f (request_is.start_fault (request_is.outstanding f.connection.requester) next count) f.connection.receiver.live (Some count) some,
+  λ fits. (
+    λ _. let m = begins f.connection.receiver f.connection.requester next count k.fits k.line.matches fits in
+        going x (restarted f next count) acts.Nothing [] f.connection.receiver.live (Some count)
+        (record { line = record { waits = k.line.waits; low = k.line.low; matches = m.0 }; bound = omega arith; left = m.1 }),
+    λ e. absurd (true≢false e),
+  ),
+)
 
 requested : (x : Around) (f : Facts) (id : List ℕ) (timestamp : ℕ) (r : Result Range RetransmitCode) → Line f → Lined f.connection.receiver.live (left_of f.connection.requester) (request_answered x f id timestamp r)
 requested x f id timestamp (Ok range) line = passing x f (serves f (Some range)) acts.Nothing (retransmission x.config.session range.from timestamp range.count ∷ []) line refl refl refl
@@ -439,31 +432,43 @@ recoverable_reply x f theirs (said (retransmit_request id timestamp first count)
     ))
 recoverable_reply x f theirs (said (retransmission id next timestamp count)) are now flows k =
     let P = After f (said (retransmission id next timestamp count)) in
-    heard P x f (session (retransmission id next timestamp count)) (foreign x id (flows ∙ are.session), λ _.
-        decides_within P (is_established f.connection.phase) (retransmission_rows x f next count) now (restart_lined x f id next timestamp count k))
+    heard P x f (session (retransmission id next timestamp count)) (
+      foreign x id (flows ∙ are.session),
+      λ _.
+          decides_within P (is_established f.connection.phase) (retransmission_rows x f next count) now (restart_lined x f id next timestamp count k),
+    )
 recoverable_reply x f theirs (said (retransmit_reject id timestamp code reason)) are now flows k =
     let P = Lined f.connection.receiver.live (left_of f.connection.requester) in
-    heard P x f (session (retransmit_reject id timestamp code reason)) (foreign x id (flows ∙ are.session), λ _.
-        decides_within P (is_established f.connection.phase) (retransmit_reject_rows x f) now (λ _. ending x f 2 _ f.connection.receiver.live (left_of f.connection.requester) tt, λ e. absurd (true≢false e)))
+    heard P x f (session (retransmit_reject id timestamp code reason)) (
+      foreign x id (flows ∙ are.session),
+      λ _.
+          decides_within P (is_established f.connection.phase) (retransmit_reject_rows x f) now (λ _. ending x f 2 _ f.connection.receiver.live (left_of f.connection.requester) tt, λ e. absurd (true≢false e)),
+    )
 recoverable_reply x f theirs (said (applied first count)) are now flows k = passing x f f acts.Nothing [] k.line refl refl refl
 recoverable_reply x f theirs (said (not_applied first count)) are now flows k =
     by_row (Lined f.connection.receiver.live (left_of f.connection.requester)) (is_idempotent x.config.own_flow) (goes_on x (acts.Told first count) [] f) (accepts x [] f)
     (λ _. passing x f f (acts.Told first count) [] k.line refl refl refl) (λ _. passing x f f acts.Nothing [] k.line refl refl refl)
 recoverable_reply x f theirs (said (finished_sending id last)) are now flows k =
     let P = Lined f.connection.receiver.live (left_of f.connection.requester) in
-    heard P x f (session (finished_sending id last)) (foreign x id (flows.0 ∙ are.session), λ _.
-        decides_within P (is_established f.connection.phase) (finished_sending_rows x f last) now (
-          λ some. refusing x f (finish_fault x f last) f.connection.receiver.live (left_of f.connection.requester) some (finish_fine x f last),
-          λ _. (λ _. finishing x f (finished_last x last) k.line, λ e. absurd (true≢false e)),
-        ))
+    heard P x f (session (finished_sending id last)) (
+      foreign x id (flows.0 ∙ are.session),
+      λ _.
+          decides_within P (is_established f.connection.phase) (finished_sending_rows x f last) now (
+            λ some. refusing x f (finish_fault x f last) f.connection.receiver.live (left_of f.connection.requester) some (finish_fine x f last),
+            λ _. (λ _. finishing x f (finished_last x last) k.line, λ e. absurd (true≢false e)),
+          ),
+    )
 recoverable_reply x f theirs (said (finished_receiving id)) are now flows k =
     let P = Lined f.connection.receiver.live (left_of f.connection.requester) in
     all_rows P (not_in_phase x f 15) (rows_of x f (session (finished_receiving id))) (ending x f 2 _ f.connection.receiver.live (left_of f.connection.requester) tt)
     (foreign x id (flows ∙ are.session), λ _. all_within P (is_established f.connection.phase) (finished_receiving_rows x f) (λ _. (λ _. passing x f (own_finishing f own.Exchanged) acts.Nothing [] k.line refl refl refl, λ _. tt)))
 recoverable_reply x f theirs (said (terminate id code reason)) are now flows k =
     let P = Lined f.connection.receiver.live (left_of f.connection.requester) in
-    heard P x f (session (terminate id code reason)) (foreign x id (flows ∙ are.session), λ _.
-        (λ _. record { fine = λ w same. terminated_fine (finishes_exchanged x f) code w same; next = λ none. absurd cc }, λ e. absurd (true≢false e)))
+    heard P x f (session (terminate id code reason)) (
+      foreign x id (flows ∙ are.session),
+      λ _.
+          (λ _. record { fine = λ w same. terminated_fine (finishes_exchanged x f) code w same; next = λ none. absurd cc }, λ e. absurd (true≢false e)),
+    )
 
 -- The reader of another flow
 pub record Rests (f : Facts) (b : ℕ) : Type 0 where
@@ -506,8 +511,7 @@ rest f idle = record { idle = idle; bound = omega arith }
 
 message_rests : (x : Around) (f : Facts) (payload : List ℕ) → BeforeOther x f (entry payload) → Decides (Other (f.recorded.inbox_next + 1)) (application_rows x f)
 message_rests x f payload k =
-    let b : ℕ = f.recorded.inbox_next + 1 in
-    (
+    let b : ℕ = f.recorded.inbox_next + 1 in (
       λ _. stops x f 2 _ b tt,
       λ _. (
         λ _. stops x f 2 _ b tt,
@@ -530,7 +534,7 @@ following_other x g next a b h =
     (λ _. stops x g 2 _ b tt)
     (λ _. by_row (Other b) (is_filled a.facts) (answers_finish x a.facts (unwrap_or (awaits_gap a.facts.connection.peer_finish) 0)) (goes_on x (skip_of a.skipped) (told_skip a.skipped) a.facts)
     (λ _. rests x (peer_finished a.facts (peer.Exchanged (unwrap_or (awaits_gap a.facts.connection.peer_finish) 0)) (Some (unwrap_or a.facts.recorded.peer_last (unwrap_or (awaits_gap a.facts.connection.peer_finish) 0)))) _ (finished_receiving x.config.session ∷ []) b
-        (record { idle = record { even = h.idle.even; none = h.idle.none }; bound = h.bound }))
+    (record { idle = record { even = h.idle.even; none = h.idle.none }; bound = h.bound }))
     (λ _. rests x a.facts (skip_of a.skipped) (told_skip a.skipped) b h))
 
 pub announced_rests : (x : Around) (g : Facts) (next : Option ℕ) (b : ℕ) → is_recoverable x.config.peer_flow ≡ false → Idle g → g.recorded.inbox_next ≤ b → (is_idempotent x.config.peer_flow ≡ true → unwrap_or next 0 ≤ b)
@@ -548,15 +552,14 @@ announced_rests x g next b other idle low high = by_flow (is_recoverable x.confi
     by_flow false false e h = record { idle = idle; bound = low }
 
 sequence_rests : (x : Around) (f : Facts) (next : ℕ) → BeforeOther x f (said (sequence next)) → Decides (Other next) (sequence_rows x f next)
-sequence_rests x f next k =
-    (
-      λ some. bad_other x f (request_is.sequence_fault f.connection.requester) next some,
-      λ _. (
-        λ some. refusing_other x g (announcement_fault x g 7 (Some next)) next some
-            (number_fault x g 7 (Some next) (not_less (x.most + 1) next k.top) (not_less next (expected_number x g) high)),
-        λ _. (λ _. following_other x g next (announced x g (Some next)) next (announced_rests x g (Some next) next k.other idle k.fits.0 (λ _. omega arith)), λ e. absurd (true≢false e)),
-      ),
-    )
+sequence_rests x f next k = (
+  λ some. bad_other x f (request_is.sequence_fault f.connection.requester) next some,
+  λ _. (
+    λ some. refusing_other x g (announcement_fault x g 7 (Some next)) next some
+        (number_fault x g 7 (Some next) (not_less (x.most + 1) next k.top) (not_less next (expected_number x g) high)),
+    λ _. (λ _. following_other x g next (announced x g (Some next)) next (announced_rests x g (Some next) next k.other idle k.fits.0 (λ _. omega arith)), λ e. absurd (true≢false e)),
+  ),
+)
   where
     g : Facts
     g = requesting f (request_is.after_sequence f.connection.requester)
@@ -607,31 +610,43 @@ other_reply x f theirs (said (retransmit_request id timestamp first count)) are 
     ))
 other_reply x f theirs (said (retransmission id next timestamp count)) are now flows k =
     let P = Other f.recorded.inbox_next in
-    heard P x f (session (retransmission id next timestamp count)) (foreign x id (flows ∙ are.session), λ _.
-        decides_within P (is_established f.connection.phase) (retransmission_rows x f next count) now (
-          λ some. bad_other x f (request_is.start_fault (request_is.outstanding f.connection.requester) next count) f.recorded.inbox_next some,
-          λ fits. absurd (true≢false (sym (never_starts f.connection.requester next count k.idle.none) ∙ fits)),
-        ))
+    heard P x f (session (retransmission id next timestamp count)) (
+      foreign x id (flows ∙ are.session),
+      λ _.
+          decides_within P (is_established f.connection.phase) (retransmission_rows x f next count) now (
+            λ some. bad_other x f (request_is.start_fault (request_is.outstanding f.connection.requester) next count) f.recorded.inbox_next some,
+            λ fits. absurd (true≢false (sym (never_starts f.connection.requester next count k.idle.none) ∙ fits)),
+          ),
+    )
 other_reply x f theirs (said (retransmit_reject id timestamp code reason)) are now flows k =
     let P = Other f.recorded.inbox_next in
-    heard P x f (session (retransmit_reject id timestamp code reason)) (foreign x id (flows ∙ are.session), λ _.
-        decides_within P (is_established f.connection.phase) (retransmit_reject_rows x f) now (λ _. stops x f 2 _ f.recorded.inbox_next tt, λ e. absurd (true≢false e)))
+    heard P x f (session (retransmit_reject id timestamp code reason)) (
+      foreign x id (flows ∙ are.session),
+      λ _.
+          decides_within P (is_established f.connection.phase) (retransmit_reject_rows x f) now (λ _. stops x f 2 _ f.recorded.inbox_next tt, λ e. absurd (true≢false e)),
+    )
 other_reply x f theirs (said (applied first count)) are now flows k = passing_other x f f acts.Nothing [] k.idle refl refl refl
 other_reply x f theirs (said (not_applied first count)) are now flows k =
     by_row (Other f.recorded.inbox_next) (is_idempotent x.config.own_flow) (goes_on x (acts.Told first count) [] f) (accepts x [] f)
     (λ _. passing_other x f f (acts.Told first count) [] k.idle refl refl refl) (λ _. passing_other x f f acts.Nothing [] k.idle refl refl refl)
 other_reply x f theirs (said (finished_sending id last)) are now flows k =
     let P = Other f.recorded.inbox_next in
-    heard P x f (session (finished_sending id last)) (foreign x id (flows.0 ∙ are.session), λ _.
-        decides_within P (is_established f.connection.phase) (finished_sending_rows x f last) now (
-          λ some. refusing_other x f (finish_fault x f last) f.recorded.inbox_next some (finish_fine x f last),
-          λ _. (λ _. finishing_other x f (finished_last x last) k.idle, λ e. absurd (true≢false e)),
-        ))
+    heard P x f (session (finished_sending id last)) (
+      foreign x id (flows.0 ∙ are.session),
+      λ _.
+          decides_within P (is_established f.connection.phase) (finished_sending_rows x f last) now (
+            λ some. refusing_other x f (finish_fault x f last) f.recorded.inbox_next some (finish_fine x f last),
+            λ _. (λ _. finishing_other x f (finished_last x last) k.idle, λ e. absurd (true≢false e)),
+          ),
+    )
 other_reply x f theirs (said (finished_receiving id)) are now flows k =
     let P = Other f.recorded.inbox_next in
     all_rows P (not_in_phase x f 15) (rows_of x f (session (finished_receiving id))) (stops x f 2 _ f.recorded.inbox_next tt)
     (foreign x id (flows ∙ are.session), λ _. all_within P (is_established f.connection.phase) (finished_receiving_rows x f) (λ _. (λ _. passing_other x f (own_finishing f own.Exchanged) acts.Nothing [] k.idle refl refl refl, λ _. tt)))
 other_reply x f theirs (said (terminate id code reason)) are now flows k =
     let P = Other f.recorded.inbox_next in
-    heard P x f (session (terminate id code reason)) (foreign x id (flows ∙ are.session), λ _.
-        (λ _. record { fine = λ w same. terminated_fine (finishes_exchanged x f) code w same; next = λ none. absurd cc }, λ e. absurd (true≢false e)))
+    heard P x f (session (terminate id code reason)) (
+      foreign x id (flows ∙ are.session),
+      λ _.
+          (λ _. record { fine = λ w same. terminated_fine (finishes_exchanged x f) code w same; next = λ none. absurd cc }, λ e. absurd (true≢false e)),
+    )

@@ -1,36 +1,33 @@
 -- What each call makes of an end, and what it writes: as far as phases go.
-use Rattle.std.proofs.Common.{◌≡◌, ◌⊎◌, inl, inr, ℕ, ◌+◌, ◌-◌, ◌*◌, ◌==◌, ◌&&◌, ◌||◌, nat_le, not, Bool, true, false, if◌then◌else◌, List, [], ◌∷◌, ◌++◌, map, length, Option, Some, None, refl, sym, ap, subst, ◌∙◌, true≢false, append-nil}
-use Rattle.std.specs.Prelude.{⊤, is_some, is_none, IsSome, option_map}
+use Rattle.std.proofs.Common.{◌≡◌, ◌⊎◌, inl, inr, ℕ, ◌+◌, ◌-◌, ◌*◌, ◌==◌, ◌&&◌, nat_le, not, Bool, true, false, if◌then◌else◌, List, [], ◌∷◌, ◌++◌, length, Option, Some, None, refl, sym, ap, subst, ◌∙◌, true≢false, append-nil}
+use Rattle.std.specs.Prelude.{is_some, is_none, IsSome}
 use Rattle.std.specs.List.{AllByRecursion}
 use Rattle.session_model.specs.Journal.{Entry}
 use Rattle.session_model.proofs.Lists.{all_append}
 use Rattle.fixp_msgs.specs.declared.numbering.Range.{Range}
-use Rattle.fixp_msgs.specs.Message.{Message, sequence, unsequenced_heartbeat, applied, terminate, finished_sending}
+use Rattle.fixp_msgs.specs.Message.{Message, sequence, unsequenced_heartbeat, terminate, finished_sending}
 use Rattle.flow_idem.specs.Runs.{runs_of}
-use Rattle.flow_recover.specs.Receiving as receiver_is
 use Rattle.growth_laws.proofs.Accepted.{is_done}
 use Rattle.fixp_msgs.specs.declared.flow.Flow.{Flow}
 use Rattle.fixp_msgs.specs.declared.flow.Flow.TheVariants as flows
 use Rattle.fixp_shake.specs.declared.config.EndConfig.{EndConfig}
-use Rattle.fixp_shake.specs.declared.phase.Phase.{Phase}
 use Rattle.fixp_shake.specs.declared.phase.Phase.TheVariants as phases
 use Rattle.fixp_shake.specs.declared.violation.Violation.{Violation}
 use Rattle.fixp_shake.specs.declared.violation.Violation.TheVariants.{Silent, HandshakeLate}
 use Rattle.fixp_shake.specs.Flows.{is_recoverable, is_sequenced, is_absent}
 use Rattle.fixp_shake.specs.Phases.{is_established, is_shaken}
-use Rattle.fixp_replies.specs.declared.act.Ending.{Ending}
 use Rattle.fixp_replies.specs.declared.act.Ending.TheVariants as endings
 use Rattle.fixp_replies.specs.declared.facts.Facts.{Facts}
 use Rattle.fixp_replies.specs.declared.facts.OwnFinish.TheVariants as own
 use Rattle.fixp_replies.specs.Acts.{is_record}
-use Rattle.fixp_replies.specs.Facts.{Around, is_initiator, in_phase, finishes_exchanged, is_open, connecting, serves}
-use Rattle.fixp_replies.specs.Outcomes.{Outcome, breaks}
+use Rattle.fixp_replies.specs.Facts.{Around, is_initiator, in_phase, finishes_exchanged, is_open, serves}
+use Rattle.fixp_replies.specs.Outcomes.{Outcome}
 use Rattle.fixp_replies.specs.Replies.{reply_of}
 use Rattle.fixp_replies.specs.Serving.{own_finishing}
 use Rattle.fixp_replies.specs.Events.{Made, heartbeat, heartbeats, is_due, lateness, handshake_limit, applied_runs, closes, turn_ended, outbox_finished, tells_finish, finish_told, link_ending}
-use Rattle.reply_laws.specs.Machine.{State, Call, begin, frame, bad_frame, did, tick, turn_done, closed, link_end, live, again, taken, reserve, around, bytes_of, wrote, made, reply_applied, done_pending, broken_by, served_again, rest_of, counted_sent, step, run}
-use Rattle.connection_laws.specs.Writing.{Piece, said, entry, said_all, entries, said_with, said_breaking, range_closed, written_again, writes}
-use Rattle.connection_laws.specs.Standing.{IsOpen, MayStand}
+use Rattle.reply_laws.specs.Machine.{State, Call, begin, frame, bad_frame, did, tick, turn_done, closed, link_end, live, again, taken, reserve, around, bytes_of, wrote, made, reply_applied, done_pending, broken_by, served_again, rest_of, step, run}
+use Rattle.connection_laws.specs.Writing.{Piece, said_all, entries, said_with, said_breaking, range_closed, written_again, writes}
+use Rattle.connection_laws.specs.Standing.{MayStand}
 use Rattle.link_laws.specs.Reading.{incoming_of}
 use Rattle.honest_laws.specs.Laws.{IsLeft, EndsBy}
 use Rattle.honest_laws.specs.Worlds.{reading, written, IsOther}
@@ -299,8 +296,11 @@ resending s None range payloads now same e serves = absurd cc
 resending s (Some r) range payloads now same e serves = record {
   config = refl;
   before = λ _ q. absurd (cc (q.free, same));
-  done = λ k. (k, all_append (IsFlowing s.config) (entries payloads) (range_closed s.facts (rest_of r (length payloads)))
-      (entries_flow s.config payloads (present s.config.own_flow (λ n. cc (serves n, same)))) (closed_flows s.config s.facts (rest_of r (length payloads))));
+  done = λ k. (
+    k,
+    all_append (IsFlowing s.config) (entries payloads) (range_closed s.facts (rest_of r (length payloads)))
+        (entries_flow s.config payloads (present s.config.own_flow (λ n. cc (serves n, same)))) (closed_flows s.config s.facts (rest_of r (length payloads))),
+  );
   accepts = λ _. refl;
   serves = λ n h. absurd (cc (h, same));
   over = λ h. h;

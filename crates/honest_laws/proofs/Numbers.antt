@@ -1,8 +1,8 @@
 -- The numbers under way between two ends: how far what is under way may bring a reader.
-use Rattle.std.proofs.Common.{◌≡◌, ℕ, ◌+◌, ◌-◌, ◌≤◌, Bool, true, false, List, [], ◌∷◌, ◌++◌, length, Option, Some, None, refl, sym, ap, subst, ◌∙◌, arith, true≢false}
+use Rattle.std.proofs.Common.{◌≡◌, ℕ, ◌+◌, ◌-◌, ◌≤◌, List, [], ◌∷◌, ◌++◌, length, Option, Some, None, refl, sym, ap, subst, arith}
 use Rattle.std.specs.Prelude.{⊤}
 use Rattle.fixp_msgs.specs.declared.numbering.Range.{Range}
-use Rattle.fixp_msgs.specs.Message.{Message, sequence, retransmission}
+use Rattle.fixp_msgs.specs.Message.{sequence, retransmission}
 use Rattle.connection_laws.specs.Writing.{Piece, said, entry, entries}
 
 -- A reader's next live number is at most this, and so many messages of a retransmission are still to come: what each message makes of
@@ -77,8 +77,11 @@ served (Some r) = Some r.count
 -- entries live, and again
 pub live_run : (b : ℕ) (payloads : List (List ℕ)) → Runs b None (entries payloads) (b + length payloads) None
 live_run b [] = (omega arith, refl)
-live_run b (p ∷ payloads) = (tt, lower (b + 1) (b + 1) None (entries payloads) (b + length (p ∷ payloads)) None (omega arith)
-    (subst (λ (n : ℕ). Runs (b + 1) None (entries payloads) n None) (omega arith) (live_run (b + 1) payloads)))
+live_run b (p ∷ payloads) = (
+  tt,
+  lower (b + 1) (b + 1) None (entries payloads) (b + length (p ∷ payloads)) None (omega arith)
+      (subst (λ (n : ℕ). Runs (b + 1) None (entries payloads) n None) (omega arith) (live_run (b + 1) payloads)),
+)
 
 pub again_run : (b n : ℕ) (payloads : List (List ℕ)) → length payloads ≤ n → Runs b (Some n) (entries payloads) b (Some (n - length payloads))
 again_run b n [] h = (omega arith, ap (λ (k : ℕ). Some k) (omega arith))

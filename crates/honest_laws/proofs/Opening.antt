@@ -1,6 +1,6 @@
 -- What an end replies before the handshake is done, to a peer that keeps to the rules.
-use Rattle.std.proofs.Common.{◌≡◌, ◌⊎◌, inl, inr, ℕ, ◌+◌, ◌≤◌, ◌==◌, ◌&&◌, ◌||◌, min, max, nat_lt, not, Bool, true, false, if◌then◌else◌, List, [], ◌∷◌, ◌++◌, Option, Some, None, refl, sym, ap, subst, ◌∙◌, arith, true≢false, eq-eqb}
-use Rattle.std.specs.Prelude.{⊤, is_some, is_none, IsSome, unwrap_or}
+use Rattle.std.proofs.Common.{◌≡◌, inl, inr, ℕ, ◌+◌, ◌≤◌, ◌==◌, ◌&&◌, ◌||◌, min, max, nat_lt, not, Bool, true, false, if◌then◌else◌, List, [], ◌∷◌, Option, Some, None, refl, sym, ap, subst, ◌∙◌, arith, true≢false, eq-eqb}
+use Rattle.std.specs.Prelude.{is_some, is_none, IsSome}
 use Rattle.std.specs.List.{AllByRecursion}
 use Rattle.std.specs.Str.{bytes_eq}
 use Rattle.std.proofs.lemmas.Bool.Decides.{nat_tests}
@@ -13,27 +13,24 @@ use Rattle.fixp_shake.specs.declared.config.EndConfig.{EndConfig}
 use Rattle.fixp_shake.specs.declared.phase.Phase.{Phase}
 use Rattle.fixp_shake.specs.declared.phase.Phase.TheVariants as phases
 use Rattle.fixp_shake.specs.declared.violation.Violation.{Violation}
-use Rattle.fixp_shake.specs.declared.violation.Violation.TheVariants.{OtherSession}
 use Rattle.fixp_shake.specs.Flows.{is_idempotent, is_sequenced}
 use Rattle.fixp_shake.specs.Phases.{is_negotiating, is_establishing, is_closing, is_shaken}
 use Rattle.fixp_replies.specs.declared.act.Act.{Act}
 use Rattle.fixp_replies.specs.declared.act.Act.TheVariants as acts
-use Rattle.fixp_replies.specs.declared.act.Ending.{Ending}
-use Rattle.fixp_replies.specs.declared.act.Ending.TheVariants as endings
 use Rattle.fixp_replies.specs.declared.facts.Facts.{Facts}
-use Rattle.fixp_replies.specs.Facts.{Around, is_own, in_phase, negotiated as as_negotiated, gap_to_ask, having_asked, announced_number, finishes_exchanged}
-use Rattle.fixp_replies.specs.Incoming.{Incoming, application, session}
-use Rattle.fixp_replies.specs.Outcomes.{Outcome, Row, row, within, goes_on, accepts, rejects, ignores, ends, breaks, not_in_phase, request_for, skip_of, told_skip, opening_negotiate, opening_establish}
-use Rattle.fixp_replies.specs.Announcing.{Announced, announced, announcement_fault, refuses, announcement_rows}
-use Rattle.fixp_replies.specs.Handshake.{awaits_client, rejects_negotiate, rejects_establish, established, acknowledges, negotiate_rows, establish_rows, shaken, negotiation_response_rows, negotiation_reject_rows, establishment_ack_rows, establishment_reject_rows}
-use Rattle.fixp_replies.specs.Replies.{reply_of, rows_of, answer_of, of_session, terminates, template_of}
+use Rattle.fixp_replies.specs.Facts.{Around, is_own, in_phase, negotiated as as_negotiated, gap_to_ask, having_asked, finishes_exchanged}
+use Rattle.fixp_replies.specs.Incoming.{Incoming, session}
+use Rattle.fixp_replies.specs.Outcomes.{Outcome, Row, goes_on, accepts, ignores, request_for, skip_of, told_skip, opening_negotiate, opening_establish}
+use Rattle.fixp_replies.specs.Announcing.{Announced, announced, announcement_fault, refuses}
+use Rattle.fixp_replies.specs.Handshake.{awaits_client, established, acknowledges, negotiate_rows, establish_rows, shaken, negotiation_response_rows, negotiation_reject_rows, establishment_ack_rows, establishment_reject_rows}
+use Rattle.fixp_replies.specs.Replies.{reply_of, answer_of, terminates}
 use Rattle.reply_laws.proofs.Rows.{by_row}
 use Rattle.connection_laws.specs.Writing.{Piece, said, entry, said_all}
 use Rattle.link_laws.specs.Reading.{incoming_of}
 use Rattle.honest_laws.specs.Laws.{IsLeft}
 use Rattle.honest_laws.proofs.Shapes.{IsFree, IsFlowing, IsAsk, IsAnswer, IsAck, OneAtMost, AckFirst}
-use Rattle.honest_laws.proofs.Deciding.{Decides, decided, decides_within, same_bytes, never}
-use Rattle.honest_laws.proofs.Replying.{Peer, Left, asked_phase, asked_flows, skip_flows, none_left, left_of, terminated_left, fault_left, announced_decides, foreign, heard, announced_phase}
+use Rattle.honest_laws.proofs.Deciding.{Decides, decides_within, same_bytes, never}
+use Rattle.honest_laws.proofs.Replying.{Peer, Left, asked_phase, asked_flows, skip_flows, none_left, left_of, terminated_left, fault_left, announced_decides, foreign, heard}
 
 -- before the handshake is done nothing is asked for or sent again
 pub record Quiet (f : Facts) : Type 0 where
@@ -222,20 +219,29 @@ is_it_establishing p e = ap (λ q. is_establishing q) e
 pub answer_reply : (x : Around) (f : Facts) (theirs : EndConfig) (ph : Phase) (p : Piece) → Peer x.config theirs → f.connection.phase ≡ ph → is_shaken f.connection.phase ≡ false → Quiet f → IsAnswer theirs ph p
     → AsksAgain x.config (reply_of x f (incoming_of p))
 answer_reply x f theirs phases.Negotiating (said (negotiation_response id timestamp flow credentials)) are is before quiet answer =
-    open_before (AsksAgain x.config) x f (session (negotiation_response id timestamp flow credentials)) before (heard (AsksAgain x.config) x f (session (negotiation_response id timestamp flow credentials)) (foreign x id (answer.0 ∙ are.session), λ _. (decides_within (AsksAgain x.config) (is_negotiating f.connection.phase) (negotiation_response_rows x f flow) (negotiating f.connection.phase is) (
-      λ n. never (flow == flow_code x.config.peer_flow) (eq-eqb flow (flow_code x.config.peer_flow) (answer.1 ∙ ap (λ k. flow_code k) (sym are.flow))) n,
-      λ _. (λ _. establishing x f quiet, λ e. absurd (true≢false e)),
-    ))))
+    open_before (AsksAgain x.config) x f (session (negotiation_response id timestamp flow credentials)) before (heard (AsksAgain x.config) x f (session (negotiation_response id timestamp flow credentials)) (
+      foreign x id (answer.0 ∙ are.session),
+      λ _. (decides_within (AsksAgain x.config) (is_negotiating f.connection.phase) (negotiation_response_rows x f flow) (negotiating f.connection.phase is) (
+        λ n. never (flow == flow_code x.config.peer_flow) (eq-eqb flow (flow_code x.config.peer_flow) (answer.1 ∙ ap (λ k. flow_code k) (sym are.flow))) n,
+        λ _. (λ _. establishing x f quiet, λ e. absurd (true≢false e)),
+      )),
+    ))
 answer_reply x f theirs phases.Negotiating (said (negotiation_reject id timestamp code reason)) are is before quiet answer =
-    open_before (AsksAgain x.config) x f (session (negotiation_reject id timestamp code reason)) before (heard (AsksAgain x.config) x f (session (negotiation_reject id timestamp code reason)) (foreign x id (answer.0 ∙ are.session), λ _. (decides_within (AsksAgain x.config) (is_negotiating f.connection.phase) (negotiation_reject_rows x f code) (negotiating f.connection.phase is) (
-      λ _. establishing x f quiet,
-      λ n. absurd (true≢false (sym (eq-eqb code 4 answer.1) ∙ n)),
-    ))))
+    open_before (AsksAgain x.config) x f (session (negotiation_reject id timestamp code reason)) before (heard (AsksAgain x.config) x f (session (negotiation_reject id timestamp code reason)) (
+      foreign x id (answer.0 ∙ are.session),
+      λ _. (decides_within (AsksAgain x.config) (is_negotiating f.connection.phase) (negotiation_reject_rows x f code) (negotiating f.connection.phase is) (
+        λ _. establishing x f quiet,
+        λ n. absurd (true≢false (sym (eq-eqb code 4 answer.1) ∙ n)),
+      )),
+    ))
 answer_reply x f theirs phases.Establishing (said (establishment_reject id timestamp code reason)) are is before quiet answer =
-    open_before (AsksAgain x.config) x f (session (establishment_reject id timestamp code reason)) before (heard (AsksAgain x.config) x f (session (establishment_reject id timestamp code reason)) (foreign x id (answer.0 ∙ are.session), λ _. (decides_within (AsksAgain x.config) (is_establishing f.connection.phase) (establishment_reject_rows x f code) (is_it_establishing f.connection.phase is) (
-      λ _. asking x (in_phase f phases.Negotiating) acts.Nothing (opening_negotiate x) refl (record { even = quiet.even; free = quiet.free }) (refl, refl, refl),
-      λ n. absurd (true≢false (sym (eq-eqb code 2 answer.1) ∙ n)),
-    ))))
+    open_before (AsksAgain x.config) x f (session (establishment_reject id timestamp code reason)) before (heard (AsksAgain x.config) x f (session (establishment_reject id timestamp code reason)) (
+      foreign x id (answer.0 ∙ are.session),
+      λ _. (decides_within (AsksAgain x.config) (is_establishing f.connection.phase) (establishment_reject_rows x f code) (is_it_establishing f.connection.phase is) (
+        λ _. asking x (in_phase f phases.Negotiating) acts.Nothing (opening_negotiate x) refl (record { even = quiet.even; free = quiet.free }) (refl, refl, refl),
+        λ n. absurd (true≢false (sym (eq-eqb code 2 answer.1) ∙ n)),
+      )),
+    ))
 answer_reply x f theirs _ _ are is before quiet answer = absurd answer
 
 -- what it makes of an acknowledgement: the handshake is done, or the announcement is refused
@@ -246,10 +252,13 @@ pub data Acknowledged (cfg : EndConfig) (f : Facts) (o : Outcome) : Type 0 where
 pub ack_reply : (x : Around) (f : Facts) (theirs : EndConfig) (p : Piece) → Peer x.config theirs → f.connection.phase ≡ phases.Establishing → is_shaken f.connection.phase ≡ false → IsAck theirs p
     → Acknowledged x.config f (reply_of x f (incoming_of p))
 ack_reply x f theirs (said (establishment_ack id timestamp keepalive next)) are is before ack =
-    open_before (Acknowledged x.config f) x f (session (establishment_ack id timestamp keepalive next)) before (heard (Acknowledged x.config f) x f (session (establishment_ack id timestamp keepalive next)) (foreign x id (ack.0 ∙ are.session), λ _. (decides_within (Acknowledged x.config f) (is_establishing f.connection.phase) (establishment_ack_rows x f keepalive next) (is_it_establishing f.connection.phase is)
-    (announced_decides (Acknowledged x.config f) x f 5 next (λ (a : Announced). goes_on x (skip_of a.skipped) (told_skip a.skipped) (established a.facts (min 60000 (max 100 keepalive))))
-      (λ some. refused (announcement_fault x f 5 next) some (fault_left x f 5 next (λ n. ack.1 (ap (λ k. is_sequenced k) (sym are.flow) ∙ n))))
-      (standing (announced x f next) (min 60000 (max 100 keepalive)))))))
+    open_before (Acknowledged x.config f) x f (session (establishment_ack id timestamp keepalive next)) before (heard (Acknowledged x.config f) x f (session (establishment_ack id timestamp keepalive next)) (
+      foreign x id (ack.0 ∙ are.session),
+      λ _. (decides_within (Acknowledged x.config f) (is_establishing f.connection.phase) (establishment_ack_rows x f keepalive next) (is_it_establishing f.connection.phase is)
+          (announced_decides (Acknowledged x.config f) x f 5 next (λ (a : Announced). goes_on x (skip_of a.skipped) (told_skip a.skipped) (established a.facts (min 60000 (max 100 keepalive))))
+          (λ some. refused (announcement_fault x f 5 next) some (fault_left x f 5 next (λ n. ack.1 (ap (λ k. is_sequenced k) (sym are.flow) ∙ n))))
+          (standing (announced x f next) (min 60000 (max 100 keepalive))))),
+    ))
   where
     refused : (v : Option Violation) → is_some v ≡ true → ((w : Violation) → v ≡ Some w → IsLeft w) → Acknowledged x.config f (refuses x f v)
     refused None some h = absurd (true≢false (sym some))

@@ -1,11 +1,10 @@
 -- The phases of the two ends and what is under way between them, over any steps.
-use Rattle.std.proofs.Common.{◌≡◌, ◌⊎◌, inl, inr, ℕ, ◌+◌, ◌≤◌, ◌&&◌, not, Bool, true, false, if◌then◌else◌, List, [], ◌∷◌, ◌++◌, Option, Some, None, refl, sym, ap, subst, ◌∙◌, arith, true≢false}
-use Rattle.std.specs.Prelude.{⊤, is_some, IsSome}
+use Rattle.std.proofs.Common.{◌≡◌, inl, inr, ℕ, ◌+◌, ◌≤◌, ◌&&◌, not, Bool, true, false, if◌then◌else◌, List, [], ◌∷◌, ◌++◌, Option, Some, None, refl, sym, ap, subst, ◌∙◌, arith, true≢false}
+use Rattle.std.specs.Prelude.{is_some, IsSome}
 use Rattle.flow_retrans.specs.Requests.{is_coming}
 use Rattle.std.specs.List.{AllByRecursion}
 use Rattle.session_model.specs.Journal.{Entry}
 use Rattle.session_model.proofs.Lists.{all_append}
-use Rattle.flow_recover.specs.Receiving as receiver_is
 use Rattle.fixp_shake.specs.declared.config.Role.{Role}
 use Rattle.fixp_shake.specs.declared.config.Role.TheVariants as roles
 use Rattle.fixp_shake.specs.declared.config.EndConfig.{EndConfig}
@@ -23,24 +22,22 @@ use Rattle.fixp_replies.specs.Incoming.{Incoming}
 use Rattle.fixp_replies.specs.Outcomes.{Outcome, opening_negotiate, opening_establish}
 use Rattle.fixp_replies.specs.Replies.{reply_of}
 use Rattle.fixp_replies.specs.Events.{Made, begun}
-use Rattle.reply_laws.specs.Machine.{State, Call, begin, around, step, run, fresh}
+use Rattle.reply_laws.specs.Machine.{State, around, step, run}
 use Rattle.reply_laws.proofs.Tests.{no_gap}
-use Rattle.connection_laws.specs.Writing.{Piece, said, said_all, writes, WritesOwn, nothing, shakes, resends}
-use Rattle.connection_laws.specs.Standing.{IsOpen, MayStand}
+use Rattle.connection_laws.specs.Writing.{Piece, said_all, WritesOwn, nothing, shakes, resends}
+use Rattle.connection_laws.specs.Standing.{IsOpen}
 use Rattle.connection_laws.proofs.Replied.{frame_writes}
 use Rattle.link_laws.specs.Reading.{incoming_of}
-use Rattle.honest_laws.specs.Laws.{IsLeft, EndsBy, PhasesHold}
-use Rattle.honest_laws.specs.Worlds.{World, Step, meets, initiator_reads, acceptor_reads, initiator_does, acceptor_does, reading, written, after, initiator_read, acceptor_read, IsOther, MayStep, world_after, AllMayStep, Match, Starts}
-use Rattle.honest_laws.proofs.Shapes.{IsFree, IsFlowing, IsAsk, IsAnswer, IsAck, OneAtMost, AckFirst, none_of, one_behind, one_before, ack_behind, ack_before, all_free_flow, free_flows}
-use Rattle.honest_laws.proofs.Replying.{Peer, Left, Plain, shaken_reply}
-use Rattle.honest_laws.proofs.Opening.{Quiet, quiet_same, number_given, Spares, free_reply, Asked, answers, acknowledged, ask_reply, AsksAgain, answer_reply, Acknowledged, stands, lost, ack_reply}
-use Rattle.honest_laws.proofs.Asking.{asks, restarts, unanswered, inside, coming, is_serving}
+use Rattle.honest_laws.specs.Laws.{IsLeft, PhasesHold}
+use Rattle.honest_laws.specs.Worlds.{World, Step, meets, initiator_reads, acceptor_reads, initiator_does, acceptor_does, written, after, initiator_read, acceptor_read, MayStep, world_after, AllMayStep, Match, Starts}
+use Rattle.honest_laws.proofs.Shapes.{IsFree, IsFlowing, IsAsk, IsAnswer, OneAtMost, AckFirst, one_behind, one_before, ack_behind, ack_before, all_free_flow, free_flows}
+use Rattle.honest_laws.proofs.Replying.{Peer, Left, shaken_reply}
+use Rattle.honest_laws.proofs.Opening.{Quiet, quiet_same, number_given, free_reply, Asked, answers, acknowledged, ask_reply, answer_reply, Acknowledged, stands, lost, ack_reply}
+use Rattle.honest_laws.proofs.Asking.{asks, restarts, inside, coming, is_serving}
 use Rattle.honest_laws.proofs.Serving.{Requests, asked_by_reader, asked_by_writer, free_for, served_by_writer, served_by_reader, serves_as}
-use Rattle.honest_laws.proofs.Numbers.{Runs}
-use Rattle.honest_laws.proofs.Lining.{Line}
 use Rattle.honest_laws.proofs.Finishing.{counts, total, sendings, answers as answer_count, waiting, reads, tells}
 use Rattle.honest_laws.proofs.Telling.{Awaits, read_by_reader, read_by_writer, due, told_by_writer, told_by_reader, tells_as}
-use Rattle.honest_laws.proofs.Moving.{Reads, reads_as, Does, does_as}
+use Rattle.honest_laws.proofs.Moving.{reads_as, Does, does_as}
 
 -- How far the two ends are: the handshake is asked for or answered, or neither is under way; it is acknowledged; it is done; or the
 -- initiator has refused the acknowledgement. Facts of the initiator and its ending, those of the acceptor, and what is under way
@@ -135,16 +132,20 @@ no_ending (Some a) same h = cc same
 initiator_hears : (x : Around) (fi : Facts) (ei : Option Ending) (ca : EndConfig) (fa : Facts) (p : Piece) (outward left : List Piece) → Match x.config ca → answer_count p ≤ tells fi → (1 ≤ asks p → is_serving fi ≡ false) → ei ≡ None
     → Shaking x.config ca fi ei fa outward (p ∷ left) → Resolved ca fa outward left x.config (reply_of x fi (incoming_of p))
 initiator_hears x fi ei ca fa p outward left m told unserved going (opens bi qi idle qa one free) =
-    let r = free_reply x fi ca p (to_initiator x.config ca m) qi free.0 in
-    (opens (ap (λ f. is_shaken f.connection.phase) r.same ∙ bi) (subst (λ (f : Facts). Quiet f) (sym r.same) qi) idle qa
-    (subst (λ (f : Facts). OneAtMost x.config (IsAsk x.config f.connection.phase) (outward ++ said_all (reply_of x fi (incoming_of p)).written)) (sym r.same) (one_before x.config (IsAsk x.config fi.connection.phase) outward _ one r.writes)) free.1, r.ends)
+    let r = free_reply x fi ca p (to_initiator x.config ca m) qi free.0 in (
+      opens (ap (λ f. is_shaken f.connection.phase) r.same ∙ bi) (subst (λ (f : Facts). Quiet f) (sym r.same) qi) idle qa
+          (subst (λ (f : Facts). OneAtMost x.config (IsAsk x.config f.connection.phase) (outward ++ said_all (reply_of x fi (incoming_of p)).written)) (sym r.same) (one_before x.config (IsAsk x.config fi.connection.phase) outward _ one r.writes)) free.1,
+      r.ends,
+    )
 initiator_hears x fi ei ca fa p outward left m told unserved going (answering bi qi idle qa free (inl one)) =
     let r = answer_reply x fi ca fi.connection.phase p (to_initiator x.config ca m) refl bi qi one.0 in
     (opens r.before r.quiet idle qa (one_behind x.config _ outward _ free r.writes) one.1, r.ends)
 initiator_hears x fi ei ca fa p outward left m told unserved going (answering bi qi idle qa free (inr more)) =
-    let r = free_reply x fi ca p (to_initiator x.config ca m) qi more.0 in
-    (answering (ap (λ f. is_shaken f.connection.phase) r.same ∙ bi) (subst (λ (f : Facts). Quiet f) (sym r.same) qi) idle qa (all_append (IsFree x.config) outward _ free r.writes)
-    (subst (λ (f : Facts). OneAtMost ca (IsAnswer ca f.connection.phase) left) (sym r.same) more.1), r.ends)
+    let r = free_reply x fi ca p (to_initiator x.config ca m) qi more.0 in (
+      answering (ap (λ f. is_shaken f.connection.phase) r.same ∙ bi) (subst (λ (f : Facts). Quiet f) (sym r.same) qi) idle qa (all_append (IsFree x.config) outward _ free r.writes)
+          (subst (λ (f : Facts). OneAtMost ca (IsAnswer ca f.connection.phase) left) (sym r.same) more.1),
+      r.ends,
+    )
 initiator_hears x fi ei ca fa p outward left m told unserved going (acknowledging e qi est free (inl first)) =
     by_reply (ack_reply x fi ca p (to_initiator x.config ca m) e (unshaken fi.connection.phase phases.Establishing e refl) first.0)
   where

@@ -1,11 +1,8 @@
 -- What an end replies to a message of a peer that keeps to the rules, and that no phase refuses it.
-use Rattle.std.proofs.Common.{◌≡◌, ◌⊎◌, inl, inr, ℕ, ◌+◌, ◌≤◌, ◌==◌, ◌&&◌, ◌||◌, nat_lt, not, Bool, true, false, if◌then◌else◌, List, [], ◌∷◌, ◌++◌, Option, Some, None, refl, sym, ap, subst, ◌∙◌, arith, true≢false, eq-eqb}
-use Rattle.std.specs.Prelude.{⊤, is_some, is_none, IsSome, unwrap_or, Result, Ok, Err}
+use Rattle.std.proofs.Common.{◌≡◌, ℕ, ◌+◌, ◌≤◌, ◌&&◌, nat_lt, not, Bool, true, false, if◌then◌else◌, List, [], ◌∷◌, ◌++◌, Option, Some, None, refl, sym, ap, subst, ◌∙◌, arith, true≢false}
+use Rattle.std.specs.Prelude.{is_some, is_none, unwrap_or, Result, Ok, Err}
 use Rattle.std.specs.List.{AllByRecursion}
-use Rattle.std.proofs.lemmas.Bool.Decides.{nat_tests}
-use Rattle.std.specs.Str.{bytes_eq}
 use Rattle.fixp_msgs.specs.declared.numbering.Range.{Range}
-use Rattle.fixp_msgs.specs.Flow.{flow_code}
 use Rattle.fixp_msgs.specs.Message.{Message, negotiate, negotiation_response, negotiation_reject, establish, establishment_ack, establishment_reject, sequence, unsequenced_heartbeat, retransmit_request, retransmission, retransmit_reject, applied, not_applied, finished_sending, finished_receiving, terminate}
 use Rattle.flow_recover.specs.declared.receiver.Seen.{Seen}
 use Rattle.flow_recover.specs.declared.receiver.Seen.TheVariants.{Deliver, Gap, Repeat}
@@ -18,31 +15,28 @@ use Rattle.fixp_shake.specs.declared.config.EndConfig.{EndConfig}
 use Rattle.fixp_shake.specs.declared.phase.Phase.{Phase}
 use Rattle.fixp_shake.specs.declared.phase.Phase.TheVariants as phases
 use Rattle.fixp_shake.specs.declared.violation.Violation.{Violation}
-use Rattle.fixp_shake.specs.declared.violation.Violation.TheVariants.{NotInPhase, OtherSession, WentBack, MissingNext, NumberTooLarge, BadRetransmission, AfterFinish, FlowNone}
+use Rattle.fixp_shake.specs.declared.violation.Violation.TheVariants.{WentBack, MissingNext, NumberTooLarge, BadRetransmission, AfterFinish, FlowNone}
 use Rattle.fixp_shake.specs.Flows.{is_recoverable, is_idempotent, is_sequenced, is_absent}
-use Rattle.fixp_shake.specs.Phases.{is_negotiating, is_establishing, is_established, is_closing, is_shaken}
+use Rattle.fixp_shake.specs.Phases.{is_established, is_closing, is_shaken}
 use Rattle.fixp_replies.specs.declared.act.Act.{Act}
 use Rattle.fixp_replies.specs.declared.act.Act.TheVariants as acts
-use Rattle.fixp_replies.specs.declared.act.Ending.{Ending}
 use Rattle.fixp_replies.specs.declared.act.Ending.TheVariants as endings
 use Rattle.fixp_replies.specs.declared.facts.Facts.{Facts}
 use Rattle.fixp_replies.specs.declared.facts.PeerFinish.TheVariants as peer
 use Rattle.fixp_replies.specs.declared.facts.OwnFinish.{OwnFinish}
 use Rattle.fixp_replies.specs.declared.facts.OwnFinish.TheVariants as own
 use Rattle.fixp_replies.specs.Incoming.{Incoming, application, session}
-use Rattle.fixp_replies.specs.Facts.{Around, is_own, in_phase, receiving, requesting, serves, negotiated as as_negotiated, awaiting, gap_to_ask, having_asked, announced_number, expected_number, message_number, peer_last, awaits_gap, finishes_exchanged, live_number, is_told}
-use Rattle.fixp_replies.specs.Outcomes.{Outcome, Row, row, within, goes_on, accepts, rejects, ignores, ends, breaks, not_in_phase, request_for, skip_of, told_skip, opening_negotiate, opening_establish}
+use Rattle.fixp_replies.specs.Facts.{Around, is_own, receiving, requesting, serves, awaiting, gap_to_ask, having_asked, expected_number, peer_last, awaits_gap, finishes_exchanged, live_number, is_told}
+use Rattle.fixp_replies.specs.Outcomes.{Outcome, goes_on, accepts, ignores, ends, breaks, not_in_phase, request_for, skip_of, told_skip}
 use Rattle.fixp_replies.specs.Announcing.{Announced, jumped_over, announced, announcement_fault, refuses, announcement_rows}
-use Rattle.fixp_replies.specs.Handshake.{awaits_client, rejects_negotiate, rejects_establish, established, acknowledges, negotiate_rows, establish_rows, shaken, negotiation_response_rows, negotiation_reject_rows, establishment_ack_rows, establishment_reject_rows}
 use Rattle.fixp_replies.specs.Flowing.{bad_retransmission, counted, taken_as, finish_act, peer_finished, answers_finish, is_filled, is_past_finish, sequence_follows, sequence_taken, restarted, finished_last, finish_fault, finished, is_last, application_rows, sequence_rows, retransmission_rows, retransmit_reject_rows, finished_sending_rows}
 use Rattle.fixp_replies.specs.Serving.{request_answered, own_finishing, retransmit_request_rows, finished_receiving_rows}
-use Rattle.fixp_replies.specs.Replies.{reply_of, rows_of, answer_of, of_session, terminates, template_of}
-use Rattle.reply_laws.proofs.Rows.{by_row, all_rows, all_within}
-use Rattle.reply_laws.proofs.Tests.{some-none}
+use Rattle.fixp_replies.specs.Replies.{reply_of, rows_of, answer_of, terminates, template_of}
+use Rattle.reply_laws.proofs.Rows.{by_row}
 use Rattle.connection_laws.specs.Writing.{Piece, said, entry, said_all}
 use Rattle.link_laws.specs.Reading.{incoming_of}
 use Rattle.honest_laws.specs.Laws.{IsLeft}
-use Rattle.honest_laws.proofs.Shapes.{IsFree, IsFlowing, IsAsk, IsAnswer, IsAck, OneAtMost, AckFirst}
+use Rattle.honest_laws.proofs.Shapes.{IsFlowing}
 use Rattle.honest_laws.proofs.Finishing.{answers, tells, awaited}
 use Rattle.honest_laws.proofs.Asking.{asks, is_serving}
 use Rattle.honest_laws.proofs.Deciding.{Decides, decided, decides_within, same_bytes, never}
@@ -215,8 +209,7 @@ application_plain x f present = (
 
 sequence_plain : (x : Around) (f : Facts) (next : ℕ) → Decides (Plain x.config f) (sequence_rows x f next)
 sequence_plain x f next =
-    let g : Facts = requesting f (request_is.after_sequence f.connection.requester) in
-    (
+    let g : Facts = requesting f (request_is.after_sequence f.connection.requester) in (
       λ _. bad x f (request_is.sequence_fault f.connection.requester),
       λ _. announced_decides (Plain x.config f) x g 7 (Some next) (sequence_follows x g next)
           (λ _. refusing x f g (announcement_fault x g 7 (Some next)) refl (fault_left x g 7 (Some next) (λ _. refl)))
@@ -253,28 +246,40 @@ answered x f theirs (said (retransmit_request id timestamp first count)) are tol
       λ _. (λ _. requested x f id timestamp (judged (is_own x id) (is_recoverable x.config.own_flow) first count f.recorded.sent) (flows ∙ are.session), λ e. absurd (true≢false e)),
     ))
 answered x f theirs (said (retransmission id next timestamp count)) are told free here flows =
-    heard (Plain x.config f) x f (session (retransmission id next timestamp count)) (foreign x id (flows ∙ are.session), λ _. (decides_within (Plain x.config f) (is_established f.connection.phase) (retransmission_rows x f next count) here (
-      λ _. bad x f (request_is.start_fault (request_is.outstanding f.connection.requester) next count),
-      λ _. (λ _. going x f (restarted f next count) acts.Nothing [] refl tt, λ e. absurd (true≢false e)),
-    )))
+    heard (Plain x.config f) x f (session (retransmission id next timestamp count)) (
+      foreign x id (flows ∙ are.session),
+      λ _. (decides_within (Plain x.config f) (is_established f.connection.phase) (retransmission_rows x f next count) here (
+        λ _. bad x f (request_is.start_fault (request_is.outstanding f.connection.requester) next count),
+        λ _. (λ _. going x f (restarted f next count) acts.Nothing [] refl tt, λ e. absurd (true≢false e)),
+      )),
+    )
 answered x f theirs (said (retransmit_reject id timestamp code reason)) are told free here flows =
-    heard (Plain x.config f) x f (session (retransmit_reject id timestamp code reason)) (foreign x id (flows ∙ are.session), λ _. (decides_within (Plain x.config f) (is_established f.connection.phase) (retransmit_reject_rows x f) here (
-      λ _. breaking x f f 2 _ refl tt,
-      λ e. absurd (true≢false e),
-    )))
+    heard (Plain x.config f) x f (session (retransmit_reject id timestamp code reason)) (
+      foreign x id (flows ∙ are.session),
+      λ _. (decides_within (Plain x.config f) (is_established f.connection.phase) (retransmit_reject_rows x f) here (
+        λ _. breaking x f f 2 _ refl tt,
+        λ e. absurd (true≢false e),
+      )),
+    )
 answered x f theirs (said (applied first count)) are told free here flows = going x f f acts.Nothing [] refl tt
 answered x f theirs (said (not_applied first count)) are told free here flows =
     by_row (Plain x.config f) (is_idempotent x.config.own_flow) (goes_on x (acts.Told first count) [] f) (accepts x [] f)
     (λ _. going x f f (acts.Told first count) [] refl tt) (λ _. going x f f acts.Nothing [] refl tt)
 answered x f theirs (said (finished_sending id last)) are told free here flows =
-    heard (Plain x.config f) x f (session (finished_sending id last)) (foreign x id (flows.0 ∙ are.session), λ _. (decides_within (Plain x.config f) (is_established f.connection.phase) (finished_sending_rows x f last) here (
-      λ _. refusing x f f (finish_fault x f last) refl (finish_left x f last (ap (λ flow. is_absent flow) are.flow ∙ flows.1) (λ n. flows.2 (ap (λ flow. is_sequenced flow) (sym are.flow) ∙ n))),
-      λ _. (λ _. finishing x f (finished_last x last), λ e. absurd (true≢false e)),
-    )))
+    heard (Plain x.config f) x f (session (finished_sending id last)) (
+      foreign x id (flows.0 ∙ are.session),
+      λ _. (decides_within (Plain x.config f) (is_established f.connection.phase) (finished_sending_rows x f last) here (
+        λ _. refusing x f f (finish_fault x f last) refl (finish_left x f last (ap (λ flow. is_absent flow) are.flow ∙ flows.1) (λ n. flows.2 (ap (λ flow. is_sequenced flow) (sym are.flow) ∙ n))),
+        λ _. (λ _. finishing x f (finished_last x last), λ e. absurd (true≢false e)),
+      )),
+    )
 answered x f theirs (said (finished_receiving id)) are told free here flows =
-    heard (Plain x.config f) x f (session (finished_receiving id)) (foreign x id (flows ∙ are.session), λ _.
-        decides_within (Plain x.config f) (is_established f.connection.phase) (finished_receiving_rows x f) here
-        (λ _. going x f (own_finishing f own.Exchanged) acts.Nothing [] refl tt, λ n. absurd (untold f.connection.own_finish n told)))
+    heard (Plain x.config f) x f (session (finished_receiving id)) (
+      foreign x id (flows ∙ are.session),
+      λ _.
+          decides_within (Plain x.config f) (is_established f.connection.phase) (finished_receiving_rows x f) here
+          (λ _. going x f (own_finishing f own.Exchanged) acts.Nothing [] refl tt, λ n. absurd (untold f.connection.own_finish n told)),
+    )
 answered x f theirs (said (terminate id code reason)) are told free here flows = terminating x f theirs id code reason are flows
 
 -- the reply to it once the handshake is done: an initiator that has written its Terminate ignores all but one

@@ -1,8 +1,6 @@
 -- The sample of two ends, computed.
-use Rattle.std.proofs.Common.{◌≡◌, ℕ, refl, arith, List, [], ◌∷◌}
-use Rattle.reply_laws.specs.Machine.{State}
-use Rattle.connection_laws.specs.Standing.{IsOpen}
-use Rattle.honest_laws.specs.Worlds.{World, Starts, AllMayStep, IsOther}
+use Rattle.std.proofs.Common.{refl, arith, []}
+use Rattle.honest_laws.specs.Worlds.{Starts, AllMayStep}
 use Rattle.honest_laws.specs.Samples.{outbox, beginning, lost, again_sent, finished, after_loss, after_repair, SessionSample}
 
 starts : Starts beginning

@@ -1,31 +1,30 @@
 -- The requests and retransmissions under way between two ends, and how each call of an end moves them.
-use Rattle.std.proofs.Common.{◌≡◌, ◌⊎◌, inl, inr, ℕ, zero, suc, ◌+◌, ◌-◌, ◌≤◌, ◌==◌, ◌&&◌, not, Bool, true, false, if◌then◌else◌, List, [], ◌∷◌, ◌++◌, length, Option, Some, None, refl, sym, ap, subst, ◌∙◌, arith, true≢false, append-nil, eqb-true}
-use Rattle.std.specs.Prelude.{⊤, is_some, is_none, IsSome}
+use Rattle.std.proofs.Common.{◌≡◌, ◌⊎◌, inl, inr, ℕ, zero, suc, ◌+◌, ◌-◌, ◌≤◌, ◌==◌, ◌&&◌, Bool, true, false, if◌then◌else◌, List, [], ◌∷◌, ◌++◌, length, Option, Some, None, refl, sym, ap, subst, ◌∙◌, arith, true≢false, append-nil, eqb-true}
+use Rattle.std.specs.Prelude.{is_some, is_none, IsSome}
 use Rattle.session_model.specs.Journal.{Entry}
 use Rattle.fixp_msgs.specs.declared.numbering.Range.{Range}
-use Rattle.fixp_msgs.specs.Message.{Message, sequence, unsequenced_heartbeat, terminate, finished_sending, retransmission}
+use Rattle.fixp_msgs.specs.Message.{Message, sequence, unsequenced_heartbeat, terminate, retransmission}
 use Rattle.flow_retrans.specs.declared.request.Request.{Request}
 use Rattle.flow_retrans.specs.declared.request.Request.TheVariants as requests
 use Rattle.flow_retrans.specs.Requests as request_is
 use Rattle.flow_idem.specs.Runs.{runs_of}
-use Rattle.fixp_shake.specs.declared.phase.Phase.TheVariants as phases
 use Rattle.fixp_shake.specs.declared.violation.Violation.{Violation}
-use Rattle.fixp_shake.specs.Flows.{is_sequenced, is_absent}
+use Rattle.fixp_shake.specs.Flows.{is_sequenced}
 use Rattle.fixp_shake.specs.Phases.{is_established, is_closing}
 use Rattle.fixp_replies.specs.declared.act.Ending.{Ending}
 use Rattle.fixp_replies.specs.declared.facts.Facts.{Facts}
-use Rattle.fixp_replies.specs.Facts.{Around, in_phase}
+use Rattle.fixp_replies.specs.Facts.{Around}
 use Rattle.fixp_replies.specs.Outcomes.{Outcome}
 use Rattle.fixp_replies.specs.Replies.{reply_of}
 use Rattle.fixp_replies.specs.Events.{Made, heartbeat, heartbeats, is_due, lateness, applied_runs, closes, turn_ended, outbox_finished, tells_finish, finish_told, link_ending}
 use Rattle.reply_laws.specs.Machine.{State, Call, begin, frame, bad_frame, did, tick, turn_done, closed, link_end, live, again, taken, reserve, around, bytes_of, wrote, made, broken_by, served_again, rest_of, step, run}
-use Rattle.connection_laws.specs.Writing.{Piece, said, entry, said_all, entries, said_breaking, range_closed, written_again, writes}
+use Rattle.connection_laws.specs.Writing.{Piece, said, said_all, entries, said_breaking, range_closed, written_again, writes}
 use Rattle.link_laws.specs.Reading.{incoming_of}
 use Rattle.link_laws.proofs.Refused.{closing_is_deaf}
 use Rattle.connection_laws.specs.Standing.{MayStand}
 use Rattle.honest_laws.specs.Worlds.{written, IsOther}
 use Rattle.honest_laws.proofs.Finishing.{total, total_append}
-use Rattle.honest_laws.proofs.Asking.{asks, restarts, turns_in, turns, inside, unanswered_of, unanswered, coming, is_serving, Asks, asks_of, closing_asks, at_most_one}
+use Rattle.honest_laws.proofs.Asking.{asks, restarts, turns, inside, unanswered_of, unanswered, coming, is_serving, Asks, asks_of, closing_asks, at_most_one}
 use Rattle.honest_laws.proofs.Numbers.{Runs, served, runs_append, live_run, again_run}
 use Rattle.honest_laws.proofs.Moving.{turned, told}
 
@@ -92,7 +91,7 @@ asked_by_reader writer x reader over p left back goes a = record { once = once; 
         let k = more in let all = once in let few = at_most_one o.next.connection.requester in let asked = c.asked in
         let none : o.ending ≡ None = ending_of c.goes in
         let yet : is_closing reader.connection.phase ≡ false = by_bool (is_closing reader.connection.phase ≡ false) (is_closing reader.connection.phase)
-          (λ t. let z = closing_asks x reader p t in absurd (omega (arith, z, e))) (λ f. f) in
+        (λ t. let z = closing_asks x reader p t in absurd (omega (arith, z, e))) (λ f. f) in
         let off : coming o.next ≡ false = not_coming o.next.connection.requester (omega (arith, asked, e)) in
         sym (even_after none yet) ∙ (ap (λ b. inside b left) off ∙ outside left (omega (arith, k, all, few, e)))
       where
@@ -315,8 +314,16 @@ turning s now = by_end (is_some s.ending)
     by_close : (b : Bool) → Serves s (behind (turned b x s.facts (runs_of s.untold))) (said_all (turned b x s.facts (runs_of s.untold)).written)
     by_close true =
         let q = said_more (applied_runs (runs_of s.untold)) (terminate s.config.session 1 [] ∷ []) (applied_silent (runs_of s.untold)) (record { no_request = refl; no_restart = refl; no_turn = λ b. refl }) in
-        record { asks_none = q.no_request; begins_none = q.no_restart; serves = q.no_turn (is_serving s.facts); requester = refl; closing = λ n. absurd (true≢false n); receiver = refl; inbox = refl;
-          runs = closing_plain (applied_runs (runs_of s.untold)) (terminate s.config.session 1 []) (applied_plain (runs_of s.untold)) (λ b l. (tt, (omega arith, refl))) (s.facts.recorded.sent + 1) (served s.facts.connection.serving) }
+        record {
+          asks_none = q.no_request;
+          begins_none = q.no_restart;
+          serves = q.no_turn (is_serving s.facts);
+          requester = refl;
+          closing = λ n. absurd (true≢false n);
+          receiver = refl;
+          inbox = refl;
+          runs = closing_plain (applied_runs (runs_of s.untold)) (terminate s.config.session 1 []) (applied_plain (runs_of s.untold)) (λ b l. (tt, (omega arith, refl))) (s.facts.recorded.sent + 1) (served s.facts.connection.serving);
+        }
     by_close false = serves_silent s (behind (turned false x s.facts (runs_of s.untold))) _ refl refl (applied_plain (runs_of s.untold) (s.facts.recorded.sent + 1) (served s.facts.connection.serving)) (applied_silent (runs_of s.untold))
 
     by_end : (b : Bool) → Serves s (if b then record s { moment = now } else behind (turn_ended x s.facts (runs_of s.untold))) (if b then [] else said_all (turn_ended x s.facts (runs_of s.untold)).written)

@@ -1,15 +1,15 @@
 -- What each message is that one end may have under way to the other.
-use Rattle.std.proofs.Common.{◌≡◌, ◌⊎◌, inl, inr, ℕ, Bool, true, false, List, [], ◌∷◌, ◌++◌, map, Option, Some, None, refl, sym, subst}
+use Rattle.std.proofs.Common.{◌≡◌, ◌⊎◌, inl, inr, true, false, List, [], ◌∷◌, ◌++◌}
 use Rattle.std.specs.Prelude.{⊤, is_some}
 use Rattle.std.specs.List.{AllByRecursion}
 use Rattle.session_model.proofs.Lists.{all_append, all_weaker}
 use Rattle.fixp_msgs.specs.Flow.{flow_code}
-use Rattle.fixp_msgs.specs.Message.{Message, negotiate, negotiation_response, negotiation_reject, establish, establishment_ack, establishment_reject, sequence, unsequenced_heartbeat, retransmit_request, retransmission, retransmit_reject, applied, not_applied, finished_sending, finished_receiving, terminate}
+use Rattle.fixp_msgs.specs.Message.{negotiate, negotiation_response, negotiation_reject, establish, establishment_ack, establishment_reject, sequence, unsequenced_heartbeat, retransmit_request, retransmission, retransmit_reject, applied, not_applied, finished_sending, finished_receiving, terminate}
 use Rattle.fixp_shake.specs.declared.config.EndConfig.{EndConfig}
 use Rattle.fixp_shake.specs.declared.phase.Phase.{Phase}
 use Rattle.fixp_shake.specs.declared.phase.Phase.TheVariants as phases
 use Rattle.fixp_shake.specs.Flows.{is_sequenced, is_absent}
-use Rattle.connection_laws.specs.Writing.{Piece, said, entry, said_all, entries}
+use Rattle.connection_laws.specs.Writing.{Piece, said, entry}
 
 -- a message that any phase takes
 abbrev pub IsFree : EndConfig → Piece → Type 0

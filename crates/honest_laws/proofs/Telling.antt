@@ -1,25 +1,22 @@
 -- The finishes under way between two ends, and how each call of an end moves them.
-use Rattle.std.proofs.Common.{◌≡◌, ℕ, ◌+◌, ◌≤◌, ◌==◌, ◌&&◌, not, Bool, true, false, if◌then◌else◌, List, [], ◌∷◌, ◌++◌, length, Option, Some, None, refl, sym, ap, subst, ◌∙◌, arith, true≢false, append-nil}
-use Rattle.std.specs.Prelude.{⊤, is_some, is_none}
+use Rattle.std.proofs.Common.{◌≡◌, ℕ, ◌+◌, ◌≤◌, ◌==◌, ◌&&◌, not, Bool, true, false, if◌then◌else◌, List, [], ◌∷◌, ◌++◌, length, Option, Some, None, refl, sym, ap, subst, arith, true≢false, append-nil}
+use Rattle.std.specs.Prelude.{is_some, is_none}
 use Rattle.session_model.specs.Journal.{Entry}
 use Rattle.fixp_msgs.specs.declared.numbering.Range.{Range}
-use Rattle.fixp_msgs.specs.Message.{Message, sequence, unsequenced_heartbeat, terminate, finished_sending}
+use Rattle.fixp_msgs.specs.Message.{Message, sequence, unsequenced_heartbeat, terminate}
 use Rattle.flow_idem.specs.Runs.{runs_of}
 use Rattle.fixp_shake.specs.declared.phase.Phase.TheVariants as phases
 use Rattle.fixp_shake.specs.declared.violation.Violation.{Violation}
 use Rattle.fixp_shake.specs.Flows.{is_sequenced, is_absent}
 use Rattle.fixp_shake.specs.Phases.{is_established}
-use Rattle.fixp_replies.specs.declared.facts.EndState.{EndState}
 use Rattle.fixp_replies.specs.declared.facts.Facts.{Facts}
 use Rattle.fixp_replies.specs.declared.facts.OwnFinish.{OwnFinish}
 use Rattle.fixp_replies.specs.declared.facts.OwnFinish.TheVariants as own
-use Rattle.fixp_replies.specs.Facts.{Around, is_initiator, in_phase, is_open, connecting}
-use Rattle.fixp_replies.specs.Outcomes.{Outcome, opening_negotiate, opening_establish}
-use Rattle.fixp_replies.specs.Serving.{own_finishing}
-use Rattle.fixp_replies.specs.Events.{Made, begun, heartbeat, heartbeats, is_due, lateness, applied_runs, closes, turn_ended, outbox_finished, tells_finish, finish_told, link_ending}
+use Rattle.fixp_replies.specs.Facts.{Around, in_phase, is_open}
+use Rattle.fixp_replies.specs.Outcomes.{Outcome}
+use Rattle.fixp_replies.specs.Events.{Made, heartbeat, heartbeats, is_due, lateness, applied_runs, closes, turn_ended, outbox_finished, tells_finish, finish_told, link_ending}
 use Rattle.reply_laws.specs.Machine.{State, Call, begin, frame, bad_frame, did, tick, turn_done, closed, link_end, live, again, taken, reserve, around, bytes_of, wrote, made, broken_by, served_again, rest_of, step, run}
-use Rattle.connection_laws.specs.Writing.{Piece, said, entry, said_all, entries, said_breaking, range_closed, written_again, writes}
-use Rattle.connection_laws.specs.Standing.{MayStand}
+use Rattle.connection_laws.specs.Writing.{Piece, said, said_all, entries, said_breaking, range_closed, written_again, writes}
 use Rattle.honest_laws.specs.Worlds.{written, IsOther}
 use Rattle.honest_laws.proofs.Moving.{turned, told}
 use Rattle.honest_laws.proofs.Finishing.{Counts, total, total_append, sendings, answers, reads, tells, awaited}

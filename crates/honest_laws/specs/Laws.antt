@@ -1,5 +1,5 @@
 -- Which violations end no connection of two ends of one session.
-use Rattle.std.specs.Prelude.{◌≡◌, ⊤, ℕ, List, Some}
+use Rattle.std.specs.Prelude.{◌≡◌, ⊤, List, Some}
 use Rattle.session_model.specs.Journal.{Entry}
 use Rattle.fixp_shake.specs.declared.violation.Violation.{Violation}
 use Rattle.fixp_shake.specs.declared.violation.Violation.TheVariants.{BadFrame, UnknownTemplate, NotInPhase, OtherSession, WentBack, MissingNext, NumberTooLarge, BadRetransmission, AfterFinish, FlowNone, Silent, HandshakeLate}

@@ -1,5 +1,5 @@
 -- Two ends from their beginning to both finishes, over a link that is lost once: the premises of the law can be met.
-use Rattle.std.specs.Prelude.{◌≡◌, ℕ, true, List, [], ◌∷◌, Some, None}
+use Rattle.std.specs.Prelude.{◌≡◌, List, [], ◌∷◌, Some}
 use Rattle.session_model.specs.Journal.{Entry}
 use Rattle.fixp_replies.specs.declared.act.Ending.TheVariants as endings
 use Rattle.reply_laws.specs.Machine.{live, again, closed, turn_done, fresh}
