@@ -1,0 +1,13 @@
+pub mod Shapes
+pub mod Deciding
+pub mod Finishing
+pub mod Numbers
+pub mod Asking
+pub mod Replying
+pub mod Lining
+pub mod Opening
+pub mod Moving
+pub mod Telling
+pub mod Serving
+pub mod Phased
+pub mod Sampled

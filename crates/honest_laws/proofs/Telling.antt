@@ -1,0 +1,224 @@
+-- The finishes under way between two ends, and how each call of an end moves them.
+use Rattle.std.proofs.Common.{◌≡◌, ℕ, ◌+◌, ◌≤◌, ◌==◌, ◌&&◌, not, Bool, true, false, if◌then◌else◌, List, [], ◌∷◌, ◌++◌, length, Option, Some, None, refl, sym, ap, subst, arith, true≢false, append-nil}
+use Rattle.std.specs.Prelude.{is_some, is_none}
+use Rattle.session_model.specs.Journal.{Entry}
+use Rattle.fixp_msgs.specs.declared.numbering.Range.{Range}
+use Rattle.fixp_msgs.specs.Message.{Message, sequence, unsequenced_heartbeat, terminate}
+use Rattle.flow_idem.specs.Runs.{runs_of}
+use Rattle.fixp_shake.specs.declared.phase.Phase.TheVariants as phases
+use Rattle.fixp_shake.specs.declared.violation.Violation.{Violation}
+use Rattle.fixp_shake.specs.Flows.{is_sequenced, is_absent}
+use Rattle.fixp_shake.specs.Phases.{is_established}
+use Rattle.fixp_replies.specs.declared.facts.Facts.{Facts}
+use Rattle.fixp_replies.specs.declared.facts.OwnFinish.{OwnFinish}
+use Rattle.fixp_replies.specs.declared.facts.OwnFinish.TheVariants as own
+use Rattle.fixp_replies.specs.Facts.{Around, in_phase, is_open}
+use Rattle.fixp_replies.specs.Outcomes.{Outcome}
+use Rattle.fixp_replies.specs.Events.{Made, heartbeat, heartbeats, is_due, lateness, applied_runs, closes, turn_ended, outbox_finished, tells_finish, finish_told, link_ending}
+use Rattle.reply_laws.specs.Machine.{State, Call, begin, frame, bad_frame, did, tick, turn_done, closed, link_end, live, again, taken, reserve, around, bytes_of, wrote, made, broken_by, served_again, rest_of, step, run}
+use Rattle.connection_laws.specs.Writing.{Piece, said, said_all, entries, said_breaking, range_closed, written_again, writes}
+use Rattle.honest_laws.specs.Worlds.{written, IsOther}
+use Rattle.honest_laws.proofs.Moving.{turned, told}
+use Rattle.honest_laws.proofs.Finishing.{Counts, total, total_append, sendings, answers, reads, tells, awaited}
+
+-- A writer's FinishedSending is under way, waits at the reader, or is answered on the way back: once at most, and only where it was told
+pub record Awaits (writer reader : Facts) (way back : List Piece) : Type 0 where
+  pub once : total sendings way + reads reader + total answers back ≤ tells writer
+
+-- the reader replies to a message, and the writer to one that came back
+pub read_by_reader : (writer reader : Facts) (p : Piece) (left back : List Piece) (o : Outcome) → Awaits writer reader (p ∷ left) back → Counts reader (sendings p) (answers p) o
+    → Awaits writer o.next left (back ++ said_all o.written)
+read_by_reader writer reader p left back o a c =
+    let e = total_append answers back (said_all o.written) in
+    let once = a.once in
+    let read = c.read in
+    record { once = omega (arith, e, once, read) }
+
+pub read_by_writer : (writer reader : Facts) (p : Piece) (way left : List Piece) (o : Outcome) → Awaits writer reader way (p ∷ left) → Counts writer (sendings p) (answers p) o
+    → Awaits o.next reader (way ++ said_all o.written) left
+read_by_writer writer reader p way left o a c =
+    let e = total_append sendings way (said_all o.written) in
+    let once = a.once in
+    let told = c.told in
+    let quiet = c.quiet in
+    record { once = omega (arith, e, once, told, quiet) }
+
+-- what is answered was told
+pub due : (writer reader : Facts) (p : Piece) (way left : List Piece) → Awaits writer reader way (p ∷ left) → answers p ≤ tells writer
+due writer reader p way left a = let once = a.once in omega (arith, once)
+
+-- any other call: a finish that it tells awaits its answer, what was read stays, and nothing is answered
+pub record Tells (f g : Facts) (out : List Piece) : Type 0 where
+  pub told : tells f + total sendings out ≤ tells g
+  pub same : reads g ≡ reads f
+  pub silent : total answers out ≡ 0
+
+pub told_by_writer : (writer next reader : Facts) (way back out : List Piece) → Awaits writer reader way back → Tells writer next out → Awaits next reader (way ++ out) back
+told_by_writer writer next reader way back out a t =
+    let e = total_append sendings way out in
+    let once = a.once in
+    let told = t.told in
+    record { once = omega (arith, e, once, told) }
+
+pub told_by_reader : (writer reader next : Facts) (way back out : List Piece) → Awaits writer reader way back → Tells reader next out → Awaits writer next way (back ++ out)
+told_by_reader writer reader next way back out a t =
+    let e = total_append answers back out in
+    let once = a.once in
+    let same = t.same in
+    let silent = t.silent in
+    record { once = omega (arith, e, once, same, silent) }
+
+-- of no finish
+record Silent (out : List Piece) : Type 0 where
+  sends : total sendings out ≡ 0
+  answers_none : total answers out ≡ 0
+
+silent_tells : (f g : Facts) (out : List Piece) → tells g ≡ tells f → reads g ≡ reads f → Silent out → Tells f g out
+silent_tells f g out t r s = let e = s.sends in record { told = omega (arith, t, e); same = r; silent = s.answers_none }
+
+silent_both : (ps qs : List Piece) → Silent ps → Silent qs → Silent (ps ++ qs)
+silent_both ps qs a b =
+    let e = total_append sendings ps qs in
+    let k = total_append answers ps qs in
+    let ae = a.sends in let ak = a.answers_none in let be = b.sends in let bk = b.answers_none in
+    record { sends = omega (arith, e, ae, be); answers_none = omega (arith, k, ak, bk) }
+
+said_more : (ms more : List Message) → Silent (said_all ms) → Silent (said_all more) → Silent (said_all (ms ++ more))
+said_more ms more a b = subst (λ (ps : List Piece). Silent ps) (sym (map_more ms more)) (silent_both (said_all ms) (said_all more) a b)
+  where
+    map_more : (xs ys : List Message) → said_all (xs ++ ys) ≡ said_all xs ++ said_all ys
+    map_more [] ys = refl
+    map_more (x ∷ xs) ys = ap (λ ps. said x ∷ ps) (map_more xs ys)
+
+none_silent : Silent []
+none_silent = record { sends = refl; answers_none = refl }
+
+heartbeat_silent : (x : Around) (f : Facts) → Silent (said_all (heartbeat x f ∷ []))
+heartbeat_silent x f = by_flow (is_sequenced x.config.own_flow)
+  where
+    by_flow : (b : Bool) → Silent (said_all ((if b then sequence (f.recorded.sent + 1) else unsequenced_heartbeat) ∷ []))
+    by_flow true = record { sends = refl; answers_none = refl }
+    by_flow false = record { sends = refl; answers_none = refl }
+
+beats_silent : (x : Around) (f : Facts) (last : ℕ) (unsent : List ℕ) → Silent (said_all (heartbeats x f last unsent))
+beats_silent x f last (b ∷ unsent) = none_silent
+beats_silent x f last [] = by_test (is_established f.connection.phase && is_none f.connection.serving && is_due x last)
+  where
+    by_test : (b : Bool) → Silent (said_all (if b then heartbeat x f ∷ [] else []))
+    by_test true = heartbeat_silent x f
+    by_test false = none_silent
+
+breaks_silent : (s : State) (v : Option Violation) (now : ℕ) → Silent (said_all (said_breaking s v now))
+breaks_silent s None now = none_silent
+breaks_silent s (Some v) now = record { sends = refl; answers_none = refl }
+
+broken_same : (s : State) (v : Option Violation) (now : ℕ) → (broken_by s v now).facts ≡ s.facts
+broken_same s None now = refl
+broken_same s (Some v) now = refl
+
+ticking : (s : State) (now : ℕ) → Tells s.facts (step s (tick now)).facts (writes s (tick now))
+ticking s now = by_end (is_some s.ending)
+  where
+    x : Around
+    x = around s 0 now
+
+    beat : State
+    beat = wrote (record s { moment = now }) (bytes_of (heartbeats x s.facts s.last_sent s.unsent)) now
+
+    v : Option Violation
+    v = lateness x s.facts s.start s.last_received
+
+    by_end : (b : Bool) → Tells s.facts (if b then record s { moment = now } else broken_by beat v now).facts (if b then [] else said_all (heartbeats x s.facts s.last_sent s.unsent ++ said_breaking s v now))
+    by_end true = silent_tells s.facts s.facts [] refl refl none_silent
+    by_end false = silent_tells s.facts (broken_by beat v now).facts _ (ap (λ f. tells f) (broken_same beat v now)) (ap (λ f. reads f) (broken_same beat v now))
+        (said_more (heartbeats x s.facts s.last_sent s.unsent) (said_breaking s v now) (beats_silent x s.facts s.last_sent s.unsent) (breaks_silent s v now))
+
+applied_silent : (runs : List Range) → Silent (said_all (applied_runs runs))
+applied_silent [] = none_silent
+applied_silent (r ∷ runs) = let s = applied_silent runs in let e = s.sends in let k = s.answers_none in record { sends = omega (arith, e); answers_none = omega (arith, k) }
+
+turning : (s : State) (now : ℕ) → Tells s.facts (step s (turn_done now)).facts (writes s (turn_done now))
+turning s now = by_end (is_some s.ending)
+  where
+    x : Around
+    x = around s 0 now
+
+    behind : Made → State
+    behind m = record (made (record s { moment = now }) m now) { untold = [] }
+
+    by_close : (b : Bool) → Tells s.facts (behind (turned b x s.facts (runs_of s.untold))).facts (said_all (turned b x s.facts (runs_of s.untold)).written)
+    by_close true = silent_tells s.facts (in_phase s.facts phases.Closing) _ refl refl
+        (said_more (applied_runs (runs_of s.untold)) (terminate s.config.session 1 [] ∷ []) (applied_silent (runs_of s.untold)) (record { sends = refl; answers_none = refl }))
+    by_close false = silent_tells s.facts s.facts _ refl refl (applied_silent (runs_of s.untold))
+
+    by_end : (b : Bool) → Tells s.facts (if b then record s { moment = now } else behind (turn_ended x s.facts (runs_of s.untold))).facts (if b then [] else said_all (turn_ended x s.facts (runs_of s.untold)).written)
+    by_end true = silent_tells s.facts s.facts [] refl refl none_silent
+    by_end false = by_close (closes x s.facts)
+
+open_awaits_none : (q : OwnFinish) → is_open q ≡ true → awaited q ≡ 0
+open_awaits_none own.Open e = refl
+open_awaits_none own.Told e = absurd (true≢false (sym e))
+open_awaits_none own.Exchanged e = absurd (true≢false (sym e))
+
+finishing : (s : State) (last now : ℕ) → Tells s.facts (step s (closed last now)).facts (writes s (closed last now))
+finishing s last now = by_end (is_some s.ending)
+  where
+    x : Around
+    x = around s 0 now
+
+    behind : Made → State
+    behind m = made (record s { moment = now }) m now
+
+    third : (a b c d e : Bool) → (not a && b && c && d && e) ≡ true → c ≡ true
+    third false true true d e t = refl
+    third false true false d e t = absurd (true≢false (sym t))
+    third false false c d e t = absurd (true≢false (sym t))
+    third true b c d e t = absurd (true≢false (sym t))
+
+    by_test : (b : Bool) → tells_finish x s.facts last ≡ b → Tells s.facts (behind (told b x s.facts last)).facts (said_all (told b x s.facts last).written)
+    by_test true e =
+        let none = open_awaits_none s.facts.connection.own_finish
+        (third (is_absent s.config.own_flow) (is_established s.facts.connection.phase) (is_open s.facts.connection.own_finish) (s.facts.recorded.sent == last) (is_none s.facts.connection.serving) e) in
+        record { told = omega (arith, none); same = refl; silent = refl }
+    by_test false e = silent_tells s.facts (outbox_finished s.facts last) [] refl refl none_silent
+
+    by_end : (b : Bool)
+        → Tells s.facts (if b then record s { moment = now; facts = outbox_finished s.facts last } else behind (finish_told x s.facts last)).facts (if b then [] else said_all (finish_told x s.facts last).written)
+    by_end true = silent_tells s.facts (outbox_finished s.facts last) [] refl refl none_silent
+    by_end false = by_test (tells_finish x s.facts last) refl
+
+cut : (s : State) → Tells s.facts (step s link_end).facts []
+cut s = by_end (is_some s.ending)
+  where
+    by_end : (b : Bool) → Tells s.facts (if b then s else record s { ending = Some (link_ending (around s 0 s.moment) s.facts); pending = None }).facts []
+    by_end true = silent_tells s.facts s.facts [] refl refl none_silent
+    by_end false = silent_tells s.facts s.facts [] refl refl none_silent
+
+entries_silent : (payloads : List (List ℕ)) → Silent (entries payloads)
+entries_silent [] = none_silent
+entries_silent (p ∷ payloads) = let s = entries_silent payloads in let e = s.sends in let k = s.answers_none in record { sends = omega (arith, e); answers_none = omega (arith, k) }
+
+closed_silent : (f : Facts) (r : Option Range) → Silent (range_closed f r)
+closed_silent f None = record { sends = refl; answers_none = refl }
+closed_silent f (Some r) = none_silent
+
+resending : (s : State) (r : Option Range) (payloads : List (List ℕ)) (now : ℕ) → Tells s.facts (served_again s r payloads now).facts (written_again s.facts r payloads)
+resending s None payloads now = silent_tells s.facts s.facts [] refl refl none_silent
+resending s (Some r) payloads now = silent_tells s.facts (served_again s (Some r) payloads now).facts _ refl refl (silent_both (entries payloads) (range_closed s.facts (rest_of r (length payloads))) (entries_silent payloads) (closed_silent s.facts (rest_of r (length payloads))))
+
+tells_call : (h : List Entry) (s : State) (call : Call) → IsOther h call → Tells s.facts (step s call).facts (writes s call)
+tells_call h s (begin now) other = absurd other
+tells_call h s (frame incoming at now) other = absurd other
+tells_call h s (bad_frame at now) other = absurd other
+tells_call h s (did now) other = absurd other
+tells_call h s (tick now) other = ticking s now
+tells_call h s (turn_done now) other = turning s now
+tells_call h s (closed last now) other = finishing s last now
+tells_call h s link_end other = cut s
+tells_call h s (live payloads now) other = silent_tells s.facts (step s (live payloads now)).facts (entries payloads) refl refl (entries_silent payloads)
+tells_call h s (again payloads now) other = resending s s.facts.connection.serving payloads now
+tells_call h s (taken count) other = silent_tells s.facts s.facts [] refl refl none_silent
+tells_call h s reserve other = silent_tells s.facts s.facts [] refl refl none_silent
+
+pub tells_as : (h : List Entry) (s : State) (call : Call) → IsOther h call → Tells s.facts (run s (call ∷ [])).facts (written s (call ∷ []))
+tells_as h s call other = subst (λ (out : List Piece). Tells s.facts (step s call).facts out) (sym (append-nil (writes s call))) (tells_call h s call other)
