@@ -1,0 +1,4 @@
+pub mod Plans
+pub mod Outboxes
+pub mod Senders
+pub mod Passes
