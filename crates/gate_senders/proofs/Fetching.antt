@@ -12,6 +12,7 @@ use Rattle.jr_record.specs.declared.faults.FetchFault.{FetchFault}
 use Rattle.jr_boxes.specs.declared.outbox.Outbox.{Outbox}
 use Rattle.jr_boxes.specs.Outbox.{StandsFor}
 use Rattle.gate_turn.specs.Views.{Account}
+use Rattle.gate_turn.proofs.Failing.{failed_before}
 use Rattle.gate_senders.specs.Kept.{numbered_from, StaysSound}
 
 -- the entry that an outbox gives is that of the history told of it
@@ -60,5 +61,5 @@ pub stays : (a b d : Account) → StaysSound a b → (b.broken ≡ true → a.br
 stays a b d first back second = record {
   limits = second.limits ∙ first.limits;
   faults = omega (arith, first.faults, second.faults);
-  broken = λ now was. omega (arith, first.faults, second.broken now (λ e. was (back e)));
+  broken = λ now was. failed_before a.faults b.faults d.faults first.faults (second.broken now (λ e. was (back e)));
 }

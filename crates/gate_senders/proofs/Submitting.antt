@@ -1,13 +1,32 @@
--- What a pass has seen, and made, once its entry stands.
-use Rattle.std.proofs.Common.{◌≡◌, ◌≢◌, ℕ, ◌+◌, true, List, [], ◌∷◌, ◌++◌, length, drop, Result, Ok, Err, OnOk, IfOk, sym, ap, ◌∙◌, subst}
-use Rattle.session_model.specs.Journal.{Entry, History}
+-- What a pass has seen, and made, once its entry stands or was refused.
+use Rattle.std.proofs.Common.{◌≡◌, ◌≢◌, ℕ, ◌+◌, ◌≤◌, true, List, [], ◌∷◌, ◌++◌, length, drop, Result, Ok, Err, OnOk, IfOk, IfErr, refl, sym, ap, ◌∙◌, subst, arith}
+use Rattle.session_model.specs.Journal.{Entry, History, BeginsHistory}
 use Rattle.session_model.proofs.Lists.{drop_length}
 use Rattle.jr_boxes.specs.declared.faults.SubmitFault.{SubmitFault}
 use Rattle.jr_boxes.specs.Outboxes.{with_entry}
 use Rattle.gate_turn.specs.Views.{Account, Part, drawn, got, left}
 use Rattle.gate_turn.specs.Steps.{Entered}
+use Rattle.gate_turn.proofs.Histories.{begins_self, begins_on}
 use Rattle.gate_senders.specs.Kept.{next_entry}
-use Rattle.gate_senders.specs.Shown.{Submitted, entry_after}
+use Rattle.gate_senders.specs.Shown.{TakesTurn, Submitted, entry_after}
+
+-- the history goes on
+pub begins_added : (answer : Result ℕ SubmitFault) (a b : History) (e : Entry) → OnOk answer (a.finished ≢ true) → OnOk answer (b ≡ with_entry a e) → IfErr answer (λ _. b ≡ a) → BeginsHistory a b
+begins_added (Ok n) a b e unmarked is refused = subst (λ (h : History). BeginsHistory a h) (sym is) (record { made = (e ∷ [], refl); alone = λ marked. absurd (unmarked marked) })
+begins_added (Err _) a b e unmarked is same = subst (λ (h : History). BeginsHistory a h) (sym same) (begins_self a)
+
+-- the pass took one turn
+pub takes_turn : (p q last : Part) (a b : Account) → Entered p q a → last ≡ left b q → BeginsHistory a.history b.history → a.faults ≤ b.faults → TakesTurn p last
+takes_turn p q last a b entered is begins more = subst (λ (r : Part). TakesTurn p r) (sym (is ∙ ap (λ (r : Part). left b r) entered.after)) (record {
+  seen = begins_on p.seen a.history b.history entered.found.seen begins;
+  looked = refl;
+  turns = refl;
+  faults = omega (arith, entered.found.faults, more);
+  looks = refl;
+  number = refl;
+  made = refl;
+  opening = refl;
+})
 
 pub submits : (answer : Result ℕ SubmitFault) (p q last : Part) (sender : ℕ) (payload : List ℕ) (a b : Account) → Entered p q a → sender ≡ q.number → last ≡ left b q
     → OnOk answer (a.history.finished ≢ true) → OnOk answer (b.history ≡ with_entry a.history (next_entry a.history sender payload)) → IfOk answer (λ n. n ≡ length b.history.made)

@@ -1,5 +1,5 @@
 -- What an outbox under a turn lock says of itself, and what a call on it leaves of that. Gates are this project's profile.
-use Rattle.std.specs.Prelude.{◌≡◌, ◌≢◌, ◌⊎◌, ℕ, ◌+◌, ◌-◌, ◌^◌, ◌<◌, ◌≤◌, min, true, List, [], ◌∷◌, length, take, drop, if◌then◌else◌}
+use Rattle.std.specs.Prelude.{◌≡◌, ◌≢◌, ◌⊎◌, ℕ, ◌+◌, ◌-◌, ◌<◌, ◌≤◌, true, List, [], ◌∷◌, length, take, drop, if◌then◌else◌}
 use Rattle.session_model.specs.Journal.{Entry, History, entries_of}
 use Rattle.session_model.specs.Inbox.{Numbered}
 use Rattle.jr_record.specs.declared.journal.Journal.{Ghosts}
@@ -8,7 +8,7 @@ use Rattle.jr_record.specs.Images.{record_size, journal_size}
 use Rattle.jr_boxes.specs.declared.outbox.Outbox.{Outbox}
 use Rattle.jr_boxes.specs.Outboxes.{records_of_history}
 use Rattle.jr_boxes.specs.Outbox.{limits_of, faults_of, is_broken}
-use Rattle.gate_turn.specs.Views.{Account, Limits}
+use Rattle.gate_turn.specs.Views.{Account, HasFailed, Limits}
 
 module _ {J : Type 0} {G : Ghosts J} where
   -- how often it failed: the count of its disk, which stands still at its greatest number, and one more once it is broken
@@ -28,16 +28,12 @@ module _ {J : Type 0} {G : Ghosts J} where
 abbrev pub next_entry : History → ℕ → List ℕ → Entry
 next_entry h sender payload = record { sender = sender; own_number = length (entries_of h.made sender) + 1; payload = payload }
 
--- nothing of the limits changes, the count of failures does not fall, and what is broken now was so before or has failed since
+-- nothing of the limits changes, the count of failures does not fall, and what is broken now was so before, or a call of its disk
+-- has failed since
 pub record StaysSound (before after : Account) : Type 0 where
   pub limits : after.limits ≡ before.limits
   pub faults : before.faults ≤ after.faults
-  pub broken : after.broken ≡ true → before.broken ≢ true → before.faults < after.faults
-
--- A call of the disk failed: the count rose, by what the disk's count did, where that is not at its greatest number, and by one more
-pub record HasFailed (before after : ℕ) : Type 0 where
-  pub rose : before < after
-  pub disk : min (before + 2) (2 ^ 64) ≤ after
+  pub broken : after.broken ≡ true → before.broken ≢ true → HasFailed before.faults after.faults
 
 -- The entry is refused at this history: it has so many entries, the journal that holds them takes so many bytes, and the record
 -- of the entry is past one of the two limits

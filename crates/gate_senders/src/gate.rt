@@ -6,10 +6,10 @@ ghost use Rattle.jr_boxes.specs.Outbox.{is_broken};
 ghost use Rattle.jr_boxes.specs.declared.faults.SubmitFault.TheVariants as submit;
 ghost use Rattle.jr_boxes.specs.declared.faults.CloseFault.TheVariants as closing;
 ghost use Rattle.jr_record.specs.declared.faults.FetchFault.TheVariants as fetching;
-ghost use Rattle.gate_turn.specs.Views.{looked_at};
+ghost use Rattle.gate_turn.specs.Views.{HasFailed, looked_at};
 ghost use Rattle.gate_turn.specs.Places.{known};
 ghost use Rattle.gate_turn.specs.Calls.{IsFree, HasTurn, opened_with};
-ghost use Rattle.gate_senders.specs.Kept.{next_entry, messages, IsFullAt, HasFailed};
+ghost use Rattle.gate_senders.specs.Kept.{next_entry, messages, IsFullAt};
 ghost use Rattle.gate_senders.specs.Told.{told_by};
 ghost use Rattle.gate_senders.specs.Shown.{TakesTurn, Submitted, Finished};
 
@@ -104,7 +104,7 @@ impl<J: Journal> Gate<J> {
         ensures full { (entries bytes : ℕ) → result ≡ Err (submit.Full entries bytes)
             → IsFullAt (known pass.new).opening.limits (known pass.new).seen (next_entry (known pass.new).seen (known pass.new).number payload.now) entries bytes }
         ensures fault { IsErrOf result submit.Fault → HasFailed (known pass.old).faults (known pass.new).faults }
-        ensures broken { result ≡ Err submit.Broken → (known pass.new).opening.faults < (known pass.new).faults }
+        ensures broken { result ≡ Err submit.Broken → HasFailed (known pass.new).opening.faults (known pass.new).faults }
     {
         let Held { mut value } = self.lock.enter(pass, rt);
         let answer = value.add(pass.number(), payload);
@@ -129,7 +129,7 @@ impl<J: Journal> Gate<J> {
         ensures refused { IfErr result (λ _. (known pass.new).ended ≡ (known pass.old).ended) }
         ensures closed { result ≡ Err closing.Closed → (known pass.new).seen.finished ≡ true }
         ensures fault { IsErrOf result closing.Fault → HasFailed (known pass.old).faults (known pass.new).faults }
-        ensures broken { result ≡ Err closing.Broken → (known pass.new).opening.faults < (known pass.new).faults }
+        ensures broken { result ≡ Err closing.Broken → HasFailed (known pass.new).opening.faults (known pass.new).faults }
     {
         let Held { mut value } = self.lock.enter(pass, rt);
         let answer = value.finish();
@@ -160,7 +160,7 @@ impl<J: Journal> Gate<J> {
         ensures sizes { IfOk result (λ list. All (λ m. IsPayload m.payload) list.items) }
         ensures same { ((known pass.new).mine ≡ (known pass.old).mine) × ((known pass.new).ended ≡ (known pass.old).ended) }
         ensures fault { IsErrOf result fetching.Fault → HasFailed (known pass.old).faults (known pass.new).faults }
-        ensures broken { result ≡ Err fetching.Broken → (known pass.new).opening.faults < (known pass.new).faults }
+        ensures broken { result ≡ Err fetching.Broken → HasFailed (known pass.new).opening.faults (known pass.new).faults }
     {
         let Held { mut value } = self.lock.enter(pass, rt);
         let answer = value.fetch(self.alloc, from, most);

@@ -8,7 +8,8 @@ ghost use Rattle.jr_boxes.specs.Outboxes.{with_entry, with_mark};
 ghost use Rattle.jr_boxes.specs.declared.faults.SubmitFault.TheVariants as submit;
 ghost use Rattle.jr_boxes.specs.declared.faults.CloseFault.TheVariants as closing;
 ghost use Rattle.jr_record.specs.declared.faults.FetchFault.TheVariants as fetching;
-ghost use Rattle.gate_senders.specs.Kept.{account, messages, next_entry, StaysSound, IsFullAt, HasFailed};
+ghost use Rattle.gate_turn.specs.Views.{HasFailed};
+ghost use Rattle.gate_senders.specs.Kept.{account, messages, next_entry, StaysSound, IsFullAt};
 
 use crate::told::{Says, Told};
 use gate_turn::Logged;
