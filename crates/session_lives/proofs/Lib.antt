@@ -2,3 +2,4 @@ pub mod Plans
 pub mod Outboxes
 pub mod Senders
 pub mod Passes
+pub mod Boxes

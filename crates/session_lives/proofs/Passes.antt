@@ -73,7 +73,8 @@ refused_full (Some (submit.Full n m)) entries bytes e = let a : n ≡ entries = 
 refused_full (Some submit.Memory) entries bytes e = cc
 refused_full (Some submit.Fault) entries bytes e = cc
 
-blamed_at : {A : Type 0} (P : ServeFault → Type 0) (r : Result A ServeFault) (x : ServeFault) → IfErr r P → r ≡ Err x → P x
+-- what an answer blames
+pub blamed_at : {A : Type 0} (P : ServeFault → Type 0) (r : Result A ServeFault) (x : ServeFault) → IfErr r P → r ≡ Err x → P x
 blamed_at P (Ok a) x h e = cc
 blamed_at P (Err y) x h e = let same : y ≡ x = cc in subst P same h
 
