@@ -1,11 +1,10 @@
 -- What a turn sends of the outbox (this project's profile).
-use Rattle.std.specs.Prelude.{◌≡◌, ℕ, ◌<◌, List, ◌++◌, Option}
+use Rattle.std.specs.Prelude.{◌≡◌, ℕ, List, ◌++◌, Option}
 use Rattle.session_model.specs.Journal.{History, BeginsHistory}
 use Rattle.jr_record.specs.declared.faults.FetchFault.{FetchFault}
 use Rattle.jr_record.specs.declared.faults.FetchFault.TheVariants as fetching
 use Rattle.reply_laws.specs.Machine.{run}
-use Rattle.gate_turn.specs.Views.{Part}
-use Rattle.gate_senders.specs.Kept.{HasFailed}
+use Rattle.gate_turn.specs.Views.{HasFailed, Part}
 use Rattle.conn_turns.specs.declared.answer.TurnFault.{TurnFault}
 use Rattle.conn_turns.specs.declared.answer.TurnFault.TheVariants as faults
 use Rattle.conn_turns.specs.Lines.{Line}
@@ -20,7 +19,7 @@ fault_of fetching.Fault = faults.Outbox
 -- a fault of the outbox, as the pass shows it
 pub record BlamesPass (p q : Part) (fault : TurnFault) : Type 0 where
   pub failed : fault ≡ faults.Outbox → HasFailed p.faults q.faults
-  pub broken : fault ≡ faults.Broken → q.opening.faults < q.faults
+  pub broken : fault ≡ faults.Broken → HasFailed q.opening.faults q.faults
   pub no_other : (fault ≡ faults.Link → ⊥) × (fault ≡ faults.Inbox → ⊥)
   pub never_full : (entries bytes : ℕ) → fault ≡ faults.Full entries bytes → ⊥
 

@@ -5,10 +5,10 @@ ghost use Rattle.fixp_shake.specs.Flows.{is_absent};
 ghost use Rattle.fixp_end.specs.Sending.{AreFrom, payloads_of};
 ghost use Rattle.reply_laws.specs.Machine.{run, payload_frames};
 ghost use Rattle.jr_record.specs.declared.faults.FetchFault.TheVariants as fetching;
+ghost use Rattle.gate_turn.specs.Views.{HasFailed};
 ghost use Rattle.gate_turn.specs.Places.{known};
 ghost use Rattle.gate_turn.specs.Calls.{IsFree};
 ghost use Rattle.gate_senders.specs.Gate.{IsPassAt};
-ghost use Rattle.gate_senders.specs.Kept.{HasFailed};
 ghost use Rattle.conn_turns.specs.Turns.{again_calls, live_calls, finish_calls, served_of, served_now, sends_live, live_of, finish_of};
 ghost use Rattle.conn_loop.specs.Conn.{MayServe, SameInbox, Looks};
 ghost use Rattle.conn_loop.specs.Serving.{ServedOutbox, BlamesPass, fault_of};
@@ -108,7 +108,7 @@ impl Conn {
         ensures same { OnOk result (SameInbox (line_of self.old).machine (line_of self.new).machine) }
         ensures unserved { OnOk result ((line_of self.new).machine.ending ≡ None → (line_of self.new).machine.facts.connection.serving ≡ None) }
         ensures fault { result ≡ Err fetching.Fault → HasFailed (known pass.old).faults (known pass.new).faults }
-        ensures broken { result ≡ Err fetching.Broken → (known pass.new).opening.faults < (known pass.new).faults }
+        ensures broken { result ≡ Err fetching.Broken → HasFailed (known pass.new).opening.faults (known pass.new).faults }
     {
         if self.end.ending().is_some() {
             return Ok(());
@@ -146,7 +146,7 @@ impl Conn {
         ensures same { OnOk result (SameInbox (line_of self.old).machine (line_of self.new).machine) }
         ensures serving { OnOk result ((line_of self.new).machine.facts.connection.serving ≡ (line_of self.old).machine.facts.connection.serving) }
         ensures fault { result ≡ Err fetching.Fault → HasFailed (known pass.old).faults (known pass.new).faults }
-        ensures broken { result ≡ Err fetching.Broken → (known pass.new).opening.faults < (known pass.new).faults }
+        ensures broken { result ≡ Err fetching.Broken → HasFailed (known pass.new).opening.faults (known pass.new).faults }
     {
         if !self.sends_live() {
             return Ok(());

@@ -3,10 +3,10 @@
 ghost use Rattle.std.specs.Prelude.{◌≡◌, ◌≢◌, ◌⊎◌, ℕ, ◌+◌, ◌^◌, ◌<◌, ◌≤◌, [], true, false, length, Ok, Err, None, IsSome, IsTrue, IsFalse, IfOk, IfErr, OnOk, OnErr};
 ghost use Rattle.gw_outside.specs.Faults.{HasRisen};
 ghost use Rattle.jr_boxes.specs.Inbox.{faults_of, is_broken, size_of, count_of};
+ghost use Rattle.gate_turn.specs.Views.{HasFailed};
 ghost use Rattle.gate_turn.specs.Places.{known};
 ghost use Rattle.gate_turn.specs.Calls.{IsFree};
 ghost use Rattle.gate_senders.specs.Gate.{IsPassAt};
-ghost use Rattle.gate_senders.specs.Kept.{HasFailed};
 ghost use Rattle.conn_turns.specs.News.{items_of};
 ghost use Rattle.conn_turns.specs.declared.answer.TurnFault.TheVariants as faults;
 ghost use Rattle.conn_turns.specs.Exact.{line_ticked};
@@ -96,7 +96,7 @@ impl Conn {
         ensures no_link { IfErr result (λ fault. fault ≡ faults.Link → ⊥) }
         ensures inbox { IfErr result (λ fault. fault ≡ faults.Inbox → HasRisen (faults_of inbox.old) (faults_of inbox.new)) }
         ensures outbox { IfErr result (λ fault. fault ≡ faults.Outbox → HasFailed (known pass.old).faults (known pass.new).faults) }
-        ensures broken { IfErr result (λ fault. fault ≡ faults.Broken → (is_broken inbox.new ≡ true) ⊎ ((known pass.new).opening.faults < (known pass.new).faults)) }
+        ensures broken { IfErr result (λ fault. fault ≡ faults.Broken → (is_broken inbox.new ≡ true) ⊎ HasFailed (known pass.new).opening.faults (known pass.new).faults) }
         ensures full { IfErr result (λ fault. (entries bytes : ℕ) → fault ≡ faults.Full entries bytes → (entries ≡ count_of inbox.new) × (bytes ≡ size_of inbox.new)) }
         ensures kind { SameKind inbox.old inbox.new }
         ensures never_falls { faults_of inbox.old ≤ faults_of inbox.new }

@@ -1,13 +1,13 @@
 -- What a turn answered, as its connection knows it.
-use Rattle.std.proofs.Common.{◌≡◌, ◌⊎◌, inl, inr, ℕ, ◌<◌, true, Option, Some, None, Result, Ok, Err, refl, sym, subst, ◌∙◌}
+use Rattle.std.proofs.Common.{◌≡◌, ◌⊎◌, inl, inr, ℕ, ◌≤◌, true, arith, Option, Some, None, Result, Ok, Err, refl, sym, subst, ◌∙◌}
 use Rattle.std.specs.Prelude.{IsSome, is_some, IfOk, IfErr, OnOk}
 use Rattle.gw_outside.specs.Faults.{HasRisen}
 use Rattle.fixp_replies.specs.declared.act.Ending.{Ending}
 use Rattle.jr_record.specs.declared.journal.Journal.{Ghosts}
 use Rattle.jr_boxes.specs.declared.inbox.Inbox.{Inbox}
 use Rattle.jr_boxes.specs.Inbox.{faults_of, is_broken, size_of, count_of}
-use Rattle.gate_turn.specs.Views.{Part}
-use Rattle.gate_senders.specs.Kept.{HasFailed}
+use Rattle.gate_turn.specs.Views.{HasFailed, Part}
+use Rattle.gate_turn.proofs.Failing.{failed_before}
 use Rattle.session_lines.specs.declared.close.Close.{Close}
 use Rattle.session_lines.specs.declared.close.Close.TheVariants as closes
 use Rattle.conn_turns.specs.declared.answer.TurnEnd.{TurnEnd}
@@ -103,19 +103,36 @@ module _ {J : Type 0} {G : Ghosts J} where
   pub blamed_made : (p q : Part) (box since : Inbox J G) (r : Result TurnEnd TurnFault)
       → (r ≡ Err turn_faults.Inbox → HasRisen (faults_of box) (faults_of since))
       → (r ≡ Err turn_faults.Outbox → HasFailed p.faults q.faults)
-      → (r ≡ Err turn_faults.Broken → (is_broken since ≡ true) ⊎ (q.opening.faults < q.faults))
+      → (r ≡ Err turn_faults.Broken → (is_broken since ≡ true) ⊎ HasFailed q.opening.faults q.faults)
       → ((entries bytes : ℕ) → r ≡ Err (turn_faults.Full entries bytes) → (entries ≡ count_of since) × (bytes ≡ size_of since))
       → IfErr (close_of r) (IsBlamed 0 0 0 0 p q box since)
   blamed_made p q box since (Ok turn_ends.Go) inbox outbox broken full = tt
   blamed_made p q box since (Ok (turn_ends.Ended x)) inbox outbox broken full = tt
   blamed_made p q box since (Err turn_faults.Link) inbox outbox broken full = tt
   blamed_made p q box since (Err turn_faults.Inbox) inbox outbox broken full = blames p q box since (inl (inbox refl))
-  blamed_made p q box since (Err turn_faults.Outbox) inbox outbox broken full = blames p q box since (inr (inr (inl (outbox refl).rose)))
+  blamed_made p q box since (Err turn_faults.Outbox) inbox outbox broken full = blames p q box since (inr (inr (inl (outbox refl))))
   blamed_made p q box since (Err turn_faults.Broken) inbox outbox broken full = blames p q box since (by_kind (broken refl))
     where
-      by_kind : (is_broken since ≡ true) ⊎ (q.opening.faults < q.faults) → BlamesJournal p q box since
+      by_kind : (is_broken since ≡ true) ⊎ HasFailed q.opening.faults q.faults → BlamesJournal p q box since
       by_kind (inl b) = inr (inl b)
       by_kind (inr b) = inr (inr (inr b))
   blamed_made p q box since (Err (turn_faults.Full entries bytes)) inbox outbox broken full =
       record { output = λ e. cc; journal = λ e. cc; dial = λ e. cc; full = λ n m e. let a : n ≡ entries = cc in let b : m ≡ bytes = cc in (a ∙ (full entries bytes refl).0, b ∙ (full entries bytes refl).1) }
   blamed_made p q box since (Err turn_faults.Memory) inbox outbox broken full = record { output = λ e. cc; journal = λ e. cc; dial = λ e. cc; full = λ entries bytes e. cc }
+
+  blames_since : (p m q : Part) (box mid after : Inbox J G) → p.faults ≤ m.faults → faults_of box ≤ faults_of mid → BlamesJournal m q mid after → BlamesJournal p q box after
+  blames_since p m q box mid after pass inbox (inl risen) = inl (omega (arith, inbox, risen))
+  blames_since p m q box mid after pass inbox (inr (inl broken)) = inr (inl broken)
+  blames_since p m q box mid after pass inbox (inr (inr (inl failed))) = inr (inr (inl (failed_before p.faults m.faults q.faults pass failed)))
+  blames_since p m q box mid after pass inbox (inr (inr (inr failed))) = inr (inr (inr failed))
+
+  -- what is to blame behind the middle is to blame for the whole
+  pub blamed_since : (out mid_out now_out dialer mid_dialer now_dialer : ℕ) (p m q : Part) (box mid after : Inbox J G) (fault : ServeFault)
+      → out ≤ mid_out → dialer ≤ mid_dialer → p.faults ≤ m.faults → faults_of box ≤ faults_of mid
+      → IsBlamed mid_out now_out mid_dialer now_dialer m q mid after fault → IsBlamed out now_out dialer now_dialer p q box after fault
+  blamed_since out mid_out now_out dialer mid_dialer now_dialer p m q box mid after fault less_out less_dialer pass inbox b = record {
+    output = λ e. omega (arith, less_out, b.output e);
+    journal = λ e. blames_since p m q box mid after pass inbox (b.journal e);
+    dial = λ e. omega (arith, less_dialer, b.dial e);
+    full = b.full;
+  }

@@ -1,11 +1,11 @@
 -- What a fault of a life is caused by (this project's profile).
-use Rattle.std.specs.Prelude.{◌≡◌, ◌⊎◌, ℕ, ◌<◌, Bool, true, false, List, Option, Some, None}
+use Rattle.std.specs.Prelude.{◌≡◌, ◌⊎◌, ℕ, Bool, true, false, List, Option, Some, None}
 use Rattle.std.specs.Io.KnownBytes.{Appends}
 use Rattle.gw_outside.specs.Faults.{HasRisen, TakesFront}
 use Rattle.jr_record.specs.declared.journal.Journal.{Ghosts}
 use Rattle.jr_boxes.specs.declared.inbox.Inbox.{Inbox}
 use Rattle.jr_boxes.specs.Inbox.{faults_of, is_broken, size_of, count_of}
-use Rattle.gate_turn.specs.Views.{Part}
+use Rattle.gate_turn.specs.Views.{HasFailed, Part}
 use Rattle.conn_serve.specs.declared.answer.ServeFault.{ServeFault}
 use Rattle.conn_serve.specs.declared.answer.ServeFault.TheVariants as faults
 
@@ -30,11 +30,11 @@ Tells false old new lines = Appends old new lines
 Tells true old new lines = TakesFront old new lines
 
 module _ {J : Type 0} {G : Ghosts J} where
-  -- a journal is to blame: the inbox's count rose, or it is broken, or the count of the outbox that the pass has seen rose, or is
-  -- above that of its opening
+  -- a journal is to blame: the inbox's count rose, or it is broken, or a call of the outbox's disk failed, as the count that the pass
+  -- has seen shows: meanwhile, or since its opening
   abbrev pub BlamesJournal : (p q : Part) (box since : Inbox J G) → Type 0
   BlamesJournal p q box since =
-      HasRisen (faults_of box) (faults_of since) ⊎ ((is_broken since ≡ true) ⊎ ((p.faults < q.faults) ⊎ (q.opening.faults < q.faults)))
+      HasRisen (faults_of box) (faults_of since) ⊎ ((is_broken since ≡ true) ⊎ (HasFailed p.faults q.faults ⊎ HasFailed q.opening.faults q.faults))
 
   -- what a fault is to blame for
   pub record IsBlamed (out now_out dialer now_dialer : ℕ) (p q : Part) (box since : Inbox J G) (fault : ServeFault) : Type 0 where

@@ -2,7 +2,7 @@
 use Rattle.std.specs.Prelude.{◌≡◌, ◌⊎◌, ℕ, ◌<◌, true, All, Contains, List, length, slice_index_or, Option, Some, None}
 use Rattle.jr_record.specs.declared.journal.Journal.{Ghosts}
 use Rattle.jr_boxes.specs.declared.faults.SubmitFault.{SubmitFault}
-use Rattle.gate_turn.specs.Views.{Part}
+use Rattle.gate_turn.specs.Views.{HasFailed, Part}
 use Rattle.gate_turn.specs.Places.{known}
 use Rattle.gate_senders.specs.Shown.{TakesTurn}
 use Rattle.gate_senders.specs.declared.gate.Gate.{Gate}
@@ -13,12 +13,12 @@ use Rattle.conn_serve.specs.declared.answer.ServeFault.TheVariants as faults
 use Rattle.conn_serve.specs.Answers.{submit_fault}
 
 -- The Finish was added, or refused so: the pass took one turn and made nothing. Where it was not refused, or only since the outbox is
--- closed, the pass has seen the mark; a journal is to blame where its count rose, or is above that of its opening
+-- closed, the pass has seen the mark; a journal is to blame only where a call of its disk failed, in this turn or since its opening
 pub record Finishes (p q : Part) (refused : Option ServeFault) : Type 0 where
   pub turn : TakesTurn p q
   pub mine : q.mine ≡ p.mine
   pub marked : refused ≡ None → q.seen.finished ≡ true
-  pub journal : refused ≡ Some faults.Journal → (p.faults < q.faults) ⊎ (q.opening.faults < q.faults)
+  pub journal : refused ≡ Some faults.Journal → HasFailed p.faults q.faults ⊎ HasFailed q.opening.faults q.faults
   pub few : (fault : ServeFault) → refused ≡ Some fault → (fault ≡ faults.Journal) ⊎ (fault ≡ faults.Memory)
 
 -- what the refusal that a sender met, if it met one, is to a life

@@ -8,7 +8,7 @@ use Rattle.jr_boxes.specs.declared.faults.SubmitFault.{SubmitFault}
 use Rattle.gate_turn.specs.Views.{Part}
 use Rattle.gate_turn.specs.Places.{known}
 use Rattle.gate_turn.proofs.Histories.{begins_self, begins_on}
-use Rattle.gate_senders.specs.Kept.{HasFailed}
+use Rattle.gate_turn.proofs.Failing.{failed_before}
 use Rattle.gate_senders.specs.Shown.{TakesTurn, Submitted, entry_after}
 use Rattle.gate_turn.specs.Calls.{IsFree}
 use Rattle.gate_senders.specs.Gate.{IsPassAt}
@@ -44,9 +44,6 @@ goes_on p q z a b = record {
   ended = b.ended ∙ a.ended;
   looks = b.looks ∙ a.looks;
 }
-
-failed_before : (a b c : ℕ) → a ≤ b → HasFailed b c → HasFailed a c
-failed_before a b c least f = record { rose = omega (arith, least, f.rose); disk = omega (arith, least, f.disk) }
 
 shown_before : (p q z : Part) (payload : List ℕ) (f : SubmitFault) → p.faults ≤ q.faults → IsShown q z payload f → IsShown p z payload f
 shown_before p q z payload f least s = record {

@@ -3,8 +3,8 @@ use Rattle.std.specs.Prelude.{⊤, ◌≡◌, ℕ, ◌+◌, ◌-◌, ◌<◌, �
 use Rattle.session_model.specs.Journal.{Entry, BeginsHistory}
 use Rattle.jr_boxes.specs.declared.faults.SubmitFault.{SubmitFault}
 use Rattle.jr_boxes.specs.declared.faults.SubmitFault.TheVariants as submit
-use Rattle.gate_turn.specs.Views.{Part}
-use Rattle.gate_senders.specs.Kept.{next_entry, IsFullAt, HasFailed}
+use Rattle.gate_turn.specs.Views.{HasFailed, Part}
+use Rattle.gate_senders.specs.Kept.{next_entry, IsFullAt}
 
 -- the entries that a sender makes of these payloads, behind so many of its own
 abbrev pub entries_behind : ℕ → ℕ → List (List ℕ) → List Entry
@@ -36,12 +36,12 @@ pub record Sent (p q : Part) (payloads : List (List ℕ)) (numbers : List ℕ) :
   pub stand : StandAt q.seen.made (length p.seen.made) numbers (entries_behind p.number (length p.mine) payloads)
 
 -- The next message of the plan was refused, as the pass shows: closed where what it has then seen has the mark, full where that is
--- at a limit, failed where its count of faults rose, and broken where that is above the opening's
+-- at a limit, failed where a call of the disk did in this turn, and broken where one has since the opening
 pub record IsShown (p q : Part) (payload : List ℕ) (fault : SubmitFault) : Type 0 where
   pub closed : fault ≡ submit.Closed → q.seen.finished ≡ true
   pub full : (entries bytes : ℕ) → fault ≡ submit.Full entries bytes → IsFullAt q.opening.limits q.seen (next_entry q.seen q.number payload) entries bytes
   pub failed : fault ≡ submit.Fault → HasFailed p.faults q.faults
-  pub broken : fault ≡ submit.Broken → q.opening.faults < q.faults
+  pub broken : fault ≡ submit.Broken → HasFailed q.opening.faults q.faults
 
 -- how many refusals it met
 abbrev pub refusals : Option SubmitFault → ℕ

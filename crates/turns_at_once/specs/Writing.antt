@@ -1,13 +1,13 @@
 -- What a value keeps where it takes an entry, and what a pass then knows.
-use Rattle.std.specs.Prelude.{◌≡◌, ◌≢◌, ℕ, ◌≤◌, ◌<◌, true, List, [], ◌∷◌, ◌++◌, length}
+use Rattle.std.specs.Prelude.{◌≡◌, ◌≢◌, ℕ, ◌≤◌, true, List, [], ◌∷◌, ◌++◌, length}
 use Rattle.session_model.specs.Journal.{Entry, BeginsHistory}
-use Rattle.gate_turn.specs.Views.{Account, Part}
+use Rattle.gate_turn.specs.Views.{Account, HasFailed, Part}
 
--- the limits stay, the count of faults does not fall, and what is broken now was so before, or has failed since
+-- the limits stay, the count of faults does not fall, and what is broken now was so before, or a call of its device has failed since
 pub record StaysSound (before after : Account) : Type 0 where
   pub limits : after.limits ≡ before.limits
   pub faults : before.faults ≤ after.faults
-  pub broken : after.broken ≡ true → before.broken ≢ true → before.faults < after.faults
+  pub broken : after.broken ≡ true → before.broken ≢ true → HasFailed before.faults after.faults
 
 -- the pass that knew p has added one entry of its own, as the n-th of all, behind all that it had seen
 pub record Sent (p q : Part) (n : ℕ) : Type 0 where

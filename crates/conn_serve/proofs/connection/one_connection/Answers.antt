@@ -6,6 +6,7 @@ use Rattle.conn_loop.specs.Conn.{line_of}
 use Rattle.conn_loop.proofs.Working.{seen_same, looks_self, looks_on}
 use Rattle.conn_serve.specs.declared.answer.ServeFault.TheVariants as faults
 use Rattle.conn_serve.specs.Answers.{IsOfTurn}
+use Rattle.conn_serve.proofs.Making.{blamed_since}
 use Rattle.conn_serve.proofs.Turning.{turned_none, turned_on, turned_place, given_whole, given_on, agrees_recorded, given_first, turned_first}
 use Rattle.conn_serve.proofs.connection.one_connection.Goals as goal
 
@@ -46,6 +47,12 @@ turn_once-requires-clause-place g c =
 
 pub returns-in-Err-clause-looks : goal.returns-in-Err-clause-looks
 returns-in-Err-clause-looks g c = looks_on _ _ _ c.loop.invariant.looks c.turn_once.ensures.looks
+
+pub returns-in-Err-clause-blamed : goal.returns-in-Err-clause-blamed
+returns-in-Err-clause-blamed g c =
+    let was = c.loop.invariant in
+    blamed_since _ _ _ 0 0 0 (known c.args.pass.now) (known c.loop.pass) (known c.turn_once.new.pass) c.args.inbox.now c.loop.inbox c.turn_once.new.inbox c.in-Err.fault
+    was.out (omega arith) was.looks.faults was.inbox c.in-Err.ensures.blamed
 
 pub returns-in-Err-clause-given_up : goal.returns-in-Err-clause-given_up
 returns-in-Err-clause-given_up g c =

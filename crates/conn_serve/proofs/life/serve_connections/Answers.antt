@@ -2,6 +2,7 @@ use Rattle.std.proofs.Common.{Ok, refl, ap, subst, ◌∙◌, arith}
 use Rattle.gate_turn.specs.Places.{known}
 use Rattle.conn_loop.proofs.Working.{looks_self, looks_on}
 use Rattle.conn_serve.specs.Served.{IsRound}
+use Rattle.conn_serve.proofs.Making.{blamed_since}
 use Rattle.conn_serve.proofs.Living.{lived_none, lived_more, over_stopped, over_ok, over_err}
 use Rattle.conn_serve.proofs.life.serve_connections.Goals as goal
 
@@ -32,6 +33,12 @@ returns-in-Some-clause-served g c =
 
 pub returns-in-Err-clause-looks : goal.returns-in-Err-clause-looks
 returns-in-Err-clause-looks g c = looks_on _ _ _ c.loop-number.invariant.looks c.serve_next-answer.ensures.looks
+
+pub returns-in-Err-clause-blamed : goal.returns-in-Err-clause-blamed
+returns-in-Err-clause-blamed g c =
+    let was = c.loop-number.invariant in
+    blamed_since _ _ _ _ _ _ (known c.args.pass.now) (known c.loop-number.pass) (known c.serve_next-answer.new.pass) c.args.inbox.now c.loop-number.inbox c.serve_next-answer.new.inbox c.in-Err.fault
+    was.out was.dialer was.looks.faults was.inbox c.in-Err.ensures.blamed
 
 pub returns-in-Err-clause-served : goal.returns-in-Err-clause-served
 returns-in-Err-clause-served g c =
