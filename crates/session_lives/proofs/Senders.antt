@@ -121,8 +121,8 @@ module _ {J : Type 0} {G : Ghosts J} (gate : Gate J G) (a : Account) (plans : Li
           let within : i < length seated = omega (arith, lt, count.long) in
           counted_made gate a (suc i) (plan_in plans (suc i) []) (slice_index_or seated i d) (slice_index_or counted i d) (fresh.each i d within) (count.each i d within);
       ended = inl (λ i d lt.
-      let within : i < length seated = omega (arith, lt, count.long) in
-      counted_unended gate a (suc i) (plan_in plans (suc i) []) (slice_index_or seated i d) (slice_index_or counted i d) (fresh.each i d within) (count.each i d within));
+          let within : i < length seated = omega (arith, lt, count.long) in
+          counted_unended gate a (suc i) (plan_in plans (suc i) []) (slice_index_or seated i d) (slice_index_or counted i d) (fresh.each i d within) (count.each i d within));
     }
 
     module _ (after : List (Sender J G)) (refused : Option ServeFault) (s : SubmittedAll gate counted after refused) where
@@ -189,6 +189,6 @@ module _ {J : Type 0} {G : Ghosts J} (gate : Gate J G) where
           made = if i + 1 == 1 then length given + 1 else 0;
           part = part ∙ ap (λ (n : ℕ). new_part n (if i + 1 == 1 then length given + 1 else 0) (opening_of gate)) (add-one i);
           plan_is = sym (get_or-map (λ (p : Plan). payloads_of p) given i d.plan [] (omega (arith, lt, count))
-          ∙ (ap (λ (ps : List Plan). payloads_of (slice_index_or ps i d.plan)) plans_are ∙ ap (λ (p : Plan). payloads_of p) (get_or-map (λ (s : Sender J G). s.plan) senders i d d.plan lt)));
+              ∙ (ap (λ (ps : List Plan). payloads_of (slice_index_or ps i d.plan)) plans_are ∙ ap (λ (p : Plan). payloads_of p) (get_or-map (λ (s : Sender J G). s.plan) senders i d d.plan lt)));
         };
   }
