@@ -1,6 +1,6 @@
 -- One life over both journals, from what it was over their boxes.
-use Rattle.std.proofs.Common.{◌≡◌, ◌⊎◌, inl, inr, ⊎_elim, ℕ, ◌+◌, ◌-◌, ◌^◌, ◌<◌, ◌≤◌, min, Bool, true, false, List, [], ◌++◌, length, Option, Some, Result, Err, refl, sym, ap, subst, ◌∙◌, arith}
-use Rattle.std.specs.Prelude.{option_to_list, IsSomeAnd}
+use Rattle.std.proofs.Common.{◌≡◌, ◌⊎◌, inl, inr, ⊎_elim, ℕ, ◌+◌, ◌-◌, ◌^◌, ◌≤◌, true, false, List, [], ◌++◌, length, Option, Result, sym, ap, subst, ◌∙◌, arith}
+use Rattle.std.specs.Prelude.{option_to_list}
 use Rattle.std.specs.Option.{ForSome}
 use Rattle.std.proofs.Math.Logic.{∥∥₁_map, ∥∥₁_elim}
 use Rattle.std.proofs.lemmas.Bool.{cases_Bool}
@@ -8,10 +8,9 @@ use mathlib.Core.List.{IsPrefix, is_set as List-set}
 use mathlib.Core.Sum.{⊎_set}
 use native.Mathlib.Nat.{ℕ_set}
 use Rattle.gw_outside.specs.Faults.{HasRisen}
-use Rattle.session_model.specs.Journal.{Entry, OutboxRecord, entries, History, InOrder}
-use Rattle.session_model.specs.Inbox.{InboxRecord, applied}
-use Rattle.session_model.specs.Lives.{Served, KeepsConnections, KeepsContract, KeepsOutbox}
-use Rattle.session_model.proofs.Lists.{prefix_trans}
+use Rattle.session_model.specs.Journal.{Entry, OutboxRecord, entries, InOrder}
+use Rattle.session_model.specs.Inbox.{InboxRecord}
+use Rattle.session_model.specs.Lives.{KeepsConnections, KeepsOutbox}
 use Rattle.fixp_shake.specs.declared.config.EndConfig.{EndConfig}
 use Rattle.reply_laws.specs.Machine.{State, fresh}
 use Rattle.growth_laws.specs.Accepting.{model_flow}
@@ -25,7 +24,6 @@ use Rattle.jr_record.specs.declared.record.Record.{Record}
 use Rattle.jr_record.specs.Images.{IsJournal, Leaves, journal_size}
 use Rattle.jr_boxes.specs.Outboxes.{outbox_of, records_of_history}
 use Rattle.jr_boxes.specs.Inboxes.{records_of_inbox}
-use Rattle.jr_boxes.specs.Notes.{places_from}
 use Rattle.jr_boxes.specs.declared.outbox.Outbox.{Outbox}
 use Rattle.jr_boxes.specs.declared.inbox.Inbox.{Inbox}
 use Rattle.jr_boxes.specs.Outbox as outboxes
@@ -33,19 +31,16 @@ use Rattle.jr_boxes.specs.Inbox as inboxes
 use Rattle.jr_boxes.proofs.Kept.{length-places}
 use Rattle.gate_turn.specs.Views.{Limits}
 use Rattle.conn_serve.specs.declared.answer.ServeFault.{ServeFault}
-use Rattle.conn_serve.specs.declared.answer.ServeFault.TheVariants as faults
 use Rattle.conn_serve.specs.Connections.{adds_of, refused_of_all}
-use Rattle.conn_serve.specs.Served.{ServedLife}
 use Rattle.conn_serve.specs.Opening.{opened_state}
 use Rattle.serve_laws.specs.Lives.{all_of, LifeOfLoop, served_of}
-use Rattle.serve_laws.proofs.Behind.{seen_over_all, seen_behind}
 use Rattle.serve_laws.proofs.Loops.{served_keeps}
 use Rattle.serve_laws.proofs.Opened.{opened_opens}
 use Rattle.session_lives.specs.Plans.{plan_in}
 use Rattle.session_lives.specs.Lives.{LivedBoxes, WasFull, FillsInbox}
 use Rattle.session_lives.proofs.Outboxes.{entries-outbox_of, plans_keep_outbox}
 use Rattle.command_base.specs.declared.status.Status.{Status}
-use Rattle.session_command.specs.Lived.{LeavesImages, KeepsRecords, FullInbox, limits, OpensOutbox, OpensInbox, LivedOver, BeganNone, HasLived, LivedOn, Lived}
+use Rattle.session_command.specs.Lived.{LeavesImages, KeepsRecords, FullInbox, limits, OpensOutbox, OpensInbox, LivedOver, LivedOn, Lived}
 
 -- a disk's count rose where that of a box over it did
 pub risen_over : (disk now_disk old new : ℕ) → disk ≤ old → new ≡ now_disk → HasRisen old new → HasRisen disk now_disk

@@ -1,7 +1,6 @@
 -- What is left of the senders behind a life, and what its answer blames.
-use Rattle.std.proofs.Common.{◌≡◌, ◌≢◌, ◌⊎◌, ⊎_elim, ℕ, ◌+◌, ◌<◌, ◌≤◌, Bool, true, false, if◌then◌else◌, List, [], ◌∷◌, ◌++◌, ◌^◌, length, take, slice_index_or, All, Option, Some, None, Result, Ok, Err, IfErr, refl, sym, ap, ◌∙◌, subst, arith, append-nil}
+use Rattle.std.proofs.Common.{◌≡◌, ◌⊎◌, ⊎_elim, ℕ, ◌+◌, ◌<◌, Bool, true, false, List, [], ◌∷◌, ◌++◌, ◌^◌, length, take, slice_index_or, All, Option, Some, None, Result, Err, IfErr, sym, ap, ◌∙◌, subst, arith, append-nil}
 use Rattle.std.proofs.lemmas.Option.{none-some}
-use Rattle.std.proofs.lemmas.Bool.{cases_Bool}
 use mathlib.Core.Logic.{dite}
 use native.Mathlib.Decide.{ℕ_discrete}
 use Rattle.std.specs.Prelude.{option_to_list}
@@ -25,8 +24,7 @@ use Rattle.sender_plans.proofs.Seating.{seated_still}
 use Rattle.conn_serve.specs.declared.answer.ServeFault.{ServeFault}
 use Rattle.conn_serve.specs.declared.answer.ServeFault.TheVariants as faults
 use Rattle.conn_serve.specs.declared.answer.LifeEnd.{LifeEnd}
-use Rattle.conn_serve.specs.declared.answer.LifeEnd.TheVariants as ends
-use Rattle.conn_serve.specs.Answers.{answer_of, yields}
+use Rattle.conn_serve.specs.Answers.{answer_of}
 use Rattle.conn_serve.specs.Senders.{refusal_of, IsRefusal, FinishedFirst, SubmittedAll}
 use Rattle.conn_serve.specs.Causes.{Tells}
 use Rattle.conn_serve.specs.Lines.{lines_from}

@@ -1,5 +1,5 @@
 -- What the passes knew is what the boxes hold, once the gate is closed.
-use Rattle.std.proofs.Common.{◌≡◌, ◌⊎◌, inl, inr, ⊎_elim, ℕ, ◌+◌, ◌^◌, ◌<◌, ◌≤◌, Bool, true, false, true≢false, if◌then◌else◌, List, length, Option, Result, Err, refl, sym, ap, subst, ◌∙◌, arith}
+use Rattle.std.proofs.Common.{◌≡◌, ◌⊎◌, inl, inr, ⊎_elim, ℕ, ◌+◌, ◌^◌, ◌<◌, Bool, true, false, true≢false, if◌then◌else◌, List, length, Option, Result, sym, ap, subst, ◌∙◌, arith}
 use Rattle.gw_outside.specs.Faults.{HasRisen}
 use Rattle.session_model.specs.Journal.{History, BeginsHistory}
 use Rattle.fixp_shake.specs.declared.config.EndConfig.{EndConfig}
@@ -9,7 +9,7 @@ use Rattle.jr_record.specs.declared.journal.Journal.{Ghosts}
 use Rattle.jr_boxes.specs.declared.inbox.Inbox.{Inbox}
 use Rattle.jr_boxes.specs.declared.outbox.Outbox.{Outbox}
 use Rattle.jr_boxes.specs.Outbox.{front_of, limits_of, faults_of, is_broken}
-use Rattle.gate_turn.specs.Views.{Account, HasFailed, Limits, Part}
+use Rattle.gate_turn.specs.Views.{Account, HasFailed, Part}
 use Rattle.gate_turn.specs.Rule.{In, Sound}
 use Rattle.gate_turn.specs.Listed.{known_at}
 use Rattle.gate_turn.specs.Steps.{Found}
@@ -21,9 +21,8 @@ use Rattle.gate_senders.specs.declared.gate.Gate.{Gate}
 use Rattle.gate_senders.specs.declared.kept.Kept.{Kept}
 use Rattle.gate_senders.proofs.Keeping.{front_is}
 use Rattle.conn_serve.specs.declared.answer.ServeFault.{ServeFault}
-use Rattle.conn_serve.specs.declared.answer.ServeFault.TheVariants as faults
-use Rattle.conn_serve.specs.Opening.{opened_state, IsUnrefused}
-use Rattle.session_lives.specs.Lives.{SomePass, SeesMark, SeesFailure, MetFull, WasFull, BlamesInbox, FillsInbox, ServedAt, LivedBoxes}
+use Rattle.conn_serve.specs.Opening.{opened_state}
+use Rattle.session_lives.specs.Lives.{SomePass, SeesMark, SeesFailure, MetFull, WasFull, ServedAt, LivedBoxes}
 use Rattle.session_lives.proofs.Plans.{plans_are_kept}
 
 -- where a count, and one more once it is broken, shows a failure, the count rose

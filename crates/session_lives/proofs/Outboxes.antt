@@ -1,10 +1,10 @@
 -- An outbox that keeps plans, in the words of the session model.
 use Rattle.std.proofs.Common.{◌≡◌, inl, ℕ, zero, suc, Bool, true, false, List, [], ◌∷◌, ◌++◌, map, refl, sym, ap, subst, ◌∙◌, append-nil}
 use mathlib.Core.List.{IsPrefix}
-use Rattle.session_model.specs.Journal.{Entry, OutboxRecord, entry, finish, entries, History, is_finished, history_of, BeginsHistory, InOrder}
+use Rattle.session_model.specs.Journal.{Entry, OutboxRecord, entry, entries, History, is_finished, history_of, BeginsHistory, InOrder}
 use Rattle.session_model.specs.Inbox.{applied, payloads_of}
-use Rattle.session_model.specs.Plans.{sent_by, Continues, Completes, Fixed, SendersDone}
-use Rattle.session_model.specs.Lives.{Life, IsImage, KeepsOutbox}
+use Rattle.session_model.specs.Plans.{sent_by, Continues, Completes, SendersDone}
+use Rattle.session_model.specs.Lives.{Life, KeepsOutbox}
 use Rattle.session_model.proofs.Lists.{prefix_self, prefix_equal, prefix_trans, prefix_map, prefix_of_append}
 use Rattle.session_model.proofs.Images.{image_of_none}
 use Rattle.jr_boxes.specs.Outboxes.{mark_of, outbox_of}

@@ -1,10 +1,10 @@
 -- The passes of a life once all are back: those of the senders, and that of the connection behind them.
-use Rattle.std.proofs.Common.{◌≡◌, ◌⊎◌, inl, inr, ⊎_elim, ℕ, zero, suc, ◌+◌, ◌<◌, ◌≤◌, true, false, true≢false, List, [], ◌∷◌, length, slice_index_or, All, Contains, Option, Some, None, Result, Ok, Err, if◌then◌else◌, refl, sym, ap, subst, ◌∙◌, arith, add-one}
+use Rattle.std.proofs.Common.{◌≡◌, ◌⊎◌, inl, inr, ⊎_elim, ℕ, zero, suc, ◌+◌, ◌<◌, true, false, true≢false, List, [], ◌∷◌, length, slice_index_or, All, Option, Some, None, Result, Ok, Err, if◌then◌else◌, refl, sym, ap, subst, ◌∙◌, arith, add-one}
 use Rattle.std.specs.Prelude.{IfErr}
 use Rattle.std.proofs.lemmas.Bool.{cases_Bool}
 use mathlib.Core.Logic.{dite}
 use native.Mathlib.Decide.{ℕ_discrete}
-use Rattle.session_model.specs.Journal.{Entry, History, entries_of, BeginsHistory}
+use Rattle.session_model.specs.Journal.{History, entries_of, BeginsHistory}
 use Rattle.reply_laws.specs.Machine.{State}
 use Rattle.gw_links.specs.Dialers.{DialerTold}
 use Rattle.jr_record.specs.declared.journal.Journal.{Ghosts}
@@ -18,7 +18,6 @@ use Rattle.gate_turn.specs.Listed.{pass_at, known_if, known_at}
 use Rattle.gate_turn.specs.declared.pass.Pass.{Pass}
 use Rattle.gate_turn.specs.declared.passes.Passes.{Passes}
 use Rattle.gate_turn.proofs.Failing.{failed_before}
-use Rattle.gate_turn.proofs.Histories.{begins_self}
 use Rattle.gate_senders.specs.declared.gate.Gate.{Gate}
 use Rattle.gate_senders.specs.declared.kept.Kept.{Kept}
 use Rattle.conn_loop.specs.Conn.{Looks}
@@ -36,7 +35,7 @@ use Rattle.conn_serve.specs.Served.{ServedLife}
 use Rattle.conn_serve.specs.Opening.{ServedBy, IsUnrefused}
 use Rattle.session_lives.specs.Plans.{plan_in, MadeOf, IsAllMade, PlansMade}
 use Rattle.session_lives.specs.Lives.{SomePass, SeesMark, SeesFailure, MetFull, BlamesInbox, FillsInbox, ServedAt}
-use Rattle.session_lives.proofs.Senders.{PartMade, part_still, AllFresh, SendersMade, senders_made, ran_part, ran_at}
+use Rattle.session_lives.proofs.Senders.{PartMade, AllFresh, SendersMade, senders_made, ran_part, ran_at}
 
 -- an answer that is neither want of memory nor done is that of the connections, or a refusal
 pub answer_blames : (connections : Result LifeEnd ServeFault) (refused : Option ServeFault) (x : ServeFault) → (x ≡ faults.Memory → ⊥) → answer_of connections refused ≡ Err x → (connections ≡ Err x) ⊎ (refused ≡ Some x)

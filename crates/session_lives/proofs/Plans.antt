@@ -1,12 +1,12 @@
 -- The plans of senders, as their passes know them once all are back.
-use Rattle.std.proofs.Common.{◌≡◌, ◌⊎◌, inl, inr, ⊎_elim, ℕ, zero, suc, ◌+◌, ◌<◌, ◌≤◌, Bool, true, false, true≢false, cond, ne_eqb, List, [], ◌∷◌, ◌++◌, map, length, take, drop, refl, sym, ap, subst, ◌∙◌, arith, append-nil, drop_of_length-le}
+use Rattle.std.proofs.Common.{◌≡◌, ◌⊎◌, inl, inr, ⊎_elim, ℕ, zero, suc, ◌+◌, ◌<◌, ◌≤◌, Bool, true, false, true≢false, cond, ne_eqb, List, [], ◌∷◌, ◌++◌, length, take, drop, refl, sym, ap, subst, ◌∙◌, arith, append-nil, drop_of_length-le}
 use Rattle.std.specs.List.{AllByRecursion}
 use Rattle.std.proofs.lemmas.Bool.{cases_lt}
 use Rattle.std.proofs.lemmas.List.{map-append, get_or_past}
 use mathlib.Core.List.{IsPrefix}
 use mathlib.Core.Logic.{dite}
 use native.Mathlib.Decide.{ℕ_discrete}
-use Rattle.session_model.specs.Journal.{Entry, History, entries_of, payloads, BeginsHistory}
+use Rattle.session_model.specs.Journal.{Entry, entries_of, payloads, BeginsHistory}
 use Rattle.session_model.specs.Plans.{sent_by, Continues, Completes}
 use Rattle.session_model.proofs.Lists.{prefix_take}
 use Rattle.session_model.proofs.Journals.{length-payloads}
@@ -15,7 +15,7 @@ use Rattle.gate_turn.specs.Rule.{In}
 use Rattle.gate_turn.specs.Steps.{Closed}
 use Rattle.gate_turn.proofs.Histories.{entries_of-append}
 use Rattle.sender_plans.specs.Sent.{entries_behind}
-use Rattle.session_lives.specs.Plans.{plan_in, MadeOf, IsAllMade, PlansMade, KeepsPlans}
+use Rattle.session_lives.specs.Plans.{plan_in, MadeOf, IsAllMade, PlansMade}
 use Rattle.session_lives.specs.Laws.{PlansAreKept}
 
 payloads-entries_behind : (sender n : ℕ) (ps : List (List ℕ)) → payloads (entries_behind sender n ps) ≡ ps

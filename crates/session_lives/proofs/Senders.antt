@@ -1,27 +1,27 @@
 -- What the passes of senders know behind a life, in which each went on with its plan.
-use Rattle.std.proofs.Common.{◌≡◌, ◌⊎◌, inl, inr, ℕ, zero, suc, ◌+◌, ◌-◌, ◌<◌, ◌≤◌, Bool, true, false, List, [], ◌∷◌, ◌++◌, length, take, drop, map, reverse, slice_index_or, All, Option, Some, None, if◌then◌else◌, ◌==◌, refl, sym, ap, subst, ◌∙◌, arith, add-one, append-nil, length-drop}
+use Rattle.std.proofs.Common.{◌≡◌, ◌⊎◌, inl, inr, ℕ, zero, suc, ◌+◌, ◌-◌, ◌<◌, ◌≤◌, false, List, [], ◌++◌, length, take, drop, map, reverse, slice_index_or, All, Option, None, if◌then◌else◌, ◌==◌, sym, ap, subst, ◌∙◌, arith, add-one, append-nil, length-drop}
 use Rattle.std.proofs.lemmas.List.{take_all, get_or-map, reverse-reverse, length-map}
 use Rattle.session_model.specs.Journal.{Entry, History, entries_of, BeginsHistory}
 use Rattle.jr_record.specs.declared.journal.Journal.{Ghosts}
 use Rattle.gate_turn.specs.Views.{Account, Part, new_part}
 use Rattle.gate_turn.specs.Rule.{In}
 use Rattle.gate_turn.specs.Places.{known}
-use Rattle.gate_turn.specs.Listed.{pass_at, known_if, known_at}
+use Rattle.gate_turn.specs.Listed.{known_if, known_at}
 use Rattle.gate_turn.specs.declared.pass.Pass.{Pass}
 use Rattle.gate_turn.specs.declared.passes.Passes.{Passes}
-use Rattle.gate_turn.proofs.Histories.{begins_self, begins_on}
+use Rattle.gate_turn.proofs.Histories.{begins_on}
 use Rattle.gate_senders.specs.Gate.{opening_of, MadeAt}
 use Rattle.gate_senders.specs.Shown.{TakesTurn}
 use Rattle.gate_senders.specs.declared.gate.Gate.{Gate}
 use Rattle.gate_senders.specs.declared.kept.Kept.{Kept}
 use Rattle.send_plans.specs.Plans.{payloads_of}
 use Rattle.send_plans.specs.declared.plan.Plan.{Plan}
-use Rattle.sender_plans.specs.Sent.{entries_behind, GoesOn}
+use Rattle.sender_plans.specs.Sent.{entries_behind}
 use Rattle.sender_plans.specs.Runs.{plan_of, HasNone, Counted, CountedEach, Ran}
 use Rattle.sender_plans.specs.Seats.{SeatedFrom}
 use Rattle.sender_plans.specs.declared.sender.Sender.{Sender}
 use Rattle.conn_serve.specs.declared.answer.ServeFault.{ServeFault}
-use Rattle.conn_serve.specs.Senders.{Finishes, IsRefusal, FinishedFirst, SubmittedAll}
+use Rattle.conn_serve.specs.Senders.{IsRefusal, FinishedFirst, SubmittedAll}
 use Rattle.session_lives.specs.Plans.{plan_in, MadeOf, IsAllMade}
 
 -- what a pass knows that was made with a value that said this, and went on with a plan

@@ -1,4 +1,4 @@
-use Rattle.std.proofs.Common.{◌≡◌, ◌+◌, ◌++◌, length, take, drop, refl, sym, ◌∙◌, ap, subst, arith}
+use Rattle.std.proofs.Common.{◌≡◌, ◌+◌, length, drop, refl, sym, ◌∙◌, ap, subst, arith}
 use Rattle.sender_plans.specs.Seats.{Seated}
 use Rattle.conn_serve.specs.Senders.{SomeMarked}
 use Rattle.session_command.proofs.Counting.{front_of}

@@ -1,5 +1,3 @@
-use Rattle.session_lives.proofs.Boxes.{lived_boxes}
-use Rattle.session_lives.proofs.Passes.{served_at}
 use Rattle.session_lives.proofs.Outboxes.{plans_keep_outbox}
 use Rattle.session_lives.proofs.laws.plans_keep_outbox.Goals as goal
 
