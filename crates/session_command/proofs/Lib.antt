@@ -2,3 +2,4 @@ mod Reading
 mod Counting
 mod Opened
 mod Served
+mod Over

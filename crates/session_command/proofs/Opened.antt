@@ -1,5 +1,5 @@
 -- What holds of boxes that were opened, and of a pass of a gate that was made round one.
-use Rattle.std.proofs.Common.{◌≡◌, ℕ, ◌+◌, ◌<◌, ◌≤◌, ◌^◌, List, [], ◌∷◌, ◌++◌, length, Some, Option, refl, sym, ap, ◌∙◌, subst, arith, append-nil, append_assoc, length-append}
+use Rattle.std.proofs.Common.{◌≡◌, ℕ, ◌+◌, ◌≤◌, List, [], ◌∷◌, ◌++◌, length, Some, refl, sym, ap, ◌∙◌, subst, arith, append-nil, append_assoc, length-append}
 use Rattle.std.proofs.Math.Logic.{∥∥₁_elim}
 use native.Mathlib.Nat.{ℕ_set}
 use Rattle.fixp_msgs.specs.declared.flow.Flow.{Flow}
@@ -13,11 +13,12 @@ use Rattle.jr_boxes.specs.declared.outbox.Outbox.{Outbox}
 use Rattle.jr_boxes.specs.Outbox.{HoldsBox, front_of}
 use Rattle.gate_turn.specs.Views.{Account, Part}
 use Rattle.gate_turn.specs.Places.{known}
-use Rattle.gate_turn.specs.Listed.{pass_at, known_if, known_at}
+use Rattle.gate_turn.specs.Listed.{pass_at, known_at}
 use Rattle.gate_turn.specs.Calls.{made_part}
 use Rattle.gate_turn.specs.declared.pass.Pass.{Pass}
 use Rattle.gate_turn.specs.declared.passes.Passes.{Passes}
 use Rattle.gate_turn.proofs.Histories.{begins_self}
+use Rattle.session_lives.proofs.Passes.{part_at}
 
 -- a record more, which jumps over nothing, moves the next number by one at most
 one_more : (flow : Flow) (before : List InboxRecord) (r : InboxRecord) → (flow ≡ flows.Idempotent → ⊥) → Fits flow before r → next_number before ≤ length before + 1
@@ -44,6 +45,5 @@ module _ {J : Type 0} {G : Ghosts J} where
 
 -- a pass that was made and took no turn has seen the opening history
 pub seen_at : {T : Type 0} (old at : Passes T) (pass : Pass T) (n made : ℕ) (a : Account) → known_at old n ≡ made_part made a n → pass_at at n ≡ pass_at old n → pass_at at n ≡ Some pass → BeginsHistory a.history (known pass).seen
-seen_at {T} old at pass n made a is same there =
-    let seen : (known pass).seen ≡ a.history = ap (λ (o : Option (Pass T)). (known_if o).seen) (sym there ∙ same) ∙ ap (λ (p : Part). p.seen) is in
-    subst (λ h. BeginsHistory a.history h) (sym seen) (begins_self a.history)
+seen_at old at pass n made a is same there =
+    subst (λ h. BeginsHistory a.history h) (sym (ap (λ (p : Part). p.seen) (part_at old at pass n (made_part made a n) is same there))) (begins_self a.history)

@@ -1,4 +1,5 @@
 pub mod Inputs
 pub mod Boxes
 pub mod Outsides
+pub mod Lived
 pub mod Steps

@@ -1,46 +1,22 @@
 -- The steps of a session: CONFIG, the outbox, the inbox, INPUT, and then OUT and the life. A run ends at one of them, and leaves all that
 -- comes behind it as it was (this project's profile).
-use Rattle.std.specs.Prelude.{◌≡◌, ◌⊎◌, ℕ, List, Option, Some, Result, Ok, Err}
+use Rattle.std.specs.Prelude.{◌≡◌, ◌⊎◌, ℕ, List, Option, Some}
 use Rattle.std.specs.Option.{ForSome}
 use Rattle.gw_outside.specs.Faults.{HasRisen}
 use Rattle.fixp_msgs.specs.declared.flow.Flow.{Flow}
 use Rattle.fixp_shake.specs.declared.config.Role.{Role}
 use Rattle.session_config.specs.declared.configuration.Configuration.{Configuration}
+use Rattle.gw_links.specs.Dialers.{DialerTold}
+use Rattle.jr_record.specs.declared.journal.Journal.{Ghosts}
 use Rattle.jr_boxes.specs.declared.faults.Which.TheVariants.{Outbox, Inbox}
 use Rattle.command_base.specs.Texts.{IsUnconfigured, Refuses}
 use Rattle.command_base.specs.declared.status.Status.{Status}
-use Rattle.command_base.specs.declared.status.Status.TheVariants.{Done, InputFault, OutputFault, JournalFault, DialFault, Unfinished, Rejected, Full, Turns, Memory}
-use Rattle.conn_serve.specs.declared.answer.ServeFault.{ServeFault}
-use Rattle.conn_serve.specs.declared.answer.ServeFault.TheVariants as faults
-use Rattle.session_command.specs.Inputs.{IsConfigured, configuration_at, flow_received, ArePlanned, RefusesInput}
+use Rattle.command_base.specs.declared.status.Status.TheVariants.{InputFault, JournalFault}
+use Rattle.session_command.specs.Inputs.{IsConfigured, configuration_at, flow_received, end_of, RefusesInput}
 use Rattle.session_command.specs.Boxes.{IsBox, IsNotOpened}
+use Rattle.session_command.specs.Lived.{Lived}
 use Rattle.session_command.specs.Outsides.{KeepsBehindInbox, KeepsBehindOutbox, KeepsBehindConfig}
 use Rattle.session_command.specs.declared.outside.SessionOutside.{SessionOutside}
-
--- the status of a life that was served so
-abbrev pub status_of : Result (Unit {0}) ServeFault → Status
-status_of (Ok _) = Done
-status_of (Err faults.Output) = OutputFault
-status_of (Err faults.Journal) = JournalFault
-status_of (Err faults.Dial) = DialFault
-status_of (Err (faults.Unfinished phase)) = Unfinished phase
-status_of (Err (faults.Rejected template code)) = Rejected template code
-status_of (Err (faults.Full entries bytes)) = Full entries bytes
-status_of (Err faults.Turns) = Turns
-status_of (Err faults.Memory) = Memory
-
--- the statuses of a life
-abbrev pub IsOfLife : Status → Type 0
-IsOfLife Done = Unit {0}
-IsOfLife OutputFault = Unit {0}
-IsOfLife JournalFault = Unit {0}
-IsOfLife DialFault = Unit {0}
-IsOfLife (Unfinished phase) = Unit {0}
-IsOfLife (Rejected template code) = Unit {0}
-IsOfLife (Full entries bytes) = Unit {0}
-IsOfLife Turns = Unit {0}
-IsOfLife Memory = Unit {0}
-IsOfLife _ = ⊥
 
 -- INPUT was refused, with its fault, or could not be read; OUT, the dialer and the clock are as they were
 pub record RefusedInput {S K N C : Type 0} (left : S → Option (List ℕ)) (source : S → ℕ) (senders : ℕ) (input now_input : S) (out now_out : K) (dialer now_dialer : N) (clock now_clock : C) (status : Status) : Type 0 where
@@ -49,14 +25,6 @@ pub record RefusedInput {S K N C : Type 0} (left : S → Option (List ℕ)) (sou
   pub out_is : now_out ≡ out
   pub dialer_is : now_dialer ≡ dialer
   pub clock_is : now_clock ≡ clock
-
--- INPUT has plans; OUT was begun, and the session lived
-pub record Lived {S K N : Type 0} (left : S → Option (List ℕ)) (sink : K → ℕ) (dials : N → ℕ) (senders : ℕ) (input : S) (out now_out : K) (dialer now_dialer : N) (status : Status) : Type 0 where
-  pub plans : List (List (List ℕ))
-  pub planned : ArePlanned senders (left input) plans
-  pub of_life : IsOfLife status
-  pub output : status ≡ OutputFault → HasRisen (sink out) (sink now_out)
-  pub dial : status ≡ DialFault → HasRisen (dials dialer) (dials now_dialer)
 
 -- the disk of the outbox holds none, or could not be opened; that of the inbox is as it was
 pub record RefusedOutbox {D : Type 0} (told : D → Option (List ℕ)) (disk : D → ℕ) (flow : Flow) (out_disk now_out_disk in_disk now_in_disk : D) (status : Status) : Type 0 where
@@ -93,23 +61,23 @@ pub record StopsAtBoxes {S K D N C : Type 0} (told : D → Option (List ℕ)) (d
   pub kept : KeepsBehindInbox before after
 
 -- both boxes were opened, and then INPUT was refused, or the session lived
-pub record RunsOn {S K D N C : Type 0} (left : S → Option (List ℕ)) (told : D → Option (List ℕ)) (source : S → ℕ) (sink : K → ℕ) (dials : N → ℕ) (role : Role) (c : Configuration) (before after : SessionOutside S K D N C) (status : Status) : Type 0 where
+pub record RunsOn {S K D N C J : Type 0} (G : Ghosts J) (left : S → Option (List ℕ)) (taken : K → Option (List ℕ)) (told : D → Option (List ℕ)) (may_leave : D → List ℕ → Type 0) (carried : N → Option DialerTold) (source : S → ℕ) (sink : K → ℕ) (disk : D → ℕ) (dials : N → ℕ) (role : Role) (c : Configuration) (before after : SessionOutside S K D N C) (status : Status) : Type 0 where
   pub boxes : HoldBoxes told (flow_received role c.link) before.out_disk before.in_disk
   pub ended : RefusedInput left source c.trade.senders before.input after.input before.out after.out before.dialer after.dialer before.clock after.clock status
-      ⊎ Lived left sink dials c.trade.senders before.input before.out after.out before.dialer after.dialer status
+      ⊎ Lived G left taken told may_leave carried sink disk dials c.trade.senders (end_of role c.link) before.input before.out after.out before.out_disk after.out_disk before.in_disk after.in_disk before.dialer after.dialer status
 
 -- where a run whose configuration is this ended
-abbrev pub EndsBehindConfig : {S K D N C : Type 0} → (S → Option (List ℕ)) → (D → Option (List ℕ)) → (S → ℕ) → (K → ℕ) → (D → ℕ) → (N → ℕ) → Role → Configuration → (before after : SessionOutside S K D N C) → Status → Type 0
-EndsBehindConfig left told source sink disk dials role c before after status =
-    StopsAtBoxes told disk role c before after status ⊎ RunsOn left told source sink dials role c before after status
+abbrev pub EndsBehindConfig : {S K D N C J : Type 0} → Ghosts J → (S → Option (List ℕ)) → (K → Option (List ℕ)) → (D → Option (List ℕ)) → (D → List ℕ → Type 0) → (N → Option DialerTold) → (S → ℕ) → (K → ℕ) → (D → ℕ) → (N → ℕ) → Role → Configuration → (before after : SessionOutside S K D N C) → Status → Type 0
+EndsBehindConfig G left taken told may_leave carried source sink disk dials role c before after status =
+    StopsAtBoxes told disk role c before after status ⊎ RunsOn G left taken told may_leave carried source sink disk dials role c before after status
 
 -- CONFIG spells a configuration, and a run of it ended so
-pub record WasConfigured {S K D N C : Type 0} (left : S → Option (List ℕ)) (told : D → Option (List ℕ)) (source : S → ℕ) (sink : K → ℕ) (disk : D → ℕ) (dials : N → ℕ) (role : Role) (before after : SessionOutside S K D N C) (status : Status) : Type 0 where
+pub record WasConfigured {S K D N C J : Type 0} (G : Ghosts J) (left : S → Option (List ℕ)) (taken : K → Option (List ℕ)) (told : D → Option (List ℕ)) (may_leave : D → List ℕ → Type 0) (carried : N → Option DialerTold) (source : S → ℕ) (sink : K → ℕ) (disk : D → ℕ) (dials : N → ℕ) (role : Role) (before after : SessionOutside S K D N C) (status : Status) : Type 0 where
   pub configuration : Configuration
   pub spelled : IsConfigured role (left before.config) configuration
-  pub ended : EndsBehindConfig left told source sink disk dials role configuration before after status
+  pub ended : EndsBehindConfig G left taken told may_leave carried source sink disk dials role configuration before after status
 
 -- where a run ended
-abbrev pub Steps : {S K D N C : Type 0} → (S → Option (List ℕ)) → (D → Option (List ℕ)) → (S → ℕ) → (K → ℕ) → (D → ℕ) → (N → ℕ) → Role → (before after : SessionOutside S K D N C) → Status → Type 0
-Steps left told source sink disk dials role before after status =
-    StopsAtConfig left source role before after status ⊎ WasConfigured left told source sink disk dials role before after status
+abbrev pub Steps : {S K D N C J : Type 0} → Ghosts J → (S → Option (List ℕ)) → (K → Option (List ℕ)) → (D → Option (List ℕ)) → (D → List ℕ → Type 0) → (N → Option DialerTold) → (S → ℕ) → (K → ℕ) → (D → ℕ) → (N → ℕ) → Role → (before after : SessionOutside S K D N C) → Status → Type 0
+Steps G left taken told may_leave carried source sink disk dials role before after status =
+    StopsAtConfig left source role before after status ⊎ WasConfigured G left taken told may_leave carried source sink disk dials role before after status

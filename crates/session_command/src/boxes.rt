@@ -15,6 +15,7 @@ ghost use Rattle.jr_boxes.specs.declared.faults.Which.TheVariants as boxes;
 ghost use Rattle.jr_boxes.specs.Outbox as outboxes;
 ghost use Rattle.jr_boxes.specs.Inbox as inboxes;
 ghost use Rattle.session_command.specs.Boxes.{IsBox, IsWrong, IsNotOpened};
+ghost use Rattle.session_command.specs.Lived.{OpensOutbox, OpensInbox};
 
 use command_base::{JournalCause, Status, Which};
 use fixp_shake::Flow;
@@ -74,7 +75,9 @@ fn excluded(which: Which, fault: BoxFault) -> Status
 /// outbox's, and `Memory`.
 pub fn open_outbox<D: Disk>(alloc: Global, disk: D) -> Result<Outbox<LogJournal<D>>, (D, Status)>
     ensures told { IfOk result (λ _. (flow : flows.Flow) → ForSome (D.told disk) (IsBox boxes.Outbox flow)) }
+    ensures opened { IfOk result (λ box. OpensOutbox (D.told disk) box) }
     ensures sound { IfOk result (λ box. outboxes.is_broken box ≡ false) }
+    ensures limit { IfOk result (λ box. ((outboxes.limits_of box).entries ≡ 2 ^ 24) × ((outboxes.limits_of box).bytes ≡ 2 ^ 30)) }
     ensures few { IfOk result (λ box. outboxes.front_of box < 2 ^ 40) }
     ensures never_falls { IfOk result (λ box. D.faults disk ≤ outboxes.faults_of box) }
     ensures refused { IfErr result (λ e. (flow : flows.Flow) → IsNotOpened boxes.Outbox flow (D.told disk) e.1) }
@@ -102,6 +105,7 @@ pub fn open_inbox<D: Disk>(
     flow: Flow,
 ) -> Result<Inbox<LogJournal<D>>, (D, Status)>
     ensures told { IfOk result (λ _. ForSome (D.told disk) (IsBox boxes.Inbox flow)) }
+    ensures opened { IfOk result (λ box. OpensInbox (D.told disk) box) }
     ensures sound { IfOk result (λ box. inboxes.is_broken box ≡ false) }
     ensures flow { IfOk result (λ box. inboxes.flow_of box ≡ flow) }
     ensures limit { IfOk result (λ box. (inboxes.limits_of box).entries ≡ 2 ^ 24) }

@@ -6,9 +6,10 @@ ghost use Rattle.fixp_msgs.specs.declared.flow.Flow.TheVariants as flows;
 ghost use Rattle.jr_boxes.specs.Outbox as outboxes;
 ghost use Rattle.jr_boxes.specs.Inbox as inboxes;
 ghost use Rattle.command_base.specs.Causes.{NoneFellInSession};
-ghost use Rattle.session_command.specs.Inputs.{flow_received};
+ghost use Rattle.session_command.specs.Inputs.{flow_received, end_of};
+ghost use Rattle.session_command.specs.Lived.{OpensOutbox, OpensInbox, LivedOn};
 ghost use Rattle.session_command.specs.Outsides.{counts_of};
-ghost use Rattle.session_command.specs.Steps.{RefusedInput, Lived, HoldBoxes, RefusedBoxes, EndsBehindConfig, Steps};
+ghost use Rattle.session_command.specs.Steps.{RefusedInput, HoldBoxes, RefusedBoxes, EndsBehindConfig, Steps};
 
 use crate::boxes::{close_inbox, close_outbox, open_inbox, open_outbox};
 use crate::inputs::{end_config, flow_received, read_config, read_input};
@@ -20,6 +21,7 @@ use gw_links::{Clock, Dialer};
 use gw_outside::{Disk, Sink, Source};
 use jr_boxes::{Inbox, Outbox};
 use jr_log::LogJournal;
+use jr_record::Journal;
 use session_config::Configuration;
 use std::alloc::Global;
 use std::sync::Wait;
@@ -39,7 +41,9 @@ fn open_boxes<D: Disk>(
     in_disk: D,
 ) -> Result<Boxes<D>, (Status, D, D)>
     ensures told { IfOk result (λ _. HoldBoxes D.told flow out_disk in_disk) }
+    ensures opened { IfOk result (λ boxes. OpensOutbox (D.told out_disk) boxes.0 × OpensInbox (D.told in_disk) boxes.1) }
     ensures sound { IfOk result (λ boxes. outboxes.is_broken boxes.0 ≡ false) }
+    ensures out_limit { IfOk result (λ boxes. ((outboxes.limits_of boxes.0).entries ≡ 2 ^ 24) × ((outboxes.limits_of boxes.0).bytes ≡ 2 ^ 30)) }
     ensures flow { IfOk result (λ boxes. inboxes.flow_of boxes.1 ≡ flow) }
     ensures limit { IfOk result (λ boxes. (inboxes.limits_of boxes.1).entries ≡ 2 ^ 24) }
     ensures numbered { IfOk result (λ boxes. flow ≡ flows.Recoverable → inboxes.next_of boxes.1 + 1 < 2 ^ 64) }
@@ -87,7 +91,7 @@ fn run_over_boxes<
     requires numbered { inboxes.flow_of inbox.old ≡ flows.Recoverable → inboxes.next_of inbox.old + 1 < 2 ^ 64 }
     requires few_entries { outboxes.front_of outbox < 2 ^ 40 }
     ensures ended { RefusedInput S.left S.faults configuration.trade.senders input.old input.new out.old out.new dialer.old dialer.new clock.old clock.new result.0
-        ⊎ Lived S.left K.faults N.faults configuration.trade.senders input.old out.old out.new dialer.old dialer.new result.0 }
+        ⊎ LivedOn S.left K.taken N.told K.faults N.faults configuration.trade.senders (end_of role configuration.link) input.old out.old out.new dialer.old dialer.new outbox result.1 inbox.old inbox.new result.0 }
     ensures lent { N.lent dialer.new ≡ false }
     ensures never_falls { (S.faults input.old ≤ S.faults input.new) × (K.faults out.old ≤ K.faults out.new) × (N.faults dialer.old ≤ N.faults dialer.new) }
     ensures boxes_never_fall { (outboxes.faults_of outbox ≤ outboxes.faults_of result.1) × (inboxes.faults_of inbox.old ≤ inboxes.faults_of inbox.new) }
@@ -123,7 +127,7 @@ fn run_over_disks<
     requires link { IsLinkInRange configuration.link }
     requires trade { IsTradeInRange configuration.trade }
     requires lent { N.lent outside.dialer ≡ false }
-    ensures ended { EndsBehindConfig S.left D.told S.faults K.faults D.faults N.faults role configuration outside result.1 result.0 }
+    ensures ended { EndsBehindConfig ⟦<LogJournal<D> as Journal>⟧ S.left K.taken D.told D.may_leave N.told S.faults K.faults D.faults N.faults role configuration outside result.1 result.0 }
     ensures config { result.1.config ≡ outside.config }
     ensures lent { N.lent result.1.dialer ≡ false }
     ensures none_fell { NoneFellInSession (counts_of S.faults K.faults D.faults N.faults outside) (counts_of S.faults K.faults D.faults N.faults result.1) }
@@ -198,7 +202,7 @@ pub fn run_session<
     outside: SessionOutside<S, K, D, N, C>,
 ) -> (Status, SessionOutside<S, K, D, N, C>)
     requires lent { N.lent outside.dialer ≡ false }
-    ensures steps { Steps S.left D.told S.faults K.faults D.faults N.faults role outside result.1 result.0 }
+    ensures steps { Steps ⟦<LogJournal<D> as Journal>⟧ S.left K.taken D.told D.may_leave N.told S.faults K.faults D.faults N.faults role outside result.1 result.0 }
     ensures lent { N.lent result.1.dialer ≡ false }
     ensures none_fell { NoneFellInSession (counts_of S.faults K.faults D.faults N.faults outside) (counts_of S.faults K.faults D.faults N.faults result.1) }
 {

@@ -1,19 +1,25 @@
 //! The life of a session over its boxes: the senders seated at a gate, the connections served, and the outbox out of the gate
 //! again.
 
-ghost use Rattle.std.specs.Prelude.{◌≡◌, ◌+◌, ◌<◌, ◌≤◌, ◌^◌, false, [], length, vec_len, vec_capacity, Err, IfOk, IfErr};
+ghost use Rattle.std.specs.Prelude.{◌≡◌, ◌⊎◌, ◌+◌, ◌<◌, ◌≤◌, ◌^◌, false, [], map, length, vec_len, vec_capacity, Err, IfOk, IfErr};
 ghost use Rattle.gw_outside.specs.Faults.{HasRisen};
 ghost use Rattle.session_model.specs.Journal.{BeginsHistory};
 ghost use Rattle.fixp_msgs.specs.declared.flow.Flow.TheVariants as flows;
 ghost use Rattle.jr_boxes.specs.Outbox as outboxes;
 ghost use Rattle.jr_boxes.specs.Inbox as inboxes;
 ghost use Rattle.gate_senders.specs.Gate.{opening_of, senders_of, OpensOn, IsPassAt, MadeAt, AllBackAt};
+ghost use Rattle.reply_laws.specs.Machine.{fresh};
+ghost use Rattle.send_plans.specs.Plans.{payloads_of};
 ghost use Rattle.gate_turn.specs.Places.{known};
+ghost use Rattle.gate_turn.specs.Listed.{known_at};
 ghost use Rattle.gate_turn.specs.Calls.{IsFree};
 ghost use Rattle.conn_loop.specs.Conn.{Looks};
 ghost use Rattle.sender_plans.specs.Seats.{Seated};
 ghost use Rattle.conn_serve.specs.declared.answer.ServeFault.TheVariants as faults;
-ghost use Rattle.session_command.specs.Steps.{status_of, IsOfLife};
+ghost use Rattle.conn_serve.specs.Senders.{SomeMarked};
+ghost use Rattle.conn_serve.specs.Opening.{opened_state, ServedBy, IsUnrefused};
+ghost use Rattle.session_lives.specs.Lives.{ServedAt};
+ghost use Rattle.session_command.specs.Lived.{status_of, IsOfLife, BeganNone, HasLived};
 
 use crate::boxes::MOST;
 use command_base::Status;
@@ -89,6 +95,8 @@ fn serve_beside<
     ensures own { IsPassAt gate.now pass.new }
     ensures free { IsFree pass.new }
     ensures looks { Looks (known pass.old) (known pass.new) }
+    ensures served { ServedBy gate.now (N.told dialer.old) (N.told dialer.new) (K.taken out.old) (K.taken out.new) (K.faults out.old) (K.faults out.new) (N.faults dialer.old) (N.faults dialer.new) (known pass.old) (known pass.new) (fresh config (opened_state (opening_of gate.now).history inbox.old) (2 ^ 24)) inbox.old inbox.new senders.old.items senders.new.items result }
+    ensures marked { IsUnrefused result → 0 < vec_len senders.old → SomeMarked senders.new.items }
     ensures output { result ≡ Err faults.Output → HasRisen (K.faults out.old) (K.faults out.new) }
     ensures dial { result ≡ Err faults.Dial → HasRisen (N.faults dialer.old) (N.faults dialer.new) }
     ensures lent { N.lent dialer.new ≡ false }
@@ -145,6 +153,7 @@ fn serve_seated<
     requires greatest { config.keepalive ≤ 60000 }
     requires credentials { length config.credentials ≤ 2048 }
     ensures back { AllBackAt gate.now passes.new }
+    ensures served { ServedAt (opening_of gate.now) (map payloads_of plans.items) (known_at passes.new) (N.told dialer.old) (N.told dialer.new) (K.taken out.old) (K.taken out.new) (fresh config (opened_state (opening_of gate.now).history inbox.old) (2 ^ 24)) inbox.old inbox.new result }
     ensures output { result ≡ Err faults.Output → HasRisen (K.faults out.old) (K.faults out.new) }
     ensures dial { result ≡ Err faults.Dial → HasRisen (N.faults dialer.old) (N.faults dialer.new) }
     ensures lent { N.lent dialer.new ≡ false }
@@ -222,6 +231,8 @@ pub fn live<K: Sink, D: Disk + Send, N: Dialer, C: Clock, R: Threads + Wait + Sy
     requires least { 100 ≤ config.keepalive }
     requires greatest { config.keepalive ≤ 60000 }
     requires credentials { length config.credentials ≤ 2048 }
+    ensures lived { BeganNone K.faults out.old out.new dialer.old dialer.new inbox.old inbox.new outbox result.1 result.0
+        ⊎ HasLived (N.told dialer.old) (N.told dialer.new) (K.taken out.old) (K.taken out.new) config (map payloads_of plans.items) outbox result.1 inbox.old inbox.new result.0 }
     ensures of_life { IsOfLife result.0 }
     ensures output { result.0 ≡ Status.OutputFault → HasRisen (K.faults out.old) (K.faults out.new) }
     ensures dial { result.0 ≡ Status.DialFault → HasRisen (N.faults dialer.old) (N.faults dialer.new) }

@@ -1,4 +1,6 @@
-use Rattle.std.proofs.Common.{refl, subst, ap, length, arith}
+use Rattle.std.proofs.Common.{List, refl, subst, ap, length, arith}
+use Rattle.jr_record.specs.declared.record.Record.{Record}
+use Rattle.jr_record.specs.Images.{IsJournal}
 use Rattle.std.proofs.lemmas.List.{length-map}
 use Rattle.jr_log.specs.Behind.{few_records}
 use Rattle.jr_boxes.specs.Inboxes.{record_of}
@@ -34,3 +36,12 @@ returns-in-Ok-open-clause-numbered g c = λ recoverable.
       few_next box.flow opened.list (λ is. cc) opened.stands.inbox.fits,
       opened.stands.noticed.next,
     )
+
+pub returns-in-Ok-open-clause-opened : goal.returns-in-Ok-open-clause-opened
+returns-in-Ok-open-clause-opened g c =
+    let opened = c.in-Ok-open.ensures.opened c.in-Ok.journal.records.items refl in
+    record {
+      inbox = opened.list;
+      told = λ x e. subst (λ (rs : List Record). IsJournal x rs) opened.inbox.spelled (c.in-Ok.ensures.list x e);
+      holds = opened.holds c.in-Ok.ensures.holds;
+    }

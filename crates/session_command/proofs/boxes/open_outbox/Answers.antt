@@ -1,4 +1,6 @@
-use Rattle.std.proofs.Common.{refl, arith}
+use Rattle.std.proofs.Common.{List, refl, subst, arith}
+use Rattle.jr_record.specs.declared.record.Record.{Record}
+use Rattle.jr_record.specs.Images.{IsJournal}
 use Rattle.jr_log.specs.Behind.{few_records}
 use Rattle.session_command.proofs.boxes.open_outbox.Goals as goal
 
@@ -20,3 +22,12 @@ pub returns-in-Ok-open-clause-few : goal.returns-in-Ok-open-clause-few
 returns-in-Ok-open-clause-few g c =
     let j = c.in-Ok-open.outbox.journal in
     omega (arith, c.in-Ok-open.outbox.within.all, few_records j.records.items j.size j.sized j.small)
+
+pub returns-in-Ok-open-clause-opened : goal.returns-in-Ok-open-clause-opened
+returns-in-Ok-open-clause-opened g c =
+    let opened = c.in-Ok-open.ensures.opened c.in-Ok.journal.records.items refl in
+    record {
+      history = opened.history;
+      told = λ x e. subst (λ (rs : List Record). IsJournal x rs) opened.outbox.spelled (c.in-Ok.ensures.list x e);
+      holds = opened.holds c.in-Ok.ensures.holds;
+    }

@@ -1,4 +1,6 @@
-use Rattle.std.proofs.Common.{◌∙◌, subst, arith}
+use Rattle.std.proofs.Common.{◌∙◌, inl, inr, refl, subst, arith}
+use Rattle.jr_log.specs.Behind.{few_records}
+use Rattle.session_lives.proofs.Boxes.{lived_boxes}
 use Rattle.jr_boxes.specs.Outbox.{faults_of, is_broken}
 use Rattle.gate_turn.specs.Rule.{In, Sound}
 use Rattle.gate_turn.specs.Listed.{known_at}
@@ -13,3 +15,18 @@ returns-clause-outbox_never_falls g c =
     let opening = closed.closed.opened 1 inside ∙ c.in-Ok-made_gate.ensures.opened.told in
     let sound = subst (λ a. Sound a (account c.close.result closed.history)) opening (closed.closed.found 1 inside).sound in
     never_fell (faults_of c.args.outbox) (faults_of c.close.result) (is_broken c.args.outbox) (is_broken c.close.result) sound.faults (λ e. (sound.broken e).rose)
+
+pub returns-clause-lived : goal.returns-clause-lived
+returns-clause-lived g c =
+    let j = c.close.result.journal in
+    inr (record {
+      result = c.serve_seated-answer.result;
+      status_is = c.status_of.ensures.value;
+      boxes = lived_boxes _ _ _ _ _ _ _ _ _ _ _ _ _ c.in-Ok-made_gate.ensures.opened c.requires.sound c.close.ensures.closed (omega (arith, c.close.result.within.all, few_records j.records.items j.size j.sized j.small)) c.serve_seated-answer.ensures.served;
+    })
+
+pub returns-in_default-clause-lived : goal.returns-in_default-clause-lived
+returns-in_default-clause-lived g c = inl (record { cause = inl refl; dialer_is = refl; box_is = refl; outbox_is = refl })
+
+pub returns-in-Err-clause-lived : goal.returns-in-Err-clause-lived
+returns-in-Err-clause-lived g c = inl (record { cause = inl refl; dialer_is = refl; box_is = refl; outbox_is = c.in-Err.ensures.refused })

@@ -1,7 +1,8 @@
-use Rattle.std.proofs.Common.{◌≡◌, ◌+◌, length, drop, refl, sym, ◌∙◌, ap, subst}
+use Rattle.std.proofs.Common.{◌≡◌, ◌+◌, length, drop, refl, sym, ◌∙◌, ap, subst, arith}
 use Rattle.sender_plans.specs.Seats.{Seated}
+use Rattle.conn_serve.specs.Senders.{SomeMarked}
 use Rattle.session_command.proofs.Counting.{front_of}
-use Rattle.session_command.proofs.Served.{served_seated, served_long, output_caused, dial_caused}
+use Rattle.session_command.proofs.Served.{served_seated, served_long, served_moved, output_caused, dial_caused}
 use Rattle.session_command.proofs.life.serve_beside.Goals as goal
 
 pub returns-clause-seated : goal.returns-clause-seated
@@ -25,3 +26,21 @@ pub returns-clause-dial : goal.returns-clause-dial
 returns-clause-dial g c = λ e.
     let s = c.serve.ensures.served in
     (dial_caused c.args.gate.now c.as_mut_slice.result.now c.serve.new.senders s.connections s.refused c.serve.result _ s.senders s.blamed s.answer e).dial refl
+
+pub returns-clause-served : goal.returns-clause-served
+returns-clause-served g c =
+    let many = c.args.senders.now.len in
+    let old = c.as_mut_slice.result.now in
+    let new = c.serve.new.senders in
+    let s = c.serve.ensures.served in
+    let long : length new ≡ many = served_long c.args.gate.now (many + 1) old new s.refused s.senders ∙ ap length c.as_mut_slice.ensures.value ∙ sym c.args.senders.now.ok.0 in
+    served_moved c.as_mut_slice.ensures.value (sym (front_of many new (drop (length new) c.args.senders.now.items) long)) s
+
+pub returns-clause-marked : goal.returns-clause-marked
+returns-clause-marked g c = λ u some.
+    let many = c.args.senders.now.len in
+    let old = c.as_mut_slice.result.now in
+    let new = c.serve.new.senders in
+    let s = c.serve.ensures.served in
+    let long : length new ≡ many = served_long c.args.gate.now (many + 1) old new s.refused s.senders ∙ ap length c.as_mut_slice.ensures.value ∙ sym c.args.senders.now.ok.0 in
+    subst SomeMarked (sym (front_of many new (drop (length new) c.args.senders.now.items) long)) (c.serve.ensures.marked u (omega (arith, some, ap length c.as_mut_slice.ensures.value, c.args.senders.now.ok.0)))

@@ -1,0 +1,5 @@
+pub mod Plans
+pub mod Outboxes
+pub mod Senders
+pub mod Passes
+pub mod Boxes
