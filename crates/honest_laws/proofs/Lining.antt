@@ -1,6 +1,6 @@
 -- What a reader in Established expects of numbers behind each message that is under way to it.
 use Rattle.std.proofs.Common.{◌≡◌, ℕ, ◌+◌, ◌-◌, ◌≤◌, ◌==◌, ◌&&◌, ◌||◌, nat_lt, not, Bool, true, false, if◌then◌else◌, List, [], ◌∷◌, Option, Some, None, refl, sym, ap, subst, ◌∙◌, arith, true≢false, eqb-true, eq-eqb}
-use Rattle.std.specs.Prelude.{⊤, is_some, is_none, unwrap_or, Result, Ok, Err}
+use Rattle.std.specs.Prelude.{is_some, is_none, unwrap_or, Result, Ok, Err}
 use Rattle.fixp_msgs.specs.declared.numbering.Range.{Range}
 use Rattle.fixp_msgs.specs.Message.{Message, negotiate, negotiation_response, negotiation_reject, establish, establishment_ack, establishment_reject, sequence, unsequenced_heartbeat, retransmit_request, retransmission, retransmit_reject, applied, not_applied, finished_sending, finished_receiving, terminate}
 use Rattle.flow_recover.specs.declared.receiver.Seen.{Seen}
@@ -11,7 +11,7 @@ use Rattle.flow_retrans.specs.declared.judging.RetransmitCode.{RetransmitCode}
 use Rattle.flow_retrans.specs.Judging.{judged}
 use Rattle.flow_retrans.specs.Requests as request_is
 use Rattle.fixp_shake.specs.declared.violation.Violation.{Violation}
-use Rattle.fixp_shake.specs.declared.violation.Violation.TheVariants.{AfterFinish, OtherSession, WentBack, MissingNext, NumberTooLarge, FlowNone}
+use Rattle.fixp_shake.specs.declared.violation.Violation.TheVariants.{AfterFinish, WentBack, MissingNext, NumberTooLarge, FlowNone}
 use Rattle.fixp_shake.specs.Flows.{is_recoverable, is_idempotent, is_sequenced, is_absent}
 use Rattle.fixp_shake.specs.Phases.{is_established}
 use Rattle.fixp_replies.specs.declared.act.Act.{Act}
@@ -24,7 +24,7 @@ use Rattle.flow_retrans.specs.declared.request.Request.TheVariants as requests
 use Rattle.fixp_replies.specs.declared.facts.PeerFinish.TheVariants as peer
 use Rattle.fixp_replies.specs.Incoming.{application, session}
 use Rattle.fixp_replies.specs.Facts.{Around, is_own, receiving, requesting, serves, awaiting, gap_to_ask, having_asked, expected_number, message_number, live_number, finishes_exchanged, peer_last, awaits_gap}
-use Rattle.fixp_replies.specs.Outcomes.{Outcome, goes_on, accepts, ends, breaks, not_in_phase, skip_of, told_skip}
+use Rattle.fixp_replies.specs.Outcomes.{goes_on, accepts, ends, breaks, not_in_phase, skip_of, told_skip}
 use Rattle.fixp_replies.specs.Announcing.{Announced, jumped_over, announced, announcement_fault, refuses}
 use Rattle.fixp_replies.specs.Flowing.{bad_retransmission, counted, taken_as, peer_finished, answers_finish, is_filled, is_past_finish, sequence_follows, sequence_taken, restarted, finished_last, finish_fault, finished, is_last, application_rows, sequence_rows, retransmission_rows, retransmit_reject_rows, finished_sending_rows}
 use Rattle.fixp_replies.specs.Serving.{request_answered, own_finishing, retransmit_request_rows, finished_receiving_rows}
@@ -32,7 +32,6 @@ use Rattle.fixp_replies.specs.Replies.{rows_of, answer_of}
 use Rattle.reply_laws.proofs.Rows.{by_row, all_rows, all_within}
 use Rattle.connection_laws.specs.Writing.{Piece, said, entry}
 use Rattle.link_laws.specs.Reading.{incoming_of}
-use Rattle.fixp_shake.specs.declared.violation.Violation.TheVariants as violations
 use Rattle.fixp_shake.specs.declared.config.EndConfig.{EndConfig}
 use Rattle.flow_recover.specs.Receiving.{Receiving}
 use Rattle.flow_recover.proofs.Chains.{next_counted}

@@ -33,7 +33,7 @@ use Rattle.honest_laws.specs.Laws.{IsLeft, EndsBy}
 use Rattle.honest_laws.specs.Worlds.{reading, written, IsOther}
 use Rattle.honest_laws.proofs.Shapes.{IsFree, all_free_flow}
 use Rattle.honest_laws.proofs.Opening.{Quiet}
-use Rattle.honest_laws.specs.Numbers.{IsFlowing, served}
+use Rattle.honest_laws.specs.Numbers.{IsFlowing}
 use Rattle.honest_laws.proofs.Replying.{left_of}
 
 -- a message is read: its outcome takes effect, and what it writes is written

@@ -1,7 +1,5 @@
 -- The numbers under way between two ends: how far what is under way may bring a reader.
-use Rattle.std.proofs.Common.{◌≡◌, ℕ, ◌+◌, ◌-◌, ◌≤◌, List, [], ◌∷◌, ◌++◌, length, Option, Some, None, refl, sym, ap, subst, arith}
-use Rattle.std.specs.Prelude.{⊤}
-use Rattle.fixp_msgs.specs.declared.numbering.Range.{Range}
+use Rattle.std.proofs.Common.{ℕ, ◌+◌, ◌-◌, ◌≤◌, List, [], ◌∷◌, ◌++◌, length, Option, Some, None, refl, sym, ap, subst, arith}
 use Rattle.fixp_msgs.specs.Message.{sequence, retransmission}
 use Rattle.connection_laws.specs.Writing.{Piece, said, entry, entries}
 use Rattle.honest_laws.specs.Numbers.{Fits, Runs, bound_after, left_after}

@@ -1,5 +1,5 @@
 -- What each message is that one end may have under way to the other.
-use Rattle.std.proofs.Common.{◌≡◌, ◌⊎◌, inl, inr, true, false, List, [], ◌∷◌, ◌++◌}
+use Rattle.std.proofs.Common.{◌≡◌, ◌⊎◌, inl, inr, true, List, [], ◌∷◌, ◌++◌}
 use Rattle.std.specs.Prelude.{⊤, is_some}
 use Rattle.std.specs.List.{AllByRecursion}
 use Rattle.session_model.proofs.Lists.{all_append, all_weaker}
@@ -8,7 +8,7 @@ use Rattle.fixp_msgs.specs.Message.{negotiate, negotiation_response, negotiation
 use Rattle.fixp_shake.specs.declared.config.EndConfig.{EndConfig}
 use Rattle.fixp_shake.specs.declared.phase.Phase.{Phase}
 use Rattle.fixp_shake.specs.declared.phase.Phase.TheVariants as phases
-use Rattle.fixp_shake.specs.Flows.{is_sequenced, is_absent}
+use Rattle.fixp_shake.specs.Flows.{is_sequenced}
 use Rattle.connection_laws.specs.Writing.{Piece, said, entry}
 use Rattle.honest_laws.specs.Numbers.{IsFlowing}
 
