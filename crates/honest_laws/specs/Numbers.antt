@@ -63,6 +63,7 @@ left_after (said (sequence next)) l = None
 left_after (said (retransmission id next timestamp count)) l = Some count
 left_after (said _) l = l
 
+-- a message of a retransmission is still to come, where one is under way; and none is
 abbrev pub HasOne : Option ℕ → Type 0
 HasOne None = ⊤
 HasOne (Some n) = 1 ≤ n
@@ -78,6 +79,7 @@ Fits (said (sequence next)) b l = (b ≤ next) × IsWhole l
 Fits (said (retransmission id next timestamp count)) b l = l ≡ None
 Fits (said _) b l = ⊤
 
+-- some messages bring a reader from the one pair to the other, and each fits where it stands
 abbrev pub Runs : ℕ → Option ℕ → List Piece → ℕ → Option ℕ → Type 0
 Runs b l [] c m = (b ≤ c) × (l ≡ m)
 Runs b l (p ∷ ps) c m = Fits p b l × Runs (bound_after p b l) (left_after p l) ps c m
@@ -102,6 +104,7 @@ NotNumber (violations.FlowNone template) = ⊤
 NotNumber (violations.Silent last now) = ⊤
 NotNumber (violations.HandshakeLate start now) = ⊤
 
+-- where an outcome ends a connection by a violation, it is none of numbers
 abbrev pub InNumbers : Outcome → Type 0
 InNumbers o = (v : Violation) → o.ending ≡ Some (endings.Violation v) → NotNumber v
 
@@ -117,39 +120,40 @@ Matches r requests.Nothing = r.again ≡ None
 Matches r (requests.Asked range) = (r.again ≡ None) × (range.from + range.count ≤ r.live)
 Matches r (requests.Coming range next left) = (r.again ≡ Some next) × (next + left ≤ r.live)
 
--- a reader of a recoverable flow
+-- a reader of a recoverable flow: what it awaits is not past the live number
 pub record Line (f : Facts) : Type 0 where
   pub waits : f.connection.receiver.next ≡ f.recorded.inbox_next
   pub low : f.connection.receiver.next ≤ f.connection.receiver.live
   pub matches : Matches f.connection.receiver f.connection.requester
 
--- a reader of another
+-- a reader of another flow: it has no gap, and asks for nothing
 pub record Idle (f : Facts) : Type 0 where
   pub even : receiver_is.gap f.connection.receiver ≡ None
   pub none : f.connection.requester ≡ requests.Nothing
 
--- what is known of a recoverable reader once a connection goes on
+-- its live number is at most this, and so many messages of a retransmission are still to come to it
 pub record Reaches (f : Facts) (b : ℕ) (l : Option ℕ) : Type 0 where
   pub line : Line f
   pub bound : f.connection.receiver.live ≤ b
   pub left : to_come f.connection.requester ≡ l
 
--- the reply to a message behind which the bound is this
+-- a reply that breaks no rule of numbers, and behind which the reader has come so far, where its connection goes on
 pub record Lined (b : ℕ) (l : Option ℕ) (o : Outcome) : Type 0 where
   pub fine : InNumbers o
   pub next : o.ending ≡ None → Reaches o.next b l
 
--- The reader of a recoverable flow
+-- a message that a reader of a recoverable flow expects, whose numbers are within the limit
 pub record Before (x : Around) (f : Facts) (p : Piece) : Type 0 where
   pub recoverable : is_recoverable x.config.peer_flow ≡ true
   pub line : Line f
   pub fits : Fits p f.connection.receiver.live (to_come f.connection.requester)
   pub top : bound_after p f.connection.receiver.live (to_come f.connection.requester) ≤ x.most + 1
 
+-- the reply to it
 abbrev pub After : Facts → Piece → Outcome → Type 0
 After f p o = Lined (bound_after p f.connection.receiver.live (to_come f.connection.requester)) (left_after p (to_come f.connection.requester)) o
 
--- The reader of another flow
+-- the same of a reader of another flow, which awaits at most this number
 pub record Rests (f : Facts) (b : ℕ) : Type 0 where
   pub idle : Idle f
   pub bound : f.recorded.inbox_next ≤ b
@@ -158,6 +162,7 @@ pub record Other (b : ℕ) (o : Outcome) : Type 0 where
   pub fine : InNumbers o
   pub next : o.ending ≡ None → Rests o.next b
 
+-- a message that it expects
 pub record BeforeOther (x : Around) (f : Facts) (p : Piece) : Type 0 where
   pub other : is_recoverable x.config.peer_flow ≡ false
   pub idle : Idle f
