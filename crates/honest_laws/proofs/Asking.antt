@@ -38,7 +38,7 @@ use Rattle.reply_laws.proofs.Rows.{AllRows, by_row, all_rows, all_within, own_ro
 use Rattle.connection_laws.specs.Writing.{Piece, said, entry, said_all}
 use Rattle.link_laws.specs.Reading.{incoming_of}
 use Rattle.honest_laws.proofs.Finishing.{total}
-use Rattle.honest_laws.proofs.Numbers.{Runs, served}
+use Rattle.honest_laws.specs.Numbers.{Runs, served}
 
 -- how many requests and retransmissions a message is
 abbrev pub request_in : Message → ℕ

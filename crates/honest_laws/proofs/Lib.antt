@@ -1,7 +1,7 @@
 pub mod Shapes
 pub mod Deciding
 pub mod Finishing
-pub mod Numbers
+pub mod Running
 pub mod Asking
 pub mod Replying
 pub mod Lining
@@ -9,5 +9,6 @@ pub mod Opening
 pub mod Moving
 pub mod Telling
 pub mod Serving
+pub mod Expected
 pub mod Phased
 pub mod Sampled

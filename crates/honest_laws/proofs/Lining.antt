@@ -1,6 +1,6 @@
 -- What a reader in Established expects of numbers behind each message that is under way to it.
 use Rattle.std.proofs.Common.{◌≡◌, ℕ, ◌+◌, ◌-◌, ◌≤◌, ◌==◌, ◌&&◌, ◌||◌, nat_lt, not, Bool, true, false, if◌then◌else◌, List, [], ◌∷◌, Option, Some, None, refl, sym, ap, subst, ◌∙◌, arith, true≢false, eqb-true, eq-eqb}
-use Rattle.std.specs.Prelude.{⊤, is_some, is_none, unwrap_or, Result, Ok, Err}
+use Rattle.std.specs.Prelude.{is_some, is_none, unwrap_or, Result, Ok, Err}
 use Rattle.fixp_msgs.specs.declared.numbering.Range.{Range}
 use Rattle.fixp_msgs.specs.Message.{Message, negotiate, negotiation_response, negotiation_reject, establish, establishment_ack, establishment_reject, sequence, unsequenced_heartbeat, retransmit_request, retransmission, retransmit_reject, applied, not_applied, finished_sending, finished_receiving, terminate}
 use Rattle.flow_recover.specs.declared.receiver.Seen.{Seen}
@@ -11,7 +11,7 @@ use Rattle.flow_retrans.specs.declared.judging.RetransmitCode.{RetransmitCode}
 use Rattle.flow_retrans.specs.Judging.{judged}
 use Rattle.flow_retrans.specs.Requests as request_is
 use Rattle.fixp_shake.specs.declared.violation.Violation.{Violation}
-use Rattle.fixp_shake.specs.declared.violation.Violation.TheVariants.{AfterFinish, OtherSession, WentBack, MissingNext, NumberTooLarge, FlowNone}
+use Rattle.fixp_shake.specs.declared.violation.Violation.TheVariants.{AfterFinish, WentBack, MissingNext, NumberTooLarge, FlowNone}
 use Rattle.fixp_shake.specs.Flows.{is_recoverable, is_idempotent, is_sequenced, is_absent}
 use Rattle.fixp_shake.specs.Phases.{is_established}
 use Rattle.fixp_replies.specs.declared.act.Act.{Act}
@@ -24,7 +24,7 @@ use Rattle.flow_retrans.specs.declared.request.Request.TheVariants as requests
 use Rattle.fixp_replies.specs.declared.facts.PeerFinish.TheVariants as peer
 use Rattle.fixp_replies.specs.Incoming.{application, session}
 use Rattle.fixp_replies.specs.Facts.{Around, is_own, receiving, requesting, serves, awaiting, gap_to_ask, having_asked, expected_number, message_number, live_number, finishes_exchanged, peer_last, awaits_gap}
-use Rattle.fixp_replies.specs.Outcomes.{Outcome, goes_on, accepts, ends, breaks, not_in_phase, skip_of, told_skip}
+use Rattle.fixp_replies.specs.Outcomes.{goes_on, accepts, ends, breaks, not_in_phase, skip_of, told_skip}
 use Rattle.fixp_replies.specs.Announcing.{Announced, jumped_over, announced, announcement_fault, refuses}
 use Rattle.fixp_replies.specs.Flowing.{bad_retransmission, counted, taken_as, peer_finished, answers_finish, is_filled, is_past_finish, sequence_follows, sequence_taken, restarted, finished_last, finish_fault, finished, is_last, application_rows, sequence_rows, retransmission_rows, retransmit_reject_rows, finished_sending_rows}
 use Rattle.fixp_replies.specs.Serving.{request_answered, own_finishing, retransmit_request_rows, finished_receiving_rows}
@@ -32,69 +32,15 @@ use Rattle.fixp_replies.specs.Replies.{rows_of, answer_of}
 use Rattle.reply_laws.proofs.Rows.{by_row, all_rows, all_within}
 use Rattle.connection_laws.specs.Writing.{Piece, said, entry}
 use Rattle.link_laws.specs.Reading.{incoming_of}
-use Rattle.fixp_shake.specs.declared.violation.Violation.TheVariants as violations
 use Rattle.fixp_shake.specs.declared.config.EndConfig.{EndConfig}
 use Rattle.flow_recover.specs.Receiving.{Receiving}
 use Rattle.flow_recover.proofs.Chains.{next_counted}
 use Rattle.std.proofs.lemmas.Bool.{ltb-false}
 use Rattle.std.proofs.lemmas.Bool.Decides.{nat_tests}
 use Rattle.reply_laws.proofs.Tests.{delivers, passes}
-use Rattle.honest_laws.proofs.Shapes.{IsFlowing}
 use Rattle.honest_laws.proofs.Deciding.{Decides, decides_within}
-use Rattle.honest_laws.proofs.Replying.{Peer, foreign, heard}
-use Rattle.honest_laws.proofs.Numbers.{bound_after, left_after, HasOne, Fits}
-
--- a violation that is not of numbers
-abbrev pub NotNumber : Violation → Type 0
-NotNumber (violations.BadFrame at) = ⊤
-NotNumber (violations.UnknownTemplate id) = ⊤
-NotNumber (violations.NotInPhase template phase) = ⊤
-NotNumber (violations.OtherSession template) = ⊤
-NotNumber (violations.WentBack announced expected) = ⊥
-NotNumber (violations.MissingNext template) = ⊤
-NotNumber (violations.NumberTooLarge announced) = ⊥
-NotNumber (violations.BadRetransmission expected found) = ⊤
-NotNumber (violations.AfterFinish last found) = ⊤
-NotNumber (violations.FlowNone template) = ⊤
-NotNumber (violations.Silent last now) = ⊤
-NotNumber (violations.HandshakeLate start now) = ⊤
-
-abbrev pub InNumbers : Outcome → Type 0
-InNumbers o = (v : Violation) → o.ending ≡ Some (endings.Violation v) → NotNumber v
-
--- how many messages of a retransmission are still to come
-abbrev pub left_of : Request → Option ℕ
-left_of requests.Nothing = None
-left_of (requests.Asked range) = None
-left_of (requests.Coming range next left) = Some left
-
--- what is asked for and what comes lie below the live number
-abbrev pub Matches : Receiving → Request → Type 0
-Matches r requests.Nothing = r.again ≡ None
-Matches r (requests.Asked range) = (r.again ≡ None) × (range.from + range.count ≤ r.live)
-Matches r (requests.Coming range next left) = (r.again ≡ Some next) × (next + left ≤ r.live)
-
--- a reader of a recoverable flow
-pub record Line (f : Facts) : Type 0 where
-  pub waits : f.connection.receiver.next ≡ f.recorded.inbox_next
-  pub low : f.connection.receiver.next ≤ f.connection.receiver.live
-  pub matches : Matches f.connection.receiver f.connection.requester
-
--- a reader of another
-pub record Idle (f : Facts) : Type 0 where
-  pub even : receiver_is.gap f.connection.receiver ≡ None
-  pub none : f.connection.requester ≡ requests.Nothing
-
--- what is known of a recoverable reader once a connection goes on
-pub record Reaches (f : Facts) (b : ℕ) (l : Option ℕ) : Type 0 where
-  pub line : Line f
-  pub bound : f.connection.receiver.live ≤ b
-  pub left : left_of f.connection.requester ≡ l
-
--- the reply to a message behind which the bound is this
-pub record Lined (b : ℕ) (l : Option ℕ) (o : Outcome) : Type 0 where
-  pub fine : InNumbers o
-  pub next : o.ending ≡ None → Reaches o.next b l
+use Rattle.honest_laws.proofs.Replying.{foreign, heard}
+use Rattle.honest_laws.specs.Numbers.{After, Before, BeforeOther, HasOne, Idle, IsFlowing, Line, Lined, Matches, NotNumber, Other, Peer, Reaches, Rests, bound_after, left_after, to_come}
 
 no_violation : (v : Violation) → None ≡ Some (endings.Violation v) → NotNumber v
 no_violation v e = absurd cc
@@ -111,11 +57,11 @@ terminated_fine false code w e = absurd cc
 asked_line : (f : Facts) (q : Request) → f.connection.requester ≡ q → Line f
     → (b : Bool) → nat_lt f.connection.receiver.next f.connection.receiver.live ≡ b
     → Line (having_asked f (if is_none (request_is.outstanding q) then (if b then Some (record { from = f.connection.receiver.next; count = f.connection.receiver.live - f.connection.receiver.next }) else None) else None))
-    × (left_of (having_asked f (if is_none (request_is.outstanding q) then (if b then Some (record { from = f.connection.receiver.next; count = f.connection.receiver.live - f.connection.receiver.next }) else None) else None)).connection.requester ≡ left_of f.connection.requester)
+    × (to_come (having_asked f (if is_none (request_is.outstanding q) then (if b then Some (record { from = f.connection.receiver.next; count = f.connection.receiver.live - f.connection.receiver.next }) else None) else None)).connection.requester ≡ to_come f.connection.requester)
 asked_line f requests.Nothing e line true t =
     let none : f.connection.receiver.again ≡ None = subst (λ (q : Request). Matches f.connection.receiver q) e line.matches in
     let low = line.low in
-    (record { waits = line.waits; low = low; matches = (none, omega (arith, low)) }, sym (ap left_of e))
+    (record { waits = line.waits; low = low; matches = (none, omega (arith, low)) }, sym (ap to_come e))
 asked_line f requests.Nothing e line false t = (line, refl)
 asked_line f (requests.Asked range) e line b t = (line, refl)
 asked_line f (requests.Coming range next left) e line b t = (line, refl)
@@ -129,7 +75,7 @@ same_receiver f g b l r q n h = record {
     matches = subst (λ (k : Receiving). Matches k g.connection.requester) (sym r) (subst (λ (k : Request). Matches f.connection.receiver k) (sym q) h.line.matches);
   };
   bound = subst (λ (k : Receiving). k.live ≤ b) (sym r) h.bound;
-  left = ap left_of q ∙ h.left;
+  left = ap to_come q ∙ h.left;
 }
 
 asked_receiver : (g : Facts) (r : Option Range) → (having_asked g r).connection.receiver ≡ g.connection.receiver
@@ -196,7 +142,7 @@ record Counted (next live : ℕ) (l : Option ℕ) (b : ℕ) (r : Receiving) (q :
   low : r.next ≤ r.live
   matches : Matches r q
   bound : r.live ≤ b
-  left : left_of q ≡ l
+  left : to_come q ≡ l
 
 one_past : (t : Bool) (n k : ℕ) → n + 1 ≤ k → (if t then n + 1 else n) ≤ k
 one_past true n k h = h
@@ -209,8 +155,8 @@ past_again n next live h low = by_test (n == next) refl
     by_test true e = let same = eqb-true n next e in omega (arith, same, h)
     by_test false e = low
 
-count_line : (next live : ℕ) (again : Option ℕ) (q : Request) → next ≤ live → Matches (record { next = next; live = live; again = again }) q → HasOne (left_of q)
-    → Counted next live (left_after (entry []) (left_of q)) (bound_after (entry []) live (left_of q)) (receiver_is.after_message (record { next = next; live = live; again = again })) (request_is.after_message q)
+count_line : (next live : ℕ) (again : Option ℕ) (q : Request) → next ≤ live → Matches (record { next = next; live = live; again = again }) q → HasOne (to_come q)
+    → Counted next live (left_after (entry []) (to_come q)) (bound_after (entry []) live (to_come q)) (receiver_is.after_message (record { next = next; live = live; again = again })) (request_is.after_message q)
 count_line next live None requests.Nothing low m one = record { low = one_past (live == next) next (live + 1) (omega (arith, low)); matches = refl; bound = omega arith; left = refl }
 count_line next live None (requests.Asked range) low m one =
     let k = m.1 in record { low = one_past (live == next) next (live + 1) (omega (arith, low)); matches = (refl, omega (arith, k)); bound = omega arith; left = refl }
@@ -222,13 +168,13 @@ count_line next live (Some k) (requests.Coming range n left) low m one =
     let h = m.1 in
     record { low = past_again k next live (omega (arith, same, h, one)) low; matches = (ap (λ (j : ℕ). Some (j + 1)) same, omega (arith, h, one)); bound = omega arith; left = refl }
 
-counted_line : (f : Facts) → Line f → HasOne (left_of f.connection.requester)
-    → Counted f.connection.receiver.next f.connection.receiver.live (left_after (entry []) (left_of f.connection.requester)) (bound_after (entry []) f.connection.receiver.live (left_of f.connection.requester))
+counted_line : (f : Facts) → Line f → HasOne (to_come f.connection.requester)
+    → Counted f.connection.receiver.next f.connection.receiver.live (left_after (entry []) (to_come f.connection.requester)) (bound_after (entry []) f.connection.receiver.live (to_come f.connection.requester))
     (receiver_is.after_message f.connection.receiver) (request_is.after_message f.connection.requester)
 counted_line f line one = count_line f.connection.receiver.next f.connection.receiver.live f.connection.receiver.again f.connection.requester line.low line.matches one
 
-taking : (x : Around) (f : Facts) (s : Seen) (b : ℕ) (l : Option ℕ) → receiver_is.seen f.connection.receiver ≡ s → Line f → HasOne (left_of f.connection.requester)
-    → l ≡ left_after (entry []) (left_of f.connection.requester) → bound_after (entry []) f.connection.receiver.live (left_of f.connection.requester) ≤ b → Lined b l (taken_as x (counted f) s)
+taking : (x : Around) (f : Facts) (s : Seen) (b : ℕ) (l : Option ℕ) → receiver_is.seen f.connection.receiver ≡ s → Line f → HasOne (to_come f.connection.requester)
+    → l ≡ left_after (entry []) (to_come f.connection.requester) → bound_after (entry []) f.connection.receiver.live (to_come f.connection.requester) ≤ b → Lined b l (taken_as x (counted f) s)
 taking x f (Deliver n) b l is line one e top =
     let r = f.connection.receiver in
     let d = delivers r.next (receiver_is.number r) n is in
@@ -264,8 +210,8 @@ taking x f (Repeat n) b l is line one e top =
     })
 
 -- the number of the next message is not above the limit
-number_low : (most live : ℕ) (again : Option ℕ) (next : ℕ) (q : Request) → Matches (record { next = next; live = live; again = again }) q → HasOne (left_of q)
-    → bound_after (entry []) live (left_of q) ≤ most + 1 → unwrap_or again live ≤ most
+number_low : (most live : ℕ) (again : Option ℕ) (next : ℕ) (q : Request) → Matches (record { next = next; live = live; again = again }) q → HasOne (to_come q)
+    → bound_after (entry []) live (to_come q) ≤ most + 1 → unwrap_or again live ≤ most
 number_low most live None next requests.Nothing m one top = omega (arith, top)
 number_low most live None next (requests.Asked range) m one top = omega (arith, top)
 number_low most live None next (requests.Coming range n left) m one top = absurd (cc (m.0))
@@ -287,7 +233,7 @@ announced_is x f next rec = by_flow (is_recoverable x.config.peer_flow) (is_idem
     by_flow true i e = refl
     by_flow false i e = absurd (true≢false (sym e))
 
-ended_matches : (r : Receiving) (q : Request) (n : ℕ) → Matches r q → r.live ≤ n → Matches (receiver_is.announced r n) (request_is.after_sequence q) × (left_of (request_is.after_sequence q) ≡ None)
+ended_matches : (r : Receiving) (q : Request) (n : ℕ) → Matches r q → r.live ≤ n → Matches (receiver_is.announced r n) (request_is.after_sequence q) × (to_come (request_is.after_sequence q) ≡ None)
 ended_matches r requests.Nothing n m h = (refl, refl)
 ended_matches r (requests.Asked range) n m h = let k = m.1 in ((refl, omega (arith, k, h)), refl)
 ended_matches r (requests.Coming range next left) n m h = (refl, refl)
@@ -301,28 +247,18 @@ following x g next a b l h =
     (same_receiver a.facts _ b l refl refl refl h))
     (λ _. going x a.facts (skip_of a.skipped) (told_skip a.skipped) b l h))
 
--- The reader of a recoverable flow
-pub record Before (x : Around) (f : Facts) (p : Piece) : Type 0 where
-  pub recoverable : is_recoverable x.config.peer_flow ≡ true
-  pub line : Line f
-  pub fits : Fits p f.connection.receiver.live (left_of f.connection.requester)
-  pub top : bound_after p f.connection.receiver.live (left_of f.connection.requester) ≤ x.most + 1
-
-abbrev pub After : Facts → Piece → Outcome → Type 0
-After f p o = Lined (bound_after p f.connection.receiver.live (left_of f.connection.requester)) (left_after p (left_of f.connection.requester)) o
-
 -- nothing of it moves
-here : (f : Facts) → Line f → Reaches f f.connection.receiver.live (left_of f.connection.requester)
+here : (f : Facts) → Line f → Reaches f f.connection.receiver.live (to_come f.connection.requester)
 here f line = record { line = line; bound = omega arith; left = refl }
 
 passing : (x : Around) (f g : Facts) (act : Act) (written : List Message) → Line f → g.connection.receiver ≡ f.connection.receiver → g.connection.requester ≡ f.connection.requester
-    → g.recorded.inbox_next ≡ f.recorded.inbox_next → Lined f.connection.receiver.live (left_of f.connection.requester) (goes_on x act written g)
-passing x f g act written line r q n = going x g act written f.connection.receiver.live (left_of f.connection.requester) (same_receiver f g f.connection.receiver.live (left_of f.connection.requester) r q n (here f line))
+    → g.recorded.inbox_next ≡ f.recorded.inbox_next → Lined f.connection.receiver.live (to_come f.connection.requester) (goes_on x act written g)
+passing x f g act written line r q n = going x g act written f.connection.receiver.live (to_come f.connection.requester) (same_receiver f g f.connection.receiver.live (to_come f.connection.requester) r q n (here f line))
 
 message_lined : (x : Around) (f : Facts) (payload : List ℕ) → Before x f (entry payload) → Decides (After f (entry payload)) (application_rows x f)
 message_lined x f payload k =
-    let b : ℕ = bound_after (entry payload) f.connection.receiver.live (left_of f.connection.requester) in
-    let l : Option ℕ = left_after (entry payload) (left_of f.connection.requester) in (
+    let b : ℕ = bound_after (entry payload) f.connection.receiver.live (to_come f.connection.requester) in
+    let l : Option ℕ = left_after (entry payload) (to_come f.connection.requester) in (
       λ _. ending x f 2 _ b l tt,
       λ _. (
         λ _. ending x f 2 _ b l tt,
@@ -369,8 +305,8 @@ sequence_lined x f next k = (
         (record { line = record { waits = k.line.waits; low = omega (arith, low, fits); matches = m.0 }; bound = omega arith; left = m.1 })
 
 -- a Retransmission that answers the request
-begins : (r : Receiving) (q : Request) (next count : ℕ) → left_of q ≡ None → Matches r q → is_some (request_is.start_fault (request_is.outstanding q) next count) ≡ false
-    → Matches (receiver_is.retransmitted r next) (request_is.started q next count) × (left_of (request_is.started q next count) ≡ Some count)
+begins : (r : Receiving) (q : Request) (next count : ℕ) → to_come q ≡ None → Matches r q → is_some (request_is.start_fault (request_is.outstanding q) next count) ≡ false
+    → Matches (receiver_is.retransmitted r next) (request_is.started q next count) × (to_come (request_is.started q next count) ≡ Some count)
 begins r requests.Nothing next count none m e = absurd (true≢false e)
 begins r (requests.Asked range) next count none m e =
     let t = tests (next == range.from) (count == 0 || nat_lt range.count count) e in
@@ -402,12 +338,12 @@ restart_lined x f id next timestamp count k = (
   ),
 )
 
-requested : (x : Around) (f : Facts) (id : List ℕ) (timestamp : ℕ) (r : Result Range RetransmitCode) → Line f → Lined f.connection.receiver.live (left_of f.connection.requester) (request_answered x f id timestamp r)
+requested : (x : Around) (f : Facts) (id : List ℕ) (timestamp : ℕ) (r : Result Range RetransmitCode) → Line f → Lined f.connection.receiver.live (to_come f.connection.requester) (request_answered x f id timestamp r)
 requested x f id timestamp (Ok range) line = passing x f (serves f (Some range)) acts.Nothing (retransmission x.config.session range.from timestamp range.count ∷ []) line refl refl refl
 requested x f id timestamp (Err code) line = record { fine = no_violation; next = λ _. here f line }
 
-finishing : (x : Around) (f : Facts) (n : ℕ) → Line f → Lined f.connection.receiver.live (left_of f.connection.requester) (finished x f n)
-finishing x f n line = by_row (Lined f.connection.receiver.live (left_of f.connection.requester)) (is_some (receiver_is.gap f.connection.receiver)) (accepts x [] (peer_finished f (peer.Read n) f.recorded.peer_last)) (answers_finish x f n)
+finishing : (x : Around) (f : Facts) (n : ℕ) → Line f → Lined f.connection.receiver.live (to_come f.connection.requester) (finished x f n)
+finishing x f n line = by_row (Lined f.connection.receiver.live (to_come f.connection.requester)) (is_some (receiver_is.gap f.connection.receiver)) (accepts x [] (peer_finished f (peer.Read n) f.recorded.peer_last)) (answers_finish x f n)
     (λ _. passing x f (peer_finished f (peer.Read n) f.recorded.peer_last) acts.Nothing [] line refl refl refl)
     (λ _. passing x f (peer_finished f (peer.Exchanged n) (Some (unwrap_or f.recorded.peer_last n))) _ (finished_receiving x.config.session ∷ []) line refl refl refl)
 
@@ -425,9 +361,9 @@ recoverable_reply x f theirs (said (sequence next)) are now flows k =
     heard (After f (said (sequence next))) x f (session (sequence next)) (decides_within (After f (said (sequence next))) (is_established f.connection.phase) (sequence_rows x f next) now (sequence_lined x f next k))
 recoverable_reply x f theirs (said unsequenced_heartbeat) are now flows k = passing x f f acts.Nothing [] k.line refl refl refl
 recoverable_reply x f theirs (said (retransmit_request id timestamp first count)) are now flows k =
-    let P = Lined f.connection.receiver.live (left_of f.connection.requester) in
+    let P = Lined f.connection.receiver.live (to_come f.connection.requester) in
     heard P x f (session (retransmit_request id timestamp first count)) (decides_within P (is_established f.connection.phase) (retransmit_request_rows x f id timestamp first count) now (
-      λ _. ending x f 4 _ f.connection.receiver.live (left_of f.connection.requester) tt,
+      λ _. ending x f 4 _ f.connection.receiver.live (to_come f.connection.requester) tt,
       λ _. (λ _. requested x f id timestamp (judged (is_own x id) (is_recoverable x.config.own_flow) first count f.recorded.sent) k.line, λ e. absurd (true≢false e)),
     ))
 recoverable_reply x f theirs (said (retransmission id next timestamp count)) are now flows k =
@@ -438,46 +374,37 @@ recoverable_reply x f theirs (said (retransmission id next timestamp count)) are
           decides_within P (is_established f.connection.phase) (retransmission_rows x f next count) now (restart_lined x f id next timestamp count k),
     )
 recoverable_reply x f theirs (said (retransmit_reject id timestamp code reason)) are now flows k =
-    let P = Lined f.connection.receiver.live (left_of f.connection.requester) in
+    let P = Lined f.connection.receiver.live (to_come f.connection.requester) in
     heard P x f (session (retransmit_reject id timestamp code reason)) (
       foreign x id (flows ∙ are.session),
       λ _.
-          decides_within P (is_established f.connection.phase) (retransmit_reject_rows x f) now (λ _. ending x f 2 _ f.connection.receiver.live (left_of f.connection.requester) tt, λ e. absurd (true≢false e)),
+          decides_within P (is_established f.connection.phase) (retransmit_reject_rows x f) now (λ _. ending x f 2 _ f.connection.receiver.live (to_come f.connection.requester) tt, λ e. absurd (true≢false e)),
     )
 recoverable_reply x f theirs (said (applied first count)) are now flows k = passing x f f acts.Nothing [] k.line refl refl refl
 recoverable_reply x f theirs (said (not_applied first count)) are now flows k =
-    by_row (Lined f.connection.receiver.live (left_of f.connection.requester)) (is_idempotent x.config.own_flow) (goes_on x (acts.Told first count) [] f) (accepts x [] f)
+    by_row (Lined f.connection.receiver.live (to_come f.connection.requester)) (is_idempotent x.config.own_flow) (goes_on x (acts.Told first count) [] f) (accepts x [] f)
     (λ _. passing x f f (acts.Told first count) [] k.line refl refl refl) (λ _. passing x f f acts.Nothing [] k.line refl refl refl)
 recoverable_reply x f theirs (said (finished_sending id last)) are now flows k =
-    let P = Lined f.connection.receiver.live (left_of f.connection.requester) in
+    let P = Lined f.connection.receiver.live (to_come f.connection.requester) in
     heard P x f (session (finished_sending id last)) (
       foreign x id (flows.0 ∙ are.session),
       λ _.
           decides_within P (is_established f.connection.phase) (finished_sending_rows x f last) now (
-            λ some. refusing x f (finish_fault x f last) f.connection.receiver.live (left_of f.connection.requester) some (finish_fine x f last),
+            λ some. refusing x f (finish_fault x f last) f.connection.receiver.live (to_come f.connection.requester) some (finish_fine x f last),
             λ _. (λ _. finishing x f (finished_last x last) k.line, λ e. absurd (true≢false e)),
           ),
     )
 recoverable_reply x f theirs (said (finished_receiving id)) are now flows k =
-    let P = Lined f.connection.receiver.live (left_of f.connection.requester) in
-    all_rows P (not_in_phase x f 15) (rows_of x f (session (finished_receiving id))) (ending x f 2 _ f.connection.receiver.live (left_of f.connection.requester) tt)
+    let P = Lined f.connection.receiver.live (to_come f.connection.requester) in
+    all_rows P (not_in_phase x f 15) (rows_of x f (session (finished_receiving id))) (ending x f 2 _ f.connection.receiver.live (to_come f.connection.requester) tt)
     (foreign x id (flows ∙ are.session), λ _. all_within P (is_established f.connection.phase) (finished_receiving_rows x f) (λ _. (λ _. passing x f (own_finishing f own.Exchanged) acts.Nothing [] k.line refl refl refl, λ _. tt)))
 recoverable_reply x f theirs (said (terminate id code reason)) are now flows k =
-    let P = Lined f.connection.receiver.live (left_of f.connection.requester) in
+    let P = Lined f.connection.receiver.live (to_come f.connection.requester) in
     heard P x f (session (terminate id code reason)) (
       foreign x id (flows ∙ are.session),
       λ _.
           (λ _. record { fine = λ w same. terminated_fine (finishes_exchanged x f) code w same; next = λ none. absurd cc }, λ e. absurd (true≢false e)),
     )
-
--- The reader of another flow
-pub record Rests (f : Facts) (b : ℕ) : Type 0 where
-  pub idle : Idle f
-  pub bound : f.recorded.inbox_next ≤ b
-
-pub record Other (b : ℕ) (o : Outcome) : Type 0 where
-  pub fine : InNumbers o
-  pub next : o.ending ≡ None → Rests o.next b
 
 asks_none : (f : Facts) → receiver_is.gap f.connection.receiver ≡ None → gap_to_ask f ≡ None
 asks_none f e = by_test (is_none (request_is.outstanding f.connection.requester))
@@ -499,12 +426,6 @@ bad_other x f (Some k) b some = stops x f 2 _ b tt
 refusing_other : (x : Around) (f : Facts) (v : Option Violation) (b : ℕ) → is_some v ≡ true → ((w : Violation) → v ≡ Some w → NotNumber w) → Other b (refuses x f v)
 refusing_other x f None b some h = absurd (true≢false (sym some))
 refusing_other x f (Some v) b some h = stops x f 2 v b (h v refl)
-
-pub record BeforeOther (x : Around) (f : Facts) (p : Piece) : Type 0 where
-  pub other : is_recoverable x.config.peer_flow ≡ false
-  pub idle : Idle f
-  pub fits : Fits p f.recorded.inbox_next None
-  pub top : bound_after p f.recorded.inbox_next None ≤ x.most + 1
 
 rest : (f : Facts) → Idle f → Rests f f.recorded.inbox_next
 rest f idle = record { idle = idle; bound = omega arith }

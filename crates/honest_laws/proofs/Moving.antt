@@ -31,9 +31,10 @@ use Rattle.connection_laws.specs.Standing.{MayStand}
 use Rattle.link_laws.specs.Reading.{incoming_of}
 use Rattle.honest_laws.specs.Laws.{IsLeft, EndsBy}
 use Rattle.honest_laws.specs.Worlds.{reading, written, IsOther}
-use Rattle.honest_laws.proofs.Shapes.{IsFree, IsFlowing, all_free_flow}
-use Rattle.honest_laws.proofs.Replying.{left_of}
+use Rattle.honest_laws.proofs.Shapes.{IsFree, all_free_flow}
 use Rattle.honest_laws.proofs.Opening.{Quiet}
+use Rattle.honest_laws.specs.Numbers.{IsFlowing}
+use Rattle.honest_laws.proofs.Replying.{left_of}
 
 -- a message is read: its outcome takes effect, and what it writes is written
 pub record Reads (s : State) (o : Outcome) (t : State) (out : List Piece) : Type 0 where

@@ -28,9 +28,10 @@ use Rattle.reply_laws.proofs.Rows.{by_row}
 use Rattle.connection_laws.specs.Writing.{Piece, said, entry, said_all}
 use Rattle.link_laws.specs.Reading.{incoming_of}
 use Rattle.honest_laws.specs.Laws.{IsLeft}
-use Rattle.honest_laws.proofs.Shapes.{IsFree, IsFlowing, IsAsk, IsAnswer, IsAck, OneAtMost, AckFirst}
+use Rattle.honest_laws.proofs.Shapes.{IsFree, IsAsk, IsAnswer, IsAck, OneAtMost, AckFirst}
 use Rattle.honest_laws.proofs.Deciding.{Decides, decides_within, same_bytes, never}
-use Rattle.honest_laws.proofs.Replying.{Peer, Left, asked_phase, asked_flows, skip_flows, none_left, left_of, terminated_left, fault_left, announced_decides, foreign, heard}
+use Rattle.honest_laws.proofs.Replying.{left_of, Left, asked_phase, asked_flows, skip_flows, none_left, terminated_left, fault_left, announced_decides, foreign, heard}
+use Rattle.honest_laws.specs.Numbers.{IsFlowing, Peer}
 
 -- before the handshake is done nothing is asked for or sent again
 pub record Quiet (f : Facts) : Type 0 where

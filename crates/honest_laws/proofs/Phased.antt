@@ -30,14 +30,15 @@ use Rattle.connection_laws.proofs.Replied.{frame_writes}
 use Rattle.link_laws.specs.Reading.{incoming_of}
 use Rattle.honest_laws.specs.Laws.{IsLeft, PhasesHold}
 use Rattle.honest_laws.specs.Worlds.{World, Step, meets, initiator_reads, acceptor_reads, initiator_does, acceptor_does, written, after, initiator_read, acceptor_read, MayStep, world_after, AllMayStep, Match, Starts}
-use Rattle.honest_laws.proofs.Shapes.{IsFree, IsFlowing, IsAsk, IsAnswer, OneAtMost, AckFirst, one_behind, one_before, ack_behind, ack_before, all_free_flow, free_flows}
-use Rattle.honest_laws.proofs.Replying.{Peer, Left, shaken_reply}
+use Rattle.honest_laws.proofs.Shapes.{IsFree, IsAsk, IsAnswer, OneAtMost, AckFirst, one_behind, one_before, ack_behind, ack_before, all_free_flow, free_flows}
+use Rattle.honest_laws.proofs.Replying.{Left, shaken_reply}
 use Rattle.honest_laws.proofs.Opening.{Quiet, quiet_same, number_given, free_reply, Asked, answers, acknowledged, ask_reply, answer_reply, Acknowledged, stands, lost, ack_reply}
 use Rattle.honest_laws.proofs.Asking.{asks, restarts, inside, coming, is_serving}
 use Rattle.honest_laws.proofs.Serving.{Requests, asked_by_reader, asked_by_writer, free_for, served_by_writer, served_by_reader, serves_as}
 use Rattle.honest_laws.proofs.Finishing.{counts, total, sendings, answers as answer_count, waiting, reads, tells}
 use Rattle.honest_laws.proofs.Telling.{Awaits, read_by_reader, read_by_writer, due, told_by_writer, told_by_reader, tells_as}
 use Rattle.honest_laws.proofs.Moving.{reads_as, Does, does_as}
+use Rattle.honest_laws.specs.Numbers.{IsFlowing, Peer, served}
 
 -- How far the two ends are: the handshake is asked for or answered, or neither is under way; it is acknowledged; it is done; or the
 -- initiator has refused the acknowledgement. Facts of the initiator and its ending, those of the acceptor, and what is under way

@@ -36,15 +36,10 @@ use Rattle.reply_laws.proofs.Rows.{by_row}
 use Rattle.connection_laws.specs.Writing.{Piece, said, entry, said_all}
 use Rattle.link_laws.specs.Reading.{incoming_of}
 use Rattle.honest_laws.specs.Laws.{IsLeft}
-use Rattle.honest_laws.proofs.Shapes.{IsFlowing}
 use Rattle.honest_laws.proofs.Finishing.{answers, tells, awaited}
 use Rattle.honest_laws.proofs.Asking.{asks, is_serving}
 use Rattle.honest_laws.proofs.Deciding.{Decides, decided, decides_within, same_bytes, never}
-
--- the peer of this end is in its session, and sends what it receives
-pub record Peer (mine theirs : EndConfig) : Type 0 where
-  pub session : theirs.session ≡ mine.session
-  pub flow : mine.peer_flow ≡ theirs.own_flow
+use Rattle.honest_laws.specs.Numbers.{IsFlowing, Peer}
 
 -- where an outcome ends a connection by a violation, it is one of those left
 abbrev pub Left : Outcome → Type 0

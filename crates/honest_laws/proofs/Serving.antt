@@ -25,8 +25,9 @@ use Rattle.connection_laws.specs.Standing.{MayStand}
 use Rattle.honest_laws.specs.Worlds.{written, IsOther}
 use Rattle.honest_laws.proofs.Finishing.{total, total_append}
 use Rattle.honest_laws.proofs.Asking.{asks, restarts, turns, inside, unanswered_of, unanswered, coming, is_serving, Asks, asks_of, closing_asks, at_most_one}
-use Rattle.honest_laws.proofs.Numbers.{Runs, served, runs_append, live_run, again_run}
+use Rattle.honest_laws.proofs.Running.{runs_append, live_run, again_run}
 use Rattle.honest_laws.proofs.Moving.{turned, told}
+use Rattle.honest_laws.specs.Numbers.{Runs, served}
 
 -- A reader's request is under way on the way back, or its answer to the reader, or neither: at most where it is yet. As long as it is under
 -- way the writer serves nothing. And where the reader goes on, a retransmission comes in to it behind what is under way exactly where the

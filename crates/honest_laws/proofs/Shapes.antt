@@ -1,5 +1,5 @@
 -- What each message is that one end may have under way to the other.
-use Rattle.std.proofs.Common.{◌≡◌, ◌⊎◌, inl, inr, true, false, List, [], ◌∷◌, ◌++◌}
+use Rattle.std.proofs.Common.{◌≡◌, ◌⊎◌, inl, inr, true, List, [], ◌∷◌, ◌++◌}
 use Rattle.std.specs.Prelude.{⊤, is_some}
 use Rattle.std.specs.List.{AllByRecursion}
 use Rattle.session_model.proofs.Lists.{all_append, all_weaker}
@@ -8,8 +8,9 @@ use Rattle.fixp_msgs.specs.Message.{negotiate, negotiation_response, negotiation
 use Rattle.fixp_shake.specs.declared.config.EndConfig.{EndConfig}
 use Rattle.fixp_shake.specs.declared.phase.Phase.{Phase}
 use Rattle.fixp_shake.specs.declared.phase.Phase.TheVariants as phases
-use Rattle.fixp_shake.specs.Flows.{is_sequenced, is_absent}
+use Rattle.fixp_shake.specs.Flows.{is_sequenced}
 use Rattle.connection_laws.specs.Writing.{Piece, said, entry}
+use Rattle.honest_laws.specs.Numbers.{IsFlowing}
 
 -- a message that any phase takes
 abbrev pub IsFree : EndConfig → Piece → Type 0
@@ -18,26 +19,6 @@ IsFree cfg (said (applied first count)) = ⊤
 IsFree cfg (said (not_applied first count)) = ⊤
 IsFree cfg (said (terminate id code reason)) = id ≡ cfg.session
 IsFree cfg _ = ⊥
-
--- a message that is written once the handshake is done
-abbrev pub IsFlowing : EndConfig → Piece → Type 0
-IsFlowing cfg (entry payload) = is_absent cfg.own_flow ≡ false
-IsFlowing cfg (said (negotiate id timestamp flow credentials)) = ⊥
-IsFlowing cfg (said (negotiation_response id timestamp flow credentials)) = ⊥
-IsFlowing cfg (said (negotiation_reject id timestamp code reason)) = ⊥
-IsFlowing cfg (said (establish id timestamp keepalive next credentials)) = ⊥
-IsFlowing cfg (said (establishment_ack id timestamp keepalive next)) = ⊥
-IsFlowing cfg (said (establishment_reject id timestamp code reason)) = ⊥
-IsFlowing cfg (said (sequence next)) = ⊤
-IsFlowing cfg (said unsequenced_heartbeat) = ⊤
-IsFlowing cfg (said (retransmit_request id timestamp first count)) = id ≡ cfg.session
-IsFlowing cfg (said (retransmission id next timestamp count)) = id ≡ cfg.session
-IsFlowing cfg (said (retransmit_reject id timestamp code reason)) = id ≡ cfg.session
-IsFlowing cfg (said (applied first count)) = ⊤
-IsFlowing cfg (said (not_applied first count)) = ⊤
-IsFlowing cfg (said (finished_sending id last)) = (id ≡ cfg.session) × (is_absent cfg.own_flow ≡ false) × (is_sequenced cfg.own_flow ≡ true → is_some last ≡ true)
-IsFlowing cfg (said (finished_receiving id)) = id ≡ cfg.session
-IsFlowing cfg (said (terminate id code reason)) = id ≡ cfg.session
 
 pub free_flows : (cfg : EndConfig) (p : Piece) → IsFree cfg p → IsFlowing cfg p
 free_flows cfg (entry payload) f = absurd f

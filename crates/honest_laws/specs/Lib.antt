@@ -1,3 +1,4 @@
 pub mod Worlds
 pub mod Laws
+pub mod Numbers
 pub mod Samples

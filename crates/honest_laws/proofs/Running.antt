@@ -1,43 +1,8 @@
 -- The numbers under way between two ends: how far what is under way may bring a reader.
-use Rattle.std.proofs.Common.{◌≡◌, ℕ, ◌+◌, ◌-◌, ◌≤◌, List, [], ◌∷◌, ◌++◌, length, Option, Some, None, refl, sym, ap, subst, arith}
-use Rattle.std.specs.Prelude.{⊤}
-use Rattle.fixp_msgs.specs.declared.numbering.Range.{Range}
+use Rattle.std.proofs.Common.{ℕ, ◌+◌, ◌-◌, ◌≤◌, List, [], ◌∷◌, ◌++◌, length, Option, Some, None, refl, sym, ap, subst, arith}
 use Rattle.fixp_msgs.specs.Message.{sequence, retransmission}
 use Rattle.connection_laws.specs.Writing.{Piece, said, entry, entries}
-
--- A reader's next live number is at most this, and so many messages of a retransmission are still to come: what each message makes of
--- them. A live message and an announcement move the one, a retransmission the other
-abbrev pub bound_after : Piece → ℕ → Option ℕ → ℕ
-bound_after (entry payload) b None = b + 1
-bound_after (entry payload) b (Some n) = b
-bound_after (said (sequence next)) b l = next
-bound_after (said _) b l = b
-
-abbrev pub left_after : Piece → Option ℕ → Option ℕ
-left_after (entry payload) None = None
-left_after (entry payload) (Some n) = Some (n - 1)
-left_after (said (sequence next)) l = None
-left_after (said (retransmission id next timestamp count)) l = Some count
-left_after (said _) l = l
-
-abbrev pub HasOne : Option ℕ → Type 0
-HasOne None = ⊤
-HasOne (Some n) = 1 ≤ n
-
-abbrev pub IsWhole : Option ℕ → Type 0
-IsWhole None = ⊤
-IsWhole (Some n) = n ≡ 0
-
--- an announcement does not go back, and ends a whole retransmission; and no more messages come than belong to it
-abbrev pub Fits : Piece → ℕ → Option ℕ → Type 0
-Fits (entry payload) b l = HasOne l
-Fits (said (sequence next)) b l = (b ≤ next) × IsWhole l
-Fits (said (retransmission id next timestamp count)) b l = l ≡ None
-Fits (said _) b l = ⊤
-
-abbrev pub Runs : ℕ → Option ℕ → List Piece → ℕ → Option ℕ → Type 0
-Runs b l [] c m = (b ≤ c) × (l ≡ m)
-Runs b l (p ∷ ps) c m = Fits p b l × Runs (bound_after p b l) (left_after p l) ps c m
+use Rattle.honest_laws.specs.Numbers.{Fits, Runs, bound_after, left_after}
 
 fits_lower : (p : Piece) (b c : ℕ) (l : Option ℕ) → b ≤ c → Fits p c l → Fits p b l
 fits_lower (entry payload) b c l h f = f
@@ -68,11 +33,6 @@ bound_grows (said _) b l f = omega arith
 pub runs_top : (b : ℕ) (l : Option ℕ) (ps : List Piece) (c : ℕ) (m : Option ℕ) → Runs b l ps c m → b ≤ c
 runs_top b l [] c m r = r.0
 runs_top b l (p ∷ ps) c m r = let one = bound_grows p b l r.0 in let more = runs_top (bound_after p b l) (left_after p l) ps c m r.1 in omega (arith, one, more)
-
--- what is served, of a range
-abbrev pub served : Option Range → Option ℕ
-served None = None
-served (Some r) = Some r.count
 
 -- entries live, and again
 pub live_run : (b : ℕ) (payloads : List (List ℕ)) → Runs b None (entries payloads) (b + length payloads) None
