@@ -19,7 +19,8 @@ use Rattle.gate_turn.specs.Listed.{pass_at, known_if, known_at}
 use Rattle.gate_turn.specs.Calls.{IsFree}
 use Rattle.gate_turn.specs.declared.pass.Pass.{Pass}
 use Rattle.gate_turn.specs.declared.passes.Passes.{Passes}
-use Rattle.gate_senders.specs.Gate.{IsPassAt, MadeAt, HasBackAt, senders_of}
+use Rattle.gate_senders.specs.Gate.{IsPassAt, MadeAt, HasBackAt, senders_of, opening_of}
+use Rattle.gate_turn.proofs.Histories.{begins_self}
 use Rattle.gate_senders.specs.declared.gate.Gate.{Gate}
 use Rattle.gate_senders.specs.declared.kept.Kept.{Kept}
 use Rattle.sender_plans.proofs.Seating.{all_behind, all_back}
@@ -48,7 +49,7 @@ module _ {J : Type 0} {G : Ghosts J} where
   pub passes_made : (gate : Gate J G) (passes : Passes (Kept J G)) (senders : ℕ) → 1 ≤ senders → senders ≤ 16 → MadeAt gate passes (senders + 1) → senders_of gate ≡ senders → HasPasses gate passes senders
   passes_made gate passes senders some few made count =
       let behind = all_behind gate (senders + 1) passes (omega (arith, some)) made in
-      record { back = all_back gate (senders + 1) passes (omega (arith, some)) (omega (arith, few)) behind; made = behind.first refl; senders = count; some = some; few = few }
+      record { back = all_back gate (senders + 1) passes (omega (arith, some)) (omega (arith, few)) behind; made = behind.first refl; count = count; some = some; few = few }
 
   -- a pass that the list has
   pub pass_back : (gate : Gate J G) (passes : Passes (Kept J G)) (senders n : ℕ) → HasPasses gate passes senders → 1 ≤ n → n ≤ senders + 1 → HasBackAt gate passes n
@@ -79,7 +80,7 @@ module _ {J : Type 0} {G : Ghosts J} where
               (λ ne. has.back.others k x (sym (others k ne) ∙ is));
         };
         made = made;
-        senders = has.senders;
+        count = has.count;
         some = has.some;
         few = has.few;
       }
@@ -216,3 +217,13 @@ module _ {J : Type 0} {G : Ghosts J} where
     };
     agrees = record { flow = flow; most = within; next = next; negotiated = negotiated; peer_last = last };
   })
+
+  -- an end that has begun nothing stands so, whose pass has seen what the gate opened with
+  pub made_stands : {O : Type 0} {H : Ghosts O} (gate : Gate O H) (passes : Passes (Kept O H)) (senders most : ℕ) (l : Line) (box : Inbox J G) → MadeAt gate passes (senders + 1)
+      → ((p : Part) → BeginsHistory (opening_of gate).history p.seen → Rests l.machine p box) → Stands standings.Over l most (known_at passes (senders + 1)) box
+  made_stands gate passes senders most l box made may = record {
+    turns = λ e. cc;
+    begins = λ _.
+        let is = (made.each (senders + 1) (record { from_one = omega arith; up_to = omega arith })).1 in
+        may (known_at passes (senders + 1)) (subst (λ (h : History). BeginsHistory (opening_of gate).history h) (sym (ap (λ (p : Part). p.seen) is)) (begins_self (opening_of gate).history));
+  }

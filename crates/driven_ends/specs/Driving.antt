@@ -35,7 +35,7 @@ module _ {J : Type 0} {G : Ghosts J} where
   pub record HasPasses (gate : Gate J G) (passes : Passes (Kept J G)) (senders : ℕ) : Type 0 where
     pub back : AllBackAt gate passes
     pub made : (known_at passes 1).made ≡ senders + 1
-    pub senders : senders_of gate ≡ senders
+    pub count : senders_of gate ≡ senders
     pub some : 1 ≤ senders
     pub few : senders ≤ 16
 

@@ -75,9 +75,10 @@ fn config(alloc: Global, setup: Setup) -> EndConfig
     ensures credentials { length result.credentials ≡ 0 }
     ensures flow { result.peer_flow ≡ setup.peer_flow }
 {
+    let session = setup.session;
     EndConfig {
         role: setup.role,
-        session: setup.session,
+        session,
         own_flow: setup.own_flow,
         peer_flow: setup.peer_flow,
         keepalive: 1000,
@@ -174,9 +175,9 @@ impl DrivenEnd {
 
     /// The next connection begins, where one may.
     pub fn begin(&mut self) {
-        if self.standing != Standing::Over {
+        let Standing::Over = self.standing else {
             return;
-        }
+        };
         self.conn.begin(&mut self.clock);
         self.turns = 0;
         self.standing = Standing::Open;
@@ -184,7 +185,10 @@ impl DrivenEnd {
 
     /// The clock goes on by so many milliseconds, and a turn is made where a connection goes on.
     pub fn turn<L: Link, R: Wait>(&mut self, link: &mut L, elapsed: u64, rt: &R) {
-        if self.standing != Standing::Open || self.turns >= TURNS {
+        let Standing::Open = self.standing else {
+            return;
+        };
+        if self.turns >= TURNS {
             return;
         }
         self.clock.advance(elapsed);
@@ -210,10 +214,11 @@ impl DrivenEnd {
 
     /// The connection is given up, where one goes on: what is held and unsent is dropped.
     pub fn cut(&mut self) {
-        if self.standing == Standing::Open {
-            let _ = self.conn.cut();
-            self.standing = Standing::Over;
-        }
+        let Standing::Open = self.standing else {
+            return;
+        };
+        let _ = self.conn.cut();
+        self.standing = Standing::Over;
     }
 
     /// Its journals.

@@ -2,6 +2,7 @@
 
 ghost use Rattle.std.specs.Prelude.{◌≡◌, ◌≢◌, ℕ, ◌+◌, ◌≤◌, None, Some};
 ghost use Rattle.fixp_msgs.specs.Payload.{IsApplication};
+ghost use Rattle.gate_turn.specs.Places.{known};
 ghost use Rattle.gate_turn.specs.Listed.{pass_at, known_at};
 ghost use Rattle.gate_turn.specs.Calls.{IsFree};
 ghost use Rattle.gate_senders.specs.Gate.{IsPassAt};
@@ -24,6 +25,7 @@ pub(crate) fn taken(
     ensures there { pass_at passes.old number ≡ Some result }
     ensures own { IsPassAt gate.now result }
     ensures free { IsFree result }
+    ensures number { (known result).number ≡ number }
     ensures gone { pass_at passes.new number ≡ None }
     ensures others { (n : ℕ) → n ≢ number → pass_at passes.new n ≡ pass_at passes.old n }
 {
