@@ -20,7 +20,7 @@ pub(crate) const MOST: u64 = 1 << 24;
 /// The limits of both journals, which no disk in memory here has room for.
 const LIMITS: Limits = Limits {
     entries: MOST,
-    bytes: 1 << 32,
+    bytes: 1 << 30,
 };
 
 /// The disks of the outbox and of the inbox.
