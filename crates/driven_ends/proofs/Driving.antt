@@ -1,6 +1,7 @@
 -- An end that is driven: its passes before and after a call, and where it stands behind one.
-use Rattle.std.proofs.Common.{◌≡◌, ◌≢◌, ◌⊎◌, inl, inr, ℕ, ◌+◌, ◌*◌, ◌<◌, ◌≤◌, ◌^◌, true, false, Bool, if◌then◌else◌, [], ◌∷◌, List, length, Option, Some, None, Result, Ok, Err, refl, sym, ap, subst, ◌∙◌, arith}
+use Rattle.std.proofs.Common.{◌≡◌, ◌≢◌, inl, inr, ℕ, ◌+◌, ◌*◌, ◌<◌, ◌≤◌, ◌^◌, true, false, Bool, if◌then◌else◌, [], ◌∷◌, List, length, Option, Some, None, Result, Ok, Err, refl, sym, ap, subst, ◌∙◌, arith}
 use Rattle.std.specs.Prelude.{OnOk, IfOk, IfSome, IsSome, is_some}
+use Rattle.std.specs.Result.{result_ok}
 use Rattle.std.proofs.lemmas.Option.{same_Some}
 use mathlib.Core.Logic.{dite}
 use native.Mathlib.Decide.{ℕ_discrete}
@@ -33,7 +34,8 @@ use Rattle.conn_turns.specs.declared.answer.TurnEnd.TheVariants as ends
 use Rattle.conn_turns.specs.declared.answer.TurnFault.{TurnFault}
 use Rattle.conn_turns.specs.declared.answer.TurnFault.TheVariants as faults
 use Rattle.conn_steps.specs.Agreeing.{Agrees}
-use Rattle.conn_loop.specs.Conn.{line_begun, line_cut, answer_of, GoesOn, HasSeen}
+use Rattle.conn_loop.specs.declared.conn.Conn.{Conn}
+use Rattle.conn_loop.specs.Conn.{line_of, new_line, line_begun, line_cut, answer_of, GoesOn, HasSeen}
 use Rattle.conn_loop.specs.Turned.{DidTurn, Exchanged, Leaves}
 use Rattle.fixp_shake.specs.declared.config.EndConfig.{EndConfig}
 use Rattle.conn_loop.proofs.Working.{seen_same}
@@ -63,8 +65,8 @@ module _ {J : Type 0} {G : Ghosts J} where
       let others : (k : ℕ) → k ≢ n → pass_at new k ≡ pass_at old k = λ k ne. later k (λ e. ne (e ∙ number)) ∙ first k ne in
       let at : pass_at new n ≡ Some q = ap (pass_at new) (sym number) ∙ there in
       let made : (known_at new 1).made ≡ senders + 1 = dite (ℕ_discrete 1 n)
-          (λ e. ap (λ (o : Option (Pass (Kept J G))). (known_if o).made) (ap (pass_at new) e ∙ at) ∙ (same ∙ (ap (λ (o : Option (Pass (Kept J G))). (known_if o).made) (sym (ap (pass_at old) e ∙ was)) ∙ has.made)))
-          (λ ne. ap (λ (o : Option (Pass (Kept J G))). (known_if o).made) (others 1 ne) ∙ has.made) in
+      (λ e. ap (λ (o : Option (Pass (Kept J G))). (known_if o).made) (ap (pass_at new) e ∙ at) ∙ (same ∙ (ap (λ (o : Option (Pass (Kept J G))). (known_if o).made) (sym (ap (pass_at old) e ∙ was)) ∙ has.made)))
+      (λ ne. ap (λ (o : Option (Pass (Kept J G))). (known_if o).made) (others 1 ne) ∙ has.made) in
       record {
         back = record {
           some_made = omega (arith, made);
@@ -101,8 +103,23 @@ unfolding line_after
 place_after now l t = refl
 
 frames_place : (now : ℕ) (l : Line) (frames : List TakenFrame) → AreTaken now l frames → (lines_after now l frames).place ≤ l.place + length frames * 16390
-frames_place now l [] taken = omega arith
-frames_place now l (t ∷ later) taken = omega (arith, frames_place now (line_after now l t) later taken.1, taken.0.next.begins.admissible.most, place_after now l t)
+frames_place now l [] all = omega arith
+frames_place now l (t ∷ later) all = omega (arith, frames_place now (line_after now l t) later all.1, all.0.next.begins.admissible.most, place_after now l t)
+
+-- ---- what ended, and what is marked
+
+ended_some : (o : Option Ending) (e : Ending) → ends.Ended e ≡ answer_of o → IsSome o
+ended_some None e is = cc
+ended_some (Some x) e is = refl
+
+-- it ends by its link, where it has not ended
+abbrev link_as : State → Bool → State
+link_as s b = if b then s else record s { ending = Some (link_ending (around s 0 s.moment) s.facts); pending = None }
+
+-- the mark that stood is what a pass has seen
+mark : (h s : History) → BeginsHistory h s → (b : Bool) → h.finished ≡ b → IfSome (if b then Some (length h.made) else None) (λ n. (s.finished ≡ true) × (length s.made ≡ n))
+mark h s begins true e = (ap (λ (x : History). x.finished) (sym (begins.alone e)) ∙ e, ap (λ (x : History). length x.made) (sym (begins.alone e)))
+mark h s begins false e = tt
 
 module _ {J : Type 0} {G : Ghosts J} where
   -- ---- where an end stands
@@ -116,10 +133,6 @@ module _ {J : Type 0} {G : Ghosts J} where
     negotiated = a.negotiated ∙ sym (ap (λ (r : EndState). r.negotiated) recorded);
     peer_last = a.peer_last ∙ sym (ap (λ (r : EndState). r.peer_last) recorded);
   }
-
-  ended_some : (o : Option Ending) (e : Ending) → ends.Ended e ≡ answer_of o → IsSome o
-  ended_some None e is = cc
-  ended_some (Some x) e is = refl
 
   rests : (m : State) (p : Part) (box : Inbox J G) → IsSome m.ending → Leaves m p box → Rests m p box
   rests m p box some l = record { over = λ _. some; time = l.time; sent = l.sent; credentials = l.credentials; seen = l.seen; agrees = l.agrees }
@@ -168,9 +181,6 @@ module _ {J : Type 0} {G : Ghosts J} where
     begins = λ e. cc;
   }
 
-  abbrev link_as : State → Bool → State
-  link_as s b = if b then s else record s { ending = Some (link_ending (around s 0 s.moment) s.facts); pending = None }
-
   cut_as : (m : State) (n : ℕ) (p : Part) (box : Inbox J G) (b : Bool) → GoesOn m → HasSeen m p → Agrees m box → IsSome (link_as (step m (taken n)) b).ending → Rests (link_as (step m (taken n)) b) p box
   cut_as m n p box true c h a some = record {
     over = λ _. some;
@@ -198,10 +208,6 @@ module _ {J : Type 0} {G : Ghosts J} where
   }
 
   -- where it is made of journals that stand, and a pass has seen what the outbox had
-  mark : (h s : History) → BeginsHistory h s → (b : Bool) → h.finished ≡ b → IfSome (if b then Some (length h.made) else None) (λ n. (s.finished ≡ true) × (length s.made ≡ n))
-  mark h s begins true e = (ap (λ (x : History). x.finished) (sym (begins.alone e)) ∙ e, ap (λ (x : History). length x.made) (sym (begins.alone e)))
-  mark h s begins false e = tt
-
   pub opened_rests : (config : EndConfig) (most : ℕ) (state : EndState) (h : History) (n : State) (p : Part) (box : Inbox J G) → n ≡ fresh config state most → BeginsHistory h p.seen
       → state.sent ≡ length h.made → state.sent < 2 ^ 40 → state.finish ≡ (if h.finished then Some (length h.made) else None)
       → length config.credentials ≤ 2048 → flow_of box ≡ config.peer_flow → most ≤ (limits_of box).entries
@@ -217,6 +223,19 @@ module _ {J : Type 0} {G : Ghosts J} where
     };
     agrees = record { flow = flow; most = within; next = next; negotiated = negotiated; peer_last = last };
   })
+
+  -- so does the connection that was made of them, if one was
+  pub conn_rests : {E : Type 0} (config : EndConfig) (most : ℕ) (state : EndState) (h : History) (box : Inbox J G) (r : Result Conn E) (o : Option Conn) → o ≡ result_ok r
+      → IfOk r (λ conn. line_of conn ≡ new_line (fresh config state most)) → state.sent ≡ length h.made → state.sent < 2 ^ 40 → state.finish ≡ (if h.finished then Some (length h.made) else None)
+      → length config.credentials ≤ 2048 → flow_of box ≡ config.peer_flow → most ≤ (limits_of box).entries
+      → next_of box ≡ state.inbox_next → is_negotiated box ≡ state.negotiated → peer_last_of box ≡ state.peer_last
+      → IfSome o (λ conn. (p : Part) → BeginsHistory h p.seen → Rests (line_of conn).machine p box)
+  conn_rests {E} config most state h box r o is made sent few finish credentials flow within next negotiated last =
+      subst (λ (x : Option Conn). IfSome x (λ conn. (p : Part) → BeginsHistory h p.seen → Rests (line_of conn).machine p box)) (sym is) (of_result r made)
+    where
+      of_result : (r : Result Conn E) → IfOk r (λ conn. line_of conn ≡ new_line (fresh config state most)) → IfSome (result_ok r) (λ conn. (p : Part) → BeginsHistory h p.seen → Rests (line_of conn).machine p box)
+      of_result (Ok conn) made = λ p begins. opened_rests config most state h (line_of conn).machine p box (ap (λ (l : Line). l.machine) made) begins sent few finish credentials flow within next negotiated last
+      of_result (Err e) made = tt
 
   -- an end that has begun nothing stands so, whose pass has seen what the gate opened with
   pub made_stands : {O : Type 0} {H : Ghosts O} (gate : Gate O H) (passes : Passes (Kept O H)) (senders most : ℕ) (l : Line) (box : Inbox J G) → MadeAt gate passes (senders + 1)

@@ -1,11 +1,12 @@
 //! An end that is driven.
 
-ghost use Rattle.std.specs.Prelude.{◌≡◌, ◌+◌, ◌≤◌, ◌<◌, ◌^◌, length, IfSome};
+ghost use Rattle.std.specs.Prelude.{◌≡◌, ◌+◌, ◌≤◌, ◌<◌, ◌^◌, length, if◌then◌else◌, Some, None, IfOk, IfSome};
+ghost use Rattle.reply_laws.specs.Machine.{fresh};
 ghost use Rattle.session_model.specs.Journal.{BeginsHistory};
-ghost use Rattle.jr_boxes.specs.Inbox.{flow_of, limits_of, next_of};
+ghost use Rattle.jr_boxes.specs.Inbox.{flow_of, limits_of, next_of, is_negotiated, peer_last_of};
 ghost use Rattle.gate_turn.specs.Views.{Part};
 ghost use Rattle.gate_senders.specs.Gate.{opening_of};
-ghost use Rattle.conn_loop.specs.Conn.{line_of};
+ghost use Rattle.conn_loop.specs.Conn.{line_of, new_line};
 ghost use Rattle.driven_ends.specs.Driving.{Rests};
 
 use crate::journals::{Disks, Log, MOST, open_inbox, open_outbox};
@@ -21,7 +22,7 @@ use gw_link_fakes::MemClock;
 use gw_links::Link;
 use gw_outside::Bytes;
 use jr_boxes::Inbox;
-use std::alloc::Global;
+use std::alloc::{AllocError, Global};
 use std::marker::Model;
 use std::sync::Wait;
 
@@ -86,6 +87,38 @@ fn config(alloc: Global, setup: Setup) -> EndConfig
     }
 }
 
+/// What the journals record.
+fn recorded(gate: &Gate<Log>, inbox: &Inbox<Log>) -> EndState
+    ensures first { 1 ≤ result.inbox_next }
+    ensures next { next_of inbox.now ≡ result.inbox_next }
+    ensures negotiated { is_negotiated inbox.now ≡ result.negotiated }
+    ensures peer_last { peer_last_of inbox.now ≡ result.peer_last }
+    ensures sent { result.sent ≡ length (opening_of gate.now).history.made }
+    ensures finish { result.finish ≡ (if (opening_of gate.now).history.finished then Some (length (opening_of gate.now).history.made) else None) }
+{
+    let (sent, finished) = gate.opened();
+    EndState {
+        negotiated: inbox.is_negotiated(),
+        inbox_next: inbox.next(),
+        peer_last: inbox.peer_last(),
+        sent,
+        finish: if finished { Some(sent) } else { None },
+    }
+}
+
+/// A connection that has not begun, of a new end.
+fn opened(alloc: Global, config: EndConfig, state: EndState) -> Result<Conn, AllocError>
+    requires keepalive { config.keepalive ≡ 1000 }
+    requires credentials { length config.credentials ≡ 0 }
+    requires first { 1 ≤ state.inbox_next }
+    requires numbered { state.inbox_next + 1 < 2 ^ 64 }
+    requires sent { state.sent < 2 ^ 40 }
+    ensures { IfOk result (λ conn. line_of conn ≡ new_line (fresh config state (2 ^ 24))) }
+{
+    let end = End::new(alloc, config, state, MOST)?;
+    Conn::new(alloc, end)
+}
+
 /// A connection that has not begun, of an end that goes on where its journals stand; none where memory runs out, or the outbox
 /// has too many entries.
 fn new_conn(alloc: Global, gate: &Gate<Log>, inbox: &Inbox<Log>, setup: Setup) -> Option<Conn>
@@ -94,19 +127,11 @@ fn new_conn(alloc: Global, gate: &Gate<Log>, inbox: &Inbox<Log>, setup: Setup) -
     requires numbered { next_of inbox.now + 1 < 2 ^ 64 }
     ensures may { IfSome result (λ conn. (p : Part) → BeginsHistory (opening_of gate.now).history p.seen → Rests (line_of conn).machine p inbox.now) }
 {
-    let (sent, finished) = gate.opened();
-    if sent > MOST {
+    let state = recorded(gate, inbox);
+    if state.sent > MOST {
         return None;
     }
-    let state = EndState {
-        negotiated: inbox.is_negotiated(),
-        inbox_next: inbox.next(),
-        peer_last: inbox.peer_last(),
-        sent,
-        finish: if finished { Some(sent) } else { None },
-    };
-    let end = End::new(alloc, config(alloc, setup), state, MOST).ok()?;
-    Conn::new(alloc, end).ok()
+    opened(alloc, config(alloc, setup), state).ok()
 }
 
 impl DrivenEnd {
@@ -192,12 +217,7 @@ impl DrivenEnd {
             return;
         }
         self.clock.advance(elapsed);
-        let mut pass = taken(
-            &self.gate,
-            &mut self.passes,
-            self.senders,
-            self.senders + 1,
-        );
+        let mut pass = taken(&self.gate, &mut self.passes, self.senders, self.senders + 1);
         self.standing = make_turn(
             &mut self.conn,
             link,

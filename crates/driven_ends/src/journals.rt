@@ -45,7 +45,6 @@ pub fn fresh_disks(alloc: Global, room: usize) -> Option<Disks> {
     })
 }
 
-
 /// The journal on a disk; none where there is none.
 pub fn journal(alloc: Global, disk: MemDisk) -> Option<Log> {
     LogJournal::open(alloc, disk, LIMITS).ok()
@@ -55,8 +54,9 @@ pub fn journal(alloc: Global, disk: MemDisk) -> Option<Log> {
 pub(crate) fn open_outbox(alloc: Global, disk: MemDisk) -> Option<Outbox<Log>>
     ensures sound { IfSome result (λ box. outboxes.is_broken box ≡ false) }
 {
-    let journal = LogJournal::open(alloc, disk, LIMITS).ok()?;
-    Outbox::open(alloc, journal, LIMITS).ok()
+    let limits = LIMITS;
+    let journal = LogJournal::open(alloc, disk, limits).ok()?;
+    Outbox::open(alloc, journal, limits).ok()
 }
 
 /// The inbox of a flow on a disk; none where there is none, or where it awaits no number that may come.
@@ -65,7 +65,8 @@ pub(crate) fn open_inbox(alloc: Global, disk: MemDisk, flow: Flow) -> Option<Inb
     ensures limit { IfSome result (λ box. (inboxes.limits_of box).entries ≡ 2 ^ 24) }
     ensures numbered { IfSome result (λ box. inboxes.next_of box + 1 < 2 ^ 64) }
 {
-    let journal = LogJournal::open(alloc, disk, LIMITS).ok()?;
-    let inbox = Inbox::open(alloc, journal, LIMITS, flow).ok()?;
+    let limits = LIMITS;
+    let journal = LogJournal::open(alloc, disk, limits).ok()?;
+    let inbox = Inbox::open(alloc, journal, limits, flow).ok()?;
     (inbox.next() <= MOST + 1).then_some(inbox)
 }

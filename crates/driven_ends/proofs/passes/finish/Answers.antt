@@ -1,4 +1,4 @@
-use Rattle.std.proofs.Common.{◌≡◌, ◌+◌, sym, ap, ◌∙◌, arith}
+use Rattle.std.proofs.Common.{◌≡◌, ◌+◌, sym, ◌∙◌, arith}
 use Rattle.driven_ends.proofs.Driving.{passes_kept, known_kept}
 use Rattle.driven_ends.proofs.passes.finish.Goals as goal
 

@@ -1,4 +1,4 @@
-use Rattle.std.proofs.Common.{le_refl, sym, subst}
+use Rattle.std.proofs.Common.{le_refl}
 use Rattle.conn_loop.specs.Conn.{line_of}
 use Rattle.driven_ends.proofs.Driving.{stands_at}
 use Rattle.driven_ends.proofs.driven.DrivenEnd.submit.Goals as goal
