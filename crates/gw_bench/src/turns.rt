@@ -1,7 +1,6 @@
 //! Turns of two connections against each other over a pipe in memory: a sender's messages go from its outbox into the peer's inbox.
 //! Relies on `driven_ends`.
 
-
 use crate::sum_of_bytes;
 use conn_loop::NewsItem;
 use driven_ends::{DrivenEnd, Setup, fresh_disks};
@@ -99,7 +98,12 @@ fn run<R: Wait>(
     initiator.begin();
     acceptor.begin();
     for round in 0..many.saturating_add(8) {
-        submit(initiator, message, many.saturating_sub(round.saturating_mul(LIVE)), rt);
+        submit(
+            initiator,
+            message,
+            many.saturating_sub(round.saturating_mul(LIVE)),
+            rt,
+        );
         initiator.turn(&mut pipe.left(), 0, rt);
         acceptor.turn(&mut pipe.right(), 0, rt);
         add_news(acceptor.news(), &mut came);
