@@ -1,44 +1,15 @@
 //! Threads that append the messages of their plans behind a Mutex, in the form of the journal and with its two writes and two
 //! syncs a message, on a disk in memory, hand-written and with no proof: what `gw_bench senders` does is compared with this.
 //! It is no part of the product.
+mod memory_disk;
+
+use memory_disk::Disk;
 use std::env;
 use std::sync::Mutex;
 use std::thread;
 
 const PAYLOAD: usize = 62;
 const ENTRY: usize = 78;
-
-/// What is written, and what a sync has made last.
-struct Disk {
-    content: Vec<u8>,
-    synced: Vec<u8>,
-    pending: std::ops::Range<usize>,
-}
-
-impl Disk {
-    fn write_at(&mut self, at: usize, bytes: &[u8]) {
-        let end = at + bytes.len();
-        if end > self.content.len() {
-            self.content.resize(end, 0);
-        }
-        self.content[at..end].copy_from_slice(bytes);
-        let pending = &self.pending;
-        self.pending = if pending.is_empty() {
-            at..end
-        } else {
-            pending.start.min(at)..pending.end.max(end)
-        };
-    }
-
-    fn sync(&mut self) {
-        if self.content.len() > self.synced.len() {
-            self.synced.resize(self.content.len(), 0);
-        }
-        let pending = self.pending.clone();
-        self.synced[pending.clone()].copy_from_slice(&self.content[pending]);
-        self.pending = 0..0;
-    }
-}
 
 #[allow(dead_code)]
 struct Entry {
@@ -50,7 +21,6 @@ struct Entry {
 /// An outbox: the entries, and the journal of them.
 struct Outbox {
     disk: Disk,
-    end: usize,
     entries: Vec<Entry>,
     counts: [u64; 17],
     most: usize,
@@ -69,11 +39,7 @@ impl Outbox {
         record.extend_from_slice(&number.to_le_bytes());
         record.extend_from_slice(payload);
         record.push(0);
-        self.disk.write_at(self.end + 1, &record);
-        self.disk.sync();
-        self.disk.write_at(self.end, &[1]);
-        self.disk.sync();
-        self.end += record.len();
+        self.disk.append(&record);
         self.entries.push(Entry {
             sender,
             number,
@@ -89,17 +55,9 @@ fn main() {
     let threads: u16 = words[0].parse().unwrap();
     let count: usize = words[1].parse().unwrap();
     let most = threads as usize * count;
-    let room = 64 + most * ENTRY;
-    let mut disk = Disk {
-        content: Vec::with_capacity(room),
-        synced: Vec::with_capacity(room),
-        pending: 0..0,
-    };
-    disk.write_at(0, b"FIXPJRN1\0\0\0\0\0\0\0\0\0");
-    disk.sync();
+    let disk = Disk::formatted(64 + most * ENTRY);
     let outbox = Mutex::new(Outbox {
         disk,
-        end: 16,
         entries: Vec::new(),
         counts: [0; 17],
         most,

@@ -1,12 +1,14 @@
 //! Measurements: does what is measured so many times, and prints what came of it, so that no work can be left out.
 //! `codec COUNT` goes through all session messages; `write TEMPLATE COUNT` and `read TEMPLATE COUNT` through one.
 //! `senders SENDERS COUNT` has so many senders submit so many messages each at a gate, at once; `plans SENDERS COUNT` only makes
-//! their messages and the outbox. `all COUNT` goes through all messages and has four senders submit.
+//! their messages and the outbox. `turns COUNT SIZE` has so many messages of so many bytes go from one end's outbox into the other
+//! end's inbox, turn by turn. `all COUNT` goes through all messages, has four senders submit, and makes turns for messages of 10 bytes.
 #![tactic(auto)]
 
 mod codec;
 mod messages;
 mod senders;
+mod turns;
 
 use codec::{read_many, write_many};
 use senders::submitted;
@@ -15,6 +17,7 @@ use std::io;
 use std::rt::Env;
 use std::sync::Wait;
 use std::thread::Threads;
+use turns::turned;
 
 /// The bytes of a buffer of frames.
 const ROOM: usize = 65_536;
@@ -71,13 +74,14 @@ fn small(word: &str) -> u16 {
 /// What is asked for, and how often.
 #[derive(Clone, Copy)]
 enum Task {
-    /// All messages, and four senders.
+    /// All messages, four senders, and turns.
     All(u64),
     Codec(u64),
     Write(u16, u64),
     Read(u16, u64),
     Senders(u16, u64),
     Plans(u16, u64),
+    Turns(u64, u64),
     /// The words ask for nothing that there is.
     Usage,
 }
@@ -98,6 +102,7 @@ fn task_of_two(kind: &str, first: &str, count: &str) -> Task {
         "read" => Task::Read(small(first), number(count)),
         "senders" => Task::Senders(small(first), number(count)),
         "plans" => Task::Plans(small(first), number(count)),
+        "turns" => Task::Turns(number(first), number(count)),
         _ => Task::Usage,
     }
 }
@@ -165,10 +170,23 @@ fn print_senders<R: Print + Threads + Wait + Sync + AllocGlobal>(
     }
 }
 
+/// The line of so many messages of so many bytes that go from an outbox into an inbox.
+fn print_turns<R: Print + Wait + AllocGlobal>(rt: &R, count: u64, size: u64) -> io::Result<()> {
+    match turned(rt, rt.alloc(), count, size) {
+        Some(came) => {
+            let count = came.count;
+            let sum = came.sum;
+            println!(rt; "{count} {sum}")
+        }
+        None => rt.println("no ends"),
+    }
+}
+
 /// Does all that there is.
 fn print_all<R: Print + Threads + Wait + Sync + AllocGlobal>(rt: &R, count: u64) -> io::Result<()> {
     print_all_codec(rt, count)?;
-    print_senders(rt, 4, count, true)
+    print_senders(rt, 4, count, true)?;
+    print_turns(rt, count, 10)
 }
 
 fn main(rt: HostRuntime) -> io::Result<()> {
@@ -179,8 +197,9 @@ fn main(rt: HostRuntime) -> io::Result<()> {
         Task::Read(template, count) => print_read(&rt, template, count),
         Task::Senders(senders, count) => print_senders(&rt, senders, count, true),
         Task::Plans(senders, count) => print_senders(&rt, senders, count, false),
+        Task::Turns(count, size) => print_turns(&rt, count, size),
         Task::Usage => rt.println(
-            "all COUNT, codec COUNT, write TEMPLATE COUNT, read TEMPLATE COUNT, senders SENDERS COUNT or plans SENDERS COUNT",
+            "all COUNT, codec COUNT, write TEMPLATE COUNT, read TEMPLATE COUNT, senders SENDERS COUNT, plans SENDERS COUNT or turns COUNT SIZE",
         ),
     }
 }

@@ -1,0 +1,343 @@
+//! Hostile tapes: the bytes that an honest peer sends in a whole connection, with one byte changed. The file of tapes tells of each
+//! byte what has to come of it, and the tapes are made and judged here.
+
+use case_words::{bytes, halves};
+use driven_ends::{Disks, DrivenEnd, Setup, Standing, fresh_disks, journal};
+use fixp_end::{Ending, Flow, Role, Violation};
+use gw_fakes::MemDisk;
+use gw_link_fakes::MemTape;
+use gw_outside::{Bytes, Disk};
+use jr_record::Record;
+use std::alloc::{AllocError, Global};
+use std::sync::Wait;
+
+/// The room of a disk, in bytes.
+const DISK: usize = 1024;
+
+/// More turns than a connection over a tape takes.
+const TURNS: u64 = 40;
+
+/// What bytes are changed by, one after another.
+const CHANGES: [u8; 3] = [0x01, 0x10, 0x80];
+
+/// The message that the peer sends, and which this end has in its outbox too.
+const MESSAGE: [u8; 10] = [0xEB, 0x50, 0, 0, 8, 0, 0x64, 0, 1, 0];
+
+/// What has to come of a change of a byte.
+#[derive(Clone, Copy, Debug, PartialEq, Eq)]
+enum Verdict {
+    /// The same as without it: both finishes are exchanged.
+    Same,
+    /// Both finishes are exchanged, and the message is delivered as it was changed.
+    Payload,
+    /// A violation: the bytes of this frame are none.
+    Bad,
+    /// The violation of this number in the table.
+    Breaks(u64),
+    /// Any violation.
+    Violation,
+    /// Anything but that both finishes are exchanged.
+    Unfinished,
+    /// What the new length of the frame says.
+    Length,
+    /// What the new template says.
+    Template,
+    /// What can come of it depends on the bytes behind.
+    Any,
+    /// The connection waits for the frame's bytes until the link's end.
+    Waits,
+}
+
+/// A byte of a tape.
+#[derive(Clone, Copy, Debug)]
+struct Place {
+    verdict: Verdict,
+    /// Where its frame begins in the tape.
+    start: usize,
+    /// Whether the peer's message stands before its frame.
+    behind: bool,
+}
+
+/// The bytes of a tape, and what is said of each.
+#[derive(Drop)]
+pub struct Tape {
+    role: Role,
+    bytes: Vec<u8>,
+    places: Vec<Place>,
+}
+
+/// What came of a tape: how the connection ended, and the payloads that the inbox has.
+#[derive(Drop)]
+struct Came {
+    ending: Option<Ending>,
+    applied: Vec<Bytes>,
+}
+
+/// The verdict that a word tells.
+fn told(word: &str) -> Verdict {
+    match word {
+        "same" => Verdict::Same,
+        "payload" => Verdict::Payload,
+        "bad" => Verdict::Bad,
+        "violation" => Verdict::Violation,
+        "unfinished" => Verdict::Unfinished,
+        "length" => Verdict::Length,
+        "template" => Verdict::Template,
+        number => Verdict::Breaks(case_words::number(number)),
+    }
+}
+
+impl Tape {
+    /// Adds the frame that the words of a line tell, each some bytes in hexadecimal and what comes of them.
+    fn add_frame(&mut self, alloc: Global, words: &str) -> Result<(), AllocError> {
+        let start = self.bytes.len();
+        let behind = self.places.as_slice().iter().any(|place| place.verdict == Verdict::Payload);
+        for word in words.split_whitespace() {
+            let (digits, said) = word.split_once(":").unwrap_or((word, ""));
+            let part = bytes(alloc, digits)?;
+            for _ in 0..part.len() {
+                self.places.push(Place {
+                    verdict: told(said),
+                    start,
+                    behind,
+                })?;
+            }
+            self.bytes.extend_from_slice(part.as_slice())?;
+        }
+        Ok(())
+    }
+}
+
+/// The tape of the lines that begin with this word, each of which tells a frame.
+///
+/// # Errors
+/// Want of memory.
+pub fn read_tape(alloc: Global, role: Role, name: &str, lines: &str) -> Result<Tape, AllocError> {
+    let mut tape = Tape {
+        role,
+        bytes: Vec::new(alloc),
+        places: Vec::new(alloc),
+    };
+    for line in lines.lines() {
+        let (word, words) = halves(line);
+        if word == name {
+            tape.add_frame(alloc, words)?;
+        }
+    }
+    Ok(tape)
+}
+
+/// The number of two bytes in the bytes of a tape.
+fn number_at(bytes: &[u8], at: usize) -> u64 {
+    match bytes.split_at_checked(at) {
+        Some((_, [low, high, ..])) => u64::from(*low) + 256 * u64::from(*high),
+        _ => 0,
+    }
+}
+
+/// The length of the frame that begins at a place of a tape.
+fn size_at(bytes: &[u8], at: usize) -> u64 {
+    match bytes.split_at_checked(at) {
+        Some((_, [a, b, c, d, ..])) => u64::from(u32::from_be_bytes([*a, *b, *c, *d])),
+        _ => 0,
+    }
+}
+
+/// What a changed length says of a frame that begins with these bytes and had `size` of them.
+fn by_length(frame: &[u8], size: u64) -> Verdict {
+    let length = size_at(frame, 0);
+    if !(14..=16390).contains(&length) || length < size {
+        Verdict::Bad
+    } else if length > frame.len() as u64 {
+        Verdict::Waits
+    } else {
+        // The frame takes bytes of the next one, which is none then.
+        Verdict::Any
+    }
+}
+
+/// What a changed template says of a frame that begins with these bytes.
+fn by_template(frame: &[u8]) -> Verdict {
+    match number_at(frame, 8) {
+        1..=16 => Verdict::Any,
+        _ => Verdict::Breaks(2),
+    }
+}
+
+/// The number of a violation in the table.
+fn number_of(violation: Violation) -> u64 {
+    match violation {
+        Violation::BadFrame { .. } => 1,
+        Violation::UnknownTemplate { .. } => 2,
+        Violation::NotInPhase { .. } => 3,
+        Violation::OtherSession { .. } => 4,
+        Violation::WentBack { .. } => 5,
+        Violation::MissingNext { .. } => 6,
+        Violation::NumberTooLarge { .. } => 7,
+        Violation::BadRetransmission { .. } => 8,
+        Violation::AfterFinish { .. } => 9,
+        Violation::FlowNone { .. } => 10,
+        Violation::Silent { .. } => 11,
+        Violation::HandshakeLate { .. } => 12,
+    }
+}
+
+/// Whether a connection may have ended so.
+fn ends_so(verdict: Verdict, start: usize, ending: Option<Ending>) -> bool {
+    match verdict {
+        Verdict::Same | Verdict::Payload => ending == Some(Ending::Finished),
+        Verdict::Bad => ending == Some(Ending::Violation(Violation::BadFrame { at: start as u64 })),
+        Verdict::Waits => ending == Some(Ending::LinkEnded),
+        Verdict::Violation => matches!(&ending, Some(Ending::Violation(_))),
+        Verdict::Breaks(number) => match ending {
+            Some(Ending::Violation(violation)) => number_of(violation) == number,
+            _ => false,
+        },
+        Verdict::Unfinished => ending.is_some() && ending != Some(Ending::Finished),
+        Verdict::Any | Verdict::Length | Verdict::Template => ending.is_some(),
+    }
+}
+
+/// Whether an inbox may hold these payloads: the peer's message, where its frame came before the byte that was changed or the session
+/// went on without fault, and nothing else. Where the change is in the message, it holds what stands in the tape.
+fn holds_so(verdict: Verdict, place: Place, frame: &[u8], applied: &[Bytes]) -> bool {
+    match (verdict, applied) {
+        (Verdict::Any | Verdict::Unfinished | Verdict::Length | Verdict::Template, _) => true,
+        (Verdict::Payload, [payload]) => match frame.split_at_checked(4) {
+            Some((_, sent)) => sent.split_at_checked(10).map(|parts| parts.0) == Some(payload.as_slice()),
+            None => false,
+        },
+        (Verdict::Same, [payload]) => payload.as_slice() == &MESSAGE[..],
+        (Verdict::Violation | Verdict::Breaks(_), [payload]) => payload.as_slice() == &MESSAGE[..],
+        (Verdict::Violation | Verdict::Breaks(_), []) => !place.behind,
+        (Verdict::Bad | Verdict::Waits, [payload]) => {
+            place.behind && payload.as_slice() == &MESSAGE[..]
+        }
+        (Verdict::Bad | Verdict::Waits, []) => !place.behind,
+        _ => false,
+    }
+}
+
+/// What an end is made with that hears a tape.
+fn setup(role: Role) -> Setup {
+    Setup {
+        role,
+        session: [0x11; 16],
+        own_flow: Flow::Recoverable,
+        peer_flow: Flow::Recoverable,
+        senders: 1,
+    }
+}
+
+/// The journals of an end which has its message in the outbox, and the mark behind it; none where memory runs out.
+fn begun<R: Wait>(alloc: Global, role: Role, rt: &R) -> Option<Disks> {
+    let mut end = DrivenEnd::open(alloc, setup(role), fresh_disks(alloc, DISK)?)?;
+    let submitted = end.submit(1, &MESSAGE, rt) && end.finish(rt);
+    let disks = end.close();
+    submitted.then_some(disks)
+}
+
+/// A disk with the same content.
+fn copied(alloc: Global, disk: &MemDisk) -> Option<MemDisk> {
+    let mut copy = MemDisk::without_faults(alloc, DISK).ok()?;
+    copy.write_at(0, disk.content()).ok()?;
+    Some(copy)
+}
+
+/// The payloads that an inbox has.
+fn payloads(alloc: Global, disk: MemDisk) -> Option<Vec<Bytes>> {
+    let journal = journal(alloc, disk)?;
+    let mut payloads = Vec::new(alloc);
+    for record in journal.records() {
+        if let Record::Apply { payload, .. } = record {
+            payloads
+                .push(Bytes::from_slice(alloc, payload.as_slice()).ok()?)
+                .ok()?;
+        }
+    }
+    Some(payloads)
+}
+
+/// What comes of an end of this role, whose journals stand so, and which hears these bytes; none where its inbox does not open
+/// again, or memory runs out.
+fn heard<R: Wait>(alloc: Global, role: Role, begun: &Disks, bytes: &[u8], rt: &R) -> Option<Came> {
+    let given = Bytes::from_slice(alloc, bytes).ok()?;
+    let mut link = MemTape::without_faults(alloc, given, 4096).ok()?;
+    let disks = Disks {
+        outbox: copied(alloc, &begun.outbox)?,
+        inbox: copied(alloc, &begun.inbox)?,
+    };
+    let mut end = DrivenEnd::open(alloc, setup(role), disks)?;
+    end.begin();
+    for _ in 0..TURNS {
+        if end.standing() == Standing::Open {
+            end.turn(&mut link, 0, rt);
+        }
+    }
+    let ending = end.ending();
+    let disks = end.close();
+    let _ = journal(alloc, disks.outbox)?;
+    Some(Came {
+        ending,
+        applied: payloads(alloc, disks.inbox)?,
+    })
+}
+
+/// Whether what came of a tape whose byte at a place was changed is what has to come of it.
+fn is_right(place: Place, size: u64, bytes: &[u8], came: &Came) -> bool {
+    let (_, frame) = bytes.split_at_checked(place.start).unwrap_or((bytes, &[]));
+    let verdict = match place.verdict {
+        Verdict::Length => by_length(frame, size),
+        Verdict::Template => by_template(frame),
+        said => said,
+    };
+    ends_so(verdict, place.start, came.ending)
+        && holds_so(verdict, place, frame, came.applied.as_slice())
+}
+
+/// Whether anything else comes of a tape whose byte at a place is changed than has to.
+fn is_wrong<R: Wait>(
+    alloc: Global,
+    tape: &mut Tape,
+    begun: &Disks,
+    at: usize,
+    change: u8,
+    rt: &R,
+) -> bool {
+    if at >= tape.bytes.len() || at >= tape.places.len() {
+        return true;
+    }
+    let place = tape.places[at];
+    let size = size_at(tape.bytes.as_slice(), place.start);
+    tape.bytes[at] ^= change;
+    let came = heard(alloc, tape.role, begun, tape.bytes.as_slice(), rt);
+    let wrong = match &came {
+        Some(came) => !is_right(place, size, tape.bytes.as_slice(), came),
+        None => true,
+    };
+    tape.bytes[at] ^= change;
+    wrong
+}
+
+/// How many tapes were heard, one with each byte changed, and of how many another thing came than has to; the first of those.
+///
+/// # Errors
+/// Want of memory for the words.
+pub fn heard_all<R: Wait>(alloc: Global, mut tape: Tape, rt: &R) -> Result<String, AllocError> {
+    let Some(begun) = begun(alloc, tape.role, rt) else {
+        return format!(in alloc; "want of memory");
+    };
+    let count = tape.bytes.len();
+    let mut wrong = 0u64;
+    let mut first = None;
+    for at in 0..count {
+        if is_wrong(alloc, &mut tape, &begun, at, CHANGES[at % 3], rt) {
+            wrong = wrong.saturating_add(1);
+            first = first.or(Some(at));
+        }
+    }
+    match first {
+        Some(at) => format!(in alloc; "{count} tapes, {wrong} wrong, the first changed at byte {at}"),
+        None => format!(in alloc; "{count} tapes, 0 wrong"),
+    }
+}
