@@ -1,5 +1,7 @@
 //! Numbers that look drawn, and are the same in each run: a xorshift over 64 bits.
 
+ghost use Rattle.std.specs.Prelude.{◌<◌};
+
 /// What the numbers are drawn from.
 #[derive(Clone, Copy, Debug)]
 pub struct Chance {
@@ -15,7 +17,9 @@ impl Chance {
     }
 
     /// The next number below `limit`, which is 0 where that is 0.
-    pub fn below(&mut self, limit: u64) -> u64 {
+    pub fn below(&mut self, limit: u64) -> u64
+        ensures { 0 < limit → result < limit }
+    {
         self.state ^= self.state << 13;
         self.state ^= self.state >> 7;
         self.state ^= self.state << 17;

@@ -14,12 +14,18 @@ pub struct Journals {
 }
 
 /// The journals on an end's disks; none where one is no journal.
-pub fn opened(alloc: Global, disks: Disks) -> Option<Journals> {
+fn opened(alloc: Global, disks: Disks) -> Option<Journals> {
     let Disks { outbox, inbox } = disks;
     Some(Journals {
         outbox: journal(alloc, outbox)?,
         inbox: journal(alloc, inbox)?,
     })
+}
+
+/// The journals on the disks of two ends; none where one is no journal.
+pub fn both_opened(alloc: Global, disks: (Disks, Disks)) -> Option<(Journals, Journals)> {
+    let (first, second) = disks;
+    Some((opened(alloc, first)?, opened(alloc, second)?))
 }
 
 /// The payload of the entry at a place of an outbox, from 0 on.
@@ -77,7 +83,12 @@ fn settled(flow: Flow, outbox: &[Record], record: &Record, last: u64) -> Option<
 
 /// What is wrong with an inbox of this flow whose peer's outbox has so many entries, if anything is: each record settles what may
 /// follow, and at last all numbers are settled of a flow that has numbers.
-fn inbox_fault(flow: Flow, outbox: &[Record], inbox: &[Record], count: u64) -> Option<&'static str> {
+fn inbox_fault(
+    flow: Flow,
+    outbox: &[Record],
+    inbox: &[Record],
+    count: u64,
+) -> Option<&'static str> {
     let mut last = 0;
     for record in inbox {
         match settled(flow, outbox, record, last) {

@@ -1,7 +1,7 @@
 //! Sessions that are drawn, and what was wrong with the first of them with which something was.
 
 use crate::chance::Chance;
-use crate::judge::{fault, opened};
+use crate::judge::{both_opened, fault};
 use crate::session::{Plan, Session};
 use fixp_end::Flow;
 use std::alloc::{AllocError, Global};
@@ -20,9 +20,7 @@ fn plan(chance: &mut Chance, flows: [Flow; 2], width: usize, rounds: u64) -> Pla
 
 /// What is wrong with the journals that a session leaves, if anything is.
 fn journals_fault(alloc: Global, plan: Plan, session: Session) -> Option<&'static str> {
-    let [initiator, acceptor] = session.close();
-    let (Some(initiator), Some(acceptor)) = (opened(alloc, initiator), opened(alloc, acceptor))
-    else {
+    let Some((initiator, acceptor)) = both_opened(alloc, session.close()) else {
         return Some("a journal that does not open");
     };
     let [client, server] = plan.flows;

@@ -268,13 +268,13 @@ impl Session {
     }
 
     /// The journals of the initiator and of the acceptor.
-    pub fn close(self) -> [Disks; 2] {
+    pub fn close(self) -> (Disks, Disks) {
         let Session {
             plan: _,
             chance: _,
             initiator,
             acceptor,
         } = self;
-        [initiator.close(), acceptor.close()]
+        (initiator.close(), acceptor.close())
     }
 }

@@ -1,6 +1,8 @@
 //! Hostile tapes: the bytes that an honest peer sends in a whole connection, with one byte changed. The file of tapes tells of each
 //! byte what has to come of it, and the tapes are made and judged here.
 
+ghost use Rattle.std.specs.Prelude.{◌≡◌};
+
 use case_words::{bytes, halves};
 use driven_ends::{Disks, DrivenEnd, Setup, Standing, fresh_disks, journal};
 use fixp_end::{Ending, Flow, Role, Violation};
@@ -91,7 +93,11 @@ impl Tape {
     /// Adds the frame that the words of a line tell, each some bytes in hexadecimal and what comes of them.
     fn add_frame(&mut self, alloc: Global, words: &str) -> Result<(), AllocError> {
         let start = self.bytes.len();
-        let behind = self.places.as_slice().iter().any(|place| place.verdict == Verdict::Payload);
+        let behind = self
+            .places
+            .as_slice()
+            .iter()
+            .any(|place| place.verdict == Verdict::Payload);
         for word in words.split_whitespace() {
             let (digits, said) = word.split_once(":").unwrap_or((word, ""));
             let part = bytes(alloc, digits)?;
@@ -204,7 +210,8 @@ fn holds_so(verdict: Verdict, place: Place, frame: &[u8], applied: &[Bytes]) -> 
     match (verdict, applied) {
         (Verdict::Any | Verdict::Unfinished | Verdict::Length | Verdict::Template, _) => true,
         (Verdict::Payload, [payload]) => match frame.split_at_checked(4) {
-            Some((_, sent)) => sent.split_at_checked(10).map(|parts| parts.0) == Some(payload.as_slice()),
+            Some((_, sent)) => sent.split_at_checked(10).map(|parts| parts.0)
+                == Some(payload.as_slice()),
             None => false,
         },
         (Verdict::Same, [payload]) => payload.as_slice() == &MESSAGE[..],
@@ -219,7 +226,9 @@ fn holds_so(verdict: Verdict, place: Place, frame: &[u8], applied: &[Bytes]) -> 
 }
 
 /// What an end is made with that hears a tape.
-fn setup(role: Role) -> Setup {
+fn setup(role: Role) -> Setup
+    ensures senders { result.senders ≡ 1 }
+{
     Setup {
         role,
         session: [0x11; 16],
@@ -337,7 +346,9 @@ pub fn heard_all<R: Wait>(alloc: Global, mut tape: Tape, rt: &R) -> Result<Strin
         }
     }
     match first {
-        Some(at) => format!(in alloc; "{count} tapes, {wrong} wrong, the first changed at byte {at}"),
+        Some(at) => format!(in alloc;
+            "{count} tapes, {wrong} wrong, the first changed at byte {at}"
+        ),
         None => format!(in alloc; "{count} tapes, 0 wrong"),
     }
 }
