@@ -33,8 +33,8 @@ fn print_sessions<R: Print + AllocGlobal + Wait>(
     server: Flow,
 ) -> io::Result<()> {
     let alloc = rt.alloc();
-    let drawn = sessions(alloc, [client, server], 0, 60, 4, rt)?;
-    let single = sessions(alloc, [client, server], 1, 600, 1, rt)?;
+    let drawn = sessions(alloc, [client, server], 0, 60, 40, rt)?;
+    let single = sessions(alloc, [client, server], 1, 600, 4, rt)?;
     println!(rt; "{client:?} and {server:?}: {drawn}, and of a byte at a time {single}")
 }
 

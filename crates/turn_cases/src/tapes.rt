@@ -19,7 +19,7 @@ const DISK: usize = 1024;
 /// More turns than a connection over a tape takes.
 const TURNS: u64 = 40;
 
-/// What bytes are changed by, one after another.
+/// What each byte is changed by, once each.
 const CHANGES: [u8; 3] = [0x01, 0x10, 0x80];
 
 /// The message that the peer sends, and which this end has in its outbox too.
@@ -328,7 +328,18 @@ fn is_wrong<R: Wait>(
     wrong
 }
 
-/// How many tapes were heard, one with each byte changed, and of how many another thing came than has to; the first of those.
+/// Of how many changes of a byte anything else comes than has to.
+fn count_wrong<R: Wait>(alloc: Global, tape: &mut Tape, begun: &Disks, at: usize, rt: &R) -> u64 {
+    let mut wrong = 0u64;
+    for change in CHANGES {
+        if is_wrong(alloc, tape, begun, at, change, rt) {
+            wrong = wrong.saturating_add(1);
+        }
+    }
+    wrong
+}
+
+/// How many bytes were changed, each in three ways, and of how many tapes another thing came than has to; the first of those.
 ///
 /// # Errors
 /// Want of memory for the words.
@@ -340,15 +351,16 @@ pub fn heard_all<R: Wait>(alloc: Global, mut tape: Tape, rt: &R) -> Result<Strin
     let mut wrong = 0u64;
     let mut first = None;
     for at in 0..count {
-        if is_wrong(alloc, &mut tape, &begun, at, CHANGES[at % 3], rt) {
-            wrong = wrong.saturating_add(1);
+        let here = count_wrong(alloc, &mut tape, &begun, at, rt);
+        if here > 0 {
+            wrong = wrong.saturating_add(here);
             first = first.or(Some(at));
         }
     }
     match first {
         Some(at) => format!(in alloc;
-            "{count} tapes, {wrong} wrong, the first changed at byte {at}"
+            "{count} bytes changed in three ways, {wrong} wrong, the first at byte {at}"
         ),
-        None => format!(in alloc; "{count} tapes, 0 wrong"),
+        None => format!(in alloc; "{count} bytes changed in three ways, 0 wrong"),
     }
 }
