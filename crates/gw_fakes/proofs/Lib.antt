@@ -1,3 +1,4 @@
+mod Pending
 mod Settling
 mod Sound
 mod Tearing

@@ -1,11 +1,10 @@
 -- What a sync copies: outside of the pending places, what is read is what was synced.
-use Rattle.std.proofs.Common.{◌≡◌, ℕ, zero, suc, Bool, true, false, ◌+◌, ◌≤◌, min, List, [], ◌∷◌, ◌++◌, length, get_or, set, take, drop, refl, sym, ap, ◌∙◌, subst, arith, append_assoc, length-append, length-take, length-drop, take-append-drop, inl, inr}
-use Rattle.std.proofs.lemmas.Bool.{and_parts, and_from, cases_lt, not-true, leb-true, le-leb, false≢true, eqb-true, eq-eqb}
-use Rattle.std.proofs.lemmas.List.{drop_all, take-take, drop-drop, take-replicate, take_more, drop_more, set_at, length-replicate}
-use Rattle.std.specs.Prelude.{◌==◌, ◌||◌, ◌-◌, ◌<◌, not, IsTrue, replicate, if◌then◌else◌}
+use Rattle.std.proofs.Common.{◌≡◌, ℕ, zero, suc, Bool, true, false, ◌+◌, ◌≤◌, min, List, [], ◌∷◌, ◌++◌, length, get_or, set, take, drop, refl, sym, ap, ◌∙◌, subst, arith, append_assoc, length-take, length-drop, take-append-drop}
+use Rattle.std.proofs.lemmas.Bool.{and_parts, and_from, leb-true, le-leb, false≢true, eqb-true, eq-eqb}
+use Rattle.std.proofs.lemmas.List.{take-take, drop-drop, take_more, drop_more, set_at}
+use Rattle.std.specs.Prelude.{◌==◌, ◌||◌, ◌-◌, ◌<◌, not, IsTrue, if◌then◌else◌}
 use Rattle.gw_fakes.specs.Disks.{is_left, is_still, none_pending, spoiled}
 use Rattle.gw_outside.specs.Disk.{written}
-use Rattle.gw_fakes.proofs.Tearing.{mark}
 
 as_synced : (p : Bool) (s b : ℕ) → not p ≡ true → (p || (b == s)) ≡ true → b ≡ s
 as_synced false s b still same = eqb-true b s same
@@ -46,13 +45,6 @@ same_above (s ∷ ss) (p ∷ ps) (b ∷ bs) (suc high) left still =
     let e : min (suc high) (suc (length ss)) ≡ suc (min high (length ss)) = omega arith in
     rw e (same_above ss ps bs high parts.1 still)
 
--- a part without a pending write
-pub still_is : (pending : List Bool) → IsTrue (is_still pending) → pending ≡ none_pending (length pending)
-still_is [] still = refl
-still_is (p ∷ ps) still =
-    let calm = and_parts (not p) (is_still ps) still in
-    λ i. not-true p calm.0 i ∷ still_is ps calm.1 i
-
 pub none_still : (n : ℕ) → IsTrue (is_still (none_pending n))
 none_still zero = refl
 none_still (suc n) = none_still n
@@ -61,29 +53,6 @@ pub still_take : (n : ℕ) (pending : List Bool) → IsTrue (is_still pending) �
 still_take zero pending still = refl
 still_take (suc n) [] still = refl
 still_take (suc n) (p ∷ ps) still = let calm = and_parts (not p) (is_still ps) still in and_from _ _ calm.0 (still_take n ps calm.1)
-
-pub still_drop : (n : ℕ) (pending : List Bool) → IsTrue (is_still pending) → IsTrue (is_still (drop n pending))
-still_drop zero pending still = still
-still_drop (suc n) [] still = refl
-still_drop (suc n) (p ∷ ps) still = still_drop n ps (and_parts (not p) (is_still ps) still).1
-
--- a write leaves the places before it and behind it as they were
-pub mark_below : (at n low : ℕ) (pending : List Bool) → IsTrue (is_still (take low pending)) → low ≤ at → IsTrue (is_still (take low (mark at n pending)))
-mark_below at n zero pending still le = refl
-mark_below zero n (suc low) pending still le = absurd (omega arith)
-mark_below (suc at) n (suc low) [] still le = refl
-mark_below (suc at) n (suc low) (p ∷ ps) still le =
-    let calm = and_parts (not p) (is_still (take low ps)) still in
-    and_from _ _ calm.0 (mark_below at n low ps calm.1 (omega arith))
-
-pub mark_above : (at n high : ℕ) (pending : List Bool) → IsTrue (is_still (drop high pending)) → at + n ≤ high → at ≤ length pending → IsTrue (is_still (drop high (mark at n pending)))
-mark_above zero zero high pending still le within = still
-mark_above zero (suc n) zero pending still le within = absurd (omega arith)
-mark_above zero (suc n) (suc high) [] still le within = mark_above zero n high [] (still_drop high [] refl) (omega arith) (omega arith)
-mark_above zero (suc n) (suc high) (p ∷ ps) still le within = mark_above zero n high ps still (omega arith) (omega arith)
-mark_above (suc at) n zero pending still le within = absurd (omega arith)
-mark_above (suc at) n (suc high) [] still le within = absurd (omega arith)
-mark_above (suc at) n (suc high) (p ∷ ps) still le within = mark_above at n high ps still (omega arith) (omega arith)
 
 -- what is left of a disk with nothing pending is its content
 pub only_synced : (synced image : List ℕ) → IsTrue (is_left synced (none_pending (length synced)) image) → image ≡ synced
@@ -123,32 +92,6 @@ settled content synced low high grown below above start end end_is start_is =
     ∙ ap (λ l. take start synced ++ l) middle
     ∙ ap (λ l. l ++ drop start content) front
     ∙ take-append-drop start content
-
-still_append : (xs ys : List Bool) → IsTrue (is_still xs) → IsTrue (is_still ys) → IsTrue (is_still (xs ++ ys))
-still_append [] ys still rest = rest
-still_append (p ∷ ps) ys still rest = let calm = and_parts (not p) (is_still ps) still in and_from _ _ calm.0 (still_append ps ys calm.1 rest)
-
--- the marks with none in what was pending, cut to a length
-pub calmed : (pending : List Bool) (len low high : ℕ) → len ≤ length pending → IsTrue (is_still (take low pending)) → IsTrue (is_still (drop high pending))
-    → (start end : ℕ) → end ≡ min high (length pending) → start ≡ min low end
-    → take len (written start (replicate (end - start) false) pending) ≡ none_pending len
-calmed pending len low high within below above start end end_is start_is =
-    let gap = replicate (end - start) false in
-    let reach : start + length gap ≡ end = omega (arith, length-replicate (end - start) false, start_is) in
-    let front : IsTrue (is_still (take start pending)) = subst (λ l. IsTrue (is_still l)) (take-take start low pending (omega (arith, start_is))) (still_take start (take low pending) below) in
-    let back : IsTrue (is_still (drop end pending)) = still_behind pending high end above end_is in
-    let whole = take start pending ++ gap ++ drop end pending in
-    let still : IsTrue (is_still whole) = still_append (take start pending ++ gap) (drop end pending) (still_append (take start pending) gap front (none_still (end - start))) back in
-    let count : length whole ≡ length pending = omega (arith, length-append (take start pending ++ gap) (drop end pending), length-append (take start pending) gap, length-replicate (end - start) false, length-take start pending, length-drop end pending, end_is, start_is) in
-    ap (λ n. take len (take start pending ++ gap ++ drop n pending)) reach
-    ∙ ap (take len) (still_is whole still)
-    ∙ take-replicate len (length whole) false (omega (arith, count, within))
-  where
-    still_behind : (pending : List Bool) (high end : ℕ) → IsTrue (is_still (drop high pending)) → end ≡ min high (length pending) → IsTrue (is_still (drop end pending))
-    still_behind pending high end above end_is = elim (cases_lt (length pending) high) [
-      | inl past ↦ subst (λ l. IsTrue (is_still l)) (sym (drop_all end pending (omega (arith, end_is)))) refl
-      | inr within ↦ let e : end ≡ high = omega (arith, end_is) in subst (λ n. IsTrue (is_still (drop n pending))) (sym e) above
-    ]
 
 -- noise, place by place
 pub spoiled_at : (bytes : List ℕ) (pending : List Bool) (place : ℕ) (is_pending : Bool) → length bytes ≤ length pending → place < length bytes → is_pending ≡ get_or pending place is_pending

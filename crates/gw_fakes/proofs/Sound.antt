@@ -1,17 +1,18 @@
 -- What each change of a disk in memory keeps.
-use Rattle.std.proofs.Common.{◌≡◌, ℕ, suc, Bool, true, false, ◌+◌, ◌-◌, ◌≤◌, ◌^◌, min, max, List, [], ◌∷◌, ◌++◌, length, take, drop, refl, sym, ap, ◌∙◌, subst, arith, append_assoc, length-append, length-take, length-drop}
+use Rattle.std.proofs.Common.{◌≡◌, ℕ, suc, Bool, true, false, ◌+◌, ◌-◌, ◌≤◌, ◌^◌, min, List, [], ◌∷◌, ◌++◌, length, take, drop, refl, sym, ap, ◌∙◌, subst, arith, append_assoc, length-append, length-take, length-drop}
 use Rattle.std.proofs.lemmas.Bool.{and_parts, and_from, or_from, le-leb, le-ltb, false≢true, eq-eqb}
-use Rattle.std.proofs.lemmas.List.{take_at, drop_at, take-take, drop-drop, length-replicate}
+use Rattle.std.proofs.lemmas.List.{take_at, drop_at, length-replicate}
 use Rattle.std.specs.Prelude.{◌==◌, ◌||◌, nat_lt, Some, IsTrue, if◌then◌else◌}
 use Rattle.gw_outside.specs.Disk.{Follows, Torn, written}
-use Rattle.gw_fakes.specs.Disks.{DiskState, IsSound, after_write, counted, failed, is_blown, placed, is_left, is_still, marked, none_pending, image_of}
+use Rattle.gw_fakes.specs.Disks.{DiskState, IsSound, after_write, counted, failed, is_blown, placed, is_left, marked, none_pending, pending_from, image_of}
 use Rattle.gw_fakes.specs.DiskLaws.{left-within}
 use Rattle.gw_fakes.specs.InMemory.{fails_next}
 use Rattle.gw_fakes.specs.declared.meter.Meter.{Meter}
 use Rattle.gw_fakes.specs.declared.disk.Pick.{Pick}
 use Rattle.gw_fakes.specs.declared.disk.Pick.TheVariants.{Old, Kept, Noise}
 use Rattle.gw_fakes.proofs.Tearing.{mark, marked_is, length-mark, torn_left, stepped}
-use Rattle.gw_fakes.proofs.Settling.{mark_below, mark_above, none_still, still_take, still_drop, synced_left, same_below_both, same_above, only_synced}
+use Rattle.gw_fakes.proofs.Pending.{nothing_from, still_before, still_past}
+use Rattle.gw_fakes.proofs.Settling.{synced_left, same_below_both, same_above, only_synced}
 
 pub torn_written : (at : ℕ) (bytes content : List ℕ) → at ≤ length content → Torn at (length bytes) content (written at bytes content)
 torn_written at bytes content le =
@@ -26,28 +27,21 @@ torn_written at bytes content le =
       no_longer = omega (arith, count, length-drop (at + length bytes) content);
     }
 
-still_shorter : (pending : List Bool) (n m : ℕ) → IsTrue (is_still (take n pending)) → m ≤ n → IsTrue (is_still (take m pending))
-still_shorter pending n m still le = subst (λ l. IsTrue (is_still l)) (take-take m n pending le) (still_take m (take n pending) still)
-
-still_later : (pending : List Bool) (n m : ℕ) → IsTrue (is_still (drop n pending)) → n ≤ m → IsTrue (is_still (drop m pending))
-still_later pending n m still le =
-    let e : n + (m - n) ≡ m = omega arith in
-    subst (λ l. IsTrue (is_still l)) (drop-drop (m - n) n pending ∙ ap (λ k. drop k pending) e) (still_drop (m - n) (drop n pending) still)
-
 -- a disk after a write, whatever stands of it
-pub sound_marked : (content synced : List ℕ) (pending : List Bool) (low high room at n low' high' : ℕ) (after : List ℕ) (marks : List Bool) → IsSound content synced pending low high room
-    → at ≤ length content → at + n ≤ room → marks ≡ marked at n pending → low' ≡ min low at → high' ≡ max high (at + n) → Torn at n content after → IsSound after synced marks low' high' room
-sound_marked content synced pending low high room at n low' high' after marks sound le fits is low_is high_is torn =
+pub sound_marked : (content synced : List ℕ) (pending : List Bool) (low high room at n low' : ℕ) (part : List Bool) (after : List ℕ) → IsSound content synced pending low high room
+    → at ≤ length content → at + n ≤ room → pending_from low' part (length synced) ≡ marked at n pending → Torn at n content after
+    → IsSound after synced (pending_from low' part (length synced)) low' (low' + length part) room
+sound_marked content synced pending low high room at n low' part after sound le fits is torn =
     let within = left-within synced pending content sound.left in
     let covers : at ≤ length pending = omega (arith, le, within) in
-    let same : marks ≡ mark at n pending = is ∙ marked_is at n pending covers in
+    let same : pending_from low' part (length synced) ≡ mark at n pending = is ∙ marked_is at n pending covers in
     record {
       left = subst (λ l. IsTrue (is_left synced l after)) (sym same) (torn_left synced pending content after at n covers sound.left torn);
       grown = omega (arith, sound.grown, torn.no_shorter);
       within = omega (arith, ap length same, length-mark at n pending covers, sound.within, fits);
       limited = sound.limited;
-      below = subst (λ l. IsTrue (is_still (take low' l))) (sym same) (mark_below at n low' pending (still_shorter pending low low' sound.below (omega (arith, low_is))) (omega (arith, low_is)));
-      above = subst (λ l. IsTrue (is_still (drop high' l))) (sym same) (mark_above at n high' pending (still_later pending high high' sound.above (omega (arith, high_is))) (omega (arith, high_is)) covers);
+      below = still_before low' part (length synced);
+      above = still_past low' part (length synced);
     }
 
 -- what a stop may leave behind the marks of a write follows from what it might have left before
@@ -60,16 +54,18 @@ follows_marked content synced pending low high room at n marks sound le is image
     (back.content, back.left, back.torn)
 
 -- a disk with nothing pending
-pub sound_still : (content marks : _) (synced : List ℕ) (low room : ℕ) → synced ≡ content → marks ≡ none_pending (length content) → length content ≤ room → room ≤ 2 ^ 40 → IsSound content synced marks low 0 room
-sound_still content marks synced low room same is within limited =
-    let count : length (none_pending (length content)) ≡ length content = length-replicate (length content) false in
+pub sound_still : (content synced : List ℕ) (part : List Bool) (room : ℕ) → synced ≡ content → length part ≡ 0 → length content ≤ room → room ≤ 2 ^ 40
+    → IsSound content synced (pending_from 0 part (length synced)) 0 (0 + length part) room
+sound_still content synced part room same is within limited =
+    let none : pending_from 0 part (length synced) ≡ none_pending (length synced) = nothing_from 0 (length synced) part is (omega arith) in
+    let count : length (none_pending (length synced)) ≡ length synced = length-replicate (length synced) false in
     record {
-      left = subst (λ l. IsTrue (is_left l marks content)) (sym same) (subst (λ l. IsTrue (is_left content l content)) (sym is) (synced_left content (none_pending (length content)) (omega (arith, count))));
+      left = subst (λ l. IsTrue (is_left synced (pending_from 0 part (length synced)) l)) same (subst (λ l. IsTrue (is_left synced l synced)) (sym none) (synced_left synced (none_pending (length synced)) (omega (arith, count))));
       grown = omega (arith, ap length same);
-      within = omega (arith, ap length is, count, within);
+      within = omega (arith, ap length none, count, ap length same, within);
       limited = limited;
-      below = subst (λ l. IsTrue (is_still (take low l))) (sym is) (still_take low (none_pending (length content)) (none_still (length content)));
-      above = subst (λ l. IsTrue (is_still l)) (sym is) (none_still (length content));
+      below = still_before 0 part (length synced);
+      above = still_past 0 part (length synced);
     }
 
 pub left-grown : (synced : List ℕ) (pending : List Bool) (image : List ℕ) → IsTrue (is_left synced pending image) → length synced ≤ length image
@@ -135,9 +131,10 @@ pub roomy : (content synced : List ℕ) (pending : List Bool) (low high room : �
 roomy content synced pending low high room sound = omega (arith, covered content synced pending low high room sound, sound.within)
 
 -- what a stop may leave of a disk with nothing pending is its content
-pub still_left : (content synced : List ℕ) (marks : List Bool) (image : List ℕ) → synced ≡ content → marks ≡ none_pending (length content) → IsTrue (is_left synced marks image) → Some content ≡ Some image
-still_left content synced marks image same is left =
-    sym (ap Some (only_synced content image (subst (λ l. IsTrue (is_left content l image)) is (subst (λ l. IsTrue (is_left l marks image)) same left))))
+pub still_left : (content synced : List ℕ) (part : List Bool) (image : List ℕ) → synced ≡ content → length part ≡ 0 → IsTrue (is_left synced (pending_from 0 part (length synced)) image) → Some content ≡ Some image
+still_left content synced part image same is left =
+    let none : pending_from 0 part (length synced) ≡ none_pending (length synced) = nothing_from 0 (length synced) part is (omega arith) in
+    ap Some (sym same ∙ sym (only_synced synced image (subst (λ l. IsTrue (is_left synced l image)) none left)))
 
 -- a write that passes
 pub write_stands : (d : DiskState) (meter : Meter) (at : ℕ) (bytes : List ℕ) (after : DiskState) (stands : Bool) → meter ≡ counted d.meter → after ≡ placed (record d { meter = meter }) at bytes stands → stands ≡ true

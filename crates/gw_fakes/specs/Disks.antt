@@ -35,6 +35,10 @@ marked at n pending = written at (replicate n true) pending
 abbrev pub none_pending : ℕ → List Bool
 none_pending n = replicate n false
 
+-- the places of a disk of n bytes where a write is pending: those of a part that begins at a place, and none before it and behind it
+abbrev pub pending_from : ℕ → List Bool → ℕ → List Bool
+pending_from low part n = none_pending low ++ (part ++ none_pending (n - (low + length part)))
+
 -- no call passes any more
 abbrev pub is_blown : Option ℕ → Bool
 is_blown None = false

@@ -4,7 +4,7 @@ ghost use Rattle.std.specs.Prelude.{◌≡◌, ℕ, [], ◌+◌, ◌-◌, ◌^�
 ghost use Rattle.std.specs.Option.{option_map};
 ghost use Rattle.gw_outside.specs.Disk.{Follows, IsAllLeft, LeavesSame, ReadsAt, Torn, written};
 ghost use Rattle.gw_outside.specs.Faults.{HasCause};
-ghost use Rattle.gw_fakes.specs.Disks.{IsSound, image_of, is_left, is_still, marked, none_pending, spoiled};
+ghost use Rattle.gw_fakes.specs.Disks.{IsSound, image_of, is_left, is_still, marked, none_pending, pending_from, spoiled};
 
 use crate::calls::Calls;
 use crate::meter::Meter;
@@ -33,12 +33,13 @@ pub enum Pick {
 pub struct MemDisk {
     content: Vec<u8>,
     synced: Vec<u8>,
+    /// Of the places from `low` on, as far as writes since the last sync reach, whether one of them reached it.
     pending: Vec<bool>,
     low: usize,
-    high: usize,
     room: usize,
     meter: Meter,
-    ghost sound: { IsSound content.items synced.items pending.items low high room },
+    ghost sound: { IsSound content.items synced.items (pending_from low pending.items (length synced.items)) low (low + length pending.items) room },
+    ghost begun: { low ≤ length synced.items },
     ghost content_room: { room ≤ vec_capacity content },
     ghost synced_room: { room ≤ vec_capacity synced },
     ghost pending_room: { room ≤ vec_capacity pending },
@@ -59,19 +60,68 @@ fn put(content: &mut Vec<u8>, at: usize, bytes: &[u8])
     content[at..end].copy_from_slice(bytes);
 }
 
-// Says of `count` places from `at` on whether a write is pending.
-fn mark(pending: &mut Vec<bool>, at: usize, count: usize, is_pending: bool)
+// Puts so many places without a pending write in front of the others.
+fn open_front(pending: &mut Vec<bool>, count: usize)
+    requires room { count + length pending.old.items ≤ vec_capacity pending.old }
+    ensures items { pending.new.items ≡ replicate count false ++ pending.old.items }
+    ensures room { vec_capacity pending.old ≤ vec_capacity pending.new }
+{
+    if pending.resize(pending.len() + count, false).is_err() {
+        unreachable!()
+    }
+    pending.rotate_right(count);
+}
+
+// Has what is said of pending writes begin at the place, where it begins behind it or is nothing, and answers where it begins.
+fn reach(pending: &mut Vec<bool>, low: usize, at: usize) -> usize
+    requires room { low + length pending.old.items ≤ vec_capacity pending.old }
+    ensures before { result ≤ at }
+    ensures same { (len : ℕ) → low ≤ len → at ≤ length (pending_from low pending.old.items len) → pending_from result pending.new.items len ≡ pending_from low pending.old.items len }
+    ensures within { (len : ℕ) → low ≤ len → at ≤ length (pending_from low pending.old.items len) → result ≤ len }
+    ensures end { result + length pending.new.items ≤ max at (low + length pending.old.items) }
+    ensures room { vec_capacity pending.old ≤ vec_capacity pending.new }
+{
+    if pending.is_empty() {
+        return at;
+    }
+    if low <= at {
+        return low;
+    }
+    open_front(pending, low - at);
+    at
+}
+
+// Says of `count` places from the one at `at` on that a write is pending.
+fn set(pending: &mut Vec<bool>, at: usize, count: usize)
     requires place { at ≤ length pending.old.items }
     requires room { at + count ≤ vec_capacity pending.old }
-    ensures items { pending.new.items ≡ written at (replicate count is_pending) pending.old.items }
+    ensures items { pending.new.items ≡ marked at count pending.old.items }
     ensures room { vec_capacity pending.old ≤ vec_capacity pending.new }
 {
     let end = at + count;
     let len = pending.len().max(end);
-    if pending.resize(len, is_pending).is_err() {
+    if pending.resize(len, true).is_err() {
         unreachable!()
     }
-    pending[at..end].fill(is_pending);
+    pending[at..end].fill(true);
+}
+
+// Says of `count` places of the disk from `at` on that a write is pending, and answers where what is said begins.
+fn mark(pending: &mut Vec<bool>, low: usize, at: usize, count: usize) -> usize
+    requires room { low + length pending.old.items ≤ vec_capacity pending.old }
+    requires end { at + count ≤ vec_capacity pending.old }
+    ensures items { (len : ℕ) → low ≤ len → at ≤ length (pending_from low pending.old.items len) → pending_from result pending.new.items len ≡ marked at count (pending_from low pending.old.items len) }
+    ensures within { (len : ℕ) → low ≤ len → at ≤ length (pending_from low pending.old.items len) → result ≤ len }
+    ensures room { vec_capacity pending.old ≤ vec_capacity pending.new }
+{
+    let low = reach(pending, low, at);
+    let start = at - low;
+    let len = pending.len().max(start);
+    if pending.resize(len, false).is_err() {
+        unreachable!()
+    }
+    set(pending, start, count);
+    low
 }
 
 // Puts other bytes in the place of all.
@@ -106,6 +156,21 @@ fn fill_up(content: &mut Vec<u8>, len: usize)
     ensures room { vec_capacity content.old ≤ vec_capacity content.new }
 {
     if content.resize(len, NOISE).is_err() {
+        unreachable!()
+    }
+}
+
+// Says of all places of a disk whether a write is pending, where `len` bytes of it were synced and `pending` begins at `low`.
+fn spread(pending: &mut Vec<bool>, low: usize, len: usize)
+    requires room { low + length pending.old.items ≤ vec_capacity pending.old }
+    requires synced { len ≤ vec_capacity pending.old }
+    requires within { low ≤ len }
+    ensures items { pending.new.items ≡ pending_from low pending.old.items len }
+    ensures room { vec_capacity pending.old ≤ vec_capacity pending.new }
+{
+    open_front(pending, low);
+    let len = pending.len().max(len);
+    if pending.resize(len, false).is_err() {
         unreachable!()
     }
 }
@@ -148,21 +213,6 @@ fn settle(content: &[u8], synced: &mut Vec<u8>, low: usize, high: usize)
     }
 }
 
-// Says of `len` places that no write is pending.
-fn calm(pending: &mut Vec<bool>, len: usize, low: usize, high: usize)
-    requires within { len ≤ length pending.old.items }
-    requires room { length pending.old.items ≤ vec_capacity pending.old }
-    requires below { IsTrue (is_still (take low pending.old.items)) }
-    requires above { IsTrue (is_still (drop high pending.old.items)) }
-    ensures items { pending.new.items ≡ none_pending len }
-    ensures room { vec_capacity pending.old ≤ vec_capacity pending.new }
-{
-    let end = high.min(pending.len());
-    let start = low.min(end);
-    mark(pending, start, end - start, false);
-    pending.truncate(len);
-}
-
 impl MemDisk {
     ghost use Rattle.gw_fakes.specs.Disks.{empty_disk, fused, placed, stopped};
     ghost use Rattle.gw_fakes.specs.MemDisks.{state_of};
@@ -179,8 +229,7 @@ impl MemDisk {
             content: Vec::with_capacity(alloc, room)?,
             synced: Vec::with_capacity(alloc, room)?,
             pending: Vec::with_capacity(alloc, room)?,
-            low: usize::MAX,
-            high: 0,
+            low: 0,
             room,
             meter: Meter::new(fail),
         })
@@ -221,20 +270,20 @@ impl MemDisk {
             mut synced,
             mut pending,
             low,
-            high,
             room,
             mut meter,
         } = self;
+        let high = low + pending.len();
+        spread(&mut pending, low, synced.len());
         leave(&mut content, &synced, &pending, pick);
         settle(&content, &mut synced, low, high);
-        calm(&mut pending, content.len(), low, high);
+        pending.clear();
         meter.fuse = None;
         MemDisk {
             content,
             synced,
             pending,
-            low: usize::MAX,
-            high: 0,
+            low: 0,
             room,
             meter,
         }
@@ -245,11 +294,9 @@ impl MemDisk {
         requires place { at ≤ length self.old.content.items }
         requires room { at + length bytes.now ≤ self.old.room }
         ensures after { state_of self.new ≡ placed (state_of self.old) at bytes.now stands }
-        ensures torn { Follows (Torn at (length bytes.now)) (λ image. IsTrue (is_left self.old.synced.items self.old.pending.items image)) (λ image. IsTrue (is_left self.new.synced.items self.new.pending.items image)) }
+        ensures torn { Follows (Torn at (length bytes.now)) (λ image. IsTrue (is_left self.old.synced.items (state_of self.old).pending image)) (λ image. IsTrue (is_left self.new.synced.items (state_of self.new).pending image)) }
     {
-        mark(&mut self.pending, at, bytes.len(), true);
-        self.low = self.low.min(at);
-        self.high = self.high.max(at + bytes.len());
+        self.low = mark(&mut self.pending, self.low, at, bytes.len());
         if stands {
             put(&mut self.content, at, bytes);
         }
@@ -263,7 +310,7 @@ impl Disk for MemDisk {
 
     ghost told = { λ d. Some d.content.items };
 
-    ghost may_leave = { λ d image. IsTrue (is_left d.synced.items d.pending.items image) };
+    ghost may_leave = { λ d image. IsTrue (is_left d.synced.items (state_of d).pending image) };
 
     ghost faults = { λ d. d.meter.faults };
 
@@ -277,7 +324,7 @@ impl Disk for MemDisk {
         ensures within { IfOk result (λ n. n ≤ 2 ^ 40) }
         ensures value { IfOk result (λ n. IfSome (Some self.old.content.items) (λ content. n ≡ length content)) }
         ensures content { Some self.new.content.items ≡ Some self.old.content.items }
-        ensures images { LeavesSame (λ image. IsTrue (is_left self.old.synced.items self.old.pending.items image)) (λ image. IsTrue (is_left self.new.synced.items self.new.pending.items image)) }
+        ensures images { LeavesSame (λ image. IsTrue (is_left self.old.synced.items (state_of self.old).pending image)) (λ image. IsTrue (is_left self.new.synced.items (state_of self.new).pending image)) }
         ensures cause { HasCause self.old.meter.faults self.new.meter.faults result }
 
         // Exactly the calls past the fuse and those that are to fail do.
@@ -292,7 +339,7 @@ impl Disk for MemDisk {
         ensures count { IfOk result (λ n. n ≤ length into.new) }
         ensures bytes { IfOk result (λ n. IfSome (Some self.old.content.items) (λ content. ReadsAt content at into.new n)) }
         ensures content { Some self.new.content.items ≡ Some self.old.content.items }
-        ensures images { LeavesSame (λ image. IsTrue (is_left self.old.synced.items self.old.pending.items image)) (λ image. IsTrue (is_left self.new.synced.items self.new.pending.items image)) }
+        ensures images { LeavesSame (λ image. IsTrue (is_left self.old.synced.items (state_of self.old).pending image)) (λ image. IsTrue (is_left self.new.synced.items (state_of self.new).pending image)) }
         ensures cause { HasCause self.old.meter.faults self.new.meter.faults result }
         ensures fails { is_ok result ≡ not (refuses_call self.old.meter) }
         ensures after { state_of self.new ≡ record (state_of self.old) { meter = met self.old.meter } }
@@ -310,10 +357,10 @@ impl Disk for MemDisk {
         requires { at ≤ length self.old.content.items }
         ensures content { OnOk result (Some self.new.content.items ≡ option_map (written at bytes.now) (Some self.old.content.items)) }
         ensures tells { is_some (Some self.new.content.items) ≡ is_some (Some self.old.content.items) }
-        ensures images { Follows (Torn at (length bytes.now)) (λ image. IsTrue (is_left self.old.synced.items self.old.pending.items image)) (λ image. IsTrue (is_left self.new.synced.items self.new.pending.items image)) }
+        ensures images { Follows (Torn at (length bytes.now)) (λ image. IsTrue (is_left self.old.synced.items (state_of self.old).pending image)) (λ image. IsTrue (is_left self.new.synced.items (state_of self.new).pending image)) }
         ensures limit { 2 ^ 40 < at + length bytes.now → IsErr result }
         ensures limit_content { 2 ^ 40 < at + length bytes.now → Some self.new.content.items ≡ Some self.old.content.items }
-        ensures limit_images { 2 ^ 40 < at + length bytes.now → LeavesSame (λ image. IsTrue (is_left self.old.synced.items self.old.pending.items image)) (λ image. IsTrue (is_left self.new.synced.items self.new.pending.items image)) }
+        ensures limit_images { 2 ^ 40 < at + length bytes.now → LeavesSame (λ image. IsTrue (is_left self.old.synced.items (state_of self.old).pending image)) (λ image. IsTrue (is_left self.new.synced.items (state_of self.new).pending image)) }
         ensures cause { HasCause self.old.meter.faults self.new.meter.faults result }
 
         // Exactly the calls past the fuse, those past the room and those that are to fail do.
@@ -335,17 +382,21 @@ impl Disk for MemDisk {
 
     fn sync(&mut self) -> Result<(), Failed>
         ensures content { Some self.new.content.items ≡ Some self.old.content.items }
-        ensures settled { OnOk result (IsAllLeft (Some self.old.content.items) (λ image. IsTrue (is_left self.new.synced.items self.new.pending.items image))) }
-        ensures images { OnErr result (LeavesSame (λ image. IsTrue (is_left self.old.synced.items self.old.pending.items image)) (λ image. IsTrue (is_left self.new.synced.items self.new.pending.items image))) }
+        ensures settled { OnOk result (IsAllLeft (Some self.old.content.items) (λ image. IsTrue (is_left self.new.synced.items (state_of self.new).pending image))) }
+        ensures images { OnErr result (LeavesSame (λ image. IsTrue (is_left self.old.synced.items (state_of self.old).pending image)) (λ image. IsTrue (is_left self.new.synced.items (state_of self.new).pending image))) }
         ensures cause { HasCause self.old.meter.faults self.new.meter.faults result }
         ensures fails { is_ok result ≡ not (refuses_call self.old.meter) }
         ensures after { state_of self.new ≡ after_sync (state_of self.old) }
     {
         self.meter.meet()?;
-        settle(&self.content, &mut self.synced, self.low, self.high);
-        calm(&mut self.pending, self.content.len(), self.low, self.high);
-        self.low = usize::MAX;
-        self.high = 0;
+        settle(
+            &self.content,
+            &mut self.synced,
+            self.low,
+            self.low + self.pending.len(),
+        );
+        self.pending.clear();
+        self.low = 0;
         Ok(())
     }
 }
