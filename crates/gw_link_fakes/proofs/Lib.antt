@@ -1,2 +1,1 @@
 mod Dials
-mod Filling

@@ -1,4 +1,5 @@
 pub mod Dialing
+pub mod Lanes
 pub mod Pipes
 pub mod Tallies
 pub mod Tapes

@@ -6,11 +6,10 @@ ghost use Rattle.gw_links.specs.Links.{IsAnswer, IsWithin, Moved, TookFront, gav
 ghost use Rattle.gw_link_fakes.specs.Pipes.{End, cut_off, new_pipe, received_at, room_behind, sent_at, told_at};
 ghost use Rattle.gw_link_fakes.specs.declared.pipe.Side.TheVariants.{Left, Right};
 
-use crate::lane;
+use crate::lane::Lane;
 use gw_links::{Got, Link};
 use gw_outside::Failed;
 use std::alloc::{AllocError, Global};
-use std::collections::VecDeque;
 use std::marker::Model;
 
 /// An end of a pipe.
@@ -25,22 +24,22 @@ pub enum Side {
 /// Bytes under way between two ends, within a fixed room each way.
 #[derive(Drop)]
 pub struct Pipe {
-    to_left: VecDeque<u8>,
-    to_right: VecDeque<u8>,
+    to_left: Lane,
+    to_right: Lane,
     room: usize,
     is_cut: bool,
 }
 
 impl Model for Pipe {
-    ghost use Rattle.std.specs.Prelude.{◌≤◌, length};
-    ghost use Rattle.std.specs.VecDeque.{deque_capacity};
+    ghost use Rattle.std.specs.Prelude.{◌≤◌, length, vec_capacity};
+    ghost use Rattle.gw_link_fakes.specs.Lanes.{under_way};
     ghost use Rattle.gw_link_fakes.specs.Pipes.{Held};
 
     ghost Value = { Held };
 
-    ghost view = { λ p. record { to_left = p.to_left.items; to_right = p.to_right.items; room = p.room; is_cut = p.is_cut } };
+    ghost view = { λ p. record { to_left = under_way p.to_left; to_right = under_way p.to_right; room = p.room; is_cut = p.is_cut } };
 
-    ghost invariant = { λ p. (length p.to_left.items ≤ p.room) × (length p.to_right.items ≤ p.room) × (p.room ≤ deque_capacity p.to_left) × (p.room ≤ deque_capacity p.to_right) };
+    ghost invariant = { λ p. (length (under_way p.to_left) ≤ p.room) × (length (under_way p.to_right) ≤ p.room) × (p.room ≤ vec_capacity p.to_left.bytes) × (p.room ≤ vec_capacity p.to_right.bytes) };
 }
 
 impl Pipe {
@@ -52,8 +51,8 @@ impl Pipe {
         ensures { IfOk result (λ p. p ≡ new_pipe room) }
     {
         Ok(Pipe {
-            to_left: VecDeque::with_capacity(alloc, room)?,
-            to_right: VecDeque::with_capacity(alloc, room)?,
+            to_left: Lane::new(alloc, room)?,
+            to_right: Lane::new(alloc, room)?,
             room,
             is_cut: false,
         })
@@ -114,8 +113,8 @@ impl Pipe {
         ensures after { self.new ≡ received_at side (length into.old) self.old }
     {
         match side {
-            Side::Left => lane::give(&mut self.to_left, into),
-            Side::Right => lane::give(&mut self.to_right, into),
+            Side::Left => self.to_left.give(into),
+            Side::Right => self.to_right.give(into),
         }
     }
 
@@ -131,8 +130,8 @@ impl Pipe {
         let count = bytes.len().min(self.room_behind(under_way));
         let (front, _) = bytes.split_at(count);
         match side {
-            Side::Left => lane::take(&mut self.to_right, front),
-            Side::Right => lane::take(&mut self.to_left, front),
+            Side::Left => self.to_right.take(front),
+            Side::Right => self.to_left.take(front),
         }
         count
     }
