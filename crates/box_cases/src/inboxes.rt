@@ -3,6 +3,7 @@
 use crate::made::{Made, formatted, inbox_on, message, open_inbox};
 use fixp_msgs::{Flow, is_application};
 use gw_fakes::MemDisk;
+use gw_outside::Bytes;
 use jr_boxes::Inbox;
 use jr_record::{AppendFault, Journal};
 use std::alloc::{AllocError, Global};
@@ -48,13 +49,20 @@ fn add_refusals(
 }
 
 /// The next message, of this template, where its number is within the limit.
-fn applied<J: Journal>(inbox: &mut Inbox<J>, template: u8) -> Option<Result<(), AppendFault>> {
-    let payload = message(template);
+fn applied<J: Journal>(
+    alloc: Global,
+    inbox: &mut Inbox<J>,
+    template: u8,
+) -> Option<Result<(), AppendFault>> {
+    let payload = Bytes::from_slice(alloc, &message(template)).ok()?;
     let number = inbox.next();
-    if number > inbox.limits().entries || !is_application(&payload) {
+    if number > inbox.limits().entries || !is_application(payload.as_slice()) {
         return None;
     }
-    Some(inbox.apply(number, &payload))
+    match inbox.apply(number, payload) {
+        Ok(_payload) => Some(Ok(())),
+        Err(fault) => Some(Err(fault)),
+    }
 }
 
 /// Two numbers that are jumped over, where the flow may jump and the limit is not passed.
@@ -113,18 +121,27 @@ fn tell<J: Journal>(inbox: &mut Inbox<J>, line: &mut String) -> Result<(), Alloc
 }
 
 /// Two messages with a jump between them.
-fn apply_two<J: Journal>(inbox: &mut Inbox<J>, line: &mut String) -> Result<(), AllocError> {
-    let first = applied(inbox, 1);
+fn apply_two<J: Journal>(
+    alloc: Global,
+    inbox: &mut Inbox<J>,
+    line: &mut String,
+) -> Result<(), AllocError> {
+    let first = applied(alloc, inbox, 1);
     let jump = jumped(inbox);
-    let second = applied(inbox, 2);
+    let second = applied(alloc, inbox, 2);
     write!(line, " {first:?} {jump:?} {second:?}")
 }
 
 /// What an inbox tells, and the messages of the first round, or the marks of a later one.
-fn play<J: Journal>(inbox: &mut Inbox<J>, round: u32, line: &mut String) -> Result<(), AllocError> {
+fn play<J: Journal>(
+    alloc: Global,
+    inbox: &mut Inbox<J>,
+    round: u32,
+    line: &mut String,
+) -> Result<(), AllocError> {
     tell(inbox, line)?;
     if round == 0 {
-        return apply_two(inbox, line);
+        return apply_two(alloc, inbox, line);
     }
     let marks = marked(inbox);
     write!(line, " {marks:?}")
@@ -138,7 +155,7 @@ fn play_round(
     line: &mut String,
 ) -> Option<MemDisk> {
     let mut inbox = inbox_on(alloc, disk?, Flow::Idempotent).ok()?;
-    play(&mut inbox, round, line).ok()?;
+    play(alloc, &mut inbox, round, line).ok()?;
     Some(inbox.into_journal().close())
 }
 

@@ -87,7 +87,7 @@ fn append<J: Journal>(alloc: Global, journal: &mut J, made: Made) -> bool {
     let Ok(payload) = Bytes::from_slice(alloc, &payload_of(made)) else {
         return false;
     };
-    journal.append(&record(made, payload)).is_ok()
+    journal.append(record(made, payload)).is_ok()
 }
 
 /// Appends the records; false where a call is refused.

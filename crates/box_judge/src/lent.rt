@@ -50,7 +50,7 @@ impl<'a> Journal for Lent<'a> {
 
     ghost size = { λ j. j.size };
 
-    fn append(&mut self, r: &Record) -> Result<(), AppendFault> {
+    fn append(&mut self, r: Record) -> Result<(), AppendFault> {
         if r.is_control() {
             return Err(AppendFault::Memory);
         }

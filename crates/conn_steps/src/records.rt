@@ -33,7 +33,7 @@ fn encoding_of(order: Order) -> u16
 fn payload_of(alloc: Global, order: Order, message: &[u8]) -> Result<Bytes, AllocError>
     ensures { IfOk result (λ payload. payload ≡ payload_at order message.now) }
 {
-    let mut payload = Vec::with_capacity(alloc, 2)?;
+    let mut payload = Vec::with_capacity(alloc, 2 + message.len())?;
     payload.extend_from_slice(&encoding_of(order).to_be_bytes())?;
     payload.extend_from_slice(message)?;
     Ok(Bytes::from(payload))
@@ -55,7 +55,7 @@ fn deliver<J: Journal>(
     ensures never_falls { faults_of inbox.old ≤ faults_of inbox.new }
 {
     news.reserve()?;
-    inbox.apply(number, payload.as_slice())?;
+    let payload = inbox.apply(number, payload)?;
     news.push(NewsItem::Delivered { number, payload });
     Ok(())
 }

@@ -82,9 +82,9 @@ fn three(alloc: Global) -> Result<Option<Vec<u8>>, AllocError> {
         payload: Bytes::from_slice(alloc, &PAYLOAD)?,
     };
     let skip = Record::Skip { from: 1, count: 2 };
-    let all = journal.append(&skip).is_ok()
-        && journal.append(&apply).is_ok()
-        && journal.append(&Record::Negotiated).is_ok();
+    let all = journal.append(skip).is_ok()
+        && journal.append(apply).is_ok()
+        && journal.append(Record::Negotiated).is_ok();
     let disk = journal.close();
     Ok(if all {
         Some(disk.content().to_vec(alloc)?)

@@ -73,7 +73,7 @@ pub fn filled(alloc: Global, disk: MemDisk, entries: u64) -> Result<Option<MemDi
         return Ok(None);
     };
     for before in 0..entries {
-        if journal.append(&entry(alloc, before + 1)?).is_err() {
+        if journal.append(entry(alloc, before + 1)?).is_err() {
             return Ok(None);
         }
     }
@@ -124,10 +124,10 @@ pub fn limits(alloc: Global) -> Result<String, AllocError> {
     };
     let mut line = String::new(alloc);
     for k in 1..5 {
-        let answer = journal.append(&entry(alloc, k)?);
+        let answer = journal.append(entry(alloc, k)?);
         line.push_str(format!(in alloc; "{answer:?}, ")?.as_str())?;
     }
-    let answer = journal.append(&Record::Finish);
+    let answer = journal.append(Record::Finish);
     format!(in alloc;
         "{line}Finish {answer:?}, {} records, {} bytes",
         journal.len(),

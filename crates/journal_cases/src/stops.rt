@@ -69,7 +69,7 @@ fn appended_until(
     disk.fuse(calls);
     let (reached, disk) = match LogJournal::open(alloc, disk, WIDE) {
         Err((disk, _fault)) => (Reached::Opening, disk),
-        Ok(mut journal) => match journal.append(&entry(alloc, 2)?) {
+        Ok(mut journal) => match journal.append(entry(alloc, 2)?) {
             Ok(()) => (Reached::Done, journal.close()),
             Err(_fault) => (Reached::Appending, journal.close()),
         },

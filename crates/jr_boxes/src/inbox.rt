@@ -82,27 +82,28 @@ impl<J: Journal> Inbox<J> {
         }
     }
 
-    /// Records that the peer's message of the next number was applied. At `Ok` every later stop leaves it.
+    /// Records that the peer's message of the next number was applied, and gives its payload back. At `Ok` every later stop leaves it.
     ///
     /// # Errors
     /// In this order: `Broken` exactly where the journal is broken; `Full` exactly where the record would pass the limit of
     /// bytes; `Memory`; these change nothing. `Fault` where a call of the disk failed: the images may have the record or
     /// not, and the inbox is broken from then on.
-    pub fn apply(&mut self, number: u64, payload: &[u8]) -> Result<(), AppendFault>
+    pub fn apply(&mut self, number: u64, payload: Bytes) -> Result<Bytes, AppendFault>
         requires next { number ≡ next_of self.old }
         requires most { number ≤ (limits_of self.old).entries }
-        requires payload { IsApplication payload.now }
-        ensures ok { OnOk result ((i : List InboxRecord) → HoldsBox self.old i [] → HoldsBox self.new (i ++ apply (record { number = number; payload = payload.now }) ∷ []) []) }
-        ensures tells { OnOk result (Tells self.old self.new (kinds.Apply number payload.now) (number + 1) (is_negotiated self.old) (peer_last_of self.old) (count_of self.old + 1)) }
+        requires payload { IsApplication payload }
+        ensures ok { OnOk result ((i : List InboxRecord) → HoldsBox self.old i [] → HoldsBox self.new (i ++ apply (record { number = number; payload = payload }) ∷ []) []) }
+        ensures tells { OnOk result (Tells self.old self.new (kinds.Apply number payload) (number + 1) (is_negotiated self.old) (peer_last_of self.old) (count_of self.old + 1)) }
         ensures sound { OnOk result (is_broken self.new ≡ false) }
+        ensures returned { IfOk result (λ back. back ≡ payload) }
 
         ensures broken { (result ≡ Err append.Broken) ↔ (is_broken self.old ≡ true) }
-        ensures full { (result ≡ Err (append.Full (size_of self.old))) ↔ IsPastLimit self.old (kinds.Apply number payload.now) }
+        ensures full { (result ≡ Err (append.Full (size_of self.old))) ↔ IsPastLimit self.old (kinds.Apply number payload) }
         ensures full_size { (bytes : ℕ) → result ≡ Err (append.Full bytes) → bytes ≡ size_of self.old }
         ensures unchanged { IfErr result (λ fault. (fault ≡ append.Fault → ⊥) → Unchanged self.old self.new) }
 
         ensures cause { IsErrOf result append.Fault → HasRisen (faults_of self.old) (faults_of self.new) }
-        ensures fault { IsErrOf result append.Fault → (i : List InboxRecord) → HoldsBox self.old i [] → HoldsBox self.new i (apply (record { number = number; payload = payload.now }) ∷ []) }
+        ensures fault { IsErrOf result append.Fault → (i : List InboxRecord) → HoldsBox self.old i [] → HoldsBox self.new i (apply (record { number = number; payload = payload }) ∷ []) }
         ensures breaks { IsErrOf result append.Fault → is_broken self.new ≡ true }
 
         ensures never_falls { faults_of self.old ≤ faults_of self.new }
@@ -116,11 +117,14 @@ impl<J: Journal> Inbox<J> {
             return Err(AppendFault::Full { bytes });
         }
         self.notes.reserve()?;
-        let payload = Bytes::from_slice(self.alloc, payload)?;
+        let kept = payload.copy(self.alloc)?;
         let at = self.journal.len();
-        self.journal.append(&Record::Apply { number, payload })?;
+        self.journal.append(Record::Apply {
+            number,
+            payload: kept,
+        })?;
         self.notes.push(at, number);
-        Ok(())
+        Ok(payload)
     }
 
     /// Records that `count` numbers of an idempotent peer from the next one on were jumped over. At `Ok` every later stop
@@ -149,7 +153,7 @@ impl<J: Journal> Inbox<J> {
         ensures never_falls { faults_of self.old ≤ faults_of self.new }
         ensures same { (limits_of self.new ≡ limits_of self.old) × (flow_of self.new ≡ flow_of self.old) }
     {
-        self.journal.append(&Record::Skip { from, count })?;
+        self.journal.append(Record::Skip { from, count })?;
         self.notes.next = from + count;
         Ok(())
     }
@@ -175,7 +179,7 @@ impl<J: Journal> Inbox<J> {
         ensures never_falls { faults_of self.old ≤ faults_of self.new }
         ensures same { (limits_of self.new ≡ limits_of self.old) × (flow_of self.new ≡ flow_of self.old) }
     {
-        self.journal.append(&Record::Negotiated)?;
+        self.journal.append(Record::Negotiated)?;
         self.notes.negotiated = true;
         Ok(())
     }
@@ -201,7 +205,7 @@ impl<J: Journal> Inbox<J> {
         ensures never_falls { faults_of self.old ≤ faults_of self.new }
         ensures same { (limits_of self.new ≡ limits_of self.old) × (flow_of self.new ≡ flow_of self.old) }
     {
-        self.journal.append(&Record::PeerFinished { last })?;
+        self.journal.append(Record::PeerFinished { last })?;
         self.notes.peer_last = Some(last);
         Ok(())
     }

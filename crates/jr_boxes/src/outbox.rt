@@ -122,7 +122,7 @@ impl<J: Journal> Outbox<J> {
             k: self.tally.of(sender) + 1,
             payload: Bytes::from_slice(self.alloc, payload)?,
         };
-        match self.journal.append(&record) {
+        match self.journal.append(record) {
             Ok(()) => {
                 self.tally.count(sender);
                 Ok(entries + 1)
@@ -159,7 +159,7 @@ impl<J: Journal> Outbox<J> {
         if self.tally.closed {
             return Err(CloseFault::Closed);
         }
-        match self.journal.append(&Record::Finish) {
+        match self.journal.append(Record::Finish) {
             Ok(()) => {
                 self.tally.closed = true;
                 Ok(())

@@ -159,18 +159,18 @@ impl<D: Disk> Journal for LogJournal<D> {
 
     ghost size = { λ j. j.size };
 
-    fn append(&mut self, r: &Record) -> Result<(), AppendFault> {
+    fn append(&mut self, r: Record) -> Result<(), AppendFault> {
         // An image holds one list at most.
         one_verdict();
         if self.broken {
             return Err(AppendFault::Broken);
         }
-        if !r.is_control() && self.size + record_size(r) > self.limits.bytes {
+        if !r.is_control() && self.size + record_size(&r) > self.limits.bytes {
             return Err(AppendFault::Full { bytes: self.size });
         }
         let mut batch = mem::replace(&mut self.batch, Vec::new(self.alloc));
         batch.clear();
-        batch.push(r.copy(self.alloc)?)?;
+        batch.push(r)?;
         self.add(batch)?;
         Ok(())
     }

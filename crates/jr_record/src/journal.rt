@@ -44,19 +44,19 @@ pub trait Journal {
     /// In this order: `Broken` exactly where the journal is broken; `Full` exactly where the record with its gate would
     /// pass the limit of bytes and is no control record; `Memory`; these change nothing. `Fault` where a call of the
     /// disk failed: the images may have the record or not, and the journal is broken from then on.
-    fn append(&mut self, r: &Record) -> Result<(), AppendFault>
-        requires legal { IsRecord r.now }
-        ensures ok { OnOk result ((h : List Record) → Holds stands leaves self.old h [] → Holds stands leaves self.new (h ++ r.now ∷ []) []) }
-        ensures grown { OnOk result ((count self.new ≡ count self.old + 1) × (size self.new ≡ size self.old + record_size r.now)) }
+    fn append(&mut self, r: Record) -> Result<(), AppendFault>
+        requires legal { IsRecord r }
+        ensures ok { OnOk result ((h : List Record) → Holds stands leaves self.old h [] → Holds stands leaves self.new (h ++ r ∷ []) []) }
+        ensures grown { OnOk result ((count self.new ≡ count self.old + 1) × (size self.new ≡ size self.old + record_size r)) }
         ensures refused { OnErr result ((count self.new ≡ count self.old) × (size self.new ≡ size self.old)) }
 
         ensures broken { (result ≡ Err append.Broken) ↔ (is_broken self.old ≡ true) }
-        ensures full { (result ≡ Err (append.Full (size self.old))) ↔ ((is_broken self.old ≡ false) × IsPastLimit (limits self.old) (size self.old) r.now) }
+        ensures full { (result ≡ Err (append.Full (size self.old))) ↔ ((is_broken self.old ≡ false) × IsPastLimit (limits self.old) (size self.old) r) }
         ensures full_size { (bytes : ℕ) → result ≡ Err (append.Full bytes) → bytes ≡ size self.old }
         ensures unchanged { OnRefused result (Unchanged stands leaves self.old self.new × (faults self.new ≡ faults self.old)) }
 
         ensures cause { OnFault result (HasRisen (faults self.old) (faults self.new)) }
-        ensures fault { OnFault result ((h : List Record) → Holds stands leaves self.old h [] → Holds stands leaves self.new h (r.now ∷ [])) }
+        ensures fault { OnFault result ((h : List Record) → Holds stands leaves self.old h [] → Holds stands leaves self.new h (r ∷ [])) }
         ensures breaks { is_broken self.new ≡ is_broken_after result }
 
         ensures never_falls { faults self.old ≤ faults self.new }

@@ -8,11 +8,11 @@ use Rattle.jr_boxes.proofs.Kept.{apply_size, kept_more, noted_behind, some_more,
 use Rattle.jr_boxes.proofs.Noting.{within_more}
 use Rattle.jr_boxes.proofs.inbox.Inbox.apply.Goals as goal
 
-pub returns-then-payload-saturating_sub-clause-full : goal.returns-then-payload-saturating_sub-clause-full
-returns-then-payload-saturating_sub-clause-full g c =
-    let size = apply_size c.args.number c.args.payload.now in
-    let full : ℕ → Result (Unit {0}) AppendFault = λ n. Err (append.Full n) in (
-      λ _. record { sound = sym c.if-broken.ensures.value; past = omega (arith, size, c.if-payload-saturating_sub.true, c.saturating_sub.ensures, c.bytes-bytes.ensures.value) },
+pub returns-then-len-saturating_sub-clause-full : goal.returns-then-len-saturating_sub-clause-full
+returns-then-len-saturating_sub-clause-full g c =
+    let size = apply_size c.args.number c.args.payload in
+    let full : ℕ → Result (List ℕ) AppendFault = λ n. Err (append.Full n) in (
+      λ _. record { sound = sym c.if-broken.ensures.value; past = omega (arith, size, c.if-len-saturating_sub.true, c.saturating_sub.ensures, c.bytes-bytes.ensures.value) },
       λ _. ap full c.bytes-bytes.ensures.value,
     )
 
@@ -27,12 +27,12 @@ invariant_of-self g c =
 
 pub returns-in_err-reserve-clause-full : goal.returns-in_err-reserve-clause-full
 returns-in_err-reserve-clause-full g c =
-    let size = apply_size c.args.number c.args.payload.now in
+    let size = apply_size c.args.number c.args.payload in
     let p = err_from_is_err_and c.from_residual.result c.from_residual.ensures.1 in
     let is_err = p.1 in
     let memory = p.2 in (
       λ full. absurd (cc (full, is_err, memory)),
-      λ past. absurd (omega (arith, size, past.past, c.if-payload-saturating_sub.false, c.saturating_sub.ensures, c.bytes-bytes.ensures.value)),
+      λ past. absurd (omega (arith, size, past.past, c.if-len-saturating_sub.false, c.saturating_sub.ensures, c.bytes-bytes.ensures.value)),
     )
 
 pub invariant_of-self-in-Break-branch-2 : goal.invariant_of-self-in-Break-branch-2
@@ -44,14 +44,14 @@ invariant_of-self-in-Break-branch-2 g c =
       held = λ sound. some_same g.J.Journal.stands g.J.Journal.leaves old.journal old.flow old.notes c.reserve.new.self c.reserve.ensures.same (old.held sound);
     }
 
-pub returns-in_err-payload-clause-full : goal.returns-in_err-payload-clause-full
-returns-in_err-payload-clause-full g c =
-    let size = apply_size c.args.number c.args.payload.now in
-    let p = err_from_is_err_and c.from_residual-in_err-payload.result c.from_residual-in_err-payload.ensures.1 in
+pub returns-in_err-kept-clause-full : goal.returns-in_err-kept-clause-full
+returns-in_err-kept-clause-full g c =
+    let size = apply_size c.args.number c.args.payload in
+    let p = err_from_is_err_and c.from_residual-in_err-kept.result c.from_residual-in_err-kept.ensures.1 in
     let is_err = p.1 in
     let memory = p.2 in (
       λ full. absurd (cc (full, is_err, memory)),
-      λ past. absurd (omega (arith, size, past.past, c.if-payload-saturating_sub.false, c.saturating_sub.ensures, c.bytes-bytes.ensures.value)),
+      λ past. absurd (omega (arith, size, past.past, c.if-len-saturating_sub.false, c.saturating_sub.ensures, c.bytes-bytes.ensures.value)),
     )
 
 pub invariant_of-self-in-Break-branch-3 : goal.invariant_of-self-in-Break-branch-3
@@ -69,14 +69,14 @@ pub invariant_of-self-2 : goal.invariant_of-self-2
 invariant_of-self-2 g c =
     let old = c.args.self.now in
     let new = c.append.new.self in
-    let is : kinds.Apply c.args.number c.in_ok-payload.payload ≡ kinds.Apply c.args.number c.args.payload.now = ap (λ (p : List ℕ). kinds.Apply c.args.number p) c.in_ok-payload.ensures in
-    let noted = noted_behind old.notes c.reserve.new.self c.push.new.self c.len-at.result c.args.number c.args.payload.now c.reserve.ensures.same c.push.ensures.noted in
-    let below = within_more old.notes c.push.new.self c.len-at.result (kinds.Apply c.args.number c.args.payload.now) noted (λ k here. omega (arith, old.within k here, c.len-at.ensures.value)) in
+    let is : kinds.Apply c.args.number c.in_ok-kept.kept ≡ kinds.Apply c.args.number c.args.payload = ap (λ (p : List ℕ). kinds.Apply c.args.number p) c.in_ok-kept.ensures in
+    let noted = noted_behind old.notes c.reserve.new.self c.push.new.self c.len-at.result c.args.number c.args.payload c.reserve.ensures.same c.push.ensures.noted in
+    let below = within_more old.notes c.push.new.self c.len-at.result (kinds.Apply c.args.number c.args.payload) noted (λ k here. omega (arith, old.within k here, c.len-at.ensures.value)) in
     record {
       limited = c.in_ok-append.ensures.limits ∙ old.limited;
       within = λ k here. omega (arith, below k here, c.in_ok-append.ensures.grown.0, c.len-at.ensures.value);
       held = λ sound. some_more g.J.Journal.stands g.J.Journal.leaves old.journal new old.flow old.notes c.push.new.self (g.J.Journal.is_broken old.journal) (g.J.Journal.is_broken new)
-          c.len-at.result (apply (record { number = c.args.number; payload = c.args.payload.now })) (kinds.Apply c.args.number c.in_ok-payload.payload) c.in_ok-append.field-0 is
+          c.len-at.result (apply (record { number = c.args.number; payload = c.args.payload })) (kinds.Apply c.args.number c.in_ok-kept.kept) c.in_ok-append.field-0 is
           (λ records stands. (g.met.J.Journal.counted old.journal records stands).0 ∙ sym c.len-at.ensures.value)
           (c.requires.next, omega (arith, c.requires.most, old.limits.few)) noted c.in_ok-append.ensures.ok c.in_ok-append.ensures.broken.1 sound old.held;
     }
@@ -85,9 +85,9 @@ pub returns-clause-ok : goal.returns-clause-ok
 returns-clause-ok g c =
     let old = c.args.self.now in
     let new = c.append.new.self in
-    let is : kinds.Apply c.args.number c.in_ok-payload.payload ≡ kinds.Apply c.args.number c.args.payload.now = ap (λ (p : List ℕ). kinds.Apply c.args.number p) c.in_ok-payload.ensures in
-    let noted = noted_behind old.notes c.reserve.new.self c.push.new.self c.len-at.result c.args.number c.args.payload.now c.reserve.ensures.same c.push.ensures.noted in
+    let is : kinds.Apply c.args.number c.in_ok-kept.kept ≡ kinds.Apply c.args.number c.args.payload = ap (λ (p : List ℕ). kinds.Apply c.args.number p) c.in_ok-kept.ensures in
+    let noted = noted_behind old.notes c.reserve.new.self c.push.new.self c.len-at.result c.args.number c.args.payload c.reserve.ensures.same c.push.ensures.noted in
     kept_more g.J.Journal.stands g.J.Journal.leaves old.journal new old.flow old.notes c.push.new.self
-    c.len-at.result (apply (record { number = c.args.number; payload = c.args.payload.now })) (kinds.Apply c.args.number c.in_ok-payload.payload) is
+    c.len-at.result (apply (record { number = c.args.number; payload = c.args.payload })) (kinds.Apply c.args.number c.in_ok-kept.kept) is
     (λ records stands. (g.met.J.Journal.counted old.journal records stands).0 ∙ sym c.len-at.ensures.value)
     (c.requires.next, omega (arith, c.requires.most, old.limits.few)) noted c.in_ok-append.ensures.ok
