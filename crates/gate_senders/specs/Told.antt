@@ -8,8 +8,8 @@ use Rattle.gate_senders.specs.declared.kept.Kept.{Kept}
 module _ {J : Type 0} {G : Ghosts J} where
   -- the outbox
   abbrev pub outbox_of : Kept J G → Outbox J G
-  outbox_of k = k.outbox
+  outbox_of k = k.outbox.value
 
   -- it stands for the history told of it
   abbrev pub told_by : Kept J G → Account
-  told_by k = account k.outbox k.told.history
+  told_by k = account k.outbox.value k.told.history

@@ -53,7 +53,7 @@ impl<J: Journal> Gate<J> {
         ensures senders { IfOk result (λ r. senders_of r.0 ≡ senders) }
         ensures refused { IfErr result (λ box. box ≡ outbox) }
     {
-        let kept = Kept::of(outbox);
+        let kept = Kept::of(alloc, outbox)?;
         let count = kept.length();
         let finished = kept.marked();
         match TurnLock::new(alloc, kept, senders + 1) {

@@ -19,10 +19,11 @@ use std::alloc::Global;
 
 /// An outbox, with the history that is told of it: one for which it stands. The history takes no memory.
 pub struct Kept<J: Journal> {
-    pub(crate) outbox: Outbox<J>,
+    /// It stays where it is while the value goes from hand to hand.
+    pub(crate) outbox: Box<Outbox<J>>,
     told: Told,
-    ghost stands: { ∥ StandsFor outbox told.history ∥₁ },
-    ghost holds: { is_broken outbox ≡ false → ∥ HoldsBox outbox told.history [] ∥₁ },
+    ghost stands: { ∥ StandsFor outbox.value told.history ∥₁ },
+    ghost holds: { is_broken outbox.value ≡ false → ∥ HoldsBox outbox.value told.history [] ∥₁ },
 }
 
 impl<J: Journal> Logged for Kept<J> {
@@ -70,14 +71,21 @@ impl<J: Journal> Kept<J> {
     ghost use Rattle.gate_senders.specs.Told.{told_by, outbox_of};
 
     /// An outbox, with a history that it holds.
-    pub(crate) fn of(outbox: Outbox<J>) -> Kept<J>
+    ///
+    /// # Errors
+    /// The outbox comes back where memory runs out.
+    pub(crate) fn of(alloc: Global, outbox: Outbox<J>) -> Result<Kept<J>, Outbox<J>>
         requires sound { is_broken outbox ≡ false }
-        ensures outbox { outbox_of result ≡ outbox }
+        ensures outbox { IfOk result (λ kept. outbox_of kept ≡ outbox) }
+        ensures refused { IfErr result (λ box. box ≡ outbox) }
     {
         // An outbox that is not broken holds a history.
         let _ = outbox.broken();
         let told = Told::of::<Outbox<J>, Holding>(&outbox);
-        Kept { outbox, told }
+        match Box::new(alloc, outbox) {
+            Ok(outbox) => Ok(Kept { outbox, told }),
+            Err(failed) => Err(failed.value),
+        }
     }
 
     /// How many entries a sender from 1 to 16 has.
@@ -133,7 +141,7 @@ impl<J: Journal> Kept<J> {
         ensures broken { result ≡ Err fetching.Broken → (told_by self.old).broken ≡ true }
     {
         let end = from.saturating_add(u64::from(most)).min(self.length() + 1);
-        let mut list = Vec::new(alloc);
+        let mut list = Vec::with_capacity(alloc, end.saturating_sub(from) as usize)?;
         for number in from..end {
             let entry = self.stable(number)?;
             let Ok(()) = list.push(entry) else {
@@ -148,7 +156,7 @@ impl<J: Journal> Kept<J> {
         ensures outbox { result ≡ outbox_of self }
     {
         let Kept { outbox, told: _ } = self;
-        outbox
+        Box::into_inner(outbox)
     }
 
     /// Adds an entry of a sender from 1 to 16, and answers how many entries there are then.

@@ -9,12 +9,15 @@ use Rattle.gate_senders.proofs.kept.Kept.stable.Goals as goal
 pub invariant_of-self : goal.invariant_of-self
 invariant_of-self g c =
     let old = c.args.self.now in
-    let was : Keeps old.outbox old.told.history = record { stands = old.stands; holds = old.holds } in
-    let now = keeps_read old.outbox c.stable.new.self old.told.history c.stable.ensures.content
-    (λ sound. sound_if (is_broken old.outbox) (λ b. false≢true (sym sound ∙ c.stable.ensures.breaks ∙ ap is_broken_after_read (c.stable.ensures.broken.1 b)))) was in
+    let box = c.deref_mut.result.now in
+    let was : Keeps box old.told.history = rw c.deref_mut.ensures.value (record { stands = old.stands; holds = old.holds }) in
+    let now = keeps_read box c.stable.new.self old.told.history c.stable.ensures.content
+    (λ sound. sound_if (is_broken box) (λ b. false≢true (sym sound ∙ c.stable.ensures.breaks ∙ ap is_broken_after_read (c.stable.ensures.broken.1 b)))) was in
     record { stands = now.stands; holds = now.holds }
 
 pub returns-clause-payload : goal.returns-clause-payload
 returns-clause-payload g c =
     let old = c.args.self.now in
-    entry_of old.outbox old.told.history c.args.number c.stable.result old.stands c.stable.ensures.payload
+    let box = c.deref_mut.result.now in
+    let was : Keeps box old.told.history = rw c.deref_mut.ensures.value (record { stands = old.stands; holds = old.holds }) in
+    entry_of box old.told.history c.args.number c.stable.result was.stands c.stable.ensures.payload
