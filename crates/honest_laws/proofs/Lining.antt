@@ -44,18 +44,18 @@ use Rattle.honest_laws.proofs.Deciding.{Decides, decides_within}
 use Rattle.honest_laws.proofs.Replying.{foreign, heard}
 use Rattle.honest_laws.specs.Numbers.{After, AfterOther, Answers, Before, BeforeOther, HasOne, Idle, IsFlowing, IsWhole, Line, Lined, Matches, NotNumber, Other, Peer, Reaches, Rests, announces, live_after, left_after, to_come}
 
-no_violation : (A : Type 0) (v : Violation) → None ≡ Some (endings.Violation v) → NotNumber A v
+pub no_violation : (A : Type 0) (v : Violation) → None ≡ Some (endings.Violation v) → NotNumber A v
 no_violation A v e = absurd cc
 
-fine_of : (A : Type 0) (b : Bool) (v w : Violation) → Some (if b then endings.Finished else endings.Violation v) ≡ Some (endings.Violation w) → NotNumber A v → NotNumber A w
+pub fine_of : (A : Type 0) (b : Bool) (v w : Violation) → Some (if b then endings.Finished else endings.Violation v) ≡ Some (endings.Violation w) → NotNumber A v → NotNumber A w
 fine_of A true v w e h = absurd cc
 fine_of A false v w e h = let same : v ≡ w = cc e in subst (λ (u : Violation). NotNumber A u) same h
 
-terminated_fine : (A : Type 0) (b : Bool) (code : ℕ) (w : Violation) → Some (if b then endings.Finished else endings.PeerTerminated code) ≡ Some (endings.Violation w) → NotNumber A w
+pub terminated_fine : (A : Type 0) (b : Bool) (code : ℕ) (w : Violation) → Some (if b then endings.Finished else endings.PeerTerminated code) ≡ Some (endings.Violation w) → NotNumber A w
 terminated_fine A true code w e = absurd cc
 terminated_fine A false code w e = absurd cc
 
-goes : {B : Type 0} → is_some {T = Ending} None ≡ true → B
+pub goes : {B : Type 0} → is_some {T = Ending} None ≡ true → B
 goes e = absurd (true≢false (sym e))
 
 -- a gap that is asked for ends at the live number
@@ -90,7 +90,7 @@ asked_receiver g None = (refl, refl)
 asked_receiver g (Some r) = (refl, refl)
 
 -- the connection goes on
-going : (x : Around) (A : Type 0) (f g : Facts) (act : Act) (written : List Message) (b : ℕ) (l : Option ℕ) → Reaches g f.recorded.inbox_next b l → Lined A f b l (goes_on x act written g)
+pub going : (x : Around) (A : Type 0) (f g : Facts) (act : Act) (written : List Message) (b : ℕ) (l : Option ℕ) → Reaches g f.recorded.inbox_next b l → Lined A f b l (goes_on x act written g)
 going x A f g act written b l h =
     let a = asked_line g g.connection.requester refl h.line (nat_lt g.connection.receiver.next g.connection.receiver.live) refl in
     let same = asked_receiver g (gap_to_ask g) in
@@ -258,7 +258,7 @@ pub sequenced_of : (flow : Flow) → is_recoverable flow ≡ true → is_sequenc
 sequenced_of flow e = ap (λ b. b || is_idempotent flow) e
 
 -- what an announcement makes of a reader of a recoverable flow
-announced_is : (x : Around) (f : Facts) (next : Option ℕ) → is_recoverable x.config.peer_flow ≡ true
+pub announced_is : (x : Around) (f : Facts) (next : Option ℕ) → is_recoverable x.config.peer_flow ≡ true
     → announced x f next ≡ record { facts = receiving f (receiver_is.announced f.connection.receiver (unwrap_or next 0)); skipped = None }
 announced_is x f next rec = by_flow (is_recoverable x.config.peer_flow) (is_idempotent x.config.peer_flow) rec
   where
@@ -470,14 +470,14 @@ recoverable_reply x f theirs (said (terminate id code reason)) are now flows k =
           (λ _. record { fine = λ w same. terminated_fine ⊤ (finishes_exchanged x f) code w same; next = λ none. absurd cc; over = λ _. refl }, λ e. absurd (true≢false e)),
     )
 
-asks_none : (f : Facts) → receiver_is.gap f.connection.receiver ≡ None → gap_to_ask f ≡ None
+pub asks_none : (f : Facts) → receiver_is.gap f.connection.receiver ≡ None → gap_to_ask f ≡ None
 asks_none f e = by_test (is_none (request_is.outstanding f.connection.requester))
   where
     by_test : (b : Bool) → (if b then receiver_is.gap f.connection.receiver else None) ≡ None
     by_test true = e
     by_test false = refl
 
-rests : (x : Around) (A : Type 0) (f g : Facts) (act : Act) (written : List Message) (b : ℕ) → Rests g b → Other A f b (goes_on x act written g)
+pub rests : (x : Around) (A : Type 0) (f g : Facts) (act : Act) (written : List Message) (b : ℕ) → Rests g b → Other A f b (goes_on x act written g)
 rests x A f g act written b h = record {
   fine = no_violation A;
   next = λ _. subst (λ (r : Option Range). Rests (having_asked g r) b) (sym (asks_none g h.idle.even)) h;

@@ -93,7 +93,7 @@ unwrap_above : (o : Option ℕ) (a : Awaited) → IfSome o (λ n. Allows a n) �
 unwrap_above None a h = omega arith
 unwrap_above (Some n) a h = allows_above a n h
 
-grows : (flow : Flow) (p : Piece) (a : Awaited) (l : Option ℕ) → Fits flow p a l → number_of a ≤ live_after flow p (number_of a) l
+pub grows : (flow : Flow) (p : Piece) (a : Awaited) (l : Option ℕ) → Fits flow p a l → number_of a ≤ live_after flow p (number_of a) l
 grows flow (entry payload) a None f = omega arith
 grows flow (entry payload) a (Some n) f = omega arith
 grows flow (said m) a l f = unwrap_above (announces flow (said m)) a f.0
