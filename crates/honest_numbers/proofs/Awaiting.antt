@@ -65,7 +65,7 @@ unannounced flow (said m) e = by_message m
     by_message (sequence next) = ap (λ b. is_some (if b then Some next else None)) e
     by_message _ = refl
 
-after_at_most : (flow : Flow) (p : Piece) (b : ℕ) (l : Option ℕ) (t : Bool) → is_some (announces flow p) ≡ t → awaited_after flow p (at_most b) l ≡ awaits t (live_after flow p b l)
+pub after_at_most : (flow : Flow) (p : Piece) (b : ℕ) (l : Option ℕ) (t : Bool) → is_some (announces flow p) ≡ t → awaited_after flow p (at_most b) l ≡ awaits t (live_after flow p b l)
 after_at_most flow p b l true e = ap (λ s. if s then exactly (live_after flow p b l) else at_most (live_after flow p b l)) e
 after_at_most flow p b l false e = ap (λ s. if s then exactly (live_after flow p b l) else at_most (live_after flow p b l)) e
 
