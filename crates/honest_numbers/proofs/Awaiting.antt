@@ -3,6 +3,7 @@ use Rattle.std.proofs.Common.{◌≡◌, ℕ, ◌+◌, ◌≤◌, ◌&&◌, ◌|
 use Rattle.std.specs.Prelude.{is_some, unwrap_or, IfSome, IsSome}
 use Rattle.fixp_msgs.specs.declared.flow.Flow.{Flow}
 use Rattle.flow_recover.specs.Receiving as receiver_is
+use Rattle.flow_recover.specs.Receiving.{Receiving}
 use Rattle.flow_retrans.specs.declared.request.Request.{Request}
 use Rattle.flow_retrans.specs.declared.request.Request.TheVariants as requests
 use Rattle.fixp_shake.specs.declared.config.EndConfig.{EndConfig}
@@ -16,7 +17,7 @@ use Rattle.fixp_replies.specs.Facts.{Around}
 use Rattle.fixp_replies.specs.Outcomes.{Outcome}
 use Rattle.fixp_msgs.specs.Message.{Message, establish, establishment_ack, sequence, retransmission}
 use Rattle.connection_laws.specs.Writing.{Piece, said, entry}
-use Rattle.honest_laws.specs.Numbers.{Awaited, exactly, at_most, announces, live_after, awaited_after, left_after, Fits, Runs, Answers, NotNumber, to_come, Line, Idle, Lined, Other}
+use Rattle.honest_laws.specs.Numbers.{Awaited, exactly, at_most, announces, live_after, awaited_after, left_after, Fits, Runs, Answers, Matches, NotNumber, to_come, Line, Idle, Lined, Other}
 use Rattle.honest_laws.proofs.Running.{number_of, Below, lower, number_after, grows, runs_top}
 use Rattle.honest_numbers.specs.Numbered.{next_live, awaits, awaited}
 use Rattle.honest_numbers.specs.Laws.{NoNumber}
@@ -54,6 +55,23 @@ pub number_awaited : (b : Bool) (n : ℕ) → number_of (awaits b n) ≡ n
 number_awaited true n = refl
 number_awaited false n = refl
 
+-- the receiver and the inbox decide it
+pub same_live : (c : EndConfig) (f g : Facts) → g.connection.receiver ≡ f.connection.receiver → g.recorded.inbox_next ≡ f.recorded.inbox_next → next_live c g ≡ next_live c f
+same_live c f g e n = ap (λ (k : Receiving). if is_recoverable c.peer_flow then k.live else g.recorded.inbox_next) e ∙ ap (λ (k : ℕ). if is_recoverable c.peer_flow then f.connection.receiver.live else k) n
+
+pub same_awaited : (c : EndConfig) (f g : Facts) → is_shaken g.connection.phase ≡ is_shaken f.connection.phase → g.connection.receiver ≡ f.connection.receiver → g.recorded.inbox_next ≡ f.recorded.inbox_next → awaited c g ≡ awaited c f
+same_awaited c f g s e n = ap (λ b. awaits (is_sequenced c.peer_flow && b) (next_live c g)) s ∙ ap (λ (k : ℕ). awaits (is_sequenced c.peer_flow && is_shaken f.connection.phase) k) (same_live c f g e n)
+
+pub line_same : (f g : Facts) → g.connection.receiver ≡ f.connection.receiver → g.connection.requester ≡ f.connection.requester → g.recorded.inbox_next ≡ f.recorded.inbox_next → Line f → Line g
+line_same f g e q n line = record {
+  waits = ap (λ (k : Receiving). k.next) e ∙ (line.waits ∙ sym n);
+  low = subst (λ (k : Receiving). k.next ≤ k.live) (sym e) line.low;
+  matches = subst (λ (k : Receiving). Matches k g.connection.requester) (sym e) (subst (λ (k : Request). Matches f.connection.receiver k) (sym q) line.matches);
+}
+
+pub idle_same : (f g : Facts) → g.connection.receiver ≡ f.connection.receiver → g.connection.requester ≡ f.connection.requester → Idle f → Idle g
+idle_same f g e q idle = record { even = ap (λ k. receiver_is.gap k) e ∙ idle.even; none = q ∙ idle.none }
+
 -- a flow without numbers announces none
 unannounced : (flow : Flow) (p : Piece) → is_sequenced flow ≡ false → is_some (announces flow p) ≡ false
 unannounced flow (entry payload) e = refl
@@ -85,21 +103,18 @@ pub record Moves (c : EndConfig) (p : Piece) (f g : Facts) : Type 0 where
   pub idle : is_recoverable c.peer_flow ≡ false → Idle g
   pub rises : is_recoverable c.peer_flow ≡ true → f.recorded.inbox_next ≤ g.recorded.inbox_next
 
-live_of : (c : EndConfig) (f : Facts) → is_recoverable c.peer_flow ≡ true → next_live c f ≡ f.connection.receiver.live
-live_of c f e = ap (λ b. if b then f.connection.receiver.live else f.recorded.inbox_next) e
+pub live_is : (c : EndConfig) (f : Facts) → is_recoverable c.peer_flow ≡ true → next_live c f ≡ f.connection.receiver.live
+live_is c f e = ap (λ b. if b then f.connection.receiver.live else f.recorded.inbox_next) e
 
 pub inbox_of : (c : EndConfig) (f : Facts) → is_recoverable c.peer_flow ≡ false → next_live c f ≡ f.recorded.inbox_next
 inbox_of c f e = ap (λ b. if b then f.connection.receiver.live else f.recorded.inbox_next) e
-
-pub live_is : (c : EndConfig) (f : Facts) → is_recoverable c.peer_flow ≡ true → next_live c f ≡ f.connection.receiver.live
-live_is c f e = live_of c f e
 
 pub lined_moves : (x : Around) (f : Facts) (p : Piece) (A : Type 0) (o : Outcome) → is_recoverable x.config.peer_flow ≡ true
     → Lined A f (live_after x.config.peer_flow p f.connection.receiver.live (to_come f.connection.requester)) (left_after p (to_come f.connection.requester)) o → o.ending ≡ None → Moves x.config p f o.next
 lined_moves x f p A o rec h going =
     let r = h.next going in
     record {
-      live = live_of x.config o.next rec ∙ (r.live ∙ ap (λ (n : ℕ). live_after x.config.peer_flow p n (to_come f.connection.requester)) (sym (live_of x.config f rec)));
+      live = live_is x.config o.next rec ∙ (r.live ∙ ap (λ (n : ℕ). live_after x.config.peer_flow p n (to_come f.connection.requester)) (sym (live_is x.config f rec)));
       left = r.left;
       line = λ _. r.line;
       idle = λ n. absurd (true≢false (sym rec ∙ n));
@@ -136,16 +151,19 @@ pub record Ready (c : EndConfig) (f : Facts) (way : List Piece) (k : ℕ) (m : O
   pub idle : is_recoverable c.peer_flow ≡ false → Idle f
   pub opening : is_shaken f.connection.phase ≡ false → Idle f
 
--- then its inbox awaits no more
+-- then its live number is no greater, nor what its inbox awaits
+pub ready_live : (c : EndConfig) (f : Facts) (way : List Piece) (k : ℕ) (m : Option ℕ) → Ready c f way k m → next_live c f ≤ k
+ready_live c f way k m r =
+    let top = runs_top c.peer_flow (awaited c f) (to_come f.connection.requester) way k m r.runs in
+    let same = number_awaited (is_sequenced c.peer_flow && is_shaken f.connection.phase) (next_live c f) in
+    omega (arith, top, same)
+
 pub ready_top : (c : EndConfig) (f : Facts) (way : List Piece) (k : ℕ) (m : Option ℕ) → Ready c f way k m → f.recorded.inbox_next ≤ k
 ready_top c f way k m r = by_flow (is_recoverable c.peer_flow) refl
   where
-    low : next_live c f ≤ k
-    low = let top = runs_top c.peer_flow (awaited c f) (to_come f.connection.requester) way k m r.runs in let same = number_awaited (is_sequenced c.peer_flow && is_shaken f.connection.phase) (next_live c f) in omega (arith, top, same)
-
     by_flow : (b : Bool) → is_recoverable c.peer_flow ≡ b → f.recorded.inbox_next ≤ k
-    by_flow true e = let line = r.line e in let waits = line.waits in let below = line.low in let same = live_of c f e in let h = low in omega (arith, waits, below, same, h)
-    by_flow false e = let same = inbox_of c f e in let h = low in omega (arith, same, h)
+    by_flow true e = let line = r.line e in let waits = line.waits in let below = line.low in let same = live_is c f e in let h = ready_live c f way k m r in omega (arith, waits, below, same, h)
+    by_flow false e = let same = inbox_of c f e in let h = ready_live c f way k m r in omega (arith, same, h)
 
 -- behind a message that moves it
 pub moved_runs : (c : EndConfig) (f g : Facts) (p : Piece) (left : List Piece) (k : ℕ) (m : Option ℕ) → Moves c p f g → is_shaken g.connection.phase ≡ true

@@ -5,4 +5,3 @@ pub mod Reading
 pub mod Requesting
 pub mod Keeping
 pub mod Numbering
-pub mod Sampled

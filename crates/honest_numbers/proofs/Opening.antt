@@ -21,7 +21,7 @@ use Rattle.fixp_replies.specs.declared.act.Act.TheVariants as acts
 use Rattle.fixp_replies.specs.declared.act.Ending.{Ending}
 use Rattle.fixp_replies.specs.declared.act.Ending.TheVariants as endings
 use Rattle.fixp_replies.specs.declared.facts.Facts.{Facts}
-use Rattle.fixp_replies.specs.Facts.{Around, is_own, in_phase, receiving, negotiated as as_negotiated, awaiting, having_asked, expected_number, finishes_exchanged, gap_to_ask}
+use Rattle.fixp_replies.specs.Facts.{Around, is_own, in_phase, receiving, negotiated as as_negotiated, awaiting, having_asked, expected_number, finishes_exchanged, gap_to_ask, announced_number}
 use Rattle.fixp_replies.specs.Incoming.{Incoming, application, session}
 use Rattle.fixp_replies.specs.Outcomes.{Outcome, Row, row, goes_on, accepts, rejects, ignores, ends_with, ends, breaks, not_in_phase, skip_of, told_skip, opening_negotiate, opening_establish}
 use Rattle.fixp_replies.specs.Announcing.{Announced, announced, announcement_fault, refuses, announcement_rows}
@@ -54,10 +54,10 @@ fine_as : (b : Bool) (e : Ending) (w : Violation) → Some (if b then endings.Fi
 fine_as true e w same h = absurd cc
 fine_as false e w same h = h w (cc same)
 
-ending : (x : Around) (f : Facts) (p : Piece) (written : List Message) (e : Ending) → ((v : Violation) → e ≡ endings.Violation v → NoNumber v) → Opens x.config f p (ends_with x f written e)
+pub ending : (x : Around) (f : Facts) (p : Piece) (written : List Message) (e : Ending) → ((v : Violation) → e ≡ endings.Violation v → NoNumber v) → Opens x.config f p (ends_with x f written e)
 ending x f p written e h = record { fine = λ w same. fine_as (finishes_exchanged x f) e w same h; over = λ _. refl; next = λ none. absurd cc }
 
-breaking : (x : Around) (f : Facts) (p : Piece) (code : ℕ) (v : Violation) → NoNumber v → Opens x.config f p (ends x f code (endings.Violation v))
+pub breaking : (x : Around) (f : Facts) (p : Piece) (code : ℕ) (v : Violation) → NoNumber v → Opens x.config f p (ends x f code (endings.Violation v))
 breaking x f p code v h = ending x f p _ (endings.Violation v) (λ w e. let same : v ≡ w = cc e in subst (λ (u : Violation). NoNumber u) same h)
 
 none_over : {B : Type 0} → is_some {T = Ending} None ≡ true → B
@@ -86,6 +86,7 @@ rejecting x f p written before none = record { fine = λ v e. absurd cc; over = 
 record Tells (flow : Flow) (m : Message) (next : Option ℕ) : Type 0 where
   told : announces flow (said m) ≡ (if is_sequenced flow then next else None)
   none : left_after (said m) None ≡ None
+  plain : (q : Request) → Answers q (said m)
 
 -- a fault of the number alone is a violation of numbers
 given : (t : ℕ) (numbered : Bool) (next : Option ℕ) (more : Option Violation) → (if not numbered then None else if is_none next then Some (MissingNext t) else more) ≡ None → numbered ≡ true → is_some next ≡ true
@@ -205,16 +206,9 @@ taking x f m next act written interval u t some = by_flow (is_recoverable x.conf
         (λ e. let numbered = other_sequenced flow true other e in sym (live_told x f m next f.recorded.inbox_next t numbered (some numbered))) in
         record { idle = record { even = r.idle.even; none = r.idle.none }; next = r.next }
 
-    no_answer : Answers f.connection.requester (said m)
-    no_answer = by_message m t.none
-      where
-        by_message : (k : Message) → left_after (said k) None ≡ None → Answers f.connection.requester (said k)
-        by_message (retransmission id n timestamp count) e = absurd (cc e)
-        by_message _ e = tt
-
     by_flow : (b : Bool) → is_recoverable flow ≡ b → Opens x.config f (said m) o
     by_flow true rec = opens (lined_moves x f (said m) ⊤ o rec (lined rec) refl)
-    by_flow false other = opens (other_moves x f (said m) ⊤ o other u.idle no_answer (rests x ⊤ f g act written (live_after flow (said m) f.recorded.inbox_next None) (rested other)) refl)
+    by_flow false other = opens (other_moves x f (said m) ⊤ o other u.idle (t.plain f.connection.requester) (rests x ⊤ f g act written (live_after flow (said m) f.recorded.inbox_next None) (rested other)) refl)
 
 announcing : (x : Around) (f : Facts) (m : Message) (t : ℕ) (next : Option ℕ) (follows : Announced → Outcome) → Unheard x f (said m) → Tells x.config.peer_flow m next
     → ((is_sequenced x.config.peer_flow ≡ true → is_some next ≡ true) → Opens x.config f (said m) (follows (announced x f next))) → AllRows (Opens x.config f (said m)) (announcement_rows x f t next follows)
@@ -257,7 +251,7 @@ session_opens x f (negotiate id timestamp flow credentials) u =
           λ _. rejecting x f p _ u.before refl,
           λ _. (
             λ _. rejecting x f p _ u.before refl,
-            λ _. (λ _. keeping x f (as_negotiated f) p _ _ u.idle u.before refl refl refl refl, λ _. tt),
+            λ _. (λ _. keeping x f (as_negotiated f) p _ (negotiation_response x.config.session timestamp (flow_code x.config.own_flow) [] ∷ []) u.idle u.before refl refl refl refl, λ _. tt),
           ),
         ),
       ),
@@ -266,12 +260,12 @@ session_opens x f (negotiation_response id timestamp flow credentials) u =
     let p = said (negotiation_response id timestamp flow credentials) in
     in_session x f p 2 id _ (all_within (Opens x.config f p) (is_negotiating f.connection.phase) (negotiation_response_rows x f flow) (λ _. (
       λ _. breaking x f p 2 (OtherSession 2) tt,
-      λ _. (λ _. keeping x f (in_phase (as_negotiated f) phases.Establishing) p _ _ u.idle refl refl refl refl refl, λ _. tt),
+      λ _. (λ _. keeping x f (in_phase (as_negotiated f) phases.Establishing) p _ (opening_establish x f ∷ []) u.idle refl refl refl refl refl, λ _. tt),
     )))
 session_opens x f (negotiation_reject id timestamp code reason) u =
     let p = said (negotiation_reject id timestamp code reason) in
     in_session x f p 3 id _ (all_within (Opens x.config f p) (is_negotiating f.connection.phase) (negotiation_reject_rows x f code) (λ _. (
-      λ _. keeping x f (in_phase (as_negotiated f) phases.Establishing) p _ _ u.idle refl refl refl refl refl,
+      λ _. keeping x f (in_phase (as_negotiated f) phases.Establishing) p _ (opening_establish x f ∷ []) u.idle refl refl refl refl refl,
       λ _. (λ _. ending x f p [] (endings.Rejected 3 code) (rejected_fine 3 code), λ _. tt),
     )))
 session_opens x f (establish id timestamp keepalive next credentials) u =
@@ -284,8 +278,8 @@ session_opens x f (establish id timestamp keepalive next credentials) u =
         λ _. rejecting x f p _ u.before refl,
         λ _. (
           λ _. rejecting x f p _ u.before refl,
-          λ _. announcing x f m 4 next (acknowledges x timestamp keepalive) u (record { told = refl; none = refl })
-              (λ some. taking x f m next _ _ keepalive u (record { told = refl; none = refl }) some),
+          λ _. announcing x f m 4 next (acknowledges x timestamp keepalive) u (record { told = refl; none = refl; plain = λ q. tt })
+              (λ some. taking x f m next _ (establishment_ack x.config.session timestamp x.config.keepalive (announced_number x (announced x f next).facts) ∷ told_skip (announced x f next).skipped) keepalive u (record { told = refl; none = refl; plain = λ q. tt }) some),
         ),
       ),
     ))
@@ -294,29 +288,29 @@ session_opens x f (establishment_ack id timestamp keepalive next) u =
     let m = establishment_ack id timestamp keepalive next in
     let p = said m in
     in_session x f p 5 id _ (all_within (Opens x.config f p) (is_establishing f.connection.phase) (establishment_ack_rows x f keepalive next) (λ _.
-        announcing x f m 5 next (λ (a : Announced). goes_on x (skip_of a.skipped) (told_skip a.skipped) (established a.facts (min 60000 (max 100 keepalive)))) u (record { told = refl; none = refl })
-        (λ some. taking x f m next _ _ (min 60000 (max 100 keepalive)) u (record { told = refl; none = refl }) some)))
+        announcing x f m 5 next (λ (a : Announced). goes_on x (skip_of a.skipped) (told_skip a.skipped) (established a.facts (min 60000 (max 100 keepalive)))) u (record { told = refl; none = refl; plain = λ q. tt })
+        (λ some. taking x f m next _ (told_skip (announced x f next).skipped) (min 60000 (max 100 keepalive)) u (record { told = refl; none = refl; plain = λ q. tt }) some)))
 session_opens x f (establishment_reject id timestamp code reason) u =
     let p = said (establishment_reject id timestamp code reason) in
     in_session x f p 6 id _ (all_within (Opens x.config f p) (is_establishing f.connection.phase) (establishment_reject_rows x f code) (λ _. (
-      λ _. keeping x f (in_phase f phases.Negotiating) p _ _ u.idle refl refl refl refl refl,
+      λ _. keeping x f (in_phase f phases.Negotiating) p _ (opening_negotiate x ∷ []) u.idle refl refl refl refl refl,
       λ _. (λ _. ending x f p [] (endings.Rejected 6 code) (rejected_fine 6 code), λ _. tt),
     )))
 session_opens x f (sequence next) u = not_yet (Opens x.config f (said (sequence next))) f _ u.before
-session_opens x f unsequenced_heartbeat u = (λ _. keeping x f f (said unsequenced_heartbeat) _ _ u.idle u.before refl refl refl refl, λ _. tt)
+session_opens x f unsequenced_heartbeat u = (λ _. keeping x f f (said unsequenced_heartbeat) _ [] u.idle u.before refl refl refl refl, λ _. tt)
 session_opens x f (retransmit_request id timestamp first count) u = not_yet (Opens x.config f (said (retransmit_request id timestamp first count))) f _ u.before
 session_opens x f (retransmission id next timestamp count) u =
     let p = said (retransmission id next timestamp count) in in_session x f p 10 id _ (not_yet (Opens x.config f p) f _ u.before)
 session_opens x f (retransmit_reject id timestamp code reason) u =
     let p = said (retransmit_reject id timestamp code reason) in in_session x f p 11 id _ (not_yet (Opens x.config f p) f _ u.before)
-session_opens x f (applied first count) u = (λ _. keeping x f f (said (applied first count)) _ _ u.idle u.before refl refl refl refl, λ _. tt)
+session_opens x f (applied first count) u = (λ _. keeping x f f (said (applied first count)) _ [] u.idle u.before refl refl refl refl, λ _. tt)
 session_opens x f (not_applied first count) u =
     let p = said (not_applied first count) in
-    (λ _. keeping x f f p _ _ u.idle u.before refl refl refl refl, λ _. (λ _. keeping x f f p _ _ u.idle u.before refl refl refl refl, λ _. tt))
+    (λ _. keeping x f f p _ [] u.idle u.before refl refl refl refl, λ _. (λ _. keeping x f f p _ [] u.idle u.before refl refl refl refl, λ _. tt))
 session_opens x f (finished_sending id last) u = let p = said (finished_sending id last) in in_session x f p 14 id _ (not_yet (Opens x.config f p) f _ u.before)
 session_opens x f (finished_receiving id) u = let p = said (finished_receiving id) in in_session x f p 15 id _ (not_yet (Opens x.config f p) f _ u.before)
 session_opens x f (terminate id code reason) u =
-    let p = said (terminate id code reason) in in_session x f p 16 id _ (λ _. ending x f p _ (endings.PeerTerminated code) (terminated_fine code), λ _. tt)
+    let p = said (terminate id code reason) in in_session x f p 16 id (row true (ends x f 1 (endings.PeerTerminated code)) ∷ []) (λ _. ending x f p _ (endings.PeerTerminated code) (terminated_fine code), λ _. tt)
 
 rows_open : (x : Around) (f : Facts) (p : Piece) → Unheard x f p → AllRows (Opens x.config f p) (rows_of x f (incoming_of p))
 rows_open x f (said m) u = session_opens x f m u

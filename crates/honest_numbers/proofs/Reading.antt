@@ -2,9 +2,6 @@
 use Rattle.std.proofs.Common.{◌≡◌, ℕ, ◌+◌, ◌≤◌, ◌&&◌, ◌||◌, Bool, true, false, if◌then◌else◌, List, [], ◌∷◌, Option, Some, None, refl, sym, ap, subst, ◌∙◌, arith, true≢false}
 use Rattle.std.specs.Prelude.{is_some, IsSome}
 use Rattle.fixp_msgs.specs.declared.flow.Flow.{Flow}
-use Rattle.flow_recover.specs.Receiving as receiver_is
-use Rattle.flow_recover.specs.Receiving.{Receiving}
-use Rattle.flow_retrans.specs.declared.request.Request.{Request}
 use Rattle.fixp_shake.specs.declared.config.EndConfig.{EndConfig}
 use Rattle.fixp_shake.specs.declared.violation.Violation.{Violation}
 use Rattle.fixp_shake.specs.Flows.{is_recoverable, is_sequenced}
@@ -18,12 +15,12 @@ use Rattle.fixp_replies.specs.Replies.{reply_of}
 use Rattle.connection_laws.specs.Writing.{Piece, WritesOwn, nothing, shakes, resends}
 use Rattle.connection_laws.proofs.Replied.{frame_writes}
 use Rattle.link_laws.specs.Reading.{incoming_of}
-use Rattle.honest_laws.specs.Numbers.{Awaited, exactly, at_most, live_after, awaited_after, left_after, Fits, Runs, Answers, Matches, Line, Idle, Before, After, BeforeOther, AfterOther, Peer, IsFlowing, to_come}
+use Rattle.honest_laws.specs.Numbers.{Awaited, exactly, at_most, live_after, awaited_after, left_after, Fits, Runs, Answers, Line, Idle, Before, After, BeforeOther, AfterOther, Peer, IsFlowing, to_come}
 use Rattle.honest_laws.proofs.Expected.{reader_expects}
 use Rattle.honest_laws.proofs.Running.{number_of, Below, fits_below, lower, number_after, grows, runs_top}
 use Rattle.honest_numbers.specs.Numbered.{next_live, awaits, awaited}
 use Rattle.honest_numbers.specs.Laws.{NoNumber}
-use Rattle.honest_numbers.proofs.Awaiting.{not_number, awaited_before, awaited_then, number_awaited, after_then, after_at_most, Moves, lined_moves, other_moves, inbox_of, live_is, Ready, ready_top, moved_runs}
+use Rattle.honest_numbers.proofs.Awaiting.{not_number, awaited_before, awaited_then, number_awaited, after_then, after_at_most, Moves, lined_moves, other_moves, inbox_of, live_is, same_live, line_same, idle_same, Ready, ready_top, moved_runs}
 use Rattle.honest_numbers.proofs.Opening.{Hears, still, done, Opens, opening_reply}
 
 -- the reply breaks no rule of numbers, and its reader is ready for the rest, where its connection goes on; its inbox awaits no more than
@@ -165,33 +162,19 @@ opening_reads x f p left k m before r high top =
     more = subst (λ (l : Option ℕ). Runs c.peer_flow (awaited_after c.peer_flow p (at_most (next_live c f)) l) (left_after p l) left k m) none
         (subst (λ (a : Awaited). Runs c.peer_flow (awaited_after c.peer_flow p a (to_come f.connection.requester)) (left_after p (to_come f.connection.requester)) left k m) waits r.runs.1)
 
-    -- nothing of it moved
-    same_live : (g : Facts) → g.connection.receiver ≡ f.connection.receiver → g.recorded.inbox_next ≡ f.recorded.inbox_next → next_live c g ≡ next_live c f
-    same_live g e n = ap (λ (k : Receiving). if is_recoverable c.peer_flow then k.live else g.recorded.inbox_next) e ∙ ap (λ (k : ℕ). if is_recoverable c.peer_flow then f.connection.receiver.live else k) n
-
     below : Below (at_most (next_live c f)) (awaited_after c.peer_flow p (at_most (next_live c f)) None)
     below = let up = grows c.peer_flow p (at_most (next_live c f)) None fits in let after = number_after c.peer_flow p (at_most (next_live c f)) None in omega (arith, up, after)
-
-    line_same : (g : Facts) → g.connection.receiver ≡ f.connection.receiver → g.connection.requester ≡ f.connection.requester → g.recorded.inbox_next ≡ f.recorded.inbox_next → Line f → Line g
-    line_same g e q n line = record {
-      waits = ap (λ (k : Receiving). k.next) e ∙ (line.waits ∙ sym n);
-      low = subst (λ (k : Receiving). k.next ≤ k.live) (sym e) line.low;
-      matches = subst (λ (k : Receiving). Matches k g.connection.requester) (sym e) (subst (λ (k : Request). Matches f.connection.receiver k) (sym q) line.matches);
-    }
-
-    idle_same : (g : Facts) → g.connection.receiver ≡ f.connection.receiver → g.connection.requester ≡ f.connection.requester → Idle g
-    idle_same g e q = record { even = ap (λ k. receiver_is.gap k) e ∙ idle.even; none = q ∙ idle.none }
 
     by_hearing : Hears c p f o.next → Ready c o.next left k m × (is_recoverable c.peer_flow ≡ true → f.recorded.inbox_next ≤ o.next.recorded.inbox_next)
     by_hearing (still then_before e q n no_left) = (
       record {
-        runs = subst (λ (a : Awaited). Runs c.peer_flow a (to_come o.next.connection.requester) left k m) (sym (awaited_before c o.next then_before ∙ ap at_most (same_live o.next e n)))
+        runs = subst (λ (a : Awaited). Runs c.peer_flow a (to_come o.next.connection.requester) left k m) (sym (awaited_before c o.next then_before ∙ ap at_most (same_live c f o.next e n)))
             (subst (λ (l : Option ℕ). Runs c.peer_flow (at_most (next_live c f)) l left k m) (sym (ap to_come q ∙ none))
             (lower c.peer_flow (at_most (next_live c f)) (awaited_after c.peer_flow p (at_most (next_live c f)) None) None left k m below
             (subst (λ (l : Option ℕ). Runs c.peer_flow (awaited_after c.peer_flow p (at_most (next_live c f)) None) l left k m) no_left more)));
-        line = λ rec. line_same o.next e q n (r.line rec);
-        idle = λ _. idle_same o.next e q;
-        opening = λ _. idle_same o.next e q;
+        line = λ rec. line_same f o.next e q n (r.line rec);
+        idle = λ _. idle_same f o.next e q idle;
+        opening = λ _. idle_same f o.next e q idle;
       },
       λ _. omega (arith, n),
     )
@@ -203,10 +186,10 @@ opening_reads x f p left k m before r high top =
 pub reads : (x : Around) (f : Facts) (theirs : EndConfig) (p : Piece) (left : List Piece) (k : ℕ) (m : Option ℕ) → Peer x.config theirs → is_closing f.connection.phase ≡ false
     → (is_shaken f.connection.phase ≡ true → IsFlowing theirs p) → Ready x.config f (p ∷ left) k m → Answers f.connection.requester p → k ≤ x.most + 1 → f.recorded.inbox_next ≤ k
     → Heard x.config f left k m (reply_of x f (incoming_of p))
-reads x f theirs p left k m are open flows r answers high top = by_phase (is_established f.connection.phase) refl
+reads x f theirs p left k m are yet flows r answers high top = by_phase (is_established f.connection.phase) refl
   where
     by_phase : (b : Bool) → is_established f.connection.phase ≡ b → Heard x.config f left k m (reply_of x f (incoming_of p))
     by_phase true now =
         let shaken : is_shaken f.connection.phase ≡ true = ap (λ b. b || is_closing f.connection.phase) now in
         established_reads x f theirs p left k m are now shaken (flows shaken) r answers high top
-    by_phase false not_now = opening_reads x f p left k m (ap (λ b. b || is_closing f.connection.phase) not_now ∙ open) r high top
+    by_phase false not_now = opening_reads x f p left k m (ap (λ b. b || is_closing f.connection.phase) not_now ∙ yet) r high top

@@ -17,7 +17,7 @@ use Rattle.fixp_shake.specs.Phases.{is_established, is_closing, is_shaken}
 use Rattle.fixp_replies.specs.declared.act.Ending.{Ending}
 use Rattle.fixp_replies.specs.declared.facts.Facts.{Facts}
 use Rattle.fixp_replies.specs.Facts.{Around, is_own, serves, gap_to_ask}
-use Rattle.fixp_replies.specs.Incoming.{session}
+use Rattle.fixp_replies.specs.Incoming.{Incoming, session}
 use Rattle.fixp_replies.specs.Outcomes.{Outcome, ignores, not_in_phase, request_for}
 use Rattle.fixp_replies.specs.Serving.{request_answered, retransmit_request_rows}
 use Rattle.fixp_replies.specs.Replies.{reply_of, rows_of, answer_of, terminates}
@@ -118,6 +118,7 @@ request_reply x f theirs q id timestamp first count are flows rec below names =
     (λ _. all_rows (Answered q) (not_in_phase x f 9) (rows_of x f i) (tt, tt)
     (all_within (Answered q) (is_established f.connection.phase) (retransmit_request_rows x f id timestamp first count) (λ now. (λ _. (tt, tt), λ _. (λ _. resends now, λ _. tt)))))
   where
+    i : Incoming
     i = session (retransmit_request id timestamp first count)
 
     resends : is_established f.connection.phase ≡ true → Answered q (request_answered x f id timestamp (judged (is_own x id) (is_recoverable x.config.own_flow) first count f.recorded.sent))

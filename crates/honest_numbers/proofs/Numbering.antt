@@ -1,0 +1,352 @@
+-- The numbers of both flows, over any steps.
+use Rattle.std.proofs.Common.{◌≡◌, inl, inr, ℕ, ◌+◌, ◌≤◌, ◌&&◌, not, Bool, true, false, if◌then◌else◌, List, [], ◌∷◌, ◌++◌, length, Option, Some, None, refl, sym, ap, subst, ◌∙◌, arith, true≢false}
+use Rattle.std.specs.Prelude.{⊤, is_some}
+use Rattle.std.specs.List.{AllByRecursion}
+use Rattle.session_model.specs.Journal.{Entry}
+use Rattle.fixp_msgs.specs.declared.flow.Flow.{Flow}
+use Rattle.flow_recover.specs.Receiving as receiver_is
+use Rattle.flow_retrans.specs.declared.request.Request.TheVariants as requests
+use Rattle.fixp_shake.specs.declared.config.EndConfig.{EndConfig}
+use Rattle.fixp_shake.specs.declared.phase.Phase.{Phase}
+use Rattle.fixp_shake.specs.declared.phase.Phase.TheVariants as phases
+use Rattle.fixp_shake.specs.declared.violation.Violation.{Violation}
+use Rattle.fixp_shake.specs.declared.violation.Violation.TheVariants.{BadFrame, UnknownTemplate, NotInPhase, OtherSession, WentBack, MissingNext, NumberTooLarge, BadRetransmission, AfterFinish, FlowNone, Silent, HandshakeLate}
+use Rattle.fixp_shake.specs.Phases.{is_shaken}
+use Rattle.fixp_replies.specs.declared.act.Ending.{Ending}
+use Rattle.fixp_replies.specs.declared.act.Ending.TheVariants as endings
+use Rattle.fixp_replies.specs.declared.facts.EndState.{EndState}
+use Rattle.fixp_replies.specs.declared.facts.Facts.{Facts}
+use Rattle.fixp_replies.specs.Facts.{Around, is_initiator, connecting}
+use Rattle.fixp_replies.specs.Outcomes.{Outcome, opening_negotiate, opening_establish}
+use Rattle.fixp_replies.specs.Replies.{reply_of}
+use Rattle.fixp_replies.specs.Events.{Made, begun}
+use Rattle.reply_laws.specs.Machine.{State, around, run}
+use Rattle.connection_laws.specs.Writing.{Piece, said, said_all}
+use Rattle.connection_laws.specs.Standing.{IsOpen}
+use Rattle.link_laws.specs.Reading.{incoming_of}
+use Rattle.honest_laws.specs.Laws.{IsOfTime, EndsBy}
+use Rattle.honest_laws.specs.Numbers.{exactly, Runs, RunsBetween, served, Answers, IsFlowing, Peer, to_come}
+use Rattle.honest_laws.specs.Worlds.{World, Step, meets, initiator_reads, acceptor_reads, initiator_does, acceptor_does, written, after, initiator_read, acceptor_read, MayStep, world_after, AllMayStep, Match, Starts}
+use Rattle.honest_laws.proofs.Shapes.{all_free_flow}
+use Rattle.honest_laws.proofs.Finishing.{total}
+use Rattle.honest_laws.proofs.Asking.{asks, restarts, establish_runs}
+use Rattle.honest_laws.proofs.Opening.{Quiet}
+use Rattle.honest_laws.proofs.Moving.{Reads, reads_as, does_as, ends_still}
+use Rattle.honest_laws.proofs.Serving.{Requests, serves_as}
+use Rattle.honest_laws.proofs.Phased.{Shaking, opens, answering, acknowledging, standing, refusing, Holds, holds_step, holds_at_first, to_acceptor, to_initiator}
+use Rattle.honest_numbers.specs.Knowing.{Knows, StartsKnown}
+use Rattle.honest_numbers.specs.Numbered.{awaited, Names, Expects, Follows, Numbered}
+use Rattle.honest_numbers.specs.Laws.{NoNumber, NumbersHold, NumberedHolds}
+use Rattle.honest_numbers.proofs.Awaiting.{Ready}
+use Rattle.honest_numbers.proofs.Counting.{within_as}
+use Rattle.honest_numbers.proofs.Requesting.{Agrees, none_named, none_answered}
+use Rattle.honest_numbers.proofs.Keeping.{Between, reader_replies, writer_replies, same_shaken, reader_calls, writer_calls, ready_first}
+
+-- What each end may read, and is, as far as the handshake is
+no_two : (p q : Phase) → p ≡ q → is_shaken q ≡ false → is_shaken p ≡ true → ⊥
+no_two p q e n h = true≢false (sym h ∙ (ap (λ k. is_shaken k) e ∙ n))
+
+unshaken_not : (b : Bool) → b ≡ false → b ≡ true → ⊥
+unshaken_not b n h = true≢false (sym h ∙ n)
+
+initiator_flows : (ci ca : EndConfig) (fi : Facts) (ei : Option Ending) (fa : Facts) (outward homeward : List Piece) → Shaking ci ca fi ei fa outward homeward → is_shaken fi.connection.phase ≡ true → AllByRecursion (IsFlowing ca) homeward
+initiator_flows ci ca fi ei fa outward homeward (opens bi qi idle qa one free) h = absurd (unshaken_not (is_shaken fi.connection.phase) bi h)
+initiator_flows ci ca fi ei fa outward homeward (answering bi qi idle qa free one) h = absurd (unshaken_not (is_shaken fi.connection.phase) bi h)
+initiator_flows ci ca fi ei fa outward homeward (acknowledging e qi est free first) h = absurd (no_two fi.connection.phase phases.Establishing e refl h)
+initiator_flows ci ca fi ei fa outward homeward (standing shaken est out home) h = home
+initiator_flows ci ca fi ei fa outward homeward (refusing over bi qi est free) h = absurd (unshaken_not (is_shaken fi.connection.phase) bi h)
+
+acceptor_flows : (ci ca : EndConfig) (fi : Facts) (ei : Option Ending) (fa : Facts) (outward homeward : List Piece) → Shaking ci ca fi ei fa outward homeward → is_shaken fa.connection.phase ≡ true → AllByRecursion (IsFlowing ci) outward
+acceptor_flows ci ca fi ei fa outward homeward (opens bi qi idle qa one free) h = absurd (no_two fa.connection.phase phases.Idle idle refl h)
+acceptor_flows ci ca fi ei fa outward homeward (answering bi qi idle qa free one) h = absurd (no_two fa.connection.phase phases.Idle idle refl h)
+acceptor_flows ci ca fi ei fa outward homeward (acknowledging e qi est free first) h = all_free_flow ci outward free
+acceptor_flows ci ca fi ei fa outward homeward (standing shaken est out home) h = out
+acceptor_flows ci ca fi ei fa outward homeward (refusing over bi qi est free) h = all_free_flow ci outward free
+
+initiator_quiet : (ci ca : EndConfig) (fi : Facts) (ei : Option Ending) (fa : Facts) (outward homeward : List Piece) → Shaking ci ca fi ei fa outward homeward → is_shaken fi.connection.phase ≡ false → Quiet fi
+initiator_quiet ci ca fi ei fa outward homeward (opens bi qi idle qa one free) h = qi
+initiator_quiet ci ca fi ei fa outward homeward (answering bi qi idle qa free one) h = qi
+initiator_quiet ci ca fi ei fa outward homeward (acknowledging e qi est free first) h = qi
+initiator_quiet ci ca fi ei fa outward homeward (standing shaken est out home) h = absurd (unshaken_not (is_shaken fi.connection.phase) h shaken)
+initiator_quiet ci ca fi ei fa outward homeward (refusing over bi qi est free) h = qi
+
+established_not : (p : Phase) → p ≡ phases.Established → is_shaken p ≡ false → ⊥
+established_not p e n = true≢false (sym (ap (λ k. is_shaken k) e) ∙ n)
+
+acceptor_quiet : (ci ca : EndConfig) (fi : Facts) (ei : Option Ending) (fa : Facts) (outward homeward : List Piece) → Shaking ci ca fi ei fa outward homeward → is_shaken fa.connection.phase ≡ false → Quiet fa
+acceptor_quiet ci ca fi ei fa outward homeward (opens bi qi idle qa one free) h = qa
+acceptor_quiet ci ca fi ei fa outward homeward (answering bi qi idle qa free one) h = qa
+acceptor_quiet ci ca fi ei fa outward homeward (acknowledging e qi est free first) h = absurd (established_not fa.connection.phase est h)
+acceptor_quiet ci ca fi ei fa outward homeward (standing shaken est out home) h = absurd (established_not fa.connection.phase est h)
+acceptor_quiet ci ca fi ei fa outward homeward (refusing over bi qi est free) h = absurd (established_not fa.connection.phase est h)
+
+-- the numbers of one flow of a world
+abbrev Flowing : List Entry → State → State → (way back : List Piece) → Type 0
+Flowing h writer reader way back = Between h writer.facts reader.config reader.most reader.facts reader.ending way back
+
+record Counted (hi ha : List Entry) (w : World) : Type 0 where
+  holds : Holds w
+  outward : Flowing hi w.initiator w.acceptor w.outward w.homeward
+  homeward : Flowing ha w.acceptor w.initiator w.homeward w.outward
+  initiator : EndsBy NoNumber w.initiator
+  acceptor : EndsBy NoNumber w.acceptor
+
+-- a message is read: what holds of its outcome holds of the end behind it
+read_by : (h : List Entry) (writer : Facts) (s t : State) (o : Outcome) (left back out : List Piece) → Reads s o t out → Between h writer s.config s.most o.next o.ending left (back ++ said_all o.written)
+    → Between h writer t.config t.most t.facts t.ending left (back ++ out)
+read_by h writer s t o left back out r b =
+    subst (λ (c : EndConfig). Between h writer c t.most t.facts t.ending left (back ++ out)) (sym r.config)
+    (subst (λ (n : ℕ). Between h writer s.config n t.facts t.ending left (back ++ out)) (sym r.most)
+    (subst (λ (f : Facts). Between h writer s.config s.most f t.ending left (back ++ out)) (sym r.facts)
+    (subst (λ (e : Option Ending). Between h writer s.config s.most o.next e left (back ++ out)) (sym r.ending)
+    (subst (λ (ps : List Piece). Between h writer s.config s.most o.next o.ending left (back ++ ps)) (sym r.writes) b))))
+
+written_by : (h : List Entry) (s t : State) (o : Outcome) (c : EndConfig) (limit : ℕ) (reader : Facts) (over : Option Ending) (way left out : List Piece) → Reads s o t out
+    → Between h o.next c limit reader over (way ++ said_all o.written) left → Between h t.facts c limit reader over (way ++ out) left
+written_by h s t o c limit reader over way left out r b =
+    subst (λ (f : Facts). Between h f c limit reader over (way ++ out) left) (sym r.facts)
+    (subst (λ (ps : List Piece). Between h o.next c limit reader over (way ++ ps) left) (sym r.writes) b)
+
+-- no connection has ended
+going_on : (h : List Entry) (writer : Facts) (c : EndConfig) (limit : ℕ) (reader : Facts) (e : Option Ending) (way back : List Piece) → e ≡ None → Between h writer c limit reader e way back → Between h writer c limit reader None way back
+going_on h writer c limit reader e way back none b = subst (λ (k : Option Ending). Between h writer c limit reader k way back) none b
+
+initiator_reading : (hi ha : List Entry) (w : World) (way : List Piece) (at now : ℕ) → w.homeward ≡ way → Counted hi ha w → IsOpen w.initiator → Holds (initiator_read w way at now) → Counted hi ha (initiator_read w way at now)
+initiator_reading hi ha w [] at now e n going h = n
+initiator_reading hi ha w (p ∷ left) at now e n going h =
+    let s = w.initiator in
+    let x = around s at now in
+    let o : Outcome = reply_of x s.facts (incoming_of p) in
+    let rd = reads_as s p at now in
+    let matches = n.holds.matches in
+    let peer = to_initiator s.config w.acceptor.config matches in
+    let flows : is_shaken s.facts.connection.phase ≡ true → IsFlowing w.acceptor.config p = λ shaken. (subst (λ (ps : List Piece). AllByRecursion (IsFlowing w.acceptor.config) ps) e (initiator_flows s.config w.acceptor.config s.facts s.ending w.acceptor.facts w.outward w.homeward n.holds.shaking shaken)).0 in
+    let asked = subst (λ (ps : List Piece). Requests w.acceptor.facts s.facts s.ending ps w.outward) e n.holds.homeward_requests in
+    let home = going_on ha w.acceptor.facts s.config s.most s.facts s.ending (p ∷ left) w.outward going.going
+        (subst (λ (ps : List Piece). Between ha w.acceptor.facts s.config s.most s.facts s.ending ps w.outward) e n.homeward) in
+    let out = subst (λ (ps : List Piece). Between hi s.facts w.acceptor.config w.acceptor.most w.acceptor.facts w.acceptor.ending w.outward ps) e n.outward in
+    let r = reader_replies ha w.acceptor.facts x s.facts w.acceptor.config p left w.outward peer flows asked.once home in
+    record {
+      holds = h;
+      outward = written_by hi s _ o w.acceptor.config w.acceptor.most w.acceptor.facts w.acceptor.ending w.outward left _ rd
+          (writer_replies hi x s.facts w.acceptor.config w.acceptor.config w.acceptor.most w.acceptor.facts w.acceptor.ending p w.outward left peer flows matches.outward out);
+      homeward = read_by ha w.acceptor.facts s _ o left w.outward _ rd r.0;
+      initiator = λ v is. r.1 v (sym rd.ending ∙ is);
+      acceptor = n.acceptor;
+    }
+
+acceptor_reading : (hi ha : List Entry) (w : World) (way : List Piece) (at now : ℕ) → w.outward ≡ way → Counted hi ha w → IsOpen w.acceptor → Holds (acceptor_read w way at now) → Counted hi ha (acceptor_read w way at now)
+acceptor_reading hi ha w [] at now e n going h = n
+acceptor_reading hi ha w (p ∷ left) at now e n going h =
+    let s = w.acceptor in
+    let x = around s at now in
+    let o : Outcome = reply_of x s.facts (incoming_of p) in
+    let rd = reads_as s p at now in
+    let matches = n.holds.matches in
+    let peer = to_acceptor w.initiator.config s.config matches in
+    let flows : is_shaken s.facts.connection.phase ≡ true → IsFlowing w.initiator.config p = λ shaken. (subst (λ (ps : List Piece). AllByRecursion (IsFlowing w.initiator.config) ps) e (acceptor_flows w.initiator.config s.config w.initiator.facts w.initiator.ending s.facts w.outward w.homeward n.holds.shaking shaken)).0 in
+    let asked = subst (λ (ps : List Piece). Requests w.initiator.facts s.facts s.ending ps w.homeward) e n.holds.outward_requests in
+    let out = going_on hi w.initiator.facts s.config s.most s.facts s.ending (p ∷ left) w.homeward going.going
+        (subst (λ (ps : List Piece). Between hi w.initiator.facts s.config s.most s.facts s.ending ps w.homeward) e n.outward) in
+    let home = subst (λ (ps : List Piece). Between ha s.facts w.initiator.config w.initiator.most w.initiator.facts w.initiator.ending w.homeward ps) e n.homeward in
+    let r = reader_replies hi w.initiator.facts x s.facts w.initiator.config p left w.homeward peer flows asked.once out in
+    record {
+      holds = h;
+      outward = read_by hi w.initiator.facts s _ o left w.homeward _ rd r.0;
+      homeward = written_by ha s _ o w.initiator.config w.initiator.most w.initiator.facts w.initiator.ending w.homeward left _ rd
+          (writer_replies ha x s.facts w.initiator.config w.initiator.config w.initiator.most w.initiator.facts w.initiator.ending p w.homeward left peer flows matches.homeward home);
+      initiator = n.initiator;
+      acceptor = λ v is. r.1 v (sym rd.ending ∙ is);
+    }
+
+-- what a connection begins with
+record Begins (x : Around) (recorded : EndState) (m : Made) : Type 0 where
+  same : m.next.recorded ≡ recorded
+  receiver : m.next.connection.receiver ≡ receiver_is.fresh recorded.inbox_next
+  requester : m.next.connection.requester ≡ requests.Nothing
+  before : is_shaken m.next.connection.phase ≡ false
+  runs : Runs x.config.own_flow (exactly (recorded.sent + 1)) None (said_all m.written) (recorded.sent + 1) None
+  free : served m.next.connection.serving ≡ None
+  asks_none : total asks (said_all m.written) ≡ 0
+  begins_none : total restarts (said_all m.written) ≡ 0
+
+begins : (x : Around) (recorded : EndState) → Begins x recorded (begun x recorded)
+begins x recorded = by_case (is_initiator x.config.role) recorded.negotiated
+  where
+    begun_as : (i n : Bool) → Made
+    begun_as i n =
+        if not i then record { written = []; next = connecting recorded phases.Idle }
+        else if n then record { written = opening_establish x (connecting recorded phases.Establishing) ∷ []; next = connecting recorded phases.Establishing }
+        else record { written = opening_negotiate x ∷ []; next = connecting recorded phases.Negotiating }
+
+    by_case : (i n : Bool) → Begins x recorded (begun_as i n)
+    by_case false n = record { same = refl; receiver = refl; requester = refl; before = refl; runs = (refl, refl); free = refl; asks_none = refl; begins_none = refl }
+    by_case true true = record {
+      same = refl;
+      receiver = refl;
+      requester = refl;
+      before = refl;
+      runs = establish_runs x (connecting recorded phases.Establishing) None;
+      free = refl;
+      asks_none = refl;
+      begins_none = refl;
+    }
+    by_case true false = record { same = refl; receiver = refl; requester = refl; before = refl; runs = ((tt, tt), (refl, refl)); free = refl; asks_none = refl; begins_none = refl }
+
+meeting : (h : List Entry) (xw xr : Around) (writer reader : EndState) (limit : ℕ) (fw fr : Facts) (over : Option Ending) (way back : List Piece) → fw.recorded ≡ writer → fr.recorded ≡ reader → xr.config.peer_flow ≡ xw.config.own_flow
+    → Between h fw xr.config limit fr over way back → Between h (begun xw writer).next xr.config limit (begun xr reader).next None (said_all (begun xw writer).written) (said_all (begun xr reader).written)
+meeting h xw xr writer reader limit fw fr over way back ew er flow b =
+    let w = begins xw writer in
+    let r = begins xr reader in
+    let sent_w = ap (λ (k : EndState). k.sent) (w.same ∙ sym ew) in
+    let inbox_r = ap (λ (k : EndState). k.inbox_next) (r.same ∙ sym er) in
+    let sent = b.sent in
+    let next = b.next in
+    record {
+      sent = omega (arith, sent_w, sent);
+      most = b.most;
+      one = λ rec. let one = b.one rec in omega (arith, one, inbox_r);
+      next = omega (arith, sent_w, inbox_r, next);
+      goes = λ _ _. (
+        ready_first xr.config (begun xr reader).next (said_all (begun xw writer).written) ((begun xw writer).next.recorded.sent + 1) (served (begun xw writer).next.connection.serving)
+            (r.receiver ∙ ap (λ (k : EndState). receiver_is.fresh k.inbox_next) (sym r.same)) r.requester r.before (omega (arith, sent_w, inbox_r, next)) (runs w),
+        record { asks = none_named _ _ r.asks_none; answers = none_answered _ _ w.begins_none },
+      );
+    }
+  where
+    runs : Begins xw writer (begun xw writer)
+        → Runs xr.config.peer_flow (exactly ((begun xw writer).next.recorded.sent + 1)) None (said_all (begun xw writer).written) ((begun xw writer).next.recorded.sent + 1) (served (begun xw writer).next.connection.serving)
+    runs w = subst (λ (f : Flow). Runs f (exactly ((begun xw writer).next.recorded.sent + 1)) None (said_all (begun xw writer).written) ((begun xw writer).next.recorded.sent + 1) (served (begun xw writer).next.connection.serving)) (sym flow)
+        (subst (λ (k : EndState). Runs xw.config.own_flow (exactly (k.sent + 1)) None (said_all (begun xw writer).written) (k.sent + 1) (served (begun xw writer).next.connection.serving)) (sym w.same)
+        (subst (λ (l : Option ℕ). Runs xw.config.own_flow (exactly (writer.sent + 1)) None (said_all (begun xw writer).written) (writer.sent + 1) l) (sym w.free) w.runs))
+
+no_violation : (v : Violation) → None ≡ Some (endings.Violation v) → NoNumber v
+no_violation v e = absurd cc
+
+-- those of time are none of numbers
+time_fine : (v : Violation) → IsOfTime v → NoNumber v
+time_fine (BadFrame at) t = absurd t
+time_fine (UnknownTemplate id) t = absurd t
+time_fine (NotInPhase template phase) t = absurd t
+time_fine (OtherSession template) t = absurd t
+time_fine (WentBack announced expected) t = absurd t
+time_fine (MissingNext template) t = absurd t
+time_fine (NumberTooLarge announced) t = absurd t
+time_fine (BadRetransmission expected found) t = absurd t
+time_fine (AfterFinish last found) t = absurd t
+time_fine (FlowNone template) t = absurd t
+time_fine (Silent last now) t = tt
+time_fine (HandshakeLate start now) t = tt
+
+counted_step : (hi ha : List Entry) (w : World) (step : Step) → Counted hi ha w → MayStep hi ha w step → Counted hi ha (after w step)
+counted_step hi ha w (meets now_i now_a) n may =
+    let xi = around w.initiator 0 now_i in
+    let xa = around w.acceptor 0 now_a in
+    let m = n.holds.matches in
+    record {
+      holds = holds_step hi ha w (meets now_i now_a) n.holds may;
+      outward = meeting hi xi xa w.initiator.facts.recorded w.acceptor.facts.recorded w.acceptor.most w.initiator.facts w.acceptor.facts w.acceptor.ending w.outward w.homeward refl refl m.outward n.outward;
+      homeward = meeting ha xa xi w.acceptor.facts.recorded w.initiator.facts.recorded w.initiator.most w.acceptor.facts w.initiator.facts w.initiator.ending w.homeward w.outward refl refl m.homeward n.homeward;
+      initiator = no_violation;
+      acceptor = no_violation;
+    }
+counted_step hi ha w (initiator_reads at now) n may = initiator_reading hi ha w w.homeward at now refl n may (holds_step hi ha w (initiator_reads at now) n.holds may)
+counted_step hi ha w (acceptor_reads at now) n may = acceptor_reading hi ha w w.outward at now refl n may (holds_step hi ha w (acceptor_reads at now) n.holds may)
+counted_step hi ha w (initiator_does call) n may =
+    let s = w.initiator in
+    let t = run s (call ∷ []) in
+    let out = written s (call ∷ []) in
+    let d = does_as hi s call may.0 may.1 n.holds.initiator.serves in
+    let k = serves_as hi s call may.0 may.1 in
+    let c = within_as hi s call may.0 may.1 in
+    let quiet = initiator_quiet s.config w.acceptor.config s.facts s.ending w.acceptor.facts w.outward w.homeward n.holds.shaking in
+    record {
+      holds = holds_step hi ha w (initiator_does call) n.holds may;
+      outward = writer_calls hi s t w.acceptor.config w.acceptor.most w.acceptor.facts w.acceptor.ending w.outward w.homeward out n.holds.matches.outward c k n.outward;
+      homeward = reader_calls ha w.acceptor.facts s t w.homeward w.outward out (same_shaken s t out d quiet) d.over c.most d.config k n.homeward;
+      initiator = ends_still NoNumber s t d.ends time_fine n.initiator;
+      acceptor = n.acceptor;
+    }
+counted_step hi ha w (acceptor_does call) n may =
+    let s = w.acceptor in
+    let t = run s (call ∷ []) in
+    let out = written s (call ∷ []) in
+    let d = does_as ha s call may.0 may.1 n.holds.acceptor.serves in
+    let k = serves_as ha s call may.0 may.1 in
+    let c = within_as ha s call may.0 may.1 in
+    let quiet = acceptor_quiet w.initiator.config s.config w.initiator.facts w.initiator.ending s.facts w.outward w.homeward n.holds.shaking in
+    record {
+      holds = holds_step hi ha w (acceptor_does call) n.holds may;
+      outward = reader_calls hi w.initiator.facts s t w.outward w.homeward out (same_shaken s t out d quiet) d.over c.most d.config k n.outward;
+      homeward = writer_calls ha s t w.initiator.config w.initiator.most w.initiator.facts w.initiator.ending w.homeward w.outward out n.holds.matches.homeward c k n.homeward;
+      initiator = n.initiator;
+      acceptor = ends_still NoNumber s t d.ends time_fine n.acceptor;
+    }
+
+counted_after : (hi ha : List Entry) (w : World) (steps : List Step) → Counted hi ha w → AllMayStep hi ha w steps → Counted hi ha (world_after w steps)
+counted_after hi ha w [] n may = n
+counted_after hi ha w (step ∷ later) n may = counted_after hi ha (after w step) later (counted_step hi ha w step n may.0) may.1
+
+-- at the beginning nothing is under way
+beginning : (h : List Entry) (c : EndConfig) (writer : State) (limit : ℕ) (reader : State) (way back : List Piece) → Knows h writer reader → writer.facts.connection.serving ≡ None
+    → reader.facts.connection.receiver ≡ receiver_is.fresh reader.facts.recorded.inbox_next → reader.facts.connection.requester ≡ requests.Nothing → is_shaken reader.facts.connection.phase ≡ false → way ≡ [] → back ≡ []
+    → Flowing h writer reader way back
+beginning h c writer limit reader way back k free receiver requester before no_way no_back = record {
+  sent = k.sent;
+  most = k.most;
+  one = λ _. k.one;
+  next = k.next;
+  goes = λ _ _. (
+    ready_first reader.config reader.facts way (writer.facts.recorded.sent + 1) (served writer.facts.connection.serving) receiver requester before k.next
+        (subst (λ (ps : List Piece). Runs reader.config.peer_flow (exactly (writer.facts.recorded.sent + 1)) None ps (writer.facts.recorded.sent + 1) (served writer.facts.connection.serving)) (sym no_way) (refl, sym (ap served free))),
+    record {
+      asks = subst (λ (ps : List Piece). AllByRecursion (Names reader.facts.connection.requester) ps) (sym no_back) tt;
+      answers = subst (λ (ps : List Piece). AllByRecursion (Answers reader.facts.connection.requester) ps) (sym no_way) tt;
+    },
+  );
+}
+
+counted_at_first : (hi ha : List Entry) (w : World) → StartsKnown hi ha w → Counted hi ha w
+counted_at_first hi ha w st =
+    let start = st.0 in
+    let fi = ap (λ (s : State). s.facts.connection) start.initiator in
+    let fa = ap (λ (s : State). s.facts.connection) start.acceptor in
+    record {
+      holds = holds_at_first w start;
+      outward = beginning hi w.acceptor.config w.initiator w.acceptor.most w.acceptor w.outward w.homeward st.1 (ap (λ c. c.serving) fi) (ap (λ c. c.receiver) fa) (ap (λ c. c.requester) fa) (ap (λ c. is_shaken c.phase) fa) start.outward start.homeward;
+      homeward = beginning ha w.initiator.config w.acceptor w.initiator.most w.initiator w.homeward w.outward st.2 (ap (λ c. c.serving) fa) (ap (λ c. c.receiver) fi) (ap (λ c. c.requester) fi) (ap (λ c. is_shaken c.phase) fi) start.homeward start.outward;
+      initiator = λ v e. no_violation v (sym (ap (λ (s : State). s.ending) start.initiator) ∙ e);
+      acceptor = λ v e. no_violation v (sym (ap (λ (s : State). s.ending) start.acceptor) ∙ e);
+    }
+
+pub numbers_hold : NumbersHold
+numbers_hold hi ha w steps st may = let n = counted_after hi ha w steps (counted_at_first hi ha w st) may in (n.initiator, n.acceptor)
+
+-- as the definitions have it
+follows : (h : List Entry) (writer reader : State) (way back : List Piece) → reader.config.peer_flow ≡ writer.config.own_flow → Flowing h writer reader way back → Follows h writer reader way back
+follows h writer reader way back flow b = record {
+  sent = b.sent;
+  most = b.most;
+  one = b.one;
+  next = b.next;
+  expects = λ none yet. expects (b.goes none yet);
+}
+  where
+    expects : Ready reader.config reader.facts way (writer.facts.recorded.sent + 1) (served writer.facts.connection.serving) × Agrees reader.facts.connection.requester way back → Expects writer reader way back
+    expects g = record {
+      runs = subst (λ (f : Flow). Runs f (awaited reader.config reader.facts) (to_come reader.facts.connection.requester) way (writer.facts.recorded.sent + 1) (served writer.facts.connection.serving)) flow g.0.runs;
+      line = g.0.line;
+      idle = g.0.idle;
+      opening = g.0.opening;
+      asks = g.1.asks;
+      answers = g.1.answers;
+    }
+
+pub numbered_holds : NumberedHolds
+numbered_holds hi ha w steps st may =
+    let n = counted_after hi ha w steps (counted_at_first hi ha w st) may in
+    let v = world_after w steps in
+    record {
+      outward = follows hi v.initiator v.acceptor v.outward v.homeward n.holds.matches.outward n.outward;
+      homeward = follows ha v.acceptor v.initiator v.homeward v.outward n.holds.matches.homeward n.homeward;
+    }
