@@ -13,7 +13,7 @@ use Rattle.fixp_msgs.specs.declared.flow.Flow.TheVariants as flows
 use Rattle.fixp_shake.specs.declared.config.EndConfig.{EndConfig}
 use Rattle.fixp_shake.specs.declared.phase.Phase.TheVariants as phases
 use Rattle.fixp_shake.specs.declared.violation.Violation.{Violation}
-use Rattle.fixp_shake.specs.declared.violation.Violation.TheVariants.{Silent, HandshakeLate}
+use Rattle.fixp_shake.specs.declared.violation.Violation.TheVariants.{BadFrame, UnknownTemplate, NotInPhase, OtherSession, WentBack, MissingNext, NumberTooLarge, BadRetransmission, AfterFinish, FlowNone, Silent, HandshakeLate}
 use Rattle.fixp_shake.specs.Flows.{is_recoverable, is_sequenced, is_absent}
 use Rattle.fixp_shake.specs.Phases.{is_established, is_shaken}
 use Rattle.fixp_replies.specs.declared.act.Ending.TheVariants as endings
@@ -34,6 +34,7 @@ use Rattle.honest_laws.specs.Worlds.{reading, written, IsOther}
 use Rattle.honest_laws.proofs.Shapes.{IsFree, all_free_flow}
 use Rattle.honest_laws.proofs.Opening.{Quiet}
 use Rattle.honest_laws.specs.Numbers.{IsFlowing}
+use Rattle.honest_laws.proofs.Deciding.{ended_by}
 
 -- a message is read: its outcome takes effect, and what it writes is written
 pub record Reads (s : State) (o : Outcome) (t : State) (out : List Piece) : Type 0 where
@@ -69,6 +70,21 @@ ends_still P s t newly of_time h v e = by_case (newly v e)
     by_case : (s.ending ≡ Some (endings.Violation v)) ⊎ IsOfTime v → P v
     by_case (inl before) = h v before
     by_case (inr late) = of_time v late
+
+-- what holds of silence and of a late handshake holds of each violation of time
+pub each_of_time : (P : Violation → Type 0) → ((last now : ℕ) → P (Silent last now)) → ((start now : ℕ) → P (HandshakeLate start now)) → (v : Violation) → IsOfTime v → P v
+each_of_time P silent late (BadFrame at) t = absurd t
+each_of_time P silent late (UnknownTemplate id) t = absurd t
+each_of_time P silent late (NotInPhase template phase) t = absurd t
+each_of_time P silent late (OtherSession template) t = absurd t
+each_of_time P silent late (WentBack announced expected) t = absurd t
+each_of_time P silent late (MissingNext template) t = absurd t
+each_of_time P silent late (NumberTooLarge announced) t = absurd t
+each_of_time P silent late (BadRetransmission expected found) t = absurd t
+each_of_time P silent late (AfterFinish last found) t = absurd t
+each_of_time P silent late (FlowNone template) t = absurd t
+each_of_time P silent late (Silent last now) t = silent last now
+each_of_time P silent late (HandshakeLate start now) t = late start now
 
 -- any other call, as far as phases go
 pub record Does (s t : State) (out : List Piece) : Type 0 where
@@ -157,20 +173,16 @@ record Broken (s t : State) : Type 0 where
   facts : t.facts ≡ s.facts
   ends : EndsBy IsOfTime t
 
-of_time : (b : Bool) (v w : Violation) → Some (if b then endings.Finished else endings.Violation v) ≡ Some (endings.Violation w) → IsOfTime v → IsOfTime w
-of_time true v w e h = absurd cc
-of_time false v w e h = let same : v ≡ w = cc e in subst (λ (u : Violation). IsOfTime u) same h
-
 broken : (s : State) (v : Option Violation) (now : ℕ) → s.ending ≡ None → ((w : Violation) → v ≡ Some w → IsOfTime w) → Broken s (broken_by s v now)
 broken s None now going h = record { config = refl; facts = refl; ends = λ w e. absurd (cc (going, e)) }
-broken s (Some v) now going h = record { config = refl; facts = refl; ends = λ w e. of_time (finishes_exchanged (around s 0 now) s.facts) v w e (h v refl) }
+broken s (Some v) now going h = record { config = refl; facts = refl; ends = λ w e. ended_by IsOfTime (finishes_exchanged (around s 0 now) s.facts) v w e (h v refl) }
 
 none_is : {A : Type 0} (o : Option A) → is_some o ≡ false → o ≡ None
 none_is None e = refl
 none_is (Some a) e = absurd (true≢false e)
 
 -- where a connection has not ended, nothing is said of one that has
-not_over : {A : Type 0} (o : Option A) {B : Type 0} → is_some o ≡ false → IsSome o → B
+pub not_over : {A : Type 0} (o : Option A) {B : Type 0} → is_some o ≡ false → IsSome o → B
 not_over None e h = absurd (true≢false (sym h))
 not_over (Some a) e h = absurd (true≢false e)
 

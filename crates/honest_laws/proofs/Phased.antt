@@ -11,7 +11,6 @@ use Rattle.fixp_shake.specs.declared.config.EndConfig.{EndConfig}
 use Rattle.fixp_shake.specs.declared.phase.Phase.{Phase}
 use Rattle.fixp_shake.specs.declared.phase.Phase.TheVariants as phases
 use Rattle.fixp_shake.specs.declared.violation.Violation.{Violation}
-use Rattle.fixp_shake.specs.declared.violation.Violation.TheVariants.{BadFrame, UnknownTemplate, NotInPhase, OtherSession, WentBack, MissingNext, NumberTooLarge, BadRetransmission, AfterFinish, FlowNone, Silent, HandshakeLate}
 use Rattle.fixp_shake.specs.Flows.{is_recoverable, is_sequenced}
 use Rattle.fixp_shake.specs.Phases.{is_idle, is_shaken}
 use Rattle.fixp_replies.specs.declared.act.Ending.{Ending}
@@ -38,7 +37,7 @@ use Rattle.honest_laws.proofs.Asking.{asks, restarts, inside, coming, is_serving
 use Rattle.honest_laws.proofs.Serving.{Requests, asked_by_reader, asked_by_writer, free_for, served_by_writer, served_by_reader, serves_as}
 use Rattle.honest_laws.proofs.Finishing.{counts, total, sendings, answers as answer_count, waiting, reads, tells}
 use Rattle.honest_laws.proofs.Telling.{Awaits, read_by_reader, read_by_writer, due, told_by_writer, told_by_reader, tells_as}
-use Rattle.honest_laws.proofs.Moving.{reads_as, Does, does_as, ends_still}
+use Rattle.honest_laws.proofs.Moving.{reads_as, Does, does_as, ends_still, each_of_time}
 use Rattle.honest_laws.specs.Numbers.{IsFlowing, Peer, served}
 
 -- How far the two ends are: the handshake is asked for or answered, or neither is under way; it is acknowledged; it is done; or the
@@ -200,24 +199,13 @@ acceptor_does_so s t out ci fi ei outward homeward role d (refusing over bi qi e
 
 -- those of time are left
 time_left : (v : Violation) → IsOfTime v → IsLeft v
-time_left (BadFrame at) t = absurd t
-time_left (UnknownTemplate id) t = absurd t
-time_left (NotInPhase template phase) t = absurd t
-time_left (OtherSession template) t = absurd t
-time_left (WentBack announced expected) t = absurd t
-time_left (MissingNext template) t = absurd t
-time_left (NumberTooLarge announced) t = absurd t
-time_left (BadRetransmission expected found) t = absurd t
-time_left (AfterFinish last found) t = absurd t
-time_left (FlowNone template) t = absurd t
-time_left (Silent last now) t = tt
-time_left (HandshakeLate start now) t = tt
+time_left = each_of_time IsLeft (λ last now. tt) (λ start now. tt)
 
 -- a connection begins
 quiet_beginning : (recorded : EndState) (p : Phase) → Quiet (connecting recorded p)
 quiet_beginning recorded p = record { even = no_gap recorded.inbox_next recorded.inbox_next refl; free = refl }
 
-abbrev begun_as : Around → EndState → (initiates negotiated : Bool) → Made
+abbrev pub begun_as : Around → EndState → (initiates negotiated : Bool) → Made
 begun_as x recorded initiates negotiated =
     if not initiates then record { written = []; next = connecting recorded phases.Idle }
     else if negotiated then record { written = opening_establish x (connecting recorded phases.Establishing) ∷ []; next = connecting recorded phases.Establishing }
@@ -298,7 +286,7 @@ holds_meeting w now_i now_a h =
     }
 
 -- what holds with these parts holds with equal ones
-carried : (P : EndConfig → Facts → Option Ending → List Piece → Type 0) {c d : EndConfig} {f g : Facts} {e k : Option Ending} {o r : List Piece} → d ≡ c → g ≡ f → k ≡ e → r ≡ o → P c f e o → P d g k r
+pub carried : (P : EndConfig → Facts → Option Ending → List Piece → Type 0) {c d : EndConfig} {f g : Facts} {e k : Option Ending} {o r : List Piece} → d ≡ c → g ≡ f → k ≡ e → r ≡ o → P c f e o → P d g k r
 carried P {c = c} {d = d} {f = f} {g = g} {e = e} {k = k} {o = o} {r = r} a b m n h =
     subst (λ (u : EndConfig). P u g k r) (sym a) (subst (λ (u : Facts). P c u k r) (sym b) (subst (λ (u : Option Ending). P c f u r) (sym m) (subst (λ (u : List Piece). P c f e u) (sym n) h)))
 

@@ -4,4 +4,7 @@ pub mod Opening
 pub mod Reading
 pub mod Requesting
 pub mod Keeping
+pub mod Standing
+pub mod Beginning
 pub mod Numbering
+pub mod Laws

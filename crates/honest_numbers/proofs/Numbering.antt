@@ -1,4 +1,4 @@
--- The numbers of both flows, over any steps.
+-- The numbers of both flows, step by step.
 use Rattle.std.proofs.Common.{◌≡◌, inl, inr, ℕ, ◌+◌, ◌≤◌, ◌&&◌, not, Bool, true, false, if◌then◌else◌, List, [], ◌∷◌, ◌++◌, length, Option, Some, None, refl, sym, ap, subst, ◌∙◌, arith, true≢false}
 use Rattle.std.specs.Prelude.{⊤, is_some}
 use Rattle.std.specs.List.{AllByRecursion}
@@ -10,7 +10,6 @@ use Rattle.fixp_shake.specs.declared.config.EndConfig.{EndConfig}
 use Rattle.fixp_shake.specs.declared.phase.Phase.{Phase}
 use Rattle.fixp_shake.specs.declared.phase.Phase.TheVariants as phases
 use Rattle.fixp_shake.specs.declared.violation.Violation.{Violation}
-use Rattle.fixp_shake.specs.declared.violation.Violation.TheVariants.{BadFrame, UnknownTemplate, NotInPhase, OtherSession, WentBack, MissingNext, NumberTooLarge, BadRetransmission, AfterFinish, FlowNone, Silent, HandshakeLate}
 use Rattle.fixp_shake.specs.Phases.{is_shaken}
 use Rattle.fixp_replies.specs.declared.act.Ending.{Ending}
 use Rattle.fixp_replies.specs.declared.act.Ending.TheVariants as endings
@@ -31,65 +30,29 @@ use Rattle.honest_laws.proofs.Shapes.{all_free_flow}
 use Rattle.honest_laws.proofs.Finishing.{total}
 use Rattle.honest_laws.proofs.Asking.{asks, restarts, establish_runs}
 use Rattle.honest_laws.proofs.Opening.{Quiet}
-use Rattle.honest_laws.proofs.Moving.{Reads, reads_as, does_as, ends_still}
+use Rattle.honest_laws.proofs.Moving.{Reads, reads_as, does_as, ends_still, each_of_time}
 use Rattle.honest_laws.proofs.Serving.{Requests, serves_as}
-use Rattle.honest_laws.proofs.Phased.{Shaking, opens, answering, acknowledging, standing, refusing, Holds, holds_step, holds_at_first, to_acceptor, to_initiator}
+use Rattle.honest_laws.proofs.Phased.{Shaking, opens, answering, acknowledging, standing, refusing, Holds, begun_as, holds_step, holds_at_first, to_acceptor, to_initiator}
 use Rattle.honest_numbers.specs.Knowing.{Knows, StartsKnown}
 use Rattle.honest_numbers.specs.Numbered.{awaited, Names, Expects, Follows, Numbered}
 use Rattle.honest_numbers.specs.Laws.{NoNumber, NumbersHold, NumberedHolds}
 use Rattle.honest_numbers.proofs.Awaiting.{Ready}
 use Rattle.honest_numbers.proofs.Counting.{within_as}
 use Rattle.honest_numbers.proofs.Requesting.{Agrees, none_named, none_answered}
+use Rattle.honest_numbers.proofs.Standing.{initiator_flows, acceptor_flows, initiator_quiet, acceptor_quiet}
+use Rattle.honest_numbers.proofs.Beginning.{meeting}
 use Rattle.honest_numbers.proofs.Keeping.{Between, reader_replies, writer_replies, same_shaken, reader_calls, writer_calls, ready_first}
 
--- What each end may read, and is, as far as the handshake is
-no_two : (p q : Phase) → p ≡ q → is_shaken q ≡ false → is_shaken p ≡ true → ⊥
-no_two p q e n h = true≢false (sym h ∙ (ap (λ k. is_shaken k) e ∙ n))
-
-unshaken_not : (b : Bool) → b ≡ false → b ≡ true → ⊥
-unshaken_not b n h = true≢false (sym h ∙ n)
-
-initiator_flows : (ci ca : EndConfig) (fi : Facts) (ei : Option Ending) (fa : Facts) (outward homeward : List Piece) → Shaking ci ca fi ei fa outward homeward → is_shaken fi.connection.phase ≡ true → AllByRecursion (IsFlowing ca) homeward
-initiator_flows ci ca fi ei fa outward homeward (opens bi qi idle qa one free) h = absurd (unshaken_not (is_shaken fi.connection.phase) bi h)
-initiator_flows ci ca fi ei fa outward homeward (answering bi qi idle qa free one) h = absurd (unshaken_not (is_shaken fi.connection.phase) bi h)
-initiator_flows ci ca fi ei fa outward homeward (acknowledging e qi est free first) h = absurd (no_two fi.connection.phase phases.Establishing e refl h)
-initiator_flows ci ca fi ei fa outward homeward (standing shaken est out home) h = home
-initiator_flows ci ca fi ei fa outward homeward (refusing over bi qi est free) h = absurd (unshaken_not (is_shaken fi.connection.phase) bi h)
-
-acceptor_flows : (ci ca : EndConfig) (fi : Facts) (ei : Option Ending) (fa : Facts) (outward homeward : List Piece) → Shaking ci ca fi ei fa outward homeward → is_shaken fa.connection.phase ≡ true → AllByRecursion (IsFlowing ci) outward
-acceptor_flows ci ca fi ei fa outward homeward (opens bi qi idle qa one free) h = absurd (no_two fa.connection.phase phases.Idle idle refl h)
-acceptor_flows ci ca fi ei fa outward homeward (answering bi qi idle qa free one) h = absurd (no_two fa.connection.phase phases.Idle idle refl h)
-acceptor_flows ci ca fi ei fa outward homeward (acknowledging e qi est free first) h = all_free_flow ci outward free
-acceptor_flows ci ca fi ei fa outward homeward (standing shaken est out home) h = out
-acceptor_flows ci ca fi ei fa outward homeward (refusing over bi qi est free) h = all_free_flow ci outward free
-
-initiator_quiet : (ci ca : EndConfig) (fi : Facts) (ei : Option Ending) (fa : Facts) (outward homeward : List Piece) → Shaking ci ca fi ei fa outward homeward → is_shaken fi.connection.phase ≡ false → Quiet fi
-initiator_quiet ci ca fi ei fa outward homeward (opens bi qi idle qa one free) h = qi
-initiator_quiet ci ca fi ei fa outward homeward (answering bi qi idle qa free one) h = qi
-initiator_quiet ci ca fi ei fa outward homeward (acknowledging e qi est free first) h = qi
-initiator_quiet ci ca fi ei fa outward homeward (standing shaken est out home) h = absurd (unshaken_not (is_shaken fi.connection.phase) h shaken)
-initiator_quiet ci ca fi ei fa outward homeward (refusing over bi qi est free) h = qi
-
-established_not : (p : Phase) → p ≡ phases.Established → is_shaken p ≡ false → ⊥
-established_not p e n = true≢false (sym (ap (λ k. is_shaken k) e) ∙ n)
-
-acceptor_quiet : (ci ca : EndConfig) (fi : Facts) (ei : Option Ending) (fa : Facts) (outward homeward : List Piece) → Shaking ci ca fi ei fa outward homeward → is_shaken fa.connection.phase ≡ false → Quiet fa
-acceptor_quiet ci ca fi ei fa outward homeward (opens bi qi idle qa one free) h = qa
-acceptor_quiet ci ca fi ei fa outward homeward (answering bi qi idle qa free one) h = qa
-acceptor_quiet ci ca fi ei fa outward homeward (acknowledging e qi est free first) h = absurd (established_not fa.connection.phase est h)
-acceptor_quiet ci ca fi ei fa outward homeward (standing shaken est out home) h = absurd (established_not fa.connection.phase est h)
-acceptor_quiet ci ca fi ei fa outward homeward (refusing over bi qi est free) h = absurd (established_not fa.connection.phase est h)
-
 -- the numbers of one flow of a world
-abbrev Flowing : List Entry → State → State → (way back : List Piece) → Type 0
+abbrev pub Flowing : List Entry → State → State → (way back : List Piece) → Type 0
 Flowing h writer reader way back = Between h writer.facts reader.config reader.most reader.facts reader.ending way back
 
-record Counted (hi ha : List Entry) (w : World) : Type 0 where
-  holds : Holds w
-  outward : Flowing hi w.initiator w.acceptor w.outward w.homeward
-  homeward : Flowing ha w.acceptor w.initiator w.homeward w.outward
-  initiator : EndsBy NoNumber w.initiator
-  acceptor : EndsBy NoNumber w.acceptor
+pub record Counted (hi ha : List Entry) (w : World) : Type 0 where
+  pub holds : Holds w
+  pub outward : Flowing hi w.initiator w.acceptor w.outward w.homeward
+  pub homeward : Flowing ha w.acceptor w.initiator w.homeward w.outward
+  pub initiator : EndsBy NoNumber w.initiator
+  pub acceptor : EndsBy NoNumber w.acceptor
 
 -- a message is read: what holds of its outcome holds of the end behind it
 read_by : (h : List Entry) (writer : Facts) (s t : State) (o : Outcome) (left back out : List Piece) → Reads s o t out → Between h writer s.config s.most o.next o.ending left (back ++ said_all o.written)
@@ -159,86 +122,14 @@ acceptor_reading hi ha w (p ∷ left) at now e n going h =
       acceptor = λ v is. r.1 v (sym rd.ending ∙ is);
     }
 
--- what a connection begins with
-record Begins (x : Around) (recorded : EndState) (m : Made) : Type 0 where
-  same : m.next.recorded ≡ recorded
-  receiver : m.next.connection.receiver ≡ receiver_is.fresh recorded.inbox_next
-  requester : m.next.connection.requester ≡ requests.Nothing
-  before : is_shaken m.next.connection.phase ≡ false
-  runs : Runs x.config.own_flow (exactly (recorded.sent + 1)) None (said_all m.written) (recorded.sent + 1) None
-  free : served m.next.connection.serving ≡ None
-  asks_none : total asks (said_all m.written) ≡ 0
-  begins_none : total restarts (said_all m.written) ≡ 0
-
-begins : (x : Around) (recorded : EndState) → Begins x recorded (begun x recorded)
-begins x recorded = by_case (is_initiator x.config.role) recorded.negotiated
-  where
-    begun_as : (i n : Bool) → Made
-    begun_as i n =
-        if not i then record { written = []; next = connecting recorded phases.Idle }
-        else if n then record { written = opening_establish x (connecting recorded phases.Establishing) ∷ []; next = connecting recorded phases.Establishing }
-        else record { written = opening_negotiate x ∷ []; next = connecting recorded phases.Negotiating }
-
-    by_case : (i n : Bool) → Begins x recorded (begun_as i n)
-    by_case false n = record { same = refl; receiver = refl; requester = refl; before = refl; runs = (refl, refl); free = refl; asks_none = refl; begins_none = refl }
-    by_case true true = record {
-      same = refl;
-      receiver = refl;
-      requester = refl;
-      before = refl;
-      runs = establish_runs x (connecting recorded phases.Establishing) None;
-      free = refl;
-      asks_none = refl;
-      begins_none = refl;
-    }
-    by_case true false = record { same = refl; receiver = refl; requester = refl; before = refl; runs = ((tt, tt), (refl, refl)); free = refl; asks_none = refl; begins_none = refl }
-
-meeting : (h : List Entry) (xw xr : Around) (writer reader : EndState) (limit : ℕ) (fw fr : Facts) (over : Option Ending) (way back : List Piece) → fw.recorded ≡ writer → fr.recorded ≡ reader → xr.config.peer_flow ≡ xw.config.own_flow
-    → Between h fw xr.config limit fr over way back → Between h (begun xw writer).next xr.config limit (begun xr reader).next None (said_all (begun xw writer).written) (said_all (begun xr reader).written)
-meeting h xw xr writer reader limit fw fr over way back ew er flow b =
-    let w = begins xw writer in
-    let r = begins xr reader in
-    let sent_w = ap (λ (k : EndState). k.sent) (w.same ∙ sym ew) in
-    let inbox_r = ap (λ (k : EndState). k.inbox_next) (r.same ∙ sym er) in
-    let sent = b.sent in
-    let next = b.next in
-    record {
-      sent = omega (arith, sent_w, sent);
-      most = b.most;
-      one = λ rec. let one = b.one rec in omega (arith, one, inbox_r);
-      next = omega (arith, sent_w, inbox_r, next);
-      goes = λ _ _. (
-        ready_first xr.config (begun xr reader).next (said_all (begun xw writer).written) ((begun xw writer).next.recorded.sent + 1) (served (begun xw writer).next.connection.serving)
-            (r.receiver ∙ ap (λ (k : EndState). receiver_is.fresh k.inbox_next) (sym r.same)) r.requester r.before (omega (arith, sent_w, inbox_r, next)) (runs w),
-        record { asks = none_named _ _ r.asks_none; answers = none_answered _ _ w.begins_none },
-      );
-    }
-  where
-    runs : Begins xw writer (begun xw writer)
-        → Runs xr.config.peer_flow (exactly ((begun xw writer).next.recorded.sent + 1)) None (said_all (begun xw writer).written) ((begun xw writer).next.recorded.sent + 1) (served (begun xw writer).next.connection.serving)
-    runs w = subst (λ (f : Flow). Runs f (exactly ((begun xw writer).next.recorded.sent + 1)) None (said_all (begun xw writer).written) ((begun xw writer).next.recorded.sent + 1) (served (begun xw writer).next.connection.serving)) (sym flow)
-        (subst (λ (k : EndState). Runs xw.config.own_flow (exactly (k.sent + 1)) None (said_all (begun xw writer).written) (k.sent + 1) (served (begun xw writer).next.connection.serving)) (sym w.same)
-        (subst (λ (l : Option ℕ). Runs xw.config.own_flow (exactly (writer.sent + 1)) None (said_all (begun xw writer).written) (writer.sent + 1) l) (sym w.free) w.runs))
-
 no_violation : (v : Violation) → None ≡ Some (endings.Violation v) → NoNumber v
 no_violation v e = absurd cc
 
 -- those of time are none of numbers
 time_fine : (v : Violation) → IsOfTime v → NoNumber v
-time_fine (BadFrame at) t = absurd t
-time_fine (UnknownTemplate id) t = absurd t
-time_fine (NotInPhase template phase) t = absurd t
-time_fine (OtherSession template) t = absurd t
-time_fine (WentBack announced expected) t = absurd t
-time_fine (MissingNext template) t = absurd t
-time_fine (NumberTooLarge announced) t = absurd t
-time_fine (BadRetransmission expected found) t = absurd t
-time_fine (AfterFinish last found) t = absurd t
-time_fine (FlowNone template) t = absurd t
-time_fine (Silent last now) t = tt
-time_fine (HandshakeLate start now) t = tt
+time_fine = each_of_time NoNumber (λ last now. tt) (λ start now. tt)
 
-counted_step : (hi ha : List Entry) (w : World) (step : Step) → Counted hi ha w → MayStep hi ha w step → Counted hi ha (after w step)
+pub counted_step : (hi ha : List Entry) (w : World) (step : Step) → Counted hi ha w → MayStep hi ha w step → Counted hi ha (after w step)
 counted_step hi ha w (meets now_i now_a) n may =
     let xi = around w.initiator 0 now_i in
     let xa = around w.acceptor 0 now_a in
@@ -283,7 +174,7 @@ counted_step hi ha w (acceptor_does call) n may =
       acceptor = ends_still NoNumber s t d.ends time_fine n.acceptor;
     }
 
-counted_after : (hi ha : List Entry) (w : World) (steps : List Step) → Counted hi ha w → AllMayStep hi ha w steps → Counted hi ha (world_after w steps)
+pub counted_after : (hi ha : List Entry) (w : World) (steps : List Step) → Counted hi ha w → AllMayStep hi ha w steps → Counted hi ha (world_after w steps)
 counted_after hi ha w [] n may = n
 counted_after hi ha w (step ∷ later) n may = counted_after hi ha (after w step) later (counted_step hi ha w step n may.0) may.1
 
@@ -306,7 +197,7 @@ beginning h c writer limit reader way back k free receiver requester before no_w
   );
 }
 
-counted_at_first : (hi ha : List Entry) (w : World) → StartsKnown hi ha w → Counted hi ha w
+pub counted_at_first : (hi ha : List Entry) (w : World) → StartsKnown hi ha w → Counted hi ha w
 counted_at_first hi ha w st =
     let start = st.0 in
     let fi = ap (λ (s : State). s.facts.connection) start.initiator in
@@ -318,9 +209,6 @@ counted_at_first hi ha w st =
       initiator = λ v e. no_violation v (sym (ap (λ (s : State). s.ending) start.initiator) ∙ e);
       acceptor = λ v e. no_violation v (sym (ap (λ (s : State). s.ending) start.acceptor) ∙ e);
     }
-
-pub numbers_hold : NumbersHold
-numbers_hold hi ha w steps st may = let n = counted_after hi ha w steps (counted_at_first hi ha w st) may in (n.initiator, n.acceptor)
 
 -- as the definitions have it
 follows : (h : List Entry) (writer reader : State) (way back : List Piece) → reader.config.peer_flow ≡ writer.config.own_flow → Flowing h writer reader way back → Follows h writer reader way back
@@ -342,11 +230,8 @@ follows h writer reader way back flow b = record {
       answers = g.1.answers;
     }
 
-pub numbered_holds : NumberedHolds
-numbered_holds hi ha w steps st may =
-    let n = counted_after hi ha w steps (counted_at_first hi ha w st) may in
-    let v = world_after w steps in
-    record {
-      outward = follows hi v.initiator v.acceptor v.outward v.homeward n.holds.matches.outward n.outward;
-      homeward = follows ha v.acceptor v.initiator v.homeward v.outward n.holds.matches.homeward n.homeward;
-    }
+pub numbered_of : (hi ha : List Entry) (w : World) → Counted hi ha w → Numbered hi ha w
+numbered_of hi ha w n = record {
+  outward = follows hi w.initiator w.acceptor w.outward w.homeward n.holds.matches.outward n.outward;
+  homeward = follows ha w.acceptor w.initiator w.homeward w.outward n.holds.matches.homeward n.homeward;
+}

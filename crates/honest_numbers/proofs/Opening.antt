@@ -33,7 +33,9 @@ use Rattle.connection_laws.specs.Writing.{Piece, said, entry}
 use Rattle.link_laws.specs.Reading.{incoming_of}
 use Rattle.honest_laws.specs.Numbers.{exactly, at_most, Allows, announces, live_after, left_after, Fits, Answers, NotNumber, Matches, Line, Idle, Reaches, Lined, Rests, Other, to_come}
 use Rattle.honest_laws.proofs.Replying.{asked_phase}
-use Rattle.honest_laws.proofs.Lining.{going as goes_lined, rests, asks_none, announced_is, announced_rests, number_fault, not_less, other_sequenced, sequenced_of}
+use Rattle.honest_laws.proofs.Opening.{asks_none}
+use Rattle.honest_laws.proofs.Moving.{not_over}
+use Rattle.honest_laws.proofs.Lining.{going as goes_lined, rests, announced_is, announced_rests, number_fault, not_less, other_sequenced, sequenced_of}
 use Rattle.honest_numbers.specs.Numbered.{next_live}
 use Rattle.honest_numbers.specs.Laws.{NoNumber}
 use Rattle.honest_numbers.proofs.Awaiting.{not_number, Moves, lined_moves, other_moves, live_is, inbox_of}
@@ -60,9 +62,6 @@ ending x f p written e h = record { fine = λ w same. fine_as (finishes_exchange
 pub breaking : (x : Around) (f : Facts) (p : Piece) (code : ℕ) (v : Violation) → NoNumber v → Opens x.config f p (ends x f code (endings.Violation v))
 breaking x f p code v h = ending x f p _ (endings.Violation v) (λ w e. let same : v ≡ w = cc e in subst (λ (u : Violation). NoNumber u) same h)
 
-none_over : {B : Type 0} → is_some {T = Ending} None ≡ true → B
-none_over e = absurd (true≢false (sym e))
-
 -- what a message before the handshake is done stands for
 record Unheard (x : Around) (f : Facts) (p : Piece) : Type 0 where
   before : is_shaken f.connection.phase ≡ false
@@ -75,12 +74,12 @@ keeping : (x : Around) (f g : Facts) (p : Piece) (act : Act) (written : List Mes
     → g.recorded.inbox_next ≡ f.recorded.inbox_next → left_after p None ≡ None → Opens x.config f p (goes_on x act written g)
 keeping x f g p act written idle before r q n none = record {
   fine = λ v e. absurd cc;
-  over = λ some. none_over some;
+  over = λ some. not_over {A = Ending} None refl some;
   next = λ _. subst (λ (k : Option Range). Hears x.config p f (having_asked g k)) (sym (asks_none g (ap (λ k. receiver_is.gap k) r ∙ idle.even))) (still before r q n none);
 }
 
 rejecting : (x : Around) (f : Facts) (p : Piece) (written : List Message) → is_shaken f.connection.phase ≡ false → left_after p None ≡ None → Opens x.config f p (rejects written f)
-rejecting x f p written before none = record { fine = λ v e. absurd cc; over = λ some. none_over some; next = λ _. still before refl refl refl none }
+rejecting x f p written before none = record { fine = λ v e. absurd cc; over = λ some. not_over {A = Ending} None refl some; next = λ _. still before refl refl refl none }
 
 -- An announcement is taken. It is of the next number, where the flow has numbers
 record Tells (flow : Flow) (m : Message) (next : Option ℕ) : Type 0 where
@@ -172,7 +171,7 @@ taking x f m next act written interval u t some = by_flow (is_recoverable x.conf
     shaken_then = ap (λ k. is_shaken k) (asked_phase g (gap_to_ask g))
 
     opens : Moves x.config (said m) f o.next → Opens x.config f (said m) o
-    opens v = record { fine = λ w e. absurd cc; over = λ e. none_over e; next = λ _. done shaken_then (some_told flow m next t some) v }
+    opens v = record { fine = λ w e. absurd cc; over = λ e. not_over {A = Ending} None refl e; next = λ _. done shaken_then (some_told flow m next t some) v }
 
     line_then : is_recoverable flow ≡ true → Reaches g f.recorded.inbox_next (unwrap_or next 0) None
     line_then rec =

@@ -1,4 +1,4 @@
-use Rattle.honest_numbers.proofs.Numbering.{numbered_holds}
+use Rattle.honest_numbers.proofs.Laws.{numbered_holds}
 use Rattle.honest_numbers.proofs.numbers.numbered_holds.Goals as goal
 
 pub returns : goal.returns
