@@ -1,6 +1,6 @@
 -- The numbers under way between two ends: how far what is under way brings a reader.
 use Rattle.std.proofs.Common.{◌≡◌, ℕ, ◌+◌, ◌-◌, ◌≤◌, Bool, true, false, if◌then◌else◌, List, [], ◌∷◌, ◌++◌, length, Option, Some, None, refl, sym, ap, subst, ◌∙◌, arith, true≢false}
-use Rattle.std.specs.Prelude.{⊤, is_some, unwrap_or, IfSome}
+use Rattle.std.specs.Prelude.{is_some, unwrap_or, IfSome}
 use Rattle.fixp_msgs.specs.declared.flow.Flow.{Flow}
 use Rattle.connection_laws.specs.Writing.{Piece, said, entry, entries}
 use Rattle.honest_laws.specs.Numbers.{Awaited, exactly, at_most, Allows, announces, live_after, awaited_after, left_after, Fits, Runs}

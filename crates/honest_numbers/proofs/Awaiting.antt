@@ -1,6 +1,6 @@
 -- What a reader awaits, by its flow and as far as the handshake is.
-use Rattle.std.proofs.Common.{◌≡◌, ℕ, ◌+◌, ◌≤◌, ◌&&◌, ◌||◌, max, Bool, true, false, if◌then◌else◌, List, [], ◌∷◌, Option, Some, None, refl, sym, ap, subst, ◌∙◌, arith, true≢false}
-use Rattle.std.specs.Prelude.{is_some, unwrap_or, IfSome, IsSome}
+use Rattle.std.proofs.Common.{◌≡◌, ℕ, ◌≤◌, ◌&&◌, Bool, true, false, if◌then◌else◌, List, ◌∷◌, Option, Some, None, refl, sym, ap, subst, ◌∙◌, arith, true≢false}
+use Rattle.std.specs.Prelude.{is_some}
 use Rattle.fixp_msgs.specs.declared.flow.Flow.{Flow}
 use Rattle.flow_recover.specs.Receiving as receiver_is
 use Rattle.flow_recover.specs.Receiving.{Receiving}
@@ -11,14 +11,13 @@ use Rattle.fixp_shake.specs.declared.violation.Violation.{Violation}
 use Rattle.fixp_shake.specs.declared.violation.Violation.TheVariants.{BadFrame, UnknownTemplate, NotInPhase, OtherSession, WentBack, MissingNext, NumberTooLarge, BadRetransmission, AfterFinish, FlowNone, Silent, HandshakeLate}
 use Rattle.fixp_shake.specs.Flows.{is_recoverable, is_sequenced}
 use Rattle.fixp_shake.specs.Phases.{is_shaken}
-use Rattle.fixp_replies.specs.declared.act.Ending.TheVariants as endings
 use Rattle.fixp_replies.specs.declared.facts.Facts.{Facts}
 use Rattle.fixp_replies.specs.Facts.{Around}
 use Rattle.fixp_replies.specs.Outcomes.{Outcome}
 use Rattle.fixp_msgs.specs.Message.{Message, establish, establishment_ack, sequence, retransmission}
 use Rattle.connection_laws.specs.Writing.{Piece, said, entry}
-use Rattle.honest_laws.specs.Numbers.{Awaited, exactly, at_most, announces, live_after, awaited_after, left_after, Fits, Runs, Answers, Matches, NotNumber, to_come, Line, Idle, Lined, Other}
-use Rattle.honest_laws.proofs.Running.{number_of, Below, lower, number_after, grows, runs_top}
+use Rattle.honest_laws.specs.Numbers.{Awaited, exactly, at_most, announces, live_after, awaited_after, left_after, Runs, Answers, Matches, NotNumber, to_come, Line, Idle, Lined, Other}
+use Rattle.honest_laws.proofs.Running.{number_of, runs_top}
 use Rattle.honest_numbers.specs.Numbered.{next_live, awaits, awaited}
 use Rattle.honest_numbers.specs.Laws.{NoNumber}
 

@@ -1,45 +1,23 @@
 -- The numbers of one flow where a connection begins.
-use Rattle.std.proofs.Common.{◌≡◌, inl, inr, ℕ, ◌+◌, ◌≤◌, ◌&&◌, not, Bool, true, false, if◌then◌else◌, List, [], ◌∷◌, ◌++◌, length, Option, Some, None, refl, sym, ap, subst, ◌∙◌, arith, true≢false}
-use Rattle.std.specs.Prelude.{⊤, is_some}
-use Rattle.std.specs.List.{AllByRecursion}
+use Rattle.std.proofs.Common.{◌≡◌, ℕ, ◌+◌, Bool, true, false, List, Option, None, refl, sym, ap, subst, ◌∙◌, arith}
 use Rattle.session_model.specs.Journal.{Entry}
 use Rattle.fixp_msgs.specs.declared.flow.Flow.{Flow}
 use Rattle.flow_recover.specs.Receiving as receiver_is
 use Rattle.flow_retrans.specs.declared.request.Request.TheVariants as requests
-use Rattle.fixp_shake.specs.declared.config.EndConfig.{EndConfig}
-use Rattle.fixp_shake.specs.declared.phase.Phase.{Phase}
 use Rattle.fixp_shake.specs.declared.phase.Phase.TheVariants as phases
-use Rattle.fixp_shake.specs.declared.violation.Violation.{Violation}
 use Rattle.fixp_shake.specs.Phases.{is_shaken}
 use Rattle.fixp_replies.specs.declared.act.Ending.{Ending}
-use Rattle.fixp_replies.specs.declared.act.Ending.TheVariants as endings
 use Rattle.fixp_replies.specs.declared.facts.EndState.{EndState}
 use Rattle.fixp_replies.specs.declared.facts.Facts.{Facts}
 use Rattle.fixp_replies.specs.Facts.{Around, is_initiator, connecting}
-use Rattle.fixp_replies.specs.Outcomes.{Outcome, opening_negotiate, opening_establish}
-use Rattle.fixp_replies.specs.Replies.{reply_of}
 use Rattle.fixp_replies.specs.Events.{Made, begun}
-use Rattle.reply_laws.specs.Machine.{State, around, run}
-use Rattle.connection_laws.specs.Writing.{Piece, said, said_all}
-use Rattle.connection_laws.specs.Standing.{IsOpen}
-use Rattle.link_laws.specs.Reading.{incoming_of}
-use Rattle.honest_laws.specs.Laws.{IsOfTime, EndsBy}
-use Rattle.honest_laws.specs.Numbers.{exactly, Runs, RunsBetween, served, Answers, IsFlowing, Peer, to_come}
-use Rattle.honest_laws.specs.Worlds.{World, Step, meets, initiator_reads, acceptor_reads, initiator_does, acceptor_does, written, after, initiator_read, acceptor_read, MayStep, world_after, AllMayStep, Match, Starts}
-use Rattle.honest_laws.proofs.Shapes.{all_free_flow}
+use Rattle.connection_laws.specs.Writing.{Piece, said_all}
+use Rattle.honest_laws.specs.Numbers.{exactly, Runs, served}
 use Rattle.honest_laws.proofs.Finishing.{total}
 use Rattle.honest_laws.proofs.Asking.{asks, restarts, establish_runs}
-use Rattle.honest_laws.proofs.Opening.{Quiet}
-use Rattle.honest_laws.proofs.Moving.{Reads, reads_as, does_as, ends_still, each_of_time}
-use Rattle.honest_laws.proofs.Serving.{Requests, serves_as}
-use Rattle.honest_laws.proofs.Phased.{Shaking, opens, answering, acknowledging, standing, refusing, Holds, begun_as, holds_step, holds_at_first, to_acceptor, to_initiator}
-use Rattle.honest_numbers.specs.Knowing.{Knows, StartsKnown}
-use Rattle.honest_numbers.specs.Numbered.{awaited, Names, Expects, Follows, Numbered}
-use Rattle.honest_numbers.specs.Laws.{NoNumber, NumbersHold, NumberedHolds}
-use Rattle.honest_numbers.proofs.Awaiting.{Ready}
-use Rattle.honest_numbers.proofs.Counting.{within_as}
-use Rattle.honest_numbers.proofs.Requesting.{Agrees, none_named, none_answered}
-use Rattle.honest_numbers.proofs.Keeping.{Between, reader_replies, writer_replies, same_shaken, reader_calls, writer_calls, ready_first}
+use Rattle.honest_laws.proofs.Phased.{begun_as}
+use Rattle.honest_numbers.proofs.Requesting.{none_named, none_answered}
+use Rattle.honest_numbers.proofs.Keeping.{Between, ready_first}
 
 -- what a connection begins with
 record Begins (x : Around) (recorded : EndState) (m : Made) : Type 0 where
@@ -95,4 +73,3 @@ meeting h xw xr writer reader limit fw fr over way back ew er flow b =
     runs w = subst (λ (f : Flow). Runs f (exactly ((begun xw writer).next.recorded.sent + 1)) None (said_all (begun xw writer).written) ((begun xw writer).next.recorded.sent + 1) (served (begun xw writer).next.connection.serving)) (sym flow)
         (subst (λ (k : EndState). Runs xw.config.own_flow (exactly (k.sent + 1)) None (said_all (begun xw writer).written) (k.sent + 1) (served (begun xw writer).next.connection.serving)) (sym w.same)
         (subst (λ (l : Option ℕ). Runs xw.config.own_flow (exactly (writer.sent + 1)) None (said_all (begun xw writer).written) (writer.sent + 1) l) (sym w.free) w.runs))
-

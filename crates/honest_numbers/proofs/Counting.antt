@@ -1,5 +1,5 @@
 -- No call changes the greatest number that an end takes, and none sends more than its outbox has.
-use Rattle.std.proofs.Common.{◌≡◌, ℕ, ◌+◌, ◌≤◌, Bool, true, false, if◌then◌else◌, List, [], ◌∷◌, length, Option, Some, None, refl, arith}
+use Rattle.std.proofs.Common.{◌≡◌, ℕ, ◌≤◌, Bool, true, false, if◌then◌else◌, List, [], ◌∷◌, length, Option, Some, None, refl, arith}
 use Rattle.std.specs.Prelude.{is_some}
 use Rattle.session_model.specs.Journal.{Entry}
 use Rattle.fixp_msgs.specs.declared.numbering.Range.{Range}

@@ -1,6 +1,6 @@
 -- One flow between two ends: each reply and each call of either keeps its numbers.
-use Rattle.std.proofs.Common.{◌≡◌, inl, inr, ℕ, ◌+◌, ◌≤◌, ◌&&◌, not, Bool, true, false, if◌then◌else◌, List, [], ◌∷◌, ◌++◌, length, Option, Some, None, refl, sym, ap, subst, ◌∙◌, arith, true≢false}
-use Rattle.std.specs.Prelude.{is_some, IsSome}
+use Rattle.std.proofs.Common.{◌≡◌, ℕ, ◌+◌, ◌≤◌, ◌&&◌, not, Bool, true, false, if◌then◌else◌, List, [], ◌∷◌, ◌++◌, length, Option, Some, None, refl, sym, ap, subst, ◌∙◌, arith, true≢false}
+use Rattle.std.specs.Prelude.{IsSome}
 use Rattle.std.specs.List.{AllByRecursion}
 use Rattle.session_model.specs.Journal.{Entry}
 use Rattle.session_model.proofs.Lists.{all_append}
@@ -19,19 +19,18 @@ use Rattle.fixp_shake.specs.Phases.{is_closing, is_shaken}
 use Rattle.fixp_replies.specs.declared.act.Ending.{Ending}
 use Rattle.fixp_replies.specs.declared.act.Ending.TheVariants as endings
 use Rattle.fixp_replies.specs.declared.facts.Facts.{Facts}
-use Rattle.fixp_replies.specs.Facts.{Around, is_own, finishes_exchanged}
-use Rattle.fixp_replies.specs.Incoming.{session}
+use Rattle.fixp_replies.specs.Facts.{Around, is_own}
 use Rattle.fixp_replies.specs.Outcomes.{Outcome, ignores, ends, breaks}
 use Rattle.fixp_replies.specs.Replies.{reply_of, answer_of, terminates}
 use Rattle.reply_laws.specs.Machine.{State}
 use Rattle.reply_laws.proofs.Rows.{by_row}
 use Rattle.reply_laws.proofs.Tests.{no_gap}
-use Rattle.connection_laws.specs.Writing.{Piece, said, entry, said_all, WritesOwn, nothing, shakes, resends}
+use Rattle.connection_laws.specs.Writing.{Piece, said, said_all, WritesOwn, nothing, shakes, resends}
 use Rattle.connection_laws.proofs.Replied.{frame_writes}
 use Rattle.link_laws.specs.Reading.{incoming_of}
 use Rattle.link_laws.proofs.Refused.{closing_is_deaf}
-use Rattle.honest_laws.specs.Numbers.{Awaited, exactly, at_most, Runs, RunsBetween, served, Answers, Matches, Line, Idle, Peer, IsFlowing, to_come}
-use Rattle.honest_laws.proofs.Running.{number_of, Below, lower, runs_append, runs_top}
+use Rattle.honest_laws.specs.Numbers.{Awaited, exactly, at_most, Runs, RunsBetween, served, Answers, Matches, Idle, Peer, IsFlowing, to_come}
+use Rattle.honest_laws.proofs.Running.{lower, runs_append, runs_top}
 use Rattle.honest_laws.proofs.Finishing.{total}
 use Rattle.honest_laws.proofs.Asking.{asks, restarts, turns, unanswered, Requested, asks_of}
 use Rattle.honest_laws.proofs.Opening.{Quiet}
@@ -39,7 +38,7 @@ use Rattle.honest_laws.proofs.Moving.{Does}
 use Rattle.honest_laws.proofs.Serving.{Serves, by_bool, was_none}
 use Rattle.honest_numbers.specs.Numbered.{next_live, awaited, Names}
 use Rattle.honest_numbers.specs.Laws.{NoNumber}
-use Rattle.honest_numbers.proofs.Awaiting.{awaited_before, same_awaited, line_same, idle_same, live_is, Ready, ready_live, ready_top}
+use Rattle.honest_numbers.proofs.Awaiting.{awaited_before, same_awaited, line_same, idle_same, live_is, Ready, ready_live}
 use Rattle.honest_numbers.proofs.Counting.{Within}
 use Rattle.honest_numbers.proofs.Opening.{ending as ended, breaking}
 use Rattle.honest_numbers.proofs.Reading.{Heard, reads}

@@ -8,3 +8,4 @@ pub mod Standing
 pub mod Beginning
 pub mod Numbering
 pub mod Laws
+pub mod Sampled

@@ -1,44 +1,34 @@
 -- The numbers of both flows, step by step.
-use Rattle.std.proofs.Common.{◌≡◌, inl, inr, ℕ, ◌+◌, ◌≤◌, ◌&&◌, not, Bool, true, false, if◌then◌else◌, List, [], ◌∷◌, ◌++◌, length, Option, Some, None, refl, sym, ap, subst, ◌∙◌, arith, true≢false}
-use Rattle.std.specs.Prelude.{⊤, is_some}
+use Rattle.std.proofs.Common.{◌≡◌, ℕ, ◌+◌, true, false, List, [], ◌∷◌, ◌++◌, Option, Some, None, refl, sym, ap, subst, ◌∙◌}
 use Rattle.std.specs.List.{AllByRecursion}
 use Rattle.session_model.specs.Journal.{Entry}
 use Rattle.fixp_msgs.specs.declared.flow.Flow.{Flow}
 use Rattle.flow_recover.specs.Receiving as receiver_is
 use Rattle.flow_retrans.specs.declared.request.Request.TheVariants as requests
 use Rattle.fixp_shake.specs.declared.config.EndConfig.{EndConfig}
-use Rattle.fixp_shake.specs.declared.phase.Phase.{Phase}
-use Rattle.fixp_shake.specs.declared.phase.Phase.TheVariants as phases
 use Rattle.fixp_shake.specs.declared.violation.Violation.{Violation}
 use Rattle.fixp_shake.specs.Phases.{is_shaken}
 use Rattle.fixp_replies.specs.declared.act.Ending.{Ending}
 use Rattle.fixp_replies.specs.declared.act.Ending.TheVariants as endings
-use Rattle.fixp_replies.specs.declared.facts.EndState.{EndState}
 use Rattle.fixp_replies.specs.declared.facts.Facts.{Facts}
-use Rattle.fixp_replies.specs.Facts.{Around, is_initiator, connecting}
-use Rattle.fixp_replies.specs.Outcomes.{Outcome, opening_negotiate, opening_establish}
+use Rattle.fixp_replies.specs.Outcomes.{Outcome}
 use Rattle.fixp_replies.specs.Replies.{reply_of}
-use Rattle.fixp_replies.specs.Events.{Made, begun}
 use Rattle.reply_laws.specs.Machine.{State, around, run}
-use Rattle.connection_laws.specs.Writing.{Piece, said, said_all}
+use Rattle.connection_laws.specs.Writing.{Piece, said_all}
 use Rattle.connection_laws.specs.Standing.{IsOpen}
 use Rattle.link_laws.specs.Reading.{incoming_of}
 use Rattle.honest_laws.specs.Laws.{IsOfTime, EndsBy}
-use Rattle.honest_laws.specs.Numbers.{exactly, Runs, RunsBetween, served, Answers, IsFlowing, Peer, to_come}
-use Rattle.honest_laws.specs.Worlds.{World, Step, meets, initiator_reads, acceptor_reads, initiator_does, acceptor_does, written, after, initiator_read, acceptor_read, MayStep, world_after, AllMayStep, Match, Starts}
-use Rattle.honest_laws.proofs.Shapes.{all_free_flow}
-use Rattle.honest_laws.proofs.Finishing.{total}
-use Rattle.honest_laws.proofs.Asking.{asks, restarts, establish_runs}
-use Rattle.honest_laws.proofs.Opening.{Quiet}
+use Rattle.honest_laws.specs.Numbers.{exactly, Runs, served, Answers, IsFlowing, to_come}
+use Rattle.honest_laws.specs.Worlds.{World, Step, meets, initiator_reads, acceptor_reads, initiator_does, acceptor_does, written, after, initiator_read, acceptor_read, MayStep, world_after, AllMayStep}
 use Rattle.honest_laws.proofs.Moving.{Reads, reads_as, does_as, ends_still, each_of_time}
 use Rattle.honest_laws.proofs.Serving.{Requests, serves_as}
-use Rattle.honest_laws.proofs.Phased.{Shaking, opens, answering, acknowledging, standing, refusing, Holds, begun_as, holds_step, holds_at_first, to_acceptor, to_initiator}
+use Rattle.honest_laws.proofs.Phased.{Holds, holds_step, holds_at_first, to_acceptor, to_initiator}
 use Rattle.honest_numbers.specs.Knowing.{Knows, StartsKnown}
 use Rattle.honest_numbers.specs.Numbered.{awaited, Names, Expects, Follows, Numbered}
-use Rattle.honest_numbers.specs.Laws.{NoNumber, NumbersHold, NumberedHolds}
+use Rattle.honest_numbers.specs.Laws.{NoNumber}
 use Rattle.honest_numbers.proofs.Awaiting.{Ready}
 use Rattle.honest_numbers.proofs.Counting.{within_as}
-use Rattle.honest_numbers.proofs.Requesting.{Agrees, none_named, none_answered}
+use Rattle.honest_numbers.proofs.Requesting.{Agrees}
 use Rattle.honest_numbers.proofs.Standing.{initiator_flows, acceptor_flows, initiator_quiet, acceptor_quiet}
 use Rattle.honest_numbers.proofs.Beginning.{meeting}
 use Rattle.honest_numbers.proofs.Keeping.{Between, reader_replies, writer_replies, same_shaken, reader_calls, writer_calls, ready_first}
@@ -86,7 +76,7 @@ initiator_reading hi ha w (p ∷ left) at now e n going h =
     let flows : is_shaken s.facts.connection.phase ≡ true → IsFlowing w.acceptor.config p = λ shaken. (subst (λ (ps : List Piece). AllByRecursion (IsFlowing w.acceptor.config) ps) e (initiator_flows s.config w.acceptor.config s.facts s.ending w.acceptor.facts w.outward w.homeward n.holds.shaking shaken)).0 in
     let asked = subst (λ (ps : List Piece). Requests w.acceptor.facts s.facts s.ending ps w.outward) e n.holds.homeward_requests in
     let home = going_on ha w.acceptor.facts s.config s.most s.facts s.ending (p ∷ left) w.outward going.going
-        (subst (λ (ps : List Piece). Between ha w.acceptor.facts s.config s.most s.facts s.ending ps w.outward) e n.homeward) in
+    (subst (λ (ps : List Piece). Between ha w.acceptor.facts s.config s.most s.facts s.ending ps w.outward) e n.homeward) in
     let out = subst (λ (ps : List Piece). Between hi s.facts w.acceptor.config w.acceptor.most w.acceptor.facts w.acceptor.ending w.outward ps) e n.outward in
     let r = reader_replies ha w.acceptor.facts x s.facts w.acceptor.config p left w.outward peer flows asked.once home in
     record {
@@ -110,7 +100,7 @@ acceptor_reading hi ha w (p ∷ left) at now e n going h =
     let flows : is_shaken s.facts.connection.phase ≡ true → IsFlowing w.initiator.config p = λ shaken. (subst (λ (ps : List Piece). AllByRecursion (IsFlowing w.initiator.config) ps) e (acceptor_flows w.initiator.config s.config w.initiator.facts w.initiator.ending s.facts w.outward w.homeward n.holds.shaking shaken)).0 in
     let asked = subst (λ (ps : List Piece). Requests w.initiator.facts s.facts s.ending ps w.homeward) e n.holds.outward_requests in
     let out = going_on hi w.initiator.facts s.config s.most s.facts s.ending (p ∷ left) w.homeward going.going
-        (subst (λ (ps : List Piece). Between hi w.initiator.facts s.config s.most s.facts s.ending ps w.homeward) e n.outward) in
+    (subst (λ (ps : List Piece). Between hi w.initiator.facts s.config s.most s.facts s.ending ps w.homeward) e n.outward) in
     let home = subst (λ (ps : List Piece). Between ha s.facts w.initiator.config w.initiator.most w.initiator.facts w.initiator.ending w.homeward ps) e n.homeward in
     let r = reader_replies hi w.initiator.facts x s.facts w.initiator.config p left w.homeward peer flows asked.once out in
     record {

@@ -1,5 +1,5 @@
 -- What a reader makes of each message before the handshake is done: nothing of its numbers, or it takes the announcement.
-use Rattle.std.proofs.Common.{◌≡◌, ℕ, ◌+◌, ◌≤◌, ◌&&◌, ◌||◌, min, max, nat_lt, not, Bool, true, false, if◌then◌else◌, List, [], ◌∷◌, ◌++◌, Option, Some, None, refl, sym, ap, subst, ◌∙◌, arith, true≢false}
+use Rattle.std.proofs.Common.{◌≡◌, ℕ, ◌+◌, ◌≤◌, ◌&&◌, ◌||◌, min, max, nat_lt, not, Bool, true, false, if◌then◌else◌, List, [], ◌∷◌, Option, Some, None, refl, sym, ap, subst, ◌∙◌, arith, true≢false}
 use Rattle.std.specs.Prelude.{⊤, is_some, is_none, unwrap_or, IfSome, IsSome}
 use Rattle.fixp_msgs.specs.declared.numbering.Range.{Range}
 use Rattle.fixp_msgs.specs.declared.flow.Flow.{Flow}
@@ -8,37 +8,34 @@ use Rattle.fixp_msgs.specs.Message.{Message, negotiate, negotiation_response, ne
 use Rattle.flow_recover.specs.Receiving as receiver_is
 use Rattle.flow_recover.specs.Receiving.{Receiving}
 use Rattle.flow_retrans.specs.declared.request.Request.{Request}
-use Rattle.flow_retrans.specs.declared.request.Request.TheVariants as requests
 use Rattle.fixp_shake.specs.declared.config.EndConfig.{EndConfig}
-use Rattle.fixp_shake.specs.declared.phase.Phase.{Phase}
 use Rattle.fixp_shake.specs.declared.phase.Phase.TheVariants as phases
 use Rattle.fixp_shake.specs.declared.violation.Violation.{Violation}
 use Rattle.fixp_shake.specs.declared.violation.Violation.TheVariants.{MissingNext, OtherSession}
-use Rattle.fixp_shake.specs.Flows.{is_recoverable, is_idempotent, is_sequenced}
+use Rattle.fixp_shake.specs.Flows.{is_recoverable, is_sequenced}
 use Rattle.fixp_shake.specs.Phases.{is_negotiating, is_establishing, is_established, is_closing, is_shaken}
 use Rattle.fixp_replies.specs.declared.act.Act.{Act}
-use Rattle.fixp_replies.specs.declared.act.Act.TheVariants as acts
 use Rattle.fixp_replies.specs.declared.act.Ending.{Ending}
 use Rattle.fixp_replies.specs.declared.act.Ending.TheVariants as endings
 use Rattle.fixp_replies.specs.declared.facts.Facts.{Facts}
-use Rattle.fixp_replies.specs.Facts.{Around, is_own, in_phase, receiving, negotiated as as_negotiated, awaiting, having_asked, expected_number, finishes_exchanged, gap_to_ask, announced_number}
-use Rattle.fixp_replies.specs.Incoming.{Incoming, application, session}
-use Rattle.fixp_replies.specs.Outcomes.{Outcome, Row, row, goes_on, accepts, rejects, ignores, ends_with, ends, breaks, not_in_phase, skip_of, told_skip, opening_negotiate, opening_establish}
+use Rattle.fixp_replies.specs.Facts.{Around, in_phase, negotiated as as_negotiated, having_asked, expected_number, finishes_exchanged, gap_to_ask, announced_number}
+use Rattle.fixp_replies.specs.Incoming.{session}
+use Rattle.fixp_replies.specs.Outcomes.{Outcome, Row, row, goes_on, rejects, ignores, ends_with, ends, not_in_phase, skip_of, told_skip, opening_negotiate, opening_establish}
 use Rattle.fixp_replies.specs.Announcing.{Announced, announced, announcement_fault, refuses, announcement_rows}
-use Rattle.fixp_replies.specs.Handshake.{awaits_client, serves_client, established, acknowledges, negotiate_rows, establish_rows, established_again_rows, shaken, negotiation_response_rows, negotiation_reject_rows, establishment_ack_rows, establishment_reject_rows}
+use Rattle.fixp_replies.specs.Handshake.{awaits_client, serves_client, established, acknowledges, negotiate_rows, establish_rows, established_again_rows, negotiation_response_rows, negotiation_reject_rows, establishment_ack_rows, establishment_reject_rows}
 use Rattle.fixp_replies.specs.Replies.{reply_of, rows_of, answer_of, of_session, terminates, template_of}
 use Rattle.reply_laws.proofs.Rows.{AllRows, by_row, all_rows, all_within}
 use Rattle.reply_laws.proofs.Tests.{some-none}
 use Rattle.connection_laws.specs.Writing.{Piece, said, entry}
 use Rattle.link_laws.specs.Reading.{incoming_of}
-use Rattle.honest_laws.specs.Numbers.{exactly, at_most, Allows, announces, live_after, left_after, Fits, Answers, NotNumber, Matches, Line, Idle, Reaches, Lined, Rests, Other, to_come}
+use Rattle.honest_laws.specs.Numbers.{at_most, announces, live_after, left_after, Fits, Answers, NotNumber, Matches, Line, Idle, Reaches, Lined, Rests, to_come}
 use Rattle.honest_laws.proofs.Replying.{asked_phase}
 use Rattle.honest_laws.proofs.Opening.{asks_none}
 use Rattle.honest_laws.proofs.Moving.{not_over}
 use Rattle.honest_laws.proofs.Lining.{going as goes_lined, rests, announced_is, announced_rests, number_fault, not_less, other_sequenced, sequenced_of}
 use Rattle.honest_numbers.specs.Numbered.{next_live}
 use Rattle.honest_numbers.specs.Laws.{NoNumber}
-use Rattle.honest_numbers.proofs.Awaiting.{not_number, Moves, lined_moves, other_moves, live_is, inbox_of}
+use Rattle.honest_numbers.proofs.Awaiting.{not_number, Moves, lined_moves, other_moves, live_is}
 
 -- the reader behind it: nothing of its numbers moved, or the handshake is done and it moved as the message makes it
 pub data Hears (c : EndConfig) (p : Piece) (f g : Facts) : Type 0 where
@@ -287,8 +284,8 @@ session_opens x f (establishment_ack id timestamp keepalive next) u =
     let m = establishment_ack id timestamp keepalive next in
     let p = said m in
     in_session x f p 5 id _ (all_within (Opens x.config f p) (is_establishing f.connection.phase) (establishment_ack_rows x f keepalive next) (λ _.
-        announcing x f m 5 next (λ (a : Announced). goes_on x (skip_of a.skipped) (told_skip a.skipped) (established a.facts (min 60000 (max 100 keepalive)))) u (record { told = refl; none = refl; plain = λ q. tt })
-        (λ some. taking x f m next _ (told_skip (announced x f next).skipped) (min 60000 (max 100 keepalive)) u (record { told = refl; none = refl; plain = λ q. tt }) some)))
+    announcing x f m 5 next (λ (a : Announced). goes_on x (skip_of a.skipped) (told_skip a.skipped) (established a.facts (min 60000 (max 100 keepalive)))) u (record { told = refl; none = refl; plain = λ q. tt })
+    (λ some. taking x f m next _ (told_skip (announced x f next).skipped) (min 60000 (max 100 keepalive)) u (record { told = refl; none = refl; plain = λ q. tt }) some)))
 session_opens x f (establishment_reject id timestamp code reason) u =
     let p = said (establishment_reject id timestamp code reason) in
     in_session x f p 6 id _ (all_within (Opens x.config f p) (is_establishing f.connection.phase) (establishment_reject_rows x f code) (λ _. (

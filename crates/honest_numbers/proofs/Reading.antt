@@ -1,7 +1,6 @@
 -- A reader that expects what is under way expects the rest of it behind its first message.
-use Rattle.std.proofs.Common.{◌≡◌, ℕ, ◌+◌, ◌≤◌, ◌&&◌, ◌||◌, Bool, true, false, if◌then◌else◌, List, [], ◌∷◌, Option, Some, None, refl, sym, ap, subst, ◌∙◌, arith, true≢false}
-use Rattle.std.specs.Prelude.{is_some, IsSome}
-use Rattle.fixp_msgs.specs.declared.flow.Flow.{Flow}
+use Rattle.std.proofs.Common.{◌≡◌, ℕ, ◌+◌, ◌≤◌, ◌&&◌, ◌||◌, Bool, true, false, List, ◌∷◌, Option, Some, None, refl, sym, ap, subst, ◌∙◌, arith, true≢false}
+use Rattle.std.specs.Prelude.{IsSome}
 use Rattle.fixp_shake.specs.declared.config.EndConfig.{EndConfig}
 use Rattle.fixp_shake.specs.declared.violation.Violation.{Violation}
 use Rattle.fixp_shake.specs.Flows.{is_recoverable, is_sequenced}
@@ -15,9 +14,9 @@ use Rattle.fixp_replies.specs.Replies.{reply_of}
 use Rattle.connection_laws.specs.Writing.{Piece, WritesOwn, nothing, shakes, resends}
 use Rattle.connection_laws.proofs.Replied.{frame_writes}
 use Rattle.link_laws.specs.Reading.{incoming_of}
-use Rattle.honest_laws.specs.Numbers.{Awaited, exactly, at_most, live_after, awaited_after, left_after, Fits, Runs, Answers, Line, Idle, Before, After, BeforeOther, AfterOther, Peer, IsFlowing, to_come}
+use Rattle.honest_laws.specs.Numbers.{Awaited, at_most, live_after, awaited_after, left_after, Fits, Runs, Answers, Idle, Before, After, BeforeOther, AfterOther, Peer, IsFlowing, to_come}
 use Rattle.honest_laws.proofs.Expected.{reader_expects}
-use Rattle.honest_laws.proofs.Running.{number_of, Below, fits_below, lower, number_after, grows, runs_top}
+use Rattle.honest_laws.proofs.Running.{Below, fits_below, lower, number_after, grows, runs_top}
 use Rattle.honest_numbers.specs.Numbered.{next_live, awaits, awaited}
 use Rattle.honest_numbers.specs.Laws.{NoNumber}
 use Rattle.honest_numbers.proofs.Awaiting.{not_number, awaited_before, awaited_then, number_awaited, after_then, after_at_most, Moves, lined_moves, other_moves, inbox_of, live_is, same_live, line_same, idle_same, Ready, ready_top, moved_runs}

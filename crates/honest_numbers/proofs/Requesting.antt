@@ -1,30 +1,28 @@
 -- A request under way names the range that is open, and a Retransmission under way answers it.
-use Rattle.std.proofs.Common.{◌≡◌, ◌⊎◌, inl, inr, ℕ, zero, suc, ◌+◌, ◌≤◌, ◌==◌, ◌&&◌, ◌||◌, nat_lt, not, Bool, true, false, if◌then◌else◌, List, [], ◌∷◌, ◌++◌, Option, Some, None, refl, sym, ap, subst, ◌∙◌, arith, true≢false}
-use Rattle.std.specs.Prelude.{⊤, is_some, Result, Ok, Err}
+use Rattle.std.proofs.Common.{◌≡◌, ℕ, zero, suc, ◌+◌, ◌≤◌, ◌==◌, ◌&&◌, ◌||◌, nat_lt, Bool, true, false, if◌then◌else◌, List, [], ◌∷◌, Option, Some, None, refl, sym, ap, subst, ◌∙◌, arith, true≢false}
+use Rattle.std.specs.Prelude.{Result, Ok, Err}
 use Rattle.std.specs.List.{AllByRecursion}
 use Rattle.std.proofs.lemmas.Bool.Decides.{nat_tests}
-use Rattle.session_model.proofs.Lists.{all_append}
 use Rattle.fixp_msgs.specs.declared.numbering.Range.{Range}
 use Rattle.fixp_msgs.specs.Message.{Message, retransmit_request, retransmission, retransmit_reject}
 use Rattle.flow_retrans.specs.declared.judging.RetransmitCode.{RetransmitCode}
-use Rattle.flow_retrans.specs.declared.judging.RetransmitCode.TheVariants.{OutOfRange, InvalidSession, RequestLimitExceeded}
+use Rattle.flow_retrans.specs.declared.judging.RetransmitCode.TheVariants.{OutOfRange, RequestLimitExceeded}
 use Rattle.flow_retrans.specs.declared.request.Request.{Request}
 use Rattle.flow_retrans.specs.declared.request.Request.TheVariants as requests
-use Rattle.flow_retrans.specs.Judging.{judged, is_outside, request_limit}
+use Rattle.flow_retrans.specs.Judging.{judged, request_limit}
 use Rattle.fixp_shake.specs.declared.config.EndConfig.{EndConfig}
 use Rattle.fixp_shake.specs.Flows.{is_recoverable}
 use Rattle.fixp_shake.specs.Phases.{is_established, is_closing, is_shaken}
-use Rattle.fixp_replies.specs.declared.act.Ending.{Ending}
 use Rattle.fixp_replies.specs.declared.facts.Facts.{Facts}
 use Rattle.fixp_replies.specs.Facts.{Around, is_own, serves, gap_to_ask}
 use Rattle.fixp_replies.specs.Incoming.{Incoming, session}
 use Rattle.fixp_replies.specs.Outcomes.{Outcome, ignores, not_in_phase, request_for}
 use Rattle.fixp_replies.specs.Serving.{request_answered, retransmit_request_rows}
-use Rattle.fixp_replies.specs.Replies.{reply_of, rows_of, answer_of, terminates}
+use Rattle.fixp_replies.specs.Replies.{reply_of, rows_of, answer_of}
 use Rattle.reply_laws.proofs.Rows.{by_row, all_rows, all_within}
 use Rattle.connection_laws.specs.Writing.{Piece, said, entry, said_all}
 use Rattle.link_laws.specs.Reading.{incoming_of}
-use Rattle.honest_laws.specs.Numbers.{Answers, Line, Idle, Matches, Peer, IsFlowing}
+use Rattle.honest_laws.specs.Numbers.{Answers, Idle, Peer, IsFlowing}
 use Rattle.honest_laws.proofs.Deciding.{same_bytes}
 use Rattle.honest_laws.proofs.Finishing.{total}
 use Rattle.honest_laws.proofs.Asking.{asks, restarts, unanswered, Asks, Requested, at_most_one}
