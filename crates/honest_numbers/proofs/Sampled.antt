@@ -1,5 +1,5 @@
 -- The samples, computed.
-use Rattle.std.proofs.Common.{◌≡◌, ℕ, refl, arith}
+use Rattle.std.proofs.Common.{refl, arith}
 use Rattle.honest_numbers.specs.Samples.{NumbersSample}
 
 pub numbers_sample : NumbersSample
