@@ -27,7 +27,6 @@ use Rattle.honest_numbers.specs.Knowing.{Knows, StartsKnown}
 use Rattle.honest_numbers.specs.Numbered.{awaited, Names, Expects, Follows, Numbered}
 use Rattle.honest_numbers.specs.Laws.{NoNumber}
 use Rattle.honest_numbers.proofs.Awaiting.{Ready}
-use Rattle.honest_numbers.proofs.Counting.{within_as}
 use Rattle.honest_numbers.proofs.Requesting.{Agrees}
 use Rattle.honest_numbers.proofs.Standing.{initiator_flows, acceptor_flows, initiator_quiet, acceptor_quiet}
 use Rattle.honest_numbers.proofs.Beginning.{meeting}
@@ -139,12 +138,11 @@ counted_step hi ha w (initiator_does call) n may =
     let out = written s (call ∷ []) in
     let d = does_as hi s call may.0 may.1 n.holds.initiator.serves in
     let k = serves_as hi s call may.0 may.1 in
-    let c = within_as hi s call may.0 may.1 in
     let quiet = initiator_quiet s.config w.acceptor.config s.facts s.ending w.acceptor.facts w.outward w.homeward n.holds.shaking in
     record {
       holds = holds_step hi ha w (initiator_does call) n.holds may;
-      outward = writer_calls hi s t w.acceptor.config w.acceptor.most w.acceptor.facts w.acceptor.ending w.outward w.homeward out n.holds.matches.outward c k n.outward;
-      homeward = reader_calls ha w.acceptor.facts s t w.homeward w.outward out (same_shaken s t out d quiet) d.over c.most d.config k n.homeward;
+      outward = writer_calls hi s t w.acceptor.config w.acceptor.most w.acceptor.facts w.acceptor.ending w.outward w.homeward out n.holds.matches.outward k n.outward;
+      homeward = reader_calls ha hi w.acceptor.facts s t w.homeward w.outward out (same_shaken s t out d quiet) d.over d.config k n.homeward;
       initiator = ends_still NoNumber s t d.ends time_fine n.initiator;
       acceptor = n.acceptor;
     }
@@ -154,12 +152,11 @@ counted_step hi ha w (acceptor_does call) n may =
     let out = written s (call ∷ []) in
     let d = does_as ha s call may.0 may.1 n.holds.acceptor.serves in
     let k = serves_as ha s call may.0 may.1 in
-    let c = within_as ha s call may.0 may.1 in
     let quiet = acceptor_quiet w.initiator.config s.config w.initiator.facts w.initiator.ending s.facts w.outward w.homeward n.holds.shaking in
     record {
       holds = holds_step hi ha w (acceptor_does call) n.holds may;
-      outward = reader_calls hi w.initiator.facts s t w.outward w.homeward out (same_shaken s t out d quiet) d.over c.most d.config k n.outward;
-      homeward = writer_calls ha s t w.initiator.config w.initiator.most w.initiator.facts w.initiator.ending w.homeward w.outward out n.holds.matches.homeward c k n.homeward;
+      outward = reader_calls hi ha w.initiator.facts s t w.outward w.homeward out (same_shaken s t out d quiet) d.over d.config k n.outward;
+      homeward = writer_calls ha s t w.initiator.config w.initiator.most w.initiator.facts w.initiator.ending w.homeward w.outward out n.holds.matches.homeward k n.homeward;
       initiator = n.initiator;
       acceptor = ends_still NoNumber s t d.ends time_fine n.acceptor;
     }
