@@ -1,5 +1,5 @@
 -- One flow between two ends: each reply and each call of either keeps its numbers.
-use Rattle.std.proofs.Common.{◌≡◌, ℕ, ◌+◌, ◌≤◌, ◌&&◌, not, Bool, true, false, if◌then◌else◌, List, [], ◌∷◌, ◌++◌, length, Option, Some, None, refl, sym, ap, subst, ◌∙◌, arith, true≢false}
+use Rattle.std.proofs.Common.{◌≡◌, ℕ, ◌+◌, ◌≤◌, Bool, true, false, if◌then◌else◌, List, [], ◌∷◌, ◌++◌, length, Option, Some, None, refl, sym, ap, subst, ◌∙◌, arith, true≢false}
 use Rattle.std.specs.Prelude.{IsSome}
 use Rattle.std.specs.List.{AllByRecursion}
 use Rattle.session_model.specs.Journal.{Entry}
@@ -19,13 +19,12 @@ use Rattle.fixp_shake.specs.Phases.{is_closing, is_shaken}
 use Rattle.fixp_replies.specs.declared.act.Ending.{Ending}
 use Rattle.fixp_replies.specs.declared.act.Ending.TheVariants as endings
 use Rattle.fixp_replies.specs.declared.facts.Facts.{Facts}
-use Rattle.fixp_replies.specs.Facts.{Around, is_own}
-use Rattle.fixp_replies.specs.Outcomes.{Outcome, ignores, ends, breaks}
-use Rattle.fixp_replies.specs.Replies.{reply_of, answer_of, terminates}
+use Rattle.fixp_replies.specs.Facts.{Around}
+use Rattle.fixp_replies.specs.Outcomes.{Outcome}
+use Rattle.fixp_replies.specs.Replies.{reply_of}
 use Rattle.reply_laws.specs.Machine.{State}
-use Rattle.reply_laws.proofs.Rows.{by_row}
 use Rattle.reply_laws.proofs.Tests.{no_gap}
-use Rattle.connection_laws.specs.Writing.{Piece, said, said_all, WritesOwn, nothing, shakes, resends}
+use Rattle.connection_laws.specs.Writing.{Piece, said_all, WritesOwn, nothing, shakes, resends}
 use Rattle.connection_laws.proofs.Replied.{frame_writes}
 use Rattle.link_laws.specs.Reading.{incoming_of}
 use Rattle.link_laws.proofs.Refused.{closing_is_deaf}

@@ -93,7 +93,7 @@ initiator_reading hi ha w (p ∷ left) at now e n going h =
     let s = w.initiator in
     let m = n.holds.matches in
     let flows : is_shaken s.facts.connection.phase ≡ true → IsFlowing w.acceptor.config p = λ shaken.
-        (subst (λ (ps : List Piece). AllByRecursion (IsFlowing w.acceptor.config) ps) e (initiator_flows s.config w.acceptor.config s.facts s.ending w.acceptor.facts w.outward w.homeward n.holds.shaking shaken)).0 in
+    (subst (λ (ps : List Piece). AllByRecursion (IsFlowing w.acceptor.config) ps) e (initiator_flows s.config w.acceptor.config s.facts s.ending w.acceptor.facts w.outward w.homeward n.holds.shaking shaken)).0 in
     let r = end_reads hi ha s w.acceptor p left w.outward at now (to_initiator s.config w.acceptor.config m) m.outward flows going.going
     (subst (λ (ps : List Piece). Requests w.acceptor.facts s.facts s.ending ps w.outward) e n.holds.homeward_requests)
     (subst (λ (ps : List Piece). Flowing hi s w.acceptor w.outward ps) e n.outward) (subst (λ (ps : List Piece). Flowing ha w.acceptor s ps w.outward) e n.homeward) in
@@ -105,7 +105,7 @@ acceptor_reading hi ha w (p ∷ left) at now e n going h =
     let s = w.acceptor in
     let m = n.holds.matches in
     let flows : is_shaken s.facts.connection.phase ≡ true → IsFlowing w.initiator.config p = λ shaken.
-        (subst (λ (ps : List Piece). AllByRecursion (IsFlowing w.initiator.config) ps) e (acceptor_flows w.initiator.config s.config w.initiator.facts w.initiator.ending s.facts w.outward w.homeward n.holds.shaking shaken)).0 in
+    (subst (λ (ps : List Piece). AllByRecursion (IsFlowing w.initiator.config) ps) e (acceptor_flows w.initiator.config s.config w.initiator.facts w.initiator.ending s.facts w.outward w.homeward n.holds.shaking shaken)).0 in
     let r = end_reads ha hi s w.initiator p left w.homeward at now (to_acceptor w.initiator.config s.config m) m.homeward flows going.going
     (subst (λ (ps : List Piece). Requests w.initiator.facts s.facts s.ending ps w.homeward) e n.holds.outward_requests)
     (subst (λ (ps : List Piece). Flowing ha s w.initiator w.homeward ps) e n.homeward) (subst (λ (ps : List Piece). Flowing hi w.initiator s ps w.homeward) e n.outward) in
