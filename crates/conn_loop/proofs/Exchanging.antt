@@ -1,6 +1,6 @@
 -- A turn's receive, work and sending, put together.
 use Rattle.std.proofs.Common.{◌≡◌, inl, inr, ◌<◌, ℕ, Bool, true, List, [], ◌++◌, ◌≤◌, length, Option, Some, None, Result, Ok, Err, refl, sym, ap, subst, ◌∙◌, arith, append-nil}
-use Rattle.std.specs.Prelude.{◌||◌, IsSome, ◌⊎◌, ◌≢◌, OnOk, OnErr, IfOk, IfErr}
+use Rattle.std.specs.Prelude.{◌||◌, IsSome, ◌⊎◌, ◌≢◌, OnOk, IfOk, IfErr}
 use Rattle.gw_links.specs.Links.{LinkTold, Carried, Moved}
 use Rattle.gw_links.specs.declared.link.Got.{Got}
 use Rattle.gw_links.proofs.Moving.{moved_more}
@@ -11,6 +11,7 @@ use Rattle.session_model.specs.Inbox.{InboxRecord}
 use Rattle.jr_boxes.specs.declared.inbox.Inbox.{Inbox}
 use Rattle.jr_boxes.specs.Inbox.{HoldsBox}
 use Rattle.fixp_replies.specs.declared.act.Ending.{Ending}
+use Rattle.fixp_replies.specs.declared.act.Ending.TheVariants as endings
 use Rattle.conn_turns.specs.declared.news.NewsItem.{NewsItem}
 use Rattle.conn_turns.specs.declared.answer.TurnFault.{TurnFault}
 use Rattle.conn_turns.specs.declared.answer.TurnEnd.{TurnEnd}
@@ -40,18 +41,15 @@ pub on_ok_any : {T E : Type 0} (P : Type 0) (r : Result T E) → P → OnOk r P
 on_ok_any P (Ok x) p = p
 on_ok_any P (Err e) p = tt
 
-pub on_err_any : {T E : Type 0} (P : Type 0) (r : Result T E) → P → OnErr r P
-on_err_any P (Ok x) p = tt
-on_err_any P (Err e) p = p
-
-pub at_err : {T E : Type 0} (P : Type 0) (r : Result T E) (e : E) → r ≡ Err e → OnErr r P → P
-at_err P (Ok x) e is h = absurd (cc)
-at_err P (Err f) e is h = h
-
 -- a link that failed as it sent gives no other fault
 pub loss_cut : (old new : State) (r : Result TurnEnd TurnFault) (P : TurnFault → Type 0) → IsLossOf old new r → IfErr r (λ fault. (fault ≡ faults.Link → ⊥) → P fault)
 loss_cut old new (Ok end) P h = tt
 loss_cut old new (Err fault) P h = λ other. absurd (other h.0)
+
+-- and where it gives that one, the connection ends as one whose link has ended
+pub loss_ends : (old new : State) (r : Result TurnEnd TurnFault) → IsLossOf old new r → r ≡ Err faults.Link → new.ending ≡ Some endings.LinkEnded
+loss_ends old new (Ok end) h e = absurd (cc)
+loss_ends old new (Err fault) h e = h.2
 
 pub loss_answer : (old new : State) (r : Result TurnEnd TurnFault) → IsLossOf old new r → IfOk r (λ end. end ≡ answer_of new.ending)
 loss_answer old new (Ok end) h = h

@@ -1,8 +1,10 @@
 -- Calls of the machine in a turn.
 use Rattle.std.proofs.Common.{◌≡◌, ◌≤◌, ◌+◌, ◌-◌, ◌&&◌, not, eq-eqb, ℕ, Bool, true, false, if◌then◌else◌, List, [], length, Option, Some, None, refl, sym, ap, subst, ◌∙◌, true≢false}
-use Rattle.std.specs.Prelude.{is_some, IfSome}
+use Rattle.std.specs.Prelude.{◌≢◌, is_some, IfSome}
 use Rattle.fixp_msgs.specs.declared.numbering.Range.{Range}
 use Rattle.fixp_replies.specs.declared.act.Ending.{Ending}
+use Rattle.fixp_replies.specs.declared.act.Ending.TheVariants as endings
+use Rattle.fixp_replies.specs.Facts.{finishes_exchanged}
 use Rattle.fixp_replies.specs.Events.{link_ending, turn_ended, outbox_finished, finish_told}
 use Rattle.flow_idem.specs.Runs.{runs_of}
 use Rattle.session_model.specs.Journal.{History, BeginsHistory}
@@ -78,13 +80,17 @@ rest_none r n e = ap (λ (b : Bool). if b then None else Some (record { from = r
 pub finish_same : (m n : State) (h : History) → n.config ≡ m.config → finish_of n h ≡ finish_of m h
 finish_same m n h config = ap (λ (x : EndConfig). if not (is_absent x.own_flow) && h.finished then Some (length h.made) else None) config
 
--- the end of a link ends the connection
-pub link_ends : (s : State) → is_some (link_ended s).ending ≡ true
-link_ends s = by_case s.ending refl
+-- a connection that had not ended, and whose link's end does not finish it, ends as one whose link has ended
+pub link_ends : (s : State) → s.ending ≡ None → (link_ended s).ending ≢ Some endings.Finished → (link_ended s).ending ≡ Some endings.LinkEnded
+link_ends s unended unfinished = by_case s.ending unended unfinished
   where
-    by_case : (o : Option Ending) → s.ending ≡ o → is_some (link_as s o).ending ≡ true
-    by_case None e = refl
-    by_case (Some x) e = ap is_some e
+    by_finishes : (b : Bool) → Some (if b then endings.Finished else endings.LinkEnded) ≢ Some endings.Finished → Some (if b then endings.Finished else endings.LinkEnded) ≡ Some endings.LinkEnded
+    by_finishes true unfinished = absurd (unfinished refl)
+    by_finishes false unfinished = refl
+
+    by_case : (o : Option Ending) → o ≡ None → (link_as s o).ending ≢ Some endings.Finished → (link_as s o).ending ≡ Some endings.LinkEnded
+    by_case None e unfinished = by_finishes (finishes_exchanged (around s 0 s.moment) s.facts) unfinished
+    by_case (Some x) e unfinished = absurd (cc)
 
 -- nothing is served as a connection begins
 pub begun_serves : (s : State) (now : ℕ) → (connected s now).facts.connection.serving ≡ None

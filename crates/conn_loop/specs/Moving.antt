@@ -1,5 +1,5 @@
 -- What a turn receives and sends over its link (this project's profile).
-use Rattle.std.specs.Prelude.{◌≡◌, ◌≢◌, ℕ, ◌+◌, ◌<◌, ◌||◌, Bool, false, List, [], ◌++◌, length, Option, Some, None, IfSome, Result, Ok, Err}
+use Rattle.std.specs.Prelude.{◌≡◌, ℕ, ◌+◌, ◌<◌, ◌||◌, Bool, false, List, [], ◌++◌, length, Option, Some, None, IfSome, Result, Ok, Err}
 use mathlib.Core.List.{IsPrefix}
 use Rattle.gw_links.specs.declared.link.Got.{Got}
 use Rattle.gw_links.specs.Links.{LinkTold, Carried, Moved}
@@ -30,8 +30,8 @@ pub record SentOnce (told later : Option LinkTold) (carried after : Option Carri
   pub full : lost ≡ false → 0 < length new.machine.unsent → IfSome later (λ t. t.room ≡ 0)
   pub moved : Moved told later carried after [] sent
 
--- a turn answers so of a machine whose link failed in this state: the fault, where the connection had not ended before and both
--- finishes were not exchanged, and else how the connection ended
+-- a turn answers so of a machine whose link failed in this state: the fault, where the connection had not ended before and ends as
+-- one whose link has ended; and else, as where both finishes were exchanged, how it ended
 abbrev pub IsLossOf : State → State → Result TurnEnd TurnFault → Type 0
 IsLossOf old new (Ok end) = end ≡ answer_of new.ending
-IsLossOf old new (Err fault) = (fault ≡ faults.Link) × (old.ending ≡ None) × (new.ending ≢ Some endings.Finished)
+IsLossOf old new (Err fault) = (fault ≡ faults.Link) × (old.ending ≡ None) × (new.ending ≡ Some endings.LinkEnded)

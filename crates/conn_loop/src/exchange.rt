@@ -1,7 +1,8 @@
 //! A turn of a connection, whole.
 
-ghost use Rattle.std.specs.Prelude.{◌≡◌, ◌⊎◌, ℕ, ◌+◌, ◌^◌, ◌<◌, ◌≤◌, [], max, is_some, true, Ok, Err, None, IfOk, IfErr, OnOk};
+ghost use Rattle.std.specs.Prelude.{◌≡◌, ◌⊎◌, ℕ, ◌+◌, ◌^◌, ◌<◌, ◌≤◌, [], max, true, Ok, Err, Some, None, IfOk, IfErr, OnOk};
 ghost use Rattle.gw_outside.specs.Faults.{HasRisen};
+ghost use Rattle.fixp_replies.specs.declared.act.Ending.TheVariants as endings;
 ghost use Rattle.jr_boxes.specs.Inbox.{faults_of, is_broken, size_of, count_of};
 ghost use Rattle.gate_turn.specs.Views.{HasFailed};
 ghost use Rattle.gate_turn.specs.Places.{known};
@@ -58,7 +59,7 @@ impl Conn {
         ensures goes { result ≡ Ok ends.Go → GoesOn (line_of self.new).machine }
         ensures leaves { OnOk result (Leaves (line_of self.new).machine (known pass.new) inbox.new) }
         ensures leaves_lost { result ≡ Err faults.Link → Leaves (line_of self.new).machine (known pass.new) inbox.new }
-        ensures ended_lost { result ≡ Err faults.Link → is_some (line_of self.new).machine.ending ≡ true }
+        ensures ended_lost { result ≡ Err faults.Link → (line_of self.new).machine.ending ≡ Some endings.LinkEnded }
         ensures link { result ≡ Err faults.Link → HasRisen (L.faults link.old) (L.faults link.new) }
         ensures inbox { result ≡ Err faults.Inbox → HasRisen (faults_of inbox.old) (faults_of inbox.new) }
         ensures outbox { result ≡ Err faults.Outbox → HasFailed (known pass.old).faults (known pass.new).faults }
@@ -112,7 +113,7 @@ impl Conn {
         ensures goes { result ≡ Ok ends.Go → GoesOn (line_of self.new).machine }
         ensures leaves { OnOk result (Leaves (line_of self.new).machine (known pass.new) inbox.new) }
         ensures leaves_lost { result ≡ Err faults.Link → Leaves (line_of self.new).machine (known pass.new) inbox.new }
-        ensures ended_lost { result ≡ Err faults.Link → is_some (line_of self.new).machine.ending ≡ true }
+        ensures ended_lost { result ≡ Err faults.Link → (line_of self.new).machine.ending ≡ Some endings.LinkEnded }
         ensures link { result ≡ Err faults.Link → HasRisen (L.faults link.old) (L.faults link.new) }
         ensures inbox { result ≡ Err faults.Inbox → HasRisen (faults_of inbox.old) (faults_of inbox.new) }
         ensures outbox { result ≡ Err faults.Outbox → HasFailed (known pass.old).faults (known pass.new).faults }

@@ -1,6 +1,6 @@
 //! What a turn sends over its link, and what it answers.
 
-ghost use Rattle.std.specs.Prelude.{◌≡◌, ◌≤◌, [], ◌∷◌, length, true, None, is_some, OnErr};
+ghost use Rattle.std.specs.Prelude.{◌≡◌, ◌≤◌, [], ◌∷◌, length, true, None, OnErr};
 ghost use Rattle.gw_outside.specs.Faults.{HasRisen};
 ghost use Rattle.reply_laws.specs.Machine.{run, link_end};
 
@@ -32,7 +32,6 @@ impl Conn {
         ensures keeps { KeepsAll (line_of self.old).machine (line_of self.new).machine (line_of self.old).machine.moment }
         ensures facts { (line_of self.new).machine.facts ≡ (line_of self.old).machine.facts }
         ensures unsent { (line_of self.new).machine.unsent ≡ (line_of self.old).machine.unsent }
-        ensures ended { is_some (line_of self.new).machine.ending ≡ true }
     {
         let before = self.end.ending();
         self.end.on_link_end();
@@ -52,7 +51,6 @@ impl Conn {
         ensures facts { (line_of self.new).machine.facts ≡ (line_of self.old).machine.facts }
         ensures little { length (line_of self.new).machine.unsent ≤ length (line_of self.old).machine.unsent }
         ensures goes { (line_of self.new).machine.ending ≡ None → (line_of self.old).machine.ending ≡ None }
-        ensures ended { OnErr result (is_some (line_of self.new).machine.ending ≡ true) }
         ensures cause { OnErr result (HasRisen (L.faults link.old) (L.faults link.new)) }
         ensures never_falls { L.faults link.old ≤ L.faults link.new }
         ensures stays { L.place link.new ≡ L.place link.old }

@@ -98,7 +98,7 @@ adds_append (c ∷ cs) x = ap (λ (l : List InboxRecord). c.adds ++ l) (adds_app
 
 some_ending : (close : Close) (o : Option Ending) → ClosesAs close o → IsSome o
 some_ending (closes.Ended e) o is = subst (λ (x : Option Ending). IsSome x) (sym is) refl
-some_ending closes.LinkFault o is = is
+some_ending closes.LinkFault o is = subst (λ (x : Option Ending). IsSome x) (sym is) refl
 
 lines_so : (lacking : Bool) (n : ℕ) (out mid_out now_out : Option (List ℕ)) (cs : List Connection) (x : Connection) → n ≡ 1 + length cs → Appends out mid_out (lines_from 1 cs)
     → Tells lacking mid_out now_out (news_lines x.news ++ close_line n x.close) → Tells lacking out now_out (lines_from 1 (cs ++ x ∷ []))

@@ -1,8 +1,9 @@
 -- What a turn answered, as its connection knows it.
-use Rattle.std.proofs.Common.{◌≡◌, ◌⊎◌, inl, inr, ℕ, ◌≤◌, true, arith, Option, Some, None, Result, Ok, Err, refl, sym, subst, ◌∙◌}
-use Rattle.std.specs.Prelude.{IsSome, is_some, IfOk, IfErr, OnOk}
+use Rattle.std.proofs.Common.{◌≡◌, ◌⊎◌, inl, inr, ⊎_elim, ℕ, ◌≤◌, true, arith, Option, Some, None, Result, Ok, Err, refl, sym, subst, ◌∙◌}
+use Rattle.std.specs.Prelude.{IfOk, IfErr, OnOk}
 use Rattle.gw_outside.specs.Faults.{HasRisen}
 use Rattle.fixp_replies.specs.declared.act.Ending.{Ending}
+use Rattle.fixp_replies.specs.declared.act.Ending.TheVariants as endings
 use Rattle.jr_record.specs.declared.journal.Journal.{Ghosts}
 use Rattle.jr_boxes.specs.declared.inbox.Inbox.{Inbox}
 use Rattle.jr_boxes.specs.Inbox.{faults_of, is_broken, size_of, count_of}
@@ -14,6 +15,7 @@ use Rattle.conn_turns.specs.declared.answer.TurnEnd.{TurnEnd}
 use Rattle.conn_turns.specs.declared.answer.TurnEnd.TheVariants as turn_ends
 use Rattle.conn_turns.specs.declared.answer.TurnFault.{TurnFault}
 use Rattle.conn_turns.specs.declared.answer.TurnFault.TheVariants as turn_faults
+use Rattle.conn_steps.specs.Settling.{SameKind}
 use Rattle.conn_loop.specs.Conn.{answer_of}
 use Rattle.conn_serve.specs.declared.answer.ServeFault.{ServeFault}
 use Rattle.conn_serve.specs.declared.answer.ServeFault.TheVariants as faults
@@ -68,18 +70,14 @@ ended_as : (x : Ending) (o : Option Ending) → turn_ends.Ended x ≡ answer_of 
 ended_as x None e = cc
 ended_as x (Some y) e = cc
 
-some_of : (o : Option Ending) → is_some o ≡ true → IsSome o
-some_of None e = cc
-some_of (Some y) e = refl
-
-pub closed_made : (o : Option Ending) (r : Result TurnEnd TurnFault) → IfOk r (λ end. end ≡ answer_of o) → (r ≡ Err turn_faults.Link → is_some o ≡ true) → (close : Close) → close_of r ≡ Ok (Some close) → ClosesAs close o
+pub closed_made : (o : Option Ending) (r : Result TurnEnd TurnFault) → IfOk r (λ end. end ≡ answer_of o) → (r ≡ Err turn_faults.Link → o ≡ Some endings.LinkEnded) → (close : Close) → close_of r ≡ Ok (Some close) → ClosesAs close o
 closed_made o (Ok turn_ends.Go) ok lost close e = cc
 closed_made o (Ok (turn_ends.Ended x)) ok lost close e =
     let same : closes.Ended x ≡ close = cc in
     subst (λ (c : Close). ClosesAs c o) same (ended_as x o ok)
 closed_made o (Err turn_faults.Link) ok lost close e =
     let same : closes.LinkFault ≡ close = cc in
-    subst (λ (c : Close). ClosesAs c o) same (some_of o (lost refl))
+    subst (λ (c : Close). ClosesAs c o) same (lost refl)
 closed_made o (Err turn_faults.Inbox) ok lost close e = cc
 closed_made o (Err turn_faults.Outbox) ok lost close e = cc
 closed_made o (Err turn_faults.Broken) ok lost close e = cc
@@ -100,39 +98,39 @@ module _ {J : Type 0} {G : Ghosts J} where
   blames : (p q : Part) (box since : Inbox J G) → BlamesJournal p q box since → IsBlamed 0 0 0 0 p q box since faults.Journal
   blames p q box since b = record { output = λ e. cc; journal = λ _. b; dial = λ e. cc; full = λ entries bytes e. cc }
 
-  pub blamed_made : (p q : Part) (box since : Inbox J G) (r : Result TurnEnd TurnFault)
+  pub blamed_made : (p q : Part) (box since : Inbox J G) (r : Result TurnEnd TurnFault) → SameKind box since
       → (r ≡ Err turn_faults.Inbox → HasRisen (faults_of box) (faults_of since))
       → (r ≡ Err turn_faults.Outbox → HasFailed p.faults q.faults)
       → (r ≡ Err turn_faults.Broken → (is_broken since ≡ true) ⊎ HasFailed q.opening.faults q.faults)
       → ((entries bytes : ℕ) → r ≡ Err (turn_faults.Full entries bytes) → (entries ≡ count_of since) × (bytes ≡ size_of since))
       → IfErr (close_of r) (IsBlamed 0 0 0 0 p q box since)
-  blamed_made p q box since (Ok turn_ends.Go) inbox outbox broken full = tt
-  blamed_made p q box since (Ok (turn_ends.Ended x)) inbox outbox broken full = tt
-  blamed_made p q box since (Err turn_faults.Link) inbox outbox broken full = tt
-  blamed_made p q box since (Err turn_faults.Inbox) inbox outbox broken full = blames p q box since (inl (inbox refl))
-  blamed_made p q box since (Err turn_faults.Outbox) inbox outbox broken full = blames p q box since (inr (inr (inl (outbox refl))))
-  blamed_made p q box since (Err turn_faults.Broken) inbox outbox broken full = blames p q box since (by_kind (broken refl))
+  blamed_made p q box since (Ok turn_ends.Go) kind inbox outbox broken full = tt
+  blamed_made p q box since (Ok (turn_ends.Ended x)) kind inbox outbox broken full = tt
+  blamed_made p q box since (Err turn_faults.Link) kind inbox outbox broken full = tt
+  blamed_made p q box since (Err turn_faults.Inbox) kind inbox outbox broken full = blames p q box since (inl (inbox refl))
+  blamed_made p q box since (Err turn_faults.Outbox) kind inbox outbox broken full = blames p q box since (inr (inr (inl (outbox refl))))
+  blamed_made p q box since (Err turn_faults.Broken) kind inbox outbox broken full = blames p q box since (by_kind (broken refl))
     where
       by_kind : (is_broken since ≡ true) ⊎ HasFailed q.opening.faults q.faults → BlamesJournal p q box since
-      by_kind (inl b) = inr (inl b)
+      by_kind (inl b) = ⊎_elim (λ was. inr (inl was)) (λ risen. inl risen) (kind.breaks b)
       by_kind (inr b) = inr (inr (inr b))
-  blamed_made p q box since (Err (turn_faults.Full entries bytes)) inbox outbox broken full =
+  blamed_made p q box since (Err (turn_faults.Full entries bytes)) kind inbox outbox broken full =
       record { output = λ e. cc; journal = λ e. cc; dial = λ e. cc; full = λ n m e. let a : n ≡ entries = cc in let b : m ≡ bytes = cc in (a ∙ (full entries bytes refl).0, b ∙ (full entries bytes refl).1) }
-  blamed_made p q box since (Err turn_faults.Memory) inbox outbox broken full = record { output = λ e. cc; journal = λ e. cc; dial = λ e. cc; full = λ entries bytes e. cc }
+  blamed_made p q box since (Err turn_faults.Memory) kind inbox outbox broken full = record { output = λ e. cc; journal = λ e. cc; dial = λ e. cc; full = λ entries bytes e. cc }
 
-  blames_since : (p m q : Part) (box mid after : Inbox J G) → p.faults ≤ m.faults → faults_of box ≤ faults_of mid → BlamesJournal m q mid after → BlamesJournal p q box after
-  blames_since p m q box mid after pass inbox (inl risen) = inl (omega (arith, inbox, risen))
-  blames_since p m q box mid after pass inbox (inr (inl broken)) = inr (inl broken)
-  blames_since p m q box mid after pass inbox (inr (inr (inl failed))) = inr (inr (inl (failed_before p.faults m.faults q.faults pass failed)))
-  blames_since p m q box mid after pass inbox (inr (inr (inr failed))) = inr (inr (inr failed))
+  blames_since : (p m q : Part) (box mid after : Inbox J G) → p.faults ≤ m.faults → faults_of box ≤ faults_of mid → faults_of mid ≤ faults_of after → SameKind box mid → BlamesJournal m q mid after → BlamesJournal p q box after
+  blames_since p m q box mid after pass inbox later kind (inl risen) = inl (omega (arith, inbox, risen))
+  blames_since p m q box mid after pass inbox later kind (inr (inl broken)) = ⊎_elim (λ was. inr (inl was)) (λ risen. inl (omega (arith, later, risen))) (kind.breaks broken)
+  blames_since p m q box mid after pass inbox later kind (inr (inr (inl failed))) = inr (inr (inl (failed_before p.faults m.faults q.faults pass failed)))
+  blames_since p m q box mid after pass inbox later kind (inr (inr (inr failed))) = inr (inr (inr failed))
 
   -- what is to blame behind the middle is to blame for the whole
   pub blamed_since : (out mid_out now_out dialer mid_dialer now_dialer : ℕ) (p m q : Part) (box mid after : Inbox J G) (fault : ServeFault)
-      → out ≤ mid_out → dialer ≤ mid_dialer → p.faults ≤ m.faults → faults_of box ≤ faults_of mid
+      → out ≤ mid_out → dialer ≤ mid_dialer → p.faults ≤ m.faults → faults_of box ≤ faults_of mid → faults_of mid ≤ faults_of after → SameKind box mid
       → IsBlamed mid_out now_out mid_dialer now_dialer m q mid after fault → IsBlamed out now_out dialer now_dialer p q box after fault
-  blamed_since out mid_out now_out dialer mid_dialer now_dialer p m q box mid after fault less_out less_dialer pass inbox b = record {
+  blamed_since out mid_out now_out dialer mid_dialer now_dialer p m q box mid after fault less_out less_dialer pass inbox later kind b = record {
     output = λ e. omega (arith, less_out, b.output e);
-    journal = λ e. blames_since p m q box mid after pass inbox (b.journal e);
+    journal = λ e. blames_since p m q box mid after pass inbox later kind (b.journal e);
     dial = λ e. omega (arith, less_dialer, b.dial e);
     full = b.full;
   }

@@ -30,11 +30,11 @@ Tells false old new lines = Appends old new lines
 Tells true old new lines = TakesFront old new lines
 
 module _ {J : Type 0} {G : Ghosts J} where
-  -- a journal is to blame: the inbox's count rose, or it is broken, or a call of the outbox's disk failed, as the count that the pass
-  -- has seen shows: meanwhile, or since its opening
+  -- a journal is to blame: the inbox's count rose, or it was broken before, or a call of the outbox's disk failed, as the count that the
+  -- pass has seen shows: meanwhile, or since its opening
   abbrev pub BlamesJournal : (p q : Part) (box since : Inbox J G) → Type 0
   BlamesJournal p q box since =
-      HasRisen (faults_of box) (faults_of since) ⊎ ((is_broken since ≡ true) ⊎ (HasFailed p.faults q.faults ⊎ HasFailed q.opening.faults q.faults))
+      HasRisen (faults_of box) (faults_of since) ⊎ ((is_broken box ≡ true) ⊎ (HasFailed p.faults q.faults ⊎ HasFailed q.opening.faults q.faults))
 
   -- what a fault is to blame for
   pub record IsBlamed (out now_out dialer now_dialer : ℕ) (p q : Part) (box since : Inbox J G) (fault : ServeFault) : Type 0 where

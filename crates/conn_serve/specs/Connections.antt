@@ -1,6 +1,6 @@
 -- Connections of a life, one behind another: what they did, told, recorded and carried, and how they came to their end (this
 -- project's profile).
-use Rattle.std.specs.Prelude.{◌≡◌, ℕ, ◌-◌, List, [], ◌∷◌, ◌++◌, map, length, Option, Some, None, IsSome, IfSome}
+use Rattle.std.specs.Prelude.{◌≡◌, ℕ, ◌-◌, List, [], ◌∷◌, ◌++◌, map, length, Option, Some, None, IfSome}
 use Rattle.std.specs.List.{flat_map}
 use Rattle.session_model.specs.Journal.{History, BeginsHistory}
 use Rattle.session_model.specs.Inbox.{InboxRecord}
@@ -69,10 +69,11 @@ pub record IsConnection (before after : History) (m : State) (last : Line) (c : 
   pub news : c.news ≡ told ++ cut_told
   pub adds : c.adds ≡ added ++ cut_added
 
--- a connection came to its end so: by the machine's ending, or its link failed and it has ended
+-- a connection came to its end so: by the machine's ending, or its link failed, and it has ended as one whose link has ended: before
+-- both finishes were exchanged
 abbrev pub ClosesAs : Close → Option Ending → Type 0
 ClosesAs (closes.Ended e) ending = ending ≡ Some e
-ClosesAs closes.LinkFault ending = IsSome ending
+ClosesAs closes.LinkFault ending = ending ≡ Some endings.LinkEnded
 
 -- it ended: none of its turns was cut short, and its link carried exactly the bytes that were given and sent in them
 pub record HasEnded (before after : History) (m new : State) (c : Connection) : Type 0 where

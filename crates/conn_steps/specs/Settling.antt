@@ -1,5 +1,5 @@
 -- What an act is to an inbox, and what becomes of the inbox as its record is made stable (this project's profile).
-use Rattle.std.specs.Prelude.{◌≡◌, ℕ, ◌+◌, ◌<◌, true, List, [], ◌∷◌, ◌++◌, None}
+use Rattle.std.specs.Prelude.{◌≡◌, ◌⊎◌, ℕ, ◌+◌, ◌<◌, true, List, [], ◌∷◌, ◌++◌, None}
 use Rattle.session_model.specs.Inbox.{InboxRecord}
 use Rattle.sbe_prim.specs.declared.Order.{Order}
 use Rattle.fixp_msgs.specs.Numbering.{payload_of}
@@ -47,10 +47,11 @@ module _ {J : Type 0} {G : Ghosts J} where
   abbrev pub Takes : Inbox J G → Act → Order → List ℕ → Type 0
   Takes box act order message = CanTake (flow_of box) (limits_of box).entries (recorded_in box) (IsApplication (payload_at order message)) act
 
-  -- it is an inbox of the same flow and the same limits
+  -- it is an inbox of the same flow and the same limits, and where it came to be broken a call of its disk failed
   pub record SameKind (old new : Inbox J G) : Type 0 where
     pub flow : flow_of new ≡ flow_of old
     pub limits : limits_of new ≡ limits_of old
+    pub breaks : is_broken new ≡ true → (is_broken old ≡ true) ⊎ HasRisen (faults_of old) (faults_of new)
 
   -- whichever list it held, it holds that list and these records
   abbrev pub Gains : Inbox J G → Inbox J G → List InboxRecord → Type 0

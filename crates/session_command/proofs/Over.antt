@@ -154,7 +154,7 @@ module _ {D J : Type 0} {H : Ghosts J} (outbox : Outbox J H) (told : D → Optio
       in_left = λ image left. held.journal.images image (leaves_are (inboxes.journal_of since) image (subst (λ (d : D). Leaves (may_leave d) image) now_in_is left));
       marked = l.marked;
       journal = λ e. ⊎_elim
-          (λ b. inr (⊎_elim (λ risen. inl (risen_over (disk in_disk) (disk now_in_disk) (inboxes.faults_of box) (inboxes.faults_of since) in_least (sym in_count) risen)) (λ broken. inr broken) b))
+          (λ risen. inr (risen_over (disk in_disk) (disk now_in_disk) (inboxes.faults_of box) (inboxes.faults_of since) in_least (sym in_count) risen))
           (λ risen. inl (risen_over (disk out_disk) (disk now_out_disk) (outboxes.faults_of outbox) (outboxes.faults_of closed) out_least (sym out_count) risen))
           (l.journal e);
       full = λ entries bytes e. full entries bytes (l.full entries bytes e);

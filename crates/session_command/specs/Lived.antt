@@ -112,7 +112,7 @@ module _ {J : Type 0} {G : Ghosts J} where
     pub out_left : (HasRisen (disk out_disk) (disk now_out_disk) → ⊥) → ∥ LeavesImages (may_leave now_out_disk) (records_of_history closing) [] ∥₁
     pub in_left : LeavesImages (may_leave now_in_disk) (records_of_inbox (inbox ++ adds_of (all_of served.ended served.given_up))) (records_of_inbox (refused_of_all (option_to_list served.given_up)))
     pub marked : IsUnrefused result → 0 < length plans → closing.finished ≡ true
-    pub journal : result ≡ Err faults.Journal → HasRisen (disk out_disk) (disk now_out_disk) ⊎ (HasRisen (disk in_disk) (disk now_in_disk) ⊎ (inboxes.is_broken since ≡ true))
+    pub journal : result ≡ Err faults.Journal → HasRisen (disk out_disk) (disk now_out_disk) ⊎ HasRisen (disk in_disk) (disk now_in_disk)
     pub full : (entries bytes : ℕ) → result ≡ Err (faults.Full entries bytes) → FullInbox (inbox ++ adds_of (all_of served.ended served.given_up)) entries bytes ⊎ WasFull limits opening closing entries bytes
 
 -- INPUT has these plans, and the status is one of a life, with its cause where it blames OUT or the dialer

@@ -43,6 +43,7 @@ fn open_boxes<D: Disk>(
     ensures told { IfOk result (λ _. HoldBoxes D.told flow out_disk in_disk) }
     ensures opened { IfOk result (λ boxes. OpensOutbox (D.told out_disk) boxes.0 × OpensInbox (D.told in_disk) boxes.1) }
     ensures sound { IfOk result (λ boxes. outboxes.is_broken boxes.0 ≡ false) }
+    ensures in_sound { IfOk result (λ boxes. inboxes.is_broken boxes.1 ≡ false) }
     ensures out_limit { IfOk result (λ boxes. ((outboxes.limits_of boxes.0).entries ≡ 2 ^ 24) × ((outboxes.limits_of boxes.0).bytes ≡ 2 ^ 30)) }
     ensures flow { IfOk result (λ boxes. inboxes.flow_of boxes.1 ≡ flow) }
     ensures limit { IfOk result (λ boxes. (inboxes.limits_of boxes.1).entries ≡ 2 ^ 24) }
@@ -85,6 +86,7 @@ fn run_over_boxes<
     requires link { IsLinkInRange configuration.link }
     requires trade { IsTradeInRange configuration.trade }
     requires sound { outboxes.is_broken outbox ≡ false }
+    requires in_sound { inboxes.is_broken inbox.old ≡ false }
     requires lent { N.lent dialer.old ≡ false }
     requires flow { inboxes.flow_of inbox.old ≡ flow_received role configuration.link }
     requires limit { (inboxes.limits_of inbox.old).entries ≡ 2 ^ 24 }

@@ -222,6 +222,7 @@ pub fn live<K: Sink, D: Disk + Send, N: Dialer, C: Clock, R: Threads + Wait + Sy
     inbox: &mut Inbox<LogJournal<D>>,
 ) -> (Status, Outbox<LogJournal<D>>)
     requires sound { outboxes.is_broken outbox ≡ false }
+    requires in_sound { inboxes.is_broken inbox.old ≡ false }
     requires few_entries { outboxes.front_of outbox < 2 ^ 40 }
     requires few { vec_len plans ≤ 16 }
     requires lent { N.lent dialer.old ≡ false }

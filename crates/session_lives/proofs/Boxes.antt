@@ -7,6 +7,7 @@ use Rattle.reply_laws.specs.Machine.{fresh}
 use Rattle.gw_links.specs.Dialers.{DialerTold}
 use Rattle.jr_record.specs.declared.journal.Journal.{Ghosts}
 use Rattle.jr_boxes.specs.declared.inbox.Inbox.{Inbox}
+use Rattle.jr_boxes.specs.Inbox as inboxes
 use Rattle.jr_boxes.specs.declared.outbox.Outbox.{Outbox}
 use Rattle.jr_boxes.specs.Outbox.{front_of, limits_of, faults_of, is_broken}
 use Rattle.gate_turn.specs.Views.{Account, HasFailed, Part}
@@ -22,7 +23,7 @@ use Rattle.gate_senders.specs.declared.kept.Kept.{Kept}
 use Rattle.gate_senders.proofs.Keeping.{front_is}
 use Rattle.conn_serve.specs.declared.answer.ServeFault.{ServeFault}
 use Rattle.conn_serve.specs.Opening.{opened_state}
-use Rattle.session_lives.specs.Lives.{SomePass, SeesMark, SeesFailure, MetFull, WasFull, ServedAt, LivedBoxes}
+use Rattle.session_lives.specs.Lives.{SomePass, SeesMark, SeesFailure, MetFull, WasFull, BlamesInbox, ServedAt, LivedBoxes}
 use Rattle.session_lives.proofs.Plans.{plans_are_kept}
 
 -- where a count, and one more once it is broken, shows a failure, the count rose
@@ -32,7 +33,7 @@ risen_of old new false true sound f = omega (arith, f.disk)
 risen_of old new false false sound f = omega (arith, f.disk)
 
 module _ {J : Type 0} {G : Ghosts J} {O : Type 0} {H : Ghosts O} (gate : Gate O H) (passes : Passes (Kept O H)) (plans : List (List (List ℕ))) (dialed later : Option DialerTold) (out now_out : Option (List ℕ)) (config : EndConfig)
-    (outbox closed : Outbox O H) (box since : Inbox J G) (result : Result (Unit {0}) ServeFault) (o : OpensOn gate outbox) (sound : is_broken outbox ≡ false) (k : ClosedWith gate passes closed) (few : front_of closed < 2 ^ 40)
+    (outbox closed : Outbox O H) (box since : Inbox J G) (result : Result (Unit {0}) ServeFault) (o : OpensOn gate outbox) (sound : is_broken outbox ≡ false) (in_sound : inboxes.is_broken box ≡ false) (k : ClosedWith gate passes closed) (few : front_of closed < 2 ^ 40)
     (s : ServedAt (opening_of gate) plans (known_at passes) dialed later out now_out (fresh config (opened_state (opening_of gate).history box) (2 ^ 24)) box since result) where
   within : (n : ℕ) → In (length plans + 1) n → In (known_at passes 1).made n
   within n h = record { from_one = h.from_one; up_to = omega (arith, h.up_to, s.made.made) }
@@ -61,6 +62,10 @@ module _ {J : Type 0} {G : Ghosts J} {O : Type 0} {H : Ghosts O} (gate : Gate O 
   failed : SomePass (length plans + 1) SeesFailure (known_at passes) → HasRisen (faults_of outbox) (faults_of closed)
   failed m = risen (subst (λ (a : Account). HasFailed a.faults (account closed k.history).faults) (opened m.number m.inside)
       (failed_after (known_at passes m.number).opening.faults (known_at passes m.number).faults (account closed k.history).faults m.is (found m.number m.inside).faults))
+
+  inbox_risen : BlamesInbox box since → HasRisen (inboxes.faults_of box) (inboxes.faults_of since)
+  inbox_risen (inl risen) = risen
+  inbox_risen (inr broken) = absurd (true≢false (sym broken ∙ in_sound))
 
   was_full : (entries bytes : ℕ) → SomePass (length plans + 1) (MetFull entries bytes) (known_at passes)
       → WasFull (record { entries = (limits_of outbox).entries; bytes = (limits_of outbox).bytes }) (opening_of gate).history k.history entries bytes
@@ -91,6 +96,6 @@ module _ {J : Type 0} {G : Ghosts J} {O : Type 0} {H : Ghosts O} (gate : Gate O 
     served = s.life;
     answer = s.answer;
     marked = λ u many. marked (s.marked u many);
-    journal = λ e. ⊎_elim (λ b. inl b) (λ m. inr (failed m)) (s.journal e);
+    journal = λ e. ⊎_elim (λ b. inl (inbox_risen b)) (λ m. inr (failed m)) (s.journal e);
     full = λ entries bytes e. ⊎_elim (λ b. inl b) (λ m. inr (was_full entries bytes m)) (s.full entries bytes e);
   }

@@ -50,9 +50,9 @@ pub record WasFull (limits : Limits) (opening closing : History) (entries bytes 
   pub full : IsFullAt limits history entry entries bytes
 
 module _ {J : Type 0} {G : Ghosts J} where
-  -- a call of the disk of the inbox failed, or the inbox is broken
+  -- a call of the disk of the inbox failed, or one had failed before
   abbrev pub BlamesInbox : (box since : Inbox J G) → Type 0
-  BlamesInbox box since = HasRisen (inboxes.faults_of box) (inboxes.faults_of since) ⊎ (inboxes.is_broken since ≡ true)
+  BlamesInbox box since = HasRisen (inboxes.faults_of box) (inboxes.faults_of since) ⊎ (inboxes.is_broken box ≡ true)
 
   -- the inbox has so many messages, and so many bytes
   pub record FillsInbox (since : Inbox J G) (entries bytes : ℕ) : Type 0 where
@@ -89,6 +89,6 @@ module _ {J : Type 0} {G : Ghosts J} {O : Type 0} {H : Ghosts O} where
     pub served : ServedLife dialed later out now_out opening seen (fresh config (opened_state opening box) (2 ^ 24)) box since connections
     pub answer : result ≡ answer_of connections refused
     pub marked : IsUnrefused result → 0 < length plans → closing.finished ≡ true
-    pub journal : result ≡ Err faults.Journal → BlamesInbox box since ⊎ HasRisen (outboxes.faults_of outbox) (outboxes.faults_of closed)
+    pub journal : result ≡ Err faults.Journal → HasRisen (inboxes.faults_of box) (inboxes.faults_of since) ⊎ HasRisen (outboxes.faults_of outbox) (outboxes.faults_of closed)
     pub full : (entries bytes : ℕ) → result ≡ Err (faults.Full entries bytes)
         → FillsInbox since entries bytes ⊎ WasFull (record { entries = (outboxes.limits_of outbox).entries; bytes = (outboxes.limits_of outbox).bytes }) opening closing entries bytes

@@ -37,7 +37,7 @@ pub returns-clause-blamed : goal.returns-clause-blamed
 returns-clause-blamed g c =
     let e = c.turn.ensures in
     err_at _ c.turn.result c.close_of.result c.close_of.ensures
-    (blamed_made (known c.args.pass.now) (known c.turn.new.pass) c.args.inbox.now c.turn.new.inbox c.turn.result e.inbox e.outbox e.broken e.full)
+    (blamed_made (known c.args.pass.now) (known c.turn.new.pass) c.args.inbox.now c.turn.new.inbox c.turn.result e.kind e.inbox e.outbox e.broken e.full)
 
 pub returns-clause-of_turn : goal.returns-clause-of_turn
 returns-clause-of_turn g c = err_at _ c.turn.result c.close_of.result c.close_of.ensures (of_turn_made c.turn.result)

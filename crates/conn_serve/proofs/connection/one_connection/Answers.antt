@@ -2,6 +2,7 @@ use Rattle.std.proofs.Common.{◌≡◌, refl, ap, subst, ◌∙◌, arith}
 use Rattle.fixp_replies.specs.declared.facts.EndState.{EndState}
 use Rattle.gate_turn.specs.Places.{known}
 use Rattle.conn_turns.specs.Lines.{Line}
+use Rattle.conn_steps.proofs.Inboxes.{kind_self, kind_on}
 use Rattle.conn_loop.specs.Conn.{line_of}
 use Rattle.conn_loop.proofs.Working.{seen_same, looks_self, looks_on}
 use Rattle.conn_serve.specs.declared.answer.ServeFault.TheVariants as faults
@@ -24,7 +25,7 @@ loop-init g c =
       goes = b.goes may.credentials may.sent;
       seen = seen_same m n (known c.args.pass.now) (ap (λ (r : EndState). r.sent) b.recorded) (ap (λ (r : EndState). r.finish) b.recorded) may.seen;
       agrees = agrees_recorded m n c.args.inbox.now b.config b.most b.recorded may.agrees;
-      kind = record { flow = refl; limits = refl };
+      kind = kind_self c.args.inbox.now;
       inbox = omega arith;
       out = omega arith;
       stays = refl;
@@ -52,7 +53,7 @@ pub returns-in-Err-clause-blamed : goal.returns-in-Err-clause-blamed
 returns-in-Err-clause-blamed g c =
     let was = c.loop.invariant in
     blamed_since _ _ _ 0 0 0 (known c.args.pass.now) (known c.loop.pass) (known c.turn_once.new.pass) c.args.inbox.now c.loop.inbox c.turn_once.new.inbox c.in-Err.fault
-    was.out (omega arith) was.looks.faults was.inbox c.in-Err.ensures.blamed
+    was.out (omega arith) was.looks.faults was.inbox c.turn_once.ensures.never_falls.0 was.kind c.in-Err.ensures.blamed
 
 pub returns-in-Err-clause-given_up : goal.returns-in-Err-clause-given_up
 returns-in-Err-clause-given_up g c =
@@ -81,7 +82,7 @@ loop-preserved g c =
       goes = c.in-Ok-None.ensures.goes (cc);
       seen = left.seen;
       agrees = left.agrees;
-      kind = record { flow = one.kind.flow ∙ was.kind.flow; limits = one.kind.limits ∙ was.kind.limits };
+      kind = kind_on c.args.inbox.now c.loop.inbox c.turn_once.new.inbox was.inbox one.never_falls.0 was.kind one.kind;
       inbox = omega (arith, was.inbox, one.never_falls.0);
       out = omega (arith, was.out, one.never_falls.1);
       stays = one.stays ∙ was.stays;

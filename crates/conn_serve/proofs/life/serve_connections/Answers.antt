@@ -1,5 +1,6 @@
 use Rattle.std.proofs.Common.{Ok, refl, ap, subst, ◌∙◌, arith}
 use Rattle.gate_turn.specs.Places.{known}
+use Rattle.conn_steps.proofs.Inboxes.{kind_self, kind_on}
 use Rattle.conn_loop.proofs.Working.{looks_self, looks_on}
 use Rattle.conn_serve.specs.Served.{IsRound}
 use Rattle.conn_serve.proofs.Making.{blamed_since}
@@ -14,7 +15,7 @@ loop-number-init g c = record {
   may = c.requires.may;
   lent = c.requires.lent;
   lived = lived_none _ _ _ _ c.args.inbox.now;
-  kind = record { flow = refl; limits = refl };
+  kind = kind_self c.args.inbox.now;
   inbox = omega arith;
   out = omega arith;
   dialer = omega arith;
@@ -38,7 +39,7 @@ pub returns-in-Err-clause-blamed : goal.returns-in-Err-clause-blamed
 returns-in-Err-clause-blamed g c =
     let was = c.loop-number.invariant in
     blamed_since _ _ _ _ _ _ (known c.args.pass.now) (known c.loop-number.pass) (known c.serve_next-answer.new.pass) c.args.inbox.now c.loop-number.inbox c.serve_next-answer.new.inbox c.in-Err.fault
-    was.out was.dialer was.looks.faults was.inbox c.in-Err.ensures.blamed
+    was.out was.dialer was.looks.faults was.inbox c.serve_next-answer.ensures.never_falls.0 was.kind c.in-Err.ensures.blamed
 
 pub returns-in-Err-clause-served : goal.returns-in-Err-clause-served
 returns-in-Err-clause-served g c =
@@ -55,7 +56,7 @@ loop-number-preserved g c =
       may = one.goes (c.in-Ok.is ∙ ap Ok c.in_default.is);
       lent = one.lent;
       lived = lived_more _ _ _ _ _ _ _ _ _ _ _ _ _ c.args.inbox.now c.loop-number.inbox c.serve_next-answer.new.inbox was.lived (subst (IsRound _ _ _ _ _ _ _ _ _ c.loop-number.inbox c.serve_next-answer.new.inbox) (c.in-Ok.is ∙ ap Ok c.in_default.is) one.round);
-      kind = record { flow = one.kind.flow ∙ was.kind.flow; limits = one.kind.limits ∙ was.kind.limits };
+      kind = kind_on c.args.inbox.now c.loop-number.inbox c.serve_next-answer.new.inbox was.inbox one.never_falls.0 was.kind one.kind;
       inbox = omega (arith, was.inbox, one.never_falls.0);
       out = omega (arith, was.out, one.never_falls.1);
       dialer = omega (arith, was.dialer, one.never_falls.2);

@@ -1,4 +1,4 @@
-use Rattle.std.proofs.Common.{◌+◌, sym, subst}
+use Rattle.std.proofs.Common.{◌+◌, is_some, sym, ap, subst}
 use Rattle.std.proofs.lemmas.Result.{on_ok_weaker}
 use Rattle.gate_turn.specs.Places.{known}
 use Rattle.conn_loop.specs.Conn.{line_of}
@@ -12,4 +12,4 @@ returns-clause-stands g c =
     subst (λ s. Stands s (line_of c.turn.new.self) ((line_of c.args.conn.now).place + 262240) (known c.turn.new.pass) c.turn.new.inbox) (sym c.behind.ensures)
     (stands_behind c.turn.result (line_of c.turn.new.self) ((line_of c.args.conn.now).place + 262240) (known c.turn.new.pass) c.turn.new.inbox
     (on_ok_weaker c.turn.result (turn_place c.args.inbox.now c.turn.new.inbox _ _ _ _ _ _ _ _ (line_of c.args.conn.now) (line_of c.turn.new.self) _) e.did)
-    e.goes e.leaves e.leaves_lost e.answer e.ended_lost)
+    e.goes e.leaves e.leaves_lost e.answer (λ lost. ap is_some (e.ended_lost lost)))

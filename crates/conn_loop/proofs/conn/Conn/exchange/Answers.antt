@@ -1,10 +1,9 @@
 use Rattle.std.proofs.Common.{◌∷◌, [], inl, inr, refl, ap, subst, ◌∙◌}
 use Rattle.reply_laws.specs.Machine.{State, link_end, run}
 use Rattle.gate_turn.specs.Places.{known}
-use Rattle.conn_turns.specs.declared.answer.TurnFault.TheVariants as faults
 use Rattle.conn_turns.specs.Lines.{Line}
 use Rattle.conn_loop.specs.Conn.{line_of, KeepsAll}
-use Rattle.conn_loop.proofs.Exchanging.{did_work, cut_turn, on_ok_any, at_err, loss_cut, loss_answer, loss_goes, goes_after, leaves_of}
+use Rattle.conn_loop.proofs.Exchanging.{did_work, cut_turn, on_ok_any, loss_cut, loss_ends, loss_answer, loss_goes, goes_after, leaves_of}
 use Rattle.conn_loop.proofs.conn.Conn.exchange.Goals as goal
 
 pub returns-in_default-clause-did : goal.returns-in_default-clause-did
@@ -77,7 +76,10 @@ returns-clause-leaves_lost g c = λ _.
     c.send.ensures.keeps c.send.ensures.facts
 
 pub returns-clause-ended_lost : goal.returns-clause-ended_lost
-returns-clause-ended_lost g c = λ e. at_err _ c.send.result faults.Link e c.send.ensures.ended
+returns-clause-ended_lost g c = loss_ends c.work.new.self.end c.send.new.self.end c.send.result c.send.ensures.answer
+
+pub returns-in_default-clause-ended_lost : goal.returns-in_default-clause-ended_lost
+returns-in_default-clause-ended_lost g c = loss_ends c.receive.new.self.end c.lose_link.new.self.end c.lose_link.result c.lose_link.ensures.answer
 
 pub returns-in_default-clause-leaves : goal.returns-in_default-clause-leaves
 returns-in_default-clause-leaves g c =

@@ -3,7 +3,6 @@ use Rattle.std.proofs.lemmas.List.{length-take-le}
 use Rattle.gw_links.specs.Links.{Moved}
 use Rattle.reply_laws.specs.Machine.{State}
 use Rattle.conn_steps.proofs.Following.{line_is}
-use Rattle.conn_loop.proofs.Exchanging.{on_err_any}
 use Rattle.conn_loop.proofs.conn.Conn.send.Goals as goal
 
 pub returns-in-Ok-clause-sent : goal.returns-in-Ok-clause-sent
@@ -37,6 +36,3 @@ returns-in-Err-clause-sent g c =
       full = λ e. absurd (true≢false e);
       moved = subst (λ (bytes : List ℕ). Moved (g.L.Link.told c.args.link.now) (g.L.Link.told c.send_front.new.link) (g.L.Link.carried c.args.link.now) (g.L.Link.carried c.send_front.new.link) [] (take took.count bytes)) c.out.ensures took.moved;
     }
-
-pub returns-in-Err-clause-ended : goal.returns-in-Err-clause-ended
-returns-in-Err-clause-ended g c = on_err_any _ c.lose_link.result c.lose_link.ensures.ended

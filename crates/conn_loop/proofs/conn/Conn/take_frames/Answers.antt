@@ -1,5 +1,6 @@
-use Rattle.std.proofs.Common.{◌-◌, ◌∙◌, arith}
+use Rattle.std.proofs.Common.{◌-◌, arith}
 use Rattle.conn_steps.proofs.Following.{took_more, in_turn_less, keeps_on}
+use Rattle.conn_steps.proofs.Inboxes.{kind_on}
 use Rattle.conn_loop.specs.Conn.{line_of}
 use Rattle.conn_loop.proofs.conn.Conn.take_frames.Goals as goal
 
@@ -17,6 +18,6 @@ loop-taken-preserved g c =
       place = omega (arith, before.place, one.place (cc));
       agrees = one.agrees;
       own = keeps_on c.args.self.now.end mid new before.own one.own;
-      kind = record { flow = one.kind.flow ∙ before.kind.flow; limits = one.kind.limits ∙ before.kind.limits };
+      kind = kind_on c.args.inbox.now c.loop-taken.inbox c.take_frame.new.inbox before.never_falls one.never_falls before.kind one.kind;
       never_falls = omega (arith, before.never_falls, one.never_falls);
     }

@@ -6,7 +6,7 @@ use Rattle.gate_turn.specs.Places.{known}
 use Rattle.conn_turns.specs.declared.answer.TurnFault.TheVariants as faults
 use Rattle.conn_loop.specs.Conn.{line_of}
 use Rattle.conn_loop.proofs.Working.{seen_same}
-use Rattle.conn_loop.proofs.Exchanging.{on_ok_any, at_err, loss_cut, loss_answer, loss_goes, goes_still, agrees_same, leaves_of, only_sent, did_more, cut_as, cut_none}
+use Rattle.conn_loop.proofs.Exchanging.{on_ok_any, loss_cut, loss_ends, loss_answer, loss_goes, goes_still, agrees_same, leaves_of, only_sent, did_more, cut_as, cut_none}
 use Rattle.conn_loop.proofs.conn.Conn.turn.Goals as goal
 
 pub returns-in_default-clause-cut : goal.returns-in_default-clause-cut
@@ -75,4 +75,4 @@ returns-then-not-works-clause-leaves_lost g c = λ _.
     (omega (arith, ap (λ (x : EndConfig). length x.credentials) s.config, c.requires.goes.credentials)) seen agrees c.send.ensures.keeps c.send.ensures.facts
 
 pub returns-then-not-works-clause-ended_lost : goal.returns-then-not-works-clause-ended_lost
-returns-then-not-works-clause-ended_lost g c = λ e. at_err _ c.send.result faults.Link e c.send.ensures.ended
+returns-then-not-works-clause-ended_lost g c = loss_ends c.start.new.self.end c.send.new.self.end c.send.result c.send.ensures.answer
