@@ -146,8 +146,8 @@ module _ {J : Type 0} {G : Ghosts J} where
   }
 
   -- a turn that had no memory to begin did nothing
-  pub cut_none : (now : ℕ) (l : Line) (box : Inbox J G) (newer : List NewsItem) (fault : TurnFault) → newer ≡ [] → CutTurn now l box box [] newer fault
-  cut_none now l box newer fault none = record {
+  pub cut_none : (now : ℕ) (l : Line) (box : Inbox J G) (newer : List NewsItem) (fault : TurnFault) → newer ≡ [] → fault ≡ faults.Memory → CutTurn now l box box [] newer fault
+  cut_none now l box newer fault none memory = record {
     received = [];
     over = l.over;
     cut = record {
@@ -157,6 +157,8 @@ module _ {J : Type 0} {G : Ghosts J} where
       refused = None;
       next = tt;
       holds = λ i h. subst (λ (rs : List InboxRecord). HoldsBox box rs []) (sym (append-nil i)) h;
+      past = λ entries bytes e. cc;
+      recorded = tt;
       news_are = none;
     };
   }

@@ -9,6 +9,7 @@ use Rattle.gate_turn.specs.Views.{Part}
 use Rattle.gate_turn.proofs.Histories.{begins_self, begins_on}
 use Rattle.conn_turns.specs.declared.news.NewsItem.{NewsItem}
 use Rattle.conn_turns.specs.declared.answer.TurnFault.{TurnFault}
+use Rattle.conn_turns.specs.declared.answer.TurnFault.TheVariants as faults
 use Rattle.conn_turns.specs.Lines.{Line, lines_after}
 use Rattle.conn_turns.specs.Frames.{IsDone, broken_at, is_link_over}
 use Rattle.conn_turns.specs.Turns.{bad_calls, end_calls, again_calls, live_calls, finish_calls, served_of, served_now, live_of, finish_of, calls_of_frames}
@@ -105,18 +106,22 @@ module _ {J : Type 0} {G : Ghosts J} where
     refused = Some c.refused;
     next = c.next;
     holds = c.refuses;
+    past = c.past;
+    recorded = c.recorded;
     news_are = c.news_are;
   }
 
   -- cut at the outbox
   pub cut_at_outbox : (now count : ℕ) (old mid : Line) (box after : Inbox J G) (news later : List NewsItem) (fault : TurnFault) → TookFrames now count old mid box after news later → count ≤ 16
-      → CutShort now old box after news later fault
-  cut_at_outbox now count old mid box after news later fault t few = record {
+      → ((entries bytes : ℕ) → fault ≡ faults.Full entries bytes → ⊥) → CutShort now old box after news later fault
+  cut_at_outbox now count old mid box after news later fault t few never_full = record {
     frames = t.frames;
     few = omega (arith, t.many, few);
     taken = t.taken;
     refused = None;
     next = tt;
     holds = t.gains;
+    past = λ entries bytes e. absurd (never_full entries bytes e);
+    recorded = tt;
     news_are = t.news_are;
   }

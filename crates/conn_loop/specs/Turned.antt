@@ -4,27 +4,34 @@ use mathlib.Core.List.{IsPrefix}
 use Rattle.gw_links.specs.Links.{LinkTold, Carried, Moved}
 use Rattle.session_model.specs.Inbox.{InboxRecord}
 use Rattle.session_model.specs.Journal.{History}
+use Rattle.fixp_replies.specs.Acts.{is_record}
 use Rattle.reply_laws.specs.Machine.{State, link_end, run}
 use Rattle.jr_record.specs.declared.journal.Journal.{Ghosts}
 use Rattle.jr_boxes.specs.declared.inbox.Inbox.{Inbox}
-use Rattle.jr_boxes.specs.Inbox.{HoldsBox}
+use Rattle.jr_boxes.specs.Inbox.{HoldsBox, limits_of}
 use Rattle.conn_turns.specs.declared.news.NewsItem.{NewsItem}
 use Rattle.conn_turns.specs.declared.answer.TurnFault.{TurnFault}
-use Rattle.conn_turns.specs.Lines.{Line, TakenFrame, IsNext, AreTaken, lines_after}
+use Rattle.conn_turns.specs.declared.answer.TurnFault.TheVariants as faults
+use Rattle.conn_turns.specs.Lines.{Line, TakenFrame, IsNext, AreTaken, reply_at, lines_after}
 use Rattle.conn_turns.specs.Frames.{adds, added, told}
 use Rattle.conn_turns.specs.Turns.{Work, first_calls, sending_calls, is_end}
 use Rattle.conn_turns.specs.Exact.{Served, Received, line_ticked, most_held}
-use Rattle.conn_steps.specs.Settling.{Gains}
+use Rattle.conn_steps.specs.Settling.{IsPast, Gains}
 use Rattle.conn_steps.specs.Taking.{refused_by}
 use Rattle.gate_turn.specs.Views.{Part}
 use Rattle.conn_steps.specs.Agreeing.{Agrees}
 use Rattle.conn_loop.specs.Conn.{HasSeen}
 use Rattle.conn_loop.specs.Moving.{SentOnce}
 
--- what the act of a frame that was refused would have added
+-- what a stop may leave of what the act of a frame would have added that was refused, if one was
 abbrev pub refused_of : TurnFault → ℕ → Line → Option TakenFrame → List InboxRecord
 refused_of fault now l None = []
 refused_of fault now l (Some t) = refused_by fault (adds now l t)
+
+-- and all that its act would have added
+abbrev pub wanted_of : ℕ → Line → Option TakenFrame → List InboxRecord
+wanted_of now l None = []
+wanted_of now l (Some t) = adds now l t
 
 module _ {J : Type 0} {G : Ghosts J} where
   -- frames were served, and the inbox and the news gained what is theirs
@@ -36,7 +43,8 @@ module _ {J : Type 0} {G : Ghosts J} where
     pub news_are : later ≡ news ++ told now l work.frames
 
   -- a turn was cut short behind frames: by the act of the one behind them, which was refused, or by the outbox. The inbox gained
-  -- what is theirs, and a stop may leave of the refused one what its fault may
+  -- what is theirs, and a stop may leave of the refused one what its fault may. At Full there is one, whose record the journal has no
+  -- room for; and its act is a record, unless memory ran out
   pub record CutShort (now : ℕ) (l : Line) (box after : Inbox J G) (news later : List NewsItem) (fault : TurnFault) : Type 0 where
     pub frames : List TakenFrame
     pub few : length frames ≤ 16
@@ -44,6 +52,8 @@ module _ {J : Type 0} {G : Ghosts J} where
     pub refused : Option TakenFrame
     pub next : IfSome refused (IsNext (lines_after now l frames))
     pub holds : (i : List InboxRecord) → HoldsBox box i [] → HoldsBox after (i ++ added now l frames) (refused_of fault now (lines_after now l frames) refused)
+    pub past : (entries bytes : ℕ) → fault ≡ faults.Full entries bytes → IsPast (limits_of after).bytes bytes (wanted_of now (lines_after now l frames) refused)
+    pub recorded : IfSome refused (λ t. (fault ≡ faults.Memory → ⊥) → is_record (reply_at now (lines_after now l frames) t).act ≡ true)
     pub news_are : later ≡ news ++ told now l frames
 
   -- behind its tick a turn received, its frames were served, and what was to be sent was sent

@@ -20,14 +20,16 @@ use Rattle.reply_laws.specs.Fitting.{CanTake}
 use Rattle.growth_laws.specs.Accepting.{payload_in, records_of}
 use Rattle.jr_record.specs.declared.journal.Journal.{Ghosts}
 use Rattle.jr_boxes.specs.declared.inbox.Inbox.{Inbox}
+use Rattle.jr_boxes.specs.Inbox.{limits_of}
 use Rattle.jr_record.specs.declared.faults.AppendFault.{AppendFault}
 use Rattle.jr_record.specs.declared.faults.AppendFault.TheVariants as append
 use Rattle.session_model.specs.Inbox.{InboxRecord}
 use Rattle.conn_turns.specs.declared.news.NewsItem.{NewsItem}
 use Rattle.conn_turns.specs.declared.answer.TurnFault.{TurnFault}
+use Rattle.conn_turns.specs.declared.answer.TurnFault.TheVariants as faults
 use Rattle.conn_turns.specs.News.{told_by}
 use Rattle.conn_turns.specs.Lines.{frame_calls}
-use Rattle.conn_steps.specs.Settling.{payload_at, records_at, told_at, refused_by, Settled, Gains, Refuses}
+use Rattle.conn_steps.specs.Settling.{payload_at, records_at, told_at, refused_by, IsPast, Settled, Gains, Refuses}
 use Rattle.conn_steps.specs.Taking.{AnsweredFrame, fault_of, refused_by as left_by}
 
 apart : (m n : ℕ) → m ≡ n → m ≡ 235 → n ≡ 91 → ⊥
@@ -82,7 +84,25 @@ pub replied : (old : State) (order : Order) (message : List ℕ) (at now : ℕ) 
 replied old order message at now act i is replies can =
     ap (λ (a : Act). records_of a i) (sym replies) ∙ records_are old.config.peer_flow old.most old.facts.recorded order message i act is can
 
+-- a turn answers Full where the inbox did
+full_at : (count : ℕ) (fault : AppendFault) (entries bytes : ℕ) → fault_of count fault ≡ faults.Full entries bytes → fault ≡ append.Full bytes
+full_at count append.Broken entries bytes e = cc
+full_at count (append.Full n) entries bytes e = cc
+full_at count append.Memory entries bytes e = cc
+full_at count append.Fault entries bytes e = cc
+
+-- and an act that the inbox refused for another reason than want of memory is a record
+pub refused_record : (count : ℕ) (fault : AppendFault) (answer : TurnFault) (act reply : Act) → answer ≡ fault_of count fault → act ≡ reply → ((fault ≡ append.Memory → ⊥) → is_record act ≡ true)
+    → (answer ≡ faults.Memory → ⊥) → is_record reply ≡ true
+refused_record count _ answer act reply is replies h other = ap is_record (sym replies) ∙ h (λ e. other (is ∙ ap (fault_of count) e))
+
 module _ {J : Type 0} {G : Ghosts J} where
+  -- a record that is past the inbox's limit is so where the turn answers Full
+  pub past_as : (after : Inbox J G) (count : ℕ) (fault : AppendFault) (answer : TurnFault) (records others : List InboxRecord) → answer ≡ fault_of count fault → others ≡ records
+      → ((bytes : ℕ) → fault ≡ append.Full bytes → IsPast (limits_of after).bytes bytes records)
+      → (entries bytes : ℕ) → answer ≡ faults.Full entries bytes → IsPast (limits_of after).bytes bytes others
+  past_as after count fault answer records others is same h entries bytes e = subst (IsPast (limits_of after).bytes bytes) (sym same) (h bytes (full_at count fault entries bytes (sym is ∙ e)))
+
   -- what a refusal of the inbox may leave is what the turn's fault may leave
   pub refuses_as : (box after : Inbox J G) (count : ℕ) (fault : AppendFault) (answer : TurnFault) (records others : List InboxRecord) → answer ≡ fault_of count fault → others ≡ records
       → Refuses box after (refused_by fault records) → Refuses box after (left_by answer others)

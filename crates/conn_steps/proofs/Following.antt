@@ -1,18 +1,20 @@
 -- Frames that are answered one after another, as the line, the inbox and the news go on over them.
-use Rattle.std.proofs.Common.{◌≡◌, ℕ, ◌+◌, ◌<◌, ◌≤◌, Bool, false, List, [], ◌∷◌, ◌++◌, drop, refl, sym, ap, subst, ◌∙◌, arith, append_assoc, append-nil, length-append}
+use Rattle.std.proofs.Common.{◌≡◌, ℕ, ◌+◌, ◌<◌, ◌≤◌, Bool, true, false, List, [], ◌∷◌, ◌++◌, drop, refl, sym, ap, subst, ◌∙◌, arith, append_assoc, append-nil, length-append}
 use Rattle.session_model.specs.Inbox.{InboxRecord}
 use Rattle.sofh_frame.specs.Framing.{Frame, BeginsWith}
+use Rattle.fixp_replies.specs.Acts.{is_record}
 use Rattle.fixp_replies.specs.Incoming.{IsIncoming}
 use Rattle.reply_laws.specs.Machine.{State, step}
 use Rattle.reply_laws.specs.Machine as calls
 use Rattle.jr_record.specs.declared.journal.Journal.{Ghosts}
 use Rattle.jr_boxes.specs.declared.inbox.Inbox.{Inbox}
-use Rattle.jr_boxes.specs.Inbox.{HoldsBox}
+use Rattle.jr_boxes.specs.Inbox.{HoldsBox, limits_of}
 use Rattle.conn_turns.specs.declared.news.NewsItem.{NewsItem}
 use Rattle.conn_turns.specs.declared.answer.TurnFault.{TurnFault}
-use Rattle.conn_turns.specs.Lines.{Line, TakenFrame, size_of, MayTake, IsNext, IsTaken, line_after, lines_after}
+use Rattle.conn_turns.specs.Lines.{Line, TakenFrame, size_of, MayTake, IsNext, IsTaken, reply_at, line_after, lines_after}
 use Rattle.conn_turns.specs.Frames.{adds, tells, added, told}
 use Rattle.conn_turns.proofs.Taking.{lines_more, taken_more, added_more, told_more}
+use Rattle.conn_steps.specs.Settling.{IsPast}
 use Rattle.conn_steps.specs.Agreeing.{IsInTurn, KeepsOwn}
 use Rattle.conn_steps.specs.Taking.{AnsweredFrame, RefusedAct, TookFrame, RefusedFrame, TookFrames, CutFrames, refused_by}
 
@@ -78,6 +80,8 @@ module _ {J : Type 0} {G : Ghosts J} where
     next = next_is old f size (record { at = old.place; frame = f; incoming = a.incoming; recorded = false }) may begins refl refl a.is;
     line = line_is new (record old { machine = step old.machine (calls.frame a.incoming old.place now) }) a.machine held place over;
     refuses = a.refuses;
+    past = a.past;
+    recorded = a.recorded;
     news_are = a.news_are;
   }
 
@@ -127,5 +131,7 @@ module _ {J : Type 0} {G : Ghosts J} where
         line = one.line ∙ ap (λ (l : Line). record l { machine = step l.machine (calls.frame t.incoming t.at now) }) same;
         refuses = λ i h. subst (λ (l : Line). HoldsBox second (i ++ added now old many.frames) (refused_by fault (adds now l t))) same
             (one.refuses (i ++ added now old many.frames) (many.gains i h));
+        past = λ entries bytes e. subst (λ (l : Line). IsPast (limits_of second).bytes bytes (adds now l t)) same (one.past entries bytes e);
+        recorded = λ other. subst (λ (l : Line). is_record (reply_at now l t).act ≡ true) same (one.recorded other);
         news_are = one.news_are ∙ many.news_are;
       }

@@ -38,6 +38,12 @@ refused_by (append.Full bytes) records = []
 refused_by append.Memory records = []
 refused_by append.Fault records = records
 
+-- of some records there is one, and a journal of so many bytes has no room for it within this limit
+pub record IsPast (limit bytes : ℕ) (records : List InboxRecord) : Type 0 where
+  pub one : InboxRecord
+  pub is : records ≡ one ∷ []
+  pub past : limit < bytes + record_size (record_of one)
+
 module _ {J : Type 0} {G : Ghosts J} where
   -- what an inbox records of the facts that outlive a connection; of the outbox it records nothing
   abbrev pub recorded_in : Inbox J G → EndState
@@ -68,11 +74,11 @@ module _ {J : Type 0} {G : Ghosts J} where
     pub news_are : later ≡ news ++ told
 
   -- it was refused: nothing was told. After a failed call of the disk a stop may leave its records; at Broken the inbox is broken,
-  -- and at Full its journal has so many bytes that a record is past its limit
+  -- and at Full its journal has so many bytes, and no room for the one record that there is
   pub record Refused (old new : Inbox J G) (news later : List NewsItem) (records : List InboxRecord) (fault : AppendFault) : Type 0 where
     pub refuses : Refuses old new (refused_by fault records)
     pub news_are : later ≡ news
     pub risen : fault ≡ append.Fault → HasRisen (faults_of old) (faults_of new)
     pub broken : fault ≡ append.Broken → is_broken new ≡ true
     pub full : (bytes : ℕ) → fault ≡ append.Full bytes → bytes ≡ size_of new
-    pub past : (bytes : ℕ) (r : InboxRecord) → fault ≡ append.Full bytes → records ≡ r ∷ [] → (limits_of new).bytes < bytes + record_size (record_of r)
+    pub past : (bytes : ℕ) → fault ≡ append.Full bytes → IsPast (limits_of new).bytes bytes records

@@ -6,7 +6,7 @@ use Rattle.jr_record.specs.declared.journal.Journal.{Ghosts}
 use Rattle.jr_record.specs.declared.faults.AppendFault.{AppendFault}
 use Rattle.jr_record.specs.declared.faults.AppendFault.TheVariants as append
 use Rattle.jr_boxes.specs.declared.inbox.Inbox.{Inbox}
-use Rattle.jr_boxes.specs.Inbox.{HoldsBox, faults_of, is_broken, size_of, count_of}
+use Rattle.jr_boxes.specs.Inbox.{HoldsBox, faults_of, is_broken, size_of, count_of, limits_of}
 use Rattle.sofh_frame.specs.Framing.{Frame}
 use Rattle.fixp_replies.specs.Acts.{is_record}
 use Rattle.fixp_replies.specs.Incoming.{Incoming, IsIncoming}
@@ -18,9 +18,9 @@ use Rattle.conn_turns.specs.declared.answer.TurnFault.{TurnFault}
 use Rattle.conn_turns.specs.declared.answer.TurnFault.TheVariants as faults
 use Rattle.growth_laws.specs.Accepting.{records_of}
 use Rattle.conn_turns.specs.News.{told_by}
-use Rattle.conn_turns.specs.Lines.{Line, TakenFrame, IsNext, IsTaken, AreTaken, frame_calls, line_after, lines_after}
+use Rattle.conn_turns.specs.Lines.{Line, TakenFrame, IsNext, IsTaken, AreTaken, reply_at, frame_calls, line_after, lines_after}
 use Rattle.conn_turns.specs.Frames.{adds, tells, added, told}
-use Rattle.conn_steps.specs.Settling.{Gains, Refuses}
+use Rattle.conn_steps.specs.Settling.{IsPast, Gains, Refuses}
 
 -- which of some records may stand in what a stop leaves, where a turn answered this fault: after a failed call of the inbox's
 -- disk all
@@ -48,12 +48,15 @@ module _ {J : Type 0} {G : Ghosts J} where
     pub gains : Gains box after (adds now old frame)
     pub news_are : later ≡ news ++ tells now old frame
 
-  -- the act of a frame was refused: nothing was told, and nothing but the machine knows of the frame
+  -- the act of a frame was refused: nothing was told, and nothing but the machine knows of the frame. At Full the journal has no room
+  -- for the act's record; and the act is a record, unless memory ran out
   pub record RefusedFrame (now : ℕ) (old new : Line) (box after : Inbox J G) (news later : List NewsItem) (fault : TurnFault) : Type 0 where
     pub frame : TakenFrame
     pub next : IsNext old frame
     pub line : new ≡ record old { machine = step old.machine (calls.frame frame.incoming frame.at now) }
     pub refuses : Refuses box after (refused_by fault (adds now old frame))
+    pub past : (entries bytes : ℕ) → fault ≡ faults.Full entries bytes → IsPast (limits_of after).bytes bytes (adds now old frame)
+    pub recorded : (fault ≡ faults.Memory → ⊥) → is_record (reply_at now old frame).act ≡ true
     pub news_are : later ≡ news
 
   -- so many frames were taken, one after another
@@ -74,6 +77,8 @@ module _ {J : Type 0} {G : Ghosts J} where
     pub next : IsNext (lines_after now old frames) refused
     pub line : new ≡ record (lines_after now old frames) { machine = step (lines_after now old frames).machine (calls.frame refused.incoming refused.at now) }
     pub refuses : (i : List InboxRecord) → HoldsBox box i [] → HoldsBox after (i ++ added now old frames) (refused_by fault (adds now (lines_after now old frames) refused))
+    pub past : (entries bytes : ℕ) → fault ≡ faults.Full entries bytes → IsPast (limits_of after).bytes bytes (adds now (lines_after now old frames) refused)
+    pub recorded : (fault ≡ faults.Memory → ⊥) → is_record (reply_at now (lines_after now old frames) refused).act ≡ true
     pub news_are : later ≡ news ++ told now old frames
 
   -- the frame at this place was answered: what becomes of the machine, the inbox and the news
@@ -92,6 +97,8 @@ module _ {J : Type 0} {G : Ghosts J} where
     pub is : IsIncoming frame.order frame.message incoming
     pub machine : new ≡ step old (calls.frame incoming at now)
     pub refuses : Refuses box after (refused_by fault (records_of (reply_of (around old at now) old.facts incoming).act incoming))
+    pub past : (entries bytes : ℕ) → fault ≡ faults.Full entries bytes → IsPast (limits_of after).bytes bytes (records_of (reply_of (around old at now) old.facts incoming).act incoming)
+    pub recorded : (fault ≡ faults.Memory → ⊥) → is_record (reply_of (around old at now) old.facts incoming).act ≡ true
     pub news_are : later ≡ news
 
   -- a fault of the inbox, as a turn answers it: its count rose at Inbox, at Broken it is broken, and at Full it has so many

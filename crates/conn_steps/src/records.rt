@@ -1,11 +1,13 @@
 //! What the act of a frame makes of the inbox and the news.
 
-ghost use Rattle.std.specs.Prelude.{◌≡◌, ◌+◌, ◌≤◌, ℕ, [], ◌∷◌, ◌++◌, Ok, Err, IfOk, IfErr, OnOk, OnErr};
+ghost use Rattle.std.specs.Prelude.{◌≡◌, ◌+◌, ◌≤◌, ℕ, true, [], ◌∷◌, ◌++◌, Ok, Err, IfOk, IfErr, OnOk, OnErr};
 ghost use Rattle.gw_outside.specs.Faults.{HasRisen};
 ghost use Rattle.session_model.specs.Inbox.{apply};
 ghost use Rattle.sofh_frame.specs.Framing.{encoding_of};
 ghost use Rattle.fixp_msgs.specs.Payload.{IsApplication};
+ghost use Rattle.jr_record.specs.declared.faults.AppendFault.TheVariants as append;
 ghost use Rattle.fixp_replies.specs.declared.act.Act.TheVariants as acts;
+ghost use Rattle.fixp_replies.specs.Acts.{is_record};
 ghost use Rattle.jr_boxes.specs.Inbox.{next_of, limits_of, faults_of, is_broken, size_of, count_of};
 ghost use Rattle.conn_turns.specs.News.{items_of};
 ghost use Rattle.conn_turns.specs.declared.news.NewsItem.TheVariants as news_items;
@@ -88,6 +90,7 @@ pub fn settle<J: Journal>(
     requires takes { Takes inbox.old act order message.now }
     ensures ok { OnOk result (Settled inbox.old inbox.new (items_of news.old) (items_of news.new) act (records_at act order message.now) (told_at act order message.now)) }
     ensures refused { IfErr result (Refused inbox.old inbox.new (items_of news.old) (items_of news.new) (records_at act order message.now)) }
+    ensures recorded { IfErr result (λ fault. (fault ≡ append.Memory → ⊥) → is_record act ≡ true) }
     ensures kind { SameKind inbox.old inbox.new }
     ensures never_falls { faults_of inbox.old ≤ faults_of inbox.new }
 {

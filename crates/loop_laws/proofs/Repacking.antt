@@ -62,5 +62,7 @@ module _ {J : Type 0} {G : Ghosts J} where
     refused = k.cut.refused;
     cut = record { over = k.over; taken = k.cut.taken; next = k.cut.next };
     holds = k.cut.holds;
+    past = k.cut.past;
+    recorded = k.cut.recorded;
     news_are = k.cut.news_are;
   }

@@ -1,19 +1,21 @@
 -- What the contract of the loop says of a turn, as a turn of the laws over connections.
-use Rattle.std.specs.Prelude.{◌≡◌, ℕ, Bool, List, [], ◌++◌, Option}
+use Rattle.std.specs.Prelude.{◌≡◌, ℕ, Bool, true, List, [], ◌++◌, Option, IfSome}
 use Rattle.gw_links.specs.Links.{LinkTold, Carried, Moved}
 use Rattle.session_model.specs.Journal.{History}
 use Rattle.session_model.specs.Inbox.{InboxRecord}
+use Rattle.fixp_replies.specs.Acts.{is_record}
 use Rattle.jr_record.specs.declared.journal.Journal.{Ghosts}
 use Rattle.jr_boxes.specs.declared.inbox.Inbox.{Inbox}
-use Rattle.jr_boxes.specs.Inbox.{HoldsBox}
+use Rattle.jr_boxes.specs.Inbox.{HoldsBox, limits_of}
 use Rattle.conn_turns.specs.declared.news.NewsItem.{NewsItem}
 use Rattle.conn_turns.specs.declared.answer.TurnFault.{TurnFault}
-use Rattle.conn_turns.specs.Lines.{Line, TakenFrame, lines_after}
+use Rattle.conn_turns.specs.declared.answer.TurnFault.TheVariants as faults
+use Rattle.conn_turns.specs.Lines.{Line, TakenFrame, reply_at, lines_after}
 use Rattle.conn_turns.specs.Frames.{added, told}
 use Rattle.conn_turns.specs.Turns.{Turn}
 use Rattle.conn_turns.specs.Exact.{line_ticked}
-use Rattle.conn_steps.specs.Settling.{Gains}
-use Rattle.conn_loop.specs.Turned.{DidTurn, CutTurn, refused_of}
+use Rattle.conn_steps.specs.Settling.{IsPast, Gains}
+use Rattle.conn_loop.specs.Turned.{DidTurn, CutTurn, refused_of, wanted_of}
 use Rattle.turn_laws.specs.Turns.{line_received, IsTurn, IsCutShort, adds_in, tells_in}
 use Rattle.turn_laws.specs.Legs.{given_in, sent_in}
 
@@ -34,8 +36,8 @@ module _ {J : Type 0} {G : Ghosts J} where
       → DidTurn now eager told_before later carried after before seen old new box since newer
       → WasTurn told_before later carried after before seen old new box since newer
 
-  -- a turn was cut short: the inbox gained what its frames add, a stop may leave of the refused one what its fault may, and the
-  -- news are what the frames tell
+  -- a turn was cut short: the inbox gained what its frames add, a stop may leave of the refused one what its fault may, at Full its
+  -- journal has no room for the record of that one, whose act is a record unless memory ran out, and the news are what the frames tell
   pub record WasCut (now : ℕ) (old : Line) (fault : TurnFault) (box since : Inbox J G) (newer : List NewsItem) : Type 0 where
     pub received : List ℕ
     pub frames : List TakenFrame
@@ -43,6 +45,8 @@ module _ {J : Type 0} {G : Ghosts J} where
     pub cut : IsCutShort now received frames refused old
     pub holds : (i : List InboxRecord) → HoldsBox box i []
         → HoldsBox since (i ++ added now (line_received old now received cut.over) frames) (refused_of fault now (lines_after now (line_received old now received cut.over) frames) refused)
+    pub past : (entries bytes : ℕ) → fault ≡ faults.Full entries bytes → IsPast (limits_of since).bytes bytes (wanted_of now (lines_after now (line_received old now received cut.over) frames) refused)
+    pub recorded : IfSome refused (λ t. (fault ≡ faults.Memory → ⊥) → is_record (reply_at now (lines_after now (line_received old now received cut.over) frames) t).act ≡ true)
     pub news_are : newer ≡ told now (line_received old now received cut.over) frames
 
   abbrev pub CutIsOne : (box since : Inbox J G) → Type 0

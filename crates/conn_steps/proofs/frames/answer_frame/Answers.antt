@@ -1,19 +1,20 @@
 use Rattle.std.proofs.Common.{◌≡◌, true, false, sym, subst, ◌∙◌}
 use Rattle.fixp_replies.specs.Acts.{is_record}
 use Rattle.reply_laws.specs.Machine.{State, done_pending}
-use Rattle.conn_steps.proofs.Answering.{done_is, refuses_as, replied, answered}
+use Rattle.conn_steps.proofs.Answering.{done_is, refused_record, past_as, refuses_as, replied, answered}
 use Rattle.conn_steps.proofs.frames.answer_frame.Goals as goal
 
 pub returns-in-Err-clause-refused : goal.returns-in-Err-clause-refused
 returns-in-Err-clause-refused g c =
     let reply = c.on_frame-act.ensures.reply in
+    let same = replied c.args.end.now c.args.order c.args.message.now c.args.at c.args.now c.on_frame-act.result reply.incoming reply.is reply.replies c.on_frame-act.ensures.takes in
     record {
       incoming = reply.incoming;
       is = reply.is;
       machine = reply.after;
-      refuses = refuses_as c.args.inbox.now c.settle.new.inbox _ c.in-Err.fault c.refusal.result _ _ c.refusal.ensures
-          (replied c.args.end.now c.args.order c.args.message.now c.args.at c.args.now c.on_frame-act.result reply.incoming reply.is reply.replies c.on_frame-act.ensures.takes)
-          c.in-Err.ensures.refused.refuses;
+      refuses = refuses_as c.args.inbox.now c.settle.new.inbox _ c.in-Err.fault c.refusal.result _ _ c.refusal.ensures same c.in-Err.ensures.refused.refuses;
+      past = past_as c.settle.new.inbox _ c.in-Err.fault c.refusal.result _ _ c.refusal.ensures same c.in-Err.ensures.refused.past;
+      recorded = refused_record _ c.in-Err.fault c.refusal.result _ _ c.refusal.ensures reply.replies c.in-Err.ensures.recorded;
       news_are = c.in-Err.ensures.refused.news_are;
     }
 

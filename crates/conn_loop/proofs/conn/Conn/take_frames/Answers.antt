@@ -1,5 +1,5 @@
 use Rattle.std.proofs.Common.{◌-◌, arith}
-use Rattle.conn_steps.proofs.Following.{took_more, in_turn_less, keeps_on}
+use Rattle.conn_steps.proofs.Following.{took_more, cut_behind, in_turn_less, keeps_on}
 use Rattle.conn_steps.proofs.Inboxes.{kind_on}
 use Rattle.conn_loop.specs.Conn.{line_of}
 use Rattle.conn_loop.proofs.conn.Conn.take_frames.Goals as goal
@@ -21,3 +21,8 @@ loop-taken-preserved g c =
       kind = kind_on c.args.inbox.now c.loop-taken.inbox c.take_frame.new.inbox before.never_falls one.never_falls before.kind one.kind;
       never_falls = omega (arith, before.never_falls, one.never_falls);
     }
+
+pub returns-in-Err-clause-cut : goal.returns-in-Err-clause-cut
+returns-in-Err-clause-cut g c =
+    cut_behind c.args.now c.loop-taken.taken (line_of c.args.self.now) (line_of c.loop-taken.self) (line_of c.take_frame.new.self) c.args.inbox.now c.loop-taken.inbox c.take_frame.new.inbox _ _ _ c.in-Err.fault
+    c.loop-taken.invariant.took (omega (arith, c.loop-taken-test.true)) c.in-Err.ensures.refused

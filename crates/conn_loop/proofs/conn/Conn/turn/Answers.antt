@@ -1,4 +1,4 @@
-use Rattle.std.proofs.Common.{length, ap, arith}
+use Rattle.std.proofs.Common.{length, refl, ap, arith}
 use Rattle.std.proofs.lemmas.Result.{on_ok_weaker}
 use Rattle.fixp_shake.specs.declared.config.EndConfig.{EndConfig}
 use Rattle.fixp_replies.specs.declared.facts.Facts.{Facts}
@@ -10,7 +10,7 @@ use Rattle.conn_loop.proofs.Exchanging.{on_ok_any, loss_cut, loss_ends, loss_ans
 use Rattle.conn_loop.proofs.conn.Conn.turn.Goals as goal
 
 pub returns-in_default-clause-cut : goal.returns-in_default-clause-cut
-returns-in_default-clause-cut g c = λ _. cut_none _ _ c.args.inbox.now _ faults.Memory c.clear.ensures
+returns-in_default-clause-cut g c = λ _. cut_none _ _ c.args.inbox.now _ faults.Memory c.clear.ensures refl
 
 pub returns-then-not-works-clause-did : goal.returns-then-not-works-clause-did
 returns-then-not-works-clause-did g c =
