@@ -29,7 +29,7 @@ use Rattle.fixp_replies.specs.declared.facts.PeerFinish.TheVariants as peer
 use Rattle.fixp_replies.specs.Incoming.{application, session}
 use Rattle.fixp_replies.specs.Facts.{Around, is_own, in_phase, receiving, requesting, serves, negotiated as as_negotiated, awaiting, gap_to_ask, having_asked, announced_number, peer_last, awaits_gap}
 use Rattle.fixp_replies.specs.Outcomes.{Outcome, Row, row, goes_on, accepts, rejects, ignores, ends_with, ends, breaks, not_in_phase, request_for, skip_of, told_skip, opening_negotiate, opening_establish}
-use Rattle.fixp_replies.specs.Announcing.{Announced, jumped_over, announced, announcement_fault, refuses, announcement_rows}
+use Rattle.fixp_replies.specs.Announcing.{Announced, jumped_over, announced, announcement_fault, refuses}
 use Rattle.fixp_replies.specs.Handshake.{awaits_client, serves_client, established, acknowledges, negotiate_rows, establish_rows, established_again_rows, shaken, negotiation_response_rows, negotiation_reject_rows, establishment_ack_rows, establishment_reject_rows}
 use Rattle.fixp_replies.specs.Flowing.{bad_retransmission, counted, taken_as, peer_finished, answers_finish, is_filled, is_past_finish, sequence_follows, sequence_taken, restarted, finished_last, finish_fault, finished, application_rows, sequence_rows, retransmission_rows, retransmit_reject_rows, finished_sending_rows}
 use Rattle.fixp_replies.specs.Serving.{request_answered, own_finishing, retransmit_request_rows, finished_receiving_rows}
@@ -37,6 +37,7 @@ use Rattle.fixp_replies.specs.Replies.{reply_of, rows_of, answer_of, of_session,
 use Rattle.reply_laws.proofs.Rows.{AllRows, by_row, all_rows, all_within, own_rows}
 use Rattle.connection_laws.specs.Writing.{Piece, said, entry, said_all}
 use Rattle.link_laws.specs.Reading.{incoming_of}
+use Rattle.honest_laws.proofs.Deciding.{announced_all}
 use Rattle.honest_laws.proofs.Finishing.{total}
 use Rattle.honest_laws.specs.Numbers.{Runs, served}
 
@@ -214,10 +215,6 @@ refusing : (x : Around) (f g : Facts) (requested restarted : ℕ) (turn : Bool �
     → Asks f requested restarted turn (refuses x g v)
 refusing x f g requested restarted turn None some u s n = absurd (true≢false (sym some))
 refusing x f g requested restarted turn (Some v) some u s n = ending x f g requested restarted turn 2 _ u s n
-
-announced_all : (P : Outcome → Type 0) (x : Around) (f : Facts) (t : ℕ) (next : Option ℕ) (follows : Announced → Outcome)
-    → (is_some (announcement_fault x f t next) ≡ true → P (refuses x f (announcement_fault x f t next))) → P (follows (announced x f next)) → AllRows P (announcement_rows x f t next follows)
-announced_all P x f t next follows refuse takes = (refuse, λ _. (λ _. takes, λ _. tt))
 
 skip_plain : (s : Option Range) → Plain (told_skip s)
 skip_plain None = nothing

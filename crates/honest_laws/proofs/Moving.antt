@@ -13,7 +13,7 @@ use Rattle.fixp_msgs.specs.declared.flow.Flow.TheVariants as flows
 use Rattle.fixp_shake.specs.declared.config.EndConfig.{EndConfig}
 use Rattle.fixp_shake.specs.declared.phase.Phase.TheVariants as phases
 use Rattle.fixp_shake.specs.declared.violation.Violation.{Violation}
-use Rattle.fixp_shake.specs.declared.violation.Violation.TheVariants.{Silent, HandshakeLate}
+use Rattle.fixp_shake.specs.declared.violation.Violation.TheVariants.{BadFrame, UnknownTemplate, NotInPhase, OtherSession, WentBack, MissingNext, NumberTooLarge, BadRetransmission, AfterFinish, FlowNone, Silent, HandshakeLate}
 use Rattle.fixp_shake.specs.Flows.{is_recoverable, is_sequenced, is_absent}
 use Rattle.fixp_shake.specs.Phases.{is_established, is_shaken}
 use Rattle.fixp_replies.specs.declared.act.Ending.TheVariants as endings
@@ -29,12 +29,12 @@ use Rattle.reply_laws.specs.Machine.{State, Call, begin, frame, bad_frame, did, 
 use Rattle.connection_laws.specs.Writing.{Piece, said_all, entries, said_with, said_breaking, range_closed, written_again, writes}
 use Rattle.connection_laws.specs.Standing.{MayStand}
 use Rattle.link_laws.specs.Reading.{incoming_of}
-use Rattle.honest_laws.specs.Laws.{IsLeft, EndsBy}
+use Rattle.honest_laws.specs.Laws.{IsLeft, IsOfTime, EndsBy}
 use Rattle.honest_laws.specs.Worlds.{reading, written, IsOther}
 use Rattle.honest_laws.proofs.Shapes.{IsFree, all_free_flow}
 use Rattle.honest_laws.proofs.Opening.{Quiet}
 use Rattle.honest_laws.specs.Numbers.{IsFlowing}
-use Rattle.honest_laws.proofs.Replying.{left_of}
+use Rattle.honest_laws.proofs.Deciding.{ended_by}
 
 -- a message is read: its outcome takes effect, and what it writes is written
 pub record Reads (s : State) (o : Outcome) (t : State) (out : List Piece) : Type 0 where
@@ -58,6 +58,32 @@ reads_as s p at now = by_case (is_record o.act)
     by_case true = record { config = refl; facts = refl; ending = refl; writes = append-nil (said_all o.written) }
     by_case false = record { config = refl; facts = refl; ending = refl; writes = append-nil (said_all o.written) }
 
+-- a violation by which a connection has ended then is of time, or it ended by it before
+abbrev pub EndsLater : State → State → Type 0
+EndsLater s t = (v : Violation) → t.ending ≡ Some (endings.Violation v) → (s.ending ≡ Some (endings.Violation v)) ⊎ IsOfTime v
+
+-- so it is one of those that it may be
+pub ends_later : (P : Violation → Type 0) (s t : State) → ((v : Violation) → IsOfTime v → P v) → EndsLater s t → EndsBy P s → EndsBy P t
+ends_later P s t time later before v e = by_case (later v e)
+  where
+    by_case : (s.ending ≡ Some (endings.Violation v)) ⊎ IsOfTime v → P v
+    by_case (inl was) = before v was
+    by_case (inr of_time) = time v of_time
+
+pub time_left : (v : Violation) → IsOfTime v → IsLeft v
+time_left (Silent last now) h = tt
+time_left (HandshakeLate start now) h = tt
+time_left (BadFrame at) h = absurd h
+time_left (UnknownTemplate id) h = absurd h
+time_left (NotInPhase template phase) h = absurd h
+time_left (OtherSession template) h = absurd h
+time_left (WentBack announced expected) h = tt
+time_left (MissingNext template) h = absurd h
+time_left (NumberTooLarge announced) h = tt
+time_left (BadRetransmission expected found) h = tt
+time_left (AfterFinish last found) h = tt
+time_left (FlowNone template) h = absurd h
+
 -- any other call, as far as phases go
 pub record Does (s t : State) (out : List Piece) : Type 0 where
   pub config : t.config ≡ s.config
@@ -66,11 +92,11 @@ pub record Does (s t : State) (out : List Piece) : Type 0 where
   pub accepts : is_initiator s.config.role ≡ false → t.facts.connection.phase ≡ s.facts.connection.phase
   pub serves : is_recoverable s.config.own_flow ≡ false → s.facts.connection.serving ≡ None → t.facts.connection.serving ≡ None
   pub over : IsSome s.ending → IsSome t.ending
-  pub ends : EndsBy IsLeft s → EndsBy IsLeft t
+  pub ends : EndsLater s t
 
 -- nothing of the connection changes, and only free messages are written
 does_free : (s t : State) (out : List Piece) → t.config ≡ s.config → t.facts.connection ≡ s.facts.connection → AllByRecursion (IsFree s.config) out → (IsSome s.ending → IsSome t.ending)
-    → (EndsBy IsLeft s → EndsBy IsLeft t) → Does s t out
+    → EndsLater s t → Does s t out
 does_free s t out c e a over ends = record {
   config = c;
   before = λ _ _. (e, a);
@@ -85,7 +111,7 @@ does_free s t out c e a over ends = record {
 does_flowing : (s t : State) (out : List Piece) → is_shaken s.facts.connection.phase ≡ true → t.config ≡ s.config → is_shaken t.facts.connection.phase ≡ true
     → (is_initiator s.config.role ≡ false → t.facts.connection.phase ≡ s.facts.connection.phase)
     → (is_recoverable s.config.own_flow ≡ false → s.facts.connection.serving ≡ None → t.facts.connection.serving ≡ None)
-    → AllByRecursion (IsFlowing s.config) out → (IsSome s.ending → IsSome t.ending) → (EndsBy IsLeft s → EndsBy IsLeft t) → Does s t out
+    → AllByRecursion (IsFlowing s.config) out → (IsSome s.ending → IsSome t.ending) → EndsLater s t → Does s t out
 does_flowing s t out k c e role serves a over ends = record {
   config = c;
   before = λ n _. absurd (true≢false (sym k ∙ n));
@@ -100,13 +126,13 @@ said_more : (cfg : EndConfig) (P : EndConfig → Piece → Type 0) (ms more : Li
 said_more cfg P [] more a b = b
 said_more cfg P (m ∷ ms) more a b = (a.0, said_more cfg P ms more a.1 b)
 
-late : (x : Around) (f : Facts) (start last : ℕ) (v : Violation) → lateness x f start last ≡ Some v → IsLeft v
+late : (x : Around) (f : Facts) (start last : ℕ) (v : Violation) → lateness x f start last ≡ Some v → IsOfTime v
 late x f start last v e = by_tests (is_shaken f.connection.phase) (nat_le (3 * f.connection.peer_interval) (x.moment - last)) (nat_le handshake_limit (x.moment - start)) e
   where
-    by_tests : (done silent slow : Bool) → (if done then (if silent then Some (Silent last x.moment) else None) else (if slow then Some (HandshakeLate start x.moment) else None)) ≡ Some v → IsLeft v
-    by_tests true true slow e = let same : Silent last x.moment ≡ v = cc e in subst (λ (u : Violation). IsLeft u) same tt
+    by_tests : (done silent slow : Bool) → (if done then (if silent then Some (Silent last x.moment) else None) else (if slow then Some (HandshakeLate start x.moment) else None)) ≡ Some v → IsOfTime v
+    by_tests true true slow e = let same : Silent last x.moment ≡ v = cc e in subst (λ (u : Violation). IsOfTime u) same tt
     by_tests true false slow e = absurd cc
-    by_tests false silent true e = let same : HandshakeLate start x.moment ≡ v = cc e in subst (λ (u : Violation). IsLeft u) same tt
+    by_tests false silent true e = let same : HandshakeLate start x.moment ≡ v = cc e in subst (λ (u : Violation). IsOfTime u) same tt
     by_tests false silent false e = absurd cc
 
 -- a tick
@@ -143,11 +169,11 @@ breaks_free s (Some v) now = (refl, tt)
 record Broken (s t : State) : Type 0 where
   config : t.config ≡ s.config
   facts : t.facts ≡ s.facts
-  ends : EndsBy IsLeft t
+  ends : EndsBy IsOfTime t
 
-broken : (s : State) (v : Option Violation) (now : ℕ) → s.ending ≡ None → ((w : Violation) → v ≡ Some w → IsLeft w) → Broken s (broken_by s v now)
+broken : (s : State) (v : Option Violation) (now : ℕ) → s.ending ≡ None → ((w : Violation) → v ≡ Some w → IsOfTime w) → Broken s (broken_by s v now)
 broken s None now going h = record { config = refl; facts = refl; ends = λ w e. absurd (cc (going, e)) }
-broken s (Some v) now going h = record { config = refl; facts = refl; ends = λ w e. left_of (finishes_exchanged (around s 0 now) s.facts) v w e (h v refl) }
+broken s (Some v) now going h = record { config = refl; facts = refl; ends = λ w e. ended_by IsOfTime (finishes_exchanged (around s 0 now) s.facts) v w e (h v refl) }
 
 none_is : {A : Type 0} (o : Option A) → is_some o ≡ false → o ≡ None
 none_is None e = refl
@@ -180,15 +206,15 @@ ticking s now = by_end (is_some s.ending) refl
             → Does s (broken_by beat v now) (said_all (heartbeats x s.facts s.last_sent s.unsent ++ said_breaking s v now))
         by_beat (inl none) = does_free s (broken_by beat v now) _ b.config (ap (λ f. f.connection) b.facts)
             (subst (λ (ms : List Message). AllByRecursion (IsFree s.config) (said_all (ms ++ said_breaking s v now))) (sym none) (breaks_free s v now))
-            (not_over s.ending e) (λ _. b.ends)
+            (not_over s.ending e) (λ w is. inr (b.ends w is))
         by_beat (inr (k, a)) = does_flowing s (broken_by beat v now) _ k b.config (ap (λ f. is_shaken f.connection.phase) b.facts ∙ k) (λ _. ap (λ f. f.connection.phase) b.facts)
             (λ _ h. ap (λ f. f.connection.serving) b.facts ∙ h)
             (said_more s.config IsFlowing (heartbeats x s.facts s.last_sent s.unsent) (said_breaking s v now) a (all_free_flow s.config (said_all (said_breaking s v now)) (breaks_free s v now)))
-            (not_over s.ending e) (λ _. b.ends)
+            (not_over s.ending e) (λ w is. inr (b.ends w is))
 
     by_end : (b : Bool) → is_some s.ending ≡ b
         → Does s (if b then record s { moment = now } else broken_by beat v now) (if b then [] else said_all (heartbeats x s.facts s.last_sent s.unsent ++ said_breaking s v now))
-    by_end true e = does_free s (record s { moment = now }) [] refl refl tt (λ h. h) (λ h. h)
+    by_end true e = does_free s (record s { moment = now }) [] refl refl tt (λ h. h) (λ v is. inl is)
     by_end false e = going e
 
 applied_free : (cfg : EndConfig) (runs : List Range) → AllByRecursion (IsFree cfg) (said_all (applied_runs runs))
@@ -213,17 +239,17 @@ turning s now = by_end (is_some s.ending) refl
         let four = fourth (is_initiator s.config.role) (is_established s.facts.connection.phase) (finishes_exchanged x s.facts) (is_none s.facts.connection.serving) e in
         does_flowing s (behind (turned true x s.facts (runs_of s.untold))) _ (is_done s.facts.connection.phase four.1) refl refl (λ n. absurd (true≢false (sym four.0 ∙ n))) (λ _ h. h)
         (said_more s.config IsFlowing (applied_runs (runs_of s.untold)) (terminate s.config.session 1 [] ∷ []) (all_free_flow s.config (said_all (applied_runs (runs_of s.untold))) (applied_free s.config (runs_of s.untold))) (refl, tt))
-        (λ h. h) (λ h. h)
+        (λ h. h) (λ v is. inl is)
       where
         fourth : (a b c d : Bool) → (a && b && c && d) ≡ true → (a ≡ true) × (b ≡ true)
         fourth true true c d e = (refl, refl)
         fourth true false c d e = absurd (true≢false (sym e))
         fourth false b c d e = absurd (true≢false (sym e))
-    by_close false e = does_free s (behind (turned false x s.facts (runs_of s.untold))) _ refl refl (applied_free s.config (runs_of s.untold)) (λ h. h) (λ h. h)
+    by_close false e = does_free s (behind (turned false x s.facts (runs_of s.untold))) _ refl refl (applied_free s.config (runs_of s.untold)) (λ h. h) (λ v is. inl is)
 
     by_end : (b : Bool) → is_some s.ending ≡ b
         → Does s (if b then record s { moment = now } else behind (turn_ended x s.facts (runs_of s.untold))) (if b then [] else said_all (turn_ended x s.facts (runs_of s.untold)).written)
-    by_end true e = does_free s (record s { moment = now }) [] refl refl tt (λ h. h) (λ h. h)
+    by_end true e = does_free s (record s { moment = now }) [] refl refl tt (λ h. h) (λ v is. inl is)
     by_end false e = by_close (closes x s.facts) refl
 
 -- the outbox's finish
@@ -249,17 +275,17 @@ finishing s last now = by_end (is_some s.ending) refl
     by_test true e =
         let two = first_two (is_absent s.config.own_flow) (is_established s.facts.connection.phase) (is_open s.facts.connection.own_finish) (s.facts.recorded.sent == last) (is_none s.facts.connection.serving) e in
         does_flowing s (behind (told true x s.facts last)) _ (is_done s.facts.connection.phase two.1) refl (is_done s.facts.connection.phase two.1) (λ _. refl) (λ _ h. h)
-        ((refl, two.0, λ n. last_given (is_sequenced s.config.own_flow) last n), tt) (λ h. h) (λ h. h)
+        ((refl, two.0, λ n. last_given (is_sequenced s.config.own_flow) last n), tt) (λ h. h) (λ v is. inl is)
       where
         first_two : (a b c d e : Bool) → (not a && b && c && d && e) ≡ true → (a ≡ false) × (b ≡ true)
         first_two false true c d e t = (refl, refl)
         first_two false false c d e t = absurd (true≢false (sym t))
         first_two true b c d e t = absurd (true≢false (sym t))
-    by_test false e = does_free s (behind (told false x s.facts last)) [] refl refl tt (λ h. h) (λ h. h)
+    by_test false e = does_free s (behind (told false x s.facts last)) [] refl refl tt (λ h. h) (λ v is. inl is)
 
     by_end : (b : Bool) → is_some s.ending ≡ b
         → Does s (if b then record s { moment = now; facts = outbox_finished s.facts last } else behind (finish_told x s.facts last)) (if b then [] else said_all (finish_told x s.facts last).written)
-    by_end true e = does_free s (record s { moment = now; facts = outbox_finished s.facts last }) [] refl refl tt (λ h. h) (λ h. h)
+    by_end true e = does_free s (record s { moment = now; facts = outbox_finished s.facts last }) [] refl refl tt (λ h. h) (λ v is. inl is)
     by_end false e = by_test (tells_finish x s.facts last) refl
 
 cut : (s : State) → Does s (step s link_end) []
@@ -268,13 +294,13 @@ cut s = by_end (is_some s.ending) refl
     ended : State
     ended = record s { ending = Some (link_ending (around s 0 s.moment) s.facts); pending = None }
 
-    no_violation : (b : Bool) (v : Violation) → Some (if b then endings.Finished else endings.LinkEnded) ≡ Some (endings.Violation v) → IsLeft v
+    no_violation : (b : Bool) (v : Violation) → Some (if b then endings.Finished else endings.LinkEnded) ≡ Some (endings.Violation v) → IsOfTime v
     no_violation true v e = absurd cc
     no_violation false v e = absurd cc
 
     by_end : (b : Bool) → is_some s.ending ≡ b → Does s (if b then s else ended) []
-    by_end true e = does_free s s [] refl refl tt (λ h. h) (λ h. h)
-    by_end false e = does_free s ended [] refl refl tt (λ _. refl) (λ _. no_violation (finishes_exchanged (around s 0 s.moment) s.facts))
+    by_end true e = does_free s s [] refl refl tt (λ h. h) (λ v is. inl is)
+    by_end false e = does_free s ended [] refl refl tt (λ _. refl) (λ v is. inr (no_violation (finishes_exchanged (around s 0 s.moment) s.facts) v is))
 
 entries_flow : (cfg : EndConfig) (payloads : List (List ℕ)) → is_absent cfg.own_flow ≡ false → AllByRecursion (IsFlowing cfg) (entries payloads)
 entries_flow cfg [] e = tt
@@ -305,7 +331,7 @@ resending s (Some r) range payloads now same e serves = record {
   accepts = λ _. refl;
   serves = λ n h. absurd (cc (h, same));
   over = λ h. h;
-  ends = λ h. h;
+  ends = λ v is. inl is;
 }
 
 -- each call that may come
@@ -321,10 +347,10 @@ does_call h s (closed last now) other may serves = finishing s last now
 does_call h s link_end other may serves = cut s
 does_call h s (live payloads now) other may serves =
     does_flowing s (step s (live payloads now)) (entries payloads) (is_done s.facts.connection.phase may.comes.established) refl (is_done s.facts.connection.phase may.comes.established) (λ _. refl) (λ _ n. n)
-    (entries_flow s.config payloads may.comes.flow) (λ k. k) (λ k. k)
+    (entries_flow s.config payloads may.comes.flow) (λ k. k) (λ v is. inl is)
 does_call h s (again payloads now) other may serves = resending s s.facts.connection.serving may.comes.range payloads now refl may.comes.serves serves
-does_call h s (taken count) other may serves = does_free s (step s (taken count)) [] refl refl tt (λ k. k) (λ k. k)
-does_call h s reserve other may serves = does_free s (step s reserve) [] refl refl tt (λ k. k) (λ k. k)
+does_call h s (taken count) other may serves = does_free s (step s (taken count)) [] refl refl tt (λ k. k) (λ v is. inl is)
+does_call h s reserve other may serves = does_free s (step s reserve) [] refl refl tt (λ k. k) (λ v is. inl is)
 
 pub does_as : (h : List Entry) (s : State) (call : Call) → IsOther h call → MayStand h s call → (is_recoverable s.config.own_flow ≡ false → s.facts.connection.serving ≡ None)
     → Does s (run s (call ∷ [])) (written s (call ∷ []))

@@ -29,8 +29,8 @@ use Rattle.connection_laws.specs.Writing.{Piece, said, entry, said_all}
 use Rattle.link_laws.specs.Reading.{incoming_of}
 use Rattle.honest_laws.specs.Laws.{IsLeft}
 use Rattle.honest_laws.proofs.Shapes.{IsFree, IsAsk, IsAnswer, IsAck, OneAtMost, AckFirst}
-use Rattle.honest_laws.proofs.Deciding.{Decides, decides_within, same_bytes, never}
-use Rattle.honest_laws.proofs.Replying.{left_of, Left, asked_phase, asked_flows, skip_flows, none_left, terminated_left, fault_left, announced_decides, foreign, heard}
+use Rattle.honest_laws.proofs.Deciding.{Decides, decides_within, same_bytes, ended_by, never}
+use Rattle.honest_laws.proofs.Replying.{Left, asked_phase, asked_flows, skip_flows, none_left, terminated_left, fault_left, announced_decides, foreign, heard}
 use Rattle.honest_laws.specs.Numbers.{IsFlowing, Peer}
 
 -- before the handshake is done nothing is asked for or sent again
@@ -166,7 +166,7 @@ establish_asked x f theirs id timestamp keepalive next credentials are same rang
   where
     refused : (v : Option Violation) → ((w : Violation) → v ≡ Some w → IsLeft w) → Asked x.config phases.Establishing f (refuses x f v)
     refused None h = answers refl quiet tt none_left
-    refused (Some v) h = answers refl quiet (inr (refl, tt)) (λ w e. left_of (finishes_exchanged x f) v w e (h v refl))
+    refused (Some v) h = answers refl quiet (inr (refl, tt)) (λ w e. ended_by IsLeft (finishes_exchanged x f) v w e (h v refl))
 
     acknowledging : (a : Announced) → Asked x.config phases.Establishing f (acknowledges x timestamp keepalive a)
     acknowledging a =
@@ -263,7 +263,7 @@ ack_reply x f theirs (said (establishment_ack id timestamp keepalive next)) are 
   where
     refused : (v : Option Violation) → is_some v ≡ true → ((w : Violation) → v ≡ Some w → IsLeft w) → Acknowledged x.config f (refuses x f v)
     refused None some h = absurd (true≢false (sym some))
-    refused (Some v) some h = lost refl refl (refl, tt) (λ w e. left_of (finishes_exchanged x f) v w e (h v refl))
+    refused (Some v) some h = lost refl refl (refl, tt) (λ w e. ended_by IsLeft (finishes_exchanged x f) v w e (h v refl))
 
     standing : (a : Announced) (interval : ℕ) → Acknowledged x.config f (goes_on x (skip_of a.skipped) (told_skip a.skipped) (established a.facts interval))
     standing a interval =

@@ -37,7 +37,7 @@ use Rattle.honest_laws.proofs.Asking.{asks, restarts, inside, coming, is_serving
 use Rattle.honest_laws.proofs.Serving.{Requests, asked_by_reader, asked_by_writer, free_for, served_by_writer, served_by_reader, serves_as}
 use Rattle.honest_laws.proofs.Finishing.{counts, total, sendings, answers as answer_count, waiting, reads, tells}
 use Rattle.honest_laws.proofs.Telling.{Awaits, read_by_reader, read_by_writer, due, told_by_writer, told_by_reader, tells_as}
-use Rattle.honest_laws.proofs.Moving.{reads_as, Does, does_as}
+use Rattle.honest_laws.proofs.Moving.{reads_as, Does, does_as, ends_later, time_left}
 use Rattle.honest_laws.specs.Numbers.{IsFlowing, Peer, served}
 
 -- How far the two ends are: the handshake is asked for or answered, or neither is under way; it is acknowledged; it is done; or the
@@ -349,12 +349,12 @@ holds_step hi ha w (initiator_does call) h may =
     let t = run w.initiator (call ∷ []) in
     record {
       matches = subst (λ (c : EndConfig). Match c w.acceptor.config) (sym d.config) h.matches;
-      initiator = subst (λ (c : EndConfig). Keeps c t.facts t.ending) (sym d.config) (record { serves = λ n. d.serves n (h.initiator.serves n); ends = d.ends h.initiator.ends });
+      initiator = subst (λ (c : EndConfig). Keeps c t.facts t.ending) (sym d.config) (record { serves = λ n. d.serves n (h.initiator.serves n); ends = ends_later IsLeft w.initiator t time_left d.ends h.initiator.ends });
       acceptor = h.acceptor;
       shaking = subst (λ (c : EndConfig). Shaking c w.acceptor.config t.facts t.ending w.acceptor.facts (w.outward ++ written w.initiator (call ∷ [])) w.homeward) (sym d.config)
           (initiator_does_so w.initiator t (written w.initiator (call ∷ [])) w.acceptor.config w.acceptor.facts w.outward w.homeward d h.shaking);
-      outward_finish = told_by_writer w.initiator.facts t.facts w.acceptor.facts w.outward w.homeward (written w.initiator (call ∷ [])) h.outward_finish (tells_as hi w.initiator call may.0);
-      homeward_finish = told_by_reader w.acceptor.facts w.initiator.facts t.facts w.homeward w.outward (written w.initiator (call ∷ [])) h.homeward_finish (tells_as hi w.initiator call may.0);
+      outward_finish = told_by_writer w.initiator.facts t.facts w.acceptor.facts w.outward w.homeward (written w.initiator (call ∷ [])) h.outward_finish (tells_as hi w.initiator call may.0 may.1);
+      homeward_finish = told_by_reader w.acceptor.facts w.initiator.facts t.facts w.homeward w.outward (written w.initiator (call ∷ [])) h.homeward_finish (tells_as hi w.initiator call may.0 may.1);
       outward_requests = served_by_writer w.initiator t w.acceptor.facts w.acceptor.ending w.outward w.homeward (written w.initiator (call ∷ [])) h.outward_requests (serves_as hi w.initiator call may.0 may.1);
       homeward_requests = served_by_reader w.acceptor.facts w.initiator t w.homeward w.outward (written w.initiator (call ∷ [])) d.over h.homeward_requests (serves_as hi w.initiator call may.0 may.1);
     }
@@ -364,11 +364,11 @@ holds_step hi ha w (acceptor_does call) h may =
     record {
       matches = subst (λ (c : EndConfig). Match w.initiator.config c) (sym d.config) h.matches;
       initiator = h.initiator;
-      acceptor = subst (λ (c : EndConfig). Keeps c t.facts t.ending) (sym d.config) (record { serves = λ n. d.serves n (h.acceptor.serves n); ends = d.ends h.acceptor.ends });
+      acceptor = subst (λ (c : EndConfig). Keeps c t.facts t.ending) (sym d.config) (record { serves = λ n. d.serves n (h.acceptor.serves n); ends = ends_later IsLeft w.acceptor t time_left d.ends h.acceptor.ends });
       shaking = subst (λ (c : EndConfig). Shaking w.initiator.config c w.initiator.facts w.initiator.ending t.facts w.outward (w.homeward ++ written w.acceptor (call ∷ []))) (sym d.config)
           (acceptor_does_so w.acceptor t (written w.acceptor (call ∷ [])) w.initiator.config w.initiator.facts w.initiator.ending w.outward w.homeward (ap (λ r. is_initiator r) h.matches.accepts) d h.shaking);
-      outward_finish = told_by_reader w.initiator.facts w.acceptor.facts t.facts w.outward w.homeward (written w.acceptor (call ∷ [])) h.outward_finish (tells_as ha w.acceptor call may.0);
-      homeward_finish = told_by_writer w.acceptor.facts t.facts w.initiator.facts w.homeward w.outward (written w.acceptor (call ∷ [])) h.homeward_finish (tells_as ha w.acceptor call may.0);
+      outward_finish = told_by_reader w.initiator.facts w.acceptor.facts t.facts w.outward w.homeward (written w.acceptor (call ∷ [])) h.outward_finish (tells_as ha w.acceptor call may.0 may.1);
+      homeward_finish = told_by_writer w.acceptor.facts t.facts w.initiator.facts w.homeward w.outward (written w.acceptor (call ∷ [])) h.homeward_finish (tells_as ha w.acceptor call may.0 may.1);
       outward_requests = served_by_reader w.initiator.facts w.acceptor t w.outward w.homeward (written w.acceptor (call ∷ [])) d.over h.outward_requests (serves_as ha w.acceptor call may.0 may.1);
       homeward_requests = served_by_writer w.acceptor t w.initiator.facts w.initiator.ending w.homeward w.outward (written w.acceptor (call ∷ [])) h.homeward_requests (serves_as ha w.acceptor call may.0 may.1);
     }

@@ -38,7 +38,7 @@ use Rattle.link_laws.specs.Reading.{incoming_of}
 use Rattle.honest_laws.specs.Laws.{IsLeft}
 use Rattle.honest_laws.proofs.Finishing.{answers, tells, awaited}
 use Rattle.honest_laws.proofs.Asking.{asks, is_serving}
-use Rattle.honest_laws.proofs.Deciding.{Decides, decided, decides_within, same_bytes, never}
+use Rattle.honest_laws.proofs.Deciding.{Decides, decided, decides_within, same_bytes, ended_by, never}
 use Rattle.honest_laws.specs.Numbers.{IsFlowing, Peer}
 
 -- where an outcome ends a connection by a violation, it is one of those left
@@ -78,16 +78,12 @@ going x f g act written e a = record {
 ignoring : (x : Around) (f g : Facts) → g.connection.phase ≡ f.connection.phase → Plain x.config f (ignores g)
 ignoring x f g e = record { phase = e; writes = tt; ends = none_left }
 
-pub left_of : (b : Bool) (v w : Violation) → Some (if b then endings.Finished else endings.Violation v) ≡ Some (endings.Violation w) → IsLeft v → IsLeft w
-left_of true v w e h = absurd cc
-left_of false v w e h = let same : v ≡ w = cc e in subst (λ (u : Violation). IsLeft u) same h
-
 pub terminated_left : (b : Bool) (code : ℕ) (w : Violation) → Some (if b then endings.Finished else endings.PeerTerminated code) ≡ Some (endings.Violation w) → IsLeft w
 terminated_left true code w e = absurd cc
 terminated_left false code w e = absurd cc
 
 breaking : (x : Around) (f g : Facts) (code : ℕ) (v : Violation) → g.connection.phase ≡ f.connection.phase → IsLeft v → Plain x.config f (ends x g code (endings.Violation v))
-breaking x f g code v e h = record { phase = e; writes = (refl, tt); ends = λ w same. left_of (finishes_exchanged x g) v w same h }
+breaking x f g code v e h = record { phase = e; writes = (refl, tt); ends = λ w same. ended_by IsLeft (finishes_exchanged x g) v w same h }
 
 bad : (x : Around) (f : Facts) (b : Option BadStart) → Plain x.config f (bad_retransmission x f b)
 bad x f None = ignoring x f f refl

@@ -22,6 +22,21 @@ IsLeft (FlowNone template) = ⊥
 IsLeft (Silent last now) = ⊤
 IsLeft (HandshakeLate start now) = ⊤
 
+-- and of these two are of time alone: an end hears nothing, or the handshake takes too long
+abbrev pub IsOfTime : Violation → Type 0
+IsOfTime (BadFrame at) = ⊥
+IsOfTime (UnknownTemplate id) = ⊥
+IsOfTime (NotInPhase template phase) = ⊥
+IsOfTime (OtherSession template) = ⊥
+IsOfTime (WentBack announced expected) = ⊥
+IsOfTime (MissingNext template) = ⊥
+IsOfTime (NumberTooLarge announced) = ⊥
+IsOfTime (BadRetransmission expected found) = ⊥
+IsOfTime (AfterFinish last found) = ⊥
+IsOfTime (FlowNone template) = ⊥
+IsOfTime (Silent last now) = ⊤
+IsOfTime (HandshakeLate start now) = ⊤
+
 -- where an end's connection has ended by a violation, it is one of those
 abbrev pub EndsBy : (Violation → Type 0) → State → Type 0
 EndsBy P s = (v : Violation) → s.ending ≡ Some (endings.Violation v) → P v

@@ -1,0 +1,321 @@
+-- The finish of one flow at any moment: where its reader knows it, or it is under way, its writer has sent all of its entries, and behind
+-- it no message is live. How each reply and each call keeps that, and that so no message comes behind a finish.
+use Rattle.std.proofs.Common.{◌≡◌, ◌⊎◌, inl, inr, ℕ, zero, suc, ◌+◌, ◌≤◌, ◌==◌, ◌&&◌, not, Bool, true, false, if◌then◌else◌, List, [], ◌∷◌, ◌++◌, length, Option, Some, None, refl, sym, ap, subst, ◌∙◌, arith, true≢false, eq-eqb}
+use Rattle.std.specs.Prelude.{is_some, unwrap_or, IfSome, IsSome}
+use Rattle.std.specs.List.{AllByRecursion}
+use Rattle.session_model.specs.Journal.{Entry}
+use Rattle.session_model.proofs.Lists.{all_append}
+use Rattle.fixp_msgs.specs.declared.numbering.Range.{Range}
+use Rattle.fixp_msgs.specs.declared.flow.Flow.{Flow}
+use Rattle.fixp_msgs.specs.Message.{sequence, finished_sending}
+use Rattle.flow_retrans.specs.declared.request.Request.{Request}
+use Rattle.flow_retrans.specs.declared.request.Request.TheVariants as requests
+use Rattle.flow_retrans.specs.Requests as request_is
+use Rattle.fixp_shake.specs.declared.phase.Phase.{Phase}
+use Rattle.fixp_shake.specs.declared.phase.Phase.TheVariants as phases
+use Rattle.fixp_shake.specs.Flows.{is_sequenced}
+use Rattle.fixp_shake.specs.Phases.{is_established, is_closing}
+use Rattle.fixp_replies.specs.declared.act.Ending.{Ending}
+use Rattle.fixp_replies.specs.declared.facts.Facts.{Facts}
+use Rattle.fixp_replies.specs.declared.facts.PeerFinish.{PeerFinish}
+use Rattle.fixp_replies.specs.declared.facts.PeerFinish.TheVariants as peer
+use Rattle.fixp_replies.specs.Facts.{Around, peer_last, last_among, live_number}
+use Rattle.fixp_replies.specs.Flowing.{finished_last, is_last}
+use Rattle.fixp_replies.specs.Outcomes.{Outcome}
+use Rattle.fixp_replies.specs.Replies.{reply_of}
+use Rattle.connection_laws.specs.Writing.{Piece, said, entry, said_all}
+use Rattle.link_laws.specs.Reading.{incoming_of}
+use Rattle.link_laws.proofs.Refused.{closing_is_deaf}
+use Rattle.honest_laws.specs.Numbers.{exactly, Runs, served, to_come}
+use Rattle.honest_laws.proofs.Finishing.{Finishes, finishes, Learned, IsLate, ComesLate, Moves, moves, last_in, sendings, total, total_append}
+use Rattle.honest_laws.proofs.Telling.{Complete, NamesLast, none_names, Tells}
+use Rattle.honest_laws.proofs.Asking.{turns, inside, coming, is_serving, asks_of}
+use Rattle.honest_numbers.specs.Knowing.{last_told}
+use Rattle.honest_finishes.proofs.Living.{NoneLive, behind_fewer, none_live_append, said_live, unfinished_live, level_live, live_level}
+
+-- one where it is there
+abbrev pub known : Option ℕ → ℕ
+known None = 0
+known (Some n) = 1
+
+-- Of one flow, whose writer's outbox comes to have these entries
+pub record Behind (own : Flow) (h : List Entry) (writer reader : Facts) (over : Option Ending) (way : List Piece) : Type 0 where
+  pub learned : (last : ℕ) → Learned (finishes reader) last → Complete (length h) writer × (last ≡ last_told own h)
+  pub told : 1 ≤ total sendings way → Complete (length h) writer
+  pub names : AllByRecursion (NamesLast own (length h)) way
+  pub none_live : over ≡ None → is_closing reader.connection.phase ≡ false → NoneLive (known (peer_last reader)) (coming reader) way
+
+-- what a reader knows it has learned
+last_of : (r : Option ℕ) (q : PeerFinish) (last : ℕ) → last_among r q ≡ Some last → (r ≡ Some last) ⊎ (last_among None q ≡ Some last)
+last_of r peer.Open last e = inl e
+last_of r (peer.Read n) last e = inr e
+last_of r (peer.Exchanged n) last e = inr e
+
+of_last : (r : Option ℕ) (q : PeerFinish) (last : ℕ) → (r ≡ Some last) ⊎ (last_among None q ≡ Some last) → 1 ≤ known (last_among r q)
+of_last r peer.Open last (inl e) = let one = ap known e in omega (arith, one)
+of_last r peer.Open last (inr e) = absurd cc
+of_last r (peer.Read n) last e = omega arith
+of_last r (peer.Exchanged n) last e = omega arith
+
+learned_known : (f : Facts) (last : ℕ) → Learned (finishes f) last → 1 ≤ known (peer_last f)
+learned_known f last l = of_last f.recorded.peer_last f.connection.peer_finish last l
+
+known_learned : (f : Facts) (P : Type 0) → 1 ≤ known (peer_last f) → ((last : ℕ) → peer_last f ≡ Some last → Learned (finishes f) last → P) → P
+known_learned f P some h = by_last (peer_last f) refl some
+  where
+    by_last : (o : Option ℕ) → peer_last f ≡ o → 1 ≤ known o → P
+    by_last None e some = absurd (omega (arith, some))
+    by_last (Some last) e some = h last e (last_of f.recorded.peer_last f.connection.peer_finish last e)
+
+there_known : (o : Option ℕ) → is_some o ≡ true → 1 ≤ known o
+there_known None e = absurd (true≢false (sym e))
+there_known (Some n) e = omega arith
+
+by_bool : (P : Type 0) (b : Bool) → (b ≡ true → P) → (b ≡ false → P) → P
+by_bool P true t f = t refl
+by_bool P false t f = f refl
+
+-- the last number that a finish names is what its reader takes from it
+named : (x : Around) (own : Flow) (h : List Entry) (p : Piece) (last : ℕ) → x.config.peer_flow ≡ own → NamesLast own (length h) p → last_in x p ≡ Some last → (1 ≤ sendings p) × (last ≡ last_told own h)
+named x own h (said (finished_sending id l)) last flow names e =
+    let same : finished_last x l ≡ last = cc e in (omega arith, sym same ∙ finished x own h l flow names)
+  where
+    taken : (b : Bool) (n : ℕ) (k : Option ℕ) → k ≡ (if b then Some n else None) → (if b then unwrap_or k 0 else 0) ≡ (if b then n else 0)
+    taken true n k e = ap (λ (o : Option ℕ). unwrap_or o 0) e
+    taken false n k e = refl
+
+    finished : (x : Around) (own : Flow) (h : List Entry) (l : Option ℕ) → x.config.peer_flow ≡ own → l ≡ (if is_sequenced own then Some (length h) else None) → finished_last x l ≡ last_told own h
+    finished x own h l flow names = subst (λ (k : Flow). (if is_sequenced k then unwrap_or l 0 else 0) ≡ last_told own h) (sym flow) (taken (is_sequenced own) (length h) l names)
+named x own h _ last flow names e = absurd cc
+
+-- the reader replies to a message
+pub heard_by_reader : (own : Flow) (h : List Entry) (writer : Facts) (x : Around) (reader : Facts) (over : Option Ending) (p : Piece) (left : List Piece) → x.config.peer_flow ≡ own → over ≡ None
+    → Behind own h writer reader over (p ∷ left) → Behind own h writer (reply_of x reader (incoming_of p)).next (reply_of x reader (incoming_of p)).ending left
+heard_by_reader own h writer x reader over p left flow going a = record { learned = learned; told = λ some. a.told (omega (arith, some)); names = a.names.1; none_live = none_live }
+  where
+    o : Outcome
+    o = reply_of x reader (incoming_of p)
+
+    m : Moves x reader p o
+    m = moves x reader p
+
+    by_source : (last : ℕ) → Learned (finishes reader) last ⊎ (last_in x p ≡ Some last) → Complete (length h) writer × (last ≡ last_told own h)
+    by_source last (inl l) = a.learned last l
+    by_source last (inr e) = let n = named x own h p last flow a.names.0 e in let one = n.0 in (a.told (omega (arith, one)), n.1)
+
+    learned : (last : ℕ) → Learned (finishes o.next) last → Complete (length h) writer × (last ≡ last_told own h)
+    learned last l = by_source last (m.learns last l)
+
+    known_by : (last : ℕ) → Learned (finishes reader) last ⊎ (last_in x p ≡ Some last) → 1 ≤ known (peer_last reader) + sendings p
+    known_by last (inl l) = let one = learned_known reader last l in omega (arith, one)
+    known_by last (inr e) = let n = named x own h p last flow a.names.0 e in let one = n.0 in omega (arith, one)
+
+    was_known : 1 ≤ known (peer_last o.next) → 1 ≤ known (peer_last reader) + sendings p
+    was_known some = known_learned o.next (1 ≤ known (peer_last reader) + sendings p) some (λ last e l. known_by last (m.learns last l))
+
+    -- it was not closing
+    live_after : o.ending ≡ None → is_closing reader.connection.phase ≡ false → NoneLive (known (peer_last o.next)) (coming o.next) left
+    live_after none yet = behind_fewer left (known (peer_last o.next)) (known (peer_last reader) + sendings p) (coming o.next) was_known
+        (subst (λ (b : Bool). NoneLive (known (peer_last reader) + sendings p) b left) (sym ((asks_of x reader p).comes none yet)) (a.none_live going yet).1)
+
+    none_live : o.ending ≡ None → is_closing o.next.connection.phase ≡ false → NoneLive (known (peer_last o.next)) (coming o.next) left
+    none_live none yet = by_bool (NoneLive (known (peer_last o.next)) (coming o.next) left) (is_closing reader.connection.phase)
+        (λ t. absurd (true≢false (sym t ∙ (ap (λ (f : Facts). is_closing f.connection.phase) (sym (closing_is_deaf x reader (incoming_of p) t).next) ∙ yet))))
+        (λ n. live_after none n)
+
+-- the writer replies to a message that came back
+pub heard_by_writer : (own : Flow) (h : List Entry) (x : Around) (writer reader : Facts) (over : Option Ending) (p : Piece) (way : List Piece) → Behind own h writer reader over way
+    → Behind own h (reply_of x writer (incoming_of p)).next reader over (way ++ said_all (reply_of x writer (incoming_of p)).written)
+heard_by_writer own h x writer reader over p way a = record {
+  learned = λ last l. let k = a.learned last l in (completes k.0, k.1);
+  told = λ some. completes (a.told (omega (arith, e, quiet, some)));
+  names = all_append (NamesLast own (length h)) way (said_all o.written) a.names (none_names own (length h) (said_all o.written) m.counts.quiet);
+  none_live = λ going yet. none_live_append way (said_all o.written) (known (peer_last reader)) (coming reader) (a.none_live going yet) (said_live o.written _ _);
+}
+  where
+    o : Outcome
+    o = reply_of x writer (incoming_of p)
+
+    m : Moves x writer p o
+    m = moves x writer p
+
+    completes : Complete (length h) writer → Complete (length h) o.next
+    completes c = record { finish = m.finish ∙ c.finish; sent = m.sent ∙ c.sent }
+
+    e : total sendings (way ++ said_all o.written) ≡ total sendings way + total sendings (said_all o.written)
+    e = total_append sendings way (said_all o.written)
+
+    quiet : total sendings (said_all o.written) ≡ 0
+    quiet = m.counts.quiet
+
+-- what is served of a range is some of one
+serving_some : (r : Option Range) → is_some (served r) ≡ is_some r
+serving_some None = refl
+serving_some (Some r) = refl
+
+-- any other call of the writer
+pub told_behind : (own : Flow) (h : List Entry) (writer next reader : Facts) (over : Option Ending) (way out : List Piece) → Behind own h writer reader over way
+    → (over ≡ None → is_closing reader.connection.phase ≡ false → inside (coming reader) way ≡ is_serving writer) → Tells own (length h) writer next out
+    → Runs own (exactly (writer.recorded.sent + 1)) (served writer.connection.serving) out (next.recorded.sent + 1) (served next.connection.serving) → Behind own h next reader over (way ++ out)
+told_behind own h writer next reader over way out a even t runs = record {
+  learned = λ last l. let k = a.learned last l in (t.completes k.0, k.1);
+  told = λ some. by_count (total sendings way) refl some;
+  names = all_append (NamesLast own (length h)) way out a.names t.names;
+  none_live = λ going yet. none_live_append way out (known (peer_last reader)) (coming reader) (a.none_live going yet) (live_behind going yet);
+}
+  where
+    by_count : (n : ℕ) → total sendings way ≡ n → 1 ≤ total sendings (way ++ out) → Complete (length h) next
+    by_count zero e some = let k = total_append sendings way out in (t.closes (omega (arith, k, e, some))).0
+    by_count (suc n) e some = t.completes (a.told (omega (arith, e)))
+
+    -- behind a finish as many are sent as were
+    behind_known : (n k : ℕ) → known (peer_last reader) ≡ n → total sendings way ≡ k → 1 ≤ n + k → Complete (length h) writer
+    behind_known (suc n) k e d some = known_learned reader (Complete (length h) writer) (omega (arith, e)) (λ last is l. (a.learned last l).0)
+    behind_known zero (suc k) e d some = a.told (omega (arith, d))
+    behind_known zero zero e d some = absurd (omega (arith, some))
+
+    level : (n : ℕ) → known (peer_last reader) + total sendings way ≡ n → 1 ≤ n + total sendings out → next.recorded.sent ≡ writer.recorded.sent
+    level zero e some = let c = t.closes some in c.0.sent ∙ sym c.1
+    level (suc n) e some =
+        let c = behind_known (known (peer_last reader)) (total sendings way) refl refl (omega (arith, e)) in
+        (t.completes c).sent ∙ sym c.sent
+
+    by_finish : (n : ℕ) → known (peer_last reader) + total sendings way + total sendings out ≡ n → NoneLive (known (peer_last reader) + total sendings way) (is_serving writer) out
+    by_finish zero e = unfinished_live out (known (peer_last reader) + total sendings way) (is_serving writer) e
+    by_finish (suc n) e =
+        let same = level (known (peer_last reader) + total sendings way) refl (omega (arith, e)) in
+        subst (λ (b : Bool). NoneLive (known (peer_last reader) + total sendings way) b out) (serving_some writer.connection.serving)
+        (level_live own (writer.recorded.sent + 1) (served writer.connection.serving) out (next.recorded.sent + 1) (served next.connection.serving) (known (peer_last reader) + total sendings way) runs (omega (arith, same)))
+
+    live_behind : over ≡ None → is_closing reader.connection.phase ≡ false → NoneLive (known (peer_last reader) + total sendings way) (inside (coming reader) way) out
+    live_behind going yet = subst (λ (b : Bool). NoneLive (known (peer_last reader) + total sendings way) b out) (sym (even going yet)) (by_finish (known (peer_last reader) + total sendings way + total sendings out) refl)
+
+-- any other call of the reader
+pub kept_behind : {flow : Flow} {n : ℕ} {out : List Piece} (own : Flow) (h : List Entry) (writer reader next : Facts) (over later : Option Ending) (way : List Piece) → (later ≡ None → over ≡ None)
+    → (is_closing next.connection.phase ≡ false → is_closing reader.connection.phase ≡ false) → next.connection.requester ≡ reader.connection.requester → Behind own h writer reader over way → Tells flow n reader next out
+    → Behind own h writer next later way
+kept_behind own h writer reader next over later way goes opens asked a t = record {
+  learned = λ last l. a.learned last (was last l);
+  told = a.told;
+  names = a.names;
+  none_live = λ going yet. subst (λ (k : ℕ). NoneLive k (coming next) way) (sym same)
+      (subst (λ (b : Bool). NoneLive (known (peer_last reader)) b way) (sym (ap (λ (q : Request). request_is.is_coming q) asked)) (a.none_live (goes going) (opens yet)));
+}
+  where
+    was : (last : ℕ) → Learned (finishes next) last → Learned (finishes reader) last
+    was last (inl e) = inl (sym t.recorded ∙ e)
+    was last (inr e) = inr (sym (ap (λ (q : PeerFinish). last_among None q) t.theirs) ∙ e)
+
+    same : known (peer_last next) ≡ known (peer_last reader)
+    same = ap (λ (q : PeerFinish). known (last_among next.recorded.peer_last q)) t.theirs ∙ ap (λ (r : Option ℕ). known (last_among r reader.connection.peer_finish)) t.recorded
+
+open_not_closing : (p : Phase) → is_established p ≡ true → is_closing p ≡ false
+open_not_closing phases.Idle e = refl
+open_not_closing phases.Negotiating e = refl
+open_not_closing phases.Establishing e = refl
+open_not_closing phases.Established e = refl
+open_not_closing phases.Closing e = absurd (true≢false (sym e))
+open_not_closing phases.Ended e = refl
+
+to_come_some : (q : Request) → is_some (to_come q) ≡ request_is.is_coming q
+to_come_some requests.Nothing = refl
+to_come_some (requests.Asked range) = refl
+to_come_some (requests.Coming range next left) = refl
+
+-- In Established what is under way brings a reader of a flow with numbers from its live number to exactly one past what was sent
+abbrev pub Exact : Flow → (writer : Facts) (x : Around) (reader : Facts) → List Piece → Type 0
+Exact own writer x reader way = is_sequenced own ≡ true → is_established reader.connection.phase ≡ true
+    → Runs own (exactly (live_number x reader)) (to_come reader.connection.requester) way (writer.recorded.sent + 1) (served writer.connection.serving)
+
+-- so no message that comes is behind a finish
+pub none_late : (own : Flow) (h : List Entry) (writer : Facts) (x : Around) (reader : Facts) (over : Option Ending) (p : Piece) (left : List Piece) → x.config.peer_flow ≡ own → over ≡ None
+    → Behind own h writer reader over (p ∷ left) → Exact own writer x reader (p ∷ left) → IsLate x reader p → ⊥
+none_late own h writer x reader over p left flow going a exact late =
+    by_piece p a (exact_of p exact) (a.none_live going (open_not_closing reader.connection.phase late.0)) late.1
+  where
+    exact_of : (q : Piece) → Exact own writer x reader (q ∷ left) → is_sequenced x.config.peer_flow ≡ true
+        → Runs own (exactly (live_number x reader)) (to_come reader.connection.requester) (q ∷ left) (writer.recorded.sent + 1) (served writer.connection.serving)
+    exact_of q exact numbered = exact (sym (ap is_sequenced flow) ∙ numbered) late.0
+
+    shown : (b : Bool) → (is_some (peer_last reader) && not b) ≡ true → b ≡ true → ⊥
+    shown b e t = tests (is_some (peer_last reader)) b e t
+      where
+        tests : (k b : Bool) → (k && not b) ≡ true → b ≡ true → ⊥
+        tests true true e t = true≢false (sym e)
+        tests true false e t = true≢false (sym t)
+        tests false b e t = true≢false (sym e)
+
+    first : (a b : Bool) → (a && b) ≡ true → (a ≡ true) × (b ≡ true)
+    first true true e = (refl, refl)
+    first true false e = absurd (true≢false (sym e))
+    first false b e = absurd (true≢false (sym e))
+
+    counted : (b : Bool) (n : ℕ) → b ≡ true → (if b then n else 0) ≡ n
+    counted true n e = refl
+    counted false n e = absurd (true≢false (sym e))
+
+    -- the number that a finish has
+    number_is : (last : ℕ) → is_sequenced x.config.peer_flow ≡ true → last ≡ last_told own h → last ≡ length h
+    number_is last numbered e = e ∙ counted (is_sequenced own) (length h) (sym (ap is_sequenced flow) ∙ numbered)
+
+    same_side : (n m : ℕ) → n ≡ m → not (n == m) ≡ true → ⊥
+    same_side n m e k = true≢false (sym (sym (ap not (eq-eqb n m e)) ∙ k))
+
+    by_piece : (q : Piece) → Behind own h writer reader over (q ∷ left)
+        → (is_sequenced x.config.peer_flow ≡ true → Runs own (exactly (live_number x reader)) (to_come reader.connection.requester) (q ∷ left) (writer.recorded.sent + 1) (served writer.connection.serving))
+        → NoneLive (known (peer_last reader)) (coming reader) (q ∷ left) → ComesLate x reader q → ⊥
+    by_piece (entry payload) a runs live late =
+        let two = first (is_some (peer_last reader)) (not (coming reader)) late in
+        shown (coming reader) late (live.0 (there_known (peer_last reader) two.0))
+    by_piece (said (sequence next)) a runs live late =
+        let one = first (is_sequenced x.config.peer_flow) _ late in
+        let two = first (is_some (peer_last reader)) _ one.1 in
+        known_learned reader ⊥ (there_known (peer_last reader) two.0) (λ last e l. past next last e l runs live one.0 two.1)
+      where
+        past : (next last : ℕ) → peer_last reader ≡ Some last → Learned (finishes reader) last
+            → (is_sequenced x.config.peer_flow ≡ true → Runs own (exactly (live_number x reader)) (to_come reader.connection.requester) (said (sequence next) ∷ left) (writer.recorded.sent + 1) (served writer.connection.serving))
+            → NoneLive (known (peer_last reader)) (coming reader) (said (sequence next) ∷ left) → is_sequenced x.config.peer_flow ≡ true → not (next == unwrap_or (peer_last reader) 0 + 1) ≡ true → ⊥
+        past next last e l runs live numbered k =
+            let c = a.learned last l in
+            let some = learned_known reader last l in
+            let level = live_level own (live_number x reader) (to_come reader.connection.requester) (said (sequence next) ∷ left) (writer.recorded.sent + 1) (served writer.connection.serving) (known (peer_last reader)) some (runs numbered)
+            (subst (λ (b : Bool). NoneLive (known (peer_last reader)) b (said (sequence next) ∷ left)) (sym (to_come_some reader.connection.requester)) live) in
+            let told = announced next (sym (ap is_sequenced flow) ∙ numbered) (runs numbered) in
+            let is = number_is last numbered c.1 in
+            let sent = c.0.sent in
+            same_side next (unwrap_or (peer_last reader) 0 + 1) (omega (arith, level, told, is, sent) ∙ sym (ap (λ (o : Option ℕ). unwrap_or o 0 + 1) e)) k
+
+        announced : (next : ℕ) → is_sequenced own ≡ true
+            → Runs own (exactly (live_number x reader)) (to_come reader.connection.requester) (said (sequence next) ∷ left) (writer.recorded.sent + 1) (served writer.connection.serving) → live_number x reader ≡ next
+        announced next numbered r = told_of (is_sequenced own) next numbered r.0.0
+          where
+            told_of : (b : Bool) (next : ℕ) → b ≡ true → IfSome (if b then Some next else None) (λ n. live_number x reader ≡ n) → live_number x reader ≡ next
+            told_of true next e h = h
+            told_of false next e h = absurd (true≢false (sym e))
+    by_piece (said (finished_sending id l)) a runs live late =
+        let one = first (is_sequenced x.config.peer_flow) _ late in
+        let r = (runs one.0).1 in
+        let c = a.told (omega arith) in
+        let n = named x own h (said (finished_sending id l)) (finished_last x l) flow a.names.0 refl in
+        let is = number_is (finished_last x l) one.0 n.1 in
+        let level = live_level own (live_number x reader) (to_come reader.connection.requester) left (writer.recorded.sent + 1) (served writer.connection.serving) (known (peer_last reader) + 1) (omega arith) r
+        (subst (λ (b : Bool). NoneLive (known (peer_last reader) + 1) b left) (sym (to_come_some reader.connection.requester)) live.1) in
+        let sent = c.sent in
+        last_so (finished_last x l) (omega (arith, is, level, sent)) (same_last (finished_last x l) one.0 is) one.1
+      where
+        same_last : (last : ℕ) → is_sequenced x.config.peer_flow ≡ true → last ≡ length h → last ≡ unwrap_or (peer_last reader) last
+        same_last last numbered is = by_known (peer_last reader) refl
+          where
+            by_known : (o : Option ℕ) → peer_last reader ≡ o → last ≡ unwrap_or o last
+            by_known None e = refl
+            by_known (Some k) e = is ∙ sym (number_is k numbered (a.learned k (last_of reader.recorded.peer_last reader.connection.peer_finish k e)).1)
+
+        last_so : (last : ℕ) → last + 1 ≡ live_number x reader → last ≡ unwrap_or (peer_last reader) last → not (is_last x reader last) ≡ true → ⊥
+        last_so last number same k =
+            tests (last + 1 == live_number x reader) (last == unwrap_or (peer_last reader) last) (eq-eqb (last + 1) (live_number x reader) number) (eq-eqb last (unwrap_or (peer_last reader) last) same) k
+          where
+            tests : (a b : Bool) → a ≡ true → b ≡ true → not (a && b) ≡ true → ⊥
+            tests true true e d k = true≢false (sym k)
+            tests true false e d k = true≢false (sym d)
+            tests false b e d k = true≢false (sym e)
+    by_piece _ a runs live late = late

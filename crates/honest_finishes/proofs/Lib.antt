@@ -1,0 +1,4 @@
+pub mod Living
+pub mod Behind
+pub mod Meeting
+pub mod Finished

@@ -1,0 +1,33 @@
+-- That no connection of two ends of one session ends by a violation behind a finish, and that time alone ends one by a violation.
+use Rattle.std.specs.Prelude.{⊤, List}
+use Rattle.session_model.specs.Journal.{Entry}
+use Rattle.fixp_shake.specs.declared.violation.Violation.{Violation}
+use Rattle.fixp_shake.specs.declared.violation.Violation.TheVariants.{BadFrame, UnknownTemplate, NotInPhase, OtherSession, WentBack, MissingNext, NumberTooLarge, BadRetransmission, AfterFinish, FlowNone, Silent, HandshakeLate}
+use Rattle.honest_laws.specs.Laws.{IsOfTime, EndsBy}
+use Rattle.honest_laws.specs.Worlds.{World, Step, world_after, AllMayStep}
+use Rattle.honest_numbers.specs.Knowing.{StartsKnown}
+
+-- a violation that is not behind a finish
+abbrev pub NoFinish : Violation → Type 0
+NoFinish (BadFrame at) = ⊤
+NoFinish (UnknownTemplate id) = ⊤
+NoFinish (NotInPhase template phase) = ⊤
+NoFinish (OtherSession template) = ⊤
+NoFinish (WentBack announced expected) = ⊤
+NoFinish (MissingNext template) = ⊤
+NoFinish (NumberTooLarge announced) = ⊤
+NoFinish (BadRetransmission expected found) = ⊤
+NoFinish (AfterFinish last found) = ⊥
+NoFinish (FlowNone template) = ⊤
+NoFinish (Silent last now) = ⊤
+NoFinish (HandshakeLate start now) = ⊤
+
+-- whatever steps come, where each may come
+abbrev pub FinishesHold : Type 0
+FinishesHold = (hi ha : List Entry) (w : World) (steps : List Step) → StartsKnown hi ha w → AllMayStep hi ha w steps
+    → EndsBy NoFinish (world_after w steps).initiator × EndsBy NoFinish (world_after w steps).acceptor
+
+-- with the laws of phases and of numbers no violation is left but those of time
+abbrev pub OnlyTimeEnds : Type 0
+OnlyTimeEnds = (hi ha : List Entry) (w : World) (steps : List Step) → StartsKnown hi ha w → AllMayStep hi ha w steps
+    → EndsBy IsOfTime (world_after w steps).initiator × EndsBy IsOfTime (world_after w steps).acceptor
