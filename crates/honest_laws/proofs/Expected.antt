@@ -1,4 +1,4 @@
--- The laws of the numbers under way in Established.
+-- The laws of the numbers under way.
 use Rattle.std.proofs.Common.{◌≡◌, ◌&&◌, not, Bool, true, None, sym, true≢false}
 use Rattle.fixp_shake.specs.declared.phase.Phase.{Phase}
 use Rattle.fixp_shake.specs.declared.phase.Phase.TheVariants as phases
@@ -10,7 +10,7 @@ use Rattle.fixp_replies.specs.Outcomes.{Outcome, ignores}
 use Rattle.fixp_replies.specs.Replies.{reply_of, answer_of, terminates}
 use Rattle.reply_laws.proofs.Rows.{by_row}
 use Rattle.link_laws.specs.Reading.{incoming_of}
-use Rattle.honest_laws.specs.Numbers.{After, Other, bound_after, ReaderExpects, WriterKeeps}
+use Rattle.honest_laws.specs.Numbers.{After, AfterOther, ReaderExpects, WriterKeeps}
 use Rattle.honest_laws.proofs.Lining.{recoverable_reply, other_reply}
 use Rattle.honest_laws.proofs.Asking.{asks_of}
 use Rattle.honest_laws.proofs.Serving.{serves_as}
@@ -30,8 +30,8 @@ looked_at P x f i now h =
 
 pub reader_expects : ReaderExpects
 reader_expects x f theirs p are now flows = (
-  λ k. looked_at (After f p) x f (incoming_of p) now (recoverable_reply x f theirs p are now flows k),
-  λ k. looked_at (Other (bound_after p f.recorded.inbox_next None)) x f (incoming_of p) now (other_reply x f theirs p are now flows k),
+  λ k. looked_at (After x f p) x f (incoming_of p) now (recoverable_reply x f theirs p are now flows k),
+  λ k. looked_at (AfterOther x f p) x f (incoming_of p) now (other_reply x f theirs p are now flows k),
 )
 
 pub writer_keeps : WriterKeeps

@@ -1,8 +1,9 @@
--- The numbers under way between two ends in Established: what a reader expects, and what a writer's messages make of it.
-use Rattle.std.specs.Prelude.{◌≡◌, ⊤, ℕ, ◌+◌, ◌-◌, ◌≤◌, true, false, List, [], ◌∷◌, Option, Some, None, is_some}
+-- The numbers under way between two ends: what a reader awaits, and what a writer's messages make of it.
+use Rattle.std.specs.Prelude.{◌≡◌, ⊤, ℕ, ◌+◌, ◌-◌, ◌≤◌, Bool, true, false, if◌then◌else◌, List, [], ◌∷◌, Option, Some, None, is_some, unwrap_or, IfSome, IsSome}
 use Rattle.session_model.specs.Journal.{Entry}
 use Rattle.fixp_msgs.specs.declared.numbering.Range.{Range}
-use Rattle.fixp_msgs.specs.Message.{negotiate, negotiation_response, negotiation_reject, establish, establishment_ack, establishment_reject, sequence, unsequenced_heartbeat, retransmit_request, retransmission, retransmit_reject, applied, not_applied, finished_sending, finished_receiving, terminate}
+use Rattle.fixp_msgs.specs.declared.flow.Flow.{Flow}
+use Rattle.fixp_msgs.specs.Message.{Message, negotiate, negotiation_response, negotiation_reject, establish, establishment_ack, establishment_reject, sequence, unsequenced_heartbeat, retransmit_request, retransmission, retransmit_reject, applied, not_applied, finished_sending, finished_receiving, terminate}
 use Rattle.flow_recover.specs.Receiving as receiver_is
 use Rattle.flow_recover.specs.Receiving.{Receiving}
 use Rattle.flow_retrans.specs.declared.request.Request.{Request}
@@ -48,13 +49,34 @@ IsFlowing cfg (said (finished_sending id last)) = (id ≡ cfg.session) × (is_ab
 IsFlowing cfg (said (finished_receiving id)) = id ≡ cfg.session
 IsFlowing cfg (said (terminate id code reason)) = id ≡ cfg.session
 
--- A reader's next live number is at most this, and so many messages of a retransmission are still to come: what each message makes of
--- them. A live message and an announcement move the one, a retransmission the other
-abbrev pub bound_after : Piece → ℕ → Option ℕ → ℕ
-bound_after (entry payload) b None = b + 1
-bound_after (entry payload) b (Some n) = b
-bound_after (said (sequence next)) b l = next
-bound_after (said _) b l = b
+-- what a reader awaits as the number of the next live message: exactly this, once a number was announced on the connection, and
+-- at most this before
+pub data Awaited : Type 0 where
+  exactly : ℕ → Awaited
+  at_most : ℕ → Awaited
+
+-- a number that is announced may be the one awaited
+abbrev pub Allows : Awaited → ℕ → Type 0
+Allows (exactly b) n = b ≡ n
+Allows (at_most b) n = b ≤ n
+
+-- the number of the next live message that a message announces, where the flow of its writer has numbers
+abbrev pub announces : Flow → Piece → Option ℕ
+announces flow (said (establish id timestamp keepalive next credentials)) = if is_sequenced flow then next else None
+announces flow (said (establishment_ack id timestamp keepalive next)) = if is_sequenced flow then next else None
+announces flow (said (sequence next)) = if is_sequenced flow then Some next else None
+announces flow p = None
+
+-- What each message makes of the number of the next live message, and of how many messages of a retransmission are still to come. A
+-- live message and an announcement move the one, a retransmission the other
+abbrev pub live_after : Flow → Piece → ℕ → Option ℕ → ℕ
+live_after flow (entry payload) b None = b + 1
+live_after flow (entry payload) b (Some n) = b
+live_after flow (said m) b l = unwrap_or (announces flow (said m)) b
+
+abbrev pub awaited_after : Flow → Piece → Awaited → Option ℕ → Awaited
+awaited_after flow p (exactly b) l = exactly (live_after flow p b l)
+awaited_after flow p (at_most b) l = if is_some (announces flow p) then exactly (live_after flow p b l) else at_most (live_after flow p b l)
 
 abbrev pub left_after : Piece → Option ℕ → Option ℕ
 left_after (entry payload) None = None
@@ -72,41 +94,52 @@ abbrev pub IsWhole : Option ℕ → Type 0
 IsWhole None = ⊤
 IsWhole (Some n) = n ≡ 0
 
--- an announcement does not go back, and ends a whole retransmission; and no more messages come than belong to it
-abbrev pub Fits : Piece → ℕ → Option ℕ → Type 0
-Fits (entry payload) b l = HasOne l
-Fits (said (sequence next)) b l = (b ≤ next) × IsWhole l
-Fits (said (retransmission id next timestamp count)) b l = l ≡ None
-Fits (said _) b l = ⊤
+-- a Sequence ends a whole retransmission, and none begins in another
+abbrev pub FitsLeft : Message → Option ℕ → Type 0
+FitsLeft (sequence next) l = IsWhole l
+FitsLeft (retransmission id next timestamp count) l = l ≡ None
+FitsLeft _ l = ⊤
 
--- some messages bring a reader from the one pair to the other, and each fits where it stands
-abbrev pub Runs : ℕ → Option ℕ → List Piece → ℕ → Option ℕ → Type 0
-Runs b l [] c m = (b ≤ c) × (l ≡ m)
-Runs b l (p ∷ ps) c m = Fits p b l × Runs (bound_after p b l) (left_after p l) ps c m
+-- an announcement is of a number that may be awaited; and no more messages come than belong to a retransmission
+abbrev pub Fits : Flow → Piece → Awaited → Option ℕ → Type 0
+Fits flow (entry payload) a l = HasOne l
+Fits flow (said m) a l = IfSome (announces flow (said m)) (λ n. Allows a n) × FitsLeft m l
+
+-- Some messages of this flow bring a reader from what it awaits and what is left of a retransmission to this number and to so many, and
+-- each fits where it stands
+abbrev pub Runs : Flow → Awaited → Option ℕ → List Piece → ℕ → Option ℕ → Type 0
+Runs flow a l [] c m = Allows a c × (l ≡ m)
+Runs flow a l (p ∷ ps) c m = Fits flow p a l × Runs flow (awaited_after flow p a l) (left_after p l) ps c m
 
 -- what is served, of a range
 abbrev pub served : Option Range → Option ℕ
 served None = None
 served (Some r) = Some r.count
 
--- a violation that is not of numbers
-abbrev pub NotNumber : Violation → Type 0
-NotNumber (violations.BadFrame at) = ⊤
-NotNumber (violations.UnknownTemplate id) = ⊤
-NotNumber (violations.NotInPhase template phase) = ⊤
-NotNumber (violations.OtherSession template) = ⊤
-NotNumber (violations.WentBack announced expected) = ⊥
-NotNumber (violations.MissingNext template) = ⊤
-NotNumber (violations.NumberTooLarge announced) = ⊥
-NotNumber (violations.BadRetransmission expected found) = ⊤
-NotNumber (violations.AfterFinish last found) = ⊤
-NotNumber (violations.FlowNone template) = ⊤
-NotNumber (violations.Silent last now) = ⊤
-NotNumber (violations.HandshakeLate start now) = ⊤
+-- a message answers the request that is open with all that was asked for, if it is a Retransmission; and it rejects none
+abbrev pub Answers : Request → Piece → Type 0
+Answers q (said (retransmission id next timestamp count)) = (q ≡ requests.Asked (record { from = next; count = count })) × (1 ≤ count)
+Answers q (said (retransmit_reject id timestamp code reason)) = ⊥
+Answers q p = ⊤
 
--- where an outcome ends a connection by a violation, it is none of numbers
-abbrev pub InNumbers : Outcome → Type 0
-InNumbers o = (v : Violation) → o.ending ≡ Some (endings.Violation v) → NotNumber v
+-- a violation that is not of numbers, and where this holds of the message not of a retransmission
+abbrev pub NotNumber : Type 0 → Violation → Type 0
+NotNumber A (violations.BadFrame at) = ⊤
+NotNumber A (violations.UnknownTemplate id) = ⊤
+NotNumber A (violations.NotInPhase template phase) = ⊤
+NotNumber A (violations.OtherSession template) = ⊤
+NotNumber A (violations.WentBack announced expected) = ⊥
+NotNumber A (violations.MissingNext template) = ⊤
+NotNumber A (violations.NumberTooLarge announced) = ⊥
+NotNumber A (violations.BadRetransmission expected found) = A → ⊥
+NotNumber A (violations.AfterFinish last found) = ⊤
+NotNumber A (violations.FlowNone template) = ⊤
+NotNumber A (violations.Silent last now) = ⊤
+NotNumber A (violations.HandshakeLate start now) = ⊤
+
+-- where an outcome ends a connection by a violation, it is such a one
+abbrev pub InNumbers : Type 0 → Outcome → Type 0
+InNumbers A o = (v : Violation) → o.ending ≡ Some (endings.Violation v) → NotNumber A v
 
 -- how many messages of a retransmission are still to come
 abbrev pub to_come : Request → Option ℕ
@@ -131,57 +164,66 @@ pub record Idle (f : Facts) : Type 0 where
   pub even : receiver_is.gap f.connection.receiver ≡ None
   pub none : f.connection.requester ≡ requests.Nothing
 
--- its live number is at most this, and so many messages of a retransmission are still to come to it
-pub record Reaches (f : Facts) (b : ℕ) (l : Option ℕ) : Type 0 where
+-- its live number is this, so many messages of a retransmission are still to come to it, and its inbox awaits no less than this
+pub record Reaches (f : Facts) (least b : ℕ) (l : Option ℕ) : Type 0 where
   pub line : Line f
-  pub bound : f.connection.receiver.live ≤ b
+  pub rises : least ≤ f.recorded.inbox_next
+  pub live : f.connection.receiver.live ≡ b
   pub left : to_come f.connection.requester ≡ l
 
--- a reply that breaks no rule of numbers, and behind which the reader has come so far, where its connection goes on
-pub record Lined (b : ℕ) (l : Option ℕ) (o : Outcome) : Type 0 where
-  pub fine : InNumbers o
-  pub next : o.ending ≡ None → Reaches o.next b l
+-- A reply that breaks no rule of numbers, nor of a retransmission where that holds of the message. Behind it the reader has come so far,
+-- where its connection goes on, and where it ends its inbox awaits what it did
+pub record Lined (A : Type 0) (f : Facts) (b : ℕ) (l : Option ℕ) (o : Outcome) : Type 0 where
+  pub fine : InNumbers A o
+  pub next : o.ending ≡ None → Reaches o.next f.recorded.inbox_next b l
+  pub over : IsSome o.ending → o.next.recorded.inbox_next ≡ f.recorded.inbox_next
 
 -- a message that a reader of a recoverable flow expects, whose numbers are within the limit
 pub record Before (x : Around) (f : Facts) (p : Piece) : Type 0 where
   pub recoverable : is_recoverable x.config.peer_flow ≡ true
   pub line : Line f
-  pub fits : Fits p f.connection.receiver.live (to_come f.connection.requester)
-  pub top : bound_after p f.connection.receiver.live (to_come f.connection.requester) ≤ x.most + 1
+  pub fits : Fits x.config.peer_flow p (at_most f.connection.receiver.live) (to_come f.connection.requester)
+  pub top : live_after x.config.peer_flow p f.connection.receiver.live (to_come f.connection.requester) ≤ x.most + 1
 
 -- the reply to it
-abbrev pub After : Facts → Piece → Outcome → Type 0
-After f p o = Lined (bound_after p f.connection.receiver.live (to_come f.connection.requester)) (left_after p (to_come f.connection.requester)) o
+abbrev pub After : Around → Facts → Piece → Outcome → Type 0
+After x f p o =
+    Lined (Answers f.connection.requester p) f (live_after x.config.peer_flow p f.connection.receiver.live (to_come f.connection.requester))
+    (left_after p (to_come f.connection.requester)) o
 
--- the same of a reader of another flow, which awaits at most this number
+-- the same of a reader of another flow, which awaits this number
 pub record Rests (f : Facts) (b : ℕ) : Type 0 where
   pub idle : Idle f
-  pub bound : f.recorded.inbox_next ≤ b
+  pub next : f.recorded.inbox_next ≡ b
 
-pub record Other (b : ℕ) (o : Outcome) : Type 0 where
-  pub fine : InNumbers o
+pub record Other (A : Type 0) (f : Facts) (b : ℕ) (o : Outcome) : Type 0 where
+  pub fine : InNumbers A o
   pub next : o.ending ≡ None → Rests o.next b
+  pub over : IsSome o.ending → o.next.recorded.inbox_next ≡ f.recorded.inbox_next
 
 -- a message that it expects
 pub record BeforeOther (x : Around) (f : Facts) (p : Piece) : Type 0 where
   pub other : is_recoverable x.config.peer_flow ≡ false
   pub idle : Idle f
-  pub fits : Fits p f.recorded.inbox_next None
-  pub top : bound_after p f.recorded.inbox_next None ≤ x.most + 1
+  pub fits : Fits x.config.peer_flow p (at_most f.recorded.inbox_next) None
+  pub top : live_after x.config.peer_flow p f.recorded.inbox_next None ≤ x.most + 1
 
--- In Established a reader that expects what comes breaks no rule of numbers at it, and expects behind it what the message makes of
--- that, as long as its connection goes on
+abbrev pub AfterOther : Around → Facts → Piece → Outcome → Type 0
+AfterOther x f p o = Other (Answers f.connection.requester p) f (live_after x.config.peer_flow p f.recorded.inbox_next None) o
+
+-- In Established a reader that expects what comes breaks no rule of numbers at it, nor of a retransmission where a Retransmission answers
+-- its request and no request is rejected; and it expects behind it what the message makes of that, as long as its connection goes on
 abbrev pub ReaderExpects : Type 0
 ReaderExpects = (x : Around) (f : Facts) (theirs : EndConfig) (p : Piece) → Peer x.config theirs → is_established f.connection.phase ≡ true → IsFlowing theirs p
-    → (Before x f p → After f p (reply_of x f (incoming_of p)))
-    × (BeforeOther x f p → Other (bound_after p f.recorded.inbox_next None) (reply_of x f (incoming_of p)))
+    → (Before x f p → After x f p (reply_of x f (incoming_of p)))
+    × (BeforeOther x f p → AfterOther x f p (reply_of x f (incoming_of p)))
 
 -- what an end of these facts brings its reader to: one past what was sent, and so many messages of the range that is served
-abbrev pub RunsBetween : Facts → List Piece → Facts → Type 0
-RunsBetween f ps g = Runs (f.recorded.sent + 1) (served f.connection.serving) ps (g.recorded.sent + 1) (served g.connection.serving)
+abbrev pub RunsBetween : Flow → Facts → List Piece → Facts → Type 0
+RunsBetween flow f ps g = Runs flow (exactly (f.recorded.sent + 1)) (served f.connection.serving) ps (g.recorded.sent + 1) (served g.connection.serving)
 
 -- what each reply writes, and each other call where it may come, brings the reader from the one to the other
 abbrev pub WriterKeeps : Type 0
 WriterKeeps =
-    ((x : Around) (f : Facts) (p : Piece) → RunsBetween f (said_all (reply_of x f (incoming_of p)).written) (reply_of x f (incoming_of p)).next)
-    × ((h : List Entry) (s : State) (call : Call) → IsOther h call → MayStand h s call → RunsBetween s.facts (written s (call ∷ [])) (run s (call ∷ [])).facts)
+    ((x : Around) (f : Facts) (p : Piece) → RunsBetween x.config.own_flow f (said_all (reply_of x f (incoming_of p)).written) (reply_of x f (incoming_of p)).next)
+    × ((h : List Entry) (s : State) (call : Call) → IsOther h call → MayStand h s call → RunsBetween s.config.own_flow s.facts (written s (call ∷ [])) (run s (call ∷ [])).facts)

@@ -1,0 +1,4 @@
+pub mod Knowing
+pub mod Numbered
+pub mod Laws
+pub mod Samples
