@@ -30,6 +30,7 @@ use Rattle.honest_laws.specs.Numbers.{exactly, Runs, served, to_come}
 use Rattle.honest_laws.proofs.Finishing.{Finishes, finishes, Learned, IsLate, ComesLate, Moves, moves, last_in, sendings, total, total_append}
 use Rattle.honest_laws.proofs.Telling.{Complete, NamesLast, none_names, Tells}
 use Rattle.honest_laws.proofs.Asking.{turns, inside, coming, is_serving, asks_of}
+use Rattle.honest_laws.proofs.Serving.{by_bool}
 use Rattle.honest_numbers.specs.Knowing.{last_told}
 use Rattle.honest_finishes.proofs.Living.{NoneLive, behind_fewer, none_live_append, said_live, unfinished_live, level_live, live_level}
 
@@ -70,10 +71,6 @@ known_learned f P some h = by_last (peer_last f) refl some
 there_known : (o : Option ℕ) → is_some o ≡ true → 1 ≤ known o
 there_known None e = absurd (true≢false (sym e))
 there_known (Some n) e = omega arith
-
-by_bool : (P : Type 0) (b : Bool) → (b ≡ true → P) → (b ≡ false → P) → P
-by_bool P true t f = t refl
-by_bool P false t f = f refl
 
 -- the last number that a finish names is what its reader takes from it
 named : (x : Around) (own : Flow) (h : List Entry) (p : Piece) (last : ℕ) → x.config.peer_flow ≡ own → NamesLast own (length h) p → last_in x p ≡ Some last → (1 ≤ sendings p) × (last ≡ last_told own h)

@@ -201,7 +201,7 @@ acceptor_does_so s t out ci fi ei outward homeward role d (refusing over bi qi e
 quiet_beginning : (recorded : EndState) (p : Phase) → Quiet (connecting recorded p)
 quiet_beginning recorded p = record { even = no_gap recorded.inbox_next recorded.inbox_next refl; free = refl }
 
-abbrev begun_as : Around → EndState → (initiates negotiated : Bool) → Made
+abbrev pub begun_as : Around → EndState → (initiates negotiated : Bool) → Made
 begun_as x recorded initiates negotiated =
     if not initiates then record { written = []; next = connecting recorded phases.Idle }
     else if negotiated then record { written = opening_establish x (connecting recorded phases.Establishing) ∷ []; next = connecting recorded phases.Establishing }
@@ -282,7 +282,7 @@ holds_meeting w now_i now_a h =
     }
 
 -- what holds with these parts holds with equal ones
-carried : (P : EndConfig → Facts → Option Ending → List Piece → Type 0) {c d : EndConfig} {f g : Facts} {e k : Option Ending} {o r : List Piece} → d ≡ c → g ≡ f → k ≡ e → r ≡ o → P c f e o → P d g k r
+pub carried : (P : EndConfig → Facts → Option Ending → List Piece → Type 0) {c d : EndConfig} {f g : Facts} {e k : Option Ending} {o r : List Piece} → d ≡ c → g ≡ f → k ≡ e → r ≡ o → P c f e o → P d g k r
 carried P {c = c} {d = d} {f = f} {g = g} {e = e} {k = k} {o = o} {r = r} a b m n h =
     subst (λ (u : EndConfig). P u g k r) (sym a) (subst (λ (u : Facts). P c u k r) (sym b) (subst (λ (u : Option Ending). P c f u r) (sym m) (subst (λ (u : List Piece). P c f e u) (sym n) h)))
 
@@ -340,7 +340,7 @@ acceptor_reading w (p ∷ left) at now e h going =
           (asked_by_writer (around s at now) s.facts w.initiator.facts w.initiator.ending p w.homeward left home_asks);
     }
 
-holds_step : (hi ha : List Entry) (w : World) (step : Step) → Holds w → MayStep hi ha w step → Holds (after w step)
+pub holds_step : (hi ha : List Entry) (w : World) (step : Step) → Holds w → MayStep hi ha w step → Holds (after w step)
 holds_step hi ha w (meets now_i now_a) h may = holds_meeting w now_i now_a h
 holds_step hi ha w (initiator_reads at now) h may = initiator_reading w w.homeward at now refl h may
 holds_step hi ha w (acceptor_reads at now) h may = acceptor_reading w w.outward at now refl h may
@@ -385,7 +385,7 @@ nothing_asked f g e way back served comes none no_more =
     subst (λ (ps : List Piece). Requests f g e ps back) (sym none) (subst (λ (ps : List Piece). Requests f g e [] ps) (sym no_more)
     (record { once = omega arith; free = λ _. served; even = λ _ _. comes ∙ sym served }))
 
-holds_at_first : (w : World) → Starts w → Holds w
+pub holds_at_first : (w : World) → Starts w → Holds w
 holds_at_first w st =
     let fi = ap (λ (s : State). s.facts.connection) st.initiator in
     let fa = ap (λ (s : State). s.facts.connection) st.acceptor in

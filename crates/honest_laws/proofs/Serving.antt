@@ -56,7 +56,7 @@ not_coming (requests.Asked range) e = refl
 not_coming (requests.Coming range next left) e = absurd (omega (arith, e))
 
 -- a Bool that is not true
-by_bool : (P : Type 0) (b : Bool) → (b ≡ true → P) → (b ≡ false → P) → P
+pub by_bool : (P : Type 0) (b : Bool) → (b ≡ true → P) → (b ≡ false → P) → P
 by_bool P true t f = t refl
 by_bool P false t f = f refl
 
@@ -145,7 +145,7 @@ served_by_writer s t reader over way back out a c =
       even = λ going yet. inside_append (coming reader) way out ∙ (ap (λ b. inside b out) (a.even going yet) ∙ c.serves);
     }
 
-was_none : {A B : Type 0} (before : Option A) (later : Option B) → (IsSome before → IsSome later) → later ≡ None → before ≡ None
+pub was_none : {A B : Type 0} (before : Option A) (later : Option B) → (IsSome before → IsSome later) → later ≡ None → before ≡ None
 was_none None later over e = refl
 was_none (Some b) None over e = absurd (true≢false (sym (over refl)))
 was_none (Some b) (Some k) over e = absurd cc
