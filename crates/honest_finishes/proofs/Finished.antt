@@ -24,7 +24,7 @@ use Rattle.honest_laws.specs.Worlds.{World, Step, meets, initiator_reads, accept
 use Rattle.honest_laws.proofs.Finishing.{moves}
 use Rattle.honest_laws.proofs.Telling.{tells_as}
 use Rattle.honest_laws.proofs.Serving.{serves_as, was_none}
-use Rattle.honest_laws.proofs.Moving.{reads_as, does_as, ends_later}
+use Rattle.honest_laws.proofs.Moving.{reads_as, does_as, ends_still}
 use Rattle.honest_laws.proofs.Phased.{Holds, carried, holds_step, holds_at_first, phases_hold}
 use Rattle.honest_numbers.specs.Knowing.{StartsKnown}
 use Rattle.honest_numbers.specs.Laws.{NoNumber}
@@ -175,7 +175,7 @@ ends_step hi ha w (initiator_does call) holds numbers h may =
       outward = subst (λ (c : EndConfig). Behind c.own_flow hi t.facts w.acceptor.facts w.acceptor.ending (w.outward ++ written s (call ∷ []))) (sym d.config)
           (told_behind s.config.own_flow hi s.facts t.facts w.acceptor.facts w.acceptor.ending w.outward (written s (call ∷ [])) h.outward holds.outward_requests.even tells serves.runs);
       homeward = kept_behind w.acceptor.config.own_flow ha w.acceptor.facts s.facts t.facts s.ending t.ending w.homeward (was_none s.ending t.ending d.over) serves.closing serves.requester h.homeward tells;
-      initiator = ends_later NoFinish s t time_fine d.ends h.initiator;
+      initiator = ends_still NoFinish s t d.ends time_fine h.initiator;
       acceptor = h.acceptor;
     }
 ends_step hi ha w (acceptor_does call) holds numbers h may =
@@ -189,7 +189,7 @@ ends_step hi ha w (acceptor_does call) holds numbers h may =
       homeward = subst (λ (c : EndConfig). Behind c.own_flow ha t.facts w.initiator.facts w.initiator.ending (w.homeward ++ written s (call ∷ []))) (sym d.config)
           (told_behind s.config.own_flow ha s.facts t.facts w.initiator.facts w.initiator.ending w.homeward (written s (call ∷ [])) h.homeward holds.homeward_requests.even tells serves.runs);
       initiator = h.initiator;
-      acceptor = ends_later NoFinish s t time_fine d.ends h.acceptor;
+      acceptor = ends_still NoFinish s t d.ends time_fine h.acceptor;
     }
 
 ends_after : (hi ha : List Entry) (w : World) (steps : List Step) → Reached hi ha w → Holds w → Ends hi ha w → AllMayStep hi ha w steps → Ends hi ha (world_after w steps)

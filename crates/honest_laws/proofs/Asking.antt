@@ -378,9 +378,9 @@ following x f next a u =
     by_row (Asks x f 0 0 Never) (is_past_finish x g next) (breaks x g (AfterFinish (unwrap_or (peer_last g) 0) next)) (sequence_taken x a)
     (λ _. ending x f g 0 0 Never 2 _ (omega (arith, same)) (λ _ one. e.keeps one) refl refl)
     (λ _. by_row (Asks x f 0 0 Never) (is_filled a.facts) (answers_finish x a.facts (unwrap_or (awaits_gap a.facts.connection.peer_finish) 0)) (goes_on x (skip_of a.skipped) (told_skip a.skipped) a.facts)
-    (λ _. going x f (peer_finished a.facts _ _) 0 0 Never _ (finished_receiving x.config.session ∷ []) refl (omega (arith, same, here)) (λ _ one. u.requester ∙ e.keeps one) (omega arith)
+    (λ _. going x f (peer_finished a.facts (peer.Exchanged (unwrap_or (awaits_gap a.facts.connection.peer_finish) 0)) (Some (unwrap_or a.facts.recorded.peer_last (unwrap_or (awaits_gap a.facts.connection.peer_finish) 0)))) 0 0 Never _ (finished_receiving x.config.session ∷ []) refl (omega (arith, same, here)) (λ _ one. u.requester ∙ e.keeps one) (omega arith)
     (ap (λ q. request_is.is_coming q) u.requester ∙ e.comes) (sym (ap (λ r. is_some r) u.serving))
-    (runs_told x.config.own_flow f (peer_finished a.facts _ _) (said_all (finished_receiving x.config.session ∷ [])) u.serving u.sent (λ l. same_number (f.recorded.sent + 1) l)))
+    (runs_told x.config.own_flow f (peer_finished a.facts (peer.Exchanged (unwrap_or (awaits_gap a.facts.connection.peer_finish) 0)) (Some (unwrap_or a.facts.recorded.peer_last (unwrap_or (awaits_gap a.facts.connection.peer_finish) 0)))) (said_all (finished_receiving x.config.session ∷ [])) u.serving u.sent (λ l. same_number (f.recorded.sent + 1) l)))
     (λ _. let p = skip_plain x.config.own_flow (f.recorded.sent + 1) a.skipped in let n = p.no_restart in
     going x f a.facts 0 0 Never (skip_of a.skipped) (told_skip a.skipped) p.no_request (omega (arith, same, here)) (λ _ one. u.requester ∙ e.keeps one) (omega (arith, n))
     (ap (λ q. request_is.is_coming q) u.requester ∙ e.comes) (p.no_turn (is_serving f) ∙ sym (ap (λ r. is_some r) u.serving))

@@ -110,8 +110,8 @@ ending : (x : Around) (A : Type 0) (f g : Facts) (code : ℕ) (v : Violation) (b
 ending x A f g code v b l same h = record { fine = λ w e. fine_of A (finishes_exchanged x g) v w e h; next = λ none. absurd cc; over = λ _. same }
 
 bad : (x : Around) (A : Type 0) (f : Facts) (k : Option BadStart) (b : ℕ) (l : Option ℕ) → is_some k ≡ true → (A → ⊥) → Lined A f b l (bad_retransmission x f k)
-bad x A f None b l some no = absurd (true≢false (sym some))
-bad x A f (Some k) b l some no = ending x A f f 2 _ b l refl no
+bad x A f None b l some wrong = absurd (true≢false (sym some))
+bad x A f (Some k) b l some wrong = ending x A f f 2 _ b l refl wrong
 
 refusing : (x : Around) (A : Type 0) (f g : Facts) (v : Option Violation) (b : ℕ) (l : Option ℕ) → g.recorded.inbox_next ≡ f.recorded.inbox_next → is_some v ≡ true → ((w : Violation) → v ≡ Some w → NotNumber A w)
     → Lined A f b l (refuses x g v)
@@ -163,7 +163,7 @@ is_whole : (q : Request) → IsWhole (to_come q) → is_some (request_is.sequenc
 is_whole requests.Nothing whole some = true≢false (sym some)
 is_whole (requests.Asked range) whole some = true≢false (sym some)
 is_whole (requests.Coming range next left) whole some =
-    true≢false (sym (ap (λ b. is_some {T = BadStart} (if b then None else Some (record { expected = next; found = 0 }))) (eq-eqb left 0 whole)) ∙ some)
+    true≢false (sym some ∙ ap (λ b. is_some {T = BadStart} (if b then None else Some (record { expected = next; found = 0 }))) (eq-eqb left 0 whole))
 
 -- one message more is counted
 record Counted (next live : ℕ) (l : Option ℕ) (b : ℕ) (r : Receiving) (q : Request) : Type 0 where
@@ -445,7 +445,7 @@ recoverable_reply x f theirs (said (retransmit_reject id timestamp code reason))
     heard (Stays ⊥ f) x f (session (retransmit_reject id timestamp code reason)) (
       foreign x id (flows ∙ are.session),
       λ _.
-          decides_within (Stays ⊥ f) (is_established f.connection.phase) (retransmit_reject_rows x f) now (λ _. stopping x ⊥ f 2 _ (λ no. no), λ e. absurd (true≢false e)),
+          decides_within (Stays ⊥ f) (is_established f.connection.phase) (retransmit_reject_rows x f) now (λ _. stopping x ⊥ f 2 _ (λ wrong. wrong), λ e. absurd (true≢false e)),
     )
 recoverable_reply x f theirs (said (applied first count)) are now flows k = passing x ⊤ f f acts.Nothing [] k.line refl refl refl
 recoverable_reply x f theirs (said (not_applied first count)) are now flows k =
@@ -598,8 +598,8 @@ never_starts : (q : Request) (next count : ℕ) → q ≡ requests.Nothing → i
 never_starts q next count e = ap (λ k. is_some (request_is.start_fault (request_is.outstanding k) next count)) e
 
 bad_other : (x : Around) (A : Type 0) (f : Facts) (k : Option BadStart) (b : ℕ) → is_some k ≡ true → (A → ⊥) → Other A f b (bad_retransmission x f k)
-bad_other x A f None b some no = absurd (true≢false (sym some))
-bad_other x A f (Some k) b some no = stops x A f f 2 _ b refl no
+bad_other x A f None b some wrong = absurd (true≢false (sym some))
+bad_other x A f (Some k) b some wrong = stops x A f f 2 _ b refl wrong
 
 nothing_asked : (q : Request) (r : Range) → q ≡ requests.Nothing → q ≡ requests.Asked r → ⊥
 nothing_asked q r e k = cc (e, k)
@@ -642,7 +642,7 @@ other_reply x f theirs (said (retransmit_reject id timestamp code reason)) are n
     heard (StaysOther ⊥ f) x f (session (retransmit_reject id timestamp code reason)) (
       foreign x id (flows ∙ are.session),
       λ _.
-          decides_within (StaysOther ⊥ f) (is_established f.connection.phase) (retransmit_reject_rows x f) now (λ _. stopping_other x ⊥ f 2 _ (λ no. no), λ e. absurd (true≢false e)),
+          decides_within (StaysOther ⊥ f) (is_established f.connection.phase) (retransmit_reject_rows x f) now (λ _. stopping_other x ⊥ f 2 _ (λ wrong. wrong), λ e. absurd (true≢false e)),
     )
 other_reply x f theirs (said (applied first count)) are now flows k = passing_other x ⊤ f f acts.Nothing [] k.idle refl refl refl
 other_reply x f theirs (said (not_applied first count)) are now flows k =

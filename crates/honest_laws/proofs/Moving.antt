@@ -13,7 +13,7 @@ use Rattle.fixp_msgs.specs.declared.flow.Flow.TheVariants as flows
 use Rattle.fixp_shake.specs.declared.config.EndConfig.{EndConfig}
 use Rattle.fixp_shake.specs.declared.phase.Phase.TheVariants as phases
 use Rattle.fixp_shake.specs.declared.violation.Violation.{Violation}
-use Rattle.fixp_shake.specs.declared.violation.Violation.TheVariants.{BadFrame, UnknownTemplate, NotInPhase, OtherSession, WentBack, MissingNext, NumberTooLarge, BadRetransmission, AfterFinish, FlowNone, Silent, HandshakeLate}
+use Rattle.fixp_shake.specs.declared.violation.Violation.TheVariants.{Silent, HandshakeLate}
 use Rattle.fixp_shake.specs.Flows.{is_recoverable, is_sequenced, is_absent}
 use Rattle.fixp_shake.specs.Phases.{is_established, is_shaken}
 use Rattle.fixp_replies.specs.declared.act.Ending.TheVariants as endings
@@ -29,7 +29,7 @@ use Rattle.reply_laws.specs.Machine.{State, Call, begin, frame, bad_frame, did, 
 use Rattle.connection_laws.specs.Writing.{Piece, said_all, entries, said_with, said_breaking, range_closed, written_again, writes}
 use Rattle.connection_laws.specs.Standing.{MayStand}
 use Rattle.link_laws.specs.Reading.{incoming_of}
-use Rattle.honest_laws.specs.Laws.{IsLeft, IsOfTime, EndsBy}
+use Rattle.honest_laws.specs.Laws.{IsOfTime, EndsBy}
 use Rattle.honest_laws.specs.Worlds.{reading, written, IsOther}
 use Rattle.honest_laws.proofs.Shapes.{IsFree, all_free_flow}
 use Rattle.honest_laws.proofs.Opening.{Quiet}
@@ -42,6 +42,7 @@ pub record Reads (s : State) (o : Outcome) (t : State) (out : List Piece) : Type
   pub facts : t.facts ≡ o.next
   pub ending : t.ending ≡ o.ending
   pub writes : out ≡ said_all o.written
+  pub most : t.most ≡ s.most
 
 abbrev framed : Bool → State → Outcome → ℕ → State
 framed b s o now =
@@ -55,34 +56,20 @@ reads_as s p at now = by_case (is_record o.act)
     o = reply_of (around s at now) s.facts (incoming_of p)
 
     by_case : (b : Bool) → Reads s o (done_pending (framed b s o now) (framed b s o now).pending now) ((if b then [] else said_all o.written) ++ (said_all (said_with (framed b s o now).pending) ++ []))
-    by_case true = record { config = refl; facts = refl; ending = refl; writes = append-nil (said_all o.written) }
-    by_case false = record { config = refl; facts = refl; ending = refl; writes = append-nil (said_all o.written) }
+    by_case true = record { config = refl; facts = refl; ending = refl; writes = append-nil (said_all o.written); most = refl }
+    by_case false = record { config = refl; facts = refl; ending = refl; writes = append-nil (said_all o.written); most = refl }
 
--- a violation by which a connection has ended then is of time, or it ended by it before
-abbrev pub EndsLater : State → State → Type 0
-EndsLater s t = (v : Violation) → t.ending ≡ Some (endings.Violation v) → (s.ending ≡ Some (endings.Violation v)) ⊎ IsOfTime v
+-- a violation that ended a connection ended it before, or is of time
+abbrev pub EndsNewly : State → State → Type 0
+EndsNewly s t = (v : Violation) → t.ending ≡ Some (endings.Violation v) → (s.ending ≡ Some (endings.Violation v)) ⊎ IsOfTime v
 
--- so it is one of those that it may be
-pub ends_later : (P : Violation → Type 0) (s t : State) → ((v : Violation) → IsOfTime v → P v) → EndsLater s t → EndsBy P s → EndsBy P t
-ends_later P s t time later before v e = by_case (later v e)
+-- so one of some kind that has those of time stays one of that kind
+pub ends_still : (P : Violation → Type 0) (s t : State) → EndsNewly s t → ((v : Violation) → IsOfTime v → P v) → EndsBy P s → EndsBy P t
+ends_still P s t newly of_time h v e = by_case (newly v e)
   where
     by_case : (s.ending ≡ Some (endings.Violation v)) ⊎ IsOfTime v → P v
-    by_case (inl was) = before v was
-    by_case (inr of_time) = time v of_time
-
-pub time_left : (v : Violation) → IsOfTime v → IsLeft v
-time_left (Silent last now) h = tt
-time_left (HandshakeLate start now) h = tt
-time_left (BadFrame at) h = absurd h
-time_left (UnknownTemplate id) h = absurd h
-time_left (NotInPhase template phase) h = absurd h
-time_left (OtherSession template) h = absurd h
-time_left (WentBack announced expected) h = tt
-time_left (MissingNext template) h = absurd h
-time_left (NumberTooLarge announced) h = tt
-time_left (BadRetransmission expected found) h = tt
-time_left (AfterFinish last found) h = tt
-time_left (FlowNone template) h = absurd h
+    by_case (inl before) = h v before
+    by_case (inr late) = of_time v late
 
 -- any other call, as far as phases go
 pub record Does (s t : State) (out : List Piece) : Type 0 where
@@ -92,11 +79,11 @@ pub record Does (s t : State) (out : List Piece) : Type 0 where
   pub accepts : is_initiator s.config.role ≡ false → t.facts.connection.phase ≡ s.facts.connection.phase
   pub serves : is_recoverable s.config.own_flow ≡ false → s.facts.connection.serving ≡ None → t.facts.connection.serving ≡ None
   pub over : IsSome s.ending → IsSome t.ending
-  pub ends : EndsLater s t
+  pub ends : EndsNewly s t
 
 -- nothing of the connection changes, and only free messages are written
 does_free : (s t : State) (out : List Piece) → t.config ≡ s.config → t.facts.connection ≡ s.facts.connection → AllByRecursion (IsFree s.config) out → (IsSome s.ending → IsSome t.ending)
-    → EndsLater s t → Does s t out
+    → EndsNewly s t → Does s t out
 does_free s t out c e a over ends = record {
   config = c;
   before = λ _ _. (e, a);
@@ -111,7 +98,7 @@ does_free s t out c e a over ends = record {
 does_flowing : (s t : State) (out : List Piece) → is_shaken s.facts.connection.phase ≡ true → t.config ≡ s.config → is_shaken t.facts.connection.phase ≡ true
     → (is_initiator s.config.role ≡ false → t.facts.connection.phase ≡ s.facts.connection.phase)
     → (is_recoverable s.config.own_flow ≡ false → s.facts.connection.serving ≡ None → t.facts.connection.serving ≡ None)
-    → AllByRecursion (IsFlowing s.config) out → (IsSome s.ending → IsSome t.ending) → EndsLater s t → Does s t out
+    → AllByRecursion (IsFlowing s.config) out → (IsSome s.ending → IsSome t.ending) → EndsNewly s t → Does s t out
 does_flowing s t out k c e role serves a over ends = record {
   config = c;
   before = λ n _. absurd (true≢false (sym k ∙ n));
@@ -206,15 +193,15 @@ ticking s now = by_end (is_some s.ending) refl
             → Does s (broken_by beat v now) (said_all (heartbeats x s.facts s.last_sent s.unsent ++ said_breaking s v now))
         by_beat (inl none) = does_free s (broken_by beat v now) _ b.config (ap (λ f. f.connection) b.facts)
             (subst (λ (ms : List Message). AllByRecursion (IsFree s.config) (said_all (ms ++ said_breaking s v now))) (sym none) (breaks_free s v now))
-            (not_over s.ending e) (λ w is. inr (b.ends w is))
+            (not_over s.ending e) (λ w k. inr (b.ends w k))
         by_beat (inr (k, a)) = does_flowing s (broken_by beat v now) _ k b.config (ap (λ f. is_shaken f.connection.phase) b.facts ∙ k) (λ _. ap (λ f. f.connection.phase) b.facts)
             (λ _ h. ap (λ f. f.connection.serving) b.facts ∙ h)
             (said_more s.config IsFlowing (heartbeats x s.facts s.last_sent s.unsent) (said_breaking s v now) a (all_free_flow s.config (said_all (said_breaking s v now)) (breaks_free s v now)))
-            (not_over s.ending e) (λ w is. inr (b.ends w is))
+            (not_over s.ending e) (λ w k. inr (b.ends w k))
 
     by_end : (b : Bool) → is_some s.ending ≡ b
         → Does s (if b then record s { moment = now } else broken_by beat v now) (if b then [] else said_all (heartbeats x s.facts s.last_sent s.unsent ++ said_breaking s v now))
-    by_end true e = does_free s (record s { moment = now }) [] refl refl tt (λ h. h) (λ v is. inl is)
+    by_end true e = does_free s (record s { moment = now }) [] refl refl tt (λ h. h) (λ v e. inl e)
     by_end false e = going e
 
 applied_free : (cfg : EndConfig) (runs : List Range) → AllByRecursion (IsFree cfg) (said_all (applied_runs runs))
@@ -239,17 +226,17 @@ turning s now = by_end (is_some s.ending) refl
         let four = fourth (is_initiator s.config.role) (is_established s.facts.connection.phase) (finishes_exchanged x s.facts) (is_none s.facts.connection.serving) e in
         does_flowing s (behind (turned true x s.facts (runs_of s.untold))) _ (is_done s.facts.connection.phase four.1) refl refl (λ n. absurd (true≢false (sym four.0 ∙ n))) (λ _ h. h)
         (said_more s.config IsFlowing (applied_runs (runs_of s.untold)) (terminate s.config.session 1 [] ∷ []) (all_free_flow s.config (said_all (applied_runs (runs_of s.untold))) (applied_free s.config (runs_of s.untold))) (refl, tt))
-        (λ h. h) (λ v is. inl is)
+        (λ h. h) (λ v e. inl e)
       where
         fourth : (a b c d : Bool) → (a && b && c && d) ≡ true → (a ≡ true) × (b ≡ true)
         fourth true true c d e = (refl, refl)
         fourth true false c d e = absurd (true≢false (sym e))
         fourth false b c d e = absurd (true≢false (sym e))
-    by_close false e = does_free s (behind (turned false x s.facts (runs_of s.untold))) _ refl refl (applied_free s.config (runs_of s.untold)) (λ h. h) (λ v is. inl is)
+    by_close false e = does_free s (behind (turned false x s.facts (runs_of s.untold))) _ refl refl (applied_free s.config (runs_of s.untold)) (λ h. h) (λ v e. inl e)
 
     by_end : (b : Bool) → is_some s.ending ≡ b
         → Does s (if b then record s { moment = now } else behind (turn_ended x s.facts (runs_of s.untold))) (if b then [] else said_all (turn_ended x s.facts (runs_of s.untold)).written)
-    by_end true e = does_free s (record s { moment = now }) [] refl refl tt (λ h. h) (λ v is. inl is)
+    by_end true e = does_free s (record s { moment = now }) [] refl refl tt (λ h. h) (λ v e. inl e)
     by_end false e = by_close (closes x s.facts) refl
 
 -- the outbox's finish
@@ -275,17 +262,17 @@ finishing s last now = by_end (is_some s.ending) refl
     by_test true e =
         let two = first_two (is_absent s.config.own_flow) (is_established s.facts.connection.phase) (is_open s.facts.connection.own_finish) (s.facts.recorded.sent == last) (is_none s.facts.connection.serving) e in
         does_flowing s (behind (told true x s.facts last)) _ (is_done s.facts.connection.phase two.1) refl (is_done s.facts.connection.phase two.1) (λ _. refl) (λ _ h. h)
-        ((refl, two.0, λ n. last_given (is_sequenced s.config.own_flow) last n), tt) (λ h. h) (λ v is. inl is)
+        ((refl, two.0, λ n. last_given (is_sequenced s.config.own_flow) last n), tt) (λ h. h) (λ v e. inl e)
       where
         first_two : (a b c d e : Bool) → (not a && b && c && d && e) ≡ true → (a ≡ false) × (b ≡ true)
         first_two false true c d e t = (refl, refl)
         first_two false false c d e t = absurd (true≢false (sym t))
         first_two true b c d e t = absurd (true≢false (sym t))
-    by_test false e = does_free s (behind (told false x s.facts last)) [] refl refl tt (λ h. h) (λ v is. inl is)
+    by_test false e = does_free s (behind (told false x s.facts last)) [] refl refl tt (λ h. h) (λ v e. inl e)
 
     by_end : (b : Bool) → is_some s.ending ≡ b
         → Does s (if b then record s { moment = now; facts = outbox_finished s.facts last } else behind (finish_told x s.facts last)) (if b then [] else said_all (finish_told x s.facts last).written)
-    by_end true e = does_free s (record s { moment = now; facts = outbox_finished s.facts last }) [] refl refl tt (λ h. h) (λ v is. inl is)
+    by_end true e = does_free s (record s { moment = now; facts = outbox_finished s.facts last }) [] refl refl tt (λ h. h) (λ v e. inl e)
     by_end false e = by_test (tells_finish x s.facts last) refl
 
 cut : (s : State) → Does s (step s link_end) []
@@ -299,8 +286,8 @@ cut s = by_end (is_some s.ending) refl
     no_violation false v e = absurd cc
 
     by_end : (b : Bool) → is_some s.ending ≡ b → Does s (if b then s else ended) []
-    by_end true e = does_free s s [] refl refl tt (λ h. h) (λ v is. inl is)
-    by_end false e = does_free s ended [] refl refl tt (λ _. refl) (λ v is. inr (no_violation (finishes_exchanged (around s 0 s.moment) s.facts) v is))
+    by_end true e = does_free s s [] refl refl tt (λ h. h) (λ v e. inl e)
+    by_end false e = does_free s ended [] refl refl tt (λ _. refl) (λ v e. inr (no_violation (finishes_exchanged (around s 0 s.moment) s.facts) v e))
 
 entries_flow : (cfg : EndConfig) (payloads : List (List ℕ)) → is_absent cfg.own_flow ≡ false → AllByRecursion (IsFlowing cfg) (entries payloads)
 entries_flow cfg [] e = tt
@@ -331,7 +318,7 @@ resending s (Some r) range payloads now same e serves = record {
   accepts = λ _. refl;
   serves = λ n h. absurd (cc (h, same));
   over = λ h. h;
-  ends = λ v is. inl is;
+  ends = λ v e. inl e;
 }
 
 -- each call that may come
@@ -347,10 +334,10 @@ does_call h s (closed last now) other may serves = finishing s last now
 does_call h s link_end other may serves = cut s
 does_call h s (live payloads now) other may serves =
     does_flowing s (step s (live payloads now)) (entries payloads) (is_done s.facts.connection.phase may.comes.established) refl (is_done s.facts.connection.phase may.comes.established) (λ _. refl) (λ _ n. n)
-    (entries_flow s.config payloads may.comes.flow) (λ k. k) (λ v is. inl is)
+    (entries_flow s.config payloads may.comes.flow) (λ k. k) (λ v e. inl e)
 does_call h s (again payloads now) other may serves = resending s s.facts.connection.serving may.comes.range payloads now refl may.comes.serves serves
-does_call h s (taken count) other may serves = does_free s (step s (taken count)) [] refl refl tt (λ k. k) (λ v is. inl is)
-does_call h s reserve other may serves = does_free s (step s reserve) [] refl refl tt (λ k. k) (λ v is. inl is)
+does_call h s (taken count) other may serves = does_free s (step s (taken count)) [] refl refl tt (λ k. k) (λ v e. inl e)
+does_call h s reserve other may serves = does_free s (step s reserve) [] refl refl tt (λ k. k) (λ v e. inl e)
 
 pub does_as : (h : List Entry) (s : State) (call : Call) → IsOther h call → MayStand h s call → (is_recoverable s.config.own_flow ≡ false → s.facts.connection.serving ≡ None)
     → Does s (run s (call ∷ [])) (written s (call ∷ []))

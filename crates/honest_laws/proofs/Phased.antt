@@ -11,6 +11,7 @@ use Rattle.fixp_shake.specs.declared.config.EndConfig.{EndConfig}
 use Rattle.fixp_shake.specs.declared.phase.Phase.{Phase}
 use Rattle.fixp_shake.specs.declared.phase.Phase.TheVariants as phases
 use Rattle.fixp_shake.specs.declared.violation.Violation.{Violation}
+use Rattle.fixp_shake.specs.declared.violation.Violation.TheVariants.{BadFrame, UnknownTemplate, NotInPhase, OtherSession, WentBack, MissingNext, NumberTooLarge, BadRetransmission, AfterFinish, FlowNone, Silent, HandshakeLate}
 use Rattle.fixp_shake.specs.Flows.{is_recoverable, is_sequenced}
 use Rattle.fixp_shake.specs.Phases.{is_idle, is_shaken}
 use Rattle.fixp_replies.specs.declared.act.Ending.{Ending}
@@ -28,7 +29,7 @@ use Rattle.connection_laws.specs.Writing.{Piece, said_all, WritesOwn, nothing, s
 use Rattle.connection_laws.specs.Standing.{IsOpen}
 use Rattle.connection_laws.proofs.Replied.{frame_writes}
 use Rattle.link_laws.specs.Reading.{incoming_of}
-use Rattle.honest_laws.specs.Laws.{IsLeft, PhasesHold}
+use Rattle.honest_laws.specs.Laws.{IsLeft, IsOfTime, PhasesHold}
 use Rattle.honest_laws.specs.Worlds.{World, Step, meets, initiator_reads, acceptor_reads, initiator_does, acceptor_does, written, after, initiator_read, acceptor_read, MayStep, world_after, AllMayStep, Match, Starts}
 use Rattle.honest_laws.proofs.Shapes.{IsFree, IsAsk, IsAnswer, OneAtMost, AckFirst, one_behind, one_before, ack_behind, ack_before, all_free_flow, free_flows}
 use Rattle.honest_laws.proofs.Replying.{Left, shaken_reply}
@@ -37,7 +38,7 @@ use Rattle.honest_laws.proofs.Asking.{asks, restarts, inside, coming, is_serving
 use Rattle.honest_laws.proofs.Serving.{Requests, asked_by_reader, asked_by_writer, free_for, served_by_writer, served_by_reader, serves_as}
 use Rattle.honest_laws.proofs.Finishing.{counts, total, sendings, answers as answer_count, waiting, reads, tells}
 use Rattle.honest_laws.proofs.Telling.{Awaits, read_by_reader, read_by_writer, due, told_by_writer, told_by_reader, tells_as}
-use Rattle.honest_laws.proofs.Moving.{reads_as, Does, does_as, ends_later, time_left}
+use Rattle.honest_laws.proofs.Moving.{reads_as, Does, does_as, ends_still}
 use Rattle.honest_laws.specs.Numbers.{IsFlowing, Peer, served}
 
 -- How far the two ends are: the handshake is asked for or answered, or neither is under way; it is acknowledged; it is done; or the
@@ -69,10 +70,10 @@ pub record Holds (w : World) : Type 0 where
   pub outward_requests : Requests w.initiator.facts w.acceptor.facts w.acceptor.ending w.outward w.homeward
   pub homeward_requests : Requests w.acceptor.facts w.initiator.facts w.initiator.ending w.homeward w.outward
 
-to_acceptor : (i a : EndConfig) → Match i a → Peer a i
+pub to_acceptor : (i a : EndConfig) → Match i a → Peer a i
 to_acceptor i a m = record { session = sym m.session; flow = m.outward }
 
-to_initiator : (i a : EndConfig) → Match i a → Peer i a
+pub to_initiator : (i a : EndConfig) → Match i a → Peer i a
 to_initiator i a m = record { session = m.session; flow = m.homeward }
 
 -- an own flow that is not recoverable serves nothing after any reply
@@ -197,6 +198,21 @@ acceptor_does_so s t out ci fi ei outward homeward role d (standing done est out
     standing done (d.accepts role ∙ est) out_flows (all_append (IsFlowing s.config) homeward out home (d.done (ap (λ q. is_shaken q) est)).1)
 acceptor_does_so s t out ci fi ei outward homeward role d (refusing over bi qi est free) = refusing over bi qi (d.accepts role ∙ est) free
 
+-- those of time are left
+time_left : (v : Violation) → IsOfTime v → IsLeft v
+time_left (BadFrame at) t = absurd t
+time_left (UnknownTemplate id) t = absurd t
+time_left (NotInPhase template phase) t = absurd t
+time_left (OtherSession template) t = absurd t
+time_left (WentBack announced expected) t = absurd t
+time_left (MissingNext template) t = absurd t
+time_left (NumberTooLarge announced) t = absurd t
+time_left (BadRetransmission expected found) t = absurd t
+time_left (AfterFinish last found) t = absurd t
+time_left (FlowNone template) t = absurd t
+time_left (Silent last now) t = tt
+time_left (HandshakeLate start now) t = tt
+
 -- a connection begins
 quiet_beginning : (recorded : EndState) (p : Phase) → Quiet (connecting recorded p)
 quiet_beginning recorded p = record { even = no_gap recorded.inbox_next recorded.inbox_next refl; free = refl }
@@ -266,7 +282,7 @@ unasked m n a b =
       even = λ _ _. ap (λ c. inside c (said_all m.written)) b.none_coming ∙ (a.stays ∙ sym a.none_served);
     }
 
-holds_meeting : (w : World) (now_i now_a : ℕ) → Holds w → Holds (after w (meets now_i now_a))
+pub holds_meeting : (w : World) (now_i now_a : ℕ) → Holds w → Holds (after w (meets now_i now_a))
 holds_meeting w now_i now_a h =
     let i = initiator_begins (around w.initiator 0 now_i) w.initiator.facts.recorded (ap (λ r. is_initiator r) h.matches.initiates) in
     let a = acceptor_begins (around w.acceptor 0 now_a) w.acceptor.facts.recorded (ap (λ r. is_initiator r) h.matches.accepts) in
@@ -286,7 +302,7 @@ pub carried : (P : EndConfig → Facts → Option Ending → List Piece → Type
 carried P {c = c} {d = d} {f = f} {g = g} {e = e} {k = k} {o = o} {r = r} a b m n h =
     subst (λ (u : EndConfig). P u g k r) (sym a) (subst (λ (u : Facts). P c u k r) (sym b) (subst (λ (u : Option Ending). P c f u r) (sym m) (subst (λ (u : List Piece). P c f e u) (sym n) h)))
 
-initiator_reading : (w : World) (way : List Piece) (at now : ℕ) → w.homeward ≡ way → Holds w → IsOpen w.initiator → Holds (initiator_read w way at now)
+pub initiator_reading : (w : World) (way : List Piece) (at now : ℕ) → w.homeward ≡ way → Holds w → IsOpen w.initiator → Holds (initiator_read w way at now)
 initiator_reading w [] at now e h going = h
 initiator_reading w (p ∷ left) at now e h going =
     let s = w.initiator in
@@ -313,7 +329,7 @@ initiator_reading w (p ∷ left) at now e h going =
           (asked_by_reader w.acceptor.facts (around s at now) s.facts s.ending p left w.outward going.going home_asks);
     }
 
-acceptor_reading : (w : World) (way : List Piece) (at now : ℕ) → w.outward ≡ way → Holds w → IsOpen w.acceptor → Holds (acceptor_read w way at now)
+pub acceptor_reading : (w : World) (way : List Piece) (at now : ℕ) → w.outward ≡ way → Holds w → IsOpen w.acceptor → Holds (acceptor_read w way at now)
 acceptor_reading w [] at now e h going = h
 acceptor_reading w (p ∷ left) at now e h going =
     let s = w.acceptor in
@@ -349,7 +365,7 @@ holds_step hi ha w (initiator_does call) h may =
     let t = run w.initiator (call ∷ []) in
     record {
       matches = subst (λ (c : EndConfig). Match c w.acceptor.config) (sym d.config) h.matches;
-      initiator = subst (λ (c : EndConfig). Keeps c t.facts t.ending) (sym d.config) (record { serves = λ n. d.serves n (h.initiator.serves n); ends = ends_later IsLeft w.initiator t time_left d.ends h.initiator.ends });
+      initiator = subst (λ (c : EndConfig). Keeps c t.facts t.ending) (sym d.config) (record { serves = λ n. d.serves n (h.initiator.serves n); ends = ends_still IsLeft w.initiator t d.ends time_left h.initiator.ends });
       acceptor = h.acceptor;
       shaking = subst (λ (c : EndConfig). Shaking c w.acceptor.config t.facts t.ending w.acceptor.facts (w.outward ++ written w.initiator (call ∷ [])) w.homeward) (sym d.config)
           (initiator_does_so w.initiator t (written w.initiator (call ∷ [])) w.acceptor.config w.acceptor.facts w.outward w.homeward d h.shaking);
@@ -364,7 +380,7 @@ holds_step hi ha w (acceptor_does call) h may =
     record {
       matches = subst (λ (c : EndConfig). Match w.initiator.config c) (sym d.config) h.matches;
       initiator = h.initiator;
-      acceptor = subst (λ (c : EndConfig). Keeps c t.facts t.ending) (sym d.config) (record { serves = λ n. d.serves n (h.acceptor.serves n); ends = ends_later IsLeft w.acceptor t time_left d.ends h.acceptor.ends });
+      acceptor = subst (λ (c : EndConfig). Keeps c t.facts t.ending) (sym d.config) (record { serves = λ n. d.serves n (h.acceptor.serves n); ends = ends_still IsLeft w.acceptor t d.ends time_left h.acceptor.ends });
       shaking = subst (λ (c : EndConfig). Shaking w.initiator.config c w.initiator.facts w.initiator.ending t.facts w.outward (w.homeward ++ written w.acceptor (call ∷ []))) (sym d.config)
           (acceptor_does_so w.acceptor t (written w.acceptor (call ∷ [])) w.initiator.config w.initiator.facts w.initiator.ending w.outward w.homeward (ap (λ r. is_initiator r) h.matches.accepts) d h.shaking);
       outward_finish = told_by_reader w.initiator.facts w.acceptor.facts t.facts w.outward w.homeward (written w.acceptor (call ∷ [])) h.outward_finish (tells_as ha w.acceptor call may.0 may.1);
@@ -373,7 +389,7 @@ holds_step hi ha w (acceptor_does call) h may =
       homeward_requests = served_by_writer w.acceptor t w.initiator.facts w.initiator.ending w.homeward w.outward (written w.acceptor (call ∷ [])) h.homeward_requests (serves_as ha w.acceptor call may.0 may.1);
     }
 
-holds_after : (hi ha : List Entry) (w : World) (steps : List Step) → Holds w → AllMayStep hi ha w steps → Holds (world_after w steps)
+pub holds_after : (hi ha : List Entry) (w : World) (steps : List Step) → Holds w → AllMayStep hi ha w steps → Holds (world_after w steps)
 holds_after hi ha w [] h may = h
 holds_after hi ha w (step ∷ later) h may = holds_after hi ha (after w step) later (holds_step hi ha w step h may.0) may.1
 

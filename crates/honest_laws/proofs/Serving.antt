@@ -1,9 +1,10 @@
 -- The requests and retransmissions under way between two ends, and how each call of an end moves them.
 use Rattle.std.proofs.Common.{◌≡◌, ◌⊎◌, inl, inr, ℕ, zero, suc, ◌+◌, ◌-◌, ◌≤◌, ◌==◌, ◌&&◌, Bool, true, false, if◌then◌else◌, List, [], ◌∷◌, ◌++◌, length, Option, Some, None, refl, sym, ap, subst, ◌∙◌, arith, true≢false, append-nil, eqb-true}
-use Rattle.std.specs.Prelude.{is_some, is_none, IsSome}
+use Rattle.std.specs.Prelude.{is_some, is_none, unwrap_or, IfSome, IsSome}
 use Rattle.session_model.specs.Journal.{Entry}
 use Rattle.fixp_msgs.specs.declared.numbering.Range.{Range}
-use Rattle.fixp_msgs.specs.Message.{Message, sequence, unsequenced_heartbeat, terminate, retransmission}
+use Rattle.fixp_msgs.specs.declared.flow.Flow.{Flow}
+use Rattle.fixp_msgs.specs.Message.{Message, sequence, unsequenced_heartbeat, terminate, retransmission, retransmit_reject}
 use Rattle.flow_retrans.specs.declared.request.Request.{Request}
 use Rattle.flow_retrans.specs.declared.request.Request.TheVariants as requests
 use Rattle.flow_retrans.specs.Requests as request_is
@@ -27,7 +28,7 @@ use Rattle.honest_laws.proofs.Finishing.{total, total_append}
 use Rattle.honest_laws.proofs.Asking.{asks, restarts, turns, inside, unanswered_of, unanswered, coming, is_serving, Asks, asks_of, closing_asks, at_most_one}
 use Rattle.honest_laws.proofs.Running.{runs_append, live_run, again_run}
 use Rattle.honest_laws.proofs.Moving.{turned, told}
-use Rattle.honest_laws.specs.Numbers.{Runs, served}
+use Rattle.honest_laws.specs.Numbers.{exactly, Allows, IsWhole, Runs, RunsBetween, served}
 
 -- A reader's request is under way on the way back, or its answer to the reader, or neither: at most where it is yet. As long as it is under
 -- way the writer serves nothing. And where the reader goes on, a retransmission comes in to it behind what is under way exactly where the
@@ -43,6 +44,7 @@ inside_append b (p ∷ ps) qs = inside_append (turns p b) ps qs
 
 turned_off : (p : Piece) → restarts p ≡ 0 → turns p false ≡ false
 turned_off (said (retransmission id next timestamp count)) e = absurd (omega (arith, e))
+turned_off (said (retransmit_reject id timestamp code reason)) e = refl
 turned_off _ e = refl
 
 -- without a Retransmission none begins
@@ -68,7 +70,7 @@ asked_by_reader writer x reader over p left back goes a = record { once = once; 
     o : Outcome
     o = reply_of x reader (incoming_of p)
 
-    c : Asks reader (asks p) (restarts p) (turns p) o
+    c : Asks x reader (asks p) (restarts p) (turns p) o
     c = asks_of x reader p
 
     more : total asks (back ++ said_all o.written) ≡ total asks back + total asks (said_all o.written)
@@ -132,7 +134,7 @@ pub record Serves (s t : State) (out : List Piece) : Type 0 where
   pub closing : is_closing t.facts.connection.phase ≡ false → is_closing s.facts.connection.phase ≡ false
   pub receiver : t.facts.connection.receiver ≡ s.facts.connection.receiver
   pub inbox : t.facts.recorded.inbox_next ≡ s.facts.recorded.inbox_next
-  pub runs : Runs (s.facts.recorded.sent + 1) (served s.facts.connection.serving) out (t.facts.recorded.sent + 1) (served t.facts.connection.serving)
+  pub runs : RunsBetween s.config.own_flow s.facts out t.facts
 
 pub served_by_writer : (s t : State) (reader : Facts) (over : Option Ending) (way back out : List Piece) → Requests s.facts reader over way back → Serves s t out → Requests t.facts reader over (way ++ out) back
 served_by_writer s t reader over way back out a c =
@@ -187,13 +189,13 @@ said_more ms more a b = subst (λ (ps : List Piece). Silent ps) (sym (map_more m
 
 -- messages without a number
 abbrev Plain : List Piece → Type 0
-Plain ps = (b : ℕ) (l : Option ℕ) → Runs b l ps b l
+Plain ps = (flow : Flow) (b : ℕ) (l : Option ℕ) → Runs flow (exactly b) l ps b l
 
 still : Plain []
-still b l = (omega arith, refl)
+still flow b l = (refl, refl)
 
 serves_silent : (s t : State) (out : List Piece) → t.facts.connection ≡ s.facts.connection → t.facts.recorded.inbox_next ≡ s.facts.recorded.inbox_next
-    → Runs (s.facts.recorded.sent + 1) (served s.facts.connection.serving) out (t.facts.recorded.sent + 1) (served t.facts.connection.serving) → Silent out → Serves s t out
+    → RunsBetween s.config.own_flow s.facts out t.facts → Silent out → Serves s t out
 serves_silent s t out e n r a = record {
   asks_none = a.no_request;
   begins_none = a.no_restart;
@@ -206,46 +208,54 @@ serves_silent s t out e n r a = record {
 }
 
 -- what a tick writes: a heartbeat where nothing is served
-record Beats (f : Facts) (ps : List Piece) : Type 0 where
+record Beats (flow : Flow) (f : Facts) (ps : List Piece) : Type 0 where
   no_request : total asks ps ≡ 0
   no_restart : total restarts ps ≡ 0
   stays : inside (is_serving f) ps ≡ is_serving f
-  runs : Runs (f.recorded.sent + 1) (served f.connection.serving) ps (f.recorded.sent + 1) (served f.connection.serving)
+  runs : RunsBetween flow f ps f
 
-none_whole : (f : Facts) (s : Option Range) → is_some s ≡ false → Runs (f.recorded.sent + 1) (served s) (said (sequence (f.recorded.sent + 1)) ∷ []) (f.recorded.sent + 1) (served s)
-none_whole f None e = ((omega arith, tt), (omega arith, refl))
-none_whole f (Some r) e = absurd (true≢false e)
-
-beating : (x : Around) (f : Facts) → is_some f.connection.serving ≡ false → Beats f (said_all (heartbeat x f ∷ []))
-beating x f free = by_flow (is_sequenced x.config.own_flow)
+-- a Sequence of the next live number, where no range is served
+next_told : (flow : Flow) (b : ℕ) (l : Option ℕ) → IsWhole l → Runs flow (exactly b) l (said (sequence b) ∷ []) b None
+next_told flow b l whole = let w = by_flow (is_sequenced flow) in ((w.0, whole), (w.1, refl))
   where
-    by_flow : (b : Bool) → Beats f (said_all ((if b then sequence (f.recorded.sent + 1) else unsequenced_heartbeat) ∷ []))
-    by_flow true = record { no_request = refl; no_restart = refl; stays = sym free; runs = none_whole f f.connection.serving free }
-    by_flow false = record { no_request = refl; no_restart = refl; stays = refl; runs = (tt, (omega arith, refl)) }
+    by_flow : (t : Bool) → IfSome (if t then Some b else None) (λ n. Allows (exactly b) n) × (unwrap_or (if t then Some b else None) b ≡ b)
+    by_flow true = (refl, refl)
+    by_flow false = (tt, refl)
 
-no_beat : (f : Facts) → Beats f []
-no_beat f = record { no_request = refl; no_restart = refl; stays = refl; runs = (omega arith, refl) }
+none_whole : (flow : Flow) (b : ℕ) (s : Option Range) → is_some s ≡ false → Runs flow (exactly b) (served s) (said (sequence b) ∷ []) b (served s)
+none_whole flow b None e = next_told flow b None tt
+none_whole flow b (Some r) e = absurd (true≢false e)
 
-beats : (x : Around) (f : Facts) (last : ℕ) (unsent : List ℕ) → Beats f (said_all (heartbeats x f last unsent))
-beats x f last (b ∷ unsent) = no_beat f
-beats x f last [] = by_test (is_established f.connection.phase && is_none f.connection.serving && is_due x last) refl
+beating : (x : Around) (flow : Flow) (f : Facts) → is_some f.connection.serving ≡ false → Beats flow f (said_all (heartbeat x f ∷ []))
+beating x flow f free = by_flow (is_sequenced x.config.own_flow)
   where
-    by_test : (b : Bool) → (is_established f.connection.phase && is_none f.connection.serving && is_due x last) ≡ b → Beats f (said_all (if b then heartbeat x f ∷ [] else []))
-    by_test true e = beating x f (second (is_established f.connection.phase) (is_due x last) f.connection.serving e)
+    by_flow : (b : Bool) → Beats flow f (said_all ((if b then sequence (f.recorded.sent + 1) else unsequenced_heartbeat) ∷ []))
+    by_flow true = record { no_request = refl; no_restart = refl; stays = sym free; runs = none_whole flow (f.recorded.sent + 1) f.connection.serving free }
+    by_flow false = record { no_request = refl; no_restart = refl; stays = refl; runs = ((tt, tt), (refl, refl)) }
+
+no_beat : (flow : Flow) (f : Facts) → Beats flow f []
+no_beat flow f = record { no_request = refl; no_restart = refl; stays = refl; runs = (refl, refl) }
+
+beats : (x : Around) (flow : Flow) (f : Facts) (last : ℕ) (unsent : List ℕ) → Beats flow f (said_all (heartbeats x f last unsent))
+beats x flow f last (b ∷ unsent) = no_beat flow f
+beats x flow f last [] = by_test (is_established f.connection.phase && is_none f.connection.serving && is_due x last) refl
+  where
+    by_test : (b : Bool) → (is_established f.connection.phase && is_none f.connection.serving && is_due x last) ≡ b → Beats flow f (said_all (if b then heartbeat x f ∷ [] else []))
+    by_test true e = beating x flow f (second (is_established f.connection.phase) (is_due x last) f.connection.serving e)
       where
         second : (a c : Bool) (r : Option Range) → (a && is_none r && c) ≡ true → is_some r ≡ false
         second true c None e = refl
         second true c (Some r) e = absurd (true≢false (sym e))
         second false c r e = absurd (true≢false (sym e))
-    by_test false e = no_beat f
+    by_test false e = no_beat flow f
 
 breaks_silent : (s : State) (v : Option Violation) (now : ℕ) → Silent (said_all (said_breaking s v now))
 breaks_silent s None now = none_silent
 breaks_silent s (Some v) now = record { no_request = refl; no_restart = refl; no_turn = λ b. refl }
 
 breaks_plain : (s : State) (v : Option Violation) (now : ℕ) → Plain (said_all (said_breaking s v now))
-breaks_plain s None now b l = (omega arith, refl)
-breaks_plain s (Some v) now b l = (tt, (omega arith, refl))
+breaks_plain s None now flow b l = (refl, refl)
+breaks_plain s (Some v) now flow b l = ((tt, tt), (refl, refl))
 
 broken_same : (s : State) (v : Option Violation) (now : ℕ) → (broken_by s v now).facts ≡ s.facts
 broken_same s None now = refl
@@ -267,7 +277,7 @@ ticking s now = by_end (is_some s.ending)
     going =
         let h : List Message = heartbeats x s.facts s.last_sent s.unsent in
         let q = said_breaking s v now in
-        let b = beats x s.facts s.last_sent s.unsent in
+        let b = beats x s.config.own_flow s.facts s.last_sent s.unsent in
         let r = breaks_silent s v now in
         let e = total_append asks (said_all h) (said_all q) in let k = total_append restarts (said_all h) (said_all q) in
         let be = b.no_request in let bk = b.no_restart in let re = r.no_request in let rk = r.no_restart in
@@ -281,14 +291,14 @@ ticking s now = by_end (is_some s.ending)
           closing = λ n. ap (λ f. is_closing f.connection.phase) (sym same) ∙ n;
           receiver = ap (λ f. f.connection.receiver) same;
           inbox = ap (λ f. f.recorded.inbox_next) same;
-          runs = subst (λ (g : Facts). Runs (s.facts.recorded.sent + 1) (served s.facts.connection.serving) (said_all (h ++ q)) (g.recorded.sent + 1) (served g.connection.serving)) (sym same)
-              (subst (λ (ps : List Piece). Runs (s.facts.recorded.sent + 1) (served s.facts.connection.serving) ps (s.facts.recorded.sent + 1) (served s.facts.connection.serving)) (sym (map_more h q))
-              (runs_append (s.facts.recorded.sent + 1) (served s.facts.connection.serving) (said_all h) (said_all q) (s.facts.recorded.sent + 1) (served s.facts.connection.serving)
-              (s.facts.recorded.sent + 1) (served s.facts.connection.serving) b.runs (breaks_plain s v now (s.facts.recorded.sent + 1) (served s.facts.connection.serving))));
+          runs = subst (λ (g : Facts). RunsBetween s.config.own_flow s.facts (said_all (h ++ q)) g) (sym same)
+              (subst (λ (ps : List Piece). RunsBetween s.config.own_flow s.facts ps s.facts) (sym (map_more h q))
+              (runs_append s.config.own_flow (exactly (s.facts.recorded.sent + 1)) (served s.facts.connection.serving) (said_all h) (said_all q) (s.facts.recorded.sent + 1) (served s.facts.connection.serving)
+              (s.facts.recorded.sent + 1) (served s.facts.connection.serving) b.runs (breaks_plain s v now s.config.own_flow (s.facts.recorded.sent + 1) (served s.facts.connection.serving))));
         }
 
     by_end : (b : Bool) → Serves s (if b then record s { moment = now } else broken_by beat v now) (if b then [] else said_all (heartbeats x s.facts s.last_sent s.unsent ++ said_breaking s v now))
-    by_end true = serves_silent s (record s { moment = now }) [] refl refl (omega arith, refl) none_silent
+    by_end true = serves_silent s (record s { moment = now }) [] refl refl (refl, refl) none_silent
     by_end false = going
 
 applied_silent : (runs : List Range) → Silent (said_all (applied_runs runs))
@@ -297,11 +307,12 @@ applied_silent (r ∷ runs) =
     let s = applied_silent runs in let e = s.no_request in let k = s.no_restart in record { no_request = omega (arith, e); no_restart = omega (arith, k); no_turn = s.no_turn }
 
 applied_plain : (runs : List Range) → Plain (said_all (applied_runs runs))
-applied_plain [] b l = (omega arith, refl)
-applied_plain (r ∷ runs) b l = (tt, applied_plain runs b l)
+applied_plain [] flow b l = (refl, refl)
+applied_plain (r ∷ runs) flow b l = ((tt, tt), applied_plain runs flow b l)
 
 closing_plain : (ms : List Message) (m : Message) → Plain (said_all ms) → Plain (said m ∷ []) → Plain (said_all (ms ++ m ∷ []))
-closing_plain ms m a c b l = subst (λ (ps : List Piece). Runs b l ps b l) (sym (map_more ms (m ∷ []))) (runs_append b l (said_all ms) (said m ∷ []) b l b l (a b l) (c b l))
+closing_plain ms m a c flow b l =
+    subst (λ (ps : List Piece). Runs flow (exactly b) l ps b l) (sym (map_more ms (m ∷ []))) (runs_append flow (exactly b) l (said_all ms) (said m ∷ []) b l b l (a flow b l) (c flow b l))
 
 turning : (s : State) (now : ℕ) → Serves s (step s (turn_done now)) (writes s (turn_done now))
 turning s now = by_end (is_some s.ending)
@@ -323,12 +334,12 @@ turning s now = by_end (is_some s.ending)
           closing = λ n. absurd (true≢false n);
           receiver = refl;
           inbox = refl;
-          runs = closing_plain (applied_runs (runs_of s.untold)) (terminate s.config.session 1 []) (applied_plain (runs_of s.untold)) (λ b l. (tt, (omega arith, refl))) (s.facts.recorded.sent + 1) (served s.facts.connection.serving);
+          runs = closing_plain (applied_runs (runs_of s.untold)) (terminate s.config.session 1 []) (applied_plain (runs_of s.untold)) (λ flow b l. ((tt, tt), (refl, refl))) s.config.own_flow (s.facts.recorded.sent + 1) (served s.facts.connection.serving);
         }
-    by_close false = serves_silent s (behind (turned false x s.facts (runs_of s.untold))) _ refl refl (applied_plain (runs_of s.untold) (s.facts.recorded.sent + 1) (served s.facts.connection.serving)) (applied_silent (runs_of s.untold))
+    by_close false = serves_silent s (behind (turned false x s.facts (runs_of s.untold))) _ refl refl (applied_plain (runs_of s.untold) s.config.own_flow (s.facts.recorded.sent + 1) (served s.facts.connection.serving)) (applied_silent (runs_of s.untold))
 
     by_end : (b : Bool) → Serves s (if b then record s { moment = now } else behind (turn_ended x s.facts (runs_of s.untold))) (if b then [] else said_all (turn_ended x s.facts (runs_of s.untold)).written)
-    by_end true = serves_silent s (record s { moment = now }) [] refl refl (omega arith, refl) none_silent
+    by_end true = serves_silent s (record s { moment = now }) [] refl refl (refl, refl) none_silent
     by_end false = by_close (closes x s.facts)
 
 finishing : (s : State) (last now : ℕ) → Serves s (step s (closed last now)) (writes s (closed last now))
@@ -341,20 +352,20 @@ finishing s last now = by_end (is_some s.ending)
     behind m = made (record s { moment = now }) m now
 
     by_test : (b : Bool) → Serves s (behind (told b x s.facts last)) (said_all (told b x s.facts last).written)
-    by_test true = record { asks_none = refl; begins_none = refl; serves = refl; requester = refl; closing = λ n. n; receiver = refl; inbox = refl; runs = (tt, (omega arith, refl)) }
-    by_test false = serves_silent s (behind (told false x s.facts last)) [] refl refl (omega arith, refl) none_silent
+    by_test true = record { asks_none = refl; begins_none = refl; serves = refl; requester = refl; closing = λ n. n; receiver = refl; inbox = refl; runs = ((tt, tt), (refl, refl)) }
+    by_test false = serves_silent s (behind (told false x s.facts last)) [] refl refl (refl, refl) none_silent
 
     by_end : (b : Bool)
         → Serves s (if b then record s { moment = now; facts = outbox_finished s.facts last } else behind (finish_told x s.facts last)) (if b then [] else said_all (finish_told x s.facts last).written)
-    by_end true = serves_silent s (record s { moment = now; facts = outbox_finished s.facts last }) [] refl refl (omega arith, refl) none_silent
+    by_end true = serves_silent s (record s { moment = now; facts = outbox_finished s.facts last }) [] refl refl (refl, refl) none_silent
     by_end false = by_test (tells_finish x s.facts last)
 
 cut : (s : State) → Serves s (step s link_end) []
 cut s = by_end (is_some s.ending)
   where
     by_end : (b : Bool) → Serves s (if b then s else record s { ending = Some (link_ending (around s 0 s.moment) s.facts); pending = None }) []
-    by_end true = serves_silent s s [] refl refl (omega arith, refl) none_silent
-    by_end false = serves_silent s (record s { ending = Some (link_ending (around s 0 s.moment) s.facts); pending = None }) [] refl refl (omega arith, refl) none_silent
+    by_end true = serves_silent s s [] refl refl (refl, refl) none_silent
+    by_end false = serves_silent s (record s { ending = Some (link_ending (around s 0 s.moment) s.facts); pending = None }) [] refl refl (refl, refl) none_silent
 
 entries_silent : (payloads : List (List ℕ)) → Silent (entries payloads)
 entries_silent [] = none_silent
@@ -371,18 +382,18 @@ closing_range : (f : Facts) (r : Option Range) → Closes (range_closed f r) r
 closing_range f None = record { no_request = refl; no_restart = refl; ends = refl }
 closing_range f (Some r) = record { no_request = refl; no_restart = refl; ends = refl }
 
-again_closed : (f : Facts) (r : Range) (n : ℕ) → n ≤ r.count → Runs (f.recorded.sent + 1) (Some (r.count - n)) (range_closed f (rest_of r n)) (f.recorded.sent + 1) (served (rest_of r n))
-again_closed f r n h = by_test (r.count == n) refl
+again_closed : (flow : Flow) (f : Facts) (r : Range) (n : ℕ) → n ≤ r.count → Runs flow (exactly (f.recorded.sent + 1)) (Some (r.count - n)) (range_closed f (rest_of r n)) (f.recorded.sent + 1) (served (rest_of r n))
+again_closed flow f r n h = by_test (r.count == n) refl
   where
     rest : Bool → Option Range
     rest b = if b then None else Some (record { from = r.from + n; count = r.count - n })
 
-    by_test : (b : Bool) → (r.count == n) ≡ b → Runs (f.recorded.sent + 1) (Some (r.count - n)) (range_closed f (rest b)) (f.recorded.sent + 1) (served (rest b))
-    by_test true e = let same = eqb-true r.count n e in ((omega arith, omega (arith, same)), (omega arith, refl))
-    by_test false e = (omega arith, refl)
+    by_test : (b : Bool) → (r.count == n) ≡ b → Runs flow (exactly (f.recorded.sent + 1)) (Some (r.count - n)) (range_closed f (rest b)) (f.recorded.sent + 1) (served (rest b))
+    by_test true e = let same = eqb-true r.count n e in next_told flow (f.recorded.sent + 1) (Some (r.count - n)) (omega (arith, same))
+    by_test false e = (refl, refl)
 
 resending : (s : State) (r : Option Range) (payloads : List (List ℕ)) (now : ℕ) → ((k : Range) → r ≡ Some k → length payloads ≤ k.count) → s.facts.connection.serving ≡ r → Serves s (served_again s r payloads now) (written_again s.facts r payloads)
-resending s None payloads now within same = serves_silent s s [] refl refl (omega arith, refl) none_silent
+resending s None payloads now within same = serves_silent s s [] refl refl (refl, refl) none_silent
 resending s (Some r) payloads now within same =
     let rest = rest_of r (length payloads) in
     let a = entries_silent payloads in let b = closing_range s.facts rest in
@@ -397,19 +408,19 @@ resending s (Some r) payloads now within same =
       closing = λ n. n;
       receiver = refl;
       inbox = refl;
-      runs = subst (λ (k : Option Range). Runs (s.facts.recorded.sent + 1) (served k) (entries payloads ++ range_closed s.facts rest) (s.facts.recorded.sent + 1) (served rest)) (sym same)
-          (runs_append (s.facts.recorded.sent + 1) (Some r.count) (entries payloads) (range_closed s.facts rest) (s.facts.recorded.sent + 1) (Some (r.count - length payloads)) (s.facts.recorded.sent + 1) (served rest)
-          (again_run (s.facts.recorded.sent + 1) r.count payloads (within r refl)) (again_closed s.facts r (length payloads) (within r refl)));
+      runs = subst (λ (k : Option Range). Runs s.config.own_flow (exactly (s.facts.recorded.sent + 1)) (served k) (entries payloads ++ range_closed s.facts rest) (s.facts.recorded.sent + 1) (served rest)) (sym same)
+          (runs_append s.config.own_flow (exactly (s.facts.recorded.sent + 1)) (Some r.count) (entries payloads) (range_closed s.facts rest) (s.facts.recorded.sent + 1) (Some (r.count - length payloads))
+          (s.facts.recorded.sent + 1) (served rest) (again_run s.config.own_flow (s.facts.recorded.sent + 1) r.count payloads (within r refl)) (again_closed s.config.own_flow s.facts r (length payloads) (within r refl)));
     }
 
 range_within : (s : Option Range) (range : Range) (n : ℕ) → s ≡ Some range → n ≤ range.count → (k : Range) → s ≡ Some k → n ≤ k.count
 range_within s range n e h k is = let same : range ≡ k = cc (e, is) in subst (λ (j : Range). n ≤ j.count) same h
 
 live_runs : (s : State) (payloads : List (List ℕ)) → s.facts.connection.serving ≡ None
-    → Runs (s.facts.recorded.sent + 1) (served s.facts.connection.serving) (entries payloads) (s.facts.recorded.sent + length payloads + 1) (served s.facts.connection.serving)
+    → Runs s.config.own_flow (exactly (s.facts.recorded.sent + 1)) (served s.facts.connection.serving) (entries payloads) (s.facts.recorded.sent + length payloads + 1) (served s.facts.connection.serving)
 live_runs s payloads free =
-    subst (λ (k : Option Range). Runs (s.facts.recorded.sent + 1) (served k) (entries payloads) (s.facts.recorded.sent + length payloads + 1) (served k)) (sym free)
-    (subst (λ (n : ℕ). Runs (s.facts.recorded.sent + 1) None (entries payloads) n None) (omega arith) (live_run (s.facts.recorded.sent + 1) payloads))
+    subst (λ (k : Option Range). Runs s.config.own_flow (exactly (s.facts.recorded.sent + 1)) (served k) (entries payloads) (s.facts.recorded.sent + length payloads + 1) (served k)) (sym free)
+    (subst (λ (n : ℕ). Runs s.config.own_flow (exactly (s.facts.recorded.sent + 1)) None (entries payloads) n None) (omega arith) (live_run s.config.own_flow (s.facts.recorded.sent + 1) payloads))
 
 serves_call : (h : List Entry) (s : State) (call : Call) → IsOther h call → MayStand h s call → Serves s (step s call) (writes s call)
 serves_call h s (begin now) other may = absurd other
@@ -422,8 +433,8 @@ serves_call h s (closed last now) other may = finishing s last now
 serves_call h s link_end other may = cut s
 serves_call h s (live payloads now) other may = serves_silent s (step s (live payloads now)) (entries payloads) refl refl (live_runs s payloads may.comes.free) (entries_silent payloads)
 serves_call h s (again payloads now) other may = resending s s.facts.connection.serving payloads now (range_within s.facts.connection.serving may.comes.range (length payloads) may.comes.serves may.comes.within) refl
-serves_call h s (taken count) other may = serves_silent s (step s (taken count)) [] refl refl (omega arith, refl) none_silent
-serves_call h s reserve other may = serves_silent s (step s reserve) [] refl refl (omega arith, refl) none_silent
+serves_call h s (taken count) other may = serves_silent s (step s (taken count)) [] refl refl (refl, refl) none_silent
+serves_call h s reserve other may = serves_silent s (step s reserve) [] refl refl (refl, refl) none_silent
 
 pub serves_as : (h : List Entry) (s : State) (call : Call) → IsOther h call → MayStand h s call → Serves s (run s (call ∷ [])) (written s (call ∷ []))
 serves_as h s call other may = subst (λ (out : List Piece). Serves s (step s call) out) (sym (append-nil (writes s call))) (serves_call h s call other may)

@@ -22,7 +22,7 @@ IsLeft (FlowNone template) = ⊥
 IsLeft (Silent last now) = ⊤
 IsLeft (HandshakeLate start now) = ⊤
 
--- and of these two are of time alone: an end hears nothing, or the handshake takes too long
+-- of time alone: of silence, or of a late handshake
 abbrev pub IsOfTime : Violation → Type 0
 IsOfTime (BadFrame at) = ⊥
 IsOfTime (UnknownTemplate id) = ⊥

@@ -42,7 +42,7 @@ pub record Expects (writer reader : State) (way back : List Piece) : Type 0 wher
   pub runs : Runs writer.config.own_flow (awaited reader.config reader.facts) (to_come reader.facts.connection.requester) way (writer.facts.recorded.sent + 1) (served writer.facts.connection.serving)
   pub line : is_recoverable reader.config.peer_flow ≡ true → Line reader.facts
   pub idle : is_recoverable reader.config.peer_flow ≡ false → Idle reader.facts
-  pub opening : is_shaken reader.facts.connection.phase ≡ false → reader.facts.connection.requester ≡ requests.Nothing
+  pub opening : is_shaken reader.facts.connection.phase ≡ false → Idle reader.facts
   pub asks : AllByRecursion (Names reader.facts.connection.requester) back
   pub answers : AllByRecursion (Answers reader.facts.connection.requester) way
 
