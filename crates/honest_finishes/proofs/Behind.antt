@@ -172,7 +172,7 @@ told_behind own h writer next reader over way out a even t runs = record {
     behind_known zero zero e d some = absurd (omega (arith, some))
 
     level : (n : ℕ) → known (peer_last reader) + total sendings way ≡ n → 1 ≤ n + total sendings out → next.recorded.sent ≡ writer.recorded.sent
-    level zero e some = let c = t.closes some in c.0.sent ∙ sym c.1
+    level zero e some = let c = t.closes (omega (arith, some)) in c.0.sent ∙ sym c.1
     level (suc n) e some =
         let c = behind_known (known (peer_last reader)) (total sendings way) refl refl (omega (arith, e)) in
         (t.completes c).sent ∙ sym c.sent
@@ -206,7 +206,7 @@ kept_behind own h writer reader next over later way goes opens asked a t = recor
     same : known (peer_last next) ≡ known (peer_last reader)
     same = ap (λ (q : PeerFinish). known (last_among next.recorded.peer_last q)) t.theirs ∙ ap (λ (r : Option ℕ). known (last_among r reader.connection.peer_finish)) t.recorded
 
-open_not_closing : (p : Phase) → is_established p ≡ true → is_closing p ≡ false
+pub open_not_closing : (p : Phase) → is_established p ≡ true → is_closing p ≡ false
 open_not_closing phases.Idle e = refl
 open_not_closing phases.Negotiating e = refl
 open_not_closing phases.Establishing e = refl
@@ -265,10 +265,18 @@ none_late own h writer x reader over p left flow going a exact late =
         let two = first (is_some (peer_last reader)) (not (coming reader)) late in
         shown (coming reader) late (live.0 (there_known (peer_last reader) two.0))
     by_piece (said (sequence next)) a runs live late =
-        let one = first (is_sequenced x.config.peer_flow) _ late in
-        let two = first (is_some (peer_last reader)) _ one.1 in
-        known_learned reader ⊥ (there_known (peer_last reader) two.0) (λ last e l. past next last e l runs live one.0 two.1)
+        let one = first (is_sequenced x.config.peer_flow && is_some (peer_last reader)) (not (next == unwrap_or (peer_last reader) 0 + 1)) late in
+        let two = first (is_sequenced x.config.peer_flow) (is_some (peer_last reader)) one.0 in
+        known_learned reader ⊥ (there_known (peer_last reader) two.1) (λ last e l. past next last e l runs live two.0 one.1)
       where
+        announced : (next : ℕ) → is_sequenced own ≡ true
+            → Runs own (exactly (live_number x reader)) (to_come reader.connection.requester) (said (sequence next) ∷ left) (writer.recorded.sent + 1) (served writer.connection.serving) → live_number x reader ≡ next
+        announced next numbered r = told_of (is_sequenced own) next numbered r.0.0
+          where
+            told_of : (b : Bool) (next : ℕ) → b ≡ true → IfSome (if b then Some next else None) (λ n. live_number x reader ≡ n) → live_number x reader ≡ next
+            told_of true next e h = h
+            told_of false next e h = absurd (true≢false (sym e))
+
         past : (next last : ℕ) → peer_last reader ≡ Some last → Learned (finishes reader) last
             → (is_sequenced x.config.peer_flow ≡ true → Runs own (exactly (live_number x reader)) (to_come reader.connection.requester) (said (sequence next) ∷ left) (writer.recorded.sent + 1) (served writer.connection.serving))
             → NoneLive (known (peer_last reader)) (coming reader) (said (sequence next) ∷ left) → is_sequenced x.config.peer_flow ≡ true → not (next == unwrap_or (peer_last reader) 0 + 1) ≡ true → ⊥
@@ -281,16 +289,8 @@ none_late own h writer x reader over p left flow going a exact late =
             let is = number_is last numbered c.1 in
             let sent = c.0.sent in
             same_side next (unwrap_or (peer_last reader) 0 + 1) (omega (arith, level, told, is, sent) ∙ sym (ap (λ (o : Option ℕ). unwrap_or o 0 + 1) e)) k
-
-        announced : (next : ℕ) → is_sequenced own ≡ true
-            → Runs own (exactly (live_number x reader)) (to_come reader.connection.requester) (said (sequence next) ∷ left) (writer.recorded.sent + 1) (served writer.connection.serving) → live_number x reader ≡ next
-        announced next numbered r = told_of (is_sequenced own) next numbered r.0.0
-          where
-            told_of : (b : Bool) (next : ℕ) → b ≡ true → IfSome (if b then Some next else None) (λ n. live_number x reader ≡ n) → live_number x reader ≡ next
-            told_of true next e h = h
-            told_of false next e h = absurd (true≢false (sym e))
     by_piece (said (finished_sending id l)) a runs live late =
-        let one = first (is_sequenced x.config.peer_flow) _ late in
+        let one = first (is_sequenced x.config.peer_flow) (not (is_last x reader (finished_last x l))) late in
         let r = (runs one.0).1 in
         let c = a.told (omega arith) in
         let n = named x own h (said (finished_sending id l)) (finished_last x l) flow a.names.0 refl in

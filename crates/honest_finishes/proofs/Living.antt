@@ -65,7 +65,9 @@ same_number (Some n) b h = sym h
 -- where the number does not rise none is live
 pub level_live : (flow : Flow) (b : ℕ) (l : Option ℕ) (ps : List Piece) (c : ℕ) (m : Option ℕ) (k : ℕ) → Runs flow (exactly b) l ps c m → c ≤ b → NoneLive k (is_some l) ps
 level_live flow b l [] c m k r low = tt
-level_live flow b l (p ∷ ps) c m k r low = (here p l r low, later)
+level_live flow b l (p ∷ ps) c m k r low =
+    let up = stays p l r in
+    (here p l r low, subst (λ (b : Bool). NoneLive (k + sendings p) b ps) (left_turns p l) (level_live flow (live_after flow p b l) (left_after p l) ps c m (k + sendings p) r.1 (omega (arith, up, low))))
   where
     here : (q : Piece) (j : Option ℕ) → Runs flow (exactly b) j (q ∷ ps) c m → c ≤ b → InPlace k (is_some j) q
     here (entry payload) None r low = let top = runs_top flow (exactly (b + 1)) None ps c m r.1 in absurd (omega (arith, top, low))
@@ -76,11 +78,6 @@ level_live flow b l (p ∷ ps) c m k r low = (here p l r low, later)
     stays (entry payload) None r = omega arith
     stays (entry payload) (Some n) r = omega arith
     stays (said q) j r = let e = same_number (announces flow (said q)) b r.0.0 in omega (arith, e)
-
-    later : NoneLive (k + sendings p) (turns p (is_some l)) ps
-    later =
-        let up = stays p l r in
-        subst (λ (b : Bool). NoneLive (k + sendings p) b ps) (left_turns p l) (level_live flow (live_after flow p b l) (left_after p l) ps c m (k + sendings p) r.1 (omega (arith, up, low)))
 
 -- and where none is live it does not rise
 pub live_level : (flow : Flow) (b : ℕ) (l : Option ℕ) (ps : List Piece) (c : ℕ) (m : Option ℕ) (k : ℕ) → 1 ≤ k → Runs flow (exactly b) l ps c m → NoneLive k (is_some l) ps → b ≡ c

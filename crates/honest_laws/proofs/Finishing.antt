@@ -422,9 +422,9 @@ session_rows x f (establish id timestamp keepalive next credentials) =
 session_rows x f (establishment_ack id timestamp keepalive next) =
     let p = said (establishment_ack id timestamp keepalive next) in
     in_session x f p 5 id _ (all_within (Moves x f p) (is_establishing f.connection.phase) (establishment_ack_rows x f keepalive next) (λ _.
-        announcing x f f 5 next (λ (a : Announced). goes_on x (skip_of a.skipped) (told_skip a.skipped) (established a.facts (min 60000 (max 100 keepalive)))) refl
-        (let a = announced x f next in
-        passing x f (established a.facts (min 60000 (max 100 keepalive))) (skip_of a.skipped) (told_skip a.skipped) (unmoved x f next) (skip_answers a.skipped) (skip_sends a.skipped))))
+    announcing x f f 5 next (λ (a : Announced). goes_on x (skip_of a.skipped) (told_skip a.skipped) (established a.facts (min 60000 (max 100 keepalive)))) refl
+    (let a = announced x f next in
+    passing x f (established a.facts (min 60000 (max 100 keepalive))) (skip_of a.skipped) (told_skip a.skipped) (unmoved x f next) (skip_answers a.skipped) (skip_sends a.skipped))))
 session_rows x f (establishment_reject id timestamp code reason) =
     let p = said (establishment_reject id timestamp code reason) in
     in_session x f p 6 id _ (all_within (Moves x f p) (is_establishing f.connection.phase) (establishment_reject_rows x f code) (λ _. (
