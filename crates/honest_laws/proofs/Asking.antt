@@ -439,7 +439,7 @@ acknowledging x f next timestamp keepalive =
         (said (establishment_ack x.config.session timestamp x.config.keepalive (if is_sequenced x.config.own_flow then Some (n + 1) else None)) ∷ said_all (told_skip (announced x f next).skipped)) (f.recorded.sent + 1) l) (sym e)
         ((w.0, tt), subst (λ (b : ℕ). Runs x.config.own_flow (exactly b) l (said_all (told_skip (announced x f next).skipped)) (f.recorded.sent + 1) l) (sym w.1) (more l))
 
-establish_runs : (x : Around) (f : Facts) (l : Option ℕ) → Runs x.config.own_flow (exactly (f.recorded.sent + 1)) l (said (opening_establish x f) ∷ []) (f.recorded.sent + 1) l
+pub establish_runs : (x : Around) (f : Facts) (l : Option ℕ) → Runs x.config.own_flow (exactly (f.recorded.sent + 1)) l (said (opening_establish x f) ∷ []) (f.recorded.sent + 1) l
 establish_runs x f l = let w = announced_allowed (is_sequenced x.config.own_flow) (f.recorded.sent + 1) in ((w.0, tt), (w.1, refl))
 
 establishing : (x : Around) (f : Facts) → Asks x f 0 0 Same (shaken x f)

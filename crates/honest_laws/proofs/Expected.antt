@@ -1,5 +1,5 @@
 -- The laws of the numbers under way.
-use Rattle.std.proofs.Common.{◌≡◌, ◌&&◌, not, Bool, true, None, sym, true≢false}
+use Rattle.std.proofs.Common.{◌≡◌, ◌&&◌, not, Bool, true, sym, true≢false}
 use Rattle.fixp_shake.specs.declared.phase.Phase.{Phase}
 use Rattle.fixp_shake.specs.declared.phase.Phase.TheVariants as phases
 use Rattle.fixp_shake.specs.Phases.{is_established, is_closing}

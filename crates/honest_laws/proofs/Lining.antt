@@ -40,23 +40,18 @@ use Rattle.flow_recover.proofs.Chains.{next_counted}
 use Rattle.std.proofs.lemmas.Bool.{ltb-false}
 use Rattle.std.proofs.lemmas.Bool.Decides.{nat_tests}
 use Rattle.reply_laws.proofs.Tests.{delivers, passes}
-use Rattle.honest_laws.proofs.Deciding.{Decides, decides_within}
+use Rattle.honest_laws.proofs.Deciding.{Decides, decides_within, ended_by}
+use Rattle.honest_laws.proofs.Opening.{asks_none}
+use Rattle.honest_laws.proofs.Moving.{not_over}
 use Rattle.honest_laws.proofs.Replying.{foreign, heard}
 use Rattle.honest_laws.specs.Numbers.{After, AfterOther, Answers, Before, BeforeOther, HasOne, Idle, IsFlowing, IsWhole, Line, Lined, Matches, NotNumber, Other, Peer, Reaches, Rests, announces, live_after, left_after, to_come}
 
 no_violation : (A : Type 0) (v : Violation) → None ≡ Some (endings.Violation v) → NotNumber A v
 no_violation A v e = absurd cc
 
-fine_of : (A : Type 0) (b : Bool) (v w : Violation) → Some (if b then endings.Finished else endings.Violation v) ≡ Some (endings.Violation w) → NotNumber A v → NotNumber A w
-fine_of A true v w e h = absurd cc
-fine_of A false v w e h = let same : v ≡ w = cc e in subst (λ (u : Violation). NotNumber A u) same h
-
 terminated_fine : (A : Type 0) (b : Bool) (code : ℕ) (w : Violation) → Some (if b then endings.Finished else endings.PeerTerminated code) ≡ Some (endings.Violation w) → NotNumber A w
 terminated_fine A true code w e = absurd cc
 terminated_fine A false code w e = absurd cc
-
-goes : {B : Type 0} → is_some {T = Ending} None ≡ true → B
-goes e = absurd (true≢false (sym e))
 
 -- a gap that is asked for ends at the live number
 asked_line : (f : Facts) (q : Request) → f.connection.requester ≡ q → Line f
@@ -90,7 +85,7 @@ asked_receiver g None = (refl, refl)
 asked_receiver g (Some r) = (refl, refl)
 
 -- the connection goes on
-going : (x : Around) (A : Type 0) (f g : Facts) (act : Act) (written : List Message) (b : ℕ) (l : Option ℕ) → Reaches g f.recorded.inbox_next b l → Lined A f b l (goes_on x act written g)
+pub going : (x : Around) (A : Type 0) (f g : Facts) (act : Act) (written : List Message) (b : ℕ) (l : Option ℕ) → Reaches g f.recorded.inbox_next b l → Lined A f b l (goes_on x act written g)
 going x A f g act written b l h =
     let a = asked_line g g.connection.requester refl h.line (nat_lt g.connection.receiver.next g.connection.receiver.live) refl in
     let same = asked_receiver g (gap_to_ask g) in
@@ -102,12 +97,12 @@ going x A f g act written b l h =
         live = ap (λ k. k.live) same.0 ∙ h.live;
         left = a.1 ∙ h.left;
       };
-      over = λ some. goes some;
+      over = λ some. not_over {A = Ending} None refl some;
     }
 
 -- it ends
 ending : (x : Around) (A : Type 0) (f g : Facts) (code : ℕ) (v : Violation) (b : ℕ) (l : Option ℕ) → g.recorded.inbox_next ≡ f.recorded.inbox_next → NotNumber A v → Lined A f b l (ends x g code (endings.Violation v))
-ending x A f g code v b l same h = record { fine = λ w e. fine_of A (finishes_exchanged x g) v w e h; next = λ none. absurd cc; over = λ _. same }
+ending x A f g code v b l same h = record { fine = λ w e. ended_by (NotNumber A) (finishes_exchanged x g) v w e h; next = λ none. absurd cc; over = λ _. same }
 
 bad : (x : Around) (A : Type 0) (f : Facts) (k : Option BadStart) (b : ℕ) (l : Option ℕ) → is_some k ≡ true → (A → ⊥) → Lined A f b l (bad_retransmission x f k)
 bad x A f None b l some wrong = absurd (true≢false (sym some))
@@ -258,7 +253,7 @@ pub sequenced_of : (flow : Flow) → is_recoverable flow ≡ true → is_sequenc
 sequenced_of flow e = ap (λ b. b || is_idempotent flow) e
 
 -- what an announcement makes of a reader of a recoverable flow
-announced_is : (x : Around) (f : Facts) (next : Option ℕ) → is_recoverable x.config.peer_flow ≡ true
+pub announced_is : (x : Around) (f : Facts) (next : Option ℕ) → is_recoverable x.config.peer_flow ≡ true
     → announced x f next ≡ record { facts = receiving f (receiver_is.announced f.connection.receiver (unwrap_or next 0)); skipped = None }
 announced_is x f next rec = by_flow (is_recoverable x.config.peer_flow) (is_idempotent x.config.peer_flow) rec
   where
@@ -406,7 +401,7 @@ restart_lined x f id next timestamp count k =
 
 requested : (x : Around) (f : Facts) (id : List ℕ) (timestamp : ℕ) (r : Result Range RetransmitCode) → Line f → Stays ⊤ f (request_answered x f id timestamp r)
 requested x f id timestamp (Ok range) line = passing x ⊤ f (serves f (Some range)) acts.Nothing (retransmission x.config.session range.from timestamp range.count ∷ []) line refl refl refl
-requested x f id timestamp (Err code) line = record { fine = no_violation ⊤; next = λ _. here f line; over = λ some. goes some }
+requested x f id timestamp (Err code) line = record { fine = no_violation ⊤; next = λ _. here f line; over = λ some. not_over {A = Ending} None refl some }
 
 finishing : (x : Around) (f : Facts) (n : ℕ) → Line f → Stays ⊤ f (finished x f n)
 finishing x f n line = by_row (Stays ⊤ f) (is_some (receiver_is.gap f.connection.receiver)) (accepts x [] (peer_finished f (peer.Read n) f.recorded.peer_last)) (answers_finish x f n)
@@ -470,22 +465,15 @@ recoverable_reply x f theirs (said (terminate id code reason)) are now flows k =
           (λ _. record { fine = λ w same. terminated_fine ⊤ (finishes_exchanged x f) code w same; next = λ none. absurd cc; over = λ _. refl }, λ e. absurd (true≢false e)),
     )
 
-asks_none : (f : Facts) → receiver_is.gap f.connection.receiver ≡ None → gap_to_ask f ≡ None
-asks_none f e = by_test (is_none (request_is.outstanding f.connection.requester))
-  where
-    by_test : (b : Bool) → (if b then receiver_is.gap f.connection.receiver else None) ≡ None
-    by_test true = e
-    by_test false = refl
-
-rests : (x : Around) (A : Type 0) (f g : Facts) (act : Act) (written : List Message) (b : ℕ) → Rests g b → Other A f b (goes_on x act written g)
+pub rests : (x : Around) (A : Type 0) (f g : Facts) (act : Act) (written : List Message) (b : ℕ) → Rests g b → Other A f b (goes_on x act written g)
 rests x A f g act written b h = record {
   fine = no_violation A;
   next = λ _. subst (λ (r : Option Range). Rests (having_asked g r) b) (sym (asks_none g h.idle.even)) h;
-  over = λ some. goes some;
+  over = λ some. not_over {A = Ending} None refl some;
 }
 
 stops : (x : Around) (A : Type 0) (f g : Facts) (code : ℕ) (v : Violation) (b : ℕ) → g.recorded.inbox_next ≡ f.recorded.inbox_next → NotNumber A v → Other A f b (ends x g code (endings.Violation v))
-stops x A f g code v b same h = record { fine = λ w e. fine_of A (finishes_exchanged x g) v w e h; next = λ none. absurd cc; over = λ _. same }
+stops x A f g code v b same h = record { fine = λ w e. ended_by (NotNumber A) (finishes_exchanged x g) v w e h; next = λ none. absurd cc; over = λ _. same }
 
 refusing_other : (x : Around) (A : Type 0) (f g : Facts) (v : Option Violation) (b : ℕ) → g.recorded.inbox_next ≡ f.recorded.inbox_next → is_some v ≡ true → ((w : Violation) → v ≡ Some w → NotNumber A w)
     → Other A f b (refuses x g v)
@@ -587,7 +575,7 @@ passing_other x A f g act written idle r q n = rests x A f g act written f.recor
 
 requested_other : (x : Around) (f : Facts) (id : List ℕ) (timestamp : ℕ) (r : Result Range RetransmitCode) → Idle f → StaysOther ⊤ f (request_answered x f id timestamp r)
 requested_other x f id timestamp (Ok range) idle = passing_other x ⊤ f (serves f (Some range)) acts.Nothing (retransmission x.config.session range.from timestamp range.count ∷ []) idle refl refl refl
-requested_other x f id timestamp (Err code) idle = record { fine = no_violation ⊤; next = λ _. rest f idle; over = λ some. goes some }
+requested_other x f id timestamp (Err code) idle = record { fine = no_violation ⊤; next = λ _. rest f idle; over = λ some. not_over {A = Ending} None refl some }
 
 finishing_other : (x : Around) (f : Facts) (n : ℕ) → Idle f → StaysOther ⊤ f (finished x f n)
 finishing_other x f n idle = by_row (StaysOther ⊤ f) (is_some (receiver_is.gap f.connection.receiver)) (accepts x [] (peer_finished f (peer.Read n) f.recorded.peer_last)) (answers_finish x f n)

@@ -13,7 +13,7 @@ use Rattle.fixp_msgs.specs.declared.flow.Flow.TheVariants as flows
 use Rattle.fixp_shake.specs.declared.config.EndConfig.{EndConfig}
 use Rattle.fixp_shake.specs.declared.phase.Phase.TheVariants as phases
 use Rattle.fixp_shake.specs.declared.violation.Violation.{Violation}
-use Rattle.fixp_shake.specs.declared.violation.Violation.TheVariants.{Silent, HandshakeLate}
+use Rattle.fixp_shake.specs.declared.violation.Violation.TheVariants.{BadFrame, UnknownTemplate, NotInPhase, OtherSession, WentBack, MissingNext, NumberTooLarge, BadRetransmission, AfterFinish, FlowNone, Silent, HandshakeLate}
 use Rattle.fixp_shake.specs.Flows.{is_recoverable, is_sequenced, is_absent}
 use Rattle.fixp_shake.specs.Phases.{is_established, is_shaken}
 use Rattle.fixp_replies.specs.declared.act.Ending.TheVariants as endings
@@ -70,6 +70,21 @@ ends_still P s t newly of_time h v e = by_case (newly v e)
     by_case : (s.ending ≡ Some (endings.Violation v)) ⊎ IsOfTime v → P v
     by_case (inl before) = h v before
     by_case (inr late) = of_time v late
+
+-- what holds of silence and of a late handshake holds of each violation of time
+pub each_of_time : (P : Violation → Type 0) → ((last now : ℕ) → P (Silent last now)) → ((start now : ℕ) → P (HandshakeLate start now)) → (v : Violation) → IsOfTime v → P v
+each_of_time P silent late (BadFrame at) t = absurd t
+each_of_time P silent late (UnknownTemplate id) t = absurd t
+each_of_time P silent late (NotInPhase template phase) t = absurd t
+each_of_time P silent late (OtherSession template) t = absurd t
+each_of_time P silent late (WentBack announced expected) t = absurd t
+each_of_time P silent late (MissingNext template) t = absurd t
+each_of_time P silent late (NumberTooLarge announced) t = absurd t
+each_of_time P silent late (BadRetransmission expected found) t = absurd t
+each_of_time P silent late (AfterFinish last found) t = absurd t
+each_of_time P silent late (FlowNone template) t = absurd t
+each_of_time P silent late (Silent last now) t = silent last now
+each_of_time P silent late (HandshakeLate start now) t = late start now
 
 -- any other call, as far as phases go
 pub record Does (s t : State) (out : List Piece) : Type 0 where
@@ -167,7 +182,7 @@ none_is None e = refl
 none_is (Some a) e = absurd (true≢false e)
 
 -- where a connection has not ended, nothing is said of one that has
-not_over : {A : Type 0} (o : Option A) {B : Type 0} → is_some o ≡ false → IsSome o → B
+pub not_over : {A : Type 0} (o : Option A) {B : Type 0} → is_some o ≡ false → IsSome o → B
 not_over None e h = absurd (true≢false (sym h))
 not_over (Some a) e h = absurd (true≢false e)
 

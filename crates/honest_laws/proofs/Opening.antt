@@ -38,7 +38,7 @@ pub record Quiet (f : Facts) : Type 0 where
   pub even : receiver_is.gap f.connection.receiver ≡ None
   pub free : f.connection.serving ≡ None
 
-asks_none : (f : Facts) → receiver_is.gap f.connection.receiver ≡ None → gap_to_ask f ≡ None
+pub asks_none : (f : Facts) → receiver_is.gap f.connection.receiver ≡ None → gap_to_ask f ≡ None
 asks_none f e = by_test (is_none (request_is.outstanding f.connection.requester))
   where
     by_test : (b : Bool) → (if b then receiver_is.gap f.connection.receiver else None) ≡ None

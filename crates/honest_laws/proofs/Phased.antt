@@ -11,7 +11,6 @@ use Rattle.fixp_shake.specs.declared.config.EndConfig.{EndConfig}
 use Rattle.fixp_shake.specs.declared.phase.Phase.{Phase}
 use Rattle.fixp_shake.specs.declared.phase.Phase.TheVariants as phases
 use Rattle.fixp_shake.specs.declared.violation.Violation.{Violation}
-use Rattle.fixp_shake.specs.declared.violation.Violation.TheVariants.{BadFrame, UnknownTemplate, NotInPhase, OtherSession, WentBack, MissingNext, NumberTooLarge, BadRetransmission, AfterFinish, FlowNone, Silent, HandshakeLate}
 use Rattle.fixp_shake.specs.Flows.{is_recoverable, is_sequenced}
 use Rattle.fixp_shake.specs.Phases.{is_idle, is_shaken}
 use Rattle.fixp_replies.specs.declared.act.Ending.{Ending}
@@ -38,7 +37,7 @@ use Rattle.honest_laws.proofs.Asking.{asks, restarts, inside, coming, is_serving
 use Rattle.honest_laws.proofs.Serving.{Requests, asked_by_reader, asked_by_writer, free_for, served_by_writer, served_by_reader, serves_as}
 use Rattle.honest_laws.proofs.Finishing.{counts, total, sendings, answers as answer_count, waiting, reads, tells}
 use Rattle.honest_laws.proofs.Telling.{Awaits, read_by_reader, read_by_writer, due, told_by_writer, told_by_reader, tells_as}
-use Rattle.honest_laws.proofs.Moving.{reads_as, Does, does_as, ends_still}
+use Rattle.honest_laws.proofs.Moving.{reads_as, Does, does_as, ends_still, each_of_time}
 use Rattle.honest_laws.specs.Numbers.{IsFlowing, Peer, served}
 
 -- How far the two ends are: the handshake is asked for or answered, or neither is under way; it is acknowledged; it is done; or the
@@ -200,18 +199,7 @@ acceptor_does_so s t out ci fi ei outward homeward role d (refusing over bi qi e
 
 -- those of time are left
 time_left : (v : Violation) → IsOfTime v → IsLeft v
-time_left (BadFrame at) t = absurd t
-time_left (UnknownTemplate id) t = absurd t
-time_left (NotInPhase template phase) t = absurd t
-time_left (OtherSession template) t = absurd t
-time_left (WentBack announced expected) t = absurd t
-time_left (MissingNext template) t = absurd t
-time_left (NumberTooLarge announced) t = absurd t
-time_left (BadRetransmission expected found) t = absurd t
-time_left (AfterFinish last found) t = absurd t
-time_left (FlowNone template) t = absurd t
-time_left (Silent last now) t = tt
-time_left (HandshakeLate start now) t = tt
+time_left = each_of_time IsLeft (λ last now. tt) (λ start now. tt)
 
 -- a connection begins
 quiet_beginning : (recorded : EndState) (p : Phase) → Quiet (connecting recorded p)

@@ -1,6 +1,6 @@
 -- The numbers under way between two ends: how far what is under way brings a reader.
 use Rattle.std.proofs.Common.{◌≡◌, ℕ, ◌+◌, ◌-◌, ◌≤◌, Bool, true, false, if◌then◌else◌, List, [], ◌∷◌, ◌++◌, length, Option, Some, None, refl, sym, ap, subst, ◌∙◌, arith, true≢false}
-use Rattle.std.specs.Prelude.{⊤, is_some, unwrap_or, IfSome}
+use Rattle.std.specs.Prelude.{is_some, unwrap_or, IfSome}
 use Rattle.fixp_msgs.specs.declared.flow.Flow.{Flow}
 use Rattle.connection_laws.specs.Writing.{Piece, said, entry, entries}
 use Rattle.honest_laws.specs.Numbers.{Awaited, exactly, at_most, Allows, announces, live_after, awaited_after, left_after, Fits, Runs}
@@ -93,7 +93,7 @@ unwrap_above : (o : Option ℕ) (a : Awaited) → IfSome o (λ n. Allows a n) �
 unwrap_above None a h = omega arith
 unwrap_above (Some n) a h = allows_above a n h
 
-grows : (flow : Flow) (p : Piece) (a : Awaited) (l : Option ℕ) → Fits flow p a l → number_of a ≤ live_after flow p (number_of a) l
+pub grows : (flow : Flow) (p : Piece) (a : Awaited) (l : Option ℕ) → Fits flow p a l → number_of a ≤ live_after flow p (number_of a) l
 grows flow (entry payload) a None f = omega arith
 grows flow (entry payload) a (Some n) f = omega arith
 grows flow (said m) a l f = unwrap_above (announces flow (said m)) a f.0

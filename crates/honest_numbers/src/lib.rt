@@ -7,4 +7,4 @@ mod numbers;
 mod samples;
 
 pub use numbers::{numbered_holds, numbers_hold};
-pub use samples::known_sample;
+pub use samples::{known_sample, numbers_sample};

@@ -1,0 +1,11 @@
+pub mod Counting
+pub mod Awaiting
+pub mod Opening
+pub mod Reading
+pub mod Requesting
+pub mod Keeping
+pub mod Standing
+pub mod Beginning
+pub mod Numbering
+pub mod Laws
+pub mod Sampled
