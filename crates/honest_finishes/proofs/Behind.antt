@@ -1,7 +1,7 @@
 -- The finish of one flow at any moment: where its reader knows it, or it is under way, its writer has sent all of its entries, and behind
 -- it no message is live. How each reply and each call keeps that, and that so no message comes behind a finish.
-use Rattle.std.proofs.Common.{◌≡◌, ◌⊎◌, inl, inr, ℕ, zero, suc, ◌+◌, ◌≤◌, ◌==◌, ◌&&◌, not, Bool, true, false, if◌then◌else◌, List, [], ◌∷◌, ◌++◌, length, Option, Some, None, refl, sym, ap, subst, ◌∙◌, arith, true≢false, eq-eqb}
-use Rattle.std.specs.Prelude.{is_some, unwrap_or, IfSome, IsSome}
+use Rattle.std.proofs.Common.{◌≡◌, ◌⊎◌, inl, inr, ℕ, zero, suc, ◌+◌, ◌≤◌, ◌==◌, ◌&&◌, not, Bool, true, false, if◌then◌else◌, List, ◌∷◌, ◌++◌, length, Option, Some, None, refl, sym, ap, subst, ◌∙◌, arith, true≢false, eq-eqb}
+use Rattle.std.specs.Prelude.{is_some, unwrap_or, IfSome}
 use Rattle.std.specs.List.{AllByRecursion}
 use Rattle.session_model.specs.Journal.{Entry}
 use Rattle.session_model.proofs.Lists.{all_append}
@@ -27,9 +27,9 @@ use Rattle.connection_laws.specs.Writing.{Piece, said, entry, said_all}
 use Rattle.link_laws.specs.Reading.{incoming_of}
 use Rattle.link_laws.proofs.Refused.{closing_is_deaf}
 use Rattle.honest_laws.specs.Numbers.{exactly, Runs, served, to_come}
-use Rattle.honest_laws.proofs.Finishing.{Finishes, finishes, Learned, IsLate, ComesLate, Moves, moves, last_in, sendings, total, total_append}
+use Rattle.honest_laws.proofs.Finishing.{finishes, Learned, IsLate, ComesLate, Moves, moves, last_in, sendings, total, total_append}
 use Rattle.honest_laws.proofs.Telling.{Complete, NamesLast, none_names, Tells}
-use Rattle.honest_laws.proofs.Asking.{turns, inside, coming, is_serving, asks_of}
+use Rattle.honest_laws.proofs.Asking.{inside, coming, is_serving, asks_of}
 use Rattle.honest_laws.proofs.Serving.{by_bool}
 use Rattle.honest_numbers.specs.Knowing.{last_told}
 use Rattle.honest_finishes.proofs.Living.{NoneLive, behind_fewer, none_live_append, said_live, unfinished_live, level_live, live_level}

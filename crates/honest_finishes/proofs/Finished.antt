@@ -1,9 +1,7 @@
 -- Nothing comes behind a finish, over any steps of two ends; and what is left of the violations is of time.
 use Rattle.std.proofs.Common.{◌≡◌, ℕ, ◌+◌, ◌&&◌, Bool, true, false, List, [], ◌∷◌, ◌++◌, Option, Some, None, refl, sym, ap, subst, ◌∙◌, true≢false}
-use Rattle.std.specs.Prelude.{⊤}
 use Rattle.session_model.specs.Journal.{Entry}
 use Rattle.growth_laws.proofs.Accepted.{is_done}
-use Rattle.fixp_msgs.specs.declared.flow.Flow.{Flow}
 use Rattle.fixp_shake.specs.declared.config.EndConfig.{EndConfig}
 use Rattle.fixp_shake.specs.declared.violation.Violation.{Violation}
 use Rattle.fixp_shake.specs.declared.violation.Violation.TheVariants.{BadFrame, UnknownTemplate, NotInPhase, OtherSession, WentBack, MissingNext, NumberTooLarge, BadRetransmission, AfterFinish, FlowNone, Silent, HandshakeLate}
@@ -11,16 +9,14 @@ use Rattle.fixp_shake.specs.Flows.{is_sequenced}
 use Rattle.fixp_shake.specs.Phases.{is_shaken}
 use Rattle.fixp_replies.specs.declared.act.Ending.{Ending}
 use Rattle.fixp_replies.specs.declared.act.Ending.TheVariants as endings
-use Rattle.fixp_replies.specs.declared.facts.Facts.{Facts}
-use Rattle.fixp_replies.specs.Outcomes.{Outcome}
 use Rattle.fixp_replies.specs.Replies.{reply_of}
-use Rattle.reply_laws.specs.Machine.{State, Call, around, run}
+use Rattle.reply_laws.specs.Machine.{State, around, run}
 use Rattle.connection_laws.specs.Writing.{Piece}
-use Rattle.connection_laws.specs.Standing.{IsOpen, MayStand}
+use Rattle.connection_laws.specs.Standing.{IsOpen}
 use Rattle.link_laws.specs.Reading.{incoming_of}
 use Rattle.honest_laws.specs.Laws.{IsLeft, IsOfTime, EndsBy}
 use Rattle.honest_laws.specs.Numbers.{Awaited, exactly, Runs, served, to_come}
-use Rattle.honest_laws.specs.Worlds.{World, Step, meets, initiator_reads, acceptor_reads, initiator_does, acceptor_does, reading, written, initiator_read, acceptor_read, after, world_after, IsOther, MayStep, AllMayStep}
+use Rattle.honest_laws.specs.Worlds.{World, Step, meets, initiator_reads, acceptor_reads, initiator_does, acceptor_does, written, initiator_read, acceptor_read, after, world_after, MayStep, AllMayStep}
 use Rattle.honest_laws.proofs.Finishing.{moves}
 use Rattle.honest_laws.proofs.Telling.{tells_as}
 use Rattle.honest_laws.proofs.Serving.{serves_as, was_none}

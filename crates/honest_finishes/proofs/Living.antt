@@ -1,10 +1,10 @@
 -- What is under way behind a finish: no message of it is live, since each that is would raise the number that its reader awaits.
-use Rattle.std.proofs.Common.{◌≡◌, ℕ, zero, suc, ◌+◌, ◌≤◌, Bool, true, false, List, [], ◌∷◌, ◌++◌, Option, Some, None, refl, sym, subst, ◌∙◌, arith, true≢false}
+use Rattle.std.proofs.Common.{◌≡◌, ℕ, zero, suc, ◌+◌, ◌≤◌, Bool, true, List, [], ◌∷◌, ◌++◌, Option, Some, None, refl, sym, subst, ◌∙◌, arith, true≢false}
 use Rattle.std.specs.Prelude.{⊤, is_some, unwrap_or, IfSome}
 use Rattle.fixp_msgs.specs.declared.flow.Flow.{Flow}
 use Rattle.fixp_msgs.specs.Message.{Message, sequence, retransmission}
 use Rattle.connection_laws.specs.Writing.{Piece, said, entry, said_all}
-use Rattle.honest_laws.specs.Numbers.{exactly, announces, live_after, awaited_after, left_after, Runs}
+use Rattle.honest_laws.specs.Numbers.{exactly, announces, live_after, left_after, Runs}
 use Rattle.honest_laws.proofs.Finishing.{sendings, total}
 use Rattle.honest_laws.proofs.Asking.{turns, inside}
 use Rattle.honest_laws.proofs.Running.{runs_top}

@@ -1,16 +1,15 @@
 -- The finishes where two ends begin, and where they begin a connection.
-use Rattle.std.proofs.Common.{◌≡◌, ◌⊎◌, inl, inr, ℕ, ◌+◌, Bool, true, false, List, [], length, Option, Some, None, refl, sym, ap, subst, ◌∙◌, arith}
+use Rattle.std.proofs.Common.{◌≡◌, inl, inr, ℕ, Bool, true, false, List, [], length, Option, Some, None, refl, sym, ap, subst, ◌∙◌, arith}
 use Rattle.std.specs.Prelude.{IfSome}
 use Rattle.session_model.specs.Journal.{Entry}
 use Rattle.fixp_msgs.specs.declared.flow.Flow.{Flow}
-use Rattle.fixp_shake.specs.declared.phase.Phase.TheVariants as phases
 use Rattle.fixp_replies.specs.declared.act.Ending.{Ending}
 use Rattle.fixp_replies.specs.declared.facts.EndState.{EndState}
 use Rattle.fixp_replies.specs.declared.facts.Facts.{Facts}
 use Rattle.fixp_replies.specs.declared.facts.PeerFinish.{PeerFinish}
 use Rattle.fixp_replies.specs.declared.facts.PeerFinish.TheVariants as peer
 use Rattle.fixp_replies.specs.Events.{Made, begun}
-use Rattle.fixp_replies.specs.Facts.{Around, is_initiator, last_among, connecting}
+use Rattle.fixp_replies.specs.Facts.{Around, is_initiator, last_among}
 use Rattle.reply_laws.specs.Machine.{State, fresh}
 use Rattle.connection_laws.specs.Writing.{Piece, said_all}
 use Rattle.honest_laws.proofs.Finishing.{finishes, Learned, sendings, total}
