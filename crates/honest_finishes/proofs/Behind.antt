@@ -47,7 +47,7 @@ pub record Behind (own : Flow) (h : List Entry) (writer reader : Facts) (over : 
   pub none_live : over ≡ None → is_closing reader.connection.phase ≡ false → NoneLive (known (peer_last reader)) (coming reader) way
 
 -- what a reader knows it has learned
-last_of : (r : Option ℕ) (q : PeerFinish) (last : ℕ) → last_among r q ≡ Some last → (r ≡ Some last) ⊎ (last_among None q ≡ Some last)
+pub last_of : (r : Option ℕ) (q : PeerFinish) (last : ℕ) → last_among r q ≡ Some last → (r ≡ Some last) ⊎ (last_among None q ≡ Some last)
 last_of r peer.Open last e = inl e
 last_of r (peer.Read n) last e = inr e
 last_of r (peer.Exchanged n) last e = inr e
@@ -68,7 +68,7 @@ known_learned f P some h = by_last (peer_last f) refl some
     by_last None e some = absurd (omega (arith, some))
     by_last (Some last) e some = h last e (last_of f.recorded.peer_last f.connection.peer_finish last e)
 
-there_known : (o : Option ℕ) → is_some o ≡ true → 1 ≤ known o
+pub there_known : (o : Option ℕ) → is_some o ≡ true → 1 ≤ known o
 there_known None e = absurd (true≢false (sym e))
 there_known (Some n) e = omega arith
 
@@ -214,7 +214,7 @@ open_not_closing phases.Established e = refl
 open_not_closing phases.Closing e = absurd (true≢false (sym e))
 open_not_closing phases.Ended e = refl
 
-to_come_some : (q : Request) → is_some (to_come q) ≡ request_is.is_coming q
+pub to_come_some : (q : Request) → is_some (to_come q) ≡ request_is.is_coming q
 to_come_some requests.Nothing = refl
 to_come_some (requests.Asked range) = refl
 to_come_some (requests.Coming range next left) = refl

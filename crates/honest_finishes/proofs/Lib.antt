@@ -1,4 +1,5 @@
 pub mod Living
 pub mod Behind
 pub mod Meeting
-pub mod Finished
+pub mod Stepping
+pub mod Laws

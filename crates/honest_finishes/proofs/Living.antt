@@ -50,7 +50,7 @@ unfinished_live (p ∷ ps) k b e = (by_piece p (omega (arith, e)), unfinished_li
     by_piece (entry payload) none = λ some. absurd (omega (arith, none, some))
     by_piece (said m) none = tt
 
-left_turns : (p : Piece) (l : Option ℕ) → is_some (left_after p l) ≡ turns p (is_some l)
+pub left_turns : (p : Piece) (l : Option ℕ) → is_some (left_after p l) ≡ turns p (is_some l)
 left_turns (entry payload) None = refl
 left_turns (entry payload) (Some n) = refl
 left_turns (said (sequence next)) l = refl

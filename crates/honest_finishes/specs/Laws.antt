@@ -6,6 +6,7 @@ use Rattle.fixp_shake.specs.declared.violation.Violation.TheVariants.{BadFrame, 
 use Rattle.honest_laws.specs.Laws.{IsOfTime, EndsBy}
 use Rattle.honest_laws.specs.Worlds.{World, Step, world_after, AllMayStep}
 use Rattle.honest_numbers.specs.Knowing.{StartsKnown}
+use Rattle.honest_finishes.specs.Finished.{Finished}
 
 -- a violation that is not behind a finish
 abbrev pub NoFinish : Violation → Type 0
@@ -26,6 +27,10 @@ NoFinish (HandshakeLate start now) = ⊤
 abbrev pub FinishesHold : Type 0
 FinishesHold = (hi ha : List Entry) (w : World) (steps : List Step) → StartsKnown hi ha w → AllMayStep hi ha w steps
     → EndsBy NoFinish (world_after w steps).initiator × EndsBy NoFinish (world_after w steps).acceptor
+
+-- and the finishes of both flows are as they have to be at each moment
+abbrev pub FinishedHolds : Type 0
+FinishedHolds = (hi ha : List Entry) (w : World) (steps : List Step) → StartsKnown hi ha w → AllMayStep hi ha w steps → Finished hi ha (world_after w steps)
 
 -- with the laws of phases and of numbers no violation is left but those of time
 abbrev pub OnlyTimeEnds : Type 0

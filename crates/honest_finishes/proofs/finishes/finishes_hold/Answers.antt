@@ -1,4 +1,4 @@
-use Rattle.honest_finishes.proofs.Finished.{finishes_hold}
+use Rattle.honest_finishes.proofs.Laws.{finishes_hold}
 use Rattle.honest_finishes.proofs.finishes.finishes_hold.Goals as goal
 
 pub returns : goal.returns

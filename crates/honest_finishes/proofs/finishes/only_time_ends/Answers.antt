@@ -1,4 +1,4 @@
-use Rattle.honest_finishes.proofs.Finished.{only_time_ends}
+use Rattle.honest_finishes.proofs.Laws.{only_time_ends}
 use Rattle.honest_finishes.proofs.finishes.only_time_ends.Goals as goal
 
 pub returns : goal.returns

@@ -1,4 +1,4 @@
--- Nothing comes behind a finish, over any steps of two ends; and what is left of the violations is of time.
+-- The finishes of both flows, kept by each step of two ends.
 use Rattle.std.proofs.Common.{◌≡◌, ℕ, ◌+◌, ◌&&◌, Bool, true, false, List, [], ◌∷◌, ◌++◌, Option, Some, None, refl, sym, ap, subst, ◌∙◌, true≢false}
 use Rattle.session_model.specs.Journal.{Entry}
 use Rattle.growth_laws.proofs.Accepted.{is_done}
@@ -14,19 +14,18 @@ use Rattle.reply_laws.specs.Machine.{State, around, run}
 use Rattle.connection_laws.specs.Writing.{Piece}
 use Rattle.connection_laws.specs.Standing.{IsOpen}
 use Rattle.link_laws.specs.Reading.{incoming_of}
-use Rattle.honest_laws.specs.Laws.{IsLeft, IsOfTime, EndsBy}
+use Rattle.honest_laws.specs.Laws.{IsOfTime, EndsBy}
 use Rattle.honest_laws.specs.Numbers.{Awaited, exactly, Runs, served, to_come}
 use Rattle.honest_laws.specs.Worlds.{World, Step, meets, initiator_reads, acceptor_reads, initiator_does, acceptor_does, written, initiator_read, acceptor_read, after, world_after, MayStep, AllMayStep}
 use Rattle.honest_laws.proofs.Finishing.{moves}
 use Rattle.honest_laws.proofs.Telling.{tells_as}
 use Rattle.honest_laws.proofs.Serving.{serves_as, was_none}
 use Rattle.honest_laws.proofs.Moving.{reads_as, does_as, ends_still}
-use Rattle.honest_laws.proofs.Phased.{Holds, carried, holds_step, holds_at_first, phases_hold}
+use Rattle.honest_laws.proofs.Phased.{Holds, carried, holds_step, holds_at_first}
 use Rattle.honest_numbers.specs.Knowing.{StartsKnown}
-use Rattle.honest_numbers.specs.Laws.{NoNumber}
 use Rattle.honest_numbers.specs.Numbered.{Numbered, Follows, awaits, next_live}
-use Rattle.honest_numbers.proofs.Laws.{numbers_hold, numbered_holds}
-use Rattle.honest_finishes.specs.Laws.{NoFinish, FinishesHold, OnlyTimeEnds}
+use Rattle.honest_numbers.proofs.Laws.{numbered_holds}
+use Rattle.honest_finishes.specs.Laws.{NoFinish}
 use Rattle.honest_finishes.proofs.Behind.{Behind, Exact, heard_by_reader, heard_by_writer, told_behind, kept_behind, none_late, open_not_closing}
 use Rattle.honest_finishes.proofs.Meeting.{begins_behind, first_behind}
 
@@ -52,11 +51,11 @@ numbered : (hi ha : List Entry) (w : World) → Reached hi ha w → Numbered hi 
 numbered hi ha w r = subst (λ (k : World). Numbered hi ha k) r.is (numbered_holds hi ha r.first r.steps r.known r.may)
 
 -- what holds of both ends and of what is under way between them
-record Ends (hi ha : List Entry) (w : World) : Type 0 where
-  outward : Behind w.initiator.config.own_flow hi w.initiator.facts w.acceptor.facts w.acceptor.ending w.outward
-  homeward : Behind w.acceptor.config.own_flow ha w.acceptor.facts w.initiator.facts w.initiator.ending w.homeward
-  initiator : EndsBy NoFinish w.initiator
-  acceptor : EndsBy NoFinish w.acceptor
+pub record Ends (hi ha : List Entry) (w : World) : Type 0 where
+  pub outward : Behind w.initiator.config.own_flow hi w.initiator.facts w.acceptor.facts w.acceptor.ending w.outward
+  pub homeward : Behind w.acceptor.config.own_flow ha w.acceptor.facts w.initiator.facts w.initiator.ending w.homeward
+  pub initiator : EndsBy NoFinish w.initiator
+  pub acceptor : EndsBy NoFinish w.acceptor
 
 awaits_exactly : (b : Bool) (n : ℕ) → b ≡ true → awaits b n ≡ exactly n
 awaits_exactly true n e = refl
@@ -201,29 +200,6 @@ ends_at_first hi ha w known = record {
   acceptor = λ v is. absurd (cc (sym (ap (λ (s : State). s.ending) known.0.acceptor) ∙ is));
 }
 
-pub finishes_hold : FinishesHold
-finishes_hold hi ha w steps known may =
-    let h = ends_after hi ha w steps (record { first = w; steps = []; known = known; may = tt; is = refl }) (holds_at_first w known.0) (ends_at_first hi ha w known) may in
-    (h.initiator, h.acceptor)
-
--- what none of the laws excludes
-of_time : (v : Violation) → IsLeft v → NoNumber v → NoFinish v → IsOfTime v
-of_time (BadFrame at) l n f = l
-of_time (UnknownTemplate id) l n f = l
-of_time (NotInPhase template phase) l n f = l
-of_time (OtherSession template) l n f = l
-of_time (WentBack announced expected) l n f = n
-of_time (MissingNext template) l n f = l
-of_time (NumberTooLarge announced) l n f = n
-of_time (BadRetransmission expected found) l n f = n
-of_time (AfterFinish last found) l n f = f
-of_time (FlowNone template) l n f = l
-of_time (Silent last now) l n f = tt
-of_time (HandshakeLate start now) l n f = tt
-
-pub only_time_ends : OnlyTimeEnds
-only_time_ends hi ha w steps known may =
-    let phases = phases_hold hi ha w steps known.0 may in
-    let numbers = numbers_hold hi ha w steps known may in
-    let finishes = finishes_hold hi ha w steps known may in
-    (λ v is. of_time v (phases.0 v is) (numbers.0 v is) (finishes.0 v is), λ v is. of_time v (phases.1 v is) (numbers.1 v is) (finishes.1 v is))
+-- so it is after any steps from the beginning
+pub ends_hold : (hi ha : List Entry) (w : World) (steps : List Step) → StartsKnown hi ha w → AllMayStep hi ha w steps → Ends hi ha (world_after w steps)
+ends_hold hi ha w steps known may = ends_after hi ha w steps (record { first = w; steps = []; known = known; may = tt; is = refl }) (holds_at_first w known.0) (ends_at_first hi ha w known) may
