@@ -41,6 +41,7 @@ known (Some n) = 1
 
 -- Of one flow, whose writer's outbox comes to have these entries
 pub record Behind (own : Flow) (h : List Entry) (writer reader : Facts) (over : Option Ending) (way : List Piece) : Type 0 where
+  pub finish : IfSome writer.recorded.finish (λ n. n ≡ length h)
   pub learned : (last : ℕ) → Learned (finishes reader) last → Complete (length h) writer × (last ≡ last_told own h)
   pub told : 1 ≤ total sendings way → Complete (length h) writer
   pub names : AllByRecursion (NamesLast own (length h)) way
@@ -88,7 +89,7 @@ named x own h _ last flow names e = absurd cc
 -- the reader replies to a message
 pub heard_by_reader : (own : Flow) (h : List Entry) (writer : Facts) (x : Around) (reader : Facts) (over : Option Ending) (p : Piece) (left : List Piece) → x.config.peer_flow ≡ own → over ≡ None
     → Behind own h writer reader over (p ∷ left) → Behind own h writer (reply_of x reader (incoming_of p)).next (reply_of x reader (incoming_of p)).ending left
-heard_by_reader own h writer x reader over p left flow going a = record { learned = learned; told = λ some. a.told (omega (arith, some)); names = a.names.1; none_live = none_live }
+heard_by_reader own h writer x reader over p left flow going a = record { finish = a.finish; learned = learned; told = λ some. a.told (omega (arith, some)); names = a.names.1; none_live = none_live }
   where
     o : Outcome
     o = reply_of x reader (incoming_of p)
@@ -124,6 +125,7 @@ heard_by_reader own h writer x reader over p left flow going a = record { learne
 pub heard_by_writer : (own : Flow) (h : List Entry) (x : Around) (writer reader : Facts) (over : Option Ending) (p : Piece) (way : List Piece) → Behind own h writer reader over way
     → Behind own h (reply_of x writer (incoming_of p)).next reader over (way ++ said_all (reply_of x writer (incoming_of p)).written)
 heard_by_writer own h x writer reader over p way a = record {
+  finish = subst (λ (k : Option ℕ). IfSome k (λ n. n ≡ length h)) (sym m.finish) a.finish;
   learned = λ last l. let k = a.learned last l in (completes k.0, k.1);
   told = λ some. completes (a.told (omega (arith, e, quiet, some)));
   names = all_append (NamesLast own (length h)) way (said_all o.written) a.names (none_names own (length h) (said_all o.written) m.counts.quiet);
@@ -155,6 +157,7 @@ pub told_behind : (own : Flow) (h : List Entry) (writer next reader : Facts) (ov
     → (over ≡ None → is_closing reader.connection.phase ≡ false → inside (coming reader) way ≡ is_serving writer) → Tells own (length h) writer next out
     → Runs own (exactly (writer.recorded.sent + 1)) (served writer.connection.serving) out (next.recorded.sent + 1) (served next.connection.serving) → Behind own h next reader over (way ++ out)
 told_behind own h writer next reader over way out a even t runs = record {
+  finish = t.ends a.finish;
   learned = λ last l. let k = a.learned last l in (t.completes k.0, k.1);
   told = λ some. by_count (total sendings way) refl some;
   names = all_append (NamesLast own (length h)) way out a.names t.names;
@@ -192,6 +195,7 @@ pub kept_behind : {flow : Flow} {n : ℕ} {out : List Piece} (own : Flow) (h : L
     → (is_closing next.connection.phase ≡ false → is_closing reader.connection.phase ≡ false) → next.connection.requester ≡ reader.connection.requester → Behind own h writer reader over way → Tells flow n reader next out
     → Behind own h writer next later way
 kept_behind own h writer reader next over later way goes opens asked a t = record {
+  finish = a.finish;
   learned = λ last l. a.learned last (was last l);
   told = a.told;
   names = a.names;

@@ -7,7 +7,7 @@ use Rattle.fixp_msgs.specs.Message.{finished_sending}
 use Rattle.fixp_shake.specs.declared.violation.Violation.{Violation}
 use Rattle.fixp_shake.specs.declared.violation.Violation.TheVariants.{BadFrame, UnknownTemplate, NotInPhase, OtherSession, WentBack, MissingNext, NumberTooLarge, BadRetransmission, AfterFinish, FlowNone, Silent, HandshakeLate}
 use Rattle.fixp_replies.specs.Facts.{peer_last}
-use Rattle.reply_laws.specs.Machine.{State}
+use Rattle.reply_laws.specs.Machine.{State, fresh}
 use Rattle.connection_laws.specs.Writing.{Piece, said, entry}
 use Rattle.honest_laws.specs.Laws.{IsLeft, IsOfTime}
 use Rattle.honest_laws.specs.Numbers.{left_after, to_come}
@@ -15,11 +15,13 @@ use Rattle.honest_laws.specs.Worlds.{world_after}
 use Rattle.honest_laws.proofs.Finishing.{finishes, Learned, sendings, total}
 use Rattle.honest_laws.proofs.Telling.{Complete, NamesLast}
 use Rattle.honest_laws.proofs.Asking.{turns}
-use Rattle.honest_laws.proofs.Phased.{phases_hold}
+use Rattle.honest_laws.proofs.Phased.{holds_after, holds_at_first, phases_hold}
+use Rattle.honest_numbers.specs.Knowing.{Knows, last_told}
 use Rattle.honest_numbers.specs.Laws.{NoNumber}
-use Rattle.honest_numbers.proofs.Laws.{numbers_hold}
+use Rattle.honest_numbers.specs.Numbered.{Follows}
+use Rattle.honest_numbers.proofs.Laws.{numbers_hold, numbered_holds}
 use Rattle.honest_finishes.specs.Finished.{IsLast, IsFinish, IsTold, NoneLive, NoneLiveBehind, Tells}
-use Rattle.honest_finishes.specs.Laws.{NoFinish, FinishedHolds, FinishesHold, OnlyTimeEnds}
+use Rattle.honest_finishes.specs.Laws.{NoFinish, FinishedHolds, FinishesHold, OnlyTimeEnds, StaysKnown}
 use Rattle.honest_finishes.proofs.Living as counted
 use Rattle.honest_finishes.proofs.Living.{left_turns}
 use Rattle.honest_finishes.proofs.Behind.{Behind, known, last_of, there_known, to_come_some}
@@ -97,3 +99,27 @@ only_time_ends hi ha w steps known may =
     let numbers = numbers_hold hi ha w steps known may in
     let finishes = finishes_hold hi ha w steps known may in
     (λ v is. of_time v (phases.0 v is) (numbers.0 v is) (finishes.0 v is), λ v is. of_time v (phases.1 v is) (numbers.1 v is) (finishes.1 v is))
+
+-- what is recorded of one flow is as at a beginning
+knows_again : (h : List Entry) (writer reader : State) (way back : List Piece) → Follows h writer reader way back → Behind writer.config.own_flow h writer.facts reader.facts reader.ending way
+    → Knows h (fresh writer.config writer.facts.recorded writer.most) (fresh reader.config reader.facts.recorded reader.most)
+knows_again h writer reader way back f b = record {
+  sent = f.sent;
+  most = f.most;
+  one = f.one;
+  next = f.next;
+  finish = b.finish;
+  last = if_known reader.facts.recorded.peer_last (λ n. (writer.facts.recorded.finish ≡ Some (length h)) × (writer.facts.recorded.sent ≡ length h) × (n ≡ last_told writer.config.own_flow h))
+      (λ last e. let c = b.learned last (inl e) in (c.0.finish, c.0.sent, c.1));
+}
+
+pub stays_known : StaysKnown
+stays_known hi ha w steps known may =
+    let holds = holds_after hi ha w steps (holds_at_first w known.0) may in
+    let numbers = numbered_holds hi ha w steps known may in
+    let ends = ends_hold hi ha w steps known may in
+    let now = world_after w steps in (
+      record { matches = holds.matches; initiator = refl; acceptor = refl; outward = refl; homeward = refl },
+      knows_again hi now.initiator now.acceptor now.outward now.homeward numbers.outward ends.outward,
+      knows_again ha now.acceptor now.initiator now.homeward now.outward numbers.homeward ends.homeward,
+    )

@@ -37,6 +37,7 @@ unheard x recorded = by_case (is_initiator x.config.role) recorded.negotiated
 pub begins_behind : (own : Flow) (h : List Entry) (xw xr : Around) (writer reader : Facts) (over later : Option Ending) (way : List Piece) → Behind own h writer reader over way
     → Behind own h (begun xw writer.recorded).next (begun xr reader.recorded).next later (said_all (begun xw writer.recorded).written)
 begins_behind own h xw xr writer reader over later way a = record {
+  finish = subst (λ (k : Option ℕ). IfSome k (λ n. n ≡ length h)) (sym (ap (λ (r : EndState). r.finish) b.same)) a.finish;
   learned = learned;
   told = λ some. let silent = b.silent in absurd (omega (arith, silent, some));
   names = none_names own (length h) (said_all (begun xw writer.recorded).written) b.silent;
@@ -64,7 +65,7 @@ if_some (Some k) P n h e = let same : k ≡ n = cc e in subst P same h
 pub first_behind : (h : List Entry) (writer reader : State) (way : List Piece) → Knows h writer reader → reader ≡ fresh reader.config reader.facts.recorded reader.most → way ≡ []
     → Behind writer.config.own_flow h writer.facts reader.facts reader.ending way
 first_behind h writer reader way k new none = subst (λ (ps : List Piece). Behind writer.config.own_flow h writer.facts reader.facts reader.ending ps) (sym none)
-    (record { learned = learned; told = λ some. absurd (omega (arith, some)); names = tt; none_live = λ _ _. tt })
+    (record { finish = k.finish; learned = learned; told = λ some. absurd (omega (arith, some)); names = tt; none_live = λ _ _. tt })
   where
     learned : (last : ℕ) → Learned (finishes reader.facts) last → Complete (length h) writer.facts × (last ≡ last_told writer.config.own_flow h)
     learned last (inl e) =

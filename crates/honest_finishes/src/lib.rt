@@ -5,4 +5,4 @@
 
 mod finishes;
 
-pub use finishes::{finished_holds, finishes_hold, only_time_ends};
+pub use finishes::{finished_holds, finishes_hold, only_time_ends, stays_known};

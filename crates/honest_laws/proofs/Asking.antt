@@ -97,13 +97,14 @@ Requested g (said (retransmit_request id timestamp first count)) =
     (g.connection.requester ≡ requests.Asked (record { from = first; count = count })) × (first ≡ g.connection.receiver.next) × (1 ≤ count) × (count ≤ request_limit)
 Requested g _ = ⊤
 
-pub none_requested : (g : Facts) (ps : List Piece) → total asks ps ≡ 0 → AllByRecursion (Requested g) ps
-none_requested g [] e = tt
-none_requested g (p ∷ ps) e = (by_piece p (omega (arith, e)), none_requested g ps (omega (arith, e)))
-  where
-    by_piece : (q : Piece) → asks q ≡ 0 → Requested g q
-    by_piece (said (retransmit_request id timestamp first count)) n = absurd (omega (arith, n))
-    by_piece _ n = tt
+-- what holds of each message that counts none holds of all, where all count none
+pub all_none : (P : Piece → Type 0) (count : Piece → ℕ) → ((p : Piece) → count p ≡ 0 → P p) → (ps : List Piece) → total count ps ≡ 0 → AllByRecursion P ps
+all_none P count f [] e = tt
+all_none P count f (p ∷ ps) e = (f p (omega (arith, e)), all_none P count f ps (omega (arith, e)))
+
+none_requested : (g : Facts) (p : Piece) → asks p ≡ 0 → Requested g p
+none_requested g (said (retransmit_request id timestamp first count)) n = absurd (omega (arith, n))
+none_requested g _ n = tt
 
 -- at a message that is so many of each, and turns a retransmission so: what is written and what was open is open or was answered; a range
 -- is served in answer to a request; the retransmission that comes in is the one under way; and the one that goes out is the range served
@@ -222,7 +223,7 @@ going x f g requested restarted turn act written none u keeps resent comes servi
       runs = subst (λ (n : ℕ). Runs x.config.own_flow (exactly (f.recorded.sent + 1)) (served f.connection.serving) (said_all (written ++ request_for x gap)) (n + 1) (served (having_asked g gap).connection.serving)) (sym q.sent)
           (subst (λ (s : Option Range). Runs x.config.own_flow (exactly (f.recorded.sent + 1)) (served f.connection.serving) (said_all (written ++ request_for x gap)) (g.recorded.sent + 1) (served s)) (sym q.serving)
           (runs_behind x x.config.own_flow (f.recorded.sent + 1) (served f.connection.serving) written gap (g.recorded.sent + 1) (served g.connection.serving) runs));
-      names = names_behind x (having_asked g gap) written gap (none_requested (having_asked g gap) (said_all written) none) q.names;
+      names = names_behind x (having_asked g gap) written gap (all_none (Requested (having_asked g gap)) asks (none_requested (having_asked g gap)) (said_all written) none) q.names;
       keeps = λ r one. let same = ap unanswered_of (keeps r one) in q.keeps (omega (arith, same, one)) ∙ keeps r one;
     }
 
@@ -261,7 +262,7 @@ staying x f requested m n k t r = record {
   serves = t (is_serving f);
   goes = inl n;
   runs = r (served f.connection.serving);
-  names = none_requested f (said m ∷ []) n;
+  names = all_none (Requested f) asks (none_requested f) (said m ∷ []) n;
   keeps = λ _ _. refl;
 }
 
@@ -577,11 +578,12 @@ asks_of x f p =
     by_piece (said m) = session_rows x f m
     by_piece (entry payload) = message_rows x f payload
 
--- in Closing nothing is asked for
-pub closing_asks : (x : Around) (f : Facts) (p : Piece) → is_closing f.connection.phase ≡ true → total asks (said_all (reply_of x f (incoming_of p)).written) ≡ 0
-closing_asks x f p e =
-    by_row (λ (o : Outcome). total asks (said_all o.written) ≡ 0) (is_closing f.connection.phase && not (terminates x (incoming_of p))) (ignores f) (answer_of x f (incoming_of p))
-    (λ _. refl)
+-- in Closing a message is ignored, but for a Terminate
+pub in_closing : (P : Outcome → Type 0) (x : Around) (f : Facts) (p : Piece) → is_closing f.connection.phase ≡ true → P (ignores f) → P (breaks x f (OtherSession 16)) → ((code : ℕ) → P (ends x f 1 (endings.PeerTerminated code)))
+    → P (reply_of x f (incoming_of p))
+in_closing P x f p e ignored other ended =
+    by_row P (is_closing f.connection.phase && not (terminates x (incoming_of p))) (ignores f) (answer_of x f (incoming_of p))
+    (λ _. ignored)
     (λ n. heard p (terminating (is_closing f.connection.phase) (terminates x (incoming_of p)) e n))
   where
     terminating : (a b : Bool) → a ≡ true → (a && not b) ≡ false → b ≡ true
@@ -589,7 +591,10 @@ closing_asks x f p e =
     terminating true false e n = absurd (true≢false n)
     terminating false b e n = absurd (true≢false (sym e))
 
-    heard : (q : Piece) → terminates x (incoming_of q) ≡ true → total asks (said_all (answer_of x f (incoming_of q)).written) ≡ 0
-    heard (said (terminate id code reason)) t =
-        by_row (λ (o : Outcome). total asks (said_all o.written) ≡ 0) (not (is_own x id)) (breaks x f (OtherSession 16)) (ends x f 1 (endings.PeerTerminated code)) (λ _. refl) (λ _. refl)
+    heard : (q : Piece) → terminates x (incoming_of q) ≡ true → P (answer_of x f (incoming_of q))
+    heard (said (terminate id code reason)) t = by_row P (not (is_own x id)) (breaks x f (OtherSession 16)) (ends x f 1 (endings.PeerTerminated code)) (λ _. other) (λ _. ended code)
     heard _ t = absurd (true≢false (sym t))
+
+-- there nothing is asked for
+pub closing_asks : (x : Around) (f : Facts) (p : Piece) → is_closing f.connection.phase ≡ true → total asks (said_all (reply_of x f (incoming_of p)).written) ≡ 0
+closing_asks x f p e = in_closing (λ (o : Outcome). total asks (said_all o.written) ≡ 0) x f p e refl refl (λ code. refl)

@@ -281,7 +281,7 @@ following x A f g next a b l same h =
     (λ _. going x A f a.facts (skip_of a.skipped) (told_skip a.skipped) b l h))
 
 -- nothing of it moves
-abbrev pub Stays : Type 0 → Facts → Outcome → Type 0
+abbrev Stays : Type 0 → Facts → Outcome → Type 0
 Stays A f o = Lined A f f.connection.receiver.live (to_come f.connection.requester) o
 
 here : (f : Facts) → Line f → Reaches f f.recorded.inbox_next f.connection.receiver.live (to_come f.connection.requester)

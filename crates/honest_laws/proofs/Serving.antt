@@ -23,6 +23,7 @@ use Rattle.connection_laws.specs.Writing.{Piece, said, said_all, entries, said_b
 use Rattle.link_laws.specs.Reading.{incoming_of}
 use Rattle.link_laws.proofs.Refused.{closing_is_deaf}
 use Rattle.connection_laws.specs.Standing.{MayStand}
+use Rattle.connection_laws.proofs.Owned.{entries_reach}
 use Rattle.honest_laws.specs.Worlds.{written, IsOther}
 use Rattle.honest_laws.proofs.Finishing.{total, total_append}
 use Rattle.honest_laws.proofs.Asking.{asks, restarts, turns, inside, unanswered_of, unanswered, coming, is_serving, Asks, asks_of, closing_asks, at_most_one}
@@ -125,8 +126,8 @@ asked_by_writer x writer reader over p way left a =
       even = λ none yet. inside_append (coming reader) way (said_all o.written) ∙ (ap (λ b. inside b (said_all o.written)) (a.even none yet) ∙ c.serves);
     }
 
--- any other call asks for nothing and begins no retransmission
-pub record Serves (s t : State) (out : List Piece) : Type 0 where
+-- any other call asks for nothing and begins no retransmission, and sends no more than the outbox has
+pub record Serves (h : List Entry) (s t : State) (out : List Piece) : Type 0 where
   pub asks_none : total asks out ≡ 0
   pub begins_none : total restarts out ≡ 0
   pub serves : inside (is_serving s.facts) out ≡ is_serving t.facts
@@ -135,8 +136,10 @@ pub record Serves (s t : State) (out : List Piece) : Type 0 where
   pub receiver : t.facts.connection.receiver ≡ s.facts.connection.receiver
   pub inbox : t.facts.recorded.inbox_next ≡ s.facts.recorded.inbox_next
   pub runs : RunsBetween s.config.own_flow s.facts out t.facts
+  pub most : t.most ≡ s.most
+  pub sent : s.facts.recorded.sent ≤ length h → t.facts.recorded.sent ≤ length h
 
-pub served_by_writer : (s t : State) (reader : Facts) (over : Option Ending) (way back out : List Piece) → Requests s.facts reader over way back → Serves s t out → Requests t.facts reader over (way ++ out) back
+pub served_by_writer : {h : List Entry} (s t : State) (reader : Facts) (over : Option Ending) (way back out : List Piece) → Requests s.facts reader over way back → Serves h s t out → Requests t.facts reader over (way ++ out) back
 served_by_writer s t reader over way back out a c =
     let e = total_append restarts way out in
     let once = a.once in
@@ -152,7 +155,7 @@ was_none None later over e = refl
 was_none (Some b) None over e = absurd (true≢false (sym (over refl)))
 was_none (Some b) (Some k) over e = absurd cc
 
-pub served_by_reader : (writer : Facts) (s t : State) (way back out : List Piece) → (IsSome s.ending → IsSome t.ending) → Requests writer s.facts s.ending way back → Serves s t out
+pub served_by_reader : {h : List Entry} (writer : Facts) (s t : State) (way back out : List Piece) → (IsSome s.ending → IsSome t.ending) → Requests writer s.facts s.ending way back → Serves h s t out
     → Requests writer t.facts t.ending way (back ++ out)
 served_by_reader writer s t way back out over a c =
     let e = total_append asks back out in
@@ -194,9 +197,9 @@ Plain ps = (flow : Flow) (b : ℕ) (l : Option ℕ) → Runs flow (exactly b) l 
 still : Plain []
 still flow b l = (refl, refl)
 
-serves_silent : (s t : State) (out : List Piece) → t.facts.connection ≡ s.facts.connection → t.facts.recorded.inbox_next ≡ s.facts.recorded.inbox_next
-    → RunsBetween s.config.own_flow s.facts out t.facts → Silent out → Serves s t out
-serves_silent s t out e n r a = record {
+serves_silent : (h : List Entry) (s t : State) (out : List Piece) → t.most ≡ s.most → (s.facts.recorded.sent ≤ length h → t.facts.recorded.sent ≤ length h) → t.facts.connection ≡ s.facts.connection → t.facts.recorded.inbox_next ≡ s.facts.recorded.inbox_next
+    → RunsBetween s.config.own_flow s.facts out t.facts → Silent out → Serves h s t out
+serves_silent h s t out most sent e n r a = record {
   asks_none = a.no_request;
   begins_none = a.no_restart;
   serves = a.no_turn (is_serving s.facts) ∙ sym (ap (λ c. is_some c.serving) e);
@@ -205,6 +208,8 @@ serves_silent s t out e n r a = record {
   receiver = ap (λ c. c.receiver) e;
   inbox = n;
   runs = r;
+  most = most;
+  sent = sent;
 }
 
 -- what a tick writes: a heartbeat where nothing is served
@@ -257,12 +262,12 @@ breaks_plain : (s : State) (v : Option Violation) (now : ℕ) → Plain (said_al
 breaks_plain s None now flow b l = (refl, refl)
 breaks_plain s (Some v) now flow b l = ((tt, tt), (refl, refl))
 
-broken_same : (s : State) (v : Option Violation) (now : ℕ) → (broken_by s v now).facts ≡ s.facts
-broken_same s None now = refl
-broken_same s (Some v) now = refl
+broken_same : (s : State) (v : Option Violation) (now : ℕ) → ((broken_by s v now).facts ≡ s.facts) × ((broken_by s v now).most ≡ s.most)
+broken_same s None now = (refl, refl)
+broken_same s (Some v) now = (refl, refl)
 
-ticking : (s : State) (now : ℕ) → Serves s (step s (tick now)) (writes s (tick now))
-ticking s now = by_end (is_some s.ending)
+ticking : (h : List Entry) (s : State) (now : ℕ) → Serves h s (step s (tick now)) (writes s (tick now))
+ticking h s now = by_end (is_some s.ending)
   where
     x : Around
     x = around s 0 now
@@ -273,7 +278,7 @@ ticking s now = by_end (is_some s.ending)
     v : Option Violation
     v = lateness x s.facts s.start s.last_received
 
-    going : Serves s (broken_by beat v now) (said_all (heartbeats x s.facts s.last_sent s.unsent ++ said_breaking s v now))
+    going : Serves h s (broken_by beat v now) (said_all (heartbeats x s.facts s.last_sent s.unsent ++ said_breaking s v now))
     going =
         let h : List Message = heartbeats x s.facts s.last_sent s.unsent in
         let q = said_breaking s v now in
@@ -281,7 +286,8 @@ ticking s now = by_end (is_some s.ending)
         let r = breaks_silent s v now in
         let e = total_append asks (said_all h) (said_all q) in let k = total_append restarts (said_all h) (said_all q) in
         let be = b.no_request in let bk = b.no_restart in let re = r.no_request in let rk = r.no_restart in
-        let same = broken_same beat v now in
+        let same = (broken_same beat v now).0 in
+        let sent = ap (λ f. f.recorded.sent) same in
         record {
           asks_none = ap (λ ps. total asks ps) (map_more h q) ∙ omega (arith, e, be, re);
           begins_none = ap (λ ps. total restarts ps) (map_more h q) ∙ omega (arith, k, bk, rk);
@@ -295,10 +301,12 @@ ticking s now = by_end (is_some s.ending)
               (subst (λ (ps : List Piece). RunsBetween s.config.own_flow s.facts ps s.facts) (sym (map_more h q))
               (runs_append s.config.own_flow (exactly (s.facts.recorded.sent + 1)) (served s.facts.connection.serving) (said_all h) (said_all q) (s.facts.recorded.sent + 1) (served s.facts.connection.serving)
               (s.facts.recorded.sent + 1) (served s.facts.connection.serving) b.runs (breaks_plain s v now s.config.own_flow (s.facts.recorded.sent + 1) (served s.facts.connection.serving))));
+          most = (broken_same beat v now).1;
+          sent = λ k. omega (arith, sent, k);
         }
 
-    by_end : (b : Bool) → Serves s (if b then record s { moment = now } else broken_by beat v now) (if b then [] else said_all (heartbeats x s.facts s.last_sent s.unsent ++ said_breaking s v now))
-    by_end true = serves_silent s (record s { moment = now }) [] refl refl (refl, refl) none_silent
+    by_end : (b : Bool) → Serves h s (if b then record s { moment = now } else broken_by beat v now) (if b then [] else said_all (heartbeats x s.facts s.last_sent s.unsent ++ said_breaking s v now))
+    by_end true = serves_silent h s (record s { moment = now }) [] refl (λ k. k) refl refl (refl, refl) none_silent
     by_end false = going
 
 applied_silent : (runs : List Range) → Silent (said_all (applied_runs runs))
@@ -314,8 +322,8 @@ closing_plain : (ms : List Message) (m : Message) → Plain (said_all ms) → Pl
 closing_plain ms m a c flow b l =
     subst (λ (ps : List Piece). Runs flow (exactly b) l ps b l) (sym (map_more ms (m ∷ []))) (runs_append flow (exactly b) l (said_all ms) (said m ∷ []) b l b l (a flow b l) (c flow b l))
 
-turning : (s : State) (now : ℕ) → Serves s (step s (turn_done now)) (writes s (turn_done now))
-turning s now = by_end (is_some s.ending)
+turning : (h : List Entry) (s : State) (now : ℕ) → Serves h s (step s (turn_done now)) (writes s (turn_done now))
+turning h s now = by_end (is_some s.ending)
   where
     x : Around
     x = around s 0 now
@@ -323,7 +331,7 @@ turning s now = by_end (is_some s.ending)
     behind : Made → State
     behind m = record (made (record s { moment = now }) m now) { untold = [] }
 
-    by_close : (b : Bool) → Serves s (behind (turned b x s.facts (runs_of s.untold))) (said_all (turned b x s.facts (runs_of s.untold)).written)
+    by_close : (b : Bool) → Serves h s (behind (turned b x s.facts (runs_of s.untold))) (said_all (turned b x s.facts (runs_of s.untold)).written)
     by_close true =
         let q = said_more (applied_runs (runs_of s.untold)) (terminate s.config.session 1 [] ∷ []) (applied_silent (runs_of s.untold)) (record { no_request = refl; no_restart = refl; no_turn = λ b. refl }) in
         record {
@@ -335,15 +343,17 @@ turning s now = by_end (is_some s.ending)
           receiver = refl;
           inbox = refl;
           runs = closing_plain (applied_runs (runs_of s.untold)) (terminate s.config.session 1 []) (applied_plain (runs_of s.untold)) (λ flow b l. ((tt, tt), (refl, refl))) s.config.own_flow (s.facts.recorded.sent + 1) (served s.facts.connection.serving);
+          most = refl;
+          sent = λ k. k;
         }
-    by_close false = serves_silent s (behind (turned false x s.facts (runs_of s.untold))) _ refl refl (applied_plain (runs_of s.untold) s.config.own_flow (s.facts.recorded.sent + 1) (served s.facts.connection.serving)) (applied_silent (runs_of s.untold))
+    by_close false = serves_silent h s (behind (turned false x s.facts (runs_of s.untold))) _ refl (λ k. k) refl refl (applied_plain (runs_of s.untold) s.config.own_flow (s.facts.recorded.sent + 1) (served s.facts.connection.serving)) (applied_silent (runs_of s.untold))
 
-    by_end : (b : Bool) → Serves s (if b then record s { moment = now } else behind (turn_ended x s.facts (runs_of s.untold))) (if b then [] else said_all (turn_ended x s.facts (runs_of s.untold)).written)
-    by_end true = serves_silent s (record s { moment = now }) [] refl refl (refl, refl) none_silent
+    by_end : (b : Bool) → Serves h s (if b then record s { moment = now } else behind (turn_ended x s.facts (runs_of s.untold))) (if b then [] else said_all (turn_ended x s.facts (runs_of s.untold)).written)
+    by_end true = serves_silent h s (record s { moment = now }) [] refl (λ k. k) refl refl (refl, refl) none_silent
     by_end false = by_close (closes x s.facts)
 
-finishing : (s : State) (last now : ℕ) → Serves s (step s (closed last now)) (writes s (closed last now))
-finishing s last now = by_end (is_some s.ending)
+finishing : (h : List Entry) (s : State) (last now : ℕ) → Serves h s (step s (closed last now)) (writes s (closed last now))
+finishing h s last now = by_end (is_some s.ending)
   where
     x : Around
     x = around s 0 now
@@ -351,21 +361,21 @@ finishing s last now = by_end (is_some s.ending)
     behind : Made → State
     behind m = made (record s { moment = now }) m now
 
-    by_test : (b : Bool) → Serves s (behind (told b x s.facts last)) (said_all (told b x s.facts last).written)
-    by_test true = record { asks_none = refl; begins_none = refl; serves = refl; requester = refl; closing = λ n. n; receiver = refl; inbox = refl; runs = ((tt, tt), (refl, refl)) }
-    by_test false = serves_silent s (behind (told false x s.facts last)) [] refl refl (refl, refl) none_silent
+    by_test : (b : Bool) → Serves h s (behind (told b x s.facts last)) (said_all (told b x s.facts last).written)
+    by_test true = record { asks_none = refl; begins_none = refl; serves = refl; requester = refl; closing = λ n. n; receiver = refl; inbox = refl; runs = ((tt, tt), (refl, refl)); most = refl; sent = λ k. k }
+    by_test false = serves_silent h s (behind (told false x s.facts last)) [] refl (λ k. k) refl refl (refl, refl) none_silent
 
     by_end : (b : Bool)
-        → Serves s (if b then record s { moment = now; facts = outbox_finished s.facts last } else behind (finish_told x s.facts last)) (if b then [] else said_all (finish_told x s.facts last).written)
-    by_end true = serves_silent s (record s { moment = now; facts = outbox_finished s.facts last }) [] refl refl (refl, refl) none_silent
+        → Serves h s (if b then record s { moment = now; facts = outbox_finished s.facts last } else behind (finish_told x s.facts last)) (if b then [] else said_all (finish_told x s.facts last).written)
+    by_end true = serves_silent h s (record s { moment = now; facts = outbox_finished s.facts last }) [] refl (λ k. k) refl refl (refl, refl) none_silent
     by_end false = by_test (tells_finish x s.facts last)
 
-cut : (s : State) → Serves s (step s link_end) []
-cut s = by_end (is_some s.ending)
+cut : (h : List Entry) (s : State) → Serves h s (step s link_end) []
+cut h s = by_end (is_some s.ending)
   where
-    by_end : (b : Bool) → Serves s (if b then s else record s { ending = Some (link_ending (around s 0 s.moment) s.facts); pending = None }) []
-    by_end true = serves_silent s s [] refl refl (refl, refl) none_silent
-    by_end false = serves_silent s (record s { ending = Some (link_ending (around s 0 s.moment) s.facts); pending = None }) [] refl refl (refl, refl) none_silent
+    by_end : (b : Bool) → Serves h s (if b then s else record s { ending = Some (link_ending (around s 0 s.moment) s.facts); pending = None }) []
+    by_end true = serves_silent h s s [] refl (λ k. k) refl refl (refl, refl) none_silent
+    by_end false = serves_silent h s (record s { ending = Some (link_ending (around s 0 s.moment) s.facts); pending = None }) [] refl (λ k. k) refl refl (refl, refl) none_silent
 
 entries_silent : (payloads : List (List ℕ)) → Silent (entries payloads)
 entries_silent [] = none_silent
@@ -392,9 +402,9 @@ again_closed flow f r n h = by_test (r.count == n) refl
     by_test true e = let same = eqb-true r.count n e in next_told flow (f.recorded.sent + 1) (Some (r.count - n)) (omega (arith, same))
     by_test false e = (refl, refl)
 
-resending : (s : State) (r : Option Range) (payloads : List (List ℕ)) (now : ℕ) → ((k : Range) → r ≡ Some k → length payloads ≤ k.count) → s.facts.connection.serving ≡ r → Serves s (served_again s r payloads now) (written_again s.facts r payloads)
-resending s None payloads now within same = serves_silent s s [] refl refl (refl, refl) none_silent
-resending s (Some r) payloads now within same =
+resending : (h : List Entry) (s : State) (r : Option Range) (payloads : List (List ℕ)) (now : ℕ) → ((k : Range) → r ≡ Some k → length payloads ≤ k.count) → s.facts.connection.serving ≡ r → Serves h s (served_again s r payloads now) (written_again s.facts r payloads)
+resending h s None payloads now within same = serves_silent h s s [] refl (λ k. k) refl refl (refl, refl) none_silent
+resending h s (Some r) payloads now within same =
     let rest = rest_of r (length payloads) in
     let a = entries_silent payloads in let b = closing_range s.facts rest in
     let e = total_append asks (entries payloads) (range_closed s.facts rest) in let k = total_append restarts (entries payloads) (range_closed s.facts rest) in
@@ -411,6 +421,8 @@ resending s (Some r) payloads now within same =
       runs = subst (λ (k : Option Range). Runs s.config.own_flow (exactly (s.facts.recorded.sent + 1)) (served k) (entries payloads ++ range_closed s.facts rest) (s.facts.recorded.sent + 1) (served rest)) (sym same)
           (runs_append s.config.own_flow (exactly (s.facts.recorded.sent + 1)) (Some r.count) (entries payloads) (range_closed s.facts rest) (s.facts.recorded.sent + 1) (Some (r.count - length payloads))
           (s.facts.recorded.sent + 1) (served rest) (again_run s.config.own_flow (s.facts.recorded.sent + 1) r.count payloads (within r refl)) (again_closed s.config.own_flow s.facts r (length payloads) (within r refl)));
+      most = refl;
+      sent = λ k. k;
     }
 
 range_within : (s : Option Range) (range : Range) (n : ℕ) → s ≡ Some range → n ≤ range.count → (k : Range) → s ≡ Some k → n ≤ k.count
@@ -422,19 +434,19 @@ live_runs s payloads free =
     subst (λ (k : Option Range). Runs s.config.own_flow (exactly (s.facts.recorded.sent + 1)) (served k) (entries payloads) (s.facts.recorded.sent + length payloads + 1) (served k)) (sym free)
     (subst (λ (n : ℕ). Runs s.config.own_flow (exactly (s.facts.recorded.sent + 1)) None (entries payloads) n None) (omega arith) (live_run s.config.own_flow (s.facts.recorded.sent + 1) payloads))
 
-serves_call : (h : List Entry) (s : State) (call : Call) → IsOther h call → MayStand h s call → Serves s (step s call) (writes s call)
+serves_call : (h : List Entry) (s : State) (call : Call) → IsOther h call → MayStand h s call → Serves h s (step s call) (writes s call)
 serves_call h s (begin now) other may = absurd other
 serves_call h s (frame incoming at now) other may = absurd other
 serves_call h s (bad_frame at now) other may = absurd other
 serves_call h s (did now) other may = absurd other
-serves_call h s (tick now) other may = ticking s now
-serves_call h s (turn_done now) other may = turning s now
-serves_call h s (closed last now) other may = finishing s last now
-serves_call h s link_end other may = cut s
-serves_call h s (live payloads now) other may = serves_silent s (step s (live payloads now)) (entries payloads) refl refl (live_runs s payloads may.comes.free) (entries_silent payloads)
-serves_call h s (again payloads now) other may = resending s s.facts.connection.serving payloads now (range_within s.facts.connection.serving may.comes.range (length payloads) may.comes.serves may.comes.within) refl
-serves_call h s (taken count) other may = serves_silent s (step s (taken count)) [] refl refl (refl, refl) none_silent
-serves_call h s reserve other may = serves_silent s (step s reserve) [] refl refl (refl, refl) none_silent
+serves_call h s (tick now) other may = ticking h s now
+serves_call h s (turn_done now) other may = turning h s now
+serves_call h s (closed last now) other may = finishing h s last now
+serves_call h s link_end other may = cut h s
+serves_call h s (live payloads now) other may = serves_silent h s (step s (live payloads now)) (entries payloads) refl (λ k. entries_reach h s.facts.recorded.sent payloads k may.comes.entries) refl refl (live_runs s payloads may.comes.free) (entries_silent payloads)
+serves_call h s (again payloads now) other may = resending h s s.facts.connection.serving payloads now (range_within s.facts.connection.serving may.comes.range (length payloads) may.comes.serves may.comes.within) refl
+serves_call h s (taken count) other may = serves_silent h s (step s (taken count)) [] refl (λ k. k) refl refl (refl, refl) none_silent
+serves_call h s reserve other may = serves_silent h s (step s reserve) [] refl (λ k. k) refl refl (refl, refl) none_silent
 
-pub serves_as : (h : List Entry) (s : State) (call : Call) → IsOther h call → MayStand h s call → Serves s (run s (call ∷ [])) (written s (call ∷ []))
-serves_as h s call other may = subst (λ (out : List Piece). Serves s (step s call) out) (sym (append-nil (writes s call))) (serves_call h s call other may)
+pub serves_as : (h : List Entry) (s : State) (call : Call) → IsOther h call → MayStand h s call → Serves h s (run s (call ∷ [])) (written s (call ∷ []))
+serves_as h s call other may = subst (λ (out : List Piece). Serves h s (step s call) out) (sym (append-nil (writes s call))) (serves_call h s call other may)

@@ -1,6 +1,6 @@
 -- The finishes under way between two ends, and how each call of an end moves them.
 use Rattle.std.proofs.Common.{◌≡◌, ℕ, ◌+◌, ◌≤◌, ◌==◌, ◌&&◌, not, Bool, true, false, if◌then◌else◌, List, [], ◌∷◌, ◌++◌, length, Option, Some, None, refl, sym, ap, subst, ◌∙◌, arith, true≢false, append-nil, eqb-true}
-use Rattle.std.specs.Prelude.{⊤, is_some, is_none}
+use Rattle.std.specs.Prelude.{⊤, is_some, is_none, IfSome}
 use Rattle.std.specs.List.{AllByRecursion}
 use Rattle.session_model.specs.Journal.{Entry}
 use Rattle.fixp_msgs.specs.declared.numbering.Range.{Range}
@@ -69,13 +69,14 @@ none_names own n (p ∷ ps) e = (by_piece p (omega (arith, e)), none_names own n
     by_piece (said (finished_sending id last)) e = absurd (omega (arith, e))
     by_piece _ e = tt
 
--- Any other call, where the outbox comes to have so many entries: a finish that it tells awaits its answer, is told once all of them are
+-- Any other call, where the outbox comes to have so many entries: a finish stands behind all of them still, and one that it tells awaits its answer, is told once all of them are
 -- sent, and names the last one. What was read stays, and nothing is answered
 pub record Tells (own : Flow) (n : ℕ) (f g : Facts) (out : List Piece) : Type 0 where
   pub told : tells f + total sendings out ≤ tells g
   pub theirs : g.connection.peer_finish ≡ f.connection.peer_finish
   pub recorded : g.recorded.peer_last ≡ f.recorded.peer_last
   pub silent : total answers out ≡ 0
+  pub ends : IfSome f.recorded.finish (λ k. k ≡ n) → IfSome g.recorded.finish (λ k. k ≡ n)
   pub completes : Complete n f → Complete n g
   pub closes : 1 ≤ total sendings out → Complete n g × (f.recorded.sent ≡ n)
   pub names : AllByRecursion (NamesLast own n) out
@@ -100,17 +101,18 @@ record Silent (out : List Piece) : Type 0 where
   sends : total sendings out ≡ 0
   answers_none : total answers out ≡ 0
 
-silent_tells : (own : Flow) (n : ℕ) (f g : Facts) (out : List Piece) → tells g ≡ tells f → g.connection.peer_finish ≡ f.connection.peer_finish → g.recorded.peer_last ≡ f.recorded.peer_last → (Complete n f → Complete n g) → Silent out
+silent_tells : (own : Flow) (n : ℕ) (f g : Facts) (out : List Piece) → tells g ≡ tells f → g.connection.peer_finish ≡ f.connection.peer_finish → g.recorded.peer_last ≡ f.recorded.peer_last
+    → (IfSome f.recorded.finish (λ k. k ≡ n) → IfSome g.recorded.finish (λ k. k ≡ n)) → (Complete n f → Complete n g) → Silent out
     → Tells own n f g out
-silent_tells own n f g out t p r c s =
+silent_tells own n f g out t p r stands c s =
     let e = s.sends in
-    record { told = omega (arith, t, e); theirs = p; recorded = r; silent = s.answers_none; completes = c; closes = λ some. absurd (omega (arith, e, some)); names = none_names own n out s.sends }
+    record { told = omega (arith, t, e); theirs = p; recorded = r; silent = s.answers_none; ends = stands; completes = c; closes = λ some. absurd (omega (arith, e, some)); names = none_names own n out s.sends }
 
 -- no finish moves
 silent_same : (own : Flow) (n : ℕ) (f g : Facts) (out : List Piece) → finishes g ≡ finishes f → Silent out → Tells own n f g out
 silent_same own n f g out e s =
     silent_tells own n f g out (ap (λ (k : Finishes). awaited k.own) e) (ap (λ (k : Finishes). k.theirs) e) (ap (λ (k : Finishes). k.peer_last) e)
-    (λ c. record { finish = ap (λ (k : Finishes). k.finish) e ∙ c.finish; sent = ap (λ (k : Finishes). k.sent) e ∙ c.sent }) s
+    (λ h. subst (λ (o : Option ℕ). IfSome o (λ k. k ≡ n)) (sym (ap (λ (k : Finishes). k.finish) e)) h) (λ c. record { finish = ap (λ (k : Finishes). k.finish) e ∙ c.finish; sent = ap (λ (k : Finishes). k.sent) e ∙ c.sent }) s
 
 silent_both : (ps qs : List Piece) → Silent ps → Silent qs → Silent (ps ++ qs)
 silent_both ps qs a b =
@@ -198,7 +200,7 @@ open_awaits_none own.Exchanged e = absurd (true≢false (sym e))
 
 -- the outbox is finished
 closed_tells : (own : Flow) (n : ℕ) (f : Facts) (last : ℕ) → last ≡ n → Tells own n f (outbox_finished f last) []
-closed_tells own n f last e = silent_tells own n f (outbox_finished f last) [] refl refl refl (λ c. record { finish = ap (λ (k : ℕ). Some k) e; sent = c.sent }) none_silent
+closed_tells own n f last e = silent_tells own n f (outbox_finished f last) [] refl refl refl (λ _. e) (λ c. record { finish = ap (λ (k : ℕ). Some k) e; sent = c.sent }) none_silent
 
 finishing : (n : ℕ) (s : State) (last now : ℕ) → last ≡ n → Tells s.config.own_flow n s.facts (step s (closed last now)).facts (writes s (closed last now))
 finishing n s last now is = by_end (is_some s.ending)
@@ -226,6 +228,7 @@ finishing n s last now is = by_end (is_some s.ending)
           theirs = refl;
           recorded = refl;
           silent = refl;
+          ends = λ _. is;
           completes = λ c. record { finish = ap (λ (k : ℕ). Some k) is; sent = c.sent };
           closes = λ _. (record { finish = ap (λ (k : ℕ). Some k) is; sent = all }, all);
           names = (ap (λ (k : ℕ). if is_sequenced s.config.own_flow then Some k else None) is, tt);
@@ -260,7 +263,7 @@ resending own n s (Some r) payloads now =
 -- behind all entries none goes live
 going_live : (own : Flow) (h : List Entry) (s : State) (payloads : List (List ℕ)) (now : ℕ) → AreEntries h (s.facts.recorded.sent + 1) payloads
     → Tells own (length h) s.facts (step s (live payloads now)).facts (entries payloads)
-going_live own h s payloads now are = silent_tells own (length h) s.facts (step s (live payloads now)).facts (entries payloads) refl refl refl
+going_live own h s payloads now are = silent_tells own (length h) s.facts (step s (live payloads now)).facts (entries payloads) refl refl refl (λ k. k)
     (λ c. let sent = c.sent in let reach = entries_reach h s.facts.recorded.sent payloads (omega (arith, sent)) are in record { finish = c.finish; sent = omega (arith, sent, reach) }) (entries_silent payloads)
 
 tells_call : (h : List Entry) (s : State) (call : Call) → IsOther h call → MayStand h s call → Tells s.config.own_flow (length h) s.facts (step s call).facts (writes s call)

@@ -12,10 +12,11 @@ use Rattle.fixp_replies.specs.declared.facts.Facts.{Facts}
 use Rattle.fixp_replies.specs.Facts.{Around, is_initiator, connecting}
 use Rattle.fixp_replies.specs.Events.{Made, begun}
 use Rattle.connection_laws.specs.Writing.{Piece, said_all}
-use Rattle.honest_laws.specs.Numbers.{exactly, Runs, served}
+use Rattle.honest_laws.specs.Numbers.{exactly, Answers, Runs, served}
 use Rattle.honest_laws.proofs.Finishing.{total}
-use Rattle.honest_laws.proofs.Asking.{asks, restarts, establish_runs}
+use Rattle.honest_laws.proofs.Asking.{asks, restarts, all_none, establish_runs}
 use Rattle.honest_laws.proofs.Phased.{begun_as}
+use Rattle.honest_numbers.specs.Numbered.{Names}
 use Rattle.honest_numbers.proofs.Requesting.{none_named, none_answered}
 use Rattle.honest_numbers.proofs.Keeping.{Between, ready_first}
 
@@ -64,7 +65,7 @@ meeting h xw xr writer reader limit fw fr over way back ew er flow b =
       goes = λ _ _. (
         ready_first xr.config (begun xr reader).next (said_all (begun xw writer).written) ((begun xw writer).next.recorded.sent + 1) (served (begun xw writer).next.connection.serving)
             (r.receiver ∙ ap (λ (k : EndState). receiver_is.fresh k.inbox_next) (sym r.same)) r.requester r.before (omega (arith, sent_w, inbox_r, next)) (runs w),
-        record { asks = none_named _ _ r.asks_none; answers = none_answered _ _ w.begins_none },
+        record { asks = all_none (Names (begun xr reader).next.connection.requester) asks (none_named (begun xr reader).next.connection.requester) (said_all (begun xr reader).written) r.asks_none; answers = all_none (Answers (begun xr reader).next.connection.requester) restarts (none_answered (begun xr reader).next.connection.requester) (said_all (begun xw writer).written) w.begins_none },
       );
     }
   where

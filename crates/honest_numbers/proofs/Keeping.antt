@@ -1,9 +1,9 @@
 -- One flow between two ends: each reply and each call of either keeps its numbers.
-use Rattle.std.proofs.Common.{◌≡◌, ℕ, ◌+◌, ◌≤◌, ◌&&◌, not, Bool, true, false, if◌then◌else◌, List, [], ◌∷◌, ◌++◌, length, Option, Some, None, refl, sym, ap, subst, ◌∙◌, arith, true≢false}
+use Rattle.std.proofs.Common.{◌≡◌, ℕ, ◌+◌, ◌≤◌, Bool, true, false, if◌then◌else◌, List, [], ◌∷◌, ◌++◌, length, Option, Some, None, refl, sym, ap, subst, ◌∙◌, arith, true≢false}
 use Rattle.std.specs.Prelude.{IsSome}
 use Rattle.std.specs.List.{AllByRecursion}
 use Rattle.session_model.specs.Journal.{Entry}
-use Rattle.session_model.proofs.Lists.{all_append}
+use Rattle.session_model.proofs.Lists.{all_append, all_weaker}
 use Rattle.fixp_msgs.specs.declared.flow.Flow.{Flow}
 use Rattle.fixp_msgs.specs.declared.numbering.Range.{Range}
 use Rattle.fixp_msgs.specs.Message.{terminate}
@@ -19,27 +19,25 @@ use Rattle.fixp_shake.specs.Phases.{is_closing, is_shaken}
 use Rattle.fixp_replies.specs.declared.act.Ending.{Ending}
 use Rattle.fixp_replies.specs.declared.act.Ending.TheVariants as endings
 use Rattle.fixp_replies.specs.declared.facts.Facts.{Facts}
-use Rattle.fixp_replies.specs.Facts.{Around, is_own}
-use Rattle.fixp_replies.specs.Outcomes.{Outcome, ignores, ends, breaks}
-use Rattle.fixp_replies.specs.Replies.{reply_of, answer_of, terminates}
+use Rattle.fixp_replies.specs.Facts.{Around}
+use Rattle.fixp_replies.specs.Outcomes.{Outcome}
+use Rattle.fixp_replies.specs.Replies.{reply_of}
 use Rattle.reply_laws.specs.Machine.{State}
-use Rattle.reply_laws.proofs.Rows.{by_row}
 use Rattle.reply_laws.proofs.Tests.{no_gap}
-use Rattle.connection_laws.specs.Writing.{Piece, said, said_all, WritesOwn, nothing, shakes, resends}
+use Rattle.connection_laws.specs.Writing.{Piece, said_all, WritesOwn, nothing, shakes, resends}
 use Rattle.connection_laws.proofs.Replied.{frame_writes}
 use Rattle.link_laws.specs.Reading.{incoming_of}
 use Rattle.link_laws.proofs.Refused.{closing_is_deaf}
 use Rattle.honest_laws.specs.Numbers.{Awaited, exactly, at_most, Runs, RunsBetween, served, Answers, Matches, Idle, Peer, IsFlowing, to_come}
 use Rattle.honest_laws.proofs.Running.{lower, runs_append, runs_top}
 use Rattle.honest_laws.proofs.Finishing.{total}
-use Rattle.honest_laws.proofs.Asking.{asks, restarts, turns, unanswered, Requested, asks_of}
+use Rattle.honest_laws.proofs.Asking.{asks, restarts, turns, unanswered, Requested, all_none, asks_of, in_closing}
 use Rattle.honest_laws.proofs.Opening.{Quiet}
 use Rattle.honest_laws.proofs.Moving.{Does}
 use Rattle.honest_laws.proofs.Serving.{Serves, by_bool, was_none}
 use Rattle.honest_numbers.specs.Numbered.{next_live, awaited, Names}
 use Rattle.honest_numbers.specs.Laws.{NoNumber}
 use Rattle.honest_numbers.proofs.Awaiting.{awaited_before, same_awaited, line_same, idle_same, live_is, Ready, ready_live}
-use Rattle.honest_numbers.proofs.Counting.{Within}
 use Rattle.honest_numbers.proofs.Opening.{ending as ended, breaking}
 use Rattle.honest_numbers.proofs.Reading.{Heard, reads}
 use Rattle.honest_numbers.proofs.Requesting.{none_named, none_answered, asked_names, idle_names, Agrees, agrees_behind, answers_behind}
@@ -58,20 +56,7 @@ abbrev Fine : Outcome → Type 0
 Fine o = (v : Violation) → o.ending ≡ Some (endings.Violation v) → NoNumber v
 
 closing_fine : (x : Around) (f : Facts) (p : Piece) → is_closing f.connection.phase ≡ true → (v : Violation) → (reply_of x f (incoming_of p)).ending ≡ Some (endings.Violation v) → NoNumber v
-closing_fine x f p e =
-    by_row Fine (is_closing f.connection.phase && not (terminates x (incoming_of p))) (ignores f) (answer_of x f (incoming_of p)) (λ _ v k. absurd cc)
-    (λ n. heard p (terminating (is_closing f.connection.phase) (terminates x (incoming_of p)) e n))
-  where
-    terminating : (a b : Bool) → a ≡ true → (a && not b) ≡ false → b ≡ true
-    terminating true true e n = refl
-    terminating true false e n = absurd (true≢false n)
-    terminating false b e n = absurd (true≢false (sym e))
-
-    heard : (q : Piece) → terminates x (incoming_of q) ≡ true → Fine (answer_of x f (incoming_of q))
-    heard (said (terminate id code reason)) t =
-        by_row Fine (not (is_own x id)) (breaks x f (OtherSession 16)) (ends x f 1 (endings.PeerTerminated code))
-        (λ _. (breaking x f (said (terminate id code reason)) 2 (OtherSession 16) tt).fine) (λ _. (ended x f (said (terminate id code reason)) (terminate x.config.session 1 [] ∷ []) (endings.PeerTerminated code) (λ v k. absurd cc)).fine)
-    heard _ t = absurd (true≢false (sym t))
+closing_fine x f p e = in_closing Fine x f p e (λ v k. absurd cc) (breaking x f p 2 (OtherSession 16) tt).fine (λ code. (ended x f p (terminate x.config.session 1 [] ∷ []) (endings.PeerTerminated code) (λ v k. absurd cc)).fine)
 
 -- the reader replies to the first message under way
 pub reader_replies : (h : List Entry) (writer : Facts) (x : Around) (reader : Facts) (theirs : EndConfig) (p : Piece) (left back : List Piece) → Peer x.config theirs
@@ -122,8 +107,8 @@ reader_replies h writer x reader theirs p left back are flows once b = by_bool _
             by_flow true rec =
                 let one = r.one rec (b.one rec) in
                 let waits = ((r.goes none).line rec).waits in
-                asked_names o.next (said_all o.written) (omega (arith, one, waits)) names
-            by_flow false other = idle_names o.next (said_all o.written) ((r.goes none).idle other) names
+                all_weaker (Requested o.next) (Names o.next.connection.requester) (asked_names o.next (omega (arith, one, waits))) (said_all o.written) names
+            by_flow false other = all_weaker (Requested o.next) (Names o.next.connection.requester) (idle_names o.next ((r.goes none).idle other)) (said_all o.written) names
 
 -- a reply sends nothing live
 sent_same : (x : Around) (f : Facts) (p : Piece) → (reply_of x f (incoming_of p)).next.recorded.sent ≡ f.recorded.sent
@@ -195,11 +180,11 @@ pub same_shaken : (s t : State) (out : List Piece) → Does s t out → (is_shak
 same_shaken s t out d quiet = by_bool _ (is_shaken s.facts.connection.phase) (λ e. (d.done e).0 ∙ sym e) (λ e. ap (λ c. is_shaken c.phase) (d.before e (quiet e)).0)
 
 -- the reader has another call
-pub reader_calls : (h : List Entry) (writer : Facts) (s t : State) (way back out : List Piece) → is_shaken t.facts.connection.phase ≡ is_shaken s.facts.connection.phase → (IsSome s.ending → IsSome t.ending) → t.most ≡ s.most
-    → t.config ≡ s.config → Serves s t out → Between h writer s.config s.most s.facts s.ending way back → Between h writer t.config t.most t.facts t.ending way (back ++ out)
-reader_calls h writer s t way back out shaken over most config c b =
+pub reader_calls : (h own : List Entry) (writer : Facts) (s t : State) (way back out : List Piece) → is_shaken t.facts.connection.phase ≡ is_shaken s.facts.connection.phase → (IsSome s.ending → IsSome t.ending)
+    → t.config ≡ s.config → Serves own s t out → Between h writer s.config s.most s.facts s.ending way back → Between h writer t.config t.most t.facts t.ending way (back ++ out)
+reader_calls h own writer s t way back out shaken over config c b =
     subst (λ (e : EndConfig). Between h writer e t.most t.facts t.ending way (back ++ out)) (sym config)
-    (subst (λ (n : ℕ). Between h writer s.config n t.facts t.ending way (back ++ out)) (sym most) (let next = b.next in let inbox = c.inbox in record {
+    (subst (λ (n : ℕ). Between h writer s.config n t.facts t.ending way (back ++ out)) (sym c.most) (let next = b.next in let inbox = c.inbox in record {
       sent = b.sent;
       most = b.most;
       one = λ rec. let one = b.one rec in omega (arith, one, inbox);
@@ -218,19 +203,19 @@ reader_calls h writer s t way back out shaken over most config c b =
         opening = λ e. idle_same s.facts t.facts c.receiver c.requester (g.0.opening (sym shaken ∙ e));
       },
       subst (λ (q : Request). Agrees q way (back ++ out)) (sym c.requester) (record {
-        asks = all_append (Names s.facts.connection.requester) back out g.1.asks (none_named s.facts.connection.requester out c.asks_none);
+        asks = all_append (Names s.facts.connection.requester) back out g.1.asks (all_none (Names s.facts.connection.requester) asks (none_named s.facts.connection.requester) out c.asks_none);
         answers = g.1.answers;
       }),
     )
 
 -- and the writer
-pub writer_calls : (h : List Entry) (s t : State) (c : EndConfig) (limit : ℕ) (reader : Facts) (over : Option Ending) (way back out : List Piece) → c.peer_flow ≡ s.config.own_flow → Within s t (length h) → Serves s t out
+pub writer_calls : (h : List Entry) (s t : State) (c : EndConfig) (limit : ℕ) (reader : Facts) (over : Option Ending) (way back out : List Piece) → c.peer_flow ≡ s.config.own_flow → Serves h s t out
     → Between h s.facts c limit reader over way back → Between h t.facts c limit reader over (way ++ out) back
-writer_calls h s t c limit reader over way back out same w k b =
+writer_calls h s t c limit reader over way back out same k b =
     let next = b.next in
     let grows = runs_top s.config.own_flow (exactly (s.facts.recorded.sent + 1)) (served s.facts.connection.serving) out (t.facts.recorded.sent + 1) (served t.facts.connection.serving) k.runs in
     record {
-      sent = w.sent b.sent;
+      sent = k.sent b.sent;
       most = b.most;
       one = b.one;
       next = omega (arith, next, grows);
@@ -241,7 +226,7 @@ writer_calls h s t c limit reader over way back out same w k b =
         → Ready c reader (way ++ out) (t.facts.recorded.sent + 1) (served t.facts.connection.serving) × Agrees reader.connection.requester (way ++ out) back
     more g = (
       ready_more c reader s.config.own_flow s.facts t.facts way out same k.runs g.0,
-      record { asks = g.1.asks; answers = all_append (Answers reader.connection.requester) way out g.1.answers (none_answered reader.connection.requester out k.begins_none) },
+      record { asks = g.1.asks; answers = all_append (Answers reader.connection.requester) way out g.1.answers (all_none (Answers reader.connection.requester) restarts (none_answered reader.connection.requester) out k.begins_none) },
     )
 
 -- a connection begins: its reader awaits at most what its writer sent

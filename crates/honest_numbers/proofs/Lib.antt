@@ -1,4 +1,3 @@
-pub mod Counting
 pub mod Awaiting
 pub mod Opening
 pub mod Reading

@@ -13,13 +13,15 @@ use Rattle.fixp_replies.specs.declared.act.Ending.TheVariants as endings
 use Rattle.fixp_replies.specs.declared.facts.Facts.{Facts}
 use Rattle.fixp_replies.specs.Outcomes.{Outcome}
 use Rattle.fixp_replies.specs.Replies.{reply_of}
-use Rattle.reply_laws.specs.Machine.{State, around, run}
+use Rattle.reply_laws.specs.Machine.{State, around, run, Call}
 use Rattle.connection_laws.specs.Writing.{Piece, said_all}
-use Rattle.connection_laws.specs.Standing.{IsOpen}
+use Rattle.connection_laws.specs.Standing.{IsOpen, MayStand}
 use Rattle.link_laws.specs.Reading.{incoming_of}
+use Rattle.fixp_shake.specs.Flows.{is_recoverable}
+use Rattle.honest_laws.proofs.Opening.{Quiet}
 use Rattle.honest_laws.specs.Laws.{IsOfTime, EndsBy}
-use Rattle.honest_laws.specs.Numbers.{exactly, Runs, served, Answers, IsFlowing, to_come}
-use Rattle.honest_laws.specs.Worlds.{World, Step, meets, initiator_reads, acceptor_reads, initiator_does, acceptor_does, written, after, initiator_read, acceptor_read, MayStep, world_after, AllMayStep}
+use Rattle.honest_laws.specs.Numbers.{exactly, Runs, served, Answers, IsFlowing, to_come, Peer}
+use Rattle.honest_laws.specs.Worlds.{World, Step, meets, initiator_reads, acceptor_reads, initiator_does, acceptor_does, written, after, initiator_read, acceptor_read, MayStep, world_after, AllMayStep, reading, IsOther}
 use Rattle.honest_laws.proofs.Moving.{Reads, reads_as, does_as, ends_still, each_of_time}
 use Rattle.honest_laws.proofs.Serving.{Requests, serves_as}
 use Rattle.honest_laws.proofs.Phased.{Holds, holds_step, holds_at_first, to_acceptor, to_initiator}
@@ -27,7 +29,6 @@ use Rattle.honest_numbers.specs.Knowing.{Knows, StartsKnown}
 use Rattle.honest_numbers.specs.Numbered.{awaited, Names, Expects, Follows, Numbered}
 use Rattle.honest_numbers.specs.Laws.{NoNumber}
 use Rattle.honest_numbers.proofs.Awaiting.{Ready}
-use Rattle.honest_numbers.proofs.Counting.{within_as}
 use Rattle.honest_numbers.proofs.Requesting.{Agrees}
 use Rattle.honest_numbers.proofs.Standing.{initiator_flows, acceptor_flows, initiator_quiet, acceptor_quiet}
 use Rattle.honest_numbers.proofs.Beginning.{meeting}
@@ -64,60 +65,65 @@ written_by h s t o c limit reader over way left out r b =
 going_on : (h : List Entry) (writer : Facts) (c : EndConfig) (limit : ℕ) (reader : Facts) (e : Option Ending) (way back : List Piece) → e ≡ None → Between h writer c limit reader e way back → Between h writer c limit reader None way back
 going_on h writer c limit reader e way back none b = subst (λ (k : Option Ending). Between h writer c limit reader k way back) none b
 
-initiator_reading : (hi ha : List Entry) (w : World) (way : List Piece) (at now : ℕ) → w.homeward ≡ way → Counted hi ha w → IsOpen w.initiator → Holds (initiator_read w way at now) → Counted hi ha (initiator_read w way at now)
-initiator_reading hi ha w [] at now e n going h = n
-initiator_reading hi ha w (p ∷ left) at now e n going h =
-    let s = w.initiator in
-    let x = around s at now in
-    let o : Outcome = reply_of x s.facts (incoming_of p) in
-    let rd = reads_as s p at now in
-    let matches = n.holds.matches in
-    let peer = to_initiator s.config w.acceptor.config matches in
-    let flows : is_shaken s.facts.connection.phase ≡ true → IsFlowing w.acceptor.config p = λ shaken. (subst (λ (ps : List Piece). AllByRecursion (IsFlowing w.acceptor.config) ps) e (initiator_flows s.config w.acceptor.config s.facts s.ending w.acceptor.facts w.outward w.homeward n.holds.shaking shaken)).0 in
-    let asked = subst (λ (ps : List Piece). Requests w.acceptor.facts s.facts s.ending ps w.outward) e n.holds.homeward_requests in
-    let home = going_on ha w.acceptor.facts s.config s.most s.facts s.ending (p ∷ left) w.outward going.going
-    (subst (λ (ps : List Piece). Between ha w.acceptor.facts s.config s.most s.facts s.ending ps w.outward) e n.homeward) in
-    let out = subst (λ (ps : List Piece). Between hi s.facts w.acceptor.config w.acceptor.most w.acceptor.facts w.acceptor.ending w.outward ps) e n.outward in
-    let r = reader_replies ha w.acceptor.facts x s.facts w.acceptor.config p left w.outward peer flows asked.once home in
-    record {
-      holds = h;
-      outward = written_by hi s _ o w.acceptor.config w.acceptor.most w.acceptor.facts w.acceptor.ending w.outward left _ rd
-          (writer_replies hi x s.facts w.acceptor.config w.acceptor.config w.acceptor.most w.acceptor.facts w.acceptor.ending p w.outward left peer flows matches.outward out);
-      homeward = read_by ha w.acceptor.facts s _ o left w.outward _ rd r.0;
-      initiator = λ v is. r.1 v (sym rd.ending ∙ is);
-      acceptor = n.acceptor;
-    }
-
-acceptor_reading : (hi ha : List Entry) (w : World) (way : List Piece) (at now : ℕ) → w.outward ≡ way → Counted hi ha w → IsOpen w.acceptor → Holds (acceptor_read w way at now) → Counted hi ha (acceptor_read w way at now)
-acceptor_reading hi ha w [] at now e n going h = n
-acceptor_reading hi ha w (p ∷ left) at now e n going h =
-    let s = w.acceptor in
-    let x = around s at now in
-    let o : Outcome = reply_of x s.facts (incoming_of p) in
-    let rd = reads_as s p at now in
-    let matches = n.holds.matches in
-    let peer = to_acceptor w.initiator.config s.config matches in
-    let flows : is_shaken s.facts.connection.phase ≡ true → IsFlowing w.initiator.config p = λ shaken. (subst (λ (ps : List Piece). AllByRecursion (IsFlowing w.initiator.config) ps) e (acceptor_flows w.initiator.config s.config w.initiator.facts w.initiator.ending s.facts w.outward w.homeward n.holds.shaking shaken)).0 in
-    let asked = subst (λ (ps : List Piece). Requests w.initiator.facts s.facts s.ending ps w.homeward) e n.holds.outward_requests in
-    let out = going_on hi w.initiator.facts s.config s.most s.facts s.ending (p ∷ left) w.homeward going.going
-    (subst (λ (ps : List Piece). Between hi w.initiator.facts s.config s.most s.facts s.ending ps w.homeward) e n.outward) in
-    let home = subst (λ (ps : List Piece). Between ha s.facts w.initiator.config w.initiator.most w.initiator.facts w.initiator.ending w.homeward ps) e n.homeward in
-    let r = reader_replies hi w.initiator.facts x s.facts w.initiator.config p left w.homeward peer flows asked.once out in
-    record {
-      holds = h;
-      outward = read_by hi w.initiator.facts s _ o left w.homeward _ rd r.0;
-      homeward = written_by ha s _ o w.initiator.config w.initiator.most w.initiator.facts w.initiator.ending w.homeward left _ rd
-          (writer_replies ha x s.facts w.initiator.config w.initiator.config w.initiator.most w.initiator.facts w.initiator.ending p w.homeward left peer flows matches.homeward home);
-      initiator = n.initiator;
-      acceptor = λ v is. r.1 v (sym rd.ending ∙ is);
-    }
-
 no_violation : (v : Violation) → None ≡ Some (endings.Violation v) → NoNumber v
 no_violation v e = absurd cc
 
 -- those of time are none of numbers
 time_fine : (v : Violation) → IsOfTime v → NoNumber v
 time_fine = each_of_time NoNumber (λ last now. tt) (λ start now. tt)
+
+-- an end reads the first message under way to it: both flows are as they have to be, and it breaks no rule of numbers
+end_reads : (own theirs : List Entry) (s other : State) (p : Piece) (left outgoing : List Piece) (at now : ℕ) → Peer s.config other.config → other.config.peer_flow ≡ s.config.own_flow
+    → (is_shaken s.facts.connection.phase ≡ true → IsFlowing other.config p) → s.ending ≡ None → Requests other.facts s.facts s.ending (p ∷ left) outgoing → Flowing own s other outgoing (p ∷ left) → Flowing theirs other s (p ∷ left) outgoing
+    → Flowing own (run s (reading p at now)) other (outgoing ++ written s (reading p at now)) left × Flowing theirs other (run s (reading p at now)) left (outgoing ++ written s (reading p at now)) × EndsBy NoNumber (run s (reading p at now))
+end_reads own theirs s other p left outgoing at now peer flow flows going asked out home =
+    let x = around s at now in
+    let o : Outcome = reply_of x s.facts (incoming_of p) in
+    let rd = reads_as s p at now in
+    let r = reader_replies theirs other.facts x s.facts other.config p left outgoing peer flows asked.once (going_on theirs other.facts s.config s.most s.facts s.ending (p ∷ left) outgoing going home) in (
+      written_by own s (run s (reading p at now)) o other.config other.most other.facts other.ending outgoing left (written s (reading p at now)) rd
+          (writer_replies own x s.facts other.config other.config other.most other.facts other.ending p outgoing left peer flows flow out),
+      read_by theirs other.facts s (run s (reading p at now)) o left outgoing (written s (reading p at now)) rd r.0,
+      λ v is. r.1 v (sym rd.ending ∙ is),
+    )
+
+initiator_reading : (hi ha : List Entry) (w : World) (way : List Piece) (at now : ℕ) → w.homeward ≡ way → Counted hi ha w → IsOpen w.initiator → Holds (initiator_read w way at now) → Counted hi ha (initiator_read w way at now)
+initiator_reading hi ha w [] at now e n going h = n
+initiator_reading hi ha w (p ∷ left) at now e n going h =
+    let s = w.initiator in
+    let m = n.holds.matches in
+    let flows : is_shaken s.facts.connection.phase ≡ true → IsFlowing w.acceptor.config p = λ shaken.
+    (subst (λ (ps : List Piece). AllByRecursion (IsFlowing w.acceptor.config) ps) e (initiator_flows s.config w.acceptor.config s.facts s.ending w.acceptor.facts w.outward w.homeward n.holds.shaking shaken)).0 in
+    let r = end_reads hi ha s w.acceptor p left w.outward at now (to_initiator s.config w.acceptor.config m) m.outward flows going.going
+    (subst (λ (ps : List Piece). Requests w.acceptor.facts s.facts s.ending ps w.outward) e n.holds.homeward_requests)
+    (subst (λ (ps : List Piece). Flowing hi s w.acceptor w.outward ps) e n.outward) (subst (λ (ps : List Piece). Flowing ha w.acceptor s ps w.outward) e n.homeward) in
+    record { holds = h; outward = r.0; homeward = r.1; initiator = r.2; acceptor = n.acceptor }
+
+acceptor_reading : (hi ha : List Entry) (w : World) (way : List Piece) (at now : ℕ) → w.outward ≡ way → Counted hi ha w → IsOpen w.acceptor → Holds (acceptor_read w way at now) → Counted hi ha (acceptor_read w way at now)
+acceptor_reading hi ha w [] at now e n going h = n
+acceptor_reading hi ha w (p ∷ left) at now e n going h =
+    let s = w.acceptor in
+    let m = n.holds.matches in
+    let flows : is_shaken s.facts.connection.phase ≡ true → IsFlowing w.initiator.config p = λ shaken.
+    (subst (λ (ps : List Piece). AllByRecursion (IsFlowing w.initiator.config) ps) e (acceptor_flows w.initiator.config s.config w.initiator.facts w.initiator.ending s.facts w.outward w.homeward n.holds.shaking shaken)).0 in
+    let r = end_reads ha hi s w.initiator p left w.homeward at now (to_acceptor w.initiator.config s.config m) m.homeward flows going.going
+    (subst (λ (ps : List Piece). Requests w.initiator.facts s.facts s.ending ps w.homeward) e n.holds.outward_requests)
+    (subst (λ (ps : List Piece). Flowing ha s w.initiator w.homeward ps) e n.homeward) (subst (λ (ps : List Piece). Flowing hi w.initiator s ps w.homeward) e n.outward) in
+    record { holds = h; outward = r.1; homeward = r.0; initiator = n.initiator; acceptor = r.2 }
+
+-- so at every call other than the beginning of a connection: both flows are as they have to be
+end_calls : (own theirs : List Entry) (s other : State) (call : Call) (outgoing incoming : List Piece) → other.config.peer_flow ≡ s.config.own_flow → IsOther own call → MayStand own s call → (is_recoverable s.config.own_flow ≡ false → s.facts.connection.serving ≡ None)
+    → (is_shaken s.facts.connection.phase ≡ false → Quiet s.facts) → Flowing own s other outgoing incoming → Flowing theirs other s incoming outgoing → EndsBy NoNumber s
+    → Flowing own (run s (call ∷ [])) other (outgoing ++ written s (call ∷ [])) incoming × Flowing theirs other (run s (call ∷ [])) incoming (outgoing ++ written s (call ∷ [])) × EndsBy NoNumber (run s (call ∷ []))
+end_calls own theirs s other call outgoing incoming flow is_other may serves quiet out home fine =
+    let t = run s (call ∷ []) in
+    let more = written s (call ∷ []) in
+    let d = does_as own s call is_other may serves in
+    let k = serves_as own s call is_other may in (
+      writer_calls own s t other.config other.most other.facts other.ending outgoing incoming more flow k out,
+      reader_calls theirs own other.facts s t incoming outgoing more (same_shaken s t more d quiet) d.over d.config k home,
+      ends_still NoNumber s t d.ends time_fine fine,
+    )
 
 pub counted_step : (hi ha : List Entry) (w : World) (step : Step) → Counted hi ha w → MayStep hi ha w step → Counted hi ha (after w step)
 counted_step hi ha w (meets now_i now_a) n may =
@@ -135,34 +141,14 @@ counted_step hi ha w (initiator_reads at now) n may = initiator_reading hi ha w 
 counted_step hi ha w (acceptor_reads at now) n may = acceptor_reading hi ha w w.outward at now refl n may (holds_step hi ha w (acceptor_reads at now) n.holds may)
 counted_step hi ha w (initiator_does call) n may =
     let s = w.initiator in
-    let t = run s (call ∷ []) in
-    let out = written s (call ∷ []) in
-    let d = does_as hi s call may.0 may.1 n.holds.initiator.serves in
-    let k = serves_as hi s call may.0 may.1 in
-    let c = within_as hi s call may.0 may.1 in
-    let quiet = initiator_quiet s.config w.acceptor.config s.facts s.ending w.acceptor.facts w.outward w.homeward n.holds.shaking in
-    record {
-      holds = holds_step hi ha w (initiator_does call) n.holds may;
-      outward = writer_calls hi s t w.acceptor.config w.acceptor.most w.acceptor.facts w.acceptor.ending w.outward w.homeward out n.holds.matches.outward c k n.outward;
-      homeward = reader_calls ha w.acceptor.facts s t w.homeward w.outward out (same_shaken s t out d quiet) d.over c.most d.config k n.homeward;
-      initiator = ends_still NoNumber s t d.ends time_fine n.initiator;
-      acceptor = n.acceptor;
-    }
+    let r = end_calls hi ha s w.acceptor call w.outward w.homeward n.holds.matches.outward may.0 may.1 n.holds.initiator.serves
+    (initiator_quiet s.config w.acceptor.config s.facts s.ending w.acceptor.facts w.outward w.homeward n.holds.shaking) n.outward n.homeward n.initiator in
+    record { holds = holds_step hi ha w (initiator_does call) n.holds may; outward = r.0; homeward = r.1; initiator = r.2; acceptor = n.acceptor }
 counted_step hi ha w (acceptor_does call) n may =
     let s = w.acceptor in
-    let t = run s (call ∷ []) in
-    let out = written s (call ∷ []) in
-    let d = does_as ha s call may.0 may.1 n.holds.acceptor.serves in
-    let k = serves_as ha s call may.0 may.1 in
-    let c = within_as ha s call may.0 may.1 in
-    let quiet = acceptor_quiet w.initiator.config s.config w.initiator.facts w.initiator.ending s.facts w.outward w.homeward n.holds.shaking in
-    record {
-      holds = holds_step hi ha w (acceptor_does call) n.holds may;
-      outward = reader_calls hi w.initiator.facts s t w.outward w.homeward out (same_shaken s t out d quiet) d.over c.most d.config k n.outward;
-      homeward = writer_calls ha s t w.initiator.config w.initiator.most w.initiator.facts w.initiator.ending w.homeward w.outward out n.holds.matches.homeward c k n.homeward;
-      initiator = n.initiator;
-      acceptor = ends_still NoNumber s t d.ends time_fine n.acceptor;
-    }
+    let r = end_calls ha hi s w.initiator call w.homeward w.outward n.holds.matches.homeward may.0 may.1 n.holds.acceptor.serves
+    (acceptor_quiet w.initiator.config s.config w.initiator.facts w.initiator.ending s.facts w.outward w.homeward n.holds.shaking) n.homeward n.outward n.acceptor in
+    record { holds = holds_step hi ha w (acceptor_does call) n.holds may; outward = r.1; homeward = r.0; initiator = n.initiator; acceptor = r.2 }
 
 pub counted_after : (hi ha : List Entry) (w : World) (steps : List Step) → Counted hi ha w → AllMayStep hi ha w steps → Counted hi ha (world_after w steps)
 counted_after hi ha w [] n may = n
@@ -175,7 +161,7 @@ beginning : (h : List Entry) (c : EndConfig) (writer : State) (limit : ℕ) (rea
 beginning h c writer limit reader way back k free receiver requester before no_way no_back = record {
   sent = k.sent;
   most = k.most;
-  one = λ _. k.one;
+  one = k.one;
   next = k.next;
   goes = λ _ _. (
     ready_first reader.config reader.facts way (writer.facts.recorded.sent + 1) (served writer.facts.connection.serving) receiver requester before k.next

@@ -1,5 +1,5 @@
 -- A request under way names the range that is open, and a Retransmission under way answers it.
-use Rattle.std.proofs.Common.{◌≡◌, ℕ, zero, suc, ◌+◌, ◌≤◌, ◌==◌, ◌&&◌, ◌||◌, nat_lt, Bool, true, false, if◌then◌else◌, List, [], ◌∷◌, Option, Some, None, refl, sym, ap, subst, ◌∙◌, arith, true≢false}
+use Rattle.std.proofs.Common.{◌≡◌, ℕ, zero, suc, ◌+◌, ◌≤◌, ◌==◌, ◌&&◌, ◌||◌, nat_lt, Bool, true, false, if◌then◌else◌, List, ◌∷◌, Option, Some, None, refl, sym, ap, subst, ◌∙◌, arith, true≢false}
 use Rattle.std.specs.Prelude.{Result, Ok, Err}
 use Rattle.std.specs.List.{AllByRecursion}
 use Rattle.std.proofs.lemmas.Bool.Decides.{nat_tests}
@@ -25,44 +25,28 @@ use Rattle.link_laws.specs.Reading.{incoming_of}
 use Rattle.honest_laws.specs.Numbers.{Answers, Idle, Peer, IsFlowing}
 use Rattle.honest_laws.proofs.Deciding.{same_bytes}
 use Rattle.honest_laws.proofs.Finishing.{total}
-use Rattle.honest_laws.proofs.Asking.{asks, restarts, unanswered, Asks, Requested, at_most_one}
+use Rattle.honest_laws.proofs.Asking.{asks, restarts, unanswered, Asks, Requested, all_none, at_most_one}
 use Rattle.honest_numbers.specs.Numbered.{Names}
 
--- none is there
-pub none_named : (q : Request) (ps : List Piece) → total asks ps ≡ 0 → AllByRecursion (Names q) ps
-none_named q [] e = tt
-none_named q (p ∷ ps) e = (by_piece p (omega (arith, e)), none_named q ps (omega (arith, e)))
-  where
-    by_piece : (k : Piece) → asks k ≡ 0 → Names q k
-    by_piece (said (retransmit_request id timestamp first count)) n = absurd (omega (arith, n))
-    by_piece _ n = tt
+-- a message that is no request, and one that is no answer to one
+pub none_named : (q : Request) (p : Piece) → asks p ≡ 0 → Names q p
+none_named q (said (retransmit_request id timestamp first count)) n = absurd (omega (arith, n))
+none_named q _ n = tt
 
-pub none_answered : (q : Request) (ps : List Piece) → total restarts ps ≡ 0 → AllByRecursion (Answers q) ps
-none_answered q [] e = tt
-none_answered q (p ∷ ps) e = (by_piece p (omega (arith, e)), none_answered q ps (omega (arith, e)))
-  where
-    by_piece : (k : Piece) → restarts k ≡ 0 → Answers q k
-    by_piece (said (retransmission id next timestamp count)) n = absurd (omega (arith, n))
-    by_piece (said (retransmit_reject id timestamp code reason)) n = absurd (omega (arith, n))
-    by_piece _ n = tt
+pub none_answered : (q : Request) (p : Piece) → restarts p ≡ 0 → Answers q p
+none_answered q (said (retransmission id next timestamp count)) n = absurd (omega (arith, n))
+none_answered q (said (retransmit_reject id timestamp code reason)) n = absurd (omega (arith, n))
+none_answered q _ n = tt
 
 -- what a reader of these facts asks for, behind its reply
-pub asked_names : (g : Facts) (ps : List Piece) → 1 ≤ g.connection.receiver.next → AllByRecursion (Requested g) ps → AllByRecursion (Names g.connection.requester) ps
-asked_names g [] one a = tt
-asked_names g (p ∷ ps) one a = (by_piece p a.0, asked_names g ps one a.1)
-  where
-    by_piece : (k : Piece) → Requested g k → Names g.connection.requester k
-    by_piece (said (retransmit_request id timestamp first count)) r = let same = r.1 in (r.0, omega (arith, same, one), r.2, r.3)
-    by_piece _ r = tt
+pub asked_names : (g : Facts) → 1 ≤ g.connection.receiver.next → (p : Piece) → Requested g p → Names g.connection.requester p
+asked_names g one (said (retransmit_request id timestamp first count)) r = let same = r.1 in (r.0, omega (arith, same, one), r.2, r.3)
+asked_names g one _ r = tt
 
 -- a reader of a flow that is not recoverable asks for nothing
-pub idle_names : (g : Facts) (ps : List Piece) → Idle g → AllByRecursion (Requested g) ps → AllByRecursion (Names g.connection.requester) ps
-idle_names g [] idle a = tt
-idle_names g (p ∷ ps) idle a = (by_piece p a.0, idle_names g ps idle a.1)
-  where
-    by_piece : (k : Piece) → Requested g k → Names g.connection.requester k
-    by_piece (said (retransmit_request id timestamp first count)) r = absurd (cc (idle.none, r.0))
-    by_piece _ r = tt
+pub idle_names : (g : Facts) → Idle g → (p : Piece) → Requested g p → Names g.connection.requester p
+idle_names g idle (said (retransmit_request id timestamp first count)) r = absurd (cc (idle.none, r.0))
+idle_names g idle _ r = tt
 
 -- The reader replies: what was under way stays true of what it asks for then
 pub record Agrees (q : Request) (way back : List Piece) : Type 0 where
@@ -74,7 +58,10 @@ pub agrees_behind : (x : Around) (f : Facts) (p : Piece) (left back : List Piece
 agrees_behind x f p left back o turn once c a = by_count (restarts p) refl (unanswered f) refl
   where
     none : total asks back ≡ 0 → total restarts left ≡ 0 → Agrees o.next.connection.requester left back
-    none b w = record { asks = none_named o.next.connection.requester back b; answers = none_answered o.next.connection.requester left w }
+    none b w = record {
+      asks = all_none (Names o.next.connection.requester) asks (none_named o.next.connection.requester) back b;
+      answers = all_none (Answers o.next.connection.requester) restarts (none_answered o.next.connection.requester) left w;
+    }
 
     by_count : (r : ℕ) → restarts p ≡ r → (n : ℕ) → unanswered f ≡ n → Agrees o.next.connection.requester left back
     by_count r e zero n = none (omega (arith, once, n)) (omega (arith, once, n))
@@ -132,11 +119,11 @@ pub answers_behind : (x : Around) (f : Facts) (theirs : EndConfig) (q : Request)
 answers_behind x f theirs q p turn are flows bounds c names = by_piece p flows names c.resent
   where
     by_piece : (k : Piece) → (is_shaken f.connection.phase ≡ true → IsFlowing theirs k) → Names q k → total restarts (said_all (reply_of x f (incoming_of k)).written) ≤ asks k → Answered q (reply_of x f (incoming_of k))
-    by_piece (entry payload) w n few = none_answered q _ (omega (arith, few))
+    by_piece (entry payload) w n few = all_none (Answers q) restarts (none_answered q) _ (omega (arith, few))
     by_piece (said m) w n few = by_message m w n few
       where
         by_message : (k : Message) → (is_shaken f.connection.phase ≡ true → IsFlowing theirs (said k)) → Names q (said k) → total restarts (said_all (reply_of x f (session k)).written) ≤ asks (said k)
             → Answered q (reply_of x f (session k))
         by_message (retransmit_request id timestamp first count) w n few =
             let b = bounds (record { from = first; count = count }) n.0 in request_reply x f theirs q id timestamp first count are w b.0 b.1 n
-        by_message _ w n few = none_answered q _ (omega (arith, few))
+        by_message _ w n few = all_none (Answers q) restarts (none_answered q) _ (omega (arith, few))

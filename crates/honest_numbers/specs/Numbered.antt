@@ -19,7 +19,8 @@ use Rattle.honest_laws.specs.Worlds.{World}
 abbrev pub next_live : EndConfig → Facts → ℕ
 next_live c f = if is_recoverable c.peer_flow then f.connection.receiver.live else f.recorded.inbox_next
 
--- a flow with numbers announces one in its handshake
+-- A flow with numbers announces one in its handshake: from then on the reader awaits exactly that number, and at most it before, or where
+-- the flow has none
 abbrev pub is_announced : EndConfig → Facts → Bool
 is_announced c f = is_sequenced c.peer_flow && is_shaken f.connection.phase
 
