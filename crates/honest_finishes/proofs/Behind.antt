@@ -20,7 +20,7 @@ use Rattle.fixp_replies.specs.declared.facts.Facts.{Facts}
 use Rattle.fixp_replies.specs.declared.facts.PeerFinish.{PeerFinish}
 use Rattle.fixp_replies.specs.declared.facts.PeerFinish.TheVariants as peer
 use Rattle.fixp_replies.specs.Facts.{Around, peer_last, last_among, live_number}
-use Rattle.fixp_replies.specs.Flowing.{finished_last, is_last}
+use Rattle.fixp_replies.specs.Flowing.{is_after_finish, is_past_finish, finished_last, is_last}
 use Rattle.fixp_replies.specs.Outcomes.{Outcome}
 use Rattle.fixp_replies.specs.Replies.{reply_of}
 use Rattle.connection_laws.specs.Writing.{Piece, said, entry, said_all}
@@ -223,100 +223,92 @@ to_come_some requests.Nothing = refl
 to_come_some (requests.Asked range) = refl
 to_come_some (requests.Coming range next left) = refl
 
--- In Established what is under way brings a reader of a flow with numbers from its live number to exactly one past what was sent
+-- What is under way brings a reader of a flow with numbers from its live number to exactly one past what was sent
+abbrev pub Brings : Flow → (writer : Facts) (x : Around) (reader : Facts) → List Piece → Type 0
+Brings own writer x reader way = Runs own (exactly (live_number x reader)) (to_come reader.connection.requester) way (writer.recorded.sent + 1) (served writer.connection.serving)
+
+-- in Established
 abbrev pub Exact : Flow → (writer : Facts) (x : Around) (reader : Facts) → List Piece → Type 0
-Exact own writer x reader way = is_sequenced own ≡ true → is_established reader.connection.phase ≡ true
-    → Runs own (exactly (live_number x reader)) (to_come reader.connection.requester) way (writer.recorded.sent + 1) (served writer.connection.serving)
+Exact own writer x reader way = is_sequenced own ≡ true → is_established reader.connection.phase ≡ true → Brings own writer x reader way
+
+-- behind a finish the live number is one past what was sent
+live_is_next : (own : Flow) (writer : Facts) (x : Around) (reader : Facts) (way : List Piece) (k : ℕ) → 1 ≤ k → Brings own writer x reader way → NoneLive k (coming reader) way → live_number x reader ≡ writer.recorded.sent + 1
+live_is_next own writer x reader way k some runs live = live_level own (live_number x reader) (to_come reader.connection.requester) way (writer.recorded.sent + 1) (served writer.connection.serving) k some runs
+    (subst (λ (b : Bool). NoneLive k b way) (sym (to_come_some reader.connection.requester)) live)
+
+both_true : (a b : Bool) → (a && b) ≡ true → (a ≡ true) × (b ≡ true)
+both_true true true e = (refl, refl)
+both_true true false e = absurd (true≢false (sym e))
+both_true false b e = absurd (true≢false (sym e))
+
+-- a test that fails though what it tests holds
+passed : (b : Bool) → b ≡ true → not b ≡ true → ⊥
+passed b e n = true≢false (sym n ∙ ap not e)
+
+-- the last number of a flow with numbers is that of the last entry
+last_entry : (own : Flow) (h : List Entry) (last : ℕ) → is_sequenced own ≡ true → last ≡ last_told own h → last ≡ length h
+last_entry own h last numbered e = e ∙ ap (λ (b : Bool). if b then length h else 0) numbered
+
+entry_early : (reader : Facts) (payload : List ℕ) (left : List Piece) → NoneLive (known (peer_last reader)) (coming reader) (entry payload ∷ left) → is_after_finish reader ≡ true → ⊥
+entry_early reader payload left live late =
+    let two = both_true (is_some (peer_last reader)) (not (coming reader)) late in
+    passed (coming reader) (live.0 (there_known (peer_last reader) two.0)) two.1
+
+-- a Sequence announces the live number
+announces_live : (b : Bool) (live next : ℕ) → b ≡ true → IfSome (if b then Some next else None) (λ n. live ≡ n) → live ≡ next
+announces_live true live next e h = h
+announces_live false live next e h = absurd (true≢false (sym e))
+
+sequence_early : (own : Flow) (h : List Entry) (writer : Facts) (x : Around) (reader : Facts) (over : Option Ending) (next : ℕ) (left : List Piece) → x.config.peer_flow ≡ own
+    → Behind own h writer reader over (said (sequence next) ∷ left) → (is_sequenced own ≡ true → Brings own writer x reader (said (sequence next) ∷ left))
+    → NoneLive (known (peer_last reader)) (coming reader) (said (sequence next) ∷ left) → is_past_finish x reader next ≡ true → ⊥
+sequence_early own h writer x reader over next left flow a runs live late =
+    let one = both_true (is_sequenced x.config.peer_flow && is_some (peer_last reader)) (not (next == unwrap_or (peer_last reader) 0 + 1)) late in
+    let two = both_true (is_sequenced x.config.peer_flow) (is_some (peer_last reader)) one.0 in
+    known_learned reader ⊥ (there_known (peer_last reader) two.1) (λ last e l. past last e l (sym (ap is_sequenced flow) ∙ two.0) one.1)
+  where
+    past : (last : ℕ) → peer_last reader ≡ Some last → Learned (finishes reader) last → is_sequenced own ≡ true → not (next == unwrap_or (peer_last reader) 0 + 1) ≡ true → ⊥
+    past last e l numbered wrong =
+        let c = a.learned last l in
+        let sent = c.0.sent in
+        let is = last_entry own h last numbered c.1 in
+        let number = live_is_next own writer x reader (said (sequence next) ∷ left) (known (peer_last reader)) (learned_known reader last l) (runs numbered) live in
+        let told = announces_live (is_sequenced own) (live_number x reader) next numbered (runs numbered).0.0 in
+        let known_as = ap (λ (o : Option ℕ). unwrap_or o 0) e in
+        passed (next == unwrap_or (peer_last reader) 0 + 1) (eq-eqb next (unwrap_or (peer_last reader) 0 + 1) (omega (arith, sent, is, number, told, known_as))) wrong
+
+finish_early : (own : Flow) (h : List Entry) (writer : Facts) (x : Around) (reader : Facts) (over : Option Ending) (id : List ℕ) (last : Option ℕ) (left : List Piece) → x.config.peer_flow ≡ own
+    → Behind own h writer reader over (said (finished_sending id last) ∷ left) → (is_sequenced own ≡ true → Brings own writer x reader (said (finished_sending id last) ∷ left))
+    → NoneLive (known (peer_last reader)) (coming reader) (said (finished_sending id last) ∷ left) → (is_sequenced x.config.peer_flow && not (is_last x reader (finished_last x last))) ≡ true → ⊥
+finish_early own h writer x reader over id last left flow a runs live late =
+    let one = both_true (is_sequenced x.config.peer_flow) (not (is_last x reader (finished_last x last))) late in
+    let numbered = sym (ap is_sequenced flow) ∙ one.0 in
+    let sent = (a.told (omega arith)).sent in
+    let n = named x own h (said (finished_sending id last)) (finished_last x last) flow a.names.0 refl in
+    let is = last_entry own h (finished_last x last) numbered n.1 in
+    let number = live_is_next own writer x reader left (known (peer_last reader) + 1) (omega arith) (runs numbered).1 live.1 in
+    passed (is_last x reader (finished_last x last)) (tests (finished_last x last) (omega (arith, sent, is, number)) (same (finished_last x last) numbered is (peer_last reader) refl)) one.1
+  where
+    same : (k : ℕ) → is_sequenced own ≡ true → k ≡ length h → (o : Option ℕ) → peer_last reader ≡ o → k ≡ unwrap_or o k
+    same k numbered is None e = refl
+    same k numbered is (Some before) e = is ∙ sym (last_entry own h before numbered (a.learned before (last_of reader.recorded.peer_last reader.connection.peer_finish before e)).1)
+
+    and_true : (b c : Bool) → b ≡ true → c ≡ true → (b && c) ≡ true
+    and_true true c e d = d
+    and_true false c e d = absurd (true≢false (sym e))
+
+    tests : (k : ℕ) → k + 1 ≡ live_number x reader → k ≡ unwrap_or (peer_last reader) k → is_last x reader k ≡ true
+    tests k number same = and_true (k + 1 == live_number x reader) (k == unwrap_or (peer_last reader) k) (eq-eqb (k + 1) (live_number x reader) number) (eq-eqb k (unwrap_or (peer_last reader) k) same)
 
 -- so no message that comes is behind a finish
 pub none_late : (own : Flow) (h : List Entry) (writer : Facts) (x : Around) (reader : Facts) (over : Option Ending) (p : Piece) (left : List Piece) → x.config.peer_flow ≡ own → over ≡ None
     → Behind own h writer reader over (p ∷ left) → Exact own writer x reader (p ∷ left) → IsLate x reader p → ⊥
 none_late own h writer x reader over p left flow going a exact late =
-    by_piece p a (exact_of p exact) (a.none_live going (open_not_closing reader.connection.phase late.0)) late.1
+    by_piece p a (λ numbered. exact numbered late.0) (a.none_live going (open_not_closing reader.connection.phase late.0)) late.1
   where
-    exact_of : (q : Piece) → Exact own writer x reader (q ∷ left) → is_sequenced x.config.peer_flow ≡ true
-        → Runs own (exactly (live_number x reader)) (to_come reader.connection.requester) (q ∷ left) (writer.recorded.sent + 1) (served writer.connection.serving)
-    exact_of q exact numbered = exact (sym (ap is_sequenced flow) ∙ numbered) late.0
-
-    shown : (b : Bool) → (is_some (peer_last reader) && not b) ≡ true → b ≡ true → ⊥
-    shown b e t = tests (is_some (peer_last reader)) b e t
-      where
-        tests : (k b : Bool) → (k && not b) ≡ true → b ≡ true → ⊥
-        tests true true e t = true≢false (sym e)
-        tests true false e t = true≢false (sym t)
-        tests false b e t = true≢false (sym e)
-
-    first : (a b : Bool) → (a && b) ≡ true → (a ≡ true) × (b ≡ true)
-    first true true e = (refl, refl)
-    first true false e = absurd (true≢false (sym e))
-    first false b e = absurd (true≢false (sym e))
-
-    counted : (b : Bool) (n : ℕ) → b ≡ true → (if b then n else 0) ≡ n
-    counted true n e = refl
-    counted false n e = absurd (true≢false (sym e))
-
-    -- the number that a finish has
-    number_is : (last : ℕ) → is_sequenced x.config.peer_flow ≡ true → last ≡ last_told own h → last ≡ length h
-    number_is last numbered e = e ∙ counted (is_sequenced own) (length h) (sym (ap is_sequenced flow) ∙ numbered)
-
-    same_side : (n m : ℕ) → n ≡ m → not (n == m) ≡ true → ⊥
-    same_side n m e k = true≢false (sym (sym (ap not (eq-eqb n m e)) ∙ k))
-
-    by_piece : (q : Piece) → Behind own h writer reader over (q ∷ left)
-        → (is_sequenced x.config.peer_flow ≡ true → Runs own (exactly (live_number x reader)) (to_come reader.connection.requester) (q ∷ left) (writer.recorded.sent + 1) (served writer.connection.serving))
+    by_piece : (q : Piece) → Behind own h writer reader over (q ∷ left) → (is_sequenced own ≡ true → Brings own writer x reader (q ∷ left))
         → NoneLive (known (peer_last reader)) (coming reader) (q ∷ left) → ComesLate x reader q → ⊥
-    by_piece (entry payload) a runs live late =
-        let two = first (is_some (peer_last reader)) (not (coming reader)) late in
-        shown (coming reader) late (live.0 (there_known (peer_last reader) two.0))
-    by_piece (said (sequence next)) a runs live late =
-        let one = first (is_sequenced x.config.peer_flow && is_some (peer_last reader)) (not (next == unwrap_or (peer_last reader) 0 + 1)) late in
-        let two = first (is_sequenced x.config.peer_flow) (is_some (peer_last reader)) one.0 in
-        known_learned reader ⊥ (there_known (peer_last reader) two.1) (λ last e l. past next last e l runs live two.0 one.1)
-      where
-        announced : (next : ℕ) → is_sequenced own ≡ true
-            → Runs own (exactly (live_number x reader)) (to_come reader.connection.requester) (said (sequence next) ∷ left) (writer.recorded.sent + 1) (served writer.connection.serving) → live_number x reader ≡ next
-        announced next numbered r = told_of (is_sequenced own) next numbered r.0.0
-          where
-            told_of : (b : Bool) (next : ℕ) → b ≡ true → IfSome (if b then Some next else None) (λ n. live_number x reader ≡ n) → live_number x reader ≡ next
-            told_of true next e h = h
-            told_of false next e h = absurd (true≢false (sym e))
-
-        past : (next last : ℕ) → peer_last reader ≡ Some last → Learned (finishes reader) last
-            → (is_sequenced x.config.peer_flow ≡ true → Runs own (exactly (live_number x reader)) (to_come reader.connection.requester) (said (sequence next) ∷ left) (writer.recorded.sent + 1) (served writer.connection.serving))
-            → NoneLive (known (peer_last reader)) (coming reader) (said (sequence next) ∷ left) → is_sequenced x.config.peer_flow ≡ true → not (next == unwrap_or (peer_last reader) 0 + 1) ≡ true → ⊥
-        past next last e l runs live numbered k =
-            let c = a.learned last l in
-            let some = learned_known reader last l in
-            let level = live_level own (live_number x reader) (to_come reader.connection.requester) (said (sequence next) ∷ left) (writer.recorded.sent + 1) (served writer.connection.serving) (known (peer_last reader)) some (runs numbered)
-            (subst (λ (b : Bool). NoneLive (known (peer_last reader)) b (said (sequence next) ∷ left)) (sym (to_come_some reader.connection.requester)) live) in
-            let told = announced next (sym (ap is_sequenced flow) ∙ numbered) (runs numbered) in
-            let is = number_is last numbered c.1 in
-            let sent = c.0.sent in
-            same_side next (unwrap_or (peer_last reader) 0 + 1) (omega (arith, level, told, is, sent) ∙ sym (ap (λ (o : Option ℕ). unwrap_or o 0 + 1) e)) k
-    by_piece (said (finished_sending id l)) a runs live late =
-        let one = first (is_sequenced x.config.peer_flow) (not (is_last x reader (finished_last x l))) late in
-        let r = (runs one.0).1 in
-        let c = a.told (omega arith) in
-        let n = named x own h (said (finished_sending id l)) (finished_last x l) flow a.names.0 refl in
-        let is = number_is (finished_last x l) one.0 n.1 in
-        let level = live_level own (live_number x reader) (to_come reader.connection.requester) left (writer.recorded.sent + 1) (served writer.connection.serving) (known (peer_last reader) + 1) (omega arith) r
-        (subst (λ (b : Bool). NoneLive (known (peer_last reader) + 1) b left) (sym (to_come_some reader.connection.requester)) live.1) in
-        let sent = c.sent in
-        last_so (finished_last x l) (omega (arith, is, level, sent)) (same_last (finished_last x l) one.0 is) one.1
-      where
-        same_last : (last : ℕ) → is_sequenced x.config.peer_flow ≡ true → last ≡ length h → last ≡ unwrap_or (peer_last reader) last
-        same_last last numbered is = by_known (peer_last reader) refl
-          where
-            by_known : (o : Option ℕ) → peer_last reader ≡ o → last ≡ unwrap_or o last
-            by_known None e = refl
-            by_known (Some k) e = is ∙ sym (number_is k numbered (a.learned k (last_of reader.recorded.peer_last reader.connection.peer_finish k e)).1)
-
-        last_so : (last : ℕ) → last + 1 ≡ live_number x reader → last ≡ unwrap_or (peer_last reader) last → not (is_last x reader last) ≡ true → ⊥
-        last_so last number same k =
-            tests (last + 1 == live_number x reader) (last == unwrap_or (peer_last reader) last) (eq-eqb (last + 1) (live_number x reader) number) (eq-eqb last (unwrap_or (peer_last reader) last) same) k
-          where
-            tests : (a b : Bool) → a ≡ true → b ≡ true → not (a && b) ≡ true → ⊥
-            tests true true e d k = true≢false (sym k)
-            tests true false e d k = true≢false (sym d)
-            tests false b e d k = true≢false (sym e)
-    by_piece _ a runs live late = late
+    by_piece (entry payload) b runs live comes = entry_early reader payload left live comes
+    by_piece (said (sequence next)) b runs live comes = sequence_early own h writer x reader over next left flow b runs live comes
+    by_piece (said (finished_sending id last)) b runs live comes = finish_early own h writer x reader over id last left flow b runs live comes
+    by_piece _ b runs live comes = comes

@@ -21,6 +21,7 @@ pub record AllSent (h : List Entry) (writer : State) : Type 0 where
 abbrev pub IsLast : List Entry → State → ℕ → Type 0
 IsLast h writer last = AllSent h writer × (last ≡ last_told writer.config.own_flow h)
 
+-- a message that tells a finish
 abbrev pub IsFinish : Piece → Type 0
 IsFinish (said (finished_sending id last)) = ⊤
 IsFinish p = ⊥
