@@ -37,7 +37,7 @@ use Rattle.fixp_replies.specs.Replies.{reply_of, rows_of, answer_of, of_session,
 use Rattle.reply_laws.proofs.Rows.{AllRows, by_row, all_rows, all_within}
 use Rattle.connection_laws.specs.Writing.{Piece, said, entry, said_all}
 use Rattle.link_laws.specs.Reading.{incoming_of}
-use Rattle.honest_laws.proofs.Deciding.{announced_all}
+use Rattle.honest_laws.proofs.Deciding.{announced_all, ended_so}
 
 -- how many FinishedSending and FinishedReceiving a message is
 abbrev pub sending : Message → ℕ
@@ -199,15 +199,11 @@ staying x f m a q = resting x f (rejects (m ∷ []) f) refl (omega (arith, a)) (
 ignoring : (x : Around) (f g : Facts) {p : Piece} → finishes g ≡ finishes f → Moves x f p (ignores g)
 ignoring x f g same = resting x f (ignores g) same refl refl (λ last found e. absurd cc)
 
-ended_so : (b : Bool) (e : Ending) (last found : ℕ) → Some (if b then endings.Finished else e) ≡ Some (endings.Violation (AfterFinish last found)) → e ≡ endings.Violation (AfterFinish last found)
-ended_so true e last found same = absurd cc
-ended_so false e last found same = cc same
-
 ending : (x : Around) (f g : Facts) (code : ℕ) (e : Ending) {p : Piece} → finishes g ≡ finishes f → ((last found : ℕ) → e ≡ endings.Violation (AfterFinish last found) → IsLate x f p) → Moves x f p (ends x g code e)
-ending x f g code e same late = resting x f (ends x g code e) same refl refl (λ last found is. late last found (ended_so (finishes_exchanged x g) e last found is))
+ending x f g code e same late = resting x f (ends x g code e) same refl refl (λ last found is. late last found (ended_so (finishes_exchanged x g) e (AfterFinish last found) is))
 
 rejecting : (x : Around) (f : Facts) (template code : ℕ) {p : Piece} → Moves x f p (ends_with x f [] (endings.Rejected template code))
-rejecting x f template code = resting x f (ends_with x f [] (endings.Rejected template code)) refl refl refl (λ last found is. absurd (no_violation last found (ended_so (finishes_exchanged x f) (endings.Rejected template code) last found is)))
+rejecting x f template code = resting x f (ends_with x f [] (endings.Rejected template code)) refl refl refl (λ last found is. absurd (no_violation last found (ended_so (finishes_exchanged x f) (endings.Rejected template code) (AfterFinish last found) is)))
   where
     no_violation : (last found : ℕ) → endings.Rejected template code ≡ endings.Violation (AfterFinish last found) → ⊥
     no_violation last found e = cc e
