@@ -4,6 +4,7 @@ use Rattle.std.specs.Prelude.{is_some}
 use Rattle.std.specs.Str.{bytes_eq}
 use Rattle.std.proofs.lemmas.Slice.Eq.{bytes_eq-Decides}
 use Rattle.fixp_shake.specs.declared.violation.Violation.{Violation}
+use Rattle.fixp_replies.specs.declared.act.Ending.{Ending}
 use Rattle.fixp_replies.specs.declared.act.Ending.TheVariants as endings
 use Rattle.fixp_replies.specs.declared.facts.Facts.{Facts}
 use Rattle.fixp_replies.specs.Facts.{Around}
@@ -31,10 +32,13 @@ announced_all P x f t next follows refuse takes = (refuse, λ _. (λ _. takes, �
 pub same_bytes : (xs ys : List ℕ) → xs ≡ ys → bytes_eq xs ys ≡ true
 same_bytes xs ys e = (bytes_eq-Decides xs ys).1 e
 
--- how a connection ends that would end by a violation
+-- a connection that ends by a violation, where it would end so, would end by that one
+pub ended_so : (b : Bool) (e : Ending) (v : Violation) → Some (if b then endings.Finished else e) ≡ Some (endings.Violation v) → e ≡ endings.Violation v
+ended_so true e v same = absurd cc
+ended_so false e v same = cc same
+
 pub ended_by : (P : Violation → Type 0) (b : Bool) (v w : Violation) → Some (if b then endings.Finished else endings.Violation v) ≡ Some (endings.Violation w) → P v → P w
-ended_by P true v w e h = absurd cc
-ended_by P false v w e h = let same : v ≡ w = cc e in subst P same h
+ended_by P b v w e h = let same : v ≡ w = cc (ended_so b (endings.Violation v) w e) in subst P same h
 
 pub never : (b : Bool) {A : Type 0} → b ≡ true → not b ≡ true → A
 never true e n = absurd (true≢false (sym n))

@@ -357,8 +357,8 @@ holds_step hi ha w (initiator_does call) h may =
       acceptor = h.acceptor;
       shaking = subst (λ (c : EndConfig). Shaking c w.acceptor.config t.facts t.ending w.acceptor.facts (w.outward ++ written w.initiator (call ∷ [])) w.homeward) (sym d.config)
           (initiator_does_so w.initiator t (written w.initiator (call ∷ [])) w.acceptor.config w.acceptor.facts w.outward w.homeward d h.shaking);
-      outward_finish = told_by_writer w.initiator.facts t.facts w.acceptor.facts w.outward w.homeward (written w.initiator (call ∷ [])) h.outward_finish (tells_as hi w.initiator call may.0);
-      homeward_finish = told_by_reader w.acceptor.facts w.initiator.facts t.facts w.homeward w.outward (written w.initiator (call ∷ [])) h.homeward_finish (tells_as hi w.initiator call may.0);
+      outward_finish = told_by_writer w.initiator.facts t.facts w.acceptor.facts w.outward w.homeward (written w.initiator (call ∷ [])) h.outward_finish (tells_as hi w.initiator call may.0 may.1);
+      homeward_finish = told_by_reader w.acceptor.facts w.initiator.facts t.facts w.homeward w.outward (written w.initiator (call ∷ [])) h.homeward_finish (tells_as hi w.initiator call may.0 may.1);
       outward_requests = served_by_writer w.initiator t w.acceptor.facts w.acceptor.ending w.outward w.homeward (written w.initiator (call ∷ [])) h.outward_requests (serves_as hi w.initiator call may.0 may.1);
       homeward_requests = served_by_reader w.acceptor.facts w.initiator t w.homeward w.outward (written w.initiator (call ∷ [])) d.over h.homeward_requests (serves_as hi w.initiator call may.0 may.1);
     }
@@ -371,8 +371,8 @@ holds_step hi ha w (acceptor_does call) h may =
       acceptor = subst (λ (c : EndConfig). Keeps c t.facts t.ending) (sym d.config) (record { serves = λ n. d.serves n (h.acceptor.serves n); ends = ends_still IsLeft w.acceptor t d.ends time_left h.acceptor.ends });
       shaking = subst (λ (c : EndConfig). Shaking w.initiator.config c w.initiator.facts w.initiator.ending t.facts w.outward (w.homeward ++ written w.acceptor (call ∷ []))) (sym d.config)
           (acceptor_does_so w.acceptor t (written w.acceptor (call ∷ [])) w.initiator.config w.initiator.facts w.initiator.ending w.outward w.homeward (ap (λ r. is_initiator r) h.matches.accepts) d h.shaking);
-      outward_finish = told_by_reader w.initiator.facts w.acceptor.facts t.facts w.outward w.homeward (written w.acceptor (call ∷ [])) h.outward_finish (tells_as ha w.acceptor call may.0);
-      homeward_finish = told_by_writer w.acceptor.facts t.facts w.initiator.facts w.homeward w.outward (written w.acceptor (call ∷ [])) h.homeward_finish (tells_as ha w.acceptor call may.0);
+      outward_finish = told_by_reader w.initiator.facts w.acceptor.facts t.facts w.outward w.homeward (written w.acceptor (call ∷ [])) h.outward_finish (tells_as ha w.acceptor call may.0 may.1);
+      homeward_finish = told_by_writer w.acceptor.facts t.facts w.initiator.facts w.homeward w.outward (written w.acceptor (call ∷ [])) h.homeward_finish (tells_as ha w.acceptor call may.0 may.1);
       outward_requests = served_by_reader w.initiator.facts w.acceptor t w.outward w.homeward (written w.acceptor (call ∷ [])) d.over h.outward_requests (serves_as ha w.acceptor call may.0 may.1);
       homeward_requests = served_by_writer w.acceptor t w.initiator.facts w.initiator.ending w.homeward w.outward (written w.acceptor (call ∷ [])) h.homeward_requests (serves_as ha w.acceptor call may.0 may.1);
     }

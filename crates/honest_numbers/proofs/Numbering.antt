@@ -161,7 +161,7 @@ beginning : (h : List Entry) (c : EndConfig) (writer : State) (limit : ℕ) (rea
 beginning h c writer limit reader way back k free receiver requester before no_way no_back = record {
   sent = k.sent;
   most = k.most;
-  one = λ _. k.one;
+  one = k.one;
   next = k.next;
   goes = λ _ _. (
     ready_first reader.config reader.facts way (writer.facts.recorded.sent + 1) (served writer.facts.connection.serving) receiver requester before k.next

@@ -28,6 +28,7 @@ use Rattle.reply_laws.proofs.Rows.{AllRows, by_row, all_rows, all_within}
 use Rattle.reply_laws.proofs.Tests.{some-none}
 use Rattle.connection_laws.specs.Writing.{Piece, said, entry}
 use Rattle.link_laws.specs.Reading.{incoming_of}
+use Rattle.honest_laws.proofs.Deciding.{ended_so}
 use Rattle.honest_laws.specs.Numbers.{at_most, announces, live_after, left_after, Fits, Answers, NotNumber, Matches, Line, Idle, Reaches, Lined, Rests, to_come}
 use Rattle.honest_laws.proofs.Replying.{asked_phase}
 use Rattle.honest_laws.proofs.Opening.{asks_none}
@@ -49,12 +50,8 @@ pub record Opens (c : EndConfig) (f : Facts) (p : Piece) (o : Outcome) : Type 0 
   pub over : IsSome o.ending → o.next.recorded.inbox_next ≡ f.recorded.inbox_next
   pub next : o.ending ≡ None → Hears c p f o.next
 
-fine_as : (b : Bool) (e : Ending) (w : Violation) → Some (if b then endings.Finished else e) ≡ Some (endings.Violation w) → ((v : Violation) → e ≡ endings.Violation v → NoNumber v) → NoNumber w
-fine_as true e w same h = absurd cc
-fine_as false e w same h = h w (cc same)
-
 pub ending : (x : Around) (f : Facts) (p : Piece) (written : List Message) (e : Ending) → ((v : Violation) → e ≡ endings.Violation v → NoNumber v) → Opens x.config f p (ends_with x f written e)
-ending x f p written e h = record { fine = λ w same. fine_as (finishes_exchanged x f) e w same h; over = λ _. refl; next = λ none. absurd cc }
+ending x f p written e h = record { fine = λ w same. h w (ended_so (finishes_exchanged x f) e w same); over = λ _. refl; next = λ none. absurd cc }
 
 pub breaking : (x : Around) (f : Facts) (p : Piece) (code : ℕ) (v : Violation) → NoNumber v → Opens x.config f p (ends x f code (endings.Violation v))
 breaking x f p code v h = ending x f p _ (endings.Violation v) (λ w e. let same : v ≡ w = cc e in subst (λ (u : Violation). NoNumber u) same h)

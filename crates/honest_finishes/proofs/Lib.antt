@@ -1,0 +1,5 @@
+pub mod Living
+pub mod Behind
+pub mod Meeting
+pub mod Stepping
+pub mod Laws
