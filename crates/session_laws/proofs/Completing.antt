@@ -1,5 +1,5 @@
 -- Step by step, what is left of a run over told devices that are in order, where no call of one failed.
-use Rattle.std.proofs.Common.{◌≡◌, ◌⊎◌, inl, inr, ⊎_elim, ℕ, ◌<◌, List, length, Option, Some, Result, Ok, Err, IsSomeAnd, refl, sym, ap, subst, ◌∙◌, arith}
+use Rattle.std.proofs.Common.{◌≡◌, ◌⊎◌, inl, inr, ⊎_elim, ℕ, ◌<◌, List, length, Option, Some, Ok, IsSomeAnd, sym, ap, subst, ◌∙◌}
 use Rattle.fixp_shake.specs.declared.config.Role.{Role}
 use Rattle.session_config.specs.declared.configuration.Configuration.{Configuration}
 use Rattle.plan_text.specs.Plans.{HasPlans}
@@ -7,8 +7,7 @@ use Rattle.gw_links.specs.Dialers.{DialerTold}
 use Rattle.jr_record.specs.declared.journal.Journal.{Ghosts}
 use Rattle.jr_boxes.specs.declared.faults.Which.TheVariants.{Outbox, Inbox}
 use Rattle.command_base.specs.declared.status.Status.{Status}
-use Rattle.command_base.specs.declared.status.Status.TheVariants.{OutputFault, Memory}
-use Rattle.conn_serve.specs.declared.answer.ServeFault.{ServeFault}
+use Rattle.command_base.specs.declared.status.Status.TheVariants.{Memory}
 use Rattle.conn_serve.specs.declared.answer.ServeFault.TheVariants as faults
 use Rattle.conn_serve.specs.Answers.{answer_of}
 use Rattle.session_command.specs.Inputs.{configuration_at, flow_received, end_of}
@@ -17,9 +16,9 @@ use Rattle.session_command.specs.Outsides.{counts_of}
 use Rattle.session_command.specs.Steps.{RefusedInput, StopsAtConfig, StopsAtBoxes, EndsBehindConfig, Steps}
 use Rattle.session_command.specs.declared.outside.SessionOutside.{SessionOutside}
 use Rattle.session_command.proofs.Reading.{many_plans}
-use Rattle.session_laws.specs.Completeness.{NoneRose, TellsPlans, IsSetUp, EndsAs, OneFinished, IsBehindFinish, IsOfConnections, BeganNone, Completed, RunCompletes}
+use Rattle.session_laws.specs.Completeness.{NoneRose, TellsPlans, IsSetUp, EndsAs, IsBehindFinish, IsOfConnections, WantsMemory, Completed, RunCompletes}
 use Rattle.session_laws.proofs.Refusing.{some_of, config_memory, box_memory, input_memory}
-use Rattle.session_laws.proofs.Ending.{IsOfDevice, BlamesNone, ends_as, behind_finish, unrefused, full_is}
+use Rattle.session_laws.proofs.Ending.{BlamesNone, ends_as, behind_finish, unrefused, full_is}
 
 -- a text has a plan for each of its senders
 as_many : (senders : ℕ) (text : List ℕ) (plans : List (List (List ℕ))) → HasPlans senders text plans → length plans ≡ senders
@@ -28,7 +27,7 @@ as_many senders text plans h = ap length h.plans_are ∙ many_plans 1 senders h.
 module _ {S K D N C J : Type 0} (G : Ghosts J) (left : S → Option (List ℕ)) (taken : K → Option (List ℕ)) (told : D → Option (List ℕ)) (may_leave : D → List ℕ → Type 0) (carried : N → Option DialerTold) (source : S → ℕ) (sink : K → ℕ) (disk : D → ℕ) (dials : N → ℕ)
     (before after : SessionOutside S K D N C) (role : Role) (c : Configuration) (status : Status) (set_up : IsSetUp left told role c before) (none : NoneRose (counts_of source sink disk dials before) (counts_of source sink disk dials after)) where
   abbrev LeftEnds : Type 0
-  LeftEnds = BeganNone before after status ⊎ Completed G left taken told may_leave carried disk role c before after status
+  LeftEnds = WantsMemory before after status ⊎ Completed G left taken told may_leave carried disk role c before after status
 
   wants_memory : status ≡ Memory → after.dialer ≡ before.dialer → LeftEnds
   wants_memory is same = inl (record { status_is = is; dialer_is = same })

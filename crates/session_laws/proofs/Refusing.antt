@@ -1,5 +1,5 @@
 -- Where what is read at a step is in order, a run that stops there wants memory.
-use Rattle.std.proofs.Common.{◌≡◌, ℕ, ◌+◌, ◌<◌, List, length, Option, Some, None, Result, Ok, Err, IsSomeAnd, refl, subst, arith}
+use Rattle.std.proofs.Common.{◌≡◌, ℕ, ◌+◌, ◌<◌, List, length, Option, Some, None, Result, Ok, IsSomeAnd, refl, subst, arith}
 use Rattle.fixp_msgs.specs.declared.flow.Flow.{Flow}
 use Rattle.schema_toml.specs.declared.fault.ConfigFault.{ConfigFault}
 use Rattle.session_config.specs.declared.configuration.Configuration.{Configuration}

@@ -86,7 +86,7 @@ IsOfConnections Turns = ⊤
 IsOfConnections _ = ⊥
 
 -- memory ran out before a life began: no connection was asked for
-pub record BeganNone {S K D N C : Type 0} (before after : SessionOutside S K D N C) (status : Status) : Type 0 where
+pub record WantsMemory {S K D N C : Type 0} (before after : SessionOutside S K D N C) (status : Status) : Type 0 where
   pub status_is : status ≡ Memory
   pub dialer_is : after.dialer ≡ before.dialer
 
@@ -109,7 +109,7 @@ RunCompletes G left taken told may_leave carried source sink disk dials before a
     (role : Role) (c : Configuration) (status : Status)
     → IsSetUp left told role c before → NoneRose (counts_of source sink disk dials before) (counts_of source sink disk dials after)
     → Steps G left taken told may_leave carried source sink disk dials role before after status
-    → BeganNone before after status ⊎ Completed G left taken told may_leave carried disk role c before after status
+    → WantsMemory before after status ⊎ Completed G left taken told may_leave carried disk role c before after status
 
 -- two journals without records, as `format` makes them, and an INPUT without bytes, are in order with any CONFIG that spells a configuration
 abbrev pub FreshIsSetUp : {S K D N C : Type 0} → (S → Option (List ℕ)) → (D → Option (List ℕ)) → (before : SessionOutside S K D N C) → Type 0
