@@ -85,14 +85,14 @@ IsOfConnections (Rejected template code) = ⊤
 IsOfConnections Turns = ⊤
 IsOfConnections _ = ⊥
 
--- memory ran out before a life began: no connection was asked for
+-- memory ran out before a life began: the dialer is as it was
 pub record WantsMemory {S K D N C : Type 0} (before after : SessionOutside S K D N C) (status : Status) : Type 0 where
   pub status_is : status ≡ Memory
   pub dialer_is : after.dialer ≡ before.dialer
 
 -- A life by the plans of INPUT over both disks, each connection of which ended by a row of a turn but for one that was given up, if one was
 -- (`LivedOver`). Its connections did what the status says; where one ended as Finished the status is Done, or that of a refusal in its place; at
--- Full a journal is at its limit; and where there are senders, the mark stands at each status that comes of the connections alone
+-- Full it answered so, and `LivedOver` says why; and where there are senders, the mark stands at each status that comes of the connections alone
 pub record Completed {S K D N C J : Type 0} (G : Ghosts J) (left : S → Option (List ℕ)) (taken : K → Option (List ℕ)) (told : D → Option (List ℕ)) (may_leave : D → List ℕ → Type 0) (carried : N → Option DialerTold) (disk : D → ℕ) (role : Role) (c : Configuration) (before after : SessionOutside S K D N C) (status : Status) : Type 0 where
   pub plans : List (List (List ℕ))
   pub planned : IsSomeAnd (left before.input) (λ text. HasPlans c.trade.senders text plans)
