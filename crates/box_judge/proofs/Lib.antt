@@ -1,2 +1,2 @@
-mod Prefixes
+pub mod Prefixes
 pub mod Verdicts

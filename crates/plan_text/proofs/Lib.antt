@@ -1,4 +1,4 @@
 mod Adding
 mod Gifts
 mod Steps
-mod OneReading
+pub mod OneReading

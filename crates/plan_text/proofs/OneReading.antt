@@ -32,7 +32,7 @@ same_gifts senders (l ∷ ls) (g ∷ gs) (h ∷ hs) small a b =
     cc
 
 -- lines that give something have none that gives nothing
-none_among : (senders : ℕ) (before behind : List (List ℕ)) (here : List ℕ) (gs : List Gift) → AreGiven senders (before ++ here ∷ behind) gs → ((g : Gift) → Gives senders here g → ⊥) → ⊥
+pub none_among : (senders : ℕ) (before behind : List (List ℕ)) (here : List ℕ) (gs : List Gift) → AreGiven senders (before ++ here ∷ behind) gs → ((g : Gift) → Gives senders here g → ⊥) → ⊥
 none_among senders [] behind here [] a none = absurd a
 none_among senders [] behind here (g ∷ gs) a none = none g a.0
 none_among senders (l ∷ ls) behind here [] a none = absurd a

@@ -1,4 +1,4 @@
-mod Reading
+pub mod Reading
 mod Counting
 mod Opened
 mod Served

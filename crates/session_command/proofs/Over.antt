@@ -148,6 +148,7 @@ module _ {D J : Type 0} {H : Ghosts J} (outbox : Outbox J H) (told : D → Optio
       holds = i.holds;
       served = l.served;
       answer = l.answer;
+      refusal = l.refusal;
       life = life;
       contract = record { connections = connections; outbox = outbox_is_kept };
       out_left = out_left;

@@ -157,6 +157,7 @@ module _ {J : Type 0} {G : Ghosts J} {O : Type 0} {H : Ghosts O} (dialed later :
     begins = l.begins;
     served = served_earlier l.opening l.seen (fresh config (opened_state l.opening box) (2 ^ 24)) l.connections h l.served;
     answer = l.answer;
+    refusal = l.refusal;
     marked = l.marked;
     journal = l.journal;
     full = l.full;

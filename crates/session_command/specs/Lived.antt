@@ -1,5 +1,5 @@
 -- One life of a session over both journals: what they held, what was served, and what they hold behind it (this project's profile).
-use Rattle.std.specs.Prelude.{◌≡◌, ◌⊎◌, ℕ, ◌^◌, ◌<◌, true, List, [], ◌++◌, length, Option, option_to_list, Result, Ok, Err, IsSomeAnd}
+use Rattle.std.specs.Prelude.{◌≡◌, ◌⊎◌, ℕ, ◌^◌, ◌<◌, true, List, [], ◌++◌, length, Option, IfSome, option_to_list, Result, Ok, Err, IsSomeAnd}
 use Rattle.std.specs.Option.{ForSome}
 use Rattle.gw_outside.specs.Faults.{HasRisen}
 use Rattle.session_model.specs.Journal.{History}
@@ -32,7 +32,7 @@ use Rattle.conn_serve.specs.Served.{ServedLife}
 use Rattle.conn_serve.specs.Opening.{opened_state, IsUnrefused}
 use Rattle.serve_laws.specs.Lives.{all_of, LifeOfLoop}
 use Rattle.session_lives.specs.Plans.{plan_in}
-use Rattle.session_lives.specs.Lives.{LivedBoxes, WasFull}
+use Rattle.session_lives.specs.Lives.{IsOfSender, LivedBoxes, WasFull}
 use Rattle.session_command.specs.Inputs.{ArePlanned}
 
 -- the status of a life that was served so
@@ -107,6 +107,7 @@ module _ {J : Type 0} {G : Ghosts J} where
     pub holds : inboxes.HoldsBox box inbox []
     pub served : ServedLife dialed later out now_out opening seen (fresh config (opened_state opening box) (2 ^ 24)) box since connections
     pub answer : result ≡ answer_of connections refused
+    pub refusal : IfSome refused IsOfSender
     pub life : LifeOfLoop (outbox_of opening) (outbox_of closing) [] (fresh config (opened_state opening box) (2 ^ 24)) inbox (all_of served.ended served.given_up) (refused_of_all (option_to_list served.given_up))
     pub contract : KeepsContract (model_flow config.own_flow) (model_flow config.peer_flow) (plan_in plans) (life_in (machine_life life.life))
     pub out_left : (HasRisen (disk out_disk) (disk now_out_disk) → ⊥) → ∥ LeavesImages (may_leave now_out_disk) (records_of_history closing) [] ∥₁

@@ -95,6 +95,7 @@ module _ {J : Type 0} {G : Ghosts J} {O : Type 0} {H : Ghosts O} (gate : Gate O 
     begins = (found (length plans + 1) last).seen;
     served = s.life;
     answer = s.answer;
+    refusal = s.refusal;
     marked = λ u many. marked (s.marked u many);
     journal = λ e. ⊎_elim (λ b. inl (inbox_risen b)) (λ m. inr (failed m)) (s.journal e);
     full = λ entries bytes e. ⊎_elim (λ b. inl b) (λ m. inr (was_full entries bytes m)) (s.full entries bytes e);

@@ -1,6 +1,6 @@
 -- The passes of a life once all are back: those of the senders, and that of the connection behind them.
 use Rattle.std.proofs.Common.{◌≡◌, ◌⊎◌, inl, inr, ⊎_elim, ℕ, zero, suc, ◌+◌, ◌<◌, true, false, true≢false, List, [], ◌∷◌, length, slice_index_or, All, Option, Some, None, Result, Ok, Err, if◌then◌else◌, refl, sym, ap, subst, ◌∙◌, arith, add-one}
-use Rattle.std.specs.Prelude.{IfErr}
+use Rattle.std.specs.Prelude.{IfErr, IfSome}
 use Rattle.std.proofs.lemmas.Bool.{cases_Bool}
 use mathlib.Core.Logic.{dite}
 use native.Mathlib.Decide.{ℕ_discrete}
@@ -34,7 +34,7 @@ use Rattle.conn_serve.specs.Senders.{refusal_of, MetRefusal, IsRefusal, Finishes
 use Rattle.conn_serve.specs.Served.{ServedLife}
 use Rattle.conn_serve.specs.Opening.{ServedBy, IsUnrefused}
 use Rattle.session_lives.specs.Plans.{plan_in, MadeOf, IsAllMade, PlansMade}
-use Rattle.session_lives.specs.Lives.{SomePass, SeesMark, SeesFailure, MetFull, BlamesInbox, FillsInbox, ServedAt}
+use Rattle.session_lives.specs.Lives.{SomePass, IsOfSender, SeesMark, SeesFailure, MetFull, BlamesInbox, FillsInbox, ServedAt}
 use Rattle.session_lives.proofs.Senders.{PartMade, AllFresh, SendersMade, senders_made, ran_part, ran_at}
 
 -- an answer that is neither want of memory nor done is that of the connections, or a refusal
@@ -71,6 +71,15 @@ refused_full (Some submit.Closed) entries bytes e = cc
 refused_full (Some (submit.Full n m)) entries bytes e = let a : n ≡ entries = cc in let b : m ≡ bytes = cc in ap (λ k. Some (submit.Full k m)) a ∙ ap (λ k. Some (submit.Full entries k)) b
 refused_full (Some submit.Memory) entries bytes e = cc
 refused_full (Some submit.Fault) entries bytes e = cc
+
+-- what a sender met is a refusal of a sender
+refused_sender : (met : Option SubmitFault) (fault : ServeFault) → refusal_of met ≡ Some fault → IsOfSender fault
+refused_sender None fault e = cc
+refused_sender (Some submit.Broken) fault e = let same : faults.Journal ≡ fault = cc in subst IsOfSender same tt
+refused_sender (Some submit.Closed) fault e = cc
+refused_sender (Some (submit.Full entries bytes)) fault e = let same : faults.Full entries bytes ≡ fault = cc in subst IsOfSender same tt
+refused_sender (Some submit.Memory) fault e = let same : faults.Memory ≡ fault = cc in subst IsOfSender same tt
+refused_sender (Some submit.Fault) fault e = let same : faults.Journal ≡ fault = cc in subst IsOfSender same tt
 
 -- what an answer blames
 pub blamed_at : {A : Type 0} (P : ServeFault → Type 0) (r : Result A ServeFault) (x : ServeFault) → IfErr r P → r ≡ Err x → P x
@@ -253,6 +262,14 @@ module _ {J : Type 0} {G : Ghosts J} (gate : Gate J G) (a : Account) (plans : Li
         absurd (⊎_elim (λ x. cc) (λ x. cc) ((h.1.first d).few (faults.Full entries bytes) refl)))
         (refused_as (faults.Full entries bytes) e)
 
+    pub refused_of_sender : (fault : ServeFault) → refused ≡ Some fault → IsOfSender fault
+    refused_of_sender fault e = ⊎_elim
+        (λ h. refused_sender h.1.sender.refused fault h.1.is)
+        (λ h.
+        let d : Sender J G = at_place s.ran 0 h.0 in
+        ⊎_elim (λ x. subst IsOfSender (sym x) tt) (λ x. subst IsOfSender (sym x) tt) ((h.1.first d).few fault refl))
+        (refused_as fault e)
+
   -- what a served life is of the passes
   module _ {I : Type 0} {K : Ghosts I} (dialed later : Option DialerTold) (out now_out : Option (List ℕ)) (out_faults now_out_faults dial_faults now_dial_faults : ℕ) (m : State) (box since : Inbox I K) (result : Result (Unit {0}) ServeFault)
       (s : ServedBy gate dialed later out now_out out_faults now_out_faults dial_faults now_dial_faults first now m box since counted after result) (marked : IsUnrefused result → 0 < length counted → SomeMarked after) where
@@ -281,6 +298,13 @@ module _ {J : Type 0} {G : Ghosts J} (gate : Gate J G) (a : Account) (plans : Li
         (λ r. inr (by_refusal (faults.Full entries bytes) (SomePass (length plans + 1) (MetFull entries bytes) (known_at new)) r (λ h. refused_full_shown s.refused h entries bytes r)))
         (answer_blames s.connections s.refused (faults.Full entries bytes) (λ x. cc) (sym s.answer ∙ e))
 
+    refusal_at : IfSome s.refused IsOfSender
+    refusal_at = where_some s.refused (λ x e. by_refusal x (IsOfSender x) e (λ h. refused_of_sender s.refused h x e))
+      where
+        where_some : (r : Option ServeFault) → ((x : ServeFault) → r ≡ Some x → IsOfSender x) → IfSome r IsOfSender
+        where_some None h = tt
+        where_some (Some x) h = h x refl
+
     pub served_at : ServedAt a plans (known_at new) dialed later out now_out m box since result
     served_at = record {
       connections = s.connections;
@@ -289,6 +313,7 @@ module _ {J : Type 0} {G : Ghosts J} (gate : Gate J G) (a : Account) (plans : Li
       life = subst (λ (p : Part). ServedLife dialed later out now_out a.history p.seen m box since s.connections) (sym (last_at all_made))
           (subst (λ (h : History). ServedLife dialed later out now_out h now.seen m box since s.connections) (ap (λ (p : Part). p.seen) was.1) s.life);
       answer = s.answer;
+      refusal = refusal_at;
       marked = λ u many. marked_at all_made (marked u (omega (arith, many, count.long, fresh.long)));
       journal = journal_at;
       full = full_at;

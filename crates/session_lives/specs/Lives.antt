@@ -1,5 +1,5 @@
 -- What a life of connections and senders left, of a gate's passes, and of the boxes once the gate is closed (this project's profile).
-use Rattle.std.specs.Prelude.{◌≡◌, ◌⊎◌, ℕ, ◌+◌, ◌^◌, ◌<◌, true, false, List, [], length, Option, Result, Err}
+use Rattle.std.specs.Prelude.{◌≡◌, ◌⊎◌, ⊤, ℕ, ◌+◌, ◌^◌, ◌<◌, true, false, List, [], length, Option, IfSome, Result, Err}
 use Rattle.gw_outside.specs.Faults.{HasRisen}
 use Rattle.session_model.specs.Journal.{Entry, History, BeginsHistory}
 use Rattle.fixp_shake.specs.declared.config.EndConfig.{EndConfig}
@@ -26,6 +26,13 @@ pub record SomePass (made : ℕ) (P : Part → Type 0) (known : ℕ → Part) : 
   pub number : ℕ
   pub inside : In made number
   pub is : P (known number)
+
+-- the refusals of a sender, and of the Finish
+abbrev pub IsOfSender : ServeFault → Type 0
+IsOfSender faults.Journal = ⊤
+IsOfSender (faults.Full entries bytes) = ⊤
+IsOfSender faults.Memory = ⊤
+IsOfSender _ = ⊥
 
 -- it has seen the mark
 abbrev pub SeesMark : Part → Type 0
@@ -67,6 +74,7 @@ module _ {J : Type 0} {G : Ghosts J} where
     pub made : PlansMade opening plans known
     pub life : ServedLife dialed later out now_out opening.history (known (length plans + 1)).seen m box since connections
     pub answer : result ≡ answer_of connections refused
+    pub refusal : IfSome refused IsOfSender
     pub marked : IsUnrefused result → 0 < length plans → SomePass (length plans + 1) SeesMark known
     pub journal : result ≡ Err faults.Journal → BlamesInbox box since ⊎ SomePass (length plans + 1) SeesFailure known
     pub full : (entries bytes : ℕ) → result ≡ Err (faults.Full entries bytes) → FillsInbox since entries bytes ⊎ SomePass (length plans + 1) (MetFull entries bytes) known
@@ -88,6 +96,7 @@ module _ {J : Type 0} {G : Ghosts J} {O : Type 0} {H : Ghosts O} where
     pub begins : BeginsHistory seen closing
     pub served : ServedLife dialed later out now_out opening seen (fresh config (opened_state opening box) (2 ^ 24)) box since connections
     pub answer : result ≡ answer_of connections refused
+    pub refusal : IfSome refused IsOfSender
     pub marked : IsUnrefused result → 0 < length plans → closing.finished ≡ true
     pub journal : result ≡ Err faults.Journal → HasRisen (inboxes.faults_of box) (inboxes.faults_of since) ⊎ HasRisen (outboxes.faults_of outbox) (outboxes.faults_of closed)
     pub full : (entries bytes : ℕ) → result ≡ Err (faults.Full entries bytes)

@@ -1,0 +1,4 @@
+mod Refusing
+mod Ending
+mod Completing
+mod Fresh
