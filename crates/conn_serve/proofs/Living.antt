@@ -6,6 +6,7 @@ use Rattle.std.specs.Option.{option_map}
 use Rattle.std.specs.Io.KnownBytes.{Appends}
 use Rattle.std.proofs.KnownBytes.{Appends-nil, Appends-trans}
 use Rattle.std.proofs.lemmas.Bool.{false≢true}
+use Rattle.std.proofs.lemmas.Option.{none-some}
 use Rattle.std.proofs.lemmas.List.Elements.{All-append, All-cons, All-nil}
 use Rattle.session_model.specs.Journal.{History}
 use Rattle.session_model.specs.Inbox.{InboxRecord}
@@ -16,14 +17,14 @@ use Rattle.gw_links.specs.Links.{LinkTold, Carried, HasCarried, CarriedNothing, 
 use Rattle.gw_links.specs.Dialers.{DialerTold, returned}
 use Rattle.jr_record.specs.declared.journal.Journal.{Ghosts}
 use Rattle.jr_boxes.specs.declared.inbox.Inbox.{Inbox}
-use Rattle.jr_boxes.specs.Inbox.{HoldsBox}
+use Rattle.jr_boxes.specs.Inbox.{HoldsBox, limits_of}
 use Rattle.gate_turn.specs.Views.{Part}
 use Rattle.gate_turn.proofs.Histories.{begins_self}
 use Rattle.session_lines.specs.declared.close.Close.{Close}
 use Rattle.session_lines.specs.declared.close.Close.TheVariants as closes
 use Rattle.session_lines.specs.Lines.{connection_line}
 use Rattle.conn_turns.specs.Lines.{Line}
-use Rattle.conn_steps.specs.Settling.{Gains}
+use Rattle.conn_steps.specs.Settling.{IsPast, Gains}
 use Rattle.conn_loop.specs.Turned.{Leaves}
 use Rattle.turn_laws.specs.Legs.{TurnedLeg, given_in, sent_in, given_on, sent_on}
 use Rattle.conn_serve.specs.declared.answer.ServeFault.{ServeFault}
@@ -114,6 +115,13 @@ told_with None b c cs x came first later t = absurd (false≢true t)
 told_with (Some a) None c cs x came first later t = absurd came
 told_with (Some a) (Some b) c cs x came first later t = All-append IsTold cs (x ∷ []) (first t) (All-cons IsTold x [] (later refl) (All-nil IsTold))
 
+-- where none was given up, it is not at Full
+never_full : (before after : History) (m : State) (later : Option DialerTold) (ended : List Connection) (result : Result LifeEnd ServeFault) (entries bytes : ℕ) → IsLifeAnswer before after m later ended None result
+    → result ≡ Err (faults.Full entries bytes) → ⊥
+never_full before after m later ended result entries bytes answer e =
+    let given = subst (IsLifeAnswer before after m later ended None) e answer in
+    none-some given.1 given.2
+
 module _ {J : Type 0} {G : Ghosts J} where
   pub may_begin : (close : Close) (m : State) (p : Part) (box : Inbox J G) → ClosesAs close m.ending → Leaves m p box → MayBegin m p box
   may_begin close m p box closed l = record { over = λ _. some_ending close m.ending closed; time = l.time; sent = l.sent; credentials = l.credentials; seen = l.seen; agrees = l.agrees }
@@ -130,7 +138,7 @@ module _ {J : Type 0} {G : Ghosts J} where
       let given : given_on leg ≡ flat_map given_in t.turns = ap (flat_map given_in) (append-nil t.turns) in
       let sent : sent_on leg ≡ flat_map sent_in t.turns = ap (flat_map sent_in) (append-nil t.turns) in
       record {
-        connection = record { leg = leg; news = t.news; adds = t.adds; refused = []; close = Some close; carried = carried_of last };
+        connection = record { leg = leg; news = t.news; adds = t.adds; refused = []; wanted = []; close = Some close; carried = carried_of last };
         closed = refl;
         ended = record {
           last = new;
@@ -142,7 +150,7 @@ module _ {J : Type 0} {G : Ghosts J} where
             grows = begins_self seen;
             cut_told = [];
             cut_added = [];
-            cut = (refl, refl, refl);
+            cut = (refl, refl, refl, refl);
             news = sym (append-nil t.news);
             adds = sym (append-nil t.adds);
           };
@@ -166,7 +174,7 @@ module _ {J : Type 0} {G : Ghosts J} where
   gave_one carried_of first last why dialed between later out now_out before seen m box since next on back =
       let g = on.given_up in
       record {
-        connection = record { leg = record { moment = on.moment; turns = g.turns; cut = g.cut }; news = g.news ++ g.cut_told; adds = g.adds ++ g.cut_added; refused = g.refused; close = None; carried = last };
+        connection = record { leg = record { moment = on.moment; turns = g.turns; cut = g.cut }; news = g.news ++ g.cut_told; adds = g.adds ++ g.cut_added; refused = g.refused; wanted = g.wanted; close = None; carried = last };
         unclosed = refl;
         last = g.last;
         is = record {
@@ -186,6 +194,7 @@ module _ {J : Type 0} {G : Ghosts J} where
         came = came_so dialed between later last next.told next.left back;
         spent = g.spent;
         cut_short = g.cut_short;
+        past = g.past;
       }
 
   -- ---- a round
@@ -295,13 +304,15 @@ module _ {J : Type 0} {G : Ghosts J} where
         came = subst (λ (ds : List Connection). AllCame dialed later (carried_by ds)) (sym (append-nil cs)) (came_with dialed between later l.ended x l.lived.came e.came);
         tells = told_with dialed between later l.ended x l.lived.came l.lived.tells e.tells;
         answer = answer;
+        past = λ entries bytes is. absurd (never_full seen seen new later cs result entries bytes answer is);
       }
 
   -- behind a connection that was given up
   over_given : (result : Result LifeEnd ServeFault) (why : Option ServeFault) (n : ℕ) (dialed between later : Option DialerTold) (out mid_out now_out : Option (List ℕ)) (before middle seen : History) (m mid : State) (box mid_box since : Inbox J G)
       → (l : LivedTo n dialed between out mid_out before middle m mid box mid_box) → (g : GaveOneUp why between later mid_out now_out middle seen mid mid_box since) → lacks_at why ≡ lacks_lines result
+      → ((entries bytes : ℕ) → result ≡ Err (faults.Full entries bytes) → why ≡ Some (faults.Full entries bytes))
       → IsLifeAnswer middle seen mid later l.ended (Some g.connection) result → ServedLife dialed later out now_out before seen m box since result
-  over_given result why n dialed between later out mid_out now_out before middle seen m mid box mid_box since l g lacking answer =
+  over_given result why n dialed between later out mid_out now_out before middle seen m mid box mid_box since l g lacking full answer =
       let x = g.connection in
       let told : Tells (lacks_at why) mid_out now_out (news_lines x.news ++ close_line n x.close) = subst (λ (o : Option Close). Tells (lacks_at why) mid_out now_out (news_lines x.news ++ close_line n o)) (sym g.unclosed)
       (subst (Tells (lacks_at why) mid_out now_out) (sym (append-nil (news_lines x.news))) g.lines) in
@@ -320,6 +331,7 @@ module _ {J : Type 0} {G : Ghosts J} where
         came = came_with dialed between later l.ended x l.lived.came g.came;
         tells = l.lived.tells;
         answer = answer;
+        past = λ entries bytes e. subst (IsPast (limits_of since).bytes bytes) (sym (append-nil x.wanted)) (g.past entries bytes (full entries bytes e));
       }
 
   -- behind those that ended, with no further one
@@ -342,6 +354,7 @@ module _ {J : Type 0} {G : Ghosts J} where
         came = subst (λ (ds : List Connection). AllCame dialed later (carried_by ds)) (sym (append-nil cs)) (subst (AllCame dialed later) (append-nil (carried_by cs)) (came_on dialed between later (carried_by cs) [] l.lived.came none.same_dialer));
         tells = l.lived.tells;
         answer = answer;
+        past = λ entries bytes e. absurd (never_full middle seen mid later cs result entries bytes answer e);
       }
 
   pub over_stopped : (n : ℕ) (dialed later : Option DialerTold) (out now_out : Option (List ℕ)) (before seen : History) (m new : State) (box since : Inbox J G)
@@ -356,7 +369,7 @@ module _ {J : Type 0} {G : Ghosts J} where
       over_ended (Ok ends.Finished) n dialed between later out mid_out now_out before middle seen m mid new box mid_box since (closes.Ended endings.Finished) l r
       (refl, record { earlier = l.ended; last = r.connection; are = refl; closed = r.closed; followed = l.lived.followed })
   over_ok ends.Stopped n dialed between later out mid_out now_out before middle seen m mid new box mid_box since l r =
-      over_given (Ok ends.Stopped) None n dialed between later out mid_out now_out before middle seen m mid box mid_box since l r refl l.lived.followed
+      over_given (Ok ends.Stopped) None n dialed between later out mid_out now_out before middle seen m mid box mid_box since l r refl (λ entries bytes e. cc) l.lived.followed
 
   pub over_err : (fault : ServeFault) (n : ℕ) (dialed between later : Option DialerTold) (out mid_out now_out : Option (List ℕ)) (before middle seen : History) (m mid new : State) (box mid_box since : Inbox J G)
       → LivedTo n dialed between out mid_out before middle m mid box mid_box → IsRound n between later mid_out now_out middle seen mid new mid_box since (Err fault)
@@ -364,9 +377,9 @@ module _ {J : Type 0} {G : Ghosts J} where
   over_err faults.Output n dialed between later out mid_out now_out before middle seen m mid new box mid_box since l (inl e) =
       over_ended (Err faults.Output) n dialed between later out mid_out now_out before middle seen m mid new box mid_box since e.0 l e.1 tt
   over_err faults.Output n dialed between later out mid_out now_out before middle seen m mid new box mid_box since l (inr g) =
-      over_given (Err faults.Output) (Some faults.Output) n dialed between later out mid_out now_out before middle seen m mid box mid_box since l g refl tt
+      over_given (Err faults.Output) (Some faults.Output) n dialed between later out mid_out now_out before middle seen m mid box mid_box since l g refl (λ entries bytes e. cc) tt
   over_err faults.Journal n dialed between later out mid_out now_out before middle seen m mid new box mid_box since l r =
-      over_given (Err faults.Journal) (Some faults.Journal) n dialed between later out mid_out now_out before middle seen m mid box mid_box since l r refl (l.lived.followed, r.connection, refl, r.cut_short.0 refl)
+      over_given (Err faults.Journal) (Some faults.Journal) n dialed between later out mid_out now_out before middle seen m mid box mid_box since l r refl (λ entries bytes e. cc) (l.lived.followed, r.connection, refl, r.cut_short.0 refl)
   over_err faults.Dial n dialed between later out mid_out now_out before middle seen m mid new box mid_box since l r =
       over_none (Err faults.Dial) n dialed between later out mid_out now_out before middle seen m mid new box mid_box since l r (l.lived.followed, refl)
   over_err (faults.Unfinished phase) n dialed between later out mid_out now_out before middle seen m mid new box mid_box since l r =
@@ -375,15 +388,15 @@ module _ {J : Type 0} {G : Ghosts J} where
       over_ended (Err (faults.Rejected template code)) n dialed between later out mid_out now_out before middle seen m mid new box mid_box since (closes.Ended (endings.Rejected template code)) l r
       (refl, record { earlier = l.ended; last = r.connection; are = refl; closed = r.closed; followed = l.lived.followed })
   over_err (faults.Full entries bytes) n dialed between later out mid_out now_out before middle seen m mid new box mid_box since l r =
-      over_given (Err (faults.Full entries bytes)) (Some (faults.Full entries bytes)) n dialed between later out mid_out now_out before middle seen m mid box mid_box since l r refl
+      over_given (Err (faults.Full entries bytes)) (Some (faults.Full entries bytes)) n dialed between later out mid_out now_out before middle seen m mid box mid_box since l r refl (λ n m e. cc)
       (l.lived.followed, r.connection, refl, r.cut_short.1 entries bytes refl)
   over_err faults.Turns n dialed between later out mid_out now_out before middle seen m mid new box mid_box since l r =
-      over_given (Err faults.Turns) (Some faults.Turns) n dialed between later out mid_out now_out before middle seen m mid box mid_box since l r refl
+      over_given (Err faults.Turns) (Some faults.Turns) n dialed between later out mid_out now_out before middle seen m mid box mid_box since l r refl (λ entries bytes e. cc)
       (l.lived.followed, r.connection, refl, record { last = r.last; is = r.is; spent = r.spent refl })
   over_err faults.Memory n dialed between later out mid_out now_out before middle seen m mid new box mid_box since l (inl e) =
       over_ended (Err faults.Memory) n dialed between later out mid_out now_out before middle seen m mid new box mid_box since e.0 l e.1 tt
   over_err faults.Memory n dialed between later out mid_out now_out before middle seen m mid new box mid_box since l (inr g) =
-      over_given (Err faults.Memory) (Some faults.Memory) n dialed between later out mid_out now_out before middle seen m mid box mid_box since l g refl tt
+      over_given (Err faults.Memory) (Some faults.Memory) n dialed between later out mid_out now_out before middle seen m mid box mid_box since l g refl (λ entries bytes e. cc) tt
 
   -- where there was no memory to begin, none was served
   pub nothing_served : (dialed : Option DialerTold) (out : Option (List ℕ)) (seen : History) (m : State) (box : Inbox J G) → ServedLife dialed dialed out out seen seen m box box (Err faults.Memory)

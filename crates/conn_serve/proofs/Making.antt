@@ -41,20 +41,21 @@ pub err_at : (Q : ServeFault → Type 0) (r : Result TurnEnd TurnFault) (result 
 err_at Q r result is q = subst (λ (x : Result (Option Close) ServeFault). IfErr x Q) (sym is) q
 
 -- what holds of each other fault holds where it was cut short
-pub on_cut : (P : TurnFault → Type 0) (Q : Type 0) (r : Result TurnEnd TurnFault) → ((f : TurnFault) → P f → Q) → IfErr r (λ f. (f ≡ turn_faults.Link → ⊥) → P f) → IfErr (close_of r) (λ _. Q)
+pub on_cut : (P : TurnFault → Type 0) (Q : ServeFault → Type 0) (r : Result TurnEnd TurnFault) → ((f : TurnFault) (why : ServeFault) → close_of (Err f) ≡ Err why → P f → Q why) → IfErr r (λ f. (f ≡ turn_faults.Link → ⊥) → P f)
+    → IfErr (close_of r) Q
 on_cut P Q (Ok turn_ends.Go) gives cut = tt
 on_cut P Q (Ok (turn_ends.Ended e)) gives cut = tt
 on_cut P Q (Err turn_faults.Link) gives cut = tt
-on_cut P Q (Err turn_faults.Inbox) gives cut = gives turn_faults.Inbox (cut (λ e. cc))
-on_cut P Q (Err turn_faults.Outbox) gives cut = gives turn_faults.Outbox (cut (λ e. cc))
-on_cut P Q (Err turn_faults.Broken) gives cut = gives turn_faults.Broken (cut (λ e. cc))
-on_cut P Q (Err (turn_faults.Full entries bytes)) gives cut = gives (turn_faults.Full entries bytes) (cut (λ e. cc))
-on_cut P Q (Err turn_faults.Memory) gives cut = gives turn_faults.Memory (cut (λ e. cc))
+on_cut P Q (Err turn_faults.Inbox) gives cut = gives turn_faults.Inbox faults.Journal refl (cut (λ e. cc))
+on_cut P Q (Err turn_faults.Outbox) gives cut = gives turn_faults.Outbox faults.Journal refl (cut (λ e. cc))
+on_cut P Q (Err turn_faults.Broken) gives cut = gives turn_faults.Broken faults.Journal refl (cut (λ e. cc))
+on_cut P Q (Err (turn_faults.Full entries bytes)) gives cut = gives (turn_faults.Full entries bytes) (faults.Full entries bytes) refl (cut (λ e. cc))
+on_cut P Q (Err turn_faults.Memory) gives cut = gives turn_faults.Memory faults.Memory refl (cut (λ e. cc))
 
 -- what both outcomes give
-pub on_both : {A E : Type 0} (W C P : Type 0) (r : Result A E) → OnOk r W → IfErr r (λ _. C) → (W → P) → (C → P) → P
+pub on_both : {A E : Type 0} (W : Type 0) (C : E → Type 0) (P : Type 0) (r : Result A E) → OnOk r W → IfErr r C → (W → P) → ((e : E) → C e → P) → P
 on_both W C P (Ok a) ok err from_ok from_err = from_ok ok
-on_both W C P (Err e) ok err from_ok from_err = from_err err
+on_both W C P (Err e) ok err from_ok from_err = from_err e err
 
 pub goes_made : (P : Type 0) (r : Result TurnEnd TurnFault) → (r ≡ Ok turn_ends.Go → P) → close_of r ≡ Ok None → P
 goes_made P (Ok turn_ends.Go) goes e = goes refl

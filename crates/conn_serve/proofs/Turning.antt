@@ -17,6 +17,8 @@ use Rattle.jr_boxes.specs.Inbox.{HoldsBox}
 use Rattle.gate_turn.proofs.Histories.{begins_self}
 use Rattle.conn_turns.specs.declared.news.NewsItem.{NewsItem}
 use Rattle.conn_turns.specs.Lines.{Line, TakenFrame, AreTaken, size_of, line_after, lines_after}
+use Rattle.conn_turns.specs.declared.answer.TurnFault.{TurnFault}
+use Rattle.conn_turns.specs.declared.answer.TurnFault.TheVariants as turn_faults
 use Rattle.conn_turns.specs.Turns.{Turn, only_sends, works, link_lost, cut_short, not_begun}
 use Rattle.fixp_shake.specs.declared.config.EndConfig.{EndConfig}
 use Rattle.fixp_replies.specs.declared.facts.EndState.{EndState}
@@ -33,7 +35,7 @@ use Rattle.conn_serve.specs.Lines.{news_line, news_lines, IsShort}
 use Rattle.conn_serve.specs.Connections.{WereTurns}
 use Rattle.conn_serve.specs.Causes.{lacks, lacks_at, Tells}
 use Rattle.conn_serve.specs.Turned.{Turned, CutOff, GivenUp, TurnedOn, GivenUpOn}
-use Rattle.conn_serve.specs.Answers.{IsOfTurn}
+use Rattle.conn_serve.specs.Answers.{close_of, IsOfTurn}
 use Rattle.conn_serve.proofs.Shortness.{turn_short, told_short}
 
 -- ---- lists of turns
@@ -119,6 +121,19 @@ lacking_spent : (fault : ServeFault) (H : Type 0) → ((fault ≡ faults.Output)
 lacking_spent fault H (inl a) e = let f = a.0 in cc
 lacking_spent fault H (inr b) e = cc
 
+lacking_full : (fault : ServeFault) (H : Type 0) (entries bytes : ℕ) → ((fault ≡ faults.Output) × H) ⊎ (fault ≡ faults.Memory) → fault ≡ faults.Full entries bytes → ⊥
+lacking_full fault H entries bytes (inl a) e = let f = a.0 in cc
+lacking_full fault H entries bytes (inr b) e = cc
+
+-- a turn was at Full where its connection is
+full_turn : (fault : TurnFault) (entries bytes : ℕ) → close_of (Err fault) ≡ Err (faults.Full entries bytes) → fault ≡ turn_faults.Full entries bytes
+full_turn turn_faults.Link entries bytes e = cc
+full_turn turn_faults.Inbox entries bytes e = cc
+full_turn turn_faults.Outbox entries bytes e = cc
+full_turn turn_faults.Broken entries bytes e = cc
+full_turn (turn_faults.Full n m) entries bytes e = cc
+full_turn turn_faults.Memory entries bytes e = cc
+
 module _ {J : Type 0} {G : Ghosts J} where
   pub gains_none : (box : Inbox J G) → Gains box box []
   gains_none box i h = subst (λ (rs : List InboxRecord). HoldsBox box rs []) (sym (append-nil i)) h
@@ -132,8 +147,8 @@ module _ {J : Type 0} {G : Ghosts J} where
       → WasTurn told later carried after before seen old new box since news → All IsShort news
   was_short told later carried after before seen old new box since news was = subst (All IsShort) (sym was.news_are) (turn_short before seen old new was.turn was.is)
 
-  pub cut_is_short : (old : Line) (box since : Inbox J G) (news : List NewsItem) → CutOff old box since news → All IsShort news
-  cut_is_short old box since news c = subst (All IsShort) (sym c.cut.news_are) (told_short c.now _ c.cut.frames c.cut.cut.taken)
+  pub cut_is_short : (old : Line) (box since : Inbox J G) (news : List NewsItem) (why : ServeFault) → CutOff old box since news why → All IsShort news
+  cut_is_short old box since news why c = subst (All IsShort) (sym c.cut.news_are) (told_short c.now _ c.cut.frames c.cut.cut.taken)
 
   -- ---- turns
 
@@ -205,11 +220,13 @@ module _ {J : Type 0} {G : Ghosts J} where
     cut_told = [];
     cut_added = [];
     refused = [];
-    is_cut = (refl, refl, refl);
+    wanted = [];
+    is_cut = (refl, refl, refl, refl);
     holds = λ i h. subst (λ (rs : List InboxRecord). HoldsBox since (i ++ rs) []) (sym (append-nil t.adds)) (t.gains i h);
     lines = tells_all (lacks_at why) out now_out _ (subst (λ (ns : List NewsItem). Appends out now_out (news_lines ns)) (sym (append-nil t.news)) t.lines);
     spent = λ e. record { many = t.many ∙ (turns e).0; unended = (turns e).1; whole = refl };
     cut_short = (λ e. absurd (no_journal e), λ entries bytes e. absurd (no_full entries bytes e));
+    past = λ entries bytes e. absurd (no_full entries bytes e);
   }
 
   -- at a whole turn whose lines are lacking
@@ -229,11 +246,13 @@ module _ {J : Type 0} {G : Ghosts J} where
     cut_told = [];
     cut_added = [];
     refused = [];
-    is_cut = (refl, refl, refl);
+    wanted = [];
+    is_cut = (refl, refl, refl, refl);
     holds = λ i h. subst (λ (rs : List InboxRecord). HoldsBox since (i ++ rs) []) (sym (append-nil (adds_in old was.turn))) (was.gains i h);
     lines = subst (λ (ns : List NewsItem). Tells (lacks fault) out now_out (news_lines ns)) (was.news_are ∙ sym (append-nil (tells_in old was.turn))) lines;
     spent = λ e. by_kind which (inl (cc));
     cut_short = (λ e. by_kind which (inr (inl (cc))), λ entries bytes e. by_kind which (inr (inr (entries, bytes, cc))));
+    past = λ entries bytes e. by_kind which (inr (inr (entries, bytes, cc)));
   }
     where
       by_kind : {P : Type 0} → (fault ≡ faults.Output) ⊎ (fault ≡ faults.Memory) → (fault ≡ faults.Turns) ⊎ ((fault ≡ faults.Journal) ⊎ ((n : ℕ) × (m : ℕ) × (fault ≡ faults.Full n m))) → P
@@ -245,9 +264,10 @@ module _ {J : Type 0} {G : Ghosts J} where
       by_kind (inr a) (inr (inr b)) = let e = b.2 in cc
 
   -- at a turn that was cut short
-  pub given_cut : (fault : ServeFault) (out now_out : Option (List ℕ)) (before seen : History) (old : Line) (box since : Inbox J G) (news : List NewsItem)
-      → BeginsHistory before seen → CutOff old box since news → Tells (lacks fault) out now_out (news_lines news) → (fault ≡ faults.Turns → ⊥) → GivenUp (Some fault) out now_out before seen old box since
-  given_cut fault out now_out before seen old box since news grows c lines no_turns = record {
+  pub given_cut : (fault why : ServeFault) (out now_out : Option (List ℕ)) (before seen : History) (old : Line) (box since : Inbox J G) (news : List NewsItem)
+      → BeginsHistory before seen → CutOff old box since news why → Tells (lacks fault) out now_out (news_lines news) → (fault ≡ faults.Turns → ⊥)
+      → ((entries bytes : ℕ) → fault ≡ faults.Full entries bytes → why ≡ faults.Full entries bytes) → GivenUp (Some fault) out now_out before seen old box since
+  given_cut fault why out now_out before seen old box since news grows c lines no_turns full = record {
     last = old;
     behind = before;
     turns = [];
@@ -259,11 +279,13 @@ module _ {J : Type 0} {G : Ghosts J} where
     cut_told = news;
     cut_added = _;
     refused = _;
-    is_cut = record { now = c.now; received = c.cut.received; frames = c.cut.frames; next = c.cut.refused; fault = c.fault; is = refl; cut = c.cut.cut; news_are = c.cut.news_are; adds_are = refl; refused_are = refl };
+    wanted = _;
+    is_cut = record { now = c.now; received = c.cut.received; frames = c.cut.frames; next = c.cut.refused; fault = c.fault; is = refl; cut = c.cut.cut; news_are = c.cut.news_are; adds_are = refl; refused_are = refl; wanted_are = refl };
     holds = c.cut.holds;
     lines = lines;
     spent = λ e. absurd (no_turns (cc));
     cut_short = (λ e. refl, λ entries bytes e. refl);
+    past = λ entries bytes e. c.cut.past entries bytes (full_turn c.fault entries bytes (c.is ∙ ap (λ (f : ServeFault). Err f) (full entries bytes (cc))));
   }
 
   -- behind further turns
@@ -282,6 +304,7 @@ module _ {J : Type 0} {G : Ghosts J} where
     cut_told = y.cut_told;
     cut_added = y.cut_added;
     refused = y.refused;
+    wanted = y.wanted;
     is_cut = y.is_cut;
     holds = λ i h.
         subst (λ (rs : List InboxRecord). HoldsBox since rs y.refused) (append_assoc i x.adds (y.adds ++ y.cut_added) ∙ ap (λ (rs : List InboxRecord). i ++ rs) (sym (append_assoc x.adds y.adds y.cut_added)))
@@ -290,24 +313,25 @@ module _ {J : Type 0} {G : Ghosts J} where
         (tells_on (lacks_at why) out mid_out now_out (news_lines x.news) (news_lines (y.news ++ y.cut_told)) x.lines y.lines);
     spent = λ e. absurd (no_turns e);
     cut_short = y.cut_short;
+    past = y.past;
   }
 
   -- a turn whose lines are lacking, whole or cut short
-  pub given_told : {A E : Type 0} (r : Result A E) (fault : ServeFault) (H : Type 0) (told later : Option LinkTold) (carried after : Option Carried) (out now_out : Option (List ℕ)) (before seen : History) (old new : Line) (box since : Inbox J G) (news : List NewsItem)
-      → old.machine.ending ≡ None → BeginsHistory before seen → OnOk r (WasTurn told later carried after before seen old new box since news) → IfErr r (λ _. CutOff old box since news)
+  pub given_told : {A : Type 0} (r : Result A ServeFault) (fault : ServeFault) (H : Type 0) (told later : Option LinkTold) (carried after : Option Carried) (out now_out : Option (List ℕ)) (before seen : History) (old new : Line) (box since : Inbox J G) (news : List NewsItem)
+      → old.machine.ending ≡ None → BeginsHistory before seen → OnOk r (WasTurn told later carried after before seen old new box since news) → IfErr r (CutOff old box since news)
       → TakesFront out now_out (news_lines news) → ((fault ≡ faults.Output) × H) ⊎ (fault ≡ faults.Memory) → GivenUp (Some fault) out now_out before seen old box since
   given_told (Ok a) fault H told later carried after out now_out before seen old new box since news unended grows whole cut front cause =
       given_lacking fault told later carried after out now_out before seen old new box since news unended whole (lacking_tells fault H out now_out (news_lines news) cause front) (which_lacks fault H cause)
   given_told (Err e) fault H told later carried after out now_out before seen old new box since news unended grows whole cut front cause =
-      given_cut fault out now_out before seen old box since news grows cut (lacking_tells fault H out now_out (news_lines news) cause front) (lacking_spent fault H cause)
+      given_cut fault e out now_out before seen old box since news grows cut (lacking_tells fault H out now_out (news_lines news) cause front) (lacking_spent fault H cause) (λ entries bytes is. absurd (lacking_full fault H entries bytes cause is))
 
   -- and one that was cut short, and whose lines were told
   pub given_answer : {A : Type 0} (r : Result A ServeFault) (out now_out : Option (List ℕ)) (before seen : History) (old : Line) (box since : Inbox J G) (news : List NewsItem)
-      → BeginsHistory before seen → IfErr r (λ _. CutOff old box since news) → IfErr r IsOfTurn → Appends out now_out (news_lines news)
+      → BeginsHistory before seen → IfErr r (CutOff old box since news) → IfErr r IsOfTurn → Appends out now_out (news_lines news)
       → IfErr r (λ fault. GivenUp (Some fault) out now_out before seen old box since)
   given_answer (Ok a) out now_out before seen old box since news grows cut is lines = tt
   given_answer (Err fault) out now_out before seen old box since news grows cut is lines =
-      given_cut fault out now_out before seen old box since news grows cut (tells_all (lacks fault) out now_out (news_lines news) lines) (λ e. subst IsOfTurn e is)
+      given_cut fault fault out now_out before seen old box since news grows cut (tells_all (lacks fault) out now_out (news_lines news) lines) (λ e. subst IsOfTurn e is) (λ entries bytes e. e)
 
   -- ---- where it begins
 

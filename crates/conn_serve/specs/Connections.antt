@@ -16,17 +16,19 @@ use Rattle.conn_turns.specs.declared.answer.TurnFault.{TurnFault}
 use Rattle.conn_turns.specs.Lines.{Line, TakenFrame, lines_after}
 use Rattle.conn_turns.specs.Frames.{added, told}
 use Rattle.conn_turns.specs.Turns.{Turn, cut_short}
-use Rattle.conn_loop.specs.Turned.{refused_of}
+use Rattle.conn_loop.specs.Turned.{refused_of, wanted_of}
 use Rattle.turn_laws.specs.Turns.{line_received, IsTurn, IsCutShort, adds_in, tells_in}
 use Rattle.turn_laws.specs.Legs.{TurnedLeg, first_line, given_on, sent_on}
 
 -- A connection: its turns; what they told, in order; the records that the inbox gained; those of a frame whose append failed, which
--- a stop may leave; how it came to its end, None where it was given up; and what its link tells that it had carried
+-- a stop may leave; what the act of the frame that was refused would have added, if one was; how it came to its end, None where it was
+-- given up; and what its link tells that it had carried
 pub record Connection : Type 0 where
   pub leg : TurnedLeg
   pub news : List NewsItem
   pub adds : List InboxRecord
   pub refused : List InboxRecord
+  pub wanted : List InboxRecord
   pub close : Option Close
   pub carried : Option Carried
 
@@ -37,8 +39,9 @@ WereTurns before after old new (t ∷ later) news adds =
     (old.machine.ending ≡ None) × (mid : Line) × (between : History) × IsTurn before between old mid t
     × (more : List NewsItem) × (rest : List InboxRecord) × (news ≡ tells_in old t ++ more) × (adds ≡ adds_in old t ++ rest) × WereTurns between after mid new later more rest
 
--- a turn of this line was cut short by a fault: what it told, the records that the inbox gained, and those that a stop may leave
-pub record WasCutAt (last : Line) (t : Turn) (news : List NewsItem) (adds refused : List InboxRecord) : Type 0 where
+-- a turn of this line was cut short by a fault: what it told, the records that the inbox gained, those that a stop may leave, and what
+-- the act of the frame that was refused would have added
+pub record WasCutAt (last : Line) (t : Turn) (news : List NewsItem) (adds refused wanted : List InboxRecord) : Type 0 where
   pub now : ℕ
   pub received : List ℕ
   pub frames : List TakenFrame
@@ -49,11 +52,12 @@ pub record WasCutAt (last : Line) (t : Turn) (news : List NewsItem) (adds refuse
   pub news_are : news ≡ told now (line_received last now received cut.over) frames
   pub adds_are : adds ≡ added now (line_received last now received cut.over) frames
   pub refused_are : refused ≡ refused_of fault now (lines_after now (line_received last now received cut.over) frames) next
+  pub wanted_are : wanted ≡ wanted_of now (lines_after now (line_received last now received cut.over) frames) next
 
 -- the same where there was none
-abbrev pub CutAt : Line → Option Turn → List NewsItem → List InboxRecord → List InboxRecord → Type 0
-CutAt last None news adds refused = (news ≡ []) × (adds ≡ []) × (refused ≡ [])
-CutAt last (Some t) news adds refused = WasCutAt last t news adds refused
+abbrev pub CutAt : Line → Option Turn → List NewsItem → (adds refused wanted : List InboxRecord) → Type 0
+CutAt last None news adds refused wanted = (news ≡ []) × (adds ≡ []) × (refused ≡ []) × (wanted ≡ [])
+CutAt last (Some t) news adds refused wanted = WasCutAt last t news adds refused wanted
 
 -- It began at its moment in the state m; its whole turns led to the line `last`, and behind them one was cut short, if one was. What
 -- was seen of the outbox begins with what was seen behind the whole turns
@@ -65,7 +69,7 @@ pub record IsConnection (before after : History) (m : State) (last : Line) (c : 
   pub grows : BeginsHistory seen after
   pub cut_told : List NewsItem
   pub cut_added : List InboxRecord
-  pub cut : CutAt last c.leg.cut cut_told cut_added c.refused
+  pub cut : CutAt last c.leg.cut cut_told cut_added c.refused c.wanted
   pub news : c.news ≡ told ++ cut_told
   pub adds : c.adds ≡ added ++ cut_added
 
@@ -106,12 +110,15 @@ Follows closes.LinkFault = Unit {0}
 abbrev pub IsFollowed : Connection → Type 0
 IsFollowed c = IfSome c.close Follows
 
--- what the inbox gained over connections, and what a stop may leave beside it
+-- what the inbox gained over connections, what a stop may leave beside it, and what those frames would have added that were refused
 abbrev pub adds_of : List Connection → List InboxRecord
 adds_of = flat_map (λ (c : Connection). c.adds)
 
 abbrev pub refused_of_all : List Connection → List InboxRecord
 refused_of_all = flat_map (λ (c : Connection). c.refused)
+
+abbrev pub wanted_of_all : List Connection → List InboxRecord
+wanted_of_all = flat_map (λ (c : Connection). c.wanted)
 
 -- what a dialer tells once their links came back, each in its place
 abbrev pub came_back : List Connection → DialerTold → DialerTold

@@ -10,16 +10,16 @@ use Rattle.gw_links.specs.Links.{Carried, CarriedNothing}
 use Rattle.gw_links.specs.Dialers.{DialerTold}
 use Rattle.jr_record.specs.declared.journal.Journal.{Ghosts}
 use Rattle.jr_boxes.specs.declared.inbox.Inbox.{Inbox}
-use Rattle.jr_boxes.specs.Inbox.{HoldsBox}
+use Rattle.jr_boxes.specs.Inbox.{HoldsBox, limits_of}
 use Rattle.session_lines.specs.declared.close.Close.{Close}
 use Rattle.session_lines.specs.declared.close.Close.TheVariants as closes
 use Rattle.conn_turns.specs.Lines.{Line}
-use Rattle.conn_steps.specs.Settling.{Gains}
+use Rattle.conn_steps.specs.Settling.{IsPast, Gains}
 use Rattle.conn_serve.specs.declared.answer.ServeFault.{ServeFault}
 use Rattle.conn_serve.specs.declared.answer.ServeFault.TheVariants as faults
 use Rattle.conn_serve.specs.declared.answer.LifeEnd.{LifeEnd}
 use Rattle.conn_serve.specs.declared.answer.LifeEnd.TheVariants as ends
-use Rattle.conn_serve.specs.Connections.{Connection, IsConnection, HasEnded, AllEnded, Follows, IsFollowed, adds_of, refused_of_all}
+use Rattle.conn_serve.specs.Connections.{Connection, IsConnection, HasEnded, AllEnded, Follows, IsFollowed, adds_of, refused_of_all, wanted_of_all}
 use Rattle.conn_serve.specs.Lines.{news_lines, close_line, lines_from}
 use Rattle.conn_serve.specs.Causes.{lacks, lacks_at, Tells}
 use Rattle.conn_serve.specs.Turned.{IsSpent}
@@ -101,7 +101,8 @@ lacks_lines (Err fault) = lacks fault
 
 module _ {J : Type 0} {G : Ghosts J} where
   -- Connections ended, one behind another, each but the last followed by the next, and a last one was given up, if one was. The inbox
-  -- gained what they add; OUT took their lines, numbered from 1; and their links came back
+  -- gained what they add; OUT took their lines, numbered from 1; and their links came back. At Full the inbox's journal has no room for
+  -- the record of the frame that was refused on the last one
   pub record ServedLife (dialed later : Option DialerTold) (out now_out : Option (List ℕ)) (before seen : History) (m : State) (box since : Inbox J G) (result : Result LifeEnd ServeFault) : Type 0 where
     pub ended : List Connection
     pub given_up : Option Connection
@@ -114,6 +115,7 @@ module _ {J : Type 0} {G : Ghosts J} where
     pub came : AllCame dialed later (carried_by (ended ++ option_to_list given_up))
     pub tells : IsTrue (is_some dialed) → All IsTold ended
     pub answer : IsLifeAnswer behind seen mid later ended given_up result
+    pub past : (entries bytes : ℕ) → result ≡ Err (faults.Full entries bytes) → IsPast (limits_of since).bytes bytes (wanted_of_all (option_to_list given_up))
 
   -- connections that ended so far, each followed by the next
   pub record Lived (dialed later : Option DialerTold) (out now_out : Option (List ℕ)) (before seen : History) (m new : State) (box since : Inbox J G) (ended : List Connection) : Type 0 where
@@ -145,6 +147,7 @@ module _ {J : Type 0} {G : Ghosts J} where
     pub came : AllCame dialed later (connection.carried ∷ [])
     pub spent : why ≡ Some faults.Turns → IsSpent last connection.leg.turns connection.leg.cut
     pub cut_short : (why ≡ Some faults.Journal → IsSome connection.leg.cut) × ((entries bytes : ℕ) → why ≡ Some (faults.Full entries bytes) → IsSome connection.leg.cut)
+    pub past : (entries bytes : ℕ) → why ≡ Some (faults.Full entries bytes) → IsPast (limits_of since).bytes bytes connection.wanted
 
   -- no connection was made
   pub record MadeNone (dialed later : Option DialerTold) (out now_out : Option (List ℕ)) (before seen : History) (m new : State) (box since : Inbox J G) : Type 0 where

@@ -1,5 +1,5 @@
 -- What is known of a connection while its turns are made, and where it is given up (this project's profile).
-use Rattle.std.specs.Prelude.{◌≡◌, ℕ, ◌^◌, ◌<◌, ◌≤◌, true, List, [], ◌++◌, length, Option, Some, None, IsSome}
+use Rattle.std.specs.Prelude.{◌≡◌, ℕ, ◌^◌, ◌<◌, ◌≤◌, true, List, [], ◌++◌, length, Option, Some, None, IsSome, Err}
 use Rattle.std.specs.List.{flat_map}
 use Rattle.std.specs.Io.KnownBytes.{Appends}
 use Rattle.session_model.specs.Journal.{History, BeginsHistory}
@@ -8,19 +8,20 @@ use Rattle.reply_laws.specs.Machine.{State}
 use Rattle.gw_links.specs.Links.{LinkTold, Carried, Moved}
 use Rattle.jr_record.specs.declared.journal.Journal.{Ghosts}
 use Rattle.jr_boxes.specs.declared.inbox.Inbox.{Inbox}
-use Rattle.jr_boxes.specs.Inbox.{HoldsBox}
+use Rattle.jr_boxes.specs.Inbox.{HoldsBox, limits_of}
 use Rattle.gate_turn.specs.Views.{Part}
 use Rattle.conn_turns.specs.declared.news.NewsItem.{NewsItem}
 use Rattle.conn_turns.specs.Lines.{Line}
 use Rattle.conn_turns.specs.Turns.{Turn}
 use Rattle.conn_turns.specs.declared.answer.TurnFault.{TurnFault}
-use Rattle.conn_steps.specs.Settling.{Gains}
+use Rattle.conn_steps.specs.Settling.{IsPast, Gains}
 use Rattle.conn_steps.specs.Agreeing.{Agrees}
 use Rattle.conn_loop.specs.Conn.{HasSeen}
 use Rattle.turn_laws.specs.Legs.{given_in, sent_in, first_line}
 use Rattle.loop_laws.specs.Turned.{WasCut}
 use Rattle.conn_serve.specs.declared.answer.ServeFault.{ServeFault}
 use Rattle.conn_serve.specs.declared.answer.ServeFault.TheVariants as faults
+use Rattle.conn_serve.specs.Answers.{close_of}
 use Rattle.conn_serve.specs.Connections.{WereTurns, CutAt}
 use Rattle.conn_serve.specs.Lines.{news_lines}
 use Rattle.conn_serve.specs.Causes.{lacks_at, Tells}
@@ -44,13 +45,15 @@ module _ {J : Type 0} {G : Ghosts J} where
     pub moved : Moved told later carried after (flat_map given_in turns) (flat_map sent_in turns)
     pub lines : Appends out now_out (news_lines news)
 
-  -- a turn was cut short by a fault
-  pub record CutOff (old : Line) (box since : Inbox J G) (news : List NewsItem) : Type 0 where
+  -- a turn was cut short by a fault, which is this one to its connection
+  pub record CutOff (old : Line) (box since : Inbox J G) (news : List NewsItem) (why : ServeFault) : Type 0 where
     pub now : ℕ
     pub fault : TurnFault
+    pub is : close_of (Err fault) ≡ Err why
     pub cut : WasCut now old fault box since news
 
-  -- behind whole turns it was given up, for this fault, or because it was told to stop; a turn behind them was cut short, if one was
+  -- behind whole turns it was given up, for this fault, or because it was told to stop; a turn behind them was cut short, if one was. At
+  -- Full the inbox's journal has no room for the one record that was wanted
   pub record GivenUp (why : Option ServeFault) (out now_out : Option (List ℕ)) (before seen : History) (old : Line) (box since : Inbox J G) : Type 0 where
     pub last : Line
     pub behind : History
@@ -63,11 +66,13 @@ module _ {J : Type 0} {G : Ghosts J} where
     pub cut_told : List NewsItem
     pub cut_added : List InboxRecord
     pub refused : List InboxRecord
-    pub is_cut : CutAt last cut cut_told cut_added refused
+    pub wanted : List InboxRecord
+    pub is_cut : CutAt last cut cut_told cut_added refused wanted
     pub holds : (i : List InboxRecord) → HoldsBox box i [] → HoldsBox since (i ++ (adds ++ cut_added)) refused
     pub lines : Tells (lacks_at why) out now_out (news_lines (news ++ cut_told))
     pub spent : why ≡ Some faults.Turns → IsSpent last turns cut
     pub cut_short : (why ≡ Some faults.Journal → IsSome cut) × ((entries bytes : ℕ) → why ≡ Some (faults.Full entries bytes) → IsSome cut)
+    pub past : (entries bytes : ℕ) → why ≡ Some (faults.Full entries bytes) → IsPast (limits_of since).bytes bytes wanted
 
   -- the next connection may begin of this machine, with this pass and this inbox
   pub record MayBegin (m : State) (p : Part) (box : Inbox J G) : Type 0 where

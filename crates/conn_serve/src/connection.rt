@@ -56,7 +56,7 @@ fn make_turn<L: Link, O: Journal, I: Journal, C: Clock, R: Wait>(
     ensures free { IsFree pass.new }
     ensures looks { Looks (known pass.old) (known pass.new) }
     ensures whole { OnOk result (WasTurn (L.told link.old) (L.told link.new) (L.carried link.old) (L.carried link.new) (known pass.old).seen (known pass.new).seen (line_of conn.old) (line_of conn.new) inbox.old inbox.new (items_of news.new)) }
-    ensures cut { IfErr result (λ _. CutOff (line_of conn.old) inbox.old inbox.new (items_of news.new)) }
+    ensures cut { IfErr result (CutOff (line_of conn.old) inbox.old inbox.new (items_of news.new)) }
     ensures short { All IsShort (items_of news.new) }
     ensures goes { result ≡ Ok None → GoesOn (line_of conn.new).machine }
     ensures closed { (close : Close) → result ≡ Ok (Some close) → ClosesAs close (line_of conn.new).machine.ending }

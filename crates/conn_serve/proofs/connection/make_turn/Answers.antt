@@ -16,7 +16,7 @@ returns-clause-whole g c =
 pub returns-clause-cut : goal.returns-clause-cut
 returns-clause-cut g c =
     err_at _ c.turn.result c.close_of.result c.close_of.ensures
-    (on_cut _ _ c.turn.result (λ (f : TurnFault) k. record { now = _; fault = f; cut = cut_is_one c.args.inbox.now c.turn.new.inbox _ (line_of c.args.conn.now) _ f k }) c.turn.ensures.cut)
+    (on_cut _ _ c.turn.result (λ (f : TurnFault) why is k. record { now = _; fault = f; is = is; cut = cut_is_one c.args.inbox.now c.turn.new.inbox _ (line_of c.args.conn.now) _ f k }) c.turn.ensures.cut)
 
 pub returns-clause-short : goal.returns-clause-short
 returns-clause-short g c =
