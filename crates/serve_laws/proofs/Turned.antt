@@ -89,16 +89,16 @@ cut_turn_adds h old now received frames (Some t) c s k =
     ∙ ap (λ (e : Course). next_course e call) (sym (after_append c (first_calls now) took))) in
     ap (λ (e : Course). e.added) joined ∙ (frame_adds_nothing d t.incoming t.at now ∙ cut_adds h old now received frames c s (record { over = k.over; taken = k.taken; next = tt }))
 
-cut_part_adds : (h : List Entry) (c : Course) (last : Line) (cut : Option Turn) (news : List NewsItem) (adds refused : List InboxRecord) → StandsAt h c last → CutAt last cut news adds refused
+cut_part_adds : (h : List Entry) (c : Course) (last : Line) (cut : Option Turn) (news : List NewsItem) (adds refused wanted : List InboxRecord) → StandsAt h c last → CutAt last cut news adds refused wanted
     → (course_after c (flat_map calls_of (option_to_list cut))).added ≡ c.added ++ adds
-cut_part_adds h c last None news adds refused s k = sym (append-nil c.added) ∙ ap (λ (rs : List InboxRecord). c.added ++ rs) (sym k.1)
-cut_part_adds h c last (Some t) news adds refused s k =
+cut_part_adds h c last None news adds refused wanted s k = sym (append-nil c.added) ∙ ap (λ (rs : List InboxRecord). c.added ++ rs) (sym k.1)
+cut_part_adds h c last (Some t) news adds refused wanted s k =
     ap (λ (cs : List Call). (course_after c cs).added) (append-nil (calls_of t) ∙ ap calls_of k.is)
     ∙ (cut_turn_adds h last k.now k.received k.frames k.next c s k.cut ∙ ap (λ (rs : List InboxRecord). c.added ++ rs) (sym k.adds_are))
 
-is_cut : (last : Line) (cut : Option Turn) (news : List NewsItem) (adds refused : List InboxRecord) → CutAt last cut news adds refused → IfSome cut (IsCut last)
-is_cut last None news adds refused k = tt
-is_cut last (Some t) news adds refused k = subst (λ (u : Turn). IsCut last u) (sym k.is) k.cut
+is_cut : (last : Line) (cut : Option Turn) (news : List NewsItem) (adds refused wanted : List InboxRecord) → CutAt last cut news adds refused wanted → IfSome cut (IsCut last)
+is_cut last None news adds refused wanted k = tt
+is_cut last (Some t) news adds refused wanted k = subst (λ (u : Turn). IsCut last u) (sym k.is) k.cut
 
 -- a connection: its whole turns, where it stands behind them, and what it adds
 pub record IsTurnedOne (h : List Entry) (m : State) (i : List InboxRecord) (last : Line) (c : Connection) : Type 0 where
@@ -115,14 +115,14 @@ connection_turned h before after m i last c awaits enough has k =
     let first : List Call = flat_map calls_of t.turns in
     let so_far : Has h k.seen = has_before h k.seen after has k.grows.made in
     let are : AreTurns before k.seen (first_line m t.moment) last t.turns = were_are_turns before k.seen (first_line m t.moment) last t.turns k.told k.added k.turns in
-    let turns : AreTurnsOf h m t = record { before = before; after = k.seen; last = last; turns = are; cut = is_cut last t.cut k.cut_told k.cut_added c.refused k.cut; has = so_far } in
+    let turns : AreTurnsOf h m t = record { before = before; after = k.seen; last = last; turns = are; cut = is_cut last t.cut k.cut_told k.cut_added c.refused c.wanted k.cut; has = so_far } in
     let start : StandsAt h b (first_line m t.moment) = begin_stands h m i t.moment awaits enough in
     let x = turns_stand h before k.seen (first_line m t.moment) last t.turns b start so_far are in
     let joined : course_on m i t ≡ course_after (course_after b first) (flat_map calls_of (option_to_list t.cut)) =
     ap (λ (cs : List Call). course_after b cs) (flat_map-append calls_of t.turns (option_to_list t.cut)) ∙ after_append b first (flat_map calls_of (option_to_list t.cut)) in
     let adds : (course_on m i t).added ≡ c.adds =
     ap (λ (d : Course). d.added) joined
-    ∙ (cut_part_adds h (course_after b first) last t.cut k.cut_told k.cut_added c.refused x.after k.cut
+    ∙ (cut_part_adds h (course_after b first) last t.cut k.cut_told k.cut_added c.refused c.wanted x.after k.cut
     ∙ (ap (λ (rs : List InboxRecord). rs ++ k.cut_added) (turns_add h before k.seen (first_line m t.moment) last t.turns k.told k.added b start so_far k.turns) ∙ sym k.adds)) in
     let begun : (course_on m i t).start ≡ i = (calls_go_on h b (calls_on t) (leg_stands h m i t awaits enough turns)).start in
     record {

@@ -96,10 +96,10 @@ by_next h c last now received frames (Some t) fault refused s k is =
     let l : Line = lines_after now (line_received last now received k.over) frames in
     by_record fault now l t (course_after c (calls_of (cut_short now received frames (Some t)))) refused (is_record (reply_at now l t).act) refl is (λ e. waits_at h c last now received frames t s k e)
 
-by_cut : (h : List Entry) (c : Course) (last : Line) (cut : Option Turn) (told : List NewsItem) (added refused : List InboxRecord) → StandsAt h c last → CutAt last cut told added refused
+by_cut : (h : List Entry) (c : Course) (last : Line) (cut : Option Turn) (told : List NewsItem) (added refused wanted : List InboxRecord) → StandsAt h c last → CutAt last cut told added refused wanted
     → (refused ≡ []) ⊎ Waits (course_after c (flat_map calls_of (option_to_list cut))) refused
-by_cut h c last None told added refused s k = inl k.2
-by_cut h c last (Some t) told added refused s k =
+by_cut h c last None told added refused wanted s k = inl k.2
+by_cut h c last (Some t) told added refused wanted s k =
     let is : flat_map calls_of (t ∷ []) ≡ calls_of (cut_short k.now k.received k.frames k.next) = append-nil (calls_of t) ∙ ap calls_of k.is in
     subst (λ (cs : List Call). (refused ≡ []) ⊎ Waits (course_after c cs) refused) (sym is) (by_next h c last k.now k.received k.frames k.next k.fault refused s k.cut k.refused_are)
 
@@ -107,4 +107,4 @@ pub waits_or_none : (h : List Entry) (before after : History) (m : State) (machi
     → (c.refused ≡ []) ⊎ Waits (course_on m i c.leg) c.refused
 waits_or_none h before after m machine i last c k x =
     subst (λ (d : Course). (c.refused ≡ []) ⊎ Waits d c.refused) (sym x.joined)
-    (by_cut h (course_after (beginning m i c.leg.moment) (flat_map calls_of c.leg.turns)) last c.leg.cut k.cut_told k.cut_added c.refused x.stands k.cut)
+    (by_cut h (course_after (beginning m i c.leg.moment) (flat_map calls_of c.leg.turns)) last c.leg.cut k.cut_told k.cut_added c.refused c.wanted x.stands k.cut)

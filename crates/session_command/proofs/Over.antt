@@ -21,6 +21,7 @@ use Rattle.meeting_laws.specs.Loops.{machine_life}
 use Rattle.gw_links.specs.Dialers.{DialerTold}
 use Rattle.jr_record.specs.declared.journal.Journal.{Ghosts}
 use Rattle.jr_record.specs.declared.record.Record.{Record}
+use Rattle.jr_record.specs.declared.limits.Limits.{Limits as JournalLimits}
 use Rattle.jr_record.specs.Images.{IsJournal, Leaves, journal_size}
 use Rattle.jr_boxes.specs.Outboxes.{outbox_of, records_of_history}
 use Rattle.jr_boxes.specs.Inboxes.{records_of_inbox}
@@ -30,8 +31,9 @@ use Rattle.jr_boxes.specs.Outbox as outboxes
 use Rattle.jr_boxes.specs.Inbox as inboxes
 use Rattle.jr_boxes.proofs.Kept.{length-places}
 use Rattle.gate_turn.specs.Views.{Limits}
+use Rattle.conn_steps.specs.Settling.{IsPast}
 use Rattle.conn_serve.specs.declared.answer.ServeFault.{ServeFault}
-use Rattle.conn_serve.specs.Connections.{adds_of, refused_of_all}
+use Rattle.conn_serve.specs.Connections.{adds_of, refused_of_all, wanted_of_all}
 use Rattle.conn_serve.specs.Opening.{opened_state}
 use Rattle.serve_laws.specs.Lives.{all_of, LifeOfLoop, served_of}
 use Rattle.serve_laws.proofs.Loops.{served_keeps}
@@ -74,7 +76,7 @@ module _ {D J : Type 0} {H : Ghosts J} (outbox : Outbox J H) (told : D → Optio
 
   module _ (config : EndConfig) (plans : List (List (List ℕ))) (dialed later : Option DialerTold) (out now_out : Option (List ℕ)) (out_disk now_out_disk in_disk now_in_disk : D) (closed : Outbox J H) (box since : Inbox J H) (result : Result (Unit {0}) ServeFault)
       (o : OpensOutbox (told out_disk) outbox) (i : OpensInbox (told in_disk) box) (limit : ((outboxes.limits_of outbox).entries ≡ 2 ^ 24) × ((outboxes.limits_of outbox).bytes ≡ 2 ^ 30))
-      (now_out_is : now_out_disk ≡ disk_at (outboxes.journal_of closed)) (now_in_is : now_in_disk ≡ disk_at (inboxes.journal_of since))
+      (in_limit : (inboxes.limits_of box).bytes ≡ 2 ^ 30) (now_out_is : now_out_disk ≡ disk_at (outboxes.journal_of closed)) (now_in_is : now_in_disk ≡ disk_at (inboxes.journal_of since))
       (out_least : disk out_disk ≤ outboxes.faults_of outbox) (in_least : disk in_disk ≤ inboxes.faults_of box) (out_count : disk now_out_disk ≡ outboxes.faults_of closed) (in_count : disk now_in_disk ≡ inboxes.faults_of since)
       (l : LivedBoxes dialed later out now_out config plans outbox closed box since result) where
     abbrev machine : State
@@ -124,11 +126,15 @@ module _ {D J : Type 0} {H : Ghosts J} (outbox : Outbox J H) (told : D → Optio
     held : inboxes.HoldsBox since list (refused_of_all (option_to_list l.served.given_up))
     held = l.served.holds i.inbox i.holds
 
-    full : (entries bytes : ℕ) → FillsInbox since entries bytes ⊎ WasFull (record { entries = (outboxes.limits_of outbox).entries; bytes = (outboxes.limits_of outbox).bytes }) l.opening l.closing entries bytes
-        → FullInbox list entries bytes ⊎ WasFull limits l.opening l.closing entries bytes
+    abbrev wanted : List InboxRecord
+    wanted = wanted_of_all (option_to_list l.served.given_up)
+
+    full : (entries bytes : ℕ) → FillsInbox since wanted entries bytes ⊎ WasFull (record { entries = (outboxes.limits_of outbox).entries; bytes = (outboxes.limits_of outbox).bytes }) l.opening l.closing entries bytes
+        → FullInbox list wanted entries bytes ⊎ WasFull limits l.opening l.closing entries bytes
     full entries bytes (inl f) = inl (record {
       entries_are = f.entries_are ∙ (ap length held.noticed.places ∙ length-places 0 list);
       bytes_are = f.bytes_are ∙ sym (sizes (inboxes.journal_of since) (records_of_inbox list) held.journal.stands_for);
+      past = subst (λ (n : ℕ). IsPast n bytes wanted) (ap (λ (x : JournalLimits). x.bytes) l.limits ∙ in_limit) f.past;
     })
     full entries bytes (inr w) =
         let same : (◌≡◌ {A = Limits} (record { entries = (outboxes.limits_of outbox).entries; bytes = (outboxes.limits_of outbox).bytes }) limits) =
@@ -164,11 +170,11 @@ module _ {D J : Type 0} {H : Ghosts J} (outbox : Outbox J H) (told : D → Optio
   -- what was lived over the boxes was lived over their disks
   pub lived_disks : {S K N : Type 0} (left : S → Option (List ℕ)) (taken : K → Option (List ℕ)) (carried : N → Option DialerTold) (sink : K → ℕ) (dials : N → ℕ) (senders : ℕ) (config : EndConfig) (input : S) (out now_out : K) (out_disk now_out_disk in_disk now_in_disk : D) (dialer now_dialer : N)
       (closed : Outbox J H) (box since : Inbox J H) (status : Status) (o : OpensOutbox (told out_disk) outbox) (i : OpensInbox (told in_disk) box) (limit : ((outboxes.limits_of outbox).entries ≡ 2 ^ 24) × ((outboxes.limits_of outbox).bytes ≡ 2 ^ 30))
-      (now_out_is : now_out_disk ≡ disk_at (outboxes.journal_of closed)) (now_in_is : now_in_disk ≡ disk_at (inboxes.journal_of since))
+      (in_limit : (inboxes.limits_of box).bytes ≡ 2 ^ 30) (now_out_is : now_out_disk ≡ disk_at (outboxes.journal_of closed)) (now_in_is : now_in_disk ≡ disk_at (inboxes.journal_of since))
       (out_least : disk out_disk ≤ outboxes.faults_of outbox) (in_least : disk in_disk ≤ inboxes.faults_of box) (out_count : disk now_out_disk ≡ outboxes.faults_of closed) (in_count : disk now_in_disk ≡ inboxes.faults_of since)
       → LivedOn left taken carried sink dials senders config input out now_out dialer now_dialer outbox closed box since status
       → Lived H left taken told may_leave carried sink disk dials senders config input out now_out out_disk now_out_disk in_disk now_in_disk dialer now_dialer status
-  lived_disks left taken carried sink dials senders config input out now_out out_disk now_out_disk in_disk now_in_disk dialer now_dialer closed box since status o i limit now_out_is now_in_is out_least in_least out_count in_count l = record {
+  lived_disks left taken carried sink dials senders config input out now_out out_disk now_out_disk in_disk now_in_disk dialer now_dialer closed box since status o i limit in_limit now_out_is now_in_is out_least in_least out_count in_count l = record {
     plans = l.plans;
     life = l.life;
     lived = ⊎_elim
@@ -183,7 +189,7 @@ module _ {D J : Type 0} {H : Ghosts J} (outbox : Outbox J H) (told : D → Optio
           since = since;
           result = h.result;
           status_is = h.status_is;
-          over = lived_over config l.plans (carried dialer) (carried now_dialer) (taken out) (taken now_out) out_disk now_out_disk in_disk now_in_disk closed box since h.result o i limit now_out_is now_in_is out_least in_least out_count in_count h.boxes;
+          over = lived_over config l.plans (carried dialer) (carried now_dialer) (taken out) (taken now_out) out_disk now_out_disk in_disk now_in_disk closed box since h.result o i limit in_limit now_out_is now_in_is out_least in_least out_count in_count h.boxes;
         }))
         l.lived;
   }

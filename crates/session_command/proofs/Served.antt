@@ -139,6 +139,7 @@ module _ {J : Type 0} {G : Ghosts J} {O : Type 0} {H : Ghosts O} (dialed later :
     came = s.came;
     tells = s.tells;
     answer = s.answer;
+    past = s.past;
   }
 
   boxes_earlier : (result : Result (Unit {0}) ServeFault) → Appends old out [] → LivedBoxes dialed later out now_out config plans outbox closed box since result → LivedBoxes dialed later old now_out config plans outbox closed box since result
@@ -156,6 +157,7 @@ module _ {J : Type 0} {G : Ghosts J} {O : Type 0} {H : Ghosts O} (dialed later :
     plans_kept = l.plans_kept;
     begins = l.begins;
     served = served_earlier l.opening l.seen (fresh config (opened_state l.opening box) (2 ^ 24)) l.connections h l.served;
+    limits = l.limits;
     answer = l.answer;
     refusal = l.refusal;
     marked = l.marked;

@@ -23,11 +23,12 @@ use Rattle.jr_boxes.specs.Inbox as inboxes
 use Rattle.command_base.specs.declared.status.Status.{Status}
 use Rattle.command_base.specs.declared.status.Status.TheVariants.{Done, OutputFault, JournalFault, DialFault, Unfinished, Rejected, Full, Turns, Memory}
 use Rattle.gate_turn.specs.Views.{Limits}
+use Rattle.conn_steps.specs.Settling.{IsPast}
 use Rattle.conn_serve.specs.declared.answer.ServeFault.{ServeFault}
 use Rattle.conn_serve.specs.declared.answer.ServeFault.TheVariants as faults
 use Rattle.conn_serve.specs.declared.answer.LifeEnd.{LifeEnd}
 use Rattle.conn_serve.specs.Answers.{answer_of}
-use Rattle.conn_serve.specs.Connections.{adds_of, refused_of_all}
+use Rattle.conn_serve.specs.Connections.{adds_of, refused_of_all, wanted_of_all}
 use Rattle.conn_serve.specs.Served.{ServedLife}
 use Rattle.conn_serve.specs.Opening.{opened_state, IsUnrefused}
 use Rattle.serve_laws.specs.Lives.{all_of, LifeOfLoop}
@@ -70,10 +71,11 @@ pub record KeepsRecords {D : Type 0} (told : D → Option (List ℕ)) (may_leave
   pub held : ForSome (told before) (λ content. IsJournal content records)
   pub left : LeavesImages (may_leave after) records []
 
--- an inbox of this list has so many messages, and so many bytes
-pub record FullInbox (inbox : List InboxRecord) (entries bytes : ℕ) : Type 0 where
+-- an inbox of this list has so many messages, and so many bytes, and its journal no room for the one record that was wanted
+pub record FullInbox (inbox wanted : List InboxRecord) (entries bytes : ℕ) : Type 0 where
   pub entries_are : entries ≡ length (applied inbox)
   pub bytes_are : bytes ≡ journal_size (records_of_inbox inbox)
+  pub past : IsPast (2 ^ 30) bytes wanted
 
 -- the limits of both journals
 abbrev pub limits : Limits
@@ -114,7 +116,7 @@ module _ {J : Type 0} {G : Ghosts J} where
     pub in_left : LeavesImages (may_leave now_in_disk) (records_of_inbox (inbox ++ adds_of (all_of served.ended served.given_up))) (records_of_inbox (refused_of_all (option_to_list served.given_up)))
     pub marked : IsUnrefused result → 0 < length plans → closing.finished ≡ true
     pub journal : result ≡ Err faults.Journal → HasRisen (disk out_disk) (disk now_out_disk) ⊎ HasRisen (disk in_disk) (disk now_in_disk)
-    pub full : (entries bytes : ℕ) → result ≡ Err (faults.Full entries bytes) → FullInbox (inbox ++ adds_of (all_of served.ended served.given_up)) entries bytes ⊎ WasFull limits opening closing entries bytes
+    pub full : (entries bytes : ℕ) → result ≡ Err (faults.Full entries bytes) → FullInbox (inbox ++ adds_of (all_of served.ended served.given_up)) (wanted_of_all (option_to_list served.given_up)) entries bytes ⊎ WasFull limits opening closing entries bytes
 
 -- INPUT has these plans, and the status is one of a life, with its cause where it blames OUT or the dialer
 pub record IsPlannedLife {S K N : Type 0} (left : S → Option (List ℕ)) (sink : K → ℕ) (dials : N → ℕ) (senders : ℕ) (input : S) (out now_out : K) (dialer now_dialer : N) (plans : List (List (List ℕ))) (status : Status) : Type 0 where

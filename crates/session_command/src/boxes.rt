@@ -108,7 +108,7 @@ pub fn open_inbox<D: Disk>(
     ensures opened { IfOk result (λ box. OpensInbox (D.told disk) box) }
     ensures sound { IfOk result (λ box. inboxes.is_broken box ≡ false) }
     ensures flow { IfOk result (λ box. inboxes.flow_of box ≡ flow) }
-    ensures limit { IfOk result (λ box. (inboxes.limits_of box).entries ≡ 2 ^ 24) }
+    ensures limit { IfOk result (λ box. ((inboxes.limits_of box).entries ≡ 2 ^ 24) × ((inboxes.limits_of box).bytes ≡ 2 ^ 30)) }
     ensures numbered { IfOk result (λ box. flow ≡ flow_variants.Recoverable → inboxes.next_of box + 1 < 2 ^ 64) }
     ensures never_falls { IfOk result (λ box. D.faults disk ≤ inboxes.faults_of box) }
     ensures refused { IfErr result (λ e. IsNotOpened boxes.Inbox flow (D.told disk) e.1) }

@@ -46,7 +46,7 @@ fn open_boxes<D: Disk>(
     ensures in_sound { IfOk result (λ boxes. inboxes.is_broken boxes.1 ≡ false) }
     ensures out_limit { IfOk result (λ boxes. ((outboxes.limits_of boxes.0).entries ≡ 2 ^ 24) × ((outboxes.limits_of boxes.0).bytes ≡ 2 ^ 30)) }
     ensures flow { IfOk result (λ boxes. inboxes.flow_of boxes.1 ≡ flow) }
-    ensures limit { IfOk result (λ boxes. (inboxes.limits_of boxes.1).entries ≡ 2 ^ 24) }
+    ensures limit { IfOk result (λ boxes. ((inboxes.limits_of boxes.1).entries ≡ 2 ^ 24) × ((inboxes.limits_of boxes.1).bytes ≡ 2 ^ 30)) }
     ensures numbered { IfOk result (λ boxes. flow ≡ flows.Recoverable → inboxes.next_of boxes.1 + 1 < 2 ^ 64) }
     ensures few { IfOk result (λ boxes. outboxes.front_of boxes.0 < 2 ^ 40) }
     ensures never_falls { IfOk result (λ boxes. (D.faults out_disk ≤ outboxes.faults_of boxes.0) × (D.faults in_disk ≤ inboxes.faults_of boxes.1)) }

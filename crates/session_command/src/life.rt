@@ -97,6 +97,7 @@ fn serve_beside<
     ensures looks { Looks (known pass.old) (known pass.new) }
     ensures served { ServedBy gate.now (N.told dialer.old) (N.told dialer.new) (K.taken out.old) (K.taken out.new) (K.faults out.old) (K.faults out.new) (N.faults dialer.old) (N.faults dialer.new) (known pass.old) (known pass.new) (fresh config (opened_state (opening_of gate.now).history inbox.old) (2 ^ 24)) inbox.old inbox.new senders.old.items senders.new.items result }
     ensures marked { IsUnrefused result → 0 < vec_len senders.old → SomeMarked senders.new.items }
+    ensures limits { inboxes.limits_of inbox.new ≡ inboxes.limits_of inbox.old }
     ensures output { result ≡ Err faults.Output → HasRisen (K.faults out.old) (K.faults out.new) }
     ensures dial { result ≡ Err faults.Dial → HasRisen (N.faults dialer.old) (N.faults dialer.new) }
     ensures lent { N.lent dialer.new ≡ false }

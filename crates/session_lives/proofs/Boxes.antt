@@ -94,6 +94,7 @@ module _ {J : Type 0} {G : Ghosts J} {O : Type 0} {H : Ghosts O} (gate : Gate O 
     plans_kept = plans_are_kept (opening_of gate) (account closed k.history) plans (known_at passes) s.made k.closed;
     begins = (found (length plans + 1) last).seen;
     served = s.life;
+    limits = s.limits;
     answer = s.answer;
     refusal = s.refusal;
     marked = λ u many. marked (s.marked u many);

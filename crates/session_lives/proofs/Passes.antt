@@ -1,6 +1,6 @@
 -- The passes of a life once all are back: those of the senders, and that of the connection behind them.
 use Rattle.std.proofs.Common.{◌≡◌, ◌⊎◌, inl, inr, ⊎_elim, ℕ, zero, suc, ◌+◌, ◌<◌, true, false, true≢false, List, [], ◌∷◌, length, slice_index_or, All, Option, Some, None, Result, Ok, Err, if◌then◌else◌, refl, sym, ap, subst, ◌∙◌, arith, add-one}
-use Rattle.std.specs.Prelude.{IfErr, IfSome}
+use Rattle.std.specs.Prelude.{option_to_list, IfErr, IfSome}
 use Rattle.std.proofs.lemmas.Bool.{cases_Bool}
 use mathlib.Core.Logic.{dite}
 use native.Mathlib.Decide.{ℕ_discrete}
@@ -9,6 +9,7 @@ use Rattle.reply_laws.specs.Machine.{State}
 use Rattle.gw_links.specs.Dialers.{DialerTold}
 use Rattle.jr_record.specs.declared.journal.Journal.{Ghosts}
 use Rattle.jr_boxes.specs.declared.inbox.Inbox.{Inbox}
+use Rattle.jr_boxes.specs.Inbox.{limits_of}
 use Rattle.jr_boxes.specs.declared.faults.SubmitFault.{SubmitFault}
 use Rattle.jr_boxes.specs.declared.faults.SubmitFault.TheVariants as submit
 use Rattle.gate_turn.specs.Views.{Account, HasFailed, Part, new_part}
@@ -30,6 +31,7 @@ use Rattle.conn_serve.specs.declared.answer.LifeEnd.{LifeEnd}
 use Rattle.conn_serve.specs.declared.answer.LifeEnd.TheVariants as ends
 use Rattle.conn_serve.specs.Answers.{answer_of, yields}
 use Rattle.conn_serve.specs.Causes.{BlamesJournal, IsBlamed}
+use Rattle.conn_serve.specs.Connections.{wanted_of_all}
 use Rattle.conn_serve.specs.Senders.{refusal_of, MetRefusal, IsRefusal, Finishes, FinishedFirst, SubmittedAll, SomeMarked}
 use Rattle.conn_serve.specs.Served.{ServedLife}
 use Rattle.conn_serve.specs.Opening.{ServedBy, IsUnrefused}
@@ -272,7 +274,7 @@ module _ {J : Type 0} {G : Ghosts J} (gate : Gate J G) (a : Account) (plans : Li
 
   -- what a served life is of the passes
   module _ {I : Type 0} {K : Ghosts I} (dialed later : Option DialerTold) (out now_out : Option (List ℕ)) (out_faults now_out_faults dial_faults now_dial_faults : ℕ) (m : State) (box since : Inbox I K) (result : Result (Unit {0}) ServeFault)
-      (s : ServedBy gate dialed later out now_out out_faults now_out_faults dial_faults now_dial_faults first now m box since counted after result) (marked : IsUnrefused result → 0 < length counted → SomeMarked after) where
+      (s : ServedBy gate dialed later out now_out out_faults now_out_faults dial_faults now_dial_faults first now m box since counted after result) (marked : IsUnrefused result → 0 < length counted → SomeMarked after) (limits : limits_of since ≡ limits_of box) where
     all_made : SendersMade gate a plans after
     all_made = senders_made gate a plans seated counted fresh count after s.refused s.senders
 
@@ -290,11 +292,15 @@ module _ {J : Type 0} {G : Ghosts J} (gate : Gate J G) (a : Account) (plans : Li
         by_blame (inr (inl broken)) = inl (inr broken)
         by_blame (inr (inr failed)) = inr (last_failed all_made failed)
 
-    full_at : (entries bytes : ℕ) → result ≡ Err (faults.Full entries bytes) → FillsInbox since entries bytes ⊎ SomePass (length plans + 1) (MetFull entries bytes) (known_at new)
+    life : ServedLife dialed later out now_out a.history (known_at new (length plans + 1)).seen m box since s.connections
+    life = subst (λ (p : Part). ServedLife dialed later out now_out a.history p.seen m box since s.connections) (sym (last_at all_made))
+        (subst (λ (h : History). ServedLife dialed later out now_out h now.seen m box since s.connections) (ap (λ (p : Part). p.seen) was.1) s.life)
+
+    full_at : (entries bytes : ℕ) → result ≡ Err (faults.Full entries bytes) → FillsInbox since (wanted_of_all (option_to_list life.given_up)) entries bytes ⊎ SomePass (length plans + 1) (MetFull entries bytes) (known_at new)
     full_at entries bytes e = ⊎_elim
         (λ c.
         let b = (blamed_at (IsBlamed out_faults now_out_faults dial_faults now_dial_faults first now box since) s.connections (faults.Full entries bytes) s.blamed c).full entries bytes refl in
-        inl (record { entries_are = b.0; bytes_are = b.1 }))
+        inl (record { entries_are = b.0; bytes_are = b.1; past = life.past entries bytes c }))
         (λ r. inr (by_refusal (faults.Full entries bytes) (SomePass (length plans + 1) (MetFull entries bytes) (known_at new)) r (λ h. refused_full_shown s.refused h entries bytes r)))
         (answer_blames s.connections s.refused (faults.Full entries bytes) (λ x. cc) (sym s.answer ∙ e))
 
@@ -310,8 +316,8 @@ module _ {J : Type 0} {G : Ghosts J} (gate : Gate J G) (a : Account) (plans : Li
       connections = s.connections;
       refused = s.refused;
       made = plans_made all_made;
-      life = subst (λ (p : Part). ServedLife dialed later out now_out a.history p.seen m box since s.connections) (sym (last_at all_made))
-          (subst (λ (h : History). ServedLife dialed later out now_out h now.seen m box since s.connections) (ap (λ (p : Part). p.seen) was.1) s.life);
+      life = life;
+      limits = limits;
       answer = s.answer;
       refusal = refusal_at;
       marked = λ u many. marked_at all_made (marked u (omega (arith, many, count.long, fresh.long)));

@@ -1,7 +1,8 @@
 -- What a life of connections and senders left, of a gate's passes, and of the boxes once the gate is closed (this project's profile).
-use Rattle.std.specs.Prelude.{◌≡◌, ◌⊎◌, ⊤, ℕ, ◌+◌, ◌^◌, ◌<◌, true, false, List, [], length, Option, IfSome, Result, Err}
+use Rattle.std.specs.Prelude.{◌≡◌, ◌⊎◌, ⊤, ℕ, ◌+◌, ◌^◌, ◌<◌, true, false, List, [], length, Option, IfSome, option_to_list, Result, Err}
 use Rattle.gw_outside.specs.Faults.{HasRisen}
 use Rattle.session_model.specs.Journal.{Entry, History, BeginsHistory}
+use Rattle.session_model.specs.Inbox.{InboxRecord}
 use Rattle.fixp_shake.specs.declared.config.EndConfig.{EndConfig}
 use Rattle.reply_laws.specs.Machine.{State, fresh}
 use Rattle.gw_links.specs.Dialers.{DialerTold}
@@ -16,7 +17,9 @@ use Rattle.gate_senders.specs.Kept.{next_entry, IsFullAt}
 use Rattle.conn_serve.specs.declared.answer.ServeFault.{ServeFault}
 use Rattle.conn_serve.specs.declared.answer.ServeFault.TheVariants as faults
 use Rattle.conn_serve.specs.declared.answer.LifeEnd.{LifeEnd}
+use Rattle.conn_steps.specs.Settling.{IsPast}
 use Rattle.conn_serve.specs.Answers.{answer_of}
+use Rattle.conn_serve.specs.Connections.{wanted_of_all}
 use Rattle.conn_serve.specs.Served.{ServedLife}
 use Rattle.conn_serve.specs.Opening.{opened_state, IsUnrefused}
 use Rattle.session_lives.specs.Plans.{PlansMade, KeepsPlans}
@@ -61,10 +64,11 @@ module _ {J : Type 0} {G : Ghosts J} where
   abbrev pub BlamesInbox : (box since : Inbox J G) → Type 0
   BlamesInbox box since = HasRisen (inboxes.faults_of box) (inboxes.faults_of since) ⊎ (inboxes.is_broken box ≡ true)
 
-  -- the inbox has so many messages, and so many bytes
-  pub record FillsInbox (since : Inbox J G) (entries bytes : ℕ) : Type 0 where
+  -- the inbox has so many messages, and so many bytes, and no room for the one record that was wanted
+  pub record FillsInbox (since : Inbox J G) (wanted : List InboxRecord) (entries bytes : ℕ) : Type 0 where
     pub entries_are : entries ≡ inboxes.count_of since
     pub bytes_are : bytes ≡ inboxes.size_of since
+    pub past : IsPast (inboxes.limits_of since).bytes bytes wanted
 
   -- The connections were served and the plans submitted beside each other; the passes are back, with that of the connection behind the
   -- senders'; and it answers what comes first of both
@@ -73,11 +77,12 @@ module _ {J : Type 0} {G : Ghosts J} where
     pub refused : Option ServeFault
     pub made : PlansMade opening plans known
     pub life : ServedLife dialed later out now_out opening.history (known (length plans + 1)).seen m box since connections
+    pub limits : inboxes.limits_of since ≡ inboxes.limits_of box
     pub answer : result ≡ answer_of connections refused
     pub refusal : IfSome refused IsOfSender
     pub marked : IsUnrefused result → 0 < length plans → SomePass (length plans + 1) SeesMark known
     pub journal : result ≡ Err faults.Journal → BlamesInbox box since ⊎ SomePass (length plans + 1) SeesFailure known
-    pub full : (entries bytes : ℕ) → result ≡ Err (faults.Full entries bytes) → FillsInbox since entries bytes ⊎ SomePass (length plans + 1) (MetFull entries bytes) known
+    pub full : (entries bytes : ℕ) → result ≡ Err (faults.Full entries bytes) → FillsInbox since (wanted_of_all (option_to_list life.given_up)) entries bytes ⊎ SomePass (length plans + 1) (MetFull entries bytes) known
 
 module _ {J : Type 0} {G : Ghosts J} {O : Type 0} {H : Ghosts O} where
   -- The same, once the outbox is out of the gate again: it was opened on one history and closed on another, which keeps the plans
@@ -95,9 +100,10 @@ module _ {J : Type 0} {G : Ghosts J} {O : Type 0} {H : Ghosts O} where
     pub plans_kept : KeepsPlans plans opening closing
     pub begins : BeginsHistory seen closing
     pub served : ServedLife dialed later out now_out opening seen (fresh config (opened_state opening box) (2 ^ 24)) box since connections
+    pub limits : inboxes.limits_of since ≡ inboxes.limits_of box
     pub answer : result ≡ answer_of connections refused
     pub refusal : IfSome refused IsOfSender
     pub marked : IsUnrefused result → 0 < length plans → closing.finished ≡ true
     pub journal : result ≡ Err faults.Journal → HasRisen (inboxes.faults_of box) (inboxes.faults_of since) ⊎ HasRisen (outboxes.faults_of outbox) (outboxes.faults_of closed)
     pub full : (entries bytes : ℕ) → result ≡ Err (faults.Full entries bytes)
-        → FillsInbox since entries bytes ⊎ WasFull (record { entries = (outboxes.limits_of outbox).entries; bytes = (outboxes.limits_of outbox).bytes }) opening closing entries bytes
+        → FillsInbox since (wanted_of_all (option_to_list served.given_up)) entries bytes ⊎ WasFull (record { entries = (outboxes.limits_of outbox).entries; bytes = (outboxes.limits_of outbox).bytes }) opening closing entries bytes

@@ -20,6 +20,6 @@ returns-clause-ended g c =
           (λ refused. inl refused)
           (λ l. inr (lived_disks boxes.boxes.0 g.D.Disk.told g.D.Disk.may_leave g.D.Disk.faults (disk_of {G = g.D.Disk}) (λ j image h. h) (λ j rs qs a b. sym a ∙ b) (λ (j : LogJournal _ g.D.Disk) rs a. sym (ap journal_size a) ∙ j.sized)
           g.S.Source.left g.K.Sink.taken g.N.Dialer.told g.K.Sink.faults g.N.Dialer.faults _ (end_of c.args.role c.args.configuration.link) _ _ _ _ _ _ _ _ _ run.result.1 boxes.boxes.1 _ run.result.0
-          boxes.ensures.opened.0 boxes.ensures.opened.1 boxes.ensures.out_limit out.ensures.disk inbox.ensures.disk boxes.ensures.never_falls.0 boxes.ensures.never_falls.1 out.ensures.faults inbox.ensures.faults l))
+          boxes.ensures.opened.0 boxes.ensures.opened.1 boxes.ensures.out_limit boxes.ensures.limit.1 out.ensures.disk inbox.ensures.disk boxes.ensures.never_falls.0 boxes.ensures.never_falls.1 out.ensures.faults inbox.ensures.faults l))
           run.ensures.ended;
     })
