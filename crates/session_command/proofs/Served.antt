@@ -143,6 +143,7 @@ module _ {J : Type 0} {G : Ghosts J} {O : Type 0} {H : Ghosts O} (dialed later :
   }
 
   boxes_earlier : (result : Result (Unit {0}) ServeFault) → Appends old out [] → LivedBoxes dialed later out now_out config plans outbox closed box since result → LivedBoxes dialed later old now_out config plans outbox closed box since result
+  unfolding served_earlier
   boxes_earlier result h l = record {
     opening = l.opening;
     closing = l.closing;
