@@ -105,10 +105,10 @@ module _ {J : Type 0} {G : Ghosts J} where
 
   -- what a refusal of the inbox may leave is what the turn's fault may leave
   pub refuses_as : (box after : Inbox J G) (count : ℕ) (fault : AppendFault) (answer : TurnFault) (records others : List InboxRecord) → answer ≡ fault_of count fault → others ≡ records
-      → Refuses box after (refused_by fault records) → Refuses box after (left_by answer others)
+      → Refuses box after [] (refused_by fault records) → Refuses box after [] (left_by answer others)
   refuses_as box after count fault answer records others is same h =
-      subst (λ (rs : List InboxRecord). Refuses box after (left_by answer rs)) (sym same)
-      (subst (λ (f : TurnFault). Refuses box after (left_by f records)) (sym is) (subst (λ (rs : List InboxRecord). Refuses box after rs) (by_case fault) h))
+      subst (λ (rs : List InboxRecord). Refuses box after [] (left_by answer rs)) (sym same)
+      (subst (λ (f : TurnFault). Refuses box after [] (left_by f records)) (sym is) (subst (Refuses box after []) (by_case fault) h))
     where
       by_case : (f : AppendFault) → refused_by f records ≡ left_by (fault_of count f) records
       by_case append.Broken = refl

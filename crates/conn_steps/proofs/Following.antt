@@ -8,14 +8,15 @@ use Rattle.reply_laws.specs.Machine.{State, step}
 use Rattle.reply_laws.specs.Machine as calls
 use Rattle.jr_record.specs.declared.journal.Journal.{Ghosts}
 use Rattle.jr_boxes.specs.declared.inbox.Inbox.{Inbox}
-use Rattle.jr_boxes.specs.Inbox.{HoldsBox, limits_of}
+use Rattle.jr_boxes.specs.Inbox.{limits_of}
 use Rattle.conn_turns.specs.declared.news.NewsItem.{NewsItem}
 use Rattle.conn_turns.specs.declared.answer.TurnFault.{TurnFault}
 use Rattle.conn_turns.specs.Lines.{Line, TakenFrame, size_of, MayTake, IsNext, IsTaken, reply_at, line_after, lines_after}
 use Rattle.conn_turns.specs.Frames.{adds, tells, added, told}
 use Rattle.conn_turns.proofs.Taking.{lines_more, taken_more, added_more, told_more}
-use Rattle.conn_steps.specs.Settling.{IsPast}
+use Rattle.conn_steps.specs.Settling.{IsPast, Gains, Refuses}
 use Rattle.conn_steps.specs.Agreeing.{IsInTurn, KeepsOwn}
+use Rattle.conn_steps.proofs.Rooms.{gains_none, gains_on, refuses_on}
 use Rattle.conn_steps.specs.Taking.{AnsweredFrame, RefusedAct, TookFrame, RefusedFrame, TookFrames, CutFrames, refused_by}
 
 -- a line is its four parts
@@ -92,7 +93,7 @@ module _ {J : Type 0} {G : Ghosts J} where
     many = refl;
     taken = tt;
     line = refl;
-    gains = λ i h. subst (λ (rs : List InboxRecord). HoldsBox box rs []) (sym (append-nil i)) h;
+    gains = gains_none box box refl;
     news_are = sym (append-nil news);
   }
 
@@ -107,10 +108,8 @@ module _ {J : Type 0} {G : Ghosts J} where
         many = length-append many.frames (t ∷ []) ∙ ap (λ (n : ℕ). n + 1) many.many;
         taken = taken_more now old many.frames t many.taken (subst (λ (l : Line). IsTaken now l t) same one.taken);
         line = one.line ∙ (ap (λ (l : Line). line_after now l t) same ∙ sym (lines_more now old many.frames t));
-        gains = λ i h. subst (λ (rs : List InboxRecord). HoldsBox second rs [])
-            (append_assoc i (added now old many.frames) (adds now mid t)
-            ∙ ap (λ (rs : List InboxRecord). i ++ rs) (ap (λ (l : Line). added now old many.frames ++ adds now l t) same ∙ sym (added_more now old many.frames t)))
-            (one.gains (i ++ added now old many.frames) (many.gains i h));
+        gains = subst (Gains box second) (ap (λ (l : Line). added now old many.frames ++ adds now l t) same ∙ sym (added_more now old many.frames t))
+            (gains_on box first second (added now old many.frames) (adds now mid t) many.gains one.gains);
         news_are = one.news_are ∙ (ap (λ (ns : List NewsItem). ns ++ tells now mid t) many.news_are
             ∙ (append_assoc news (told now old many.frames) (tells now mid t)
             ∙ ap (λ (ns : List NewsItem). news ++ ns) (ap (λ (l : Line). told now old many.frames ++ tells now l t) same ∙ sym (told_more now old many.frames t))));
@@ -129,8 +128,8 @@ module _ {J : Type 0} {G : Ghosts J} where
         refused = t;
         next = subst (λ (l : Line). IsNext l t) same one.next;
         line = one.line ∙ ap (λ (l : Line). record l { machine = step l.machine (calls.frame t.incoming t.at now) }) same;
-        refuses = λ i h. subst (λ (l : Line). HoldsBox second (i ++ added now old many.frames) (refused_by fault (adds now l t))) same
-            (one.refuses (i ++ added now old many.frames) (many.gains i h));
+        refuses = subst (λ (rs : List InboxRecord). Refuses box second rs (refused_by fault (adds now (lines_after now old many.frames) t))) (append-nil (added now old many.frames))
+            (refuses_on box first second (added now old many.frames) [] _ many.gains (subst (λ (l : Line). Refuses first second [] (refused_by fault (adds now l t))) same one.refuses));
         past = λ entries bytes e. subst (λ (l : Line). IsPast (limits_of second).bytes bytes (adds now l t)) same (one.past entries bytes e);
         recorded = λ other. subst (λ (l : Line). is_record (reply_at now l t).act ≡ true) same (one.recorded other);
         news_are = one.news_are ∙ many.news_are;

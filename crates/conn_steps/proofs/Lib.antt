@@ -1,3 +1,4 @@
 pub mod Answering
 pub mod Following
 pub mod Inboxes
+pub mod Rooms

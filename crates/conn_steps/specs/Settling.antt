@@ -1,5 +1,5 @@
 -- What an act is to an inbox, and what becomes of the inbox as its record is made stable (this project's profile).
-use Rattle.std.specs.Prelude.{◌≡◌, ◌⊎◌, ℕ, ◌+◌, ◌<◌, true, List, [], ◌∷◌, ◌++◌, None}
+use Rattle.std.specs.Prelude.{◌≡◌, ◌⊎◌, ⊤, ℕ, ◌+◌, ◌<◌, ◌≤◌, true, false, List, [], ◌∷◌, ◌++◌, None}
 use Rattle.session_model.specs.Inbox.{InboxRecord}
 use Rattle.sbe_prim.specs.declared.Order.{Order}
 use Rattle.fixp_msgs.specs.Numbering.{payload_of}
@@ -15,6 +15,7 @@ use Rattle.jr_record.specs.declared.faults.AppendFault.TheVariants as append
 use Rattle.jr_boxes.specs.declared.inbox.Inbox.{Inbox}
 use Rattle.gw_outside.specs.Faults.{HasRisen}
 use Rattle.jr_record.specs.Images.{record_size}
+use Rattle.jr_record.specs.Records.{is_control}
 use Rattle.jr_boxes.specs.Inboxes.{record_of}
 use Rattle.jr_boxes.specs.Inbox.{HoldsBox, next_of, is_negotiated, peer_last_of, flow_of, limits_of, size_of, faults_of, is_broken}
 use Rattle.conn_turns.specs.declared.news.NewsItem.{NewsItem}
@@ -44,6 +45,16 @@ pub record IsPast (limit bytes : ℕ) (records : List InboxRecord) : Type 0 wher
   pub is : records ≡ one ∷ []
   pub past : limit < bytes + record_size (record_of one)
 
+-- how many bytes these records take in a journal, each with its gate
+abbrev pub bytes_of : List InboxRecord → ℕ
+bytes_of [] = 0
+bytes_of (r ∷ rs) = record_size (record_of r) + bytes_of rs
+
+-- each of some records, one behind another, has room behind a journal of so many bytes within this limit, or is exempt from it
+abbrev pub HaveRoom : (limit bytes : ℕ) → List InboxRecord → Type 0
+HaveRoom limit bytes [] = ⊤
+HaveRoom limit bytes (r ∷ rs) = (is_control (record_of r) ≡ false → bytes + record_size (record_of r) ≤ limit) × HaveRoom limit (bytes + record_size (record_of r)) rs
+
 module _ {J : Type 0} {G : Ghosts J} where
   -- what an inbox records of the facts that outlive a connection; of the outbox it records nothing
   abbrev pub recorded_in : Inbox J G → EndState
@@ -59,13 +70,19 @@ module _ {J : Type 0} {G : Ghosts J} where
     pub limits : limits_of new ≡ limits_of old
     pub breaks : is_broken new ≡ true → (is_broken old ≡ true) ⊎ HasRisen (faults_of old) (faults_of new)
 
-  -- whichever list it held, it holds that list and these records
-  abbrev pub Gains : Inbox J G → Inbox J G → List InboxRecord → Type 0
-  Gains old new records = (i : List InboxRecord) → HoldsBox old i [] → HoldsBox new (i ++ records) []
+  -- Whichever list it held, it holds that list and these records, which its journal takes behind what it took; and each had room
+  -- within its limits, which stay
+  pub record Gains (old new : Inbox J G) (records : List InboxRecord) : Type 0 where
+    pub holds : (i : List InboxRecord) → HoldsBox old i [] → HoldsBox new (i ++ records) []
+    pub limits : limits_of new ≡ limits_of old
+    pub size : size_of new ≡ size_of old + bytes_of records
+    pub room : HaveRoom (limits_of old).bytes (size_of old) records
 
-  -- whichever list it held, it holds that list, and a stop may leave a beginning of these records behind it
-  abbrev pub Refuses : Inbox J G → Inbox J G → List InboxRecord → Type 0
-  Refuses old new records = (i : List InboxRecord) → HoldsBox old i [] → HoldsBox new i records
+  -- Whichever list it held, it holds that list and those gained, and a stop may leave a beginning of those refused behind them. Each of
+  -- these, where its disk failed, and each gained had room
+  pub record Refuses (old new : Inbox J G) (gained refused : List InboxRecord) : Type 0 where
+    pub holds : (i : List InboxRecord) → HoldsBox old i [] → HoldsBox new (i ++ gained) refused
+    pub room : HaveRoom (limits_of old).bytes (size_of old) (gained ++ refused)
 
   -- an act is settled: its records stand in the inbox, which records what is recorded after it, and what it tells was told
   pub record Settled (old new : Inbox J G) (news later : List NewsItem) (act : Act) (records : List InboxRecord) (told : List NewsItem) : Type 0 where
@@ -76,7 +93,7 @@ module _ {J : Type 0} {G : Ghosts J} where
   -- it was refused: nothing was told. After a failed call of the disk a stop may leave its records; at Broken the inbox is broken,
   -- and at Full its journal has so many bytes, and no room for the one record that there is
   pub record Refused (old new : Inbox J G) (news later : List NewsItem) (records : List InboxRecord) (fault : AppendFault) : Type 0 where
-    pub refuses : Refuses old new (refused_by fault records)
+    pub refuses : Refuses old new [] (refused_by fault records)
     pub news_are : later ≡ news
     pub risen : fault ≡ append.Fault → HasRisen (faults_of old) (faults_of new)
     pub broken : fault ≡ append.Broken → is_broken new ≡ true

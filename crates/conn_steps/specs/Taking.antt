@@ -6,7 +6,7 @@ use Rattle.jr_record.specs.declared.journal.Journal.{Ghosts}
 use Rattle.jr_record.specs.declared.faults.AppendFault.{AppendFault}
 use Rattle.jr_record.specs.declared.faults.AppendFault.TheVariants as append
 use Rattle.jr_boxes.specs.declared.inbox.Inbox.{Inbox}
-use Rattle.jr_boxes.specs.Inbox.{HoldsBox, faults_of, is_broken, size_of, count_of, limits_of}
+use Rattle.jr_boxes.specs.Inbox.{faults_of, is_broken, size_of, count_of, limits_of}
 use Rattle.sofh_frame.specs.Framing.{Frame}
 use Rattle.fixp_replies.specs.Acts.{is_record}
 use Rattle.fixp_replies.specs.Incoming.{Incoming, IsIncoming}
@@ -54,7 +54,7 @@ module _ {J : Type 0} {G : Ghosts J} where
     pub frame : TakenFrame
     pub next : IsNext old frame
     pub line : new ≡ record old { machine = step old.machine (calls.frame frame.incoming frame.at now) }
-    pub refuses : Refuses box after (refused_by fault (adds now old frame))
+    pub refuses : Refuses box after [] (refused_by fault (adds now old frame))
     pub past : (entries bytes : ℕ) → fault ≡ faults.Full entries bytes → IsPast (limits_of after).bytes bytes (adds now old frame)
     pub recorded : (fault ≡ faults.Memory → ⊥) → is_record (reply_at now old frame).act ≡ true
     pub news_are : later ≡ news
@@ -76,7 +76,7 @@ module _ {J : Type 0} {G : Ghosts J} where
     pub refused : TakenFrame
     pub next : IsNext (lines_after now old frames) refused
     pub line : new ≡ record (lines_after now old frames) { machine = step (lines_after now old frames).machine (calls.frame refused.incoming refused.at now) }
-    pub refuses : (i : List InboxRecord) → HoldsBox box i [] → HoldsBox after (i ++ added now old frames) (refused_by fault (adds now (lines_after now old frames) refused))
+    pub refuses : Refuses box after (added now old frames) (refused_by fault (adds now (lines_after now old frames) refused))
     pub past : (entries bytes : ℕ) → fault ≡ faults.Full entries bytes → IsPast (limits_of after).bytes bytes (adds now (lines_after now old frames) refused)
     pub recorded : (fault ≡ faults.Memory → ⊥) → is_record (reply_at now (lines_after now old frames) refused).act ≡ true
     pub news_are : later ≡ news ++ told now old frames
@@ -96,7 +96,7 @@ module _ {J : Type 0} {G : Ghosts J} where
     pub incoming : Incoming
     pub is : IsIncoming frame.order frame.message incoming
     pub machine : new ≡ step old (calls.frame incoming at now)
-    pub refuses : Refuses box after (refused_by fault (records_of (reply_of (around old at now) old.facts incoming).act incoming))
+    pub refuses : Refuses box after [] (refused_by fault (records_of (reply_of (around old at now) old.facts incoming).act incoming))
     pub past : (entries bytes : ℕ) → fault ≡ faults.Full entries bytes → IsPast (limits_of after).bytes bytes (records_of (reply_of (around old at now) old.facts incoming).act incoming)
     pub recorded : (fault ≡ faults.Memory → ⊥) → is_record (reply_of (around old at now) old.facts incoming).act ≡ true
     pub news_are : later ≡ news
