@@ -7,9 +7,7 @@ use Rattle.gw_links.proofs.Moving.{moved_more}
 use Rattle.session_model.specs.Journal.{History}
 use Rattle.reply_laws.specs.Machine.{State}
 use Rattle.jr_record.specs.declared.journal.Journal.{Ghosts}
-use Rattle.session_model.specs.Inbox.{InboxRecord}
 use Rattle.jr_boxes.specs.declared.inbox.Inbox.{Inbox}
-use Rattle.jr_boxes.specs.Inbox.{HoldsBox}
 use Rattle.fixp_replies.specs.declared.act.Ending.{Ending}
 use Rattle.fixp_replies.specs.declared.act.Ending.TheVariants as endings
 use Rattle.conn_turns.specs.declared.news.NewsItem.{NewsItem}
@@ -21,6 +19,7 @@ use Rattle.conn_turns.specs.Frames.{added, told}
 use Rattle.conn_turns.specs.Turns.{is_end}
 use Rattle.conn_turns.specs.Exact.{Served, line_ticked}
 use Rattle.conn_steps.specs.Settling.{Gains}
+use Rattle.conn_steps.proofs.Rooms.{gains_none, refuses_none}
 use Rattle.fixp_shake.specs.declared.config.EndConfig.{EndConfig}
 use Rattle.fixp_replies.specs.declared.facts.Facts.{Facts}
 use Rattle.gate_turn.specs.Views.{Part}
@@ -156,7 +155,7 @@ module _ {J : Type 0} {G : Ghosts J} where
       taken = tt;
       refused = None;
       next = tt;
-      holds = λ i h. subst (λ (rs : List InboxRecord). HoldsBox box rs []) (sym (append-nil i)) h;
+      refuses = refuses_none box box [] (gains_none box box refl);
       past = λ entries bytes e. cc;
       recorded = tt;
       news_are = none;

@@ -11,10 +11,11 @@ use Rattle.conn_turns.specs.declared.news.NewsItem.{NewsItem}
 use Rattle.conn_turns.specs.declared.answer.TurnFault.{TurnFault}
 use Rattle.conn_turns.specs.declared.answer.TurnFault.TheVariants as faults
 use Rattle.conn_turns.specs.Lines.{Line, lines_after}
-use Rattle.conn_turns.specs.Frames.{IsDone, broken_at, is_link_over}
+use Rattle.conn_turns.specs.Frames.{IsDone, added, broken_at, is_link_over}
 use Rattle.conn_turns.specs.Turns.{bad_calls, end_calls, again_calls, live_calls, finish_calls, served_of, served_now, live_of, finish_of, calls_of_frames}
 use Rattle.conn_turns.proofs.Taking.{run_append, frames_make_calls}
 use Rattle.conn_steps.specs.Taking.{TookFrames, CutFrames}
+use Rattle.conn_steps.proofs.Rooms.{refuses_none}
 use Rattle.conn_loop.specs.Conn.{HasSeen, Looks}
 use Rattle.conn_loop.specs.Serving.{ServedOutbox}
 use Rattle.conn_loop.specs.Turned.{ServedFrames, CutShort}
@@ -105,7 +106,7 @@ module _ {J : Type 0} {G : Ghosts J} where
     taken = c.taken;
     refused = Some c.refused;
     next = c.next;
-    holds = c.refuses;
+    refuses = c.refuses;
     past = c.past;
     recorded = c.recorded;
     news_are = c.news_are;
@@ -120,7 +121,7 @@ module _ {J : Type 0} {G : Ghosts J} where
     taken = t.taken;
     refused = None;
     next = tt;
-    holds = t.gains;
+    refuses = refuses_none box after (added now old t.frames) t.gains;
     past = λ entries bytes e. absurd (never_full entries bytes e);
     recorded = tt;
     news_are = t.news_are;

@@ -8,7 +8,7 @@ use Rattle.fixp_replies.specs.Acts.{is_record}
 use Rattle.reply_laws.specs.Machine.{State, link_end, run}
 use Rattle.jr_record.specs.declared.journal.Journal.{Ghosts}
 use Rattle.jr_boxes.specs.declared.inbox.Inbox.{Inbox}
-use Rattle.jr_boxes.specs.Inbox.{HoldsBox, limits_of}
+use Rattle.jr_boxes.specs.Inbox.{limits_of}
 use Rattle.conn_turns.specs.declared.news.NewsItem.{NewsItem}
 use Rattle.conn_turns.specs.declared.answer.TurnFault.{TurnFault}
 use Rattle.conn_turns.specs.declared.answer.TurnFault.TheVariants as faults
@@ -16,7 +16,7 @@ use Rattle.conn_turns.specs.Lines.{Line, TakenFrame, IsNext, AreTaken, reply_at,
 use Rattle.conn_turns.specs.Frames.{adds, added, told}
 use Rattle.conn_turns.specs.Turns.{Work, first_calls, sending_calls, is_end}
 use Rattle.conn_turns.specs.Exact.{Served, Received, line_ticked, most_held}
-use Rattle.conn_steps.specs.Settling.{IsPast, Gains}
+use Rattle.conn_steps.specs.Settling.{IsPast, Gains, Refuses}
 use Rattle.conn_steps.specs.Taking.{refused_by}
 use Rattle.gate_turn.specs.Views.{Part}
 use Rattle.conn_steps.specs.Agreeing.{Agrees}
@@ -51,7 +51,7 @@ module _ {J : Type 0} {G : Ghosts J} where
     pub taken : AreTaken now l frames
     pub refused : Option TakenFrame
     pub next : IfSome refused (IsNext (lines_after now l frames))
-    pub holds : (i : List InboxRecord) → HoldsBox box i [] → HoldsBox after (i ++ added now l frames) (refused_of fault now (lines_after now l frames) refused)
+    pub refuses : Refuses box after (added now l frames) (refused_of fault now (lines_after now l frames) refused)
     pub past : (entries bytes : ℕ) → fault ≡ faults.Full entries bytes → IsPast (limits_of after).bytes bytes (wanted_of now (lines_after now l frames) refused)
     pub recorded : IfSome refused (λ t. (fault ≡ faults.Memory → ⊥) → is_record (reply_at now (lines_after now l frames) t).act ≡ true)
     pub news_are : later ≡ news ++ told now l frames
