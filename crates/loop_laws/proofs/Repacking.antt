@@ -1,14 +1,13 @@
 -- The parts of a turn, as the loop has them, are those of the laws.
-use Rattle.std.proofs.Common.{◌≡◌, inl, inr, ℕ, List, [], ◌++◌, sym, subst, append-nil}
+use Rattle.std.proofs.Common.{◌≡◌, inl, inr, ℕ, [], sym, subst}
 use Rattle.std.specs.Prelude.{◌||◌}
 use Rattle.session_model.specs.Journal.{History}
-use Rattle.session_model.specs.Inbox.{InboxRecord}
 use Rattle.jr_record.specs.declared.journal.Journal.{Ghosts}
 use Rattle.jr_boxes.specs.declared.inbox.Inbox.{Inbox}
-use Rattle.jr_boxes.specs.Inbox.{HoldsBox}
 use Rattle.conn_turns.specs.Lines.{Line}
 use Rattle.conn_turns.specs.Frames.{added, told}
 use Rattle.conn_steps.specs.Settling.{Gains}
+use Rattle.conn_steps.proofs.Rooms.{gains_none}
 use Rattle.conn_turns.specs.Turns.{Work, only_sends, works, link_lost, is_end}
 use Rattle.conn_turns.specs.Exact.{Served, line_ticked}
 use Rattle.conn_loop.specs.Turned.{Exchanged}
@@ -25,10 +24,6 @@ work_is_one now before seen old new behind w at served sends = record {
 }
 
 module _ {J : Type 0} {G : Ghosts J} where
-  -- an inbox that is as it was gained nothing
-  gains_none : (box since : Inbox J G) → since ≡ box → Gains box since []
-  gains_none box since is i h = subst (λ (x : Inbox J G). HoldsBox x (i ++ []) []) (sym is) (subst (λ (rs : List InboxRecord). HoldsBox box rs []) (sym (append-nil i)) h)
-
   pub turn_is_one : (box since : Inbox J G) → TurnIsOne box since
   turn_is_one box since now eager told_before later carried after before seen old new newer (inl x) = record {
     turn = only_sends now x.sent.sent x.sent.lost;
@@ -61,7 +56,7 @@ module _ {J : Type 0} {G : Ghosts J} where
     frames = k.cut.frames;
     refused = k.cut.refused;
     cut = record { over = k.over; taken = k.cut.taken; next = k.cut.next };
-    holds = k.cut.holds;
+    refuses = k.cut.refuses;
     past = k.cut.past;
     recorded = k.cut.recorded;
     news_are = k.cut.news_are;

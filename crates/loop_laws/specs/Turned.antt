@@ -1,12 +1,11 @@
 -- What the contract of the loop says of a turn, as a turn of the laws over connections.
-use Rattle.std.specs.Prelude.{◌≡◌, ℕ, Bool, true, List, [], ◌++◌, Option, IfSome}
+use Rattle.std.specs.Prelude.{◌≡◌, ℕ, Bool, true, List, [], Option, IfSome}
 use Rattle.gw_links.specs.Links.{LinkTold, Carried, Moved}
 use Rattle.session_model.specs.Journal.{History}
-use Rattle.session_model.specs.Inbox.{InboxRecord}
 use Rattle.fixp_replies.specs.Acts.{is_record}
 use Rattle.jr_record.specs.declared.journal.Journal.{Ghosts}
 use Rattle.jr_boxes.specs.declared.inbox.Inbox.{Inbox}
-use Rattle.jr_boxes.specs.Inbox.{HoldsBox, limits_of}
+use Rattle.jr_boxes.specs.Inbox.{limits_of}
 use Rattle.conn_turns.specs.declared.news.NewsItem.{NewsItem}
 use Rattle.conn_turns.specs.declared.answer.TurnFault.{TurnFault}
 use Rattle.conn_turns.specs.declared.answer.TurnFault.TheVariants as faults
@@ -14,7 +13,7 @@ use Rattle.conn_turns.specs.Lines.{Line, TakenFrame, reply_at, lines_after}
 use Rattle.conn_turns.specs.Frames.{added, told}
 use Rattle.conn_turns.specs.Turns.{Turn}
 use Rattle.conn_turns.specs.Exact.{line_ticked}
-use Rattle.conn_steps.specs.Settling.{IsPast, Gains}
+use Rattle.conn_steps.specs.Settling.{IsPast, Gains, Refuses}
 use Rattle.conn_loop.specs.Turned.{DidTurn, CutTurn, refused_of, wanted_of}
 use Rattle.turn_laws.specs.Turns.{line_received, IsTurn, IsCutShort, adds_in, tells_in}
 use Rattle.turn_laws.specs.Legs.{given_in, sent_in}
@@ -43,8 +42,7 @@ module _ {J : Type 0} {G : Ghosts J} where
     pub frames : List TakenFrame
     pub refused : Option TakenFrame
     pub cut : IsCutShort now received frames refused old
-    pub holds : (i : List InboxRecord) → HoldsBox box i []
-        → HoldsBox since (i ++ added now (line_received old now received cut.over) frames) (refused_of fault now (lines_after now (line_received old now received cut.over) frames) refused)
+    pub refuses : Refuses box since (added now (line_received old now received cut.over) frames) (refused_of fault now (lines_after now (line_received old now received cut.over) frames) refused)
     pub past : (entries bytes : ℕ) → fault ≡ faults.Full entries bytes → IsPast (limits_of since).bytes bytes (wanted_of now (lines_after now (line_received old now received cut.over) frames) refused)
     pub recorded : IfSome refused (λ t. (fault ≡ faults.Memory → ⊥) → is_record (reply_at now (lines_after now (line_received old now received cut.over) frames) t).act ≡ true)
     pub news_are : newer ≡ told now (line_received old now received cut.over) frames
