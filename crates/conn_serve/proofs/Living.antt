@@ -17,14 +17,15 @@ use Rattle.gw_links.specs.Links.{LinkTold, Carried, HasCarried, CarriedNothing, 
 use Rattle.gw_links.specs.Dialers.{DialerTold, returned}
 use Rattle.jr_record.specs.declared.journal.Journal.{Ghosts}
 use Rattle.jr_boxes.specs.declared.inbox.Inbox.{Inbox}
-use Rattle.jr_boxes.specs.Inbox.{HoldsBox, limits_of}
+use Rattle.jr_boxes.specs.Inbox.{limits_of}
 use Rattle.gate_turn.specs.Views.{Part}
 use Rattle.gate_turn.proofs.Histories.{begins_self}
 use Rattle.session_lines.specs.declared.close.Close.{Close}
 use Rattle.session_lines.specs.declared.close.Close.TheVariants as closes
 use Rattle.session_lines.specs.Lines.{connection_line}
 use Rattle.conn_turns.specs.Lines.{Line}
-use Rattle.conn_steps.specs.Settling.{IsPast, Gains}
+use Rattle.conn_steps.specs.Settling.{IsPast, Gains, Refuses}
+use Rattle.conn_steps.proofs.Rooms.{gains_none, gains_on, refuses_on, refuses_none}
 use Rattle.conn_loop.specs.Turned.{Leaves}
 use Rattle.turn_laws.specs.Legs.{TurnedLeg, given_in, sent_in, given_on, sent_on}
 use Rattle.conn_serve.specs.declared.answer.ServeFault.{ServeFault}
@@ -37,7 +38,7 @@ use Rattle.conn_serve.specs.Lines.{news_lines, close_line, lines_from}
 use Rattle.conn_serve.specs.Causes.{lacks_at, Tells}
 use Rattle.conn_serve.specs.Turned.{TurnedOn, GivenUpOn, MayBegin}
 use Rattle.conn_serve.specs.Served.{AllCame, carried_by, IsTold, IsNext, IsNextLink, IsLifeAnswer, lacks_lines, ServedLife, Lived, EndedOne, GaveOneUp, MadeNone, IsRound}
-use Rattle.conn_serve.proofs.Turning.{gains_none, gains_on, tells_on, tells_all}
+use Rattle.conn_serve.proofs.Turning.{tells_on, tells_all}
 
 -- ---- links that come back
 
@@ -189,7 +190,7 @@ module _ {J : Type 0} {G : Ghosts J} where
           news = refl;
           adds = refl;
         };
-        holds = g.holds;
+        refuses = g.refuses;
         lines = g.lines;
         came = came_so dialed between later last next.told next.left back;
         spent = g.spent;
@@ -233,7 +234,7 @@ module _ {J : Type 0} {G : Ghosts J} where
     same_out = Appends-nil out;
     same_seen = refl;
     same_machine = refl;
-    same_box = gains_none box;
+    same_box = gains_none box box refl;
   }
 
   pub round_none : {L : Type 0} (carried_of : L → Option Carried) (n : ℕ) (dialed later : Option DialerTold) (out : Option (List ℕ)) (seen : History) (m : State) (box : Inbox J G) (fault : ServeFault)
@@ -258,7 +259,7 @@ module _ {J : Type 0} {G : Ghosts J} where
   lived_none dialed out seen m box = record {
     ended = [];
     number = refl;
-    lived = record { were = (refl, refl); gains = gains_none box; lines = Appends-nil out; came = came_none dialed; tells = λ told. All-nil IsTold; followed = All-nil IsFollowed };
+    lived = record { were = (refl, refl); gains = gains_none box box refl; lines = Appends-nil out; came = came_none dialed; tells = λ told. All-nil IsTold; followed = All-nil IsFollowed };
   }
 
   gains_with : (a b c : Inbox J G) (cs : List Connection) (x : Connection) → Gains a b (adds_of cs) → Gains b c x.adds → Gains a c (adds_of (cs ++ x ∷ []))
@@ -299,7 +300,8 @@ module _ {J : Type 0} {G : Ghosts J} where
         mid = new;
         were = ended_on before middle seen m mid new l.ended x l.lived.were e.ended;
         gave_up = refl;
-        holds = subst (λ (ds : List Connection). Gains box since (adds_of ds)) (sym (append-nil cs)) (gains_with box mid_box since l.ended x l.lived.gains e.gains);
+        refuses = refuses_none box since (adds_of (cs ++ []))
+            (subst (λ (ds : List Connection). Gains box since (adds_of ds)) (sym (append-nil cs)) (gains_with box mid_box since l.ended x l.lived.gains e.gains));
         lines = subst (λ (ds : List Connection). Tells (lacks_lines result) out now_out (lines_from 1 ds)) (sym (append-nil cs)) (lines_so (lacks_lines result) n out mid_out now_out l.ended x l.number l.lived.lines e.lines);
         came = subst (λ (ds : List Connection). AllCame dialed later (carried_by ds)) (sym (append-nil cs)) (came_with dialed between later l.ended x l.lived.came e.came);
         tells = told_with dialed between later l.ended x l.lived.came l.lived.tells e.tells;
@@ -323,10 +325,8 @@ module _ {J : Type 0} {G : Ghosts J} where
         mid = mid;
         were = l.lived.were;
         gave_up = (g.last, g.is, g.unclosed);
-        holds = λ i h.
-            subst (λ (rs : List InboxRecord). HoldsBox since (i ++ rs) (x.refused ++ [])) (sym (adds_append l.ended x))
-            (subst (λ (rs : List InboxRecord). HoldsBox since rs (x.refused ++ [])) (append_assoc i (adds_of l.ended) x.adds)
-            (subst (HoldsBox since ((i ++ adds_of l.ended) ++ x.adds)) (sym (append-nil x.refused)) (g.holds (i ++ adds_of l.ended) (l.lived.gains i h))));
+        refuses = subst (λ (rs : List InboxRecord). Refuses box since rs (x.refused ++ [])) (sym (adds_append l.ended x))
+            (subst (Refuses box since (adds_of l.ended ++ x.adds)) (sym (append-nil x.refused)) (refuses_on box mid_box since (adds_of l.ended) x.adds x.refused l.lived.gains g.refuses));
         lines = lines_so (lacks_lines result) n out mid_out now_out l.ended x l.number l.lived.lines (subst (λ (b : Bool). Tells b mid_out now_out (news_lines x.news ++ close_line n x.close)) lacking told);
         came = came_with dialed between later l.ended x l.lived.came g.came;
         tells = l.lived.tells;
@@ -347,8 +347,8 @@ module _ {J : Type 0} {G : Ghosts J} where
         mid = mid;
         were = l.lived.were;
         gave_up = none.same_seen;
-        holds = λ i h. subst (λ (ds : List Connection). HoldsBox since (i ++ adds_of ds) []) (sym (append-nil cs))
-            (subst (λ (rs : List InboxRecord). HoldsBox since rs []) (append-nil (i ++ adds_of cs)) (none.same_box (i ++ adds_of cs) (l.lived.gains i h)));
+        refuses = refuses_none box since (adds_of (cs ++ [])) (subst (λ (ds : List Connection). Gains box since (adds_of ds)) (sym (append-nil cs))
+            (subst (Gains box since) (append-nil (adds_of cs)) (gains_on box mid_box since (adds_of cs) [] l.lived.gains none.same_box)));
         lines = subst (λ (ds : List Connection). Tells (lacks_lines result) out now_out (lines_from 1 ds)) (sym (append-nil cs))
             (tells_all (lacks_lines result) out now_out (lines_from 1 cs) (subst (Appends out now_out) (append-nil (lines_from 1 cs)) (Appends-trans out mid_out now_out (lines_from 1 cs) [] l.lived.lines none.same_out)));
         came = subst (λ (ds : List Connection). AllCame dialed later (carried_by ds)) (sym (append-nil cs)) (subst (AllCame dialed later) (append-nil (carried_by cs)) (came_on dialed between later (carried_by cs) [] l.lived.came none.same_dialer));

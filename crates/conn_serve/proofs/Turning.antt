@@ -13,7 +13,6 @@ use Rattle.gw_links.specs.Links.{LinkTold, Carried, Moved}
 use Rattle.gw_links.proofs.Moving.{moved_none, moved_more}
 use Rattle.jr_record.specs.declared.journal.Journal.{Ghosts}
 use Rattle.jr_boxes.specs.declared.inbox.Inbox.{Inbox}
-use Rattle.jr_boxes.specs.Inbox.{HoldsBox}
 use Rattle.gate_turn.proofs.Histories.{begins_self}
 use Rattle.conn_turns.specs.declared.news.NewsItem.{NewsItem}
 use Rattle.conn_turns.specs.Lines.{Line, TakenFrame, AreTaken, size_of, line_after, lines_after}
@@ -23,8 +22,9 @@ use Rattle.conn_turns.specs.Turns.{Turn, only_sends, works, link_lost, cut_short
 use Rattle.fixp_shake.specs.declared.config.EndConfig.{EndConfig}
 use Rattle.fixp_replies.specs.declared.facts.EndState.{EndState}
 use Rattle.reply_laws.specs.Machine.{State}
-use Rattle.conn_steps.specs.Settling.{Gains}
+use Rattle.conn_steps.specs.Settling.{Gains, Refuses}
 use Rattle.conn_steps.specs.Agreeing.{Agrees}
+use Rattle.conn_steps.proofs.Rooms.{gains_none, gains_on, refuses_on, refuses_none}
 use Rattle.conn_loop.specs.Conn.{line_begun}
 use Rattle.turn_laws.specs.Turns.{IsTurn, adds_in, tells_in}
 use Rattle.turn_laws.specs.Legs.{given_in, sent_in}
@@ -135,12 +135,6 @@ full_turn (turn_faults.Full n m) entries bytes e = cc
 full_turn turn_faults.Memory entries bytes e = cc
 
 module _ {J : Type 0} {G : Ghosts J} where
-  pub gains_none : (box : Inbox J G) → Gains box box []
-  gains_none box i h = subst (λ (rs : List InboxRecord). HoldsBox box rs []) (sym (append-nil i)) h
-
-  pub gains_on : (a b c : Inbox J G) (adds more : List InboxRecord) → Gains a b adds → Gains b c more → Gains a c (adds ++ more)
-  gains_on a b c adds more first later i h = subst (λ (rs : List InboxRecord). HoldsBox c rs []) (append_assoc i adds more) (later (i ++ adds) (first i h))
-
   -- ---- what a turn told is short
 
   pub was_short : (told later : Option LinkTold) (carried after : Option Carried) (before seen : History) (old new : Line) (box since : Inbox J G) (news : List NewsItem)
@@ -159,7 +153,7 @@ module _ {J : Type 0} {G : Ghosts J} where
     adds = [];
     many = refl;
     were = (refl, refl, refl, refl);
-    gains = gains_none box;
+    gains = gains_none box box refl;
     moved = moved_none told carried;
     lines = Appends-nil out;
   }
@@ -222,7 +216,7 @@ module _ {J : Type 0} {G : Ghosts J} where
     refused = [];
     wanted = [];
     is_cut = (refl, refl, refl, refl);
-    holds = λ i h. subst (λ (rs : List InboxRecord). HoldsBox since (i ++ rs) []) (sym (append-nil t.adds)) (t.gains i h);
+    refuses = refuses_none box since (t.adds ++ []) (subst (Gains box since) (sym (append-nil t.adds)) t.gains);
     lines = tells_all (lacks_at why) out now_out _ (subst (λ (ns : List NewsItem). Appends out now_out (news_lines ns)) (sym (append-nil t.news)) t.lines);
     spent = λ e. record { many = t.many ∙ (turns e).0; unended = (turns e).1; whole = refl };
     cut_short = (λ e. absurd (no_journal e), λ entries bytes e. absurd (no_full entries bytes e));
@@ -248,7 +242,7 @@ module _ {J : Type 0} {G : Ghosts J} where
     refused = [];
     wanted = [];
     is_cut = (refl, refl, refl, refl);
-    holds = λ i h. subst (λ (rs : List InboxRecord). HoldsBox since (i ++ rs) []) (sym (append-nil (adds_in old was.turn))) (was.gains i h);
+    refuses = refuses_none box since (adds_in old was.turn ++ []) (subst (Gains box since) (sym (append-nil (adds_in old was.turn))) was.gains);
     lines = subst (λ (ns : List NewsItem). Tells (lacks fault) out now_out (news_lines ns)) (was.news_are ∙ sym (append-nil (tells_in old was.turn))) lines;
     spent = λ e. by_kind which (inl (cc));
     cut_short = (λ e. by_kind which (inr (inl (cc))), λ entries bytes e. by_kind which (inr (inr (entries, bytes, cc))));
@@ -281,7 +275,7 @@ module _ {J : Type 0} {G : Ghosts J} where
     refused = _;
     wanted = _;
     is_cut = record { now = c.now; received = c.cut.received; frames = c.cut.frames; next = c.cut.refused; fault = c.fault; is = refl; cut = c.cut.cut; news_are = c.cut.news_are; adds_are = refl; refused_are = refl; wanted_are = refl };
-    holds = c.cut.holds;
+    refuses = c.cut.refuses;
     lines = lines;
     spent = λ e. absurd (no_turns (cc));
     cut_short = (λ e. refl, λ entries bytes e. refl);
@@ -306,9 +300,8 @@ module _ {J : Type 0} {G : Ghosts J} where
     refused = y.refused;
     wanted = y.wanted;
     is_cut = y.is_cut;
-    holds = λ i h.
-        subst (λ (rs : List InboxRecord). HoldsBox since rs y.refused) (append_assoc i x.adds (y.adds ++ y.cut_added) ∙ ap (λ (rs : List InboxRecord). i ++ rs) (sym (append_assoc x.adds y.adds y.cut_added)))
-        (y.holds (i ++ x.adds) (x.gains i h));
+    refuses = subst (λ (rs : List InboxRecord). Refuses box since rs y.refused) (sym (append_assoc x.adds y.adds y.cut_added))
+        (refuses_on box mid_box since x.adds (y.adds ++ y.cut_added) y.refused x.gains y.refuses);
     lines = subst (Tells (lacks_at why) out now_out) (sym (ap news_lines (append_assoc x.news y.news y.cut_told) ∙ lines_on x.news (y.news ++ y.cut_told)))
         (tells_on (lacks_at why) out mid_out now_out (news_lines x.news) (news_lines (y.news ++ y.cut_told)) x.lines y.lines);
     spent = λ e. absurd (no_turns e);

@@ -2,7 +2,6 @@
 use Rattle.std.specs.Prelude.{⊤, ◌≡◌, ◌⊎◌, ℕ, ◌+◌, ◌-◌, ◌<◌, Bool, true, false, All, List, [], ◌∷◌, ◌++◌, map, length, Option, Some, None, IsSome, IfSome, IsTrue, is_some, option_to_list, Result, Ok, Err}
 use Rattle.std.specs.Io.KnownBytes.{Appends}
 use Rattle.session_model.specs.Journal.{History}
-use Rattle.session_model.specs.Inbox.{InboxRecord}
 use Rattle.fixp_replies.specs.declared.act.Ending.TheVariants as endings
 use Rattle.reply_laws.specs.Machine.{State, phase_of}
 use Rattle.std.specs.Option.{option_map}
@@ -10,11 +9,11 @@ use Rattle.gw_links.specs.Links.{Carried, CarriedNothing}
 use Rattle.gw_links.specs.Dialers.{DialerTold}
 use Rattle.jr_record.specs.declared.journal.Journal.{Ghosts}
 use Rattle.jr_boxes.specs.declared.inbox.Inbox.{Inbox}
-use Rattle.jr_boxes.specs.Inbox.{HoldsBox, limits_of}
+use Rattle.jr_boxes.specs.Inbox.{limits_of}
 use Rattle.session_lines.specs.declared.close.Close.{Close}
 use Rattle.session_lines.specs.declared.close.Close.TheVariants as closes
 use Rattle.conn_turns.specs.Lines.{Line}
-use Rattle.conn_steps.specs.Settling.{IsPast, Gains}
+use Rattle.conn_steps.specs.Settling.{IsPast, Gains, Refuses}
 use Rattle.conn_serve.specs.declared.answer.ServeFault.{ServeFault}
 use Rattle.conn_serve.specs.declared.answer.ServeFault.TheVariants as faults
 use Rattle.conn_serve.specs.declared.answer.LifeEnd.{LifeEnd}
@@ -110,7 +109,7 @@ module _ {J : Type 0} {G : Ghosts J} where
     pub mid : State
     pub were : AllEnded before behind m mid ended
     pub gave_up : WasGivenUp behind seen mid given_up
-    pub holds : (i : List InboxRecord) → HoldsBox box i [] → HoldsBox since (i ++ adds_of (ended ++ option_to_list given_up)) (refused_of_all (option_to_list given_up))
+    pub refuses : Refuses box since (adds_of (ended ++ option_to_list given_up)) (refused_of_all (option_to_list given_up))
     pub lines : Tells (lacks_lines result) out now_out (lines_from 1 (ended ++ option_to_list given_up))
     pub came : AllCame dialed later (carried_by (ended ++ option_to_list given_up))
     pub tells : IsTrue (is_some dialed) → All IsTold ended
@@ -142,7 +141,7 @@ module _ {J : Type 0} {G : Ghosts J} where
     pub unclosed : connection.close ≡ None
     pub last : Line
     pub is : IsConnection before seen m last connection
-    pub holds : (i : List InboxRecord) → HoldsBox box i [] → HoldsBox since (i ++ connection.adds) connection.refused
+    pub refuses : Refuses box since connection.adds connection.refused
     pub lines : Tells (lacks_at why) out now_out (news_lines connection.news)
     pub came : AllCame dialed later (connection.carried ∷ [])
     pub spent : why ≡ Some faults.Turns → IsSpent last connection.leg.turns connection.leg.cut

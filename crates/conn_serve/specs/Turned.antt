@@ -1,5 +1,5 @@
 -- What is known of a connection while its turns are made, and where it is given up (this project's profile).
-use Rattle.std.specs.Prelude.{◌≡◌, ℕ, ◌^◌, ◌<◌, ◌≤◌, true, List, [], ◌++◌, length, Option, Some, None, IsSome, Err}
+use Rattle.std.specs.Prelude.{◌≡◌, ℕ, ◌^◌, ◌<◌, ◌≤◌, true, List, ◌++◌, length, Option, Some, None, IsSome, Err}
 use Rattle.std.specs.List.{flat_map}
 use Rattle.std.specs.Io.KnownBytes.{Appends}
 use Rattle.session_model.specs.Journal.{History, BeginsHistory}
@@ -8,13 +8,13 @@ use Rattle.reply_laws.specs.Machine.{State}
 use Rattle.gw_links.specs.Links.{LinkTold, Carried, Moved}
 use Rattle.jr_record.specs.declared.journal.Journal.{Ghosts}
 use Rattle.jr_boxes.specs.declared.inbox.Inbox.{Inbox}
-use Rattle.jr_boxes.specs.Inbox.{HoldsBox, limits_of}
+use Rattle.jr_boxes.specs.Inbox.{limits_of}
 use Rattle.gate_turn.specs.Views.{Part}
 use Rattle.conn_turns.specs.declared.news.NewsItem.{NewsItem}
 use Rattle.conn_turns.specs.Lines.{Line}
 use Rattle.conn_turns.specs.Turns.{Turn}
 use Rattle.conn_turns.specs.declared.answer.TurnFault.{TurnFault}
-use Rattle.conn_steps.specs.Settling.{IsPast, Gains}
+use Rattle.conn_steps.specs.Settling.{IsPast, Gains, Refuses}
 use Rattle.conn_steps.specs.Agreeing.{Agrees}
 use Rattle.conn_loop.specs.Conn.{HasSeen}
 use Rattle.turn_laws.specs.Legs.{given_in, sent_in, first_line}
@@ -68,7 +68,7 @@ module _ {J : Type 0} {G : Ghosts J} where
     pub refused : List InboxRecord
     pub wanted : List InboxRecord
     pub is_cut : CutAt last cut cut_told cut_added refused wanted
-    pub holds : (i : List InboxRecord) → HoldsBox box i [] → HoldsBox since (i ++ (adds ++ cut_added)) refused
+    pub refuses : Refuses box since (adds ++ cut_added) refused
     pub lines : Tells (lacks_at why) out now_out (news_lines (news ++ cut_told))
     pub spent : why ≡ Some faults.Turns → IsSpent last turns cut
     pub cut_short : (why ≡ Some faults.Journal → IsSome cut) × ((entries bytes : ℕ) → why ≡ Some (faults.Full entries bytes) → IsSome cut)
