@@ -153,5 +153,5 @@ module _ {J : Type 0} {G : Ghosts J} where
         turns = all.turns;
         machine = b.machine;
         adds = all.adds;
-        holds = subst (λ (rs : List InboxRecord). HoldsBox since rs (refused_of_all (option_to_list k.given_up))) (sym all.adds) (k.holds i holds);
+        holds = subst (λ (rs : List InboxRecord). HoldsBox since rs (refused_of_all (option_to_list k.given_up))) (sym all.adds) (k.refuses.holds i holds);
       }
