@@ -31,7 +31,7 @@ use Rattle.jr_boxes.specs.Outbox as outboxes
 use Rattle.jr_boxes.specs.Inbox as inboxes
 use Rattle.jr_boxes.proofs.Kept.{length-places}
 use Rattle.gate_turn.specs.Views.{Limits}
-use Rattle.conn_steps.specs.Settling.{IsPast}
+use Rattle.conn_steps.specs.Settling.{IsPast, HaveRoom}
 use Rattle.conn_serve.specs.declared.answer.ServeFault.{ServeFault}
 use Rattle.conn_serve.specs.Connections.{adds_of, refused_of_all, wanted_of_all}
 use Rattle.conn_serve.specs.Opening.{opened_state}
@@ -124,7 +124,15 @@ module _ {D J : Type 0} {H : Ghosts J} (outbox : Outbox J H) (told : D → Optio
     list = i.inbox ++ adds_of (all_of l.served.ended l.served.given_up)
 
     held : inboxes.HoldsBox since list (refused_of_all (option_to_list l.served.given_up))
-    held = l.served.holds i.inbox i.holds
+    held = l.served.refuses.holds i.inbox i.holds
+
+    -- what was added had room behind what the inbox's journal took as it opened
+    room : HaveRoom (2 ^ 30) (journal_size (records_of_inbox i.inbox)) (adds_of (all_of l.served.ended l.served.given_up) ++ refused_of_all (option_to_list l.served.given_up))
+    room = subst (λ (n : ℕ). HaveRoom n (journal_size (records_of_inbox i.inbox)) records) in_limit
+        (subst (λ (n : ℕ). HaveRoom (inboxes.limits_of box).bytes n records) (sym (sizes (inboxes.journal_of box) (records_of_inbox i.inbox) i.holds.journal.stands_for)) l.served.refuses.room)
+      where
+        records : List InboxRecord
+        records = adds_of (all_of l.served.ended l.served.given_up) ++ refused_of_all (option_to_list l.served.given_up)
 
     abbrev wanted : List InboxRecord
     wanted = wanted_of_all (option_to_list l.served.given_up)
@@ -159,6 +167,7 @@ module _ {D J : Type 0} {H : Ghosts J} (outbox : Outbox J H) (told : D → Optio
       contract = record { connections = connections; outbox = outbox_is_kept };
       out_left = out_left;
       in_left = λ image left. held.journal.images image (leaves_are (inboxes.journal_of since) image (subst (λ (d : D). Leaves (may_leave d) image) now_in_is left));
+      room = room;
       marked = l.marked;
       journal = λ e. ⊎_elim
           (λ risen. inr (risen_over (disk in_disk) (disk now_in_disk) (inboxes.faults_of box) (inboxes.faults_of since) in_least (sym in_count) risen))

@@ -134,7 +134,7 @@ module _ {J : Type 0} {G : Ghosts J} {O : Type 0} {H : Ghosts O} (dialed later :
     mid = s.mid;
     were = s.were;
     gave_up = s.gave_up;
-    holds = s.holds;
+    refuses = s.refuses;
     lines = tells_earlier (lacks_lines result) old out now_out (lines_from 1 (s.ended ++ option_to_list s.given_up)) h s.lines;
     came = s.came;
     tells = s.tells;

@@ -23,7 +23,7 @@ use Rattle.jr_boxes.specs.Inbox as inboxes
 use Rattle.command_base.specs.declared.status.Status.{Status}
 use Rattle.command_base.specs.declared.status.Status.TheVariants.{Done, OutputFault, JournalFault, DialFault, Unfinished, Rejected, Full, Turns, Memory}
 use Rattle.gate_turn.specs.Views.{Limits}
-use Rattle.conn_steps.specs.Settling.{IsPast}
+use Rattle.conn_steps.specs.Settling.{IsPast, HaveRoom}
 use Rattle.conn_serve.specs.declared.answer.ServeFault.{ServeFault}
 use Rattle.conn_serve.specs.declared.answer.ServeFault.TheVariants as faults
 use Rattle.conn_serve.specs.declared.answer.LifeEnd.{LifeEnd}
@@ -96,7 +96,8 @@ module _ {J : Type 0} {G : Ghosts J} where
 
   -- One life over both journals. They held a history and a list; what serves its connections is a machine that is made of both; and it keeps
   -- the contract of one end, by these plans. What is left are the records of the closing history and list, and in the inbox a beginning
-  -- of those refused. Why it answers so: the connections and the refusal say it (`IsLifeAnswer`, `answer_of`), and the counts
+  -- of those refused. Every record that the life added to its inbox had room, and so had the one whose append the disk failed. Why it
+  -- answers so: the connections and the refusal say it (`IsLifeAnswer`, `answer_of`), and the counts
   pub record LivedOver {D : Type 0} (told : D → Option (List ℕ)) (may_leave : D → List ℕ → Type 0) (disk : D → ℕ) (config : EndConfig) (plans : List (List (List ℕ))) (dialed later : Option DialerTold) (out now_out : Option (List ℕ)) (out_disk now_out_disk in_disk now_in_disk : D) (box since : Inbox J G) (result : Result (Unit {0}) ServeFault) : Type 0 where
     pub opening : History
     pub closing : History
@@ -114,6 +115,7 @@ module _ {J : Type 0} {G : Ghosts J} where
     pub contract : KeepsContract (model_flow config.own_flow) (model_flow config.peer_flow) (plan_in plans) (life_in (machine_life life.life))
     pub out_left : (HasRisen (disk out_disk) (disk now_out_disk) → ⊥) → ∥ LeavesImages (may_leave now_out_disk) (records_of_history closing) [] ∥₁
     pub in_left : LeavesImages (may_leave now_in_disk) (records_of_inbox (inbox ++ adds_of (all_of served.ended served.given_up))) (records_of_inbox (refused_of_all (option_to_list served.given_up)))
+    pub room : HaveRoom (2 ^ 30) (journal_size (records_of_inbox inbox)) (adds_of (all_of served.ended served.given_up) ++ refused_of_all (option_to_list served.given_up))
     pub marked : IsUnrefused result → 0 < length plans → closing.finished ≡ true
     pub journal : result ≡ Err faults.Journal → HasRisen (disk out_disk) (disk now_out_disk) ⊎ HasRisen (disk in_disk) (disk now_in_disk)
     pub full : (entries bytes : ℕ) → result ≡ Err (faults.Full entries bytes) → FullInbox (inbox ++ adds_of (all_of served.ended served.given_up)) (wanted_of_all (option_to_list served.given_up)) entries bytes ⊎ WasFull limits opening closing entries bytes
