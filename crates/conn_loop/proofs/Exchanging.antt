@@ -88,10 +88,10 @@ goes_still now old l new g limit begun done untold moment config facts small k s
 }
 
 module _ {J : Type 0} {G : Ghosts J} where
-  pub did_work : (now : ℕ) (eager : Bool) (told_before told_between later : Option LinkTold) (carried carried_between after : Option Carried) (before seen : History) (l r mid new : Line) (got : Option Got) (box since : Inbox J G) (news newer : List NewsItem)
-      → ReceivedOnce eager told_before told_between carried carried_between l r got → ServedFrames now before seen r mid box since news newer → SentOnce told_between later carried_between after mid new
-      → DidWork now eager told_before later carried after before seen l new box since news newer
-  did_work now eager told_before told_between later carried carried_between after before seen l r mid new got box since news newer x y z =
+  pub did_work : (now : ℕ) (eager : Bool) (told_before told_between later : Option LinkTold) (carried carried_between after : Option Carried) (before seen : History) (l r mid new : Line) (result : Result TurnEnd TurnFault) (got : Option Got) (box since : Inbox J G) (news newer : List NewsItem)
+      → ReceivedOnce eager told_before told_between carried carried_between l r got → ServedFrames now before seen r mid box since news newer → SentOnce told_between later carried_between after mid new result
+      → DidWork now eager told_before later carried after before seen l new result box since news newer
+  did_work now eager told_before told_between later carried carried_between after before seen l r mid new result got box since news newer x y z =
       let s : Served before seen (record l { held = l.held ++ x.received; over = l.over || is_end got }) mid y.work = subst (λ (k : Line). Served before seen k mid y.work) x.line y.served in
       record {
         work = record y.work { got = got; received = x.received; sent = z.sent; lost = z.lost };
@@ -119,6 +119,8 @@ module _ {J : Type 0} {G : Ghosts J} where
         front = z.front;
         whole = z.whole;
         full = z.full;
+        answer = z.answer;
+        kept = z.kept;
         line = z.line;
         gains = subst (λ (k : Line). Gains box since (added now k y.work.frames)) x.line y.gains;
         news_are = subst (λ (k : Line). newer ≡ news ++ told now k y.work.frames) x.line y.news_are;
@@ -162,25 +164,25 @@ module _ {J : Type 0} {G : Ghosts J} where
     };
   }
 
-  pub only_sent : (now n : ℕ) (eager : Bool) (told_before later : Option LinkTold) (carried after : Option Carried) (seen : History) (old l new : Line) (box : Inbox J G) (newer : List NewsItem) → now ≡ n → l ≡ line_ticked old now
-      → (old.machine.unsent ≢ []) ⊎ IsSome l.machine.ending → SentOnce told_before later carried after l new → newer ≡ [] → DidTurn n eager told_before later carried after seen seen old new box box newer
-  only_sent now n eager told_before later carried after seen old l new box newer is ticks why sent none = inl (record {
+  pub only_sent : (now n : ℕ) (eager : Bool) (told_before later : Option LinkTold) (carried after : Option Carried) (seen : History) (old l new : Line) (result : Result TurnEnd TurnFault) (box : Inbox J G) (newer : List NewsItem) → now ≡ n → l ≡ line_ticked old now
+      → (old.machine.unsent ≢ []) ⊎ IsSome l.machine.ending → SentOnce told_before later carried after l new result → newer ≡ [] → DidTurn n eager told_before later carried after seen seen old new result box box newer
+  only_sent now n eager told_before later carried after seen old l new result box newer is ticks why sent none = inl (record {
     why = subst (λ (k : ℕ). (old.machine.unsent ≢ []) ⊎ IsSome (line_ticked old k).machine.ending) is (subst (λ (x : Line). (old.machine.unsent ≢ []) ⊎ IsSome x.machine.ending) ticks why);
-    sent = subst (λ (k : ℕ). SentOnce told_before later carried after (line_ticked old k) new) is (subst (λ (x : Line). SentOnce told_before later carried after x new) ticks sent);
+    sent = subst (λ (k : ℕ). SentOnce told_before later carried after (line_ticked old k) new result) is (subst (λ (x : Line). SentOnce told_before later carried after x new result) ticks sent);
     same_box = refl;
     no_news = none;
     same_seen = refl;
   })
 
-  pub did_more : (now n : ℕ) (eager : Bool) (told_before later : Option LinkTold) (carried after : Option Carried) (before seen : History) (old l new : Line) (box since : Inbox J G) (news newer : List NewsItem) → now ≡ n → l ≡ line_ticked old now
-      → old.machine.unsent ≡ [] → l.machine.ending ≡ None → news ≡ [] → Exchanged now eager told_before later carried after before seen l new box since news newer
-      → DidTurn n eager told_before later carried after before seen old new box since newer
-  did_more now n eager told_before later carried after before seen old l new box since news newer is ticks idle goes none x = inr (record {
+  pub did_more : (now n : ℕ) (eager : Bool) (told_before later : Option LinkTold) (carried after : Option Carried) (before seen : History) (old l new : Line) (result : Result TurnEnd TurnFault) (box since : Inbox J G) (news newer : List NewsItem) → now ≡ n → l ≡ line_ticked old now
+      → old.machine.unsent ≡ [] → l.machine.ending ≡ None → news ≡ [] → Exchanged now eager told_before later carried after before seen l new result box since news newer
+      → DidTurn n eager told_before later carried after before seen old new result box since newer
+  did_more now n eager told_before later carried after before seen old l new result box since news newer is ticks idle goes none x = inr (record {
     idle = idle;
     unended = subst (λ (k : ℕ). (line_ticked old k).machine.ending ≡ None) is (subst (λ (y : Line). y.machine.ending ≡ None) ticks goes);
-    exchanged = subst (λ (k : ℕ). Exchanged k eager told_before later carried after before seen (line_ticked old k) new box since [] newer) is
-        (subst (λ (y : Line). Exchanged now eager told_before later carried after before seen y new box since [] newer) ticks
-        (subst (λ (ns : List NewsItem). Exchanged now eager told_before later carried after before seen l new box since ns newer) none x));
+    exchanged = subst (λ (k : ℕ). Exchanged k eager told_before later carried after before seen (line_ticked old k) new result box since [] newer) is
+        (subst (λ (y : Line). Exchanged now eager told_before later carried after before seen y new result box since [] newer) ticks
+        (subst (λ (ns : List NewsItem). Exchanged now eager told_before later carried after before seen l new result box since ns newer) none x));
   })
 
   pub cut_as : (now n : ℕ) (old l : Line) (box since : Inbox J G) (news newer : List NewsItem) (r : Result TurnEnd TurnFault) → now ≡ n → l ≡ line_ticked old now → news ≡ []

@@ -1,5 +1,5 @@
 -- What a turn receives and sends over its link (this project's profile).
-use Rattle.std.specs.Prelude.{◌≡◌, ℕ, ◌+◌, ◌<◌, ◌||◌, Bool, false, List, [], ◌++◌, length, Option, Some, None, IfSome, Result, Ok, Err}
+use Rattle.std.specs.Prelude.{◌≡◌, ℕ, ◌+◌, ◌<◌, ◌||◌, Bool, false, List, [], ◌++◌, length, Option, Some, None, IfSome, Result, Ok, Err, true}
 use mathlib.Core.List.{IsPrefix}
 use Rattle.gw_links.specs.declared.link.Got.{Got}
 use Rattle.gw_links.specs.Links.{LinkTold, Carried, Moved}
@@ -20,18 +20,21 @@ pub record ReceivedOnce (eager : Bool) (told later : Option LinkTold) (carried a
   pub found : (room : ℕ) → room + length old.held ≡ most_held → Received eager told room received got
   pub moved : Moved told later carried after received []
 
--- a front of what was unsent was sent: as much as the link took, or, where it failed, some front
-pub record SentOnce (told later : Option LinkTold) (carried after : Option Carried) (old new : Line) : Type 0 where
+-- a turn answers so of a machine whose link failed in this state: the fault, only where the connection had not ended before and ends
+-- as one whose link has ended; and else, as where both finishes were exchanged, how it ended
+abbrev pub IsLossOf : State → State → Result TurnEnd TurnFault → Type 0
+IsLossOf old new (Ok end) = end ≡ answer_of new.ending
+IsLossOf old new (Err fault) = (fault ≡ faults.Link) × (old.ending ≡ None) × (new.ending ≡ Some endings.LinkEnded)
+
+-- a front of what was unsent was sent: as much as the link took, or, where it failed, some front. Where it failed, the answer is that
+-- of a loss, and else how the connection then stands
+pub record SentOnce (told later : Option LinkTold) (carried after : Option Carried) (old new : Line) (result : Result TurnEnd TurnFault) : Type 0 where
   pub sent : List ℕ
   pub lost : Bool
   pub front : IsPrefix sent old.machine.unsent
   pub line : new ≡ record old { machine = run old.machine (sending_calls sent lost) }
   pub whole : lost ≡ false → old.machine.unsent ≡ sent ++ new.machine.unsent
   pub full : lost ≡ false → 0 < length new.machine.unsent → IfSome later (λ t. t.room ≡ 0)
+  pub answer : lost ≡ true → IsLossOf old.machine new.machine result
+  pub kept : lost ≡ false → result ≡ Ok (answer_of new.machine.ending)
   pub moved : Moved told later carried after [] sent
-
--- a turn answers so of a machine whose link failed in this state: the fault, where the connection had not ended before and ends as
--- one whose link has ended; and else, as where both finishes were exchanged, how it ended
-abbrev pub IsLossOf : State → State → Result TurnEnd TurnFault → Type 0
-IsLossOf old new (Ok end) = end ≡ answer_of new.ending
-IsLossOf old new (Err fault) = (fault ≡ faults.Link) × (old.ending ≡ None) × (new.ending ≡ Some endings.LinkEnded)

@@ -52,8 +52,8 @@ impl Conn {
         ensures own { IsPassAt gate.now pass.new }
         ensures free { IsFree pass.new }
         ensures looks { Looks (known pass.old) (known pass.new) }
-        ensures did { OnOk result (Exchanged now L.eager (L.told link.old) (L.told link.new) (L.carried link.old) (L.carried link.new) (known pass.old).seen (known pass.new).seen (line_of self.old) (line_of self.new) inbox.old inbox.new (items_of news.old) (items_of news.new)) }
-        ensures lost { result ≡ Err faults.Link → Exchanged now L.eager (L.told link.old) (L.told link.new) (L.carried link.old) (L.carried link.new) (known pass.old).seen (known pass.new).seen (line_of self.old) (line_of self.new) inbox.old inbox.new (items_of news.old) (items_of news.new) }
+        ensures did { OnOk result (Exchanged now L.eager (L.told link.old) (L.told link.new) (L.carried link.old) (L.carried link.new) (known pass.old).seen (known pass.new).seen (line_of self.old) (line_of self.new) result inbox.old inbox.new (items_of news.old) (items_of news.new)) }
+        ensures lost { result ≡ Err faults.Link → Exchanged now L.eager (L.told link.old) (L.told link.new) (L.carried link.old) (L.carried link.new) (known pass.old).seen (known pass.new).seen (line_of self.old) (line_of self.new) result inbox.old inbox.new (items_of news.old) (items_of news.new) }
         ensures cut { IfErr result (λ fault. (fault ≡ faults.Link → ⊥) → CutTurn now (line_of self.old) inbox.old inbox.new (items_of news.old) (items_of news.new) fault) }
         ensures answer { IfOk result (λ end. end ≡ answer_of (line_of self.new).machine.ending) }
         ensures goes { result ≡ Ok ends.Go → GoesOn (line_of self.new).machine }
@@ -106,8 +106,8 @@ impl Conn {
         ensures own { IsPassAt gate.now pass.new }
         ensures free { IsFree pass.new }
         ensures looks { Looks (known pass.old) (known pass.new) }
-        ensures did { OnOk result (DidTurn (max (C.last clock.new) (line_of self.old).machine.moment) L.eager (L.told link.old) (L.told link.new) (L.carried link.old) (L.carried link.new) (known pass.old).seen (known pass.new).seen (line_of self.old) (line_of self.new) inbox.old inbox.new (items_of news.new)) }
-        ensures lost { result ≡ Err faults.Link → DidTurn (max (C.last clock.new) (line_of self.old).machine.moment) L.eager (L.told link.old) (L.told link.new) (L.carried link.old) (L.carried link.new) (known pass.old).seen (known pass.new).seen (line_of self.old) (line_of self.new) inbox.old inbox.new (items_of news.new) }
+        ensures did { OnOk result (DidTurn (max (C.last clock.new) (line_of self.old).machine.moment) L.eager (L.told link.old) (L.told link.new) (L.carried link.old) (L.carried link.new) (known pass.old).seen (known pass.new).seen (line_of self.old) (line_of self.new) result inbox.old inbox.new (items_of news.new)) }
+        ensures lost { result ≡ Err faults.Link → DidTurn (max (C.last clock.new) (line_of self.old).machine.moment) L.eager (L.told link.old) (L.told link.new) (L.carried link.old) (L.carried link.new) (known pass.old).seen (known pass.new).seen (line_of self.old) (line_of self.new) result inbox.old inbox.new (items_of news.new) }
         ensures cut { IfErr result (λ fault. (fault ≡ faults.Link → ⊥) → CutTurn (max (C.last clock.new) (line_of self.old).machine.moment) (line_ticked (line_of self.old) (max (C.last clock.new) (line_of self.old).machine.moment)) inbox.old inbox.new [] (items_of news.new) fault) }
         ensures answer { IfOk result (λ end. end ≡ answer_of (line_of self.new).machine.ending) }
         ensures goes { result ≡ Ok ends.Go → GoesOn (line_of self.new).machine }

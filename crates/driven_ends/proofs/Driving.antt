@@ -138,16 +138,16 @@ module _ {J : Type 0} {G : Ghosts J} where
   rests m p box some l = record { over = λ _. some; time = l.time; sent = l.sent; credentials = l.credentials; seen = l.seen; agrees = l.agrees }
 
   -- a turn moves the place by the bytes of at most 16 frames
-  worked_place : (box since : Inbox J G) (now : ℕ) (eager : Bool) (told later : Option LinkTold) (carried after : Option Carried) (before seen : History) (l new : Line) (news newer : List NewsItem)
-      → Exchanged now eager told later carried after before seen l new box since news newer → new.place ≤ l.place + 262240
-  worked_place box since now eager told later carried after before seen l new news newer (inl w) =
+  worked_place : (box since : Inbox J G) (now : ℕ) (eager : Bool) (told later : Option LinkTold) (carried after : Option Carried) (before seen : History) (l new : Line) (result : Result TurnEnd TurnFault) (news newer : List NewsItem)
+      → Exchanged now eager told later carried after before seen l new result box since news newer → new.place ≤ l.place + 262240
+  worked_place box since now eager told later carried after before seen l new result news newer (inl w) =
       omega (arith, ap (λ (x : Line). x.place) w.line, w.served.place, frames_place w.work.now _ w.work.frames w.served.frames, w.served.few)
-  worked_place box since now eager told later carried after before seen l new news newer (inr z) = omega (arith, ap (λ (x : Line). x.place) z.line)
+  worked_place box since now eager told later carried after before seen l new result news newer (inr z) = omega (arith, ap (λ (x : Line). x.place) z.line)
 
-  pub turn_place : (box since : Inbox J G) (now : ℕ) (eager : Bool) (told later : Option LinkTold) (carried after : Option Carried) (before seen : History) (old new : Line) (newer : List NewsItem)
-      → DidTurn now eager told later carried after before seen old new box since newer → new.place ≤ old.place + 262240
-  turn_place box since now eager told later carried after before seen old new newer (inl x) = omega (arith, ap (λ (y : Line). y.place) x.sent.line)
-  turn_place box since now eager told later carried after before seen old new newer (inr y) = worked_place box since now eager told later carried after before seen (line_ticked old now) new [] newer y.exchanged
+  pub turn_place : (box since : Inbox J G) (now : ℕ) (eager : Bool) (told later : Option LinkTold) (carried after : Option Carried) (before seen : History) (old new : Line) (result : Result TurnEnd TurnFault) (newer : List NewsItem)
+      → DidTurn now eager told later carried after before seen old new result box since newer → new.place ≤ old.place + 262240
+  turn_place box since now eager told later carried after before seen old new result newer (inl x) = omega (arith, ap (λ (y : Line). y.place) x.sent.line)
+  turn_place box since now eager told later carried after before seen old new result newer (inr y) = worked_place box since now eager told later carried after before seen (line_ticked old now) new result [] newer y.exchanged
 
   -- where it stands behind a turn
   pub stands_behind : (r : Result TurnEnd TurnFault) (new : Line) (most : ℕ) (p : Part) (box : Inbox J G) → OnOk r (new.place ≤ most) → (r ≡ Ok ends.Go → GoesOn new.machine) → OnOk r (Leaves new.machine p box)

@@ -25,16 +25,16 @@ work_is_one now before seen old new behind w at served sends = record {
 
 module _ {J : Type 0} {G : Ghosts J} where
   pub turn_is_one : (box since : Inbox J G) → TurnIsOne box since
-  turn_is_one box since now eager told_before later carried after before seen old new newer (inl x) = record {
+  turn_is_one box since now eager told_before later carried after before seen old new result newer (inl x) = record {
     turn = only_sends now x.sent.sent x.sent.lost;
     is = (record { front = x.sent.front; line = x.sent.line }, x.same_seen);
     gains = gains_none box since x.same_box;
     news_are = x.no_news;
     moved = x.sent.moved;
   }
-  turn_is_one box since now eager told_before later carried after before seen old new newer (inr x) = by_kind x.exchanged
+  turn_is_one box since now eager told_before later carried after before seen old new result newer (inr x) = by_kind x.exchanged
     where
-      by_kind : Exchanged now eager told_before later carried after before seen (line_ticked old now) new box since [] newer → WasTurn told_before later carried after before seen old new box since newer
+      by_kind : Exchanged now eager told_before later carried after before seen (line_ticked old now) new result box since [] newer → WasTurn told_before later carried after before seen old new box since newer
       by_kind (inl w) = record {
         turn = works w.work;
         is = work_is_one now before seen old new w.behind w.work w.at w.served (record { front = w.front; line = w.line });

@@ -1,5 +1,5 @@
 -- What the contract of the loop says of a turn, as a turn of the laws over connections.
-use Rattle.std.specs.Prelude.{◌≡◌, ℕ, Bool, true, List, [], Option, IfSome}
+use Rattle.std.specs.Prelude.{◌≡◌, ℕ, Bool, true, List, [], Option, IfSome, Result}
 use Rattle.gw_links.specs.Links.{LinkTold, Carried, Moved}
 use Rattle.session_model.specs.Journal.{History}
 use Rattle.fixp_replies.specs.Acts.{is_record}
@@ -7,6 +7,7 @@ use Rattle.jr_record.specs.declared.journal.Journal.{Ghosts}
 use Rattle.jr_boxes.specs.declared.inbox.Inbox.{Inbox}
 use Rattle.jr_boxes.specs.Inbox.{limits_of}
 use Rattle.conn_turns.specs.declared.news.NewsItem.{NewsItem}
+use Rattle.conn_turns.specs.declared.answer.TurnEnd.{TurnEnd}
 use Rattle.conn_turns.specs.declared.answer.TurnFault.{TurnFault}
 use Rattle.conn_turns.specs.declared.answer.TurnFault.TheVariants as faults
 use Rattle.conn_turns.specs.Lines.{Line, TakenFrame, reply_at, lines_after}
@@ -31,8 +32,8 @@ module _ {J : Type 0} {G : Ghosts J} where
   -- a turn that answers, and one whose link failed, was a whole one
   abbrev pub TurnIsOne : (box since : Inbox J G) → Type 0
   TurnIsOne box since =
-      (now : ℕ) (eager : Bool) (told_before later : Option LinkTold) (carried after : Option Carried) (before seen : History) (old new : Line) (newer : List NewsItem)
-      → DidTurn now eager told_before later carried after before seen old new box since newer
+      (now : ℕ) (eager : Bool) (told_before later : Option LinkTold) (carried after : Option Carried) (before seen : History) (old new : Line) (result : Result TurnEnd TurnFault) (newer : List NewsItem)
+      → DidTurn now eager told_before later carried after before seen old new result box since newer
       → WasTurn told_before later carried after before seen old new box since newer
 
   -- a turn was cut short: the inbox gained what its frames add, a stop may leave of the refused one what its fault may, at Full its

@@ -10,7 +10,7 @@ use Rattle.conn_serve.proofs.connection.make_turn.Goals as goal
 
 pub returns-clause-whole : goal.returns-clause-whole
 returns-clause-whole g c =
-    let one = turn_is_one c.args.inbox.now c.turn.new.inbox _ _ _ _ _ _ _ _ (line_of c.args.conn.now) (line_of c.turn.new.self) _ in
+    let one = turn_is_one c.args.inbox.now c.turn.new.inbox _ _ _ _ _ _ _ _ (line_of c.args.conn.now) (line_of c.turn.new.self) c.turn.result _ in
     whole_at _ c.turn.result c.close_of.result c.close_of.ensures (on_ok_weaker c.turn.result one c.turn.ensures.did) (λ e. one (c.turn.ensures.lost e))
 
 pub returns-clause-cut : goal.returns-clause-cut

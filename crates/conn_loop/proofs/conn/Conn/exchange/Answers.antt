@@ -3,6 +3,7 @@ use Rattle.reply_laws.specs.Machine.{State, link_end, run}
 use Rattle.gate_turn.specs.Places.{known}
 use Rattle.conn_turns.specs.Lines.{Line}
 use Rattle.conn_loop.specs.Conn.{line_of, KeepsAll}
+use Rattle.conn_loop.specs.Moving.{IsLossOf}
 use Rattle.conn_loop.proofs.Exchanging.{did_work, cut_turn, on_ok_any, loss_cut, loss_ends, loss_answer, loss_goes, goes_after, leaves_of}
 use Rattle.conn_loop.proofs.conn.Conn.exchange.Goals as goal
 
@@ -12,6 +13,7 @@ returns-in_default-clause-did g c =
     on_ok_any _ c.lose_link.result
     (inr (record {
       line = c.lose_link.ensures.line ∙ ap (λ (l : Line). record l { machine = run l.machine (link_end ∷ []) }) failed.0;
+      answer = subst (λ (l : Line). IsLossOf l.machine c.lose_link.new.self.end c.lose_link.result) failed.0 c.lose_link.ensures.answer;
       moved = failed.1;
       same_box = refl;
       same_news = refl;
@@ -23,6 +25,7 @@ returns-in_default-clause-lost g c = λ _.
     let failed = c.in_default.ensures.failed in
     inr (record {
       line = c.lose_link.ensures.line ∙ ap (λ (l : Line). record l { machine = run l.machine (link_end ∷ []) }) failed.0;
+      answer = subst (λ (l : Line). IsLossOf l.machine c.lose_link.new.self.end c.lose_link.result) failed.0 c.lose_link.ensures.answer;
       moved = failed.1;
       same_box = refl;
       same_news = refl;
@@ -42,12 +45,12 @@ returns-in-Err-clause-cut g c = λ _.
 pub returns-clause-did : goal.returns-clause-did
 returns-clause-did g c =
     on_ok_any _ c.send.result
-    (inl (did_work c.args.now _ _ _ _ _ _ _ _ _ (line_of c.args.self.now) (line_of c.receive.new.self) (line_of c.work.new.self) (line_of c.send.new.self) _ c.args.inbox.now c.work.new.inbox _ _
+    (inl (did_work c.args.now _ _ _ _ _ _ _ _ _ (line_of c.args.self.now) (line_of c.receive.new.self) (line_of c.work.new.self) (line_of c.send.new.self) c.send.result _ c.args.inbox.now c.work.new.inbox _ _
     c.in-Ok.ensures.received c.in_default-work.ensures.served c.send.ensures.sent))
 
 pub returns-clause-lost : goal.returns-clause-lost
 returns-clause-lost g c = λ _.
-    inl (did_work c.args.now _ _ _ _ _ _ _ _ _ (line_of c.args.self.now) (line_of c.receive.new.self) (line_of c.work.new.self) (line_of c.send.new.self) _ c.args.inbox.now c.work.new.inbox _ _
+    inl (did_work c.args.now _ _ _ _ _ _ _ _ _ (line_of c.args.self.now) (line_of c.receive.new.self) (line_of c.work.new.self) (line_of c.send.new.self) c.send.result _ c.args.inbox.now c.work.new.inbox _ _
     c.in-Ok.ensures.received c.in_default-work.ensures.served c.send.ensures.sent)
 
 pub returns-clause-cut : goal.returns-clause-cut

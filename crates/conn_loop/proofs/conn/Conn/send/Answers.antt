@@ -1,7 +1,8 @@
-use Rattle.std.proofs.Common.{◌≡◌, ◌≤◌, ◌++◌, [], ℕ, List, length, take, drop, true, false, refl, sym, ap, subst, ◌∙◌, arith, length-drop, take-append-drop, true≢false}
+use Rattle.std.proofs.Common.{◌≡◌, ◌≤◌, ◌++◌, [], ℕ, List, length, take, drop, true, false, Ok, refl, sym, ap, subst, ◌∙◌, arith, length-drop, take-append-drop, true≢false}
 use Rattle.std.proofs.lemmas.List.{length-take-le}
 use Rattle.gw_links.specs.Links.{Moved}
 use Rattle.reply_laws.specs.Machine.{State}
+use Rattle.conn_turns.specs.declared.answer.TurnEnd.{TurnEnd}
 use Rattle.conn_steps.proofs.Following.{line_is}
 use Rattle.conn_loop.proofs.conn.Conn.send.Goals as goal
 
@@ -20,6 +21,8 @@ returns-in-Ok-clause-sent g c =
       line = line_is _ _ (c.taken.ensures ∙ ap (λ (k : ℕ). record m { unsent = drop k u }) (sym (length-take-le n u within))) refl refl refl;
       whole = λ _. sym (take-append-drop n u) ∙ ap (λ (bytes : List ℕ). take n u ++ bytes) (sym rest);
       full = λ _ some. c.in-Ok.ensures.full (omega (arith, some, ap (λ (bytes : List ℕ). length bytes) rest, length-drop n u, long));
+      answer = λ e. absurd (true≢false (sym e));
+      kept = λ _. ap (λ (end : TurnEnd). Ok end) c.answer.ensures;
       moved = subst (λ (bytes : List ℕ). Moved (g.L.Link.told c.args.link.now) (g.L.Link.told c.send_front.new.link) (g.L.Link.carried c.args.link.now) (g.L.Link.carried c.send_front.new.link) [] (take n bytes)) c.out.ensures c.in-Ok.ensures.moves;
     }
 
@@ -34,5 +37,7 @@ returns-in-Err-clause-sent g c =
       line = c.lose_link.ensures.line;
       whole = λ e. absurd (true≢false e);
       full = λ e. absurd (true≢false e);
+      answer = λ _. c.lose_link.ensures.answer;
+      kept = λ e. absurd (true≢false e);
       moved = subst (λ (bytes : List ℕ). Moved (g.L.Link.told c.args.link.now) (g.L.Link.told c.send_front.new.link) (g.L.Link.carried c.args.link.now) (g.L.Link.carried c.send_front.new.link) [] (take took.count bytes)) c.out.ensures took.moved;
     }
