@@ -51,12 +51,12 @@ loss_ends old new (Ok end) h e = absurd (cc)
 loss_ends old new (Err fault) h e = h.2
 
 pub loss_answer : (old new : State) (r : Result TurnEnd TurnFault) → IsLossOf old new r → IfOk r (λ end. end ≡ answer_of new.ending)
-loss_answer old new (Ok end) h = h
+loss_answer old new (Ok end) h = h.0
 loss_answer old new (Err fault) h = tt
 
 -- a turn that answers that the connection goes on left it open
 pub loss_goes : (old new : State) (r : Result TurnEnd TurnFault) → IsLossOf old new r → r ≡ Ok ends.Go → new.ending ≡ None
-loss_goes old new r h e = goes_on new.ending (subst (λ (x : Result TurnEnd TurnFault). IsLossOf old new x) e h)
+loss_goes old new r h e = goes_on new.ending (subst (λ (x : Result TurnEnd TurnFault). IsLossOf old new x) e h).0
 
 pub goes_after : (now : ℕ) (mid new : State) (p : Part) → MayServe mid now 5000000 p → now < 17592186044416 → KeepsAll mid new mid.moment → new.facts ≡ mid.facts → length new.unsent ≤ length mid.unsent
     → (new.ending ≡ None → mid.ending ≡ None) → (mid.ending ≡ None → mid.facts.connection.serving ≡ None) → (mid.ending ≡ None → mid.untold ≡ []) → new.ending ≡ None → GoesOn new

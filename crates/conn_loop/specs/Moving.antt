@@ -20,10 +20,10 @@ pub record ReceivedOnce (eager : Bool) (told later : Option LinkTold) (carried a
   pub found : (room : ℕ) → room + length old.held ≡ most_held → Received eager told room received got
   pub moved : Moved told later carried after received []
 
--- a turn answers so of a machine whose link failed in this state: the fault, only where the connection had not ended before and ends
--- as one whose link has ended; and else, as where both finishes were exchanged, how it ended
+-- a turn answers so of a machine whose link failed in this state: the fault, where the connection had not ended before and ends as one
+-- whose link has ended; and else, as where both finishes were exchanged, how it ended
 abbrev pub IsLossOf : State → State → Result TurnEnd TurnFault → Type 0
-IsLossOf old new (Ok end) = end ≡ answer_of new.ending
+IsLossOf old new (Ok end) = (end ≡ answer_of new.ending) × (old.ending ≡ None → new.ending ≡ Some endings.LinkEnded → ⊥)
 IsLossOf old new (Err fault) = (fault ≡ faults.Link) × (old.ending ≡ None) × (new.ending ≡ Some endings.LinkEnded)
 
 -- a front of what was unsent was sent: as much as the link took, or, where it failed, some front. Where it failed, the answer is that

@@ -58,7 +58,7 @@ module _ {J : Type 0} {G : Ghosts J} where
     pub news_are : later ≡ news ++ told now l frames
 
   -- behind its tick a turn received, its frames were served, and what was to be sent was sent. Where its link failed as it sent, it
-  -- answers as that says: the fault, only where nothing had ended the connection before; and else how the connection then stands
+  -- answers as that says: the fault, where nothing had ended the connection before; and else how the connection then stands
   pub record DidWork (now : ℕ) (eager : Bool) (told_before later : Option LinkTold) (carried after : Option Carried) (before seen : History) (l new : Line) (result : Result TurnEnd TurnFault) (box since : Inbox J G) (news newer : List NewsItem) : Type 0 where
     pub work : Work
     pub at : work.now ≡ now
@@ -75,7 +75,7 @@ module _ {J : Type 0} {G : Ghosts J} where
     pub news_are : newer ≡ news ++ told now (record l { held = l.held ++ work.received; over = l.over || is_end work.got }) work.frames
     pub moved : Moved told_before later carried after work.received work.sent
 
-  -- or its link failed as it received: it answers the fault, only where nothing had ended the connection before
+  -- or its link failed as it received: it answers the fault, unless both finishes were exchanged
   pub record LostLink (told_before later : Option LinkTold) (carried after : Option Carried) (before seen : History) (l new : Line) (result : Result TurnEnd TurnFault) (box since : Inbox J G) (news newer : List NewsItem) : Type 0 where
     pub line : new ≡ record l { machine = run l.machine (link_end ∷ []) }
     pub answer : IsLossOf l.machine new.machine result
