@@ -160,6 +160,7 @@ module _ {J : Type 0} {G : Ghosts J} where
       refuses = refuses_none box box [] (gains_none box box refl);
       past = λ entries bytes e. cc;
       recorded = tt;
+      of_inbox = tt;
       news_are = none;
     };
   }

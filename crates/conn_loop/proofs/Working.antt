@@ -14,7 +14,7 @@ use Rattle.conn_turns.specs.Lines.{Line, lines_after}
 use Rattle.conn_turns.specs.Frames.{IsDone, added, broken_at, is_link_over}
 use Rattle.conn_turns.specs.Turns.{bad_calls, end_calls, again_calls, live_calls, finish_calls, served_of, served_now, live_of, finish_of, calls_of_frames}
 use Rattle.conn_turns.proofs.Taking.{run_append, frames_make_calls}
-use Rattle.conn_steps.specs.Taking.{TookFrames, CutFrames}
+use Rattle.conn_steps.specs.Taking.{TookFrames, CutFrames, Blames}
 use Rattle.conn_steps.proofs.Rooms.{refuses_none}
 use Rattle.conn_loop.specs.Conn.{HasSeen, Looks}
 use Rattle.conn_loop.specs.Serving.{ServedOutbox}
@@ -99,8 +99,9 @@ module _ {J : Type 0} {G : Ghosts J} where
       }
 
   -- cut at a frame whose act was refused
-  pub cut_at_frame : (now : ℕ) (old new : Line) (box after : Inbox J G) (news later : List NewsItem) (fault : TurnFault) → CutFrames now old new box after news later fault → CutShort now old box after news later fault
-  cut_at_frame now old new box after news later fault c = record {
+  pub cut_at_frame : (now : ℕ) (old new : Line) (box after : Inbox J G) (news later : List NewsItem) (fault : TurnFault) → Blames box after fault → CutFrames now old new box after news later fault
+      → CutShort now old box after news later fault
+  cut_at_frame now old new box after news later fault blames c = record {
     frames = c.frames;
     few = omega (arith, c.few);
     taken = c.taken;
@@ -109,6 +110,7 @@ module _ {J : Type 0} {G : Ghosts J} where
     refuses = c.refuses;
     past = c.past;
     recorded = c.recorded;
+    of_inbox = blames.no_other;
     news_are = c.news_are;
   }
 
@@ -124,5 +126,6 @@ module _ {J : Type 0} {G : Ghosts J} where
     refuses = refuses_none box after (added now old t.frames) t.gains;
     past = λ entries bytes e. absurd (never_full entries bytes e);
     recorded = tt;
+    of_inbox = tt;
     news_are = t.news_are;
   }

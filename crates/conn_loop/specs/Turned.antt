@@ -45,7 +45,7 @@ module _ {J : Type 0} {G : Ghosts J} where
 
   -- a turn was cut short behind frames: by the act of the one behind them, which was refused, or by the outbox. The inbox gained
   -- what is theirs, and a stop may leave of the refused one what its fault may. At Full there is one, whose record the journal has no
-  -- room for; and its act is a record, unless memory ran out
+  -- room for; its act is a record, unless memory ran out; and where there is one the fault is not the link's nor the outbox's
   pub record CutShort (now : ℕ) (l : Line) (box after : Inbox J G) (news later : List NewsItem) (fault : TurnFault) : Type 0 where
     pub frames : List TakenFrame
     pub few : length frames ≤ 16
@@ -55,6 +55,7 @@ module _ {J : Type 0} {G : Ghosts J} where
     pub refuses : Refuses box after (added now l frames) (refused_of fault now (lines_after now l frames) refused)
     pub past : (entries bytes : ℕ) → fault ≡ faults.Full entries bytes → IsPast (limits_of after).bytes bytes (wanted_of now (lines_after now l frames) refused)
     pub recorded : IfSome refused (λ t. (fault ≡ faults.Memory → ⊥) → is_record (reply_at now (lines_after now l frames) t).act ≡ true)
+    pub of_inbox : IfSome refused (λ t. (fault ≡ faults.Link → ⊥) × (fault ≡ faults.Outbox → ⊥))
     pub news_are : later ≡ news ++ told now l frames
 
   -- behind its tick a turn received, its frames were served, and what was to be sent was sent. Where its link failed as it sent, it

@@ -39,10 +39,11 @@ refused_by (append.Full bytes) records = []
 refused_by append.Memory records = []
 refused_by append.Fault records = records
 
--- of some records there is one, and a journal of so many bytes has no room for it within this limit
+-- of some records there is one, which is not exempt from the limit, and a journal of so many bytes has no room for it within that
 pub record IsPast (limit bytes : ℕ) (records : List InboxRecord) : Type 0 where
   pub one : InboxRecord
   pub is : records ≡ one ∷ []
+  pub plain : is_control (record_of one) ≡ false
   pub past : limit < bytes + record_size (record_of one)
 
 -- how many bytes these records take in a journal, each with its gate

@@ -59,5 +59,6 @@ module _ {J : Type 0} {G : Ghosts J} where
     refuses = k.cut.refuses;
     past = k.cut.past;
     recorded = k.cut.recorded;
+    of_inbox = k.cut.of_inbox;
     news_are = k.cut.news_are;
   }

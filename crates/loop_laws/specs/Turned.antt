@@ -36,8 +36,9 @@ module _ {J : Type 0} {G : Ghosts J} where
       → DidTurn now eager told_before later carried after before seen old new result box since newer
       → WasTurn told_before later carried after before seen old new box since newer
 
-  -- a turn was cut short: the inbox gained what its frames add, a stop may leave of the refused one what its fault may, at Full its
-  -- journal has no room for the record of that one, whose act is a record unless memory ran out, and the news are what the frames tell
+  -- A turn was cut short: the inbox gained what its frames add, a stop may leave of the refused one what its fault may, and the news are
+  -- what the frames tell. At Full its journal has no room for the record of the refused one, whose act is a record unless memory ran out;
+  -- and where one was refused the fault is not the link's nor the outbox's
   pub record WasCut (now : ℕ) (old : Line) (fault : TurnFault) (box since : Inbox J G) (newer : List NewsItem) : Type 0 where
     pub received : List ℕ
     pub frames : List TakenFrame
@@ -46,6 +47,7 @@ module _ {J : Type 0} {G : Ghosts J} where
     pub refuses : Refuses box since (added now (line_received old now received cut.over) frames) (refused_of fault now (lines_after now (line_received old now received cut.over) frames) refused)
     pub past : (entries bytes : ℕ) → fault ≡ faults.Full entries bytes → IsPast (limits_of since).bytes bytes (wanted_of now (lines_after now (line_received old now received cut.over) frames) refused)
     pub recorded : IfSome refused (λ t. (fault ≡ faults.Memory → ⊥) → is_record (reply_at now (lines_after now (line_received old now received cut.over) frames) t).act ≡ true)
+    pub of_inbox : IfSome refused (λ t. (fault ≡ faults.Link → ⊥) × (fault ≡ faults.Outbox → ⊥))
     pub news_are : newer ≡ told now (line_received old now received cut.over) frames
 
   abbrev pub CutIsOne : (box since : Inbox J G) → Type 0

@@ -8,7 +8,7 @@ use Rattle.conn_loop.proofs.conn.Conn.work.Goals as goal
 
 pub returns-in-Err-clause-cut : goal.returns-in-Err-clause-cut
 returns-in-Err-clause-cut g c =
-    cut_at_frame c.args.now (line_of c.args.self.now) (line_of c.take_frames.new.self) c.args.inbox.now c.take_frames.new.inbox _ _ c.in-Err.fault c.in-Err.ensures.cut
+    cut_at_frame c.args.now (line_of c.args.self.now) (line_of c.take_frames.new.self) c.args.inbox.now c.take_frames.new.inbox _ _ c.in-Err.fault c.in-Err.ensures.blames c.in-Err.ensures.cut
 
 pub returns-clause-served : goal.returns-clause-served
 returns-clause-served g c =
