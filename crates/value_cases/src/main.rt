@@ -8,21 +8,31 @@ mod values;
 use std::alloc::{AllocError, Global};
 use std::{fs, io};
 
-/// What a case shows.
-fn line_of(alloc: Global, line: &str) -> Result<String, AllocError> {
-    match line.split_once(": ") {
-        Some(("primitive", name)) => numbers::primitive_line(alloc, name),
-        Some(("number", rest)) => numbers::number_line(alloc, rest),
-        Some(("holds", rest)) => numbers::holds_line(alloc, rest),
-        Some(("values", name)) => values::values_line(alloc, name),
-        _ => line.to_string(alloc),
+/// Adds what a case shows.
+fn push_line(alloc: Global, line: &mut String, case: &str) -> Result<(), AllocError> {
+    let Some((kind, words)) = case.split_once(": ") else {
+        return line.push_str(case);
+    };
+    match kind {
+        "primitive" => numbers::push_primitive(line, words),
+        "number" => numbers::push_number(alloc, line, words),
+        "holds" => numbers::push_holds(line, words),
+        "values" => values::push_values(alloc, line, words),
+        _ => line.push_str(case),
     }
 }
 
+/// Prints what a case shows.
+fn print_case<R: Print + AllocGlobal>(rt: &R, case: &str) -> io::Result<()> {
+    let mut line = String::new(rt.alloc());
+    push_line(rt.alloc(), &mut line, case)?;
+    rt.println(line)
+}
+
 fn main(rt: HostRuntime) -> io::Result<()> {
-    let text = fs::read_to_string(&rt, "cases.txt")?;
-    for line in text.lines() {
-        rt.println(line_of(rt.alloc(), line)?)?;
+    let cases = fs::read_to_string(&rt, "cases.txt")?;
+    for case in cases.lines() {
+        print_case(&rt, case)?;
     }
     Ok(())
 }

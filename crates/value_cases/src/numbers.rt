@@ -7,14 +7,19 @@ use sbe_prim::{
 };
 use std::alloc::{AllocError, Global};
 
-/// `NAME`, and behind it its size, null, least and greatest number, and whether it is an integer.
-pub fn primitive_line(alloc: Global, name: &str) -> Result<String, AllocError> {
-    let Some(p) = find_primitive(name.as_bytes()) else {
-        return format!(in alloc; "{name} is no primitive");
-    };
+/// Adds `NAME`, and behind it its size, null, least and greatest number, and whether it is an integer.
+pub fn push_primitive(line: &mut String, name: &str) -> Result<(), AllocError> {
+    match find_primitive(name.as_bytes()) {
+        Some(p) => push_range(line, p),
+        None => write!(line, "{name} is no primitive"),
+    }
+}
+
+fn push_range(line: &mut String, p: Primitive) -> Result<(), AllocError> {
     let word = str::from_utf8(primitive_name(p)).unwrap_or("?");
     let integer = if is_integral(p) { "integer" } else { "raw" };
-    format!(in alloc;
+    write!(
+        line,
         "{word} {} {} {} {} {integer}",
         size(p),
         null(p),
@@ -23,45 +28,47 @@ pub fn primitive_line(alloc: Global, name: &str) -> Result<String, AllocError> {
     )
 }
 
-/// Whether a primitive holds a number: `NAME NUMBER`.
-pub fn holds_line(alloc: Global, rest: &str) -> Result<String, AllocError> {
-    let (name, number) = halves(rest);
+/// Adds whether a primitive holds a number: `NAME NUMBER`.
+pub fn push_holds(line: &mut String, words: &str) -> Result<(), AllocError> {
+    let (name, number) = halves(words);
     match (find_primitive(name.as_bytes()), number.parse::<i128>()) {
-        (Some(p), Ok(number)) => format!(in alloc; "{rest} {}", can_hold(p, number)),
-        _ => format!(in alloc; "no case: {rest}"),
+        (Some(p), Ok(number)) => write!(line, "{words} {}", can_hold(p, number)),
+        _ => write!(line, "no case: {words}"),
     }
 }
 
-/// The number that bytes spell, and the bytes that it is written as: `NAME ORDER HEX`.
-pub fn number_line(alloc: Global, rest: &str) -> Result<String, AllocError> {
-    let (name, others) = halves(rest);
+/// Adds the number that bytes spell, and the bytes that it is written as: `NAME ORDER HEX`.
+pub fn push_number(alloc: Global, line: &mut String, words: &str) -> Result<(), AllocError> {
+    let (name, others) = halves(words);
     let (order, word) = halves(others);
-    let order = if order == "big" {
+    let mut bytes = bytes(alloc, word)?;
+    match find_primitive(name.as_bytes()) {
+        Some(p) => push_spelled(alloc, line, words, p, order_of(order), bytes.as_mut_slice()),
+        None => write!(line, "no case: {words}"),
+    }
+}
+
+fn order_of(word: &str) -> Order {
+    if word == "big" {
         Order::Big
     } else {
         Order::Little
-    };
-    let bytes = bytes(alloc, word)?;
-    match find_primitive(name.as_bytes()) {
-        Some(p) => spelled(alloc, rest, p, order, bytes.as_slice()),
-        None => format!(in alloc; "no case: {rest}"),
     }
 }
 
-fn spelled(
+fn push_spelled(
     alloc: Global,
-    rest: &str,
+    line: &mut String,
+    words: &str,
     p: Primitive,
     order: Order,
-    bytes: &[u8],
-) -> Result<String, AllocError> {
+    bytes: &mut [u8],
+) -> Result<(), AllocError> {
     if !is_integral(p) || bytes.len() != size(p) {
-        return format!(in alloc; "no case: {rest}");
+        return write!(line, "no case: {words}");
     }
     let number = read(p, order, bytes);
-    let mut written = Vec::from_slice(alloc, bytes)?;
-    written.as_mut_slice().fill(0);
-    write(p, order, number, written.as_mut_slice());
-    let again = digits(alloc, written.as_slice())?;
-    format!(in alloc; "{rest} {number} {again}")
+    bytes.fill(0);
+    write(p, order, number, bytes);
+    write!(line, "{words} {number} {}", digits(alloc, bytes)?)
 }

@@ -20,43 +20,43 @@ fn abc(alloc: Global) -> Result<Bytes, AllocError> {
 }
 
 /// Bytes that are pushed, copied and compared with greater ones.
-fn bytes_line(alloc: Global) -> Result<String, AllocError> {
+fn push_bytes(alloc: Global, line: &mut String) -> Result<(), AllocError> {
     let bytes = abc(alloc)?;
     let copy = bytes.copy(alloc)?;
     let greater = Bytes::from_slice(alloc, b"abd")?;
     let copied = copy == bytes;
     let less = bytes < greater;
     let count = bytes.len();
-    format!(in alloc;
+    write!(
+        line,
         "bytes {}, {count} of them, copied {copied}, less {less}",
         text(bytes.as_slice())
     )
 }
 
 /// A list of lists of bytes.
-fn payloads_line(alloc: Global) -> Result<String, AllocError> {
+fn push_payloads(alloc: Global, line: &mut String) -> Result<(), AllocError> {
     let mut payloads = Payloads::new(alloc);
     payloads.push(Bytes::from_slice(alloc, b"abc")?)?;
     let copy = payloads.copy(alloc)?;
     let copied = copy == payloads;
     let equal = are_equal(&payloads, &payloads);
-    format!(in alloc;
-        "payloads empty {}, copied {copied}, equal {equal}",
-        payloads.is_empty()
+    let empty = payloads.is_empty();
+    write!(
+        line,
+        "payloads empty {empty}, copied {copied}, equal {equal}"
     )
 }
 
 /// A list made into a vector.
-fn lines_line(alloc: Global) -> Result<String, AllocError> {
+fn push_lines(alloc: Global, line: &mut String) -> Result<(), AllocError> {
     let inner: Vec<u8> = Vec::from(Lines::from(Vec::from_slice(alloc, b"end")?));
-    format!(in alloc; "lines {}", text(inner.as_slice()))
+    write!(line, "lines {}", text(inner.as_slice()))
 }
 
 fn steps(alloc: Global) -> Result<Path, AllocError> {
-    let mut steps = Path::new(alloc);
-    steps.push(Step::Key(Bytes::from_slice(alloc, b"message")?))?;
-    steps.push(Step::At(0))?;
-    Ok(steps)
+    let key = Step::Key(Bytes::from_slice(alloc, b"message")?);
+    Ok(Path::from(vec![in alloc; key, Step::At(0)]?))
 }
 
 /// The path to the second field of the first message.
@@ -72,32 +72,32 @@ fn path(alloc: Global) -> Result<Path, AllocError> {
     path_to(alloc, &[message], field)
 }
 
-/// The path to a place of a schema, and whether other steps are another path.
-fn path_line(alloc: Global) -> Result<String, AllocError> {
-    let path = path(alloc)?;
+/// Whether other steps, copied, are another path.
+fn is_another(alloc: Global, path: &Path) -> Result<bool, AllocError> {
     let copy = steps(alloc)?.copy(alloc)?;
-    let other = copy != path;
-    let line = text_of_path(alloc, &path)?;
-    format!(in alloc; "path {}, another one {other}", text(line.as_slice()))
+    Ok(copy != *path)
+}
+
+/// The path to a place of a schema, and whether other steps are another path.
+fn push_path(alloc: Global, line: &mut String) -> Result<(), AllocError> {
+    let path = path(alloc)?;
+    let other = is_another(alloc, &path)?;
+    let words = text_of_path(alloc, &path)?;
+    write!(line, "path {}, another one {other}", text(words.as_slice()))
 }
 
 /// One of each kind of item.
 fn items(alloc: Global) -> Result<Items, AllocError> {
-    let mut items = Items::new(alloc);
-    items.push(Item::Num(-2))?;
-    items.push(Item::Null)?;
-    items.push(Item::Absent)?;
-    items.push(Item::Text(Bytes::from_slice(alloc, b"x")?))?;
-    items.push(Item::Raw(Bytes::from_slice(alloc, b"x")?))?;
-    Ok(items)
+    let text = Item::Text(Bytes::from_slice(alloc, b"x")?);
+    let raw = Item::Raw(Bytes::from_slice(alloc, b"x")?);
+    let items = vec![in alloc; Item::Num(-2), Item::Null, Item::Absent, text, raw]?;
+    Ok(Items::from(items))
 }
 
 /// Data that are there and not.
 fn datums(alloc: Global) -> Result<Datums, AllocError> {
-    let mut datums = Datums::new(alloc);
-    datums.push(Datum::Present(Bytes::new(alloc)))?;
-    datums.push(Datum::Absent)?;
-    Ok(datums)
+    let empty = Datum::Present(Bytes::new(alloc));
+    Ok(Datums::from(vec![in alloc; empty, Datum::Absent]?))
 }
 
 /// A group that is absent, and one with one empty entry.
@@ -125,25 +125,50 @@ fn message(alloc: Global) -> Result<Message, AllocError> {
     })
 }
 
-/// A message that is copied, and a copy that is changed.
-fn message_line(alloc: Global) -> Result<String, AllocError> {
-    let message = message(alloc)?;
-    let mut other = message.copy(alloc)?;
-    let copied = other == message;
-    other.root.items.push(Item::Null)?;
-    let changed = other != message;
-    let groups = message.root.groups.len();
-    format!(in alloc; "message with {groups} groups, copied {copied}, changed {changed}")
+/// Whether a copy of a message is equal to it.
+fn is_copied(alloc: Global, message: &Message) -> Result<bool, AllocError> {
+    let copy = message.copy(alloc)?;
+    Ok(copy == *message)
 }
 
-/// What is shown of lists of this name.
-pub fn values_line(alloc: Global, name: &str) -> Result<String, AllocError> {
+/// A copy of a message with one item more.
+fn longer(alloc: Global, message: &Message) -> Result<Message, AllocError> {
+    let mut longer = message.copy(alloc)?;
+    longer.root.items.push(Item::Null)?;
+    Ok(longer)
+}
+
+/// Whether that copy is no longer equal to it.
+fn is_changed(alloc: Global, message: &Message) -> Result<bool, AllocError> {
+    let longer = longer(alloc, message)?;
+    Ok(longer != *message)
+}
+
+/// Adds the count of groups, and what is told of copies.
+fn push_copies(alloc: Global, line: &mut String, message: &Message) -> Result<(), AllocError> {
+    let copied = is_copied(alloc, message)?;
+    let changed = is_changed(alloc, message)?;
+    let groups = message.root.groups.len();
+    write!(
+        line,
+        "message with {groups} groups, copied {copied}, changed {changed}"
+    )
+}
+
+/// A message that is copied, and a copy that is changed.
+fn push_message(alloc: Global, line: &mut String) -> Result<(), AllocError> {
+    let message = message(alloc)?;
+    push_copies(alloc, line, &message)
+}
+
+/// Adds what is shown of lists of this name.
+pub fn push_values(alloc: Global, line: &mut String, name: &str) -> Result<(), AllocError> {
     match name {
-        "bytes" => bytes_line(alloc),
-        "payloads" => payloads_line(alloc),
-        "lines" => lines_line(alloc),
-        "path" => path_line(alloc),
-        "message" => message_line(alloc),
-        _ => format!(in alloc; "no case: {name}"),
+        "bytes" => push_bytes(alloc, line),
+        "payloads" => push_payloads(alloc, line),
+        "lines" => push_lines(alloc, line),
+        "path" => push_path(alloc, line),
+        "message" => push_message(alloc, line),
+        _ => write!(line, "no case: {name}"),
     }
 }
