@@ -8,5 +8,10 @@ use std::{fs, io};
 
 fn main(rt: HostRuntime) -> io::Result<()> {
     let text = fs::read_to_string(&rt, "cases.txt")?;
-    cases::run(&rt, text.as_str())
+    let mut schema = None;
+    for line in text.lines() {
+        schema = line.strip_prefix("schema: ").or(schema);
+        cases::print_line(&rt, schema, line)?;
+    }
+    Ok(())
 }
