@@ -3,6 +3,7 @@
 ghost use Rattle.std.specs.Prelude.{◌≡◌, ◌≤◌, ◌<◌, ◌^◌, length, IfSome};
 
 use crate::named::Named;
+use crate::words::parted;
 use case_words::{digits, halves, number};
 use fixp_end::{Act, End, EndConfig, EndState, Flow, Role};
 use fixp_shake::{is_absent, is_established};
@@ -73,35 +74,6 @@ fn entry_of(entries: &[Stable], wanted: u64) -> Option<&Stable>
     None
 }
 
-/// The words of an end: its side, the flow that it sends, the one that it receives, whether the session is negotiated, the
-/// inbox's next number and how many entries were sent.
-#[derive(Clone, Copy)]
-struct Kind<'a> {
-    side: &'a str,
-    own: &'a str,
-    peer: &'a str,
-    negotiated: &'a str,
-    inbox: &'a str,
-    sent: &'a str,
-}
-
-/// `SIDE OWN PEER NEGOTIATED NEXT SENT`; nothing for a word that is not there.
-fn kind_of(words: &str) -> Kind<'_> {
-    let (side, rest) = halves(words);
-    let (own, rest) = halves(rest);
-    let (peer, rest) = halves(rest);
-    let (negotiated, rest) = halves(rest);
-    let (inbox, sent) = halves(rest);
-    Kind {
-        side,
-        own,
-        peer,
-        negotiated,
-        inbox,
-        sent,
-    }
-}
-
 fn role_of(side: &str) -> Role {
     match side {
         "initiator" => Role::Initiator,
@@ -124,26 +96,34 @@ fn config_of(alloc: Global, role: Role, own_flow: Flow, peer_flow: Flow) -> EndC
     }
 }
 
-fn recorded_of(kind: Kind<'_>) -> EndState
+/// What is recorded of a session: `NEGOTIATED NEXT SENT`, of which the numbers are the inbox's next one and how many entries were
+/// sent.
+fn recorded_of(words: &str) -> EndState
     ensures first { 1 ≤ result.inbox_next }
     ensures few { result.inbox_next ≤ 1000000 }
     ensures sent { result.sent ≤ 1000000 }
 {
+    let (negotiated, rest) = halves(words);
+    let (inbox, sent) = halves(rest);
     EndState {
-        negotiated: kind.negotiated == "negotiated",
-        inbox_next: number(kind.inbox).clamp(1, 1_000_000),
+        negotiated: negotiated == "negotiated",
+        inbox_next: number(inbox).clamp(1, 1_000_000),
         peer_last: None,
-        sent: number(kind.sent).min(1_000_000),
+        sent: number(sent).min(1_000_000),
         finish: None,
     }
 }
 
 impl Driven {
-    /// An end in its first connection.
-    fn new(alloc: Global, kind: Kind<'_>) -> Result<Driven, AllocError> {
-        let own_flow = flow_of(kind.own);
-        let config = config_of(alloc, role_of(kind.side), own_flow, flow_of(kind.peer));
-        let mut end = End::new(alloc, config, recorded_of(kind), 1 << 24)?;
+    /// An end in its first connection: `SIDE OWN PEER NEGOTIATED NEXT SENT`, of which two are the flow that it sends and the one
+    /// that it receives; nothing for a word that is not there.
+    fn new(alloc: Global, words: &str) -> Result<Driven, AllocError> {
+        let (side, rest) = halves(words);
+        let (own, rest) = halves(rest);
+        let (peer, recorded) = halves(rest);
+        let own_flow = flow_of(own);
+        let config = config_of(alloc, role_of(side), own_flow, flow_of(peer));
+        let mut end = End::new(alloc, config, recorded_of(recorded), 1 << 24)?;
         end.begin(BEGINNING);
         Ok(Driven {
             end,
@@ -281,12 +261,17 @@ impl Driven {
         self.end.taken(count);
     }
 
-    /// Adds the bytes that are written, the phase and the ending, and the link takes the bytes.
-    fn push_taken(&mut self, alloc: Global, line: &mut String) -> Result<(), AllocError> {
-        push_written(alloc, line, self.end.out())?;
+    /// Adds the bytes that are written, behind a mark, the phase and the ending, and the link takes the bytes.
+    fn push_taken(
+        &mut self,
+        alloc: Global,
+        line: &mut String,
+        mark: &str,
+    ) -> Result<(), AllocError> {
+        let written = digits(alloc, self.end.out())?;
         self.take();
         let (phase, ending) = (self.end.phase(), self.end.ending());
-        write!(line, ", {phase:?}, {ending:?}")
+        write!(line, "{mark}[{written}], {phase:?}, {ending:?}")
     }
 }
 
@@ -297,14 +282,6 @@ fn push_act(line: &mut String, act: Act, before: usize) -> Result<(), AllocError
     } else {
         write!(line, "{act:?}")
     }
-}
-
-/// Adds bytes in hexadecimal, in brackets.
-fn push_written(alloc: Global, line: &mut String, bytes: &[u8]) -> Result<(), AllocError> {
-    let spelled = digits(alloc, bytes)?;
-    line.push_str("[")?;
-    line.push_str(spelled.as_str())?;
-    line.push_str("]")
 }
 
 /// A call on an end.
@@ -321,7 +298,7 @@ enum Call {
 
 /// The call that an event is, if it is one.
 fn call_of(event: &str) -> Option<Call> {
-    let (call, given) = event.split_once("=").unwrap_or((event, ""));
+    let (call, given) = parted(event, "=");
     match call {
         "begin" => Some(Call::Begin),
         "tick" => Some(Call::Tick(number(given))),
@@ -367,11 +344,10 @@ fn push_event_line(
 ) -> Result<(), AllocError> {
     write!(line, "\n  {event}: ")?;
     push_event(alloc, line, driven, sources, event)?;
-    line.push_str(", ")?;
-    driven.push_taken(alloc, line)
+    driven.push_taken(alloc, line, ", ")
 }
 
-/// Adds the lines of events.
+/// Adds what an end is at first, and the lines of events.
 fn push_events(
     alloc: Global,
     line: &mut String,
@@ -379,10 +355,23 @@ fn push_events(
     sources: Sources<'_>,
     events: &str,
 ) -> Result<(), AllocError> {
+    driven.push_taken(alloc, line, ": ")?;
     for event in events.split(" ") {
         push_event_line(alloc, line, driven, sources, event)?;
     }
     Ok(())
+}
+
+/// Adds what an end does in a session that begins with it.
+fn push_session(
+    alloc: Global,
+    line: &mut String,
+    sources: Sources<'_>,
+    kind: &str,
+    events: &str,
+) -> Result<(), AllocError> {
+    let mut driven = Driven::new(alloc, kind)?;
+    push_events(alloc, line, &mut driven, sources, events)
 }
 
 /// Adds what an end does at each event, a line each: `SIDE OWN PEER NEGOTIATED NEXT SENT, EVENT EVENT ..`.
@@ -392,9 +381,7 @@ pub fn push_end(
     sources: Sources<'_>,
     words: &str,
 ) -> Result<(), AllocError> {
-    let (kind, events) = words.split_once(", ").unwrap_or((words, ""));
-    let mut driven = Driven::new(alloc, kind_of(kind))?;
-    write!(line, "{kind}: ")?;
-    driven.push_taken(alloc, line)?;
-    push_events(alloc, line, &mut driven, sources, events)
+    let (kind, events) = parted(words, ", ");
+    line.push_str(kind)?;
+    push_session(alloc, line, sources, kind, events)
 }

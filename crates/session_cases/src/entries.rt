@@ -27,7 +27,10 @@ fn outbox_on(alloc: Global, disk: MemDisk, limits: Limits) -> Option<Outbox<LogJ
     let Ok(journal) = LogJournal::open(alloc, disk, limits) else {
         return None;
     };
-    Outbox::open(alloc, journal, limits).ok()
+    match Outbox::open(alloc, journal, limits) {
+        Ok(outbox) => Some(outbox),
+        Err((_journal, _fault)) => None,
+    }
 }
 
 /// An outbox on a new disk; none where the disk is refused.

@@ -21,18 +21,6 @@ fn push_told(alloc: Global, line: &mut String, first: FirstFrame<'_>) -> Result<
     }
 }
 
-/// The first frame of some bytes.
-pub fn push_first(
-    alloc: Global,
-    line: &mut String,
-    named: Named<'_>,
-    word: &str,
-) -> Result<(), AllocError> {
-    let bytes = named.bytes(alloc, word)?;
-    write!(line, "first of {word}: ")?;
-    push_told(alloc, line, next(bytes.as_slice()))
-}
-
 /// How many of the fronts of a frame that are shorter than it are no whole frame.
 fn open_fronts(bytes: &[u8]) -> u64 {
     let mut open = 0u64;
@@ -45,16 +33,10 @@ fn open_fronts(bytes: &[u8]) -> u64 {
     open
 }
 
-/// The fronts of a frame.
-pub fn push_fronts(
-    alloc: Global,
-    line: &mut String,
-    named: Named<'_>,
-    word: &str,
-) -> Result<(), AllocError> {
-    let bytes = named.bytes(alloc, word)?;
-    let (open, count) = (open_fronts(bytes.as_slice()), bytes.len());
-    write!(line, "fronts of {word}: {open} of {count} are a rest")
+/// Adds how many of the fronts of a frame are no whole frame.
+fn push_fronts(line: &mut String, bytes: &[u8]) -> Result<(), AllocError> {
+    let (open, count) = (open_fronts(bytes), bytes.len());
+    write!(line, "{open} of {count} are a rest")
 }
 
 /// Fills a framer with bytes, where it has the room.
@@ -73,14 +55,15 @@ fn let_go(framer: &mut Framer) {
     }
 }
 
-/// Adds the framer's room, and the first frame that it holds.
+/// Adds the framer's room, behind a mark, and the first frame that it holds.
 fn push_framer_told(
     alloc: Global,
     line: &mut String,
+    mark: &str,
     framer: &mut Framer,
 ) -> Result<(), AllocError> {
     let room = framer.room().len();
-    write!(line, "{room} with ")?;
+    write!(line, "{mark}{room} with ")?;
     push_told(alloc, line, framer.peek())
 }
 
@@ -91,26 +74,44 @@ fn push_framer_steps(
     framer: &mut Framer,
     bytes: &[u8],
 ) -> Result<(), AllocError> {
-    push_framer_told(alloc, line, framer)?;
+    push_framer_told(alloc, line, "", framer)?;
     fill(framer, bytes);
-    line.push_str(", ")?;
-    push_framer_told(alloc, line, framer)?;
+    push_framer_told(alloc, line, ", ", framer)?;
     let_go(framer);
-    line.push_str(", ")?;
-    push_framer_told(alloc, line, framer)
+    push_framer_told(alloc, line, ", ", framer)
 }
 
 /// A framer that takes a frame.
-pub fn push_framer(
+fn push_framer(alloc: Global, line: &mut String, bytes: &[u8]) -> Result<(), AllocError> {
+    let mut framer = Framer::new(alloc)?;
+    push_framer_steps(alloc, line, &mut framer, bytes)
+}
+
+/// What a case of this kind shows of some bytes.
+fn push_shown(
+    alloc: Global,
+    line: &mut String,
+    kind: &str,
+    bytes: &[u8],
+) -> Result<(), AllocError> {
+    match kind {
+        "first" => push_told(alloc, line, next(bytes)),
+        "fronts" => push_fronts(line, bytes),
+        _ => push_framer(alloc, line, bytes),
+    }
+}
+
+/// A case of the bytes of one word: `first`, `fronts` or `framer`.
+pub fn push_single(
     alloc: Global,
     line: &mut String,
     named: Named<'_>,
+    kind: &str,
     word: &str,
 ) -> Result<(), AllocError> {
+    write!(line, "{kind} of {word}: ")?;
     let bytes = named.bytes(alloc, word)?;
-    let mut framer = Framer::new(alloc)?;
-    write!(line, "framer of {word}: ")?;
-    push_framer_steps(alloc, line, &mut framer, bytes.as_slice())
+    push_shown(alloc, line, kind, bytes.as_slice())
 }
 
 /// The frames one behind another, so many times.
@@ -170,12 +171,7 @@ fn all_named(alloc: Global, named: Named<'_>, words: &str) -> Result<Vec<Vec<u8>
     Ok(all)
 }
 
-/// Adds how a split ended.
-fn push_split_end(line: &mut String, split: &Split) -> Result<(), AllocError> {
-    write!(line, ", {:?} at {}", split.end, split.at)
-}
-
-/// Adds how many of the frames in pieces are the given ones, which come so many times.
+/// Adds how many of the frames in pieces are the given ones, which come so many times, and how they end.
 fn push_found(
     alloc: Global,
     line: &mut String,
@@ -185,12 +181,9 @@ fn push_found(
 ) -> Result<(), AllocError> {
     let bytes = joined(alloc, frames, times)?;
     let split = split_by(alloc, bytes.as_slice(), size)?;
-    let (same, count) = (
-        as_wanted(split.frames.as_slice(), frames),
-        split.frames.len(),
-    );
-    write!(line, "{same} of {count} frames as given")?;
-    push_split_end(line, &split)
+    let (found, end, at) = (split.frames.as_slice(), split.end, split.at);
+    let (same, count) = (as_wanted(found, frames), found.len());
+    write!(line, "{same} of {count} frames as given, {end:?} at {at}")
 }
 
 /// Frames in pieces of a size: `SIZE TIMES NAME..`.
@@ -202,8 +195,8 @@ pub fn push_pieces(
 ) -> Result<(), AllocError> {
     let (size, others) = halves(rest);
     let (times, words) = halves(others);
-    let frames = all_named(alloc, named, words)?;
     write!(line, "pieces of {size}: ")?;
+    let frames = all_named(alloc, named, words)?;
     let (times, size) = (number(times) as usize, number(size) as usize);
     push_found(alloc, line, frames.as_slice(), times, size)
 }
@@ -223,7 +216,6 @@ pub fn push_parts(
 ) -> Result<(), AllocError> {
     let parts = all_named(alloc, named, words)?;
     let split = split_parts(alloc, parts.as_slice())?;
-    let count = split.frames.len();
-    write!(line, "parts {words}: {count} frames")?;
-    push_split_end(line, &split)
+    let (count, end, at) = (split.frames.len(), split.end, split.at);
+    write!(line, "parts {words}: {count} frames, {end:?} at {at}")
 }

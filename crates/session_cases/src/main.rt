@@ -6,6 +6,7 @@ mod ends;
 mod entries;
 mod frames;
 mod named;
+mod words;
 
 use crate::ends::Sources;
 use crate::entries::entries;
@@ -24,9 +25,9 @@ fn push_line(
         return line.push_str(case);
     };
     match kind {
-        "first" => frames::push_first(alloc, line, sources.named, words),
-        "fronts" => frames::push_fronts(alloc, line, sources.named, words),
-        "framer" => frames::push_framer(alloc, line, sources.named, words),
+        "first" | "fronts" | "framer" => {
+            frames::push_single(alloc, line, sources.named, kind, words)
+        }
         "pieces" => frames::push_pieces(alloc, line, sources.named, words),
         "parts" => frames::push_parts(alloc, line, sources.named, words),
         "end" => ends::push_end(alloc, line, sources, words),

@@ -1,6 +1,6 @@
 //! Frames by name.
 
-use case_words::bytes;
+use case_words::{bytes, halves};
 use std::alloc::{AllocError, Global};
 
 /// A table of frames: on each line a name, a blank and the frame's bytes in hexadecimal.
@@ -21,10 +21,9 @@ impl<'a> Named<'a> {
         'a: 'b,
     {
         for line in self.table.lines() {
-            if let Some((found, digits)) = line.split_once(" ") {
-                if found == name {
-                    return digits;
-                }
+            let (found, digits) = halves(line);
+            if found == name {
+                return digits;
             }
         }
         name
