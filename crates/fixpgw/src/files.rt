@@ -269,6 +269,11 @@ struct Again {
     text: Vec<u8>,
 }
 
+/// The layout of the messages of a schema, if it is one.
+fn plan_of(alloc: Global, config: &[u8]) -> Option<Plan> {
+    load(alloc, config).ok()
+}
+
 impl Again {
     /// Reads a text again, by the schema of CONFIG; none where it cannot be read.
     fn read<R: Files<File = File>>(
@@ -278,10 +283,8 @@ impl Again {
         path: &str,
     ) -> Option<Again> {
         let text = text_of_file(rt, alloc, path)?;
-        match load(alloc, config) {
-            Ok(plan) => Some(Again { plan, text }),
-            Err(_) => None,
-        }
+        let plan = plan_of(alloc, config)?;
+        Some(Again { plan, text })
     }
 }
 

@@ -15,9 +15,11 @@ use gateway::{Status, command_of};
 use gw_real::{FileDisk, Opening};
 use report::{Report, finish};
 use sessions::{Session, SessionFiles, run_over_sockets};
+use std::fs::File;
 use std::io;
 use std::process::ExitCode;
-use std::rt::Env;
+use std::rt::{Env, Files};
+use std::sync::Wait;
 use usage::{VERSION, asked, usage_fault};
 
 /// The words behind the program's name.
@@ -42,31 +44,41 @@ fn show<R: Print + Eprint>(rt: &R, text: &str) -> ExitCode {
     }
 }
 
+/// The report of words that could not be read.
+fn unread(error: &io::Error) -> Report {
+    match error.kind() {
+        io::ErrorKind::OutOfMemory => Report::bare(Status::Memory),
+        _ => Report::bare(Status::Words),
+    }
+}
+
+/// Runs words that are no session's.
+fn run_words<R: Wait + Files<File = File> + Print + Eprint + AllocGlobal>(
+    rt: &R,
+    words: &[String],
+) -> ExitCode {
+    if command_of(words).is_some() {
+        return finish(rt, run_over_files(rt, words));
+    }
+    match asked(words) {
+        Some(text) => show(rt, text),
+        None => finish(rt, usage_fault(rt, words)),
+    }
+}
+
 fn main(rt: HostRuntime) -> ExitCode {
     let words = match words_of(&rt) {
         Ok(words) => words,
-        Err(error) if error.kind() == io::ErrorKind::OutOfMemory => {
-            return finish(&rt, Report::bare(Status::Memory));
-        }
-        Err(_) => return finish(&rt, Report::bare(Status::Words)),
+        Err(error) => return finish(&rt, unread(&error)),
     };
-    let words = words.as_slice();
-    if let Some(session) = Session::of(words) {
-        let (others, journals) = (session.others(), session.journals());
-        let files = SessionFiles {
-            out_disk: FileDisk::new(&rt, session.outbox, &journals, Opening::Write),
-            in_disk: FileDisk::new(&rt, session.inbox, &journals, Opening::Write),
-            others: &others,
-        };
-        let report = run_over_sockets(&rt, session, files);
-        return finish(&rt, report);
-    }
-    if command_of(words).is_some() {
-        let report = run_over_files(&rt, words);
-        return finish(&rt, report);
-    }
-    match asked(words) {
-        Some(text) => show(&rt, text),
-        None => finish(&rt, usage_fault(&rt, words)),
-    }
+    let Some(session) = Session::of(words.as_slice()) else {
+        return run_words(&rt, words.as_slice());
+    };
+    let (others, journals) = (session.others(), session.journals());
+    let files = SessionFiles {
+        out_disk: FileDisk::new(&rt, session.outbox, &journals, Opening::Write),
+        in_disk: FileDisk::new(&rt, session.inbox, &journals, Opening::Write),
+        others: &others,
+    };
+    finish(&rt, run_over_sockets(&rt, session, files))
 }

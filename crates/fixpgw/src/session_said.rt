@@ -10,7 +10,7 @@ use gw_outside::Disk;
 use gw_real::{DiskReason, FileDisk, Kept, Named, Reason};
 use gw_sockets::{AcceptDialer, ConnectDialer, SocketReason};
 use schema_toml::ConfigFault;
-use session_config::read_configuration;
+use session_config::{Role, read_configuration};
 use std::alloc::{AllocError, Global};
 use std::fs::File;
 use std::io::{self, ErrorKind};
@@ -82,6 +82,14 @@ struct Plans {
     text: Vec<u8>,
 }
 
+/// How many senders CONFIG, whose text this is, gives the session, if it is one's.
+fn senders_of(alloc: Global, role: Role, config: &[u8]) -> Option<u8> {
+    match read_configuration(alloc, role, config) {
+        Ok(configuration) => Some(configuration.trade.senders),
+        Err(_) => None,
+    }
+}
+
 /// Reads INPUT again, and CONFIG, whose text this is; none where either cannot be read.
 fn plans_again<R: Files<File = File>>(
     rt: &R,
@@ -90,13 +98,8 @@ fn plans_again<R: Files<File = File>>(
     config: &[u8],
 ) -> Option<Plans> {
     let text = text_of_file(rt, alloc, session.input.path)?;
-    match read_configuration(alloc, session.role, config) {
-        Ok(configuration) => Some(Plans {
-            senders: configuration.trade.senders,
-            text,
-        }),
-        Err(_) => None,
-    }
+    let senders = senders_of(alloc, session.role, config)?;
+    Some(Plans { senders, text })
 }
 
 /// Adds the line of INPUT that gives no payload to a sender, as far as INPUT can be read again.

@@ -4,7 +4,7 @@ ghost use Rattle.std.specs.Prelude.{◌<◌};
 
 use gateway::{Outside, Status, run};
 use gw_fakes::{Calls, MemDisk, MemSink, MemSource};
-use gw_outside::Bytes;
+use gw_outside::{Bytes, Disk, Sink, Source};
 use std::alloc::{AllocError, Global};
 use std::sync::Wait;
 
@@ -19,15 +19,19 @@ pub struct Numbers {
     pub room: usize,
 }
 
-/// No call fails, and INPUT comes in pieces of seven bytes.
-pub const NONE_FAILS: Numbers = Numbers {
-    piece: 7,
-    config: 0,
-    input: 0,
-    wire: 0,
-    out: 0,
-    room: 4096,
-};
+impl Numbers {
+    /// No call fails, and INPUT comes in pieces of this size.
+    pub fn in_pieces(piece: usize) -> Numbers {
+        Numbers {
+            piece,
+            config: 0,
+            input: 0,
+            wire: 0,
+            out: 0,
+            room: 4096,
+        }
+    }
+}
 
 /// What a run is over: the words of its command, CONFIG and INPUT.
 #[derive(Clone, Copy)]
@@ -84,66 +88,91 @@ fn sink(alloc: Global, room: usize, fail: u64) -> Result<MemSink, AllocError> {
 }
 
 /// CONFIG and INPUT.
-fn sources(
-    alloc: Global,
-    case: Case<'_>,
-    numbers: Numbers,
-) -> Result<(MemSource, MemSource), AllocError> {
-    let config = source(alloc, case.config, 64, numbers.config)?;
-    let input = source(alloc, case.input, numbers.piece.max(1), numbers.input)?;
-    Ok((config, input))
+#[derive(Drop)]
+struct Sources {
+    config: MemSource,
+    input: MemSource,
 }
 
 /// WIRE and OUT.
-fn sinks(alloc: Global, numbers: Numbers) -> Result<(MemSink, MemSink), AllocError> {
-    let wire = sink(alloc, numbers.room, numbers.wire)?;
-    let out = sink(alloc, numbers.room, numbers.out)?;
-    Ok((wire, out))
+#[derive(Drop)]
+struct Sinks {
+    wire: MemSink,
+    out: MemSink,
 }
 
 /// The disks of OUTBOX and INBOX, which no case names.
-fn disks(alloc: Global) -> Result<(MemDisk, MemDisk), AllocError> {
+#[derive(Drop)]
+struct Disks {
+    outbox: MemDisk,
+    inbox: MemDisk,
+}
+
+fn fresh_sources(alloc: Global, case: Case<'_>, numbers: Numbers) -> Result<Sources, AllocError> {
+    let config = source(alloc, case.config, 64, numbers.config)?;
+    let input = source(alloc, case.input, numbers.piece.max(1), numbers.input)?;
+    Ok(Sources { config, input })
+}
+
+fn fresh_sinks(alloc: Global, numbers: Numbers) -> Result<Sinks, AllocError> {
+    let wire = sink(alloc, numbers.room, numbers.wire)?;
+    let out = sink(alloc, numbers.room, numbers.out)?;
+    Ok(Sinks { wire, out })
+}
+
+fn fresh_disks(alloc: Global) -> Result<Disks, AllocError> {
     let outbox = MemDisk::without_faults(alloc, 0)?;
     let inbox = MemDisk::without_faults(alloc, 0)?;
-    Ok((outbox, inbox))
+    Ok(Disks { outbox, inbox })
 }
 
 /// The devices of a case.
-fn outside(
+fn fresh_devices(
     alloc: Global,
     case: Case<'_>,
     numbers: Numbers,
 ) -> Result<Outside<MemSource, MemSink, MemDisk>, AllocError> {
-    let (config, input) = sources(alloc, case, numbers)?;
-    let (wire, out) = sinks(alloc, numbers)?;
-    let (out_disk, in_disk) = disks(alloc)?;
+    let sources = fresh_sources(alloc, case, numbers)?;
+    let sinks = fresh_sinks(alloc, numbers)?;
+    let disks = fresh_disks(alloc)?;
     Ok(Outside {
-        config,
-        input,
-        wire,
-        out,
-        out_disk,
-        in_disk,
+        config: sources.config,
+        input: sources.input,
+        wire: sinks.wire,
+        out: sinks.out,
+        out_disk: disks.outbox,
+        in_disk: disks.inbox,
     })
+}
+
+/// Adds the words of a command.
+fn push_words(alloc: Global, words: &mut Vec<String>, text: &str) -> Result<(), AllocError> {
+    for word in text.split(" ") {
+        let word = String::from_str(alloc, word)?;
+        words.push(word)?;
+    }
+    Ok(())
 }
 
 /// The words of a command.
 fn split(alloc: Global, text: &str) -> Result<Vec<String>, AllocError> {
     let mut words = Vec::new(alloc);
-    for word in text.split(" ") {
-        words.push(String::from_str(alloc, word)?)?;
-    }
+    push_words(alloc, &mut words, text)?;
     Ok(words)
 }
 
-/// Runs words over devices.
-fn run_over<R: Wait>(
+/// Runs words over devices of any kind. Its caller needs no more of what `run` promises than that they come back.
+fn run_over<R: Wait, S: Source, K: Sink, D: Disk>(
     rt: &R,
     alloc: Global,
     words: &[String],
-    outside: Outside<MemSource, MemSink, MemDisk>,
-) -> Outcome {
-    let (status, outside) = run(rt, alloc, words, outside);
+    outside: Outside<S, K, D>,
+) -> (Status, Outside<S, K, D>) {
+    run(rt, alloc, words, outside)
+}
+
+/// How a run ended. It closes the devices of which no case asks more.
+fn outcome_of(status: Status, outside: Outside<MemSource, MemSink, MemDisk>) -> Outcome {
     let Outside {
         config: _,
         input: _,
@@ -163,6 +192,7 @@ pub fn ended<R: Wait>(
     numbers: Numbers,
 ) -> Result<Outcome, AllocError> {
     let words = split(alloc, case.words)?;
-    let outside = outside(alloc, case, numbers)?;
-    Ok(run_over(rt, alloc, words.as_slice(), outside))
+    let outside = fresh_devices(alloc, case, numbers)?;
+    let (status, outside) = run_over(rt, alloc, words.as_slice(), outside);
+    Ok(outcome_of(status, outside))
 }

@@ -2,6 +2,7 @@
 
 use crate::devices::Case;
 use crate::texts::{Text, bytes_named};
+use crate::told::Whole;
 
 /// A command: its words, and the files of CONFIG, of INPUT, and of all that WIRE and OUT are to gain; no name is no bytes.
 #[derive(Clone, Copy)]
@@ -98,13 +99,11 @@ impl Form {
         }
     }
 
-    /// All that WIRE is to gain.
-    pub fn wire(self, texts: &[Text]) -> &[u8] {
-        bytes_named(texts, self.wire)
-    }
-
-    /// All that OUT is to gain.
-    pub fn out(self, texts: &[Text]) -> &[u8] {
-        bytes_named(texts, self.out)
+    /// All that the command is to give.
+    pub fn whole(self, texts: &[Text]) -> Whole<'_> {
+        Whole {
+            wire: bytes_named(texts, self.wire),
+            out: bytes_named(texts, self.out),
+        }
     }
 }

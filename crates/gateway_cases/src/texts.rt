@@ -64,15 +64,22 @@ fn read_text<R: Files + AllocGlobal>(rt: &R, name: &'static str) -> io::Result<T
     Ok(Text { name, bytes })
 }
 
+/// Reads all files, and adds their texts.
+fn push_texts<R: Files + AllocGlobal>(rt: &R, texts: &mut Vec<Text>) -> io::Result<()> {
+    for name in FILES {
+        let text = read_text(rt, name)?;
+        texts.push(text)?;
+    }
+    Ok(())
+}
+
 /// Reads all files.
 ///
 /// # Errors
 /// A file that cannot be read, or want of memory.
 pub fn read_texts<R: Files + AllocGlobal>(rt: &R) -> io::Result<Vec<Text>> {
     let mut texts = Vec::new(rt.alloc());
-    for name in FILES {
-        texts.push(read_text(rt, name)?)?;
-    }
+    push_texts(rt, &mut texts)?;
     Ok(texts)
 }
 

@@ -2,7 +2,7 @@
 
 use gw_fakes::MemDisk;
 use jr_log::LogJournal;
-use jr_record::{Journal, Limits, Record};
+use jr_record::{Limits, Record};
 use std::alloc::Global;
 
 /// The limits of a session.
@@ -11,18 +11,12 @@ const LIMITS: Limits = Limits {
     bytes: 1 << 30,
 };
 
-/// The records of a journal.
-pub fn records(alloc: Global, disk: MemDisk) -> Option<Vec<Record>> {
-    let mut journal = LogJournal::open(alloc, disk, LIMITS).ok()?;
-    let mut records = Vec::new(alloc);
-    for at in 0..journal.len() {
-        if at >= journal.len() {
-            return None;
-        }
-        let record = journal.read(at).ok()?;
-        records.push(record).ok()?;
-    }
-    Some(records)
+/// A journal on a disk in memory.
+pub type Log = LogJournal<MemDisk>;
+
+/// The journal on a disk; none where there is none.
+pub fn journal(alloc: Global, disk: MemDisk) -> Option<Log> {
+    LogJournal::open(alloc, disk, LIMITS).ok()
 }
 
 /// How many messages of an outbox an inbox has applied, where it applied them in order from the first on, each as it was sent,

@@ -8,6 +8,7 @@ mod ends;
 
 use compared::{applied, ordered};
 use ends::{Ended, acceptor, initiator};
+use jr_record::Record;
 use std::alloc::Global;
 use std::io;
 use std::net::{Net, TcpListener, TcpStream};
@@ -15,7 +16,12 @@ use std::sync::Wait;
 use std::thread::{Threads, join_mut};
 use std::time::Clock;
 
-/// What became of an end whose peer's outbox is this.
+/// How many messages of each of its two senders an outbox has, where they are those of its plan.
+fn sent(outbox: &[Record]) -> [Option<u64>; 2] {
+    [ordered(outbox, 1), ordered(outbox, 2)]
+}
+
+/// Prints what became of an end whose peer is this.
 fn print_end<R: Print + AllocGlobal>(
     rt: &R,
     name: &str,
@@ -23,12 +29,25 @@ fn print_end<R: Print + AllocGlobal>(
     peer: &Ended,
 ) -> io::Result<()> {
     let status = end.status;
-    let applied = applied(peer.outbox.as_slice(), end.inbox.as_slice());
-    let senders = [
-        ordered(end.outbox.as_slice(), 1),
-        ordered(end.outbox.as_slice(), 2),
-    ];
+    let applied = applied(peer.outbox.records(), end.inbox.records());
+    let senders = sent(end.outbox.records());
     println!(rt; "{name}: status {status}, applied {applied:?}, senders {senders:?}")
+}
+
+/// Prints what became of both ends.
+fn print_ends<R: Print + AllocGlobal>(
+    rt: &R,
+    accept: Option<&Ended>,
+    connect: Option<&Ended>,
+) -> io::Result<()> {
+    match (accept, connect) {
+        (None, _) => rt.println("accept was not set up"),
+        (_, None) => rt.println("connect was not set up"),
+        (Some(accept), Some(connect)) => {
+            print_end(rt, "accept", accept, connect)?;
+            print_end(rt, "connect", connect, accept)
+        }
+    }
 }
 
 /// Runs both ends at once.
@@ -45,12 +64,5 @@ fn both<R: Threads + Wait + Sync + Net<Listener = TcpListener, Stream = TcpStrea
 
 fn main(rt: HostRuntime) -> io::Result<()> {
     let (accept, connect) = both(&rt, rt.alloc());
-    let Some(accept) = accept else {
-        return println!(rt; "accept was not set up");
-    };
-    let Some(connect) = connect else {
-        return println!(rt; "connect was not set up");
-    };
-    print_end(&rt, "accept", &accept, &connect)?;
-    print_end(&rt, "connect", &connect, &accept)
+    print_ends(&rt, accept.as_ref(), connect.as_ref())
 }

@@ -13,10 +13,11 @@ mod session;
 mod tapes;
 
 use fixp_end::{Flow, Role};
-use runs::sessions;
+use runs::{Kind, push_sessions};
+use std::alloc::{AllocError, Global};
 use std::sync::Wait;
 use std::{fs, io};
-use tapes::{heard_all, read_tape};
+use tapes::{push_heard, read_tape};
 
 /// All flows.
 const FLOWS: [Flow; 4] = [
@@ -26,16 +27,59 @@ const FLOWS: [Flow; 4] = [
     Flow::None,
 ];
 
-/// Prints how the sessions of two flows go: over links whose width is drawn for each turn, and over links of a byte.
-fn print_sessions<R: Print + AllocGlobal + Wait>(
+/// Adds how the sessions of two flows go: over links whose width is drawn for each turn, and over links of a byte.
+fn push_flows<R: Wait>(
     rt: &R,
-    client: Flow,
-    server: Flow,
-) -> io::Result<()> {
-    let alloc = rt.alloc();
-    let drawn = sessions(alloc, [client, server], 0, 60, 40, rt)?;
-    let single = sessions(alloc, [client, server], 1, 600, 4, rt)?;
-    println!(rt; "{client:?} and {server:?}: {drawn}, and of a byte at a time {single}")
+    alloc: Global,
+    line: &mut String,
+    flows: [Flow; 2],
+) -> Result<(), AllocError> {
+    let drawn = Kind {
+        flows,
+        width: 0,
+        rounds: 60,
+    };
+    let single = Kind {
+        flows,
+        width: 1,
+        rounds: 600,
+    };
+    let [client, server] = flows;
+    write!(line, "{client:?} and {server:?}: ")?;
+    push_sessions(alloc, line, drawn, 40, rt)?;
+    line.push_str(", and of a byte at a time ")?;
+    push_sessions(alloc, line, single, 4, rt)
+}
+
+/// Prints how the sessions of two flows go.
+fn print_flows<R: Print + AllocGlobal + Wait>(rt: &R, flows: [Flow; 2]) -> io::Result<()> {
+    let mut line = String::new(rt.alloc());
+    push_flows(rt, rt.alloc(), &mut line, flows)?;
+    rt.println(line)
+}
+
+/// Prints how the sessions of all pairs of flows go.
+fn print_sessions<R: Print + AllocGlobal + Wait>(rt: &R) -> io::Result<()> {
+    for client in FLOWS {
+        for server in FLOWS {
+            print_flows(rt, [client, server])?;
+        }
+    }
+    Ok(())
+}
+
+/// Adds how an end of this role hears the tapes of the lines that begin with this word.
+fn push_tapes<R: Wait>(
+    rt: &R,
+    alloc: Global,
+    line: &mut String,
+    role: Role,
+    name: &str,
+    lines: &str,
+) -> Result<(), AllocError> {
+    write!(line, "{name}: ")?;
+    let mut tape = read_tape(alloc, role, name, lines)?;
+    push_heard(alloc, line, &mut tape, rt)
 }
 
 /// Prints how an end of this role hears the tapes of the lines that begin with this word.
@@ -45,16 +89,13 @@ fn print_tapes<R: Print + AllocGlobal + Wait>(
     name: &str,
     lines: &str,
 ) -> io::Result<()> {
-    let heard = heard_all(rt.alloc(), read_tape(rt.alloc(), role, name, lines)?, rt)?;
-    println!(rt; "{name}: {heard}")
+    let mut line = String::new(rt.alloc());
+    push_tapes(rt, rt.alloc(), &mut line, role, name, lines)?;
+    rt.println(line)
 }
 
 fn main(rt: HostRuntime) -> io::Result<()> {
-    for client in FLOWS {
-        for server in FLOWS {
-            print_sessions(&rt, client, server)?;
-        }
-    }
+    print_sessions(&rt)?;
     let lines = fs::read_to_string(&rt, "tapes.txt")?;
     print_tapes(&rt, Role::Acceptor, "accept", lines.as_str())?;
     print_tapes(&rt, Role::Initiator, "connect", lines.as_str())

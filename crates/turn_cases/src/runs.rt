@@ -7,8 +7,24 @@ use fixp_end::Flow;
 use std::alloc::{AllocError, Global};
 use std::sync::Wait;
 
-/// The plan of a session of these flows over a link of this width.
-fn plan(chance: &mut Chance, flows: [Flow; 2], width: usize, rounds: u64) -> Plan {
+/// What sessions that are drawn have in common.
+#[derive(Clone, Copy)]
+pub struct Kind {
+    /// The flows of the initiator's messages and of the acceptor's.
+    pub flows: [Flow; 2],
+    /// The width of the link.
+    pub width: usize,
+    /// Below how many rounds a connection is cut.
+    pub rounds: u64,
+}
+
+/// The plan of a session of this kind.
+fn plan(chance: &mut Chance, kind: Kind) -> Plan {
+    let Kind {
+        flows,
+        width,
+        rounds,
+    } = kind;
     Plan {
         flows,
         senders: [1 + chance.below(4) as u8, 1 + chance.below(4) as u8],
@@ -46,24 +62,41 @@ fn session_fault<R: Wait>(
     }
 }
 
-/// How so many sessions of these flows went: in words, from the seed of the first of them on.
+/// What is wrong with the session of this kind and this seed, if anything is.
+fn seeded_fault<R: Wait>(alloc: Global, kind: Kind, seed: u64, rt: &R) -> Option<&'static str> {
+    let mut chance = Chance::of(seed);
+    let plan = plan(&mut chance, kind);
+    session_fault(alloc, plan, chance, rt)
+}
+
+/// The first of so many sessions with which something is wrong, by its seed, and what is.
+fn first_fault<R: Wait>(
+    alloc: Global,
+    kind: Kind,
+    count: u64,
+    rt: &R,
+) -> Option<(u64, &'static str)> {
+    for seed in 1..=count {
+        if let Some(what) = seeded_fault(alloc, kind, seed, rt) {
+            return Some((seed, what));
+        }
+    }
+    None
+}
+
+/// Adds how so many sessions of this kind went: from the seed 1 on.
 ///
 /// # Errors
 /// Want of memory for the words.
-pub fn sessions<R: Wait>(
+pub fn push_sessions<R: Wait>(
     alloc: Global,
-    flows: [Flow; 2],
-    width: usize,
-    rounds: u64,
+    line: &mut String,
+    kind: Kind,
     count: u64,
     rt: &R,
-) -> Result<String, AllocError> {
-    for seed in 1..=count {
-        let mut chance = Chance::of(seed);
-        let plan = plan(&mut chance, flows, width, rounds);
-        if let Some(what) = session_fault(alloc, plan, chance, rt) {
-            return format!(in alloc; "{what} with seed {seed}");
-        }
+) -> Result<(), AllocError> {
+    match first_fault(alloc, kind, count, rt) {
+        Some((seed, what)) => write!(line, "{what} with seed {seed}"),
+        None => write!(line, "{count} hold"),
     }
-    format!(in alloc; "{count} hold")
 }

@@ -4,7 +4,7 @@
 ghost use Rattle.std.specs.Prelude.{◌≡◌};
 
 use case_words::{bytes, halves};
-use driven_ends::{Disks, DrivenEnd, Setup, Standing, fresh_disks, journal};
+use driven_ends::{Disks, DrivenEnd, Log, Setup, Standing, fresh_disks, journal};
 use fixp_end::{Ending, Flow, Role, Violation};
 use gw_fakes::MemDisk;
 use gw_link_fakes::MemTape;
@@ -68,11 +68,19 @@ pub struct Tape {
     places: Vec<Place>,
 }
 
-/// What came of a tape: how the connection ended, and the payloads that the inbox has.
+/// What came of a tape: how the connection ended, and the inbox.
 #[derive(Drop)]
 struct Came {
     ending: Option<Ending>,
-    applied: Vec<Bytes>,
+    inbox: Log,
+}
+
+/// The payloads that an inbox has.
+#[derive(Clone, Copy)]
+enum Applied<'a> {
+    Nothing,
+    One(&'a [u8]),
+    More,
 }
 
 /// The verdict that a word tells.
@@ -90,25 +98,60 @@ fn told(word: &str) -> Verdict {
 }
 
 impl Tape {
-    /// Adds the frame that the words of a line tell, each some bytes in hexadecimal and what comes of them.
-    fn add_frame(&mut self, alloc: Global, words: &str) -> Result<(), AllocError> {
-        let start = self.bytes.len();
-        let behind = self
-            .places
+    /// Whether the peer's message stands in it.
+    fn has_payload(&self) -> bool {
+        self.places
             .as_slice()
             .iter()
-            .any(|place| place.verdict == Verdict::Payload);
+            .any(|place| place.verdict == Verdict::Payload)
+    }
+
+    /// Adds bytes of which the same is said.
+    fn add_bytes(&mut self, bytes: &[u8], place: Place) -> Result<(), AllocError> {
+        for _ in 0..bytes.len() {
+            self.places.push(place)?;
+        }
+        self.bytes.extend_from_slice(bytes)
+    }
+
+    /// Adds the bytes of a frame that a word tells: them in hexadecimal, and what comes of them.
+    fn add_word(
+        &mut self,
+        alloc: Global,
+        word: &str,
+        start: usize,
+        behind: bool,
+    ) -> Result<(), AllocError> {
+        let (digits, said) = word.split_once(":").unwrap_or((word, ""));
+        let verdict = told(said);
+        let part = bytes(alloc, digits)?;
+        self.add_bytes(
+            part.as_slice(),
+            Place {
+                verdict,
+                start,
+                behind,
+            },
+        )
+    }
+
+    /// Adds the frame that the words of a line tell.
+    fn add_frame(&mut self, alloc: Global, words: &str) -> Result<(), AllocError> {
+        let start = self.bytes.len();
+        let behind = self.has_payload();
         for word in words.split_whitespace() {
-            let (digits, said) = word.split_once(":").unwrap_or((word, ""));
-            let part = bytes(alloc, digits)?;
-            for _ in 0..part.len() {
-                self.places.push(Place {
-                    verdict: told(said),
-                    start,
-                    behind,
-                })?;
+            self.add_word(alloc, word, start, behind)?;
+        }
+        Ok(())
+    }
+
+    /// Adds the frames of the lines that begin with this word.
+    fn add_frames(&mut self, alloc: Global, name: &str, lines: &str) -> Result<(), AllocError> {
+        for line in lines.lines() {
+            let (word, words) = halves(line);
+            if word == name {
+                self.add_frame(alloc, words)?;
             }
-            self.bytes.extend_from_slice(part.as_slice())?;
         }
         Ok(())
     }
@@ -124,12 +167,7 @@ pub fn read_tape(alloc: Global, role: Role, name: &str, lines: &str) -> Result<T
         bytes: Vec::new(alloc),
         places: Vec::new(alloc),
     };
-    for line in lines.lines() {
-        let (word, words) = halves(line);
-        if word == name {
-            tape.add_frame(alloc, words)?;
-        }
-    }
+    tape.add_frames(alloc, name, lines)?;
     Ok(tape)
 }
 
@@ -189,38 +227,43 @@ fn number_of(violation: Violation) -> u64 {
 }
 
 /// Whether a connection may have ended so.
-fn ends_so(verdict: Verdict, start: usize, ending: Option<Ending>) -> bool {
-    match verdict {
-        Verdict::Same | Verdict::Payload => ending == Some(Ending::Finished),
-        Verdict::Bad => ending == Some(Ending::Violation(Violation::BadFrame { at: start as u64 })),
-        Verdict::Waits => ending == Some(Ending::LinkEnded),
-        Verdict::Violation => matches!(&ending, Some(Ending::Violation(_))),
-        Verdict::Breaks(number) => match ending {
-            Some(Ending::Violation(violation)) => number_of(violation) == number,
-            _ => false,
-        },
-        Verdict::Unfinished => ending.is_some() && ending != Some(Ending::Finished),
-        Verdict::Any | Verdict::Length | Verdict::Template => ending.is_some(),
+fn ends_so(verdict: Verdict, start: usize, ending: Ending) -> bool {
+    match (verdict, ending) {
+        (Verdict::Same | Verdict::Payload, ending) => matches!(&ending, Ending::Finished),
+        (Verdict::Bad, Ending::Violation(Violation::BadFrame { at })) => at == start as u64,
+        (Verdict::Waits, ending) => matches!(&ending, Ending::LinkEnded),
+        (Verdict::Violation, ending) => matches!(&ending, Ending::Violation(_)),
+        (Verdict::Breaks(number), Ending::Violation(violation)) => number_of(violation) == number,
+        (Verdict::Bad | Verdict::Breaks(_), _) => false,
+        (Verdict::Unfinished, ending) => !matches!(&ending, Ending::Finished),
+        (Verdict::Any | Verdict::Length | Verdict::Template, _) => true,
+    }
+}
+
+/// Whether a payload is the message that was sent in a frame.
+fn is_sent(frame: &[u8], payload: &[u8]) -> bool {
+    match frame.split_at_checked(4) {
+        Some((_, sent)) => sent.split_at_checked(10).map(|parts| parts.0) == Some(payload),
+        None => false,
     }
 }
 
 /// Whether an inbox may hold these payloads: the peer's message, where its frame came before the byte that was changed or the session
 /// went on without fault, and nothing else. Where the change is in the message, it holds what stands in the tape.
-fn holds_so(verdict: Verdict, place: Place, frame: &[u8], applied: &[Bytes]) -> bool {
+fn holds_so(verdict: Verdict, behind: bool, frame: &[u8], applied: Applied<'_>) -> bool {
     match (verdict, applied) {
         (Verdict::Any | Verdict::Unfinished | Verdict::Length | Verdict::Template, _) => true,
-        (Verdict::Payload, [payload]) => match frame.split_at_checked(4) {
-            Some((_, sent)) => sent.split_at_checked(10).map(|parts| parts.0)
-                == Some(payload.as_slice()),
-            None => false,
-        },
-        (Verdict::Same, [payload]) => payload.as_slice() == &MESSAGE[..],
-        (Verdict::Violation | Verdict::Breaks(_), [payload]) => payload.as_slice() == &MESSAGE[..],
-        (Verdict::Violation | Verdict::Breaks(_), []) => !place.behind,
-        (Verdict::Bad | Verdict::Waits, [payload]) => {
-            place.behind && payload.as_slice() == &MESSAGE[..]
+        (Verdict::Payload, Applied::One(payload)) => is_sent(frame, payload),
+        (Verdict::Same | Verdict::Violation | Verdict::Breaks(_), Applied::One(payload)) => {
+            payload == &MESSAGE[..]
         }
-        (Verdict::Bad | Verdict::Waits, []) => !place.behind,
+        (Verdict::Bad | Verdict::Waits, Applied::One(payload)) => {
+            behind && payload == &MESSAGE[..]
+        }
+        (
+            Verdict::Violation | Verdict::Breaks(_) | Verdict::Bad | Verdict::Waits,
+            Applied::Nothing,
+        ) => !behind,
         _ => false,
     }
 }
@@ -253,43 +296,65 @@ fn copied(alloc: Global, disk: &MemDisk) -> Option<MemDisk> {
     Some(copy)
 }
 
-/// The payloads that an inbox has.
-fn payloads(alloc: Global, disk: MemDisk) -> Option<Vec<Bytes>> {
-    let journal = journal(alloc, disk)?;
-    let mut payloads = Vec::new(alloc);
-    for record in journal.records() {
-        if let Record::Apply { payload, .. } = record {
-            payloads
-                .push(Bytes::from_slice(alloc, payload.as_slice()).ok()?)
-                .ok()?;
-        }
-    }
-    Some(payloads)
+/// Disks with the same content.
+fn both_copied(alloc: Global, disks: &Disks) -> Option<Disks> {
+    Some(Disks {
+        outbox: copied(alloc, &disks.outbox)?,
+        inbox: copied(alloc, &disks.inbox)?,
+    })
 }
 
-/// What comes of an end of this role, whose journals stand so, and which hears these bytes; none where its inbox does not open
-/// again, or memory runs out.
-fn heard<R: Wait>(alloc: Global, role: Role, begun: &Disks, bytes: &[u8], rt: &R) -> Option<Came> {
+/// The payloads of the records of an inbox.
+fn payloads(records: &[Record]) -> Applied<'_> {
+    let mut applied = Applied::Nothing;
+    for record in records {
+        if let Record::Apply { payload, .. } = record {
+            applied = match applied {
+                Applied::Nothing => Applied::One(payload.as_slice()),
+                _ => Applied::More,
+            };
+        }
+    }
+    applied
+}
+
+/// A link that gives these bytes; none where memory runs out.
+fn link_over(alloc: Global, bytes: &[u8]) -> Option<MemTape> {
     let given = Bytes::from_slice(alloc, bytes).ok()?;
-    let mut link = MemTape::without_faults(alloc, given, 4096).ok()?;
-    let disks = Disks {
-        outbox: copied(alloc, &begun.outbox)?,
-        inbox: copied(alloc, &begun.inbox)?,
-    };
-    let mut end = DrivenEnd::open(alloc, setup(role), disks)?;
+    MemTape::without_faults(alloc, given, 4096).ok()
+}
+
+/// An end of this role whose journals stand so; none where memory runs out.
+fn end_over(alloc: Global, role: Role, begun: &Disks) -> Option<DrivenEnd> {
+    DrivenEnd::open(alloc, setup(role), both_copied(alloc, begun)?)
+}
+
+/// An end's connection over a link, until it has ended.
+fn connect<R: Wait>(end: &mut DrivenEnd, link: &mut MemTape, rt: &R) {
     end.begin();
     for _ in 0..TURNS {
         if end.standing() == Standing::Open {
-            end.turn(&mut link, 0, rt);
+            end.turn(link, 0, rt);
         }
     }
+}
+
+/// What came of an end; none where a journal of it does not open again.
+fn came_of(alloc: Global, end: DrivenEnd) -> Option<Came> {
     let ending = end.ending();
-    let disks = end.close();
-    let _ = journal(alloc, disks.outbox)?;
-    Some(Came {
-        ending,
-        applied: payloads(alloc, disks.inbox)?,
-    })
+    let Disks { outbox, inbox } = end.close();
+    let _ = journal(alloc, outbox)?;
+    let inbox = journal(alloc, inbox)?;
+    Some(Came { ending, inbox })
+}
+
+/// What comes of an end of this role, whose journals stand so, and which hears these bytes; none where a journal of it does not open
+/// again, or memory runs out.
+fn heard<R: Wait>(alloc: Global, role: Role, begun: &Disks, bytes: &[u8], rt: &R) -> Option<Came> {
+    let mut link = link_over(alloc, bytes)?;
+    let mut end = end_over(alloc, role, begun)?;
+    connect(&mut end, &mut link, rt);
+    came_of(alloc, end)
 }
 
 /// Whether what came of a tape whose byte at a place was changed is what has to come of it.
@@ -300,8 +365,29 @@ fn is_right(place: Place, size: u64, bytes: &[u8], came: &Came) -> bool {
         Verdict::Template => by_template(frame),
         said => said,
     };
-    ends_so(verdict, place.start, came.ending)
-        && holds_so(verdict, place, frame, came.applied.as_slice())
+    match came.ending {
+        Some(ending) => {
+            ends_so(verdict, place.start, ending)
+                && holds_so(verdict, place.behind, frame, payloads(came.inbox.records()))
+        }
+        None => false,
+    }
+}
+
+/// Whether an end that hears a tape whose byte at a place was changed does what it has to.
+fn hears_right<R: Wait>(
+    alloc: Global,
+    tape: &Tape,
+    begun: &Disks,
+    place: Place,
+    size: u64,
+    rt: &R,
+) -> bool {
+    let bytes = tape.bytes.as_slice();
+    match heard(alloc, tape.role, begun, bytes, rt) {
+        Some(came) => is_right(place, size, bytes, &came),
+        None => false,
+    }
 }
 
 /// Whether anything else comes of a tape whose byte at a place is changed than has to.
@@ -319,13 +405,9 @@ fn is_wrong<R: Wait>(
     let place = tape.places[at];
     let size = size_at(tape.bytes.as_slice(), place.start);
     tape.bytes[at] ^= change;
-    let came = heard(alloc, tape.role, begun, tape.bytes.as_slice(), rt);
-    let wrong = match &came {
-        Some(came) => !is_right(place, size, tape.bytes.as_slice(), came),
-        None => true,
-    };
+    let right = hears_right(alloc, tape, begun, place, size, rt);
     tape.bytes[at] ^= change;
-    wrong
+    !right
 }
 
 /// Of how many changes of a byte anything else comes than has to.
@@ -339,28 +421,53 @@ fn count_wrong<R: Wait>(alloc: Global, tape: &mut Tape, begun: &Disks, at: usize
     wrong
 }
 
-/// How many bytes were changed, each in three ways, and of how many tapes another thing came than has to; the first of those.
+/// Of how many changes of the bytes of a tape another thing comes than has to, and the first byte of those.
+#[derive(Clone, Copy)]
+struct Wrong {
+    count: u64,
+    first: Option<usize>,
+}
+
+/// All changes of a tape; none where memory runs out.
+fn all_wrong<R: Wait>(alloc: Global, tape: &mut Tape, rt: &R) -> Option<Wrong> {
+    let begun = begun(alloc, tape.role, rt)?;
+    let mut wrong = Wrong {
+        count: 0,
+        first: None,
+    };
+    for at in 0..tape.bytes.len() {
+        let here = count_wrong(alloc, tape, &begun, at, rt);
+        if here > 0 {
+            wrong.count = wrong.count.saturating_add(here);
+            wrong.first = wrong.first.or(Some(at));
+        }
+    }
+    Some(wrong)
+}
+
+/// Adds how many bytes were changed, each in three ways, and of how many tapes another thing came than has to; the first of those.
 ///
 /// # Errors
 /// Want of memory for the words.
-pub fn heard_all<R: Wait>(alloc: Global, mut tape: Tape, rt: &R) -> Result<String, AllocError> {
-    let Some(begun) = begun(alloc, tape.role, rt) else {
-        return format!(in alloc; "want of memory");
+pub fn push_heard<R: Wait>(
+    alloc: Global,
+    line: &mut String,
+    tape: &mut Tape,
+    rt: &R,
+) -> Result<(), AllocError> {
+    let Some(
+        Wrong {
+            count: wrong,
+            first,
+        },
+    ) = all_wrong(alloc, tape, rt)
+    else {
+        return line.push_str("want of memory");
     };
     let count = tape.bytes.len();
-    let mut wrong = 0u64;
-    let mut first = None;
-    for at in 0..count {
-        let here = count_wrong(alloc, &mut tape, &begun, at, rt);
-        if here > 0 {
-            wrong = wrong.saturating_add(here);
-            first = first.or(Some(at));
-        }
-    }
+    write!(line, "{count} bytes changed in three ways, {wrong} wrong")?;
     match first {
-        Some(at) => format!(in alloc;
-            "{count} bytes changed in three ways, {wrong} wrong, the first at byte {at}"
-        ),
-        None => format!(in alloc; "{count} bytes changed in three ways, 0 wrong"),
+        Some(at) => write!(line, ", the first at byte {at}"),
+        None => Ok(()),
     }
 }
