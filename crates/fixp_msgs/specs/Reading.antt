@@ -26,4 +26,5 @@ Lacks bytes least true = (block behind datum : List ℕ) → IsBlock bytes least
 -- a message of this template whose body stands in the bytes; or none, as they lack a block so long or the datum
 abbrev pub Finds : List ℕ → ℕ → ℕ → Bool → Option SessionMsg → Type 0
 Finds bytes template least datum None = Lacks bytes least datum
-Finds bytes template least datum (Some m) = ((row_of (message_of m)).template ≡ template) × HasBody bytes (row_of (message_of m)).fields (row_of (message_of m)).datum
+Finds bytes template least datum (Some m) = ((row_of (message_of m)).template ≡ template)
+    × HasBody bytes (row_of (message_of m)).fields (row_of (message_of m)).datum

@@ -55,6 +55,7 @@ message_in bytes =
     let block = take size (drop 8 bytes) in
     let behind = drop size (drop 8 bytes) in
     let m = message_at (template_in bytes) block behind in
-    if is_template (template_in bytes) && ((schema_in bytes == session_schema) && (nat_le (block_size (row_of m)) size && (nat_le (8 + size) (length bytes) && has_datum (row_of m).datum behind)))
+    if is_template (template_in bytes) && ((schema_in bytes == session_schema)
+    && (nat_le (block_size (row_of m)) size && (nat_le (8 + size) (length bytes) && has_datum (row_of m).datum behind)))
     then Some m
     else None

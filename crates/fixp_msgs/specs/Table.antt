@@ -28,17 +28,26 @@ pub record Row : Type 0 where
   pub datum : Option (List ℕ)
 
 abbrev pub row_of : Message → Row
-row_of (Message.negotiate session timestamp flow credentials) = record { template = 1; fields = identifier session ∷ u64 timestamp ∷ u8 flow ∷ []; datum = Some credentials }
-row_of (Message.negotiation_response session timestamp flow credentials) = record { template = 2; fields = identifier session ∷ u64 timestamp ∷ u8 flow ∷ []; datum = Some credentials }
-row_of (Message.negotiation_reject session timestamp code reason) = record { template = 3; fields = identifier session ∷ u64 timestamp ∷ u8 code ∷ []; datum = Some reason }
-row_of (Message.establish session timestamp keepalive next credentials) = record { template = 4; fields = identifier session ∷ u64 timestamp ∷ u32 keepalive ∷ optional next ∷ []; datum = Some credentials }
-row_of (Message.establishment_ack session timestamp keepalive next) = record { template = 5; fields = identifier session ∷ u64 timestamp ∷ u32 keepalive ∷ optional next ∷ []; datum = None }
-row_of (Message.establishment_reject session timestamp code reason) = record { template = 6; fields = identifier session ∷ u64 timestamp ∷ u8 code ∷ []; datum = Some reason }
+row_of (Message.negotiate session timestamp flow credentials) =
+    record { template = 1; fields = identifier session ∷ u64 timestamp ∷ u8 flow ∷ []; datum = Some credentials }
+row_of (Message.negotiation_response session timestamp flow credentials) =
+    record { template = 2; fields = identifier session ∷ u64 timestamp ∷ u8 flow ∷ []; datum = Some credentials }
+row_of (Message.negotiation_reject session timestamp code reason) =
+    record { template = 3; fields = identifier session ∷ u64 timestamp ∷ u8 code ∷ []; datum = Some reason }
+row_of (Message.establish session timestamp keepalive next credentials) =
+    record { template = 4; fields = identifier session ∷ u64 timestamp ∷ u32 keepalive ∷ optional next ∷ []; datum = Some credentials }
+row_of (Message.establishment_ack session timestamp keepalive next) =
+    record { template = 5; fields = identifier session ∷ u64 timestamp ∷ u32 keepalive ∷ optional next ∷ []; datum = None }
+row_of (Message.establishment_reject session timestamp code reason) =
+    record { template = 6; fields = identifier session ∷ u64 timestamp ∷ u8 code ∷ []; datum = Some reason }
 row_of (Message.sequence next) = record { template = 7; fields = u64 next ∷ []; datum = None }
 row_of Message.unsequenced_heartbeat = record { template = 8; fields = []; datum = None }
-row_of (Message.retransmit_request session timestamp first count) = record { template = 9; fields = identifier session ∷ u64 timestamp ∷ u64 first ∷ u32 count ∷ []; datum = None }
-row_of (Message.retransmission session next timestamp count) = record { template = 10; fields = identifier session ∷ u64 next ∷ u64 timestamp ∷ u32 count ∷ []; datum = None }
-row_of (Message.retransmit_reject session timestamp code reason) = record { template = 11; fields = identifier session ∷ u64 timestamp ∷ u8 code ∷ []; datum = Some reason }
+row_of (Message.retransmit_request session timestamp first count) =
+    record { template = 9; fields = identifier session ∷ u64 timestamp ∷ u64 first ∷ u32 count ∷ []; datum = None }
+row_of (Message.retransmission session next timestamp count) =
+    record { template = 10; fields = identifier session ∷ u64 next ∷ u64 timestamp ∷ u32 count ∷ []; datum = None }
+row_of (Message.retransmit_reject session timestamp code reason) =
+    record { template = 11; fields = identifier session ∷ u64 timestamp ∷ u8 code ∷ []; datum = Some reason }
 row_of (Message.applied first count) = record { template = 12; fields = u64 first ∷ u32 count ∷ []; datum = None }
 row_of (Message.not_applied first count) = record { template = 13; fields = u64 first ∷ u32 count ∷ []; datum = None }
 row_of (Message.finished_sending session last) = record { template = 14; fields = identifier session ∷ optional last ∷ []; datum = None }

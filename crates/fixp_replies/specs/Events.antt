@@ -81,7 +81,10 @@ tells_finish x f last =
 abbrev pub finish_told : Around → Facts → (last : ℕ) → Made
 finish_told x f last =
     if tells_finish x f last
-    then record { written = finished_sending x.config.session (if is_sequenced x.config.own_flow then Some last else None) ∷ []; next = own_finishing (outbox_finished f last) own.Told }
+    then record {
+      written = finished_sending x.config.session (if is_sequenced x.config.own_flow then Some last else None) ∷ [];
+      next = own_finishing (outbox_finished f last) own.Told;
+    }
     else record { written = []; next = outbox_finished f last }
 
 -- how a connection ends whose link ends

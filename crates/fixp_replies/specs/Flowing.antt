@@ -100,7 +100,8 @@ restarted f next count = requesting (receiving f (receiver_is.retransmitted f.co
 
 abbrev pub retransmission_rows : Around → Facts → (next count : ℕ) → List Row
 retransmission_rows x f next count =
-    row (is_some (request_is.start_fault (request_is.outstanding f.connection.requester) next count)) (bad_retransmission x f (request_is.start_fault (request_is.outstanding f.connection.requester) next count))
+    row (is_some (request_is.start_fault (request_is.outstanding f.connection.requester) next count))
+    (bad_retransmission x f (request_is.start_fault (request_is.outstanding f.connection.requester) next count))
     ∷ row true (accepts x [] (restarted f next count))
     ∷ []
 

@@ -57,16 +57,23 @@ misplaced x f template id awaited =
 abbrev pub rows_of : Around → Facts → Incoming → List Row
 rows_of x f (application payload) = within (is_established f.connection.phase) (application_rows x f)
 rows_of x f (session (negotiate id timestamp flow credentials)) = within (awaits_client x f) (negotiate_rows x f id timestamp flow credentials)
-rows_of x f (session (negotiation_response id timestamp flow credentials)) = of_session x f 2 id (within (is_negotiating f.connection.phase) (negotiation_response_rows x f flow))
-rows_of x f (session (negotiation_reject id timestamp code reason)) = of_session x f 3 id (within (is_negotiating f.connection.phase) (negotiation_reject_rows x f code))
+rows_of x f (session (negotiation_response id timestamp flow credentials)) =
+    of_session x f 2 id (within (is_negotiating f.connection.phase) (negotiation_response_rows x f flow))
+rows_of x f (session (negotiation_reject id timestamp code reason)) =
+    of_session x f 3 id (within (is_negotiating f.connection.phase) (negotiation_reject_rows x f code))
 rows_of x f (session (establish id timestamp keepalive next credentials)) = establish_rows_in x f id timestamp keepalive next credentials
-rows_of x f (session (establishment_ack id timestamp keepalive next)) = of_session x f 5 id (within (is_establishing f.connection.phase) (establishment_ack_rows x f keepalive next))
-rows_of x f (session (establishment_reject id timestamp code reason)) = of_session x f 6 id (within (is_establishing f.connection.phase) (establishment_reject_rows x f code))
+rows_of x f (session (establishment_ack id timestamp keepalive next)) =
+    of_session x f 5 id (within (is_establishing f.connection.phase) (establishment_ack_rows x f keepalive next))
+rows_of x f (session (establishment_reject id timestamp code reason)) =
+    of_session x f 6 id (within (is_establishing f.connection.phase) (establishment_reject_rows x f code))
 rows_of x f (session (sequence next)) = within (is_established f.connection.phase) (sequence_rows x f next)
 rows_of x f (session unsequenced_heartbeat) = row true (accepts x [] f) ∷ []
-rows_of x f (session (retransmit_request id timestamp first count)) = within (is_established f.connection.phase) (retransmit_request_rows x f id timestamp first count)
-rows_of x f (session (retransmission id next timestamp count)) = of_session x f 10 id (within (is_established f.connection.phase) (retransmission_rows x f next count))
-rows_of x f (session (retransmit_reject id timestamp code reason)) = of_session x f 11 id (within (is_established f.connection.phase) (retransmit_reject_rows x f))
+rows_of x f (session (retransmit_request id timestamp first count)) =
+    within (is_established f.connection.phase) (retransmit_request_rows x f id timestamp first count)
+rows_of x f (session (retransmission id next timestamp count)) =
+    of_session x f 10 id (within (is_established f.connection.phase) (retransmission_rows x f next count))
+rows_of x f (session (retransmit_reject id timestamp code reason)) =
+    of_session x f 11 id (within (is_established f.connection.phase) (retransmit_reject_rows x f))
 rows_of x f (session (applied first count)) = row true (accepts x [] f) ∷ []
 rows_of x f (session (not_applied first count)) = row (is_idempotent x.config.own_flow) (goes_on x (Told first count) [] f) ∷ row true (accepts x [] f) ∷ []
 rows_of x f (session (finished_sending id last)) = of_session x f 14 id (within (is_established f.connection.phase) (finished_sending_rows x f last))

@@ -64,7 +64,8 @@ GrowsIdempotent = (c : Option ℕ) (arrivals : List Arrival) (before : List Inbo
 -- reached, each once; and they rise
 abbrev pub MissesTheJumps : Type 0
 MissesTheJumps = (c : Option ℕ) (arrivals : List Arrival) (before : List InboxRecord) → MayCome c (next_number before) arrivals
-    → SameNumbers (settled (recorded (next_number before) arrivals)) (counts_from (next_number before) (reached (next_number before) arrivals - next_number before))
+    → SameNumbers (settled (recorded (next_number before) arrivals))
+    (counts_from (next_number before) (reached (next_number before) arrivals - next_number before))
     × (next_number before ≤ reached (next_number before) arrivals)
     × Ascending (next_number before) (missing (recorded (next_number before) arrivals))
 

@@ -74,7 +74,8 @@ pub record Sound (opening now : Account) : Type 0 where
 
 module _ {T : Type 0} (tells : T → Account) where
   -- no pass has the turn, and the value is at home
-  pub record Home (part : ℕ → Part) (opening : Account) (made : ℕ) (log : History) (top : ℕ) (homes : List (mathlib.Core.Option.Option (Option T))) : Type 0 where
+  pub record Home (part : ℕ → Part) (opening : Account) (made : ℕ) (log : History) (top : ℕ)
+      (homes : List (mathlib.Core.Option.Option (Option T))) : Type 0 where
     pub value : T
     pub home : homes ≡ some (Some value) ∷ []
     pub history : (tells value).history ≡ log

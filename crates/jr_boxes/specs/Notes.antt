@@ -65,7 +65,8 @@ pub record StandsAs {J : Type 0} (stands : J → List Record → Type 0) (j : J)
   pub noticed : Notices n i
 
 -- and every image of it holds these, and a beginning of the records refused
-pub record HoldsAs {J : Type 0} (stands : J → List Record → Type 0) (leaves : J → Option (List Record) → Type 0) (j : J) (flow : Flow) (n : Notes) (i refused : List InboxRecord) : Type 0 where
+pub record HoldsAs {J : Type 0} (stands : J → List Record → Type 0) (leaves : J → Option (List Record) → Type 0) (j : J) (flow : Flow) (n : Notes)
+    (i refused : List InboxRecord) : Type 0 where
   pub journal : Holds stands leaves j (records_of_inbox i) (map record_of refused)
   pub inbox : IsInbox flow (records_of_inbox i) i
   pub noticed : Notices n i

@@ -63,7 +63,8 @@ pub record StandsAs {J : Type 0} (stands : J → List Record → Type 0) (j : J)
   pub tallied : Tallies t h
 
 -- and every image of it holds these, and a beginning of the records refused
-pub record HoldsAs {J : Type 0} (stands : J → List Record → Type 0) (leaves : J → Option (List Record) → Type 0) (j : J) (t : Tally) (h : History) (refused : List OutboxRecord) : Type 0 where
+pub record HoldsAs {J : Type 0} (stands : J → List Record → Type 0) (leaves : J → Option (List Record) → Type 0) (j : J) (t : Tally) (h : History)
+    (refused : List OutboxRecord) : Type 0 where
   pub journal : Holds stands leaves j (records_of_history h) (map record_of refused)
   pub outbox : IsOutbox (records_of_history h) h
   pub tallied : Tallies t h

@@ -33,7 +33,8 @@ left_images one may_leave closing refused each (Some h) (image, left, holds) =
     record { kept = found.0; beginning = found.1; holds = one.one_list image h (closing ++ found.0) holds found.2 }
 
 -- so a journal that is closed in every image leaves its records alone
-pub settled_images : AtMostOneVerdict → (may_leave : List ℕ → Type 0) (records h : List Record) → AllByRecursion IsRecord records → AllClosed (front_of records) may_leave → records ≡ h
+pub settled_images : AtMostOneVerdict → (may_leave : List ℕ → Type 0) (records h : List Record) → AllByRecursion IsRecord records
+    → AllClosed (front_of records) may_leave → records ≡ h
     → (o : Option (List Record)) → Leaves may_leave o → IsSomeAnd o (IsImage h [])
 settled_images one may_leave records h legal closed stands = left_images one may_leave h [] (λ image left.
     ([], ([], refl), subst (IsJournal image) (stands ∙ sym (append-nil h)) (closed_holds records image legal (closed image left))))

@@ -11,7 +11,8 @@ use Rattle.jr_record.specs.Records.{is_control}
 use Rattle.jr_record.specs.Images.{record_size}
 
 -- The journal stands for the closing records, and every image of its disk holds these and a beginning of those refused
-pub record Holds {J : Type 0} (stands : J → List Record → Type 0) (leaves : J → Option (List Record) → Type 0) (j : J) (closing refused : List Record) : Type 0 where
+pub record Holds {J : Type 0} (stands : J → List Record → Type 0) (leaves : J → Option (List Record) → Type 0) (j : J) (closing refused : List Record)
+    : Type 0 where
   pub stands_for : stands j closing
   pub images : (image : Option (List Record)) → leaves j image → IsSomeAnd image (IsImage closing refused)
 

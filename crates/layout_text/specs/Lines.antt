@@ -40,7 +40,8 @@ lines_of_data before (d ∷ ds) = data_line before d ++ lines_of_data before ds
 abbrev pub lines_of_groups : List ℕ → PlanTree → List ℕ
 lines_of_groups before no_plans = []
 lines_of_groups before (plan g inner rest) =
-    group_line before g ++ lines_of_items (before_in before g) g.items ++ lines_of_groups (before_in before g) inner ++ lines_of_data (before_in before g) g.vars ++ lines_of_groups before rest
+    group_line before g ++ lines_of_items (before_in before g) g.items ++ lines_of_groups (before_in before g) inner
+    ++ lines_of_data (before_in before g) g.vars ++ lines_of_groups before rest
 
 -- ---- messages
 

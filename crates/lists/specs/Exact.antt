@@ -18,7 +18,8 @@ exact {A} same itself only x y = let P : A → Type 0 = λ z. same x z ≡ true 
 -- of pairs, part by part
 pub exact_pair : {A B : Type 0} {E : A → A → Bool} {F : B → B → Bool} → Exact E → Exact F → Exact (λ (p q : A × B). E p.0 q.0 && F p.1 q.1)
 exact_pair {A} {B} {E} {F} a b p q =
-    Decides-like (E p.0 q.0 && F p.1 q.1) (λ e. λ i. (e.0 i, e.1 i)) (λ e. (ap (λ z. z.0) e, ap (λ z. z.1) e)) (Decides-and (E p.0 q.0) (F p.1 q.1) (a p.0 q.0) (b p.1 q.1))
+    Decides-like (E p.0 q.0 && F p.1 q.1) (λ e. λ i. (e.0 i, e.1 i)) (λ e. (ap (λ z. z.0) e, ap (λ z. z.1) e))
+    (Decides-and (E p.0 q.0) (F p.1 q.1) (a p.0 q.0) (b p.1 q.1))
 
 -- of values that are told by others
 pub exact_by : {A B : Type 0} {E : B → B → Bool} (f : A → B) (g : B → A) → ((x : A) → g (f x) ≡ x) → Exact E → Exact (λ (x y : A). E (f x) (f y))

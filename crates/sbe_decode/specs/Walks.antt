@@ -47,7 +47,9 @@ entry_of b = record { items = b.items; groups = b.groups; vars = b.vars }
 -- a block of that size with its groups and its data
 abbrev pub read_parts : Order → ℕ → ℕ → ℕ → BlockPlan → List ℕ → Read Entry
 read_parts order version total size plan left =
-    next (read_block order version total size plan.marks plan.items left) (λ items after. next (read_groups order version total plan.groups after) (λ groups rest. next (read_data order version total plan.vars rest) (λ vars end. Ok (record { items = items; groups = groups; vars = vars }, end))))
+    next (read_block order version total size plan.marks plan.items left)
+    (λ items after. next (read_groups order version total plan.groups after)
+    (λ groups rest. next (read_data order version total plan.vars rest) (λ vars end. Ok (record { items = items; groups = groups; vars = vars }, end))))
 
 -- something by the layout that is found
 abbrev pub laid : {A : Type 0} → Result MessagePlan DecodeFault → (MessagePlan → Read A) → Read A
@@ -61,4 +63,5 @@ message_by template root =
 -- the whole message: its header, the layout of its template, its root block
 abbrev pub read_message : Plan → List ℕ → Result Message DecodeFault
 read_message schema bytes =
-    alone (next (read_header schema.order bytes) (λ h left. laid (layout_by schema h) (λ layout. along (message_by h.template) (read_parts schema.order h.version (length bytes) h.size layout.root left))))
+    alone (next (read_header schema.order bytes) (λ h left. laid (layout_by schema h)
+    (λ layout. along (message_by h.template) (read_parts schema.order h.version (length bytes) h.size layout.root left))))

@@ -19,7 +19,8 @@ parts_bytes order plan b =
 
 abbrev pub parts_fault : List Listing → BlockPlan → Block → Option EncodeFault
 parts_fault listings plan b =
-    first_fault (has_counts plan.items plan.groups plan.vars b.items b.groups b.vars) (items_fault listings plan.items b.items) (groups_fault listings plan.groups b.groups) (data_fault plan.vars b.vars)
+    first_fault (has_counts plan.items plan.groups plan.vars b.items b.groups b.vars) (items_fault listings plan.items b.items)
+    (groups_fault listings plan.groups b.groups) (data_fault plan.vars b.vars)
 
 abbrev pub dimension_bytes : Order → PlanHead → ℕ → List ℕ
 dimension_bytes order head n = count_bytes order head.block_prim head.block_length ++ count_bytes order head.count_prim n

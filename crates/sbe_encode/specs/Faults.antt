@@ -93,7 +93,8 @@ abbrev mutual
   pub entries_fault : List Listing → PlanHead → PlanTree → ℕ → BlockList → Option EncodeFault
   entries_fault listings head inner at no_blocks = None
   entries_fault listings head inner at (block items gs vars bs) =
-      or_else (under head.name at (first_fault (has_counts head.items inner head.vars items gs vars) (items_fault listings head.items items) (groups_fault listings inner gs) (data_fault head.vars vars))) (entries_fault listings head inner (at + 1) bs)
+      or_else (under head.name at (first_fault (has_counts head.items inner head.vars items gs vars) (items_fault listings head.items items)
+      (groups_fault listings inner gs) (data_fault head.vars vars))) (entries_fault listings head inner (at + 1) bs)
 
 -- a root block that the header cannot tell has the empty path; that of a legal plan it tells
 abbrev pub header_fault : MessagePlan → Option EncodeFault
@@ -102,7 +103,9 @@ header_fault layout = if not (can_write UInt16 (pos layout.root.block_length)) t
 -- the first fault of a message that has a layout, its length aside
 abbrev pub layout_fault : List Listing → MessagePlan → Message → Option EncodeFault
 layout_fault listings layout m =
-    or_else (header_fault layout) (first_fault (has_counts layout.root.items layout.root.groups layout.root.vars m.root.items m.root.groups m.root.vars) (items_fault listings layout.root.items m.root.items) (groups_fault listings layout.root.groups m.root.groups) (data_fault layout.root.vars m.root.vars))
+    or_else (header_fault layout) (first_fault (has_counts layout.root.items layout.root.groups layout.root.vars m.root.items m.root.groups m.root.vars)
+    (items_fault listings layout.root.items m.root.items) (groups_fault listings layout.root.groups m.root.groups)
+    (data_fault layout.root.vars m.root.vars))
 
 abbrev pub length_fault : ℕ → Option EncodeFault
 length_fault n = if nat_lt 16384 n then Some (TooLong n) else None

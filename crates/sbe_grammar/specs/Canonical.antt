@@ -83,22 +83,26 @@ abbrev mutual
   groups_bytes order (plan head inner rest) no_groups = []
   groups_bytes order (plan head inner rest) (absent gs) = groups_bytes order rest gs
   groups_bytes order (plan head inner rest) (entries bs gs) =
-      count_bytes order head.block_prim head.block_length ++ (count_bytes order head.count_prim (count_of_blocks bs) ++ (entries_bytes order head inner bs ++ groups_bytes order rest gs))
+      count_bytes order head.block_prim head.block_length ++ (count_bytes order head.count_prim (count_of_blocks bs)
+      ++ (entries_bytes order head inner bs ++ groups_bytes order rest gs))
 
   -- entries: each is a block, its groups, its data
   pub entries_bytes : Order → PlanHead → PlanTree → BlockList → List ℕ
   entries_bytes order head inner no_blocks = []
   entries_bytes order head inner (block items gs vars bs) =
-      block_bytes order head.block_length 0 head.items items ++ (groups_bytes order inner gs ++ (data_bytes order head.vars vars ++ entries_bytes order head inner bs))
+      block_bytes order head.block_length 0 head.items items ++
+      (groups_bytes order inner gs ++ (data_bytes order head.vars vars ++ entries_bytes order head inner bs))
 
 -- the header: the length of the root block, the template, and the id and the version of the schema
 abbrev pub header_bytes : Plan → MessagePlan → Message → List ℕ
 header_bytes schema layout m =
-    count_bytes schema.order UInt16 layout.root.block_length ++ (count_bytes schema.order UInt16 m.template ++ (count_bytes schema.order UInt16 schema.id ++ count_bytes schema.order UInt16 schema.version))
+    count_bytes schema.order UInt16 layout.root.block_length ++
+    (count_bytes schema.order UInt16 m.template ++ (count_bytes schema.order UInt16 schema.id ++ count_bytes schema.order UInt16 schema.version))
 
 abbrev pub message_bytes : Plan → MessagePlan → Message → List ℕ
 message_bytes schema layout m =
-    header_bytes schema layout m ++ (block_bytes schema.order layout.root.block_length 0 layout.root.items m.root.items ++ (groups_bytes schema.order layout.root.groups m.root.groups ++ data_bytes schema.order layout.root.vars m.root.vars))
+    header_bytes schema layout m ++ (block_bytes schema.order layout.root.block_length 0 layout.root.items m.root.items
+    ++ (groups_bytes schema.order layout.root.groups m.root.groups ++ data_bytes schema.order layout.root.vars m.root.vars))
 
 abbrev pub canonical_by : Plan → Option MessagePlan → Message → List ℕ
 canonical_by schema None m = []
@@ -223,7 +227,8 @@ abbrev mutual
 
 abbrev pub admits : List Listing → MessagePlan → Message → Bool
 admits listings layout m =
-    admits_items listings layout.root.items m.root.items && (admits_groups listings layout.root.groups m.root.groups && admits_data layout.root.vars m.root.vars)
+    admits_items listings layout.root.items m.root.items && (admits_groups listings layout.root.groups m.root.groups
+    && admits_data layout.root.vars m.root.vars)
 
 -- the plan has the message's template, the header holds the length of its root block, and all of its elements may be written
 pub record MayBeWritten (schema : Plan) (m : Message) : Type 0 where

@@ -59,7 +59,8 @@ read_block order version total size marks plans left =
 
 abbrev pub read_datum : Order → ℕ → DataPlan → List ℕ → Read Datum
 read_datum order total d left =
-    next (read_bytes total (size_of d.length) left) (λ bytes after. next (read_bytes total (unsigned order d.length bytes) after) (λ text rest. Ok (datum.Present text, rest)))
+    next (read_bytes total (size_of d.length) left) (λ bytes after. next (read_bytes total (unsigned order d.length bytes) after)
+    (λ text rest. Ok (datum.Present text, rest)))
 
 abbrev pub read_if_in : ℕ → DataPlan → Read Datum → List ℕ → Read Datum
 read_if_in version d present left = if is_in version d.since then present else Ok (datum.Absent, left)
@@ -78,7 +79,14 @@ pub record Dimension : Type 0 where
 
 abbrev pub read_dimension : Order → ℕ → PlanHead → List ℕ → Read Dimension
 read_dimension order total head left =
-    next (read_bytes total (size_of head.block_prim + size_of head.count_prim) left) (λ bytes rest. Ok (record { size = unsigned order head.block_prim (take (size_of head.block_prim) bytes); count = unsigned order head.count_prim (drop (size_of head.block_prim) bytes) }, rest))
+    next (read_bytes total (size_of head.block_prim + size_of head.count_prim) left)
+    (λ bytes rest. Ok (
+      record {
+        size = unsigned order head.block_prim (take (size_of head.block_prim) bytes);
+        count = unsigned order head.count_prim (drop (size_of head.block_prim) bytes);
+      },
+      rest,
+    ))
 
 -- an entry: the values of its block, its groups, its data
 pub record Entry : Type 0 where
@@ -89,7 +97,9 @@ pub record Entry : Type 0 where
 -- an entry, given how its groups are read
 abbrev pub read_entry : Order → ℕ → ℕ → PlanHead → ℕ → (List ℕ → Read GroupList) → List ℕ → Read Entry
 read_entry order version total head size inner left =
-    next (read_block order version total size head.marks head.items left) (λ items after. next (inner after) (λ groups behind. next (read_data order version total head.vars behind) (λ vars rest. Ok (record { items = items; groups = groups; vars = vars }, rest))))
+    next (read_block order version total size head.marks head.items left)
+    (λ items after. next (inner after) (λ groups behind. next (read_data order version total head.vars behind)
+    (λ vars rest. Ok (record { items = items; groups = groups; vars = vars }, rest))))
 
 -- so many entries
 abbrev pub repeated : ℕ → (List ℕ → Read Entry) → List ℕ → Read BlockList
@@ -117,7 +127,8 @@ group_before (group.Entries bs) gs = entries bs gs
 abbrev pub read_groups : Order → ℕ → ℕ → PlanTree → List ℕ → Read GroupList
 read_groups order version total no_plans left = Ok (no_groups, left)
 read_groups order version total (plan head inner rest) left =
-    next (read_group order version total head (read_groups order version total inner) left) (λ g behind. next (read_groups order version total rest behind) (λ gs end. Ok (group_before g gs, end)))
+    next (read_group order version total head (read_groups order version total inner) left)
+    (λ g behind. next (read_groups order version total rest behind) (λ gs end. Ok (group_before g gs, end)))
 
 -- ---- the whole message
 
@@ -138,7 +149,10 @@ header_in order bytes = record {
 
 abbrev pub read_body : Order → ℕ → ℕ → ℕ → BlockPlan → ℕ → List ℕ → Read Message
 read_body order version total size root template left =
-    next (read_block order version total size root.marks root.items left) (λ items after. next (read_groups order version total root.groups after) (λ groups behind. next (read_data order version total root.vars behind) (λ vars rest. Ok (record { template = template; root = record { items = items; groups = groups; vars = vars } }, rest))))
+    next (read_block order version total size root.marks root.items left)
+    (λ items after. next (read_groups order version total root.groups after)
+    (λ groups behind. next (read_data order version total root.vars behind)
+    (λ vars rest. Ok (record { template = template; root = record { items = items; groups = groups; vars = vars } }, rest))))
 
 abbrev pub read_by : Order → ℕ → Header → Option MessagePlan → List ℕ → Read Message
 read_by order total h None left = Err (UnknownTemplate h.template)

@@ -51,13 +51,16 @@ abbrev mutual
   SpellsGroups order version (entries bs gs) no_plans bytes = ⊥
   SpellsGroups order version (entries bs gs) (plan head inner rest) bytes =
       IsTrue (is_in version head.since)
-      × ((size : ℕ) × Then (IsNumber order head.block_prim size) (Then (IsNumber order head.count_prim (count_of_blocks bs)) (Then (SpellsEntries order version bs head inner size) (SpellsGroups order version gs rest))) bytes)
+      × ((size : ℕ) × Then (IsNumber order head.block_prim size)
+      (Then (IsNumber order head.count_prim (count_of_blocks bs))
+      (Then (SpellsEntries order version bs head inner size) (SpellsGroups order version gs rest))) bytes)
 
   -- entries, one behind another: each is a block of that size, its groups, its data
   pub SpellsEntries : Order → ℕ → BlockList → PlanHead → PlanTree → ℕ → List ℕ → Type 0
   SpellsEntries order version no_blocks head inner size bytes = bytes ≡ []
   SpellsEntries order version (block items gs vars bs) head inner size bytes =
-      Then (IsBlock order version size head.marks head.items items) (Then (SpellsGroups order version gs inner) (Then (SpellsData order version vars head.vars) (SpellsEntries order version bs head inner size))) bytes
+      Then (IsBlock order version size head.marks head.items items)
+      (Then (SpellsGroups order version gs inner) (Then (SpellsData order version vars head.vars) (SpellsEntries order version bs head inner size))) bytes
 
 -- the header, the root block of the size that the header tells, the groups, the data, and any bytes
 pub record SpellsBy (schema : Plan) (layout : MessagePlan) (bytes : List ℕ) (m : Message) : Type 0 where

@@ -20,7 +20,13 @@ part_unless_constant Constant p = []
 -- the part of a member, the member before ending at `end`
 abbrev pub part_of : List TypeDef → ℕ → MemberDef → Option Resolved → List Part
 part_of types end m (Some (Simple kind)) =
-    part_unless_constant m.presence (record { name = m.name; place = offset_of end m.offset; size = type_size types m.type_name; presence = m.presence; kind = kind })
+    part_unless_constant m.presence (record {
+      name = m.name;
+      place = offset_of end m.offset;
+      size = type_size types m.type_name;
+      presence = m.presence;
+      kind = kind;
+    })
 part_of types end m (Some (Members at)) = []
 part_of types end m None = []
 

@@ -100,7 +100,8 @@ items_of_member types name since place m None = []
 abbrev pub items_of_members : List TypeDef → List ℕ → ℤ → ℕ → ℕ → List MemberDef → List ItemPlan
 items_of_members types name since start end [] = []
 items_of_members types name since start end (m ∷ ms) =
-    items_of_member types name since (plus start (offset_of end m.offset)) m (resolved types m.type_name) ++ items_of_members types name since start (member_end types end m) ms
+    items_of_member types name since (plus start (offset_of end m.offset)) m (resolved types m.type_name)
+    ++ items_of_members types name since start (member_end types end m) ms
 
 -- a field's items, the field before ending at `end`: one, or those of its members
 abbrev pub items_by : List TypeDef → ℕ → FieldDef → Option Resolved → List ItemPlan

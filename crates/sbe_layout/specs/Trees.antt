@@ -38,7 +38,21 @@ weight_of (plan head inner rest) = 1 + weight_of inner + weight_of rest
 -- a head is stored as the pairs of its fields
 abbrev pub head_code : Coded PlanHead
 head_code =
-    code_by (List ℕ × (ℤ × (Primitive × (Primitive × (ℕ × (List ItemPlan × (List Mark × List DataPlan))))))) (coded× (coded_list coded_ℕ) (coded× coded_ℤ (coded× primitive.the_row.coded (coded× primitive.the_row.coded (coded× coded_ℕ (coded× (coded_list item.the_row.coded) (coded× (coded_list mark.the_row.coded) (coded_list datum.the_row.coded)))))))) (λ h. (h.name, (h.since, (h.block_prim, (h.count_prim, (h.block_length, (h.items, (h.marks, h.vars)))))))) (λ p. record { name = p.0; since = p.1.0; block_prim = p.1.1.0; count_prim = p.1.1.1.0; block_length = p.1.1.1.1.0; items = p.1.1.1.1.1.0; marks = p.1.1.1.1.1.1.0; vars = p.1.1.1.1.1.1.1 }) (λ _. refl)
+    code_by (List ℕ × (ℤ × (Primitive × (Primitive × (ℕ × (List ItemPlan × (List Mark × List DataPlan)))))))
+    (coded× (coded_list coded_ℕ) (coded× coded_ℤ (coded× primitive.the_row.coded
+    (coded× primitive.the_row.coded (coded× coded_ℕ (coded× (coded_list item.the_row.coded)
+    (coded× (coded_list mark.the_row.coded) (coded_list datum.the_row.coded))))))))
+    (λ h. (h.name, (h.since, (h.block_prim, (h.count_prim, (h.block_length, (h.items, (h.marks, h.vars))))))))
+    (λ p. record {
+      name = p.0;
+      since = p.1.0;
+      block_prim = p.1.1.0;
+      count_prim = p.1.1.1.0;
+      block_length = p.1.1.1.1.0;
+      items = p.1.1.1.1.1.0;
+      marks = p.1.1.1.1.1.1.0;
+      vars = p.1.1.1.1.1.1.1;
+    }) (λ _. refl)
 
 abbrev pub code_of : PlanTree → Gv
 code_of no_plans = gnil

@@ -48,7 +48,8 @@ names_in (Composite members) = map (λ m. m.name) members
 abbrev pub has_duplicate_name : Schema → Bool
 has_duplicate_name s =
     (any_pair same_name (map (λ t. t.name) s.types) || list_any (λ t. is_some (primitive_named t.name)) s.types)
-    || (list_any (λ t. any_pair same_name (names_in t.kind)) s.types || (any_pair same_name (map (λ m. m.name) s.messages) || list_any (λ b. any_pair same_name (names_in_block b)) (blocks_of s.messages)))
+    || (list_any (λ t. any_pair same_name (names_in t.kind)) s.types
+    || (any_pair same_name (map (λ m. m.name) s.messages) || list_any (λ b. any_pair same_name (names_in_block b)) (blocks_of s.messages)))
 
 -- ---- 2. ids: two of the messages, or of the elements of one message
 
@@ -128,7 +129,8 @@ has_bad_dimension s = list_any (λ b. list_any (is_bad_dimension_of s.types) b.g
 abbrev pub has_bad_data : Schema → Bool
 has_bad_data s = list_any (λ b. list_any (λ d. not (is_dimension d.length || is_uint32 d.length)) b.vars) (blocks_of s.messages)
 
--- ---- 10. since: above the schema's version, below what holds it or an earlier sibling of its kind; a root group behind older root data; an inner group or data not with its group
+-- ---- 10. since: above the schema's version, below what holds it or an earlier sibling of its kind; a root group behind older root data;
+-- an inner group or data not with its group
 
 abbrev pub is_outside : ℕ → ℤ → ℤ → Bool
 is_outside version least since = int_lt (pos version) since || int_lt since least
@@ -144,7 +146,8 @@ is_behind_older (suc level) vars since = false
 abbrev pub is_badly_extended : ℕ → Block → Bool
 is_badly_extended version b =
     (list_any (λ f. is_outside version b.since f.since) b.fields || any_pair int_lt (map (λ f. f.since) b.fields))
-    || ((list_any (λ g. is_outside version b.since g.since || (is_behind_older b.level b.vars g.since || is_new_inside b.level b.since g.since)) b.groups || any_pair int_lt (map (λ g. g.since) b.groups))
+    || ((list_any (λ g. is_outside version b.since g.since || (is_behind_older b.level b.vars g.since || is_new_inside b.level b.since g.since)) b.groups
+    || any_pair int_lt (map (λ g. g.since) b.groups))
     || (list_any (λ d. is_outside version b.since d.since || is_new_inside b.level b.since d.since) b.vars || any_pair int_lt (map (λ d. d.since) b.vars)))
 
 abbrev pub has_illegal_extension : Schema → Bool
@@ -163,7 +166,8 @@ is_too_large types m =
 
 abbrev pub is_over_limit_in : List TypeDef → Block → Bool
 is_over_limit_in types b =
-    list_any (λ f. is_bad_value (meaning_of types f.type_name) f.presence f.value) b.fields || list_any (λ g. is_above g.block_length 16384 || nat_lt 3 b.level) b.groups
+    list_any (λ f. is_bad_value (meaning_of types f.type_name) f.presence f.value) b.fields
+    || list_any (λ g. is_above g.block_length 16384 || nat_lt 3 b.level) b.groups
 
 abbrev pub is_past_limits : Schema → Bool
 is_past_limits s =

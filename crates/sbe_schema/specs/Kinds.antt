@@ -1,4 +1,5 @@
--- Enums, sets, dimensions and data lengths that are refused (SBE 1.0, "Enumerations", "Multi-value choice", "Repeating group dimensions", "Variable-length data").
+-- Enums, sets, dimensions and data lengths that are refused (SBE 1.0, "Enumerations", "Multi-value choice", "Repeating group dimensions",
+-- "Variable-length data").
 use Rattle.std.specs.Prelude.{◌*◌, pos, int_lt, nat_lt, Bool, true, false, not, ◌||◌, ◌&&◌, List, [], ◌∷◌}
 use Rattle.sbe_prim.specs.declared.Primitive.{Primitive}
 use Rattle.sbe_prim.specs.declared.Primitive.TheVariants.{Char, UInt8, UInt16, UInt32, UInt64}

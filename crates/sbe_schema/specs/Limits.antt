@@ -27,12 +27,14 @@ count_of_groups (group g inner rest) = plus (plus (plus (length g.fields) (lengt
 -- the block lengths of groups at every depth, each once
 abbrev pub blocks_of_groups : List TypeDef → GroupTree → ℕ
 blocks_of_groups types no_groups = 0
-blocks_of_groups types (group g inner rest) = plus (plus (block_length_of types g.block_length g.fields) (blocks_of_groups types inner)) (blocks_of_groups types rest)
+blocks_of_groups types (group g inner rest) = plus (plus (block_length_of types g.block_length g.fields) (blocks_of_groups types inner))
+    (blocks_of_groups types rest)
 
 -- a message has at most 1,024 elements, and its blocks are at most 16,384 bytes together
 abbrev pub is_large_message : List TypeDef → MessageDef → Bool
 is_large_message types m =
-    nat_lt 1024 (plus (plus (length m.fields) (length m.vars)) (count_of_groups m.groups)) || nat_lt 16384 (plus (block_length_of types m.block_length m.fields) (blocks_of_groups types m.groups))
+    nat_lt 1024 (plus (plus (length m.fields) (length m.vars)) (count_of_groups m.groups))
+    || nat_lt 16384 (plus (block_length_of types m.block_length m.fields) (blocks_of_groups types m.groups))
 
 -- a number is stated, and is above a limit, or is one that the primitive does not hold
 abbrev pub is_above : Option ℤ → ℕ → Bool
@@ -55,7 +57,8 @@ is_large_kind (Composite members) = false
 abbrev pub is_text : Primitive → ℕ → Bool
 is_text prim length = is_char prim && nat_lt 1 length
 
--- a constant that its type does not hold: an array of characters holds a text of at most its length, and all else a number of its primitive; a composite any number
+-- a constant that its type does not hold: an array of characters holds a text of at most its length, and all else a number of its
+-- primitive; a composite any number
 abbrev pub is_unfit : meaning.Meaning → Constant → Bool
 is_unfit means.Unknown value = false
 is_unfit (means.Number prim length) (Num z) = is_text prim length || not (holds prim z)

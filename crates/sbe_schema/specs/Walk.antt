@@ -68,12 +68,14 @@ walk_types types names at (t ∷ ts) = walk_type types names at t ++ walk_types 
 abbrev pub walk_fields : List TypeDef → List PathStep → Names → Numbers → ℤ → ℕ → ℕ → List FieldDef → List Place
 walk_fields types base names ids least_since end at [] = []
 walk_fields types base names ids least_since end at (f ∷ fs) =
-    place base Fields at names ids (field_table least_since end f) ∷ walk_fields types base (set.insert names f.name) (set.insert ids (pos f.id)) (int_max least_since f.since) (field_end types end f) (at + 1) fs
+    place base Fields at names ids (field_table least_since end f)
+    ∷ walk_fields types base (set.insert names f.name) (set.insert ids (pos f.id)) (int_max least_since f.since) (field_end types end f) (at + 1) fs
 
 abbrev pub walk_data : List PathStep → Parent → Names → Numbers → ℤ → ℕ → List DataDef → List Place
 walk_data base parent names ids least_since at [] = []
 walk_data base parent names ids least_since at (d ∷ ds) =
-    place base Data at names ids (data_table parent least_since d) ∷ walk_data base parent (set.insert names d.name) (set.insert ids (pos d.id)) (int_max least_since d.since) (at + 1) ds
+    place base Data at names ids (data_table parent least_since d)
+    ∷ walk_data base parent (set.insert names d.name) (set.insert ids (pos d.id)) (int_max least_since d.since) (at + 1) ds
 
 -- the names and the ids that fields, groups and data add to those before them; the ids of groups are those at every depth
 abbrev pub names_of_fields : Names → List FieldDef → Names
@@ -109,7 +111,10 @@ walk_groups types base parent names ids least_since at (group g inner rest) =
     let field_names = names_of_fields set.empty g.fields in
     let field_ids = ids_of_fields (set.insert ids (pos g.id)) g.fields in
     let group_ids = ids_of_groups field_ids inner in
-    (place base Groups at names ids (group_table parent least_since g) ∷ (walk_fields types here set.empty (set.insert ids (pos g.id)) g.since 0 0 g.fields ++ (walk_groups types here entry field_names field_ids g.since 0 inner ++ walk_data here entry (names_of_groups field_names inner) group_ids g.since 0 g.vars)))
+    (place base Groups at names ids (group_table parent least_since g)
+    ∷ (walk_fields types here set.empty (set.insert ids (pos g.id)) g.since 0 0 g.fields
+    ++ (walk_groups types here entry field_names field_ids g.since 0 inner
+    ++ walk_data here entry (names_of_groups field_names inner) group_ids g.since 0 g.vars)))
     ++ walk_groups types base parent (set.insert names g.name) (ids_of_data group_ids g.vars) (int_max least_since g.since) (at + 1) rest
 
 -- the lowest since of a block's data
@@ -130,7 +135,9 @@ abbrev pub walk_block : List TypeDef → List PathStep → Parent → Numbers �
 walk_block types base parent ids fields groups vars =
     let field_names = names_of_fields set.empty fields in
     let field_ids = ids_of_fields ids fields in
-    walk_fields types base set.empty ids parent.since 0 0 fields ++ (walk_groups types base parent field_names field_ids parent.since 0 groups ++ walk_data base parent (names_of_groups field_names groups) (ids_of_groups field_ids groups) parent.since 0 vars)
+    walk_fields types base set.empty ids parent.since 0 0 fields
+    ++ (walk_groups types base parent field_names field_ids parent.since 0 groups
+    ++ walk_data base parent (names_of_groups field_names groups) (ids_of_groups field_ids groups) parent.since 0 vars)
 
 abbrev pub ids_of_block : Numbers → List FieldDef → GroupTree → List DataDef → Numbers
 ids_of_block ids fields groups vars = ids_of_data (ids_of_groups (ids_of_fields ids fields) groups) vars
@@ -138,7 +145,8 @@ ids_of_block ids fields groups vars = ids_of_data (ids_of_groups (ids_of_fields 
 -- a group and the elements of its entries
 abbrev pub walk_group : List TypeDef → List PathStep → Parent → Names → Numbers → ℤ → ℕ → GroupHead → GroupTree → List Place
 walk_group types base parent names ids least_since at g inner =
-    place base Groups at names ids (group_table parent least_since g) ∷ walk_block types (base ++ path_step Groups at ∷ []) (entry_of parent g) (set.insert ids (pos g.id)) g.fields inner g.vars
+    place base Groups at names ids (group_table parent least_since g)
+    ∷ walk_block types (base ++ path_step Groups at ∷ []) (entry_of parent g) (set.insert ids (pos g.id)) g.fields inner g.vars
 
 -- a message and the elements that lie in it
 abbrev pub walk_message : List TypeDef → Names → Numbers → ℕ → MessageDef → List Place
@@ -152,4 +160,5 @@ walk_messages types names ids at (m ∷ ms) =
 
 unfoldable pub walk : Schema → List Place
 walk schema =
-    record { path_steps = []; names = set.empty; numbers = set.empty; table = whole } ∷ (walk_types schema.types set.empty 0 schema.types ++ walk_messages schema.types set.empty set.empty 0 schema.messages)
+    record { path_steps = []; names = set.empty; numbers = set.empty; table = whole }
+    ∷ (walk_types schema.types set.empty 0 schema.types ++ walk_messages schema.types set.empty set.empty 0 schema.messages)

@@ -31,7 +31,8 @@ use Rattle.sbe_skew.specs.Projected.{projected}
 
 abbrev pub same_field : List TypeDef → List TypeDef → FieldDef → FieldDef → Bool
 same_field types others f g =
-    (((((same_name f.name g.name && nat_eq f.id g.id) && sameb presence.the_type f.presence g.presence) && option_eq constant.eq-value.it f.value g.value) && option_eq int_eq f.offset g.offset) && int_eq f.since g.since)
+    (((((same_name f.name g.name && nat_eq f.id g.id) && sameb presence.the_type f.presence g.presence) && option_eq constant.eq-value.it f.value g.value)
+    && option_eq int_eq f.offset g.offset) && int_eq f.since g.since)
     && same_type types others f.type_name g.type_name
 
 abbrev pub same_datum : DataDef → DataDef → Bool
@@ -39,7 +40,8 @@ same_datum d e = datum.eq-value.it d e
 
 abbrev pub same_head : GroupHead → GroupHead → Bool
 same_head g h =
-    (((same_name g.name h.name && nat_eq g.id h.id) && sameb primitive.the_type g.block_prim h.block_prim) && sameb primitive.the_type g.count_prim h.count_prim) && int_eq g.since h.since
+    (((same_name g.name h.name && nat_eq g.id h.id) && sameb primitive.the_type g.block_prim h.block_prim)
+    && sameb primitive.the_type g.count_prim h.count_prim) && int_eq g.since h.since
 
 abbrev pub same_template : MessageDef → MessageDef → Bool
 same_template m n = (same_name m.name n.name && nat_eq m.id n.id) && int_eq m.since n.since
@@ -56,7 +58,8 @@ same_groups types others (group g inner rest) (group h deeper after) =
 
 abbrev pub same_message : List TypeDef → List TypeDef → MessageDef → MessageDef → Bool
 same_message types others m n =
-    same_template m n && (pointwise (same_field types others) m.fields n.fields && (same_groups types others m.groups n.groups && pointwise same_datum m.vars n.vars))
+    same_template m n && (pointwise (same_field types others) m.fields n.fields
+    && (same_groups types others m.groups n.groups && pointwise same_datum m.vars n.vars))
 
 abbrev pub same_elements : Schema → Schema → Bool
 same_elements a b = pointwise (same_message a.types b.types) a.messages b.messages
@@ -92,7 +95,9 @@ abbrev pub other_groups : List TypeDef → List TypeDef → ℕ → GroupTree �
 other_groups types others at no_groups hs = None
 other_groups types others at (group g inner rest) no_groups = Some (under Groups at [])
 other_groups types others at (group g inner rest) (group h deeper after) =
-    if same_head g h then or_else (option_map (under Groups at) (or_else (other_fields types others 0 g.fields h.fields) (or_else (other_groups types others 0 inner deeper) (other_data 0 g.vars h.vars)))) (other_groups types others (at + 1) rest after) else Some (under Groups at [])
+    if same_head g h then or_else (option_map (under Groups at)
+    (or_else (other_fields types others 0 g.fields h.fields) (or_else (other_groups types others 0 inner deeper) (other_data 0 g.vars h.vars))))
+    (other_groups types others (at + 1) rest after) else Some (under Groups at [])
 
 -- of a block: its fields, its groups, its data
 abbrev pub other_parts : List TypeDef → List TypeDef → MessageDef → MessageDef → Option (List Step)
@@ -103,7 +108,8 @@ abbrev pub other_messages : List TypeDef → List TypeDef → ℕ → List Messa
 other_messages types others at [] ns = None
 other_messages types others at (m ∷ ms) [] = Some (under Messages at [])
 other_messages types others at (m ∷ ms) (n ∷ ns) =
-    if same_template m n then or_else (option_map (under Messages at) (other_parts types others m n)) (other_messages types others (at + 1) ms ns) else Some (under Messages at [])
+    if same_template m n then or_else (option_map (under Messages at) (other_parts types others m n)) (other_messages types others (at + 1) ms ns)
+    else Some (under Messages at [])
 
 abbrev pub first_other : Schema → Schema → Option (List Step)
 first_other a b = other_messages a.types b.types 0 a.messages b.messages

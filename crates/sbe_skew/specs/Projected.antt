@@ -30,7 +30,8 @@ projected_head version g = record {
 abbrev pub projected_groups : ℕ → GroupTree → GroupTree
 projected_groups version no_groups = no_groups
 projected_groups version (group g inner rest) =
-    if is_in version g.since then group (projected_head version g) (projected_groups version inner) (projected_groups version rest) else projected_groups version rest
+    if is_in version g.since then group (projected_head version g) (projected_groups version inner) (projected_groups version rest)
+    else projected_groups version rest
 
 abbrev pub projected_message : ℕ → MessageDef → MessageDef
 projected_message version m = record {
@@ -73,4 +74,14 @@ projected_group version g = record {
 abbrev pub list_of_defs : GroupTree → List GroupDef
 list_of_defs no_groups = []
 list_of_defs (group g inner rest) =
-    record { name = g.name; id = g.id; block_prim = g.block_prim; count_prim = g.count_prim; since = g.since; block_length = g.block_length; fields = g.fields; groups = inner; vars = g.vars } ∷ list_of_defs rest
+    record {
+      name = g.name;
+      id = g.id;
+      block_prim = g.block_prim;
+      count_prim = g.count_prim;
+      since = g.since;
+      block_length = g.block_length;
+      fields = g.fields;
+      groups = inner;
+      vars = g.vars;
+    } ∷ list_of_defs rest

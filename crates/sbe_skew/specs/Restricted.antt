@@ -36,7 +36,8 @@ abbrev mutual
   kept_groups version (plan head inner rest) (absent gs) =
       if is_in version head.since then absent (kept_groups version rest gs) else kept_groups version rest gs
   kept_groups version (plan head inner rest) (entries bs gs) =
-      if is_in version head.since then entries (kept_entries version head.items inner head.vars bs) (kept_groups version rest gs) else kept_groups version rest gs
+      if is_in version head.since then entries (kept_entries version head.items inner head.vars bs) (kept_groups version rest gs)
+      else kept_groups version rest gs
 
   -- what is kept of each entry; an entry stays
   pub kept_entries : ℕ → List ItemPlan → PlanTree → List DataPlan → BlockList → BlockList

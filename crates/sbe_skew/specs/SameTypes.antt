@@ -34,7 +34,8 @@ same_kind a b = option_eq kind.eq-value.it a b
 -- two members agree in all but the names of their types, which stand for the same kind
 abbrev pub same_member : List TypeDef → List TypeDef → MemberDef → MemberDef → Bool
 same_member types others m n =
-    (((same_name m.name n.name && option_eq int_eq m.offset n.offset) && sameb presence.the_type m.presence n.presence) && option_eq constant.eq-value.it m.value n.value)
+    (((same_name m.name n.name && option_eq int_eq m.offset n.offset) && sameb presence.the_type m.presence n.presence)
+    && option_eq constant.eq-value.it m.value n.value)
     && same_kind (kind_named types m.type_name) (kind_named others n.type_name)
 
 -- composites agree member by member, and all else literally

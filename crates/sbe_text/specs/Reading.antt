@@ -37,7 +37,9 @@ read_datum before d ls = read_element before d.name datum_of ls
 -- the elements of a block, given how its groups are read; `before` stands before their names
 abbrev pub read_elements : List ℕ → List ItemPlan → (List (List ℕ) → Read GroupList) → List DataPlan → List (List ℕ) → Read Entry
 read_elements before plans inner data_plans ls =
-    next (read_each (read_item before) plans ls) (λ items after. next (inner after) (λ groups behind. next (read_each (read_datum before) data_plans behind) (λ vars rest. Ok (record { items = items; groups = groups; vars = vars }, rest))))
+    next (read_each (read_item before) plans ls) (λ items after. next (inner after)
+    (λ groups behind. next (read_each (read_datum before) data_plans behind)
+    (λ vars rest. Ok (record { items = items; groups = groups; vars = vars }, rest))))
 
 -- so many entries, the first of them at the place `at`
 abbrev pub repeated : ℕ → ℕ → (ℕ → List (List ℕ) → Read Entry) → List (List ℕ) → Read BlockList
@@ -86,7 +88,8 @@ message_with template e = record { template = template; root = record { items = 
 -- the elements of a message by its layout, and the line `end`; nothing stands before the names in the root block
 abbrev pub read_body : MessagePlan → List (List ℕ) → Read Message
 read_body layout ls =
-    next (read_elements [] layout.root.items (read_groups [] layout.root.groups) layout.root.vars ls) (λ e rest. next (read_line (is_line (codes "end")) rest) (λ _ end. Ok (message_with layout.template e, end)))
+    next (read_elements [] layout.root.items (read_groups [] layout.root.groups) layout.root.vars ls)
+    (λ e rest. next (read_line (is_line (codes "end")) rest) (λ _ end. Ok (message_with layout.template e, end)))
 
 -- a message at the front of these lines
 abbrev pub read_message : List MessagePlan → List (List ℕ) → Read Message

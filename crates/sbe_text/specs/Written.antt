@@ -79,7 +79,8 @@ abbrev mutual
   pub lines_of_entries : List ℕ → ℕ → BlockList → PlanHead → PlanTree → List ℕ
   lines_of_entries before at no_blocks g inner = []
   lines_of_entries before at (block items gs vars bs) g inner =
-      lines_of_items (before_in before g at) items g.items ++ lines_of_groups (before_in before g at) gs inner ++ lines_of_data (before_in before g at) vars g.vars ++ lines_of_entries before (at + 1) bs g inner
+      lines_of_items (before_in before g at) items g.items ++ lines_of_groups (before_in before g at) gs inner
+      ++ lines_of_data (before_in before g at) vars g.vars ++ lines_of_entries before (at + 1) bs g inner
 
 -- ---- messages
 
@@ -93,7 +94,8 @@ end_line = codes "end\n"
 abbrev pub lines_by : Message → Option MessagePlan → List ℕ
 lines_by m None = []
 lines_by m (Some layout) =
-    message_line layout.name ++ lines_of_items [] m.root.items layout.root.items ++ lines_of_groups [] m.root.groups layout.root.groups ++ lines_of_data [] m.root.vars layout.root.vars ++ end_line
+    message_line layout.name ++ lines_of_items [] m.root.items layout.root.items ++ lines_of_groups [] m.root.groups layout.root.groups
+    ++ lines_of_data [] m.root.vars layout.root.vars ++ end_line
 
 -- the lines of a message by the plan of its schema
 abbrev pub lines_of_message : Plan → Message → List ℕ

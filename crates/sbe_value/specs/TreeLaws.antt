@@ -67,7 +67,8 @@ mutual
   blocks_only (block items gs vars bs) (block js hs ws cs) t =
       let lists = (pointwise item_eq items js && pointwise datum_eq vars ws) in
       let heads = lists && groups_eq gs hs in
-      λ i. block ((items_exact items js).0 (left _ _ (left lists _ (left heads _ t))) i) (groups_only gs hs (right lists _ (left heads _ t)) i) ((vars_exact vars ws).0 (right (pointwise item_eq items js) _ (left lists _ (left heads _ t))) i) (blocks_only bs cs (right heads _ t) i)
+      λ i. block ((items_exact items js).0 (left _ _ (left lists _ (left heads _ t))) i) (groups_only gs hs (right lists _ (left heads _ t)) i)
+      ((vars_exact vars ws).0 (right (pointwise item_eq items js) _ (left lists _ (left heads _ t))) i) (blocks_only bs cs (right heads _ t) i)
 
 pub groups_exact : (x y : GroupList) → Decides (groups_eq x y) (x ≡ y)
 groups_exact = exact groups_eq groups_itself groups_only

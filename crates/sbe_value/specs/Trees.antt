@@ -93,7 +93,8 @@ mutual
   blocks_from_code no_blocks (block js hs ws cs) p = absurd (subst IsPair (sym p) tt)
   blocks_from_code (block items gs vars bs) no_blocks p = absurd (subst IsPair p tt)
   blocks_from_code (block items gs vars bs) (block js hs ws cs) p =
-      λ i. block (items_code.inj items js (ap (λ g. first (first g)) p) i) (groups_from_code gs hs (ap (λ g. first (second (first g))) p) i) (vars_code.inj vars ws (ap (λ g. second (second (first g))) p) i) (blocks_from_code bs cs (ap second p) i)
+      λ i. block (items_code.inj items js (ap (λ g. first (first g)) p) i) (groups_from_code gs hs (ap (λ g. first (second (first g))) p) i)
+      (vars_code.inj vars ws (ap (λ g. second (second (first g))) p) i) (blocks_from_code bs cs (ap second p) i)
 
 abbrev pub coded_groups : Coded GroupList
 coded_groups = record { code = code_of_groups; inj = groups_from_code }

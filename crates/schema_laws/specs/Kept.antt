@@ -8,7 +8,8 @@ use Rattle.schema_laws.specs.Pairs.{AreSiblings, HaveOneName, IsNamedAsPrimitive
 
 -- no two places of a list are in this relation, in their order
 abbrev pub NoTwo : (Place → Place → Type 0) → List Place → Type 0
-NoTwo Alike places = (before : List Place) (q : Place) (between : List Place) (p : Place) (after : List Place) → places ≡ before ++ q ∷ (between ++ p ∷ after) → Alike q p → ⊥
+NoTwo Alike places = (before : List Place) (q : Place) (between : List Place) (p : Place) (after : List Place) → places ≡ before ++ q
+    ∷ (between ++ p ∷ after) → Alike q p → ⊥
 
 -- one name in one list or block
 abbrev pub ShareName : Place → Place → Type 0

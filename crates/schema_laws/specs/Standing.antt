@@ -93,7 +93,8 @@ WalkTellsTruly = (schema : Schema) (p : Place) → Contains (walk schema) p → 
 
 -- Each path at which a table stands is a place of the walk
 abbrev pub WalkLeavesNoneOut : Type 0
-WalkLeavesNoneOut = (schema : Schema) (path : List PathStep) (item : Item) → item_at schema path ≡ Some item → (p : Place) × Contains (walk schema) p × (p.path_steps ≡ path)
+WalkLeavesNoneOut = (schema : Schema) (path : List PathStep) (item : Item) → item_at schema path ≡ Some item → (p : Place) × Contains (walk schema) p
+    × (p.path_steps ≡ path)
 
 -- and no path is there twice
 abbrev pub WalkRepeatsNone : Type 0

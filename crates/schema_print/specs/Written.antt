@@ -104,7 +104,8 @@ bit_data b = table_by (bit_pairs b)
 
 abbrev pub member_pairs : MemberDef → Pairs
 member_pairs m =
-    (codes "name", Some (text_data m.name)) ∷ (codes "type", Some (text_data m.type_name)) ∷ (codes "offset", option_map number_data m.offset) ∷ (codes "presence", Some (presence_data m.presence)) ∷ (codes "value", option_map constant_data m.value) ∷ []
+    (codes "name", Some (text_data m.name)) ∷ (codes "type", Some (text_data m.type_name)) ∷ (codes "offset", option_map number_data m.offset)
+    ∷ (codes "presence", Some (presence_data m.presence)) ∷ (codes "value", option_map constant_data m.value) ∷ []
 
 abbrev pub member_data : MemberDef → Data
 member_data m = table_by (member_pairs m)
@@ -112,7 +113,8 @@ member_data m = table_by (member_pairs m)
 -- the keys of a kind, behind the name of its type
 abbrev pub kind_pairs : TypeKind → Pairs
 kind_pairs (Number prim length null low high) =
-    (codes "kind", Some (string (codes "number"))) ∷ (codes "prim", Some (primitive_data prim)) ∷ (codes "length", Some (natural_data length)) ∷ (codes "null", option_map number_data null) ∷ (codes "min", option_map number_data low) ∷ (codes "max", option_map number_data high) ∷ []
+    (codes "kind", Some (string (codes "number"))) ∷ (codes "prim", Some (primitive_data prim)) ∷ (codes "length", Some (natural_data length))
+    ∷ (codes "null", option_map number_data null) ∷ (codes "min", option_map number_data low) ∷ (codes "max", option_map number_data high) ∷ []
 kind_pairs (Enum prim values) =
     (codes "kind", Some (string (codes "enum"))) ∷ (codes "prim", Some (primitive_data prim)) ∷ (codes "values", Some (list_data value_data values)) ∷ []
 kind_pairs (Set prim bits) =
@@ -130,14 +132,17 @@ type_data t = table_by (type_pairs t)
 
 abbrev pub field_pairs : FieldDef → Pairs
 field_pairs f =
-    (codes "name", Some (text_data f.name)) ∷ (codes "id", Some (natural_data f.id)) ∷ (codes "type", Some (text_data f.type_name)) ∷ (codes "presence", Some (presence_data f.presence)) ∷ (codes "value", option_map constant_data f.value) ∷ (codes "offset", option_map number_data f.offset) ∷ (codes "since", Some (number_data f.since)) ∷ []
+    (codes "name", Some (text_data f.name)) ∷ (codes "id", Some (natural_data f.id)) ∷ (codes "type", Some (text_data f.type_name))
+    ∷ (codes "presence", Some (presence_data f.presence)) ∷ (codes "value", option_map constant_data f.value)
+    ∷ (codes "offset", option_map number_data f.offset) ∷ (codes "since", Some (number_data f.since)) ∷ []
 
 abbrev pub field_data : FieldDef → Data
 field_data f = table_by (field_pairs f)
 
 abbrev pub datum_pairs : DataDef → Pairs
 datum_pairs v =
-    (codes "name", Some (text_data v.name)) ∷ (codes "id", Some (natural_data v.id)) ∷ (codes "length", Some (primitive_data v.length)) ∷ (codes "since", Some (number_data v.since)) ∷ []
+    (codes "name", Some (text_data v.name)) ∷ (codes "id", Some (natural_data v.id)) ∷ (codes "length", Some (primitive_data v.length))
+    ∷ (codes "since", Some (number_data v.since)) ∷ []
 
 abbrev pub datum_data : DataDef → Data
 datum_data v = table_by (datum_pairs v)
@@ -145,7 +150,10 @@ datum_data v = table_by (datum_pairs v)
 -- a group, beside the data of the groups of its entries
 abbrev pub group_pairs : GroupHead → Data → Pairs
 group_pairs g inner =
-    (codes "name", Some (text_data g.name)) ∷ (codes "id", Some (natural_data g.id)) ∷ (codes "block_prim", Some (primitive_data g.block_prim)) ∷ (codes "count_prim", Some (primitive_data g.count_prim)) ∷ (codes "since", Some (number_data g.since)) ∷ (codes "block_length", option_map number_data g.block_length) ∷ (codes "fields", Some (list_data field_data g.fields)) ∷ (codes "groups", Some inner) ∷ (codes "data", Some (list_data datum_data g.vars)) ∷ []
+    (codes "name", Some (text_data g.name)) ∷ (codes "id", Some (natural_data g.id)) ∷ (codes "block_prim", Some (primitive_data g.block_prim))
+    ∷ (codes "count_prim", Some (primitive_data g.count_prim)) ∷ (codes "since", Some (number_data g.since))
+    ∷ (codes "block_length", option_map number_data g.block_length) ∷ (codes "fields", Some (list_data field_data g.fields))
+    ∷ (codes "groups", Some inner) ∷ (codes "data", Some (list_data datum_data g.vars)) ∷ []
 
 abbrev pub group_data : GroupHead → Data → Data
 group_data g inner = table_by (group_pairs g inner)
@@ -159,7 +167,9 @@ groups_data tree = array (items_of (groups_list tree))
 
 abbrev pub message_pairs : MessageDef → Pairs
 message_pairs m =
-    (codes "name", Some (text_data m.name)) ∷ (codes "id", Some (natural_data m.id)) ∷ (codes "since", Some (number_data m.since)) ∷ (codes "block_length", option_map number_data m.block_length) ∷ (codes "fields", Some (list_data field_data m.fields)) ∷ (codes "groups", Some (groups_data m.groups)) ∷ (codes "data", Some (list_data datum_data m.vars)) ∷ []
+    (codes "name", Some (text_data m.name)) ∷ (codes "id", Some (natural_data m.id)) ∷ (codes "since", Some (number_data m.since))
+    ∷ (codes "block_length", option_map number_data m.block_length) ∷ (codes "fields", Some (list_data field_data m.fields))
+    ∷ (codes "groups", Some (groups_data m.groups)) ∷ (codes "data", Some (list_data datum_data m.vars)) ∷ []
 
 abbrev pub message_data : MessageDef → Data
 message_data m = table_by (message_pairs m)
@@ -168,7 +178,8 @@ message_data m = table_by (message_pairs m)
 
 abbrev pub schema_pairs : Schema → Pairs
 schema_pairs s =
-    (codes "id", Some (natural_data s.id)) ∷ (codes "version", Some (natural_data s.version)) ∷ (codes "order", Some (order_data s.order)) ∷ (codes "type", Some (list_data type_data s.types)) ∷ (codes "message", Some (list_data message_data s.messages)) ∷ []
+    (codes "id", Some (natural_data s.id)) ∷ (codes "version", Some (natural_data s.version)) ∷ (codes "order", Some (order_data s.order))
+    ∷ (codes "type", Some (list_data type_data s.types)) ∷ (codes "message", Some (list_data message_data s.messages)) ∷ []
 
 abbrev pub schema_members : Schema → Members
 schema_members s = with_keys no_members (schema_pairs s)

@@ -79,11 +79,21 @@ inside_of inner since keys =
     get_or_default (codes "fields") [] (list_of (field_of since)) keys >>= λ fields.
     inner >>= λ groups.
     get_or_default (codes "data") [] (list_of (datum_of since)) keys >>= λ vars.
-    deny_unknown_keys (codes "name" ∷ codes "id" ∷ codes "block_prim" ∷ codes "count_prim" ∷ codes "since" ∷ codes "block_length" ∷ codes "fields" ∷ codes "groups" ∷ codes "data" ∷ []) keys >>= λ _.
+    deny_unknown_keys (codes "name" ∷ codes "id" ∷ codes "block_prim" ∷ codes "count_prim" ∷ codes "since" ∷ codes "block_length" ∷ codes "fields"
+    ∷ codes "groups" ∷ codes "data" ∷ []) keys >>= λ _.
     Ok (record { fields = fields; groups = groups; vars = vars })
 
 abbrev pub head_with : Start → Inside → GroupHead
-head_with start inside = record { name = start.name; id = start.id; block_prim = start.block_prim; count_prim = start.count_prim; since = start.own.since; block_length = start.block_length; fields = inside.fields; vars = inside.vars }
+head_with start inside = record {
+  name = start.name;
+  id = start.id;
+  block_prim = start.block_prim;
+  count_prim = start.count_prim;
+  since = start.own.since;
+  block_length = start.block_length;
+  fields = inside.fields;
+  vars = inside.vars;
+}
 
 abbrev pub group_keys : (ℤ → Read GroupTree) → ℤ → Data → Read GroupRead
 group_keys inner since keys =

@@ -30,7 +30,9 @@ use Rattle.schema_types.specs.contracts.messages.DataDefPartialEq.TheImpl as dat
 -- two groups agree, the groups of their entries aside
 abbrev pub head_eq : GroupHead → GroupHead → Bool
 head_eq g h =
-    ((((((pointwise nat_eq g.name h.name && nat_eq g.id h.id) && sameb primitive.the_type g.block_prim h.block_prim) && sameb primitive.the_type g.count_prim h.count_prim) && int_eq g.since h.since) && option_eq int_eq g.block_length h.block_length) && pointwise field.eq-value.it g.fields h.fields) && pointwise datum.eq-value.it g.vars h.vars
+    ((((((pointwise nat_eq g.name h.name && nat_eq g.id h.id) && sameb primitive.the_type g.block_prim h.block_prim)
+    && sameb primitive.the_type g.count_prim h.count_prim) && int_eq g.since h.since) && option_eq int_eq g.block_length h.block_length)
+    && pointwise field.eq-value.it g.fields h.fields) && pointwise datum.eq-value.it g.vars h.vars
 
 pub bytes_exact : Exact (pointwise nat_eq)
 bytes_exact = pointwise_decides Decides-eqb
@@ -63,18 +65,33 @@ bit_exact =
 
 pub member_exact : Exact member.eq-value.it
 member_exact =
-    exact_by (λ m. (m.name, (m.type_name, (m.offset, (m.presence, m.value))))) (λ p. record { name = p.0; type_name = p.1.0; offset = p.1.1.0; presence = p.1.1.1.0; value = p.1.1.1.1 }) (λ _. refl) (exact_pair bytes_exact (exact_pair bytes_exact (exact_pair number_exact (exact_pair (exact_bare presence.the_type tt) (exact_option constant_exact)))))
+    exact_by (λ m. (m.name, (m.type_name, (m.offset, (m.presence, m.value)))))
+    (λ p. record { name = p.0; type_name = p.1.0; offset = p.1.1.0; presence = p.1.1.1.0; value = p.1.1.1.1 }) (λ _. refl)
+    (exact_pair bytes_exact (exact_pair bytes_exact (exact_pair number_exact (exact_pair (exact_bare presence.the_type tt) (exact_option constant_exact)))))
 
 pub field_exact : Exact field.eq-value.it
 field_exact =
-    exact_by (λ f. (f.name, (f.id, (f.type_name, (f.presence, (f.value, (f.offset, f.since))))))) (λ p. record { name = p.0; id = p.1.0; type_name = p.1.1.0; presence = p.1.1.1.0; value = p.1.1.1.1.0; offset = p.1.1.1.1.1.0; since = p.1.1.1.1.1.1 }) (λ _. refl) (exact_pair bytes_exact (exact_pair Decides-eqb (exact_pair bytes_exact (exact_pair (exact_bare presence.the_type tt) (exact_pair (exact_option constant_exact) (exact_pair number_exact Decides-int_eq))))))
+    exact_by (λ f. (f.name, (f.id, (f.type_name, (f.presence, (f.value, (f.offset, f.since)))))))
+    (λ p. record {
+      name = p.0;
+      id = p.1.0;
+      type_name = p.1.1.0;
+      presence = p.1.1.1.0;
+      value = p.1.1.1.1.0;
+      offset = p.1.1.1.1.1.0;
+      since = p.1.1.1.1.1.1;
+    }) (λ _. refl) (exact_pair bytes_exact
+    (exact_pair Decides-eqb (exact_pair bytes_exact (exact_pair (exact_bare presence.the_type tt)
+    (exact_pair (exact_option constant_exact) (exact_pair number_exact Decides-int_eq))))))
 
 pub data_exact : Exact datum.eq-value.it
 data_exact =
-    exact_by (λ d. (d.name, (d.id, (d.length, d.since)))) (λ p. record { name = p.0; id = p.1.0; length = p.1.1.0; since = p.1.1.1 }) (λ _. refl) (exact_pair bytes_exact (exact_pair Decides-eqb (exact_pair primitive_exact Decides-int_eq)))
+    exact_by (λ d. (d.name, (d.id, (d.length, d.since)))) (λ p. record { name = p.0; id = p.1.0; length = p.1.1.0; since = p.1.1.1 }) (λ _. refl)
+    (exact_pair bytes_exact (exact_pair Decides-eqb (exact_pair primitive_exact Decides-int_eq)))
 
 -- the parts of a number, of an enum and of a set, as pairs
-numbers_exact : Exact (λ (p q : Primitive × (ℕ × (Option ℤ × (Option ℤ × Option ℤ)))). sameb primitive.the_type p.0 q.0 && (nat_eq p.1.0 q.1.0 && (option_eq int_eq p.1.1.0 q.1.1.0 && (option_eq int_eq p.1.1.1.0 q.1.1.1.0 && option_eq int_eq p.1.1.1.1 q.1.1.1.1))))
+numbers_exact : Exact (λ (p q : Primitive × (ℕ × (Option ℤ × (Option ℤ × Option ℤ)))). sameb primitive.the_type p.0 q.0
+    && (nat_eq p.1.0 q.1.0 && (option_eq int_eq p.1.1.0 q.1.1.0 && (option_eq int_eq p.1.1.1.0 q.1.1.1.0 && option_eq int_eq p.1.1.1.1 q.1.1.1.1))))
 numbers_exact =
     exact_pair primitive_exact (exact_pair Decides-eqb (exact_pair number_exact (exact_pair number_exact number_exact)))
 
@@ -107,4 +124,16 @@ type_exact =
 
 pub head_exact : Exact head_eq
 head_exact =
-    exact_by (λ g. (((((((g.name, g.id), g.block_prim), g.count_prim), g.since), g.block_length), g.fields), g.vars)) (λ p. record { name = p.0.0.0.0.0.0.0; id = p.0.0.0.0.0.0.1; block_prim = p.0.0.0.0.0.1; count_prim = p.0.0.0.0.1; since = p.0.0.0.1; block_length = p.0.0.1; fields = p.0.1; vars = p.1 }) (λ _. refl) (exact_pair (exact_pair (exact_pair (exact_pair (exact_pair (exact_pair (exact_pair bytes_exact Decides-eqb) primitive_exact) primitive_exact) Decides-int_eq) number_exact) (pointwise_decides field_exact)) (pointwise_decides data_exact))
+    exact_by (λ g. (((((((g.name, g.id), g.block_prim), g.count_prim), g.since), g.block_length), g.fields), g.vars))
+    (λ p. record {
+      name = p.0.0.0.0.0.0.0;
+      id = p.0.0.0.0.0.0.1;
+      block_prim = p.0.0.0.0.0.1;
+      count_prim = p.0.0.0.0.1;
+      since = p.0.0.0.1;
+      block_length = p.0.0.1;
+      fields = p.0.1;
+      vars = p.1;
+    }) (λ _. refl)
+    (exact_pair (exact_pair (exact_pair (exact_pair (exact_pair (exact_pair (exact_pair bytes_exact Decides-eqb) primitive_exact) primitive_exact)
+    Decides-int_eq) number_exact) (pointwise_decides field_exact)) (pointwise_decides data_exact))

@@ -36,7 +36,21 @@ weight_of (group head inner rest) = 1 + weight_of inner + weight_of rest
 -- a head is stored as the pairs of its fields
 abbrev pub head_code : Coded GroupHead
 head_code =
-    code_by (List ℕ × (ℕ × (Primitive × (Primitive × (ℤ × (Option ℤ × (List FieldDef × List DataDef))))))) (coded× (coded_list coded_ℕ) (coded× coded_ℕ (coded× primitive.the_row.coded (coded× primitive.the_row.coded (coded× coded_ℤ (coded× (coded_option coded_ℤ) (coded× (coded_list field.the_row.coded) (coded_list data_field.the_row.coded)))))))) (λ h. (h.name, (h.id, (h.block_prim, (h.count_prim, (h.since, (h.block_length, (h.fields, h.vars)))))))) (λ p. record { name = p.0; id = p.1.0; block_prim = p.1.1.0; count_prim = p.1.1.1.0; since = p.1.1.1.1.0; block_length = p.1.1.1.1.1.0; fields = p.1.1.1.1.1.1.0; vars = p.1.1.1.1.1.1.1 }) (λ _. refl)
+    code_by (List ℕ × (ℕ × (Primitive × (Primitive × (ℤ × (Option ℤ × (List FieldDef × List DataDef)))))))
+    (coded× (coded_list coded_ℕ) (coded× coded_ℕ (coded× primitive.the_row.coded
+    (coded× primitive.the_row.coded (coded× coded_ℤ (coded× (coded_option coded_ℤ)
+    (coded× (coded_list field.the_row.coded) (coded_list data_field.the_row.coded))))))))
+    (λ h. (h.name, (h.id, (h.block_prim, (h.count_prim, (h.since, (h.block_length, (h.fields, h.vars))))))))
+    (λ p. record {
+      name = p.0;
+      id = p.1.0;
+      block_prim = p.1.1.0;
+      count_prim = p.1.1.1.0;
+      since = p.1.1.1.1.0;
+      block_length = p.1.1.1.1.1.0;
+      fields = p.1.1.1.1.1.1.0;
+      vars = p.1.1.1.1.1.1.1;
+    }) (λ _. refl)
 
 abbrev pub code_of : GroupTree → Gv
 code_of no_groups = gnil

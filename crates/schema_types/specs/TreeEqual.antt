@@ -39,4 +39,14 @@ tree_exact = exact tree_eq tree_itself tree_only
 
 pub group_exact : Exact group_eq
 group_exact =
-    exact_by (λ g. (head_of g, g.groups)) (λ p. record { name = p.0.name; id = p.0.id; block_prim = p.0.block_prim; count_prim = p.0.count_prim; since = p.0.since; block_length = p.0.block_length; fields = p.0.fields; groups = p.1; vars = p.0.vars }) (λ _. refl) (exact_pair head_exact tree_exact)
+    exact_by (λ g. (head_of g, g.groups)) (λ p. record {
+      name = p.0.name;
+      id = p.0.id;
+      block_prim = p.0.block_prim;
+      count_prim = p.0.count_prim;
+      since = p.0.since;
+      block_length = p.0.block_length;
+      fields = p.0.fields;
+      groups = p.1;
+      vars = p.0.vars;
+    }) (λ _. refl) (exact_pair head_exact tree_exact)

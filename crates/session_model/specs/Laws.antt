@@ -36,7 +36,8 @@ TrueSplits = (h : List Entry) (c : Option ℕ) (first second : List Event)
 abbrev pub HandshakeSplits : Type 0
 HandshakeSplits = (first second : List Event)
     → HandshakeFirst (first ++ second)
-    ↔ (HandshakeFirst first × HandshakeFirst second × AllByRecursion (λ (e : Event). AllByRecursion (λ (later : Event). IsHandshake later → later ≡ e) second) first)
+    ↔ (HandshakeFirst first × HandshakeFirst second × AllByRecursion
+    (λ (e : Event). AllByRecursion (λ (later : Event). IsHandshake later → later ≡ e) second) first)
 
 -- where the handshake comes first, none of its announcements stands behind a message
 abbrev pub HandshakeBeforeMessages : Type 0
@@ -168,7 +169,8 @@ HistoriesGoOn = (first second third : History) → BeginsHistory first second �
 
 -- while it is not finished, a beginning of an outbound journal holds a beginning of its history
 abbrev pub RecordsBeginHistory : Type 0
-RecordsBeginHistory = (first second : List OutboxRecord) → IsPrefix first second → is_finished first ≡ false → BeginsHistory (history_of first) (history_of second)
+RecordsBeginHistory = (first second : List OutboxRecord) → IsPrefix first second → is_finished first ≡ false
+    → BeginsHistory (history_of first) (history_of second)
 
 -- a beginning of chained lives is chained, and the lives behind it go on from what it left
 abbrev pub ChainedSplits : Type 0
