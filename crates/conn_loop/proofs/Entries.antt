@@ -3,7 +3,7 @@ use Rattle.std.proofs.Common.{◌≡◌, ℕ, zero, suc, ◌+◌, ◌-◌, ◌<�
 use Rattle.std.proofs.lemmas.List.{length-take}
 use Rattle.session_model.specs.Inbox.{Numbered}
 use Rattle.session_model.specs.Journal.{Entry, History, payloads}
-use Rattle.reply_laws.specs.Machine.{payload_frames}
+use Rattle.fixp_machine.specs.Machine.{payload_frames}
 use Rattle.fixp_end.specs.Sending.{AreFrom, payloads_of}
 use Rattle.fixp_end.proofs.Frames.{frames_more, frame_size}
 use Rattle.gate_senders.specs.Kept.{numbered_from, messages}

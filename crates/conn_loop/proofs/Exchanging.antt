@@ -5,7 +5,7 @@ use Rattle.gw_links.specs.Links.{LinkTold, Carried, Moved}
 use Rattle.gw_links.specs.declared.link.Got.{Got}
 use Rattle.gw_links.proofs.Moving.{moved_more}
 use Rattle.session_model.specs.Journal.{History}
-use Rattle.reply_laws.specs.Machine.{State}
+use Rattle.fixp_machine.specs.Machine.{State}
 use Rattle.jr_record.specs.declared.journal.Journal.{Ghosts}
 use Rattle.jr_boxes.specs.declared.inbox.Inbox.{Inbox}
 use Rattle.fixp_replies.specs.declared.act.Ending.{Ending}

@@ -14,7 +14,7 @@ use Rattle.gate_turn.specs.Views.{Part}
 use Rattle.conn_turns.specs.Turns.{served_now, finish_of}
 use Rattle.fixp_end.proofs.Begun.{begun_free}
 use Rattle.conn_loop.specs.Conn.{HasSeen}
-use Rattle.reply_laws.specs.Machine.{State, around, made, connected, sent_again, served_again, link_ended, after_turn, after_closed, rest_of}
+use Rattle.fixp_machine.specs.Machine.{State, around, made, connected, sent_again, served_again, link_ended, after_turn, after_closed, rest_of}
 
 -- a range that is served was sent again
 pub again_is : (old new : State) (p : Option Range) (r : Range) (payloads others : List (List ℕ)) (now : ℕ) → p ≡ Some r → payloads ≡ others → IfSome p (λ x. new ≡ sent_again old x payloads now)

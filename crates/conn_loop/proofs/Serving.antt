@@ -1,7 +1,7 @@
 -- The outbox is served: what it was sent again, what live, and its finish.
 use Rattle.std.proofs.Common.{◌≡◌, ℕ, ◌++◌, Option, refl, sym, ap, ◌∙◌}
 use Rattle.session_model.specs.Journal.{History, BeginsHistory}
-use Rattle.reply_laws.specs.Machine.{State, run}
+use Rattle.fixp_machine.specs.Machine.{State, run}
 use Rattle.conn_turns.specs.Lines.{Line}
 use Rattle.conn_turns.specs.Turns.{again_calls, live_calls, finish_calls, served_of, served_now, live_of, finish_of}
 use Rattle.conn_turns.proofs.Taking.{run_append}

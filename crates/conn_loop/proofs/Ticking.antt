@@ -6,7 +6,7 @@ use Rattle.fixp_replies.specs.declared.act.Ending.{Ending}
 use Rattle.fixp_replies.specs.declared.facts.Facts.{Facts}
 use Rattle.fixp_replies.specs.Facts.{Around}
 use Rattle.fixp_replies.specs.Events.{heartbeats, lateness}
-use Rattle.reply_laws.specs.Machine.{State, around, bytes_of, wrote, broken_by, ticked}
+use Rattle.fixp_machine.specs.Machine.{State, around, bytes_of, wrote, broken_by, ticked}
 
 -- no heartbeat is written where something is unsent
 silent : (x : Around) (f : Facts) (last : ℕ) (unsent : List ℕ) → (unsent ≡ [] → ⊥) → bytes_of (heartbeats x f last unsent) ≡ []

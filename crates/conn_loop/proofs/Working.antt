@@ -2,7 +2,7 @@
 use Rattle.std.proofs.Common.{◌≡◌, ◌≤◌, ℕ, true, false, List, [], ◌∷◌, ◌++◌, length, Option, Some, None, refl, sym, ap, subst, ◌∙◌, arith}
 use Rattle.std.specs.Prelude.{IfSome}
 use Rattle.session_model.specs.Journal.{History}
-use Rattle.reply_laws.specs.Machine.{State, Call, turn_done, run}
+use Rattle.fixp_machine.specs.Machine.{State, Call, turn_done, run}
 use Rattle.jr_record.specs.declared.journal.Journal.{Ghosts}
 use Rattle.jr_boxes.specs.declared.inbox.Inbox.{Inbox}
 use Rattle.gate_turn.specs.Views.{Part}

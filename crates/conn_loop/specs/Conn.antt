@@ -1,7 +1,7 @@
 -- A connection in the code, as a line; its beginning, and its end by a cut (this project's profile).
 use Rattle.std.specs.Prelude.{◌≡◌, ℕ, ◌+◌, ◌^◌, ◌<◌, ◌≤◌, true, false, [], ◌∷◌, length, Option, Some, None, IfSome}
 use Rattle.fixp_replies.specs.declared.act.Ending.{Ending}
-use Rattle.reply_laws.specs.Machine.{State, begin, link_end, taken, run}
+use Rattle.fixp_machine.specs.Machine.{State, begin, link_end, taken, run}
 use Rattle.session_model.specs.Journal.{BeginsHistory}
 use Rattle.fixp_replies.specs.Outgoing.{reply_limit}
 use Rattle.gate_turn.specs.Views.{Part}

@@ -3,7 +3,7 @@ use Rattle.std.specs.Prelude.{◌≡◌, ℕ, List, ◌++◌, Option}
 use Rattle.session_model.specs.Journal.{History, BeginsHistory}
 use Rattle.jr_record.specs.declared.faults.FetchFault.{FetchFault}
 use Rattle.jr_record.specs.declared.faults.FetchFault.TheVariants as fetching
-use Rattle.reply_laws.specs.Machine.{run}
+use Rattle.fixp_machine.specs.Machine.{run}
 use Rattle.gate_turn.specs.Views.{HasFailed, Part}
 use Rattle.conn_turns.specs.declared.answer.TurnFault.{TurnFault}
 use Rattle.conn_turns.specs.declared.answer.TurnFault.TheVariants as faults

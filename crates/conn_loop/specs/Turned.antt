@@ -5,7 +5,7 @@ use Rattle.gw_links.specs.Links.{LinkTold, Carried, Moved}
 use Rattle.session_model.specs.Inbox.{InboxRecord}
 use Rattle.session_model.specs.Journal.{History}
 use Rattle.fixp_replies.specs.Acts.{is_record}
-use Rattle.reply_laws.specs.Machine.{State, link_end, run}
+use Rattle.fixp_machine.specs.Machine.{State, link_end, run}
 use Rattle.jr_record.specs.declared.journal.Journal.{Ghosts}
 use Rattle.jr_boxes.specs.declared.inbox.Inbox.{Inbox}
 use Rattle.jr_boxes.specs.Inbox.{limits_of}

@@ -2,7 +2,7 @@
 
 ghost use Rattle.std.specs.Prelude.{◌≡◌, ◌++◌, ◌∷◌, [], ◌^◌, ◌<◌, ◌≤◌, length, true, None};
 ghost use Rattle.sofh_frame.specs.Framing.{first_of};
-ghost use Rattle.reply_laws.specs.Machine.{run, turn_done};
+ghost use Rattle.fixp_machine.specs.Machine.{run, turn_done};
 ghost use Rattle.conn_turns.specs.Frames.{is_whole, is_bad, is_broken, broken_at, is_link_over};
 ghost use Rattle.conn_turns.specs.Turns.{bad_calls, end_calls};
 ghost use Rattle.conn_steps.specs.Agreeing.{IsInTurn};

@@ -3,7 +3,7 @@
 ghost use Rattle.std.specs.Prelude.{◌≡◌, ◌≢◌, ℕ, ◌+◌, ◌*◌, ◌^◌, ◌<◌, ◌≤◌, not, length, None, Ok, Err, IfOk, IfErr, OnOk};
 ghost use Rattle.fixp_shake.specs.Flows.{is_absent};
 ghost use Rattle.fixp_end.specs.Sending.{AreFrom, payloads_of};
-ghost use Rattle.reply_laws.specs.Machine.{run, payload_frames};
+ghost use Rattle.fixp_machine.specs.Machine.{run, payload_frames};
 ghost use Rattle.jr_record.specs.declared.faults.FetchFault.TheVariants as fetching;
 ghost use Rattle.gate_turn.specs.Views.{HasFailed};
 ghost use Rattle.gate_turn.specs.Places.{known};

@@ -2,7 +2,7 @@
 
 ghost use Rattle.std.specs.Prelude.{◌≡◌, ◌≤◌, [], ◌∷◌, length, true, None, OnErr};
 ghost use Rattle.gw_outside.specs.Faults.{HasRisen};
-ghost use Rattle.reply_laws.specs.Machine.{run, link_end};
+ghost use Rattle.fixp_machine.specs.Machine.{run, link_end};
 
 use crate::conn::Conn;
 use conn_turns::{TurnEnd, TurnFault};

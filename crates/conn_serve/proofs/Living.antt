@@ -12,7 +12,7 @@ use Rattle.session_model.specs.Journal.{History}
 use Rattle.session_model.specs.Inbox.{InboxRecord}
 use Rattle.fixp_replies.specs.declared.act.Ending.{Ending}
 use Rattle.fixp_replies.specs.declared.act.Ending.TheVariants as endings
-use Rattle.reply_laws.specs.Machine.{State, phase_of}
+use Rattle.fixp_machine.specs.Machine.{State, phase_of}
 use Rattle.gw_links.specs.Links.{LinkTold, Carried, HasCarried, CarriedNothing, carry}
 use Rattle.gw_links.specs.Dialers.{DialerTold, returned}
 use Rattle.jr_record.specs.declared.journal.Journal.{Ghosts}
@@ -20,9 +20,9 @@ use Rattle.jr_boxes.specs.declared.inbox.Inbox.{Inbox}
 use Rattle.jr_boxes.specs.Inbox.{limits_of}
 use Rattle.gate_turn.specs.Views.{Part}
 use Rattle.gate_turn.proofs.Histories.{begins_self}
-use Rattle.session_lines.specs.declared.close.Close.{Close}
-use Rattle.session_lines.specs.declared.close.Close.TheVariants as closes
-use Rattle.session_lines.specs.Lines.{connection_line}
+use Rattle.conn_lines.specs.declared.close.Close.{Close}
+use Rattle.conn_lines.specs.declared.close.Close.TheVariants as closes
+use Rattle.conn_lines.specs.Lines.{connection_line}
 use Rattle.conn_turns.specs.Lines.{Line}
 use Rattle.conn_steps.specs.Settling.{IsPast, Gains, Refuses}
 use Rattle.conn_steps.proofs.Rooms.{gains_none, gains_on, refuses_on, refuses_none}

@@ -9,8 +9,8 @@ use Rattle.jr_boxes.specs.declared.inbox.Inbox.{Inbox}
 use Rattle.jr_boxes.specs.Inbox.{faults_of, is_broken, size_of, count_of}
 use Rattle.gate_turn.specs.Views.{HasFailed, Part}
 use Rattle.gate_turn.proofs.Failing.{failed_before}
-use Rattle.session_lines.specs.declared.close.Close.{Close}
-use Rattle.session_lines.specs.declared.close.Close.TheVariants as closes
+use Rattle.conn_lines.specs.declared.close.Close.{Close}
+use Rattle.conn_lines.specs.declared.close.Close.TheVariants as closes
 use Rattle.conn_turns.specs.declared.answer.TurnEnd.{TurnEnd}
 use Rattle.conn_turns.specs.declared.answer.TurnEnd.TheVariants as turn_ends
 use Rattle.conn_turns.specs.declared.answer.TurnFault.{TurnFault}

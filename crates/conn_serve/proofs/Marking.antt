@@ -8,14 +8,14 @@ use Rattle.jr_boxes.specs.declared.inbox.Inbox.{Inbox}
 use Rattle.jr_boxes.specs.declared.faults.SubmitFault.{SubmitFault}
 use Rattle.jr_boxes.specs.declared.faults.SubmitFault.TheVariants as submit
 use Rattle.gw_links.specs.Dialers.{DialerTold}
-use Rattle.reply_laws.specs.Machine.{State}
+use Rattle.fixp_machine.specs.Machine.{State}
 use Rattle.gate_turn.specs.Views.{Part}
 use Rattle.gate_turn.specs.Places.{known}
 use Rattle.gate_senders.specs.declared.gate.Gate.{Gate}
-use Rattle.sender_plans.specs.Runs.{IsReady, HasNone}
-use Rattle.sender_plans.specs.Seats.{Seated}
-use Rattle.sender_plans.proofs.Seating.{seated_still}
-use Rattle.sender_plans.specs.declared.sender.Sender.{Sender}
+use Rattle.gate_plans.specs.Runs.{IsReady, HasNone}
+use Rattle.gate_plans.specs.Seats.{Seated}
+use Rattle.gate_plans.proofs.Seating.{seated_still}
+use Rattle.gate_plans.specs.declared.sender.Sender.{Sender}
 use Rattle.conn_serve.specs.declared.answer.ServeFault.{ServeFault}
 use Rattle.conn_serve.specs.declared.answer.ServeFault.TheVariants as faults
 use Rattle.conn_serve.specs.declared.answer.LifeEnd.{LifeEnd}

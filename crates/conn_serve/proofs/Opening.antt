@@ -5,14 +5,14 @@ use Rattle.std.proofs.lemmas.Bool.{false≢true}
 use Rattle.session_model.specs.Journal.{History, BeginsHistory}
 use Rattle.session_model.proofs.Lists.{prefix_length}
 use Rattle.fixp_shake.specs.declared.config.EndConfig.{EndConfig}
-use Rattle.reply_laws.specs.Machine.{State, fresh}
+use Rattle.fixp_machine.specs.Machine.{State, fresh}
 use Rattle.gw_links.specs.Dialers.{DialerTold}
 use Rattle.jr_record.specs.declared.journal.Journal.{Ghosts}
 use Rattle.jr_boxes.specs.declared.inbox.Inbox.{Inbox}
 use Rattle.jr_boxes.specs.Inbox.{flow_of, limits_of}
 use Rattle.gate_turn.specs.Views.{Part}
 use Rattle.gate_senders.specs.declared.gate.Gate.{Gate}
-use Rattle.sender_plans.specs.declared.sender.Sender.{Sender}
+use Rattle.gate_plans.specs.declared.sender.Sender.{Sender}
 use Rattle.conn_serve.specs.declared.answer.ServeFault.{ServeFault}
 use Rattle.conn_serve.specs.declared.answer.ServeFault.TheVariants as faults
 use Rattle.conn_serve.specs.Causes.{IsBlamed}

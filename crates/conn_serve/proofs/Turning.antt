@@ -21,14 +21,14 @@ use Rattle.conn_turns.specs.declared.answer.TurnFault.TheVariants as turn_faults
 use Rattle.conn_turns.specs.Turns.{Turn, only_sends, works, link_lost, cut_short, not_begun}
 use Rattle.fixp_shake.specs.declared.config.EndConfig.{EndConfig}
 use Rattle.fixp_replies.specs.declared.facts.EndState.{EndState}
-use Rattle.reply_laws.specs.Machine.{State}
+use Rattle.fixp_machine.specs.Machine.{State}
 use Rattle.conn_steps.specs.Settling.{Gains, Refuses}
 use Rattle.conn_steps.specs.Agreeing.{Agrees}
 use Rattle.conn_steps.proofs.Rooms.{gains_none, gains_on, refuses_on, refuses_none}
 use Rattle.conn_loop.specs.Conn.{line_begun}
 use Rattle.turn_laws.specs.Turns.{IsTurn, adds_in, tells_in}
 use Rattle.turn_laws.specs.Legs.{given_in, sent_in}
-use Rattle.loop_laws.specs.Turned.{WasTurn}
+use Rattle.turn_laws.specs.Turned.{WasTurn}
 use Rattle.conn_serve.specs.declared.answer.ServeFault.{ServeFault}
 use Rattle.conn_serve.specs.declared.answer.ServeFault.TheVariants as faults
 use Rattle.conn_serve.specs.Lines.{news_line, news_lines, IsShort}

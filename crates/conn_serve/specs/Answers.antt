@@ -5,8 +5,8 @@ use Rattle.jr_boxes.specs.declared.faults.SubmitFault.{SubmitFault}
 use Rattle.jr_boxes.specs.declared.faults.SubmitFault.TheVariants as submit
 use Rattle.jr_boxes.specs.declared.faults.CloseFault.{CloseFault}
 use Rattle.jr_boxes.specs.declared.faults.CloseFault.TheVariants as closing
-use Rattle.session_lines.specs.declared.close.Close.{Close}
-use Rattle.session_lines.specs.declared.close.Close.TheVariants as closes
+use Rattle.conn_lines.specs.declared.close.Close.{Close}
+use Rattle.conn_lines.specs.declared.close.Close.TheVariants as closes
 use Rattle.conn_turns.specs.declared.answer.TurnEnd.{TurnEnd}
 use Rattle.conn_turns.specs.declared.answer.TurnEnd.TheVariants as turn_ends
 use Rattle.conn_turns.specs.declared.answer.TurnFault.{TurnFault}

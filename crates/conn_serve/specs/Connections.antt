@@ -6,11 +6,11 @@ use Rattle.session_model.specs.Journal.{History, BeginsHistory}
 use Rattle.session_model.specs.Inbox.{InboxRecord}
 use Rattle.fixp_replies.specs.declared.act.Ending.{Ending}
 use Rattle.fixp_replies.specs.declared.act.Ending.TheVariants as endings
-use Rattle.reply_laws.specs.Machine.{State}
+use Rattle.fixp_machine.specs.Machine.{State}
 use Rattle.gw_links.specs.Links.{Carried, HasCarried}
 use Rattle.gw_links.specs.Dialers.{DialerTold}
-use Rattle.session_lines.specs.declared.close.Close.{Close}
-use Rattle.session_lines.specs.declared.close.Close.TheVariants as closes
+use Rattle.conn_lines.specs.declared.close.Close.{Close}
+use Rattle.conn_lines.specs.declared.close.Close.TheVariants as closes
 use Rattle.conn_turns.specs.declared.news.NewsItem.{NewsItem}
 use Rattle.conn_turns.specs.declared.answer.TurnFault.{TurnFault}
 use Rattle.conn_turns.specs.Lines.{Line, TakenFrame, lines_after}

@@ -2,8 +2,8 @@
 use Rattle.std.specs.Prelude.{⊤, ℕ, ◌+◌, ◌^◌, ◌≤◌, length, List, [], ◌∷◌, ◌++◌, Option, Some, None}
 use Rattle.conn_turns.specs.declared.news.NewsItem.{NewsItem}
 use Rattle.conn_turns.specs.declared.news.NewsItem.TheVariants as items
-use Rattle.session_lines.specs.declared.close.Close.{Close}
-use Rattle.session_lines.specs.Lines.{deliver_line, not_applied_line, connection_line}
+use Rattle.conn_lines.specs.declared.close.Close.{Close}
+use Rattle.conn_lines.specs.Lines.{deliver_line, not_applied_line, connection_line}
 use Rattle.conn_serve.specs.Connections.{Connection}
 
 -- the line of a piece of news

@@ -3,15 +3,15 @@ use Rattle.std.specs.Prelude.{⊤, ◌≡◌, ◌⊎◌, ℕ, ◌+◌, ◌-◌, 
 use Rattle.std.specs.Io.KnownBytes.{Appends}
 use Rattle.session_model.specs.Journal.{History}
 use Rattle.fixp_replies.specs.declared.act.Ending.TheVariants as endings
-use Rattle.reply_laws.specs.Machine.{State, phase_of}
+use Rattle.fixp_machine.specs.Machine.{State, phase_of}
 use Rattle.std.specs.Option.{option_map}
 use Rattle.gw_links.specs.Links.{Carried, CarriedNothing}
 use Rattle.gw_links.specs.Dialers.{DialerTold}
 use Rattle.jr_record.specs.declared.journal.Journal.{Ghosts}
 use Rattle.jr_boxes.specs.declared.inbox.Inbox.{Inbox}
 use Rattle.jr_boxes.specs.Inbox.{limits_of}
-use Rattle.session_lines.specs.declared.close.Close.{Close}
-use Rattle.session_lines.specs.declared.close.Close.TheVariants as closes
+use Rattle.conn_lines.specs.declared.close.Close.{Close}
+use Rattle.conn_lines.specs.declared.close.Close.TheVariants as closes
 use Rattle.conn_turns.specs.Lines.{Line}
 use Rattle.conn_steps.specs.Settling.{IsPast, Gains, Refuses}
 use Rattle.conn_serve.specs.declared.answer.ServeFault.{ServeFault}

@@ -4,7 +4,7 @@ use Rattle.std.specs.List.{flat_map}
 use Rattle.std.specs.Io.KnownBytes.{Appends}
 use Rattle.session_model.specs.Journal.{History, BeginsHistory}
 use Rattle.session_model.specs.Inbox.{InboxRecord}
-use Rattle.reply_laws.specs.Machine.{State}
+use Rattle.fixp_machine.specs.Machine.{State}
 use Rattle.gw_links.specs.Links.{LinkTold, Carried, Moved}
 use Rattle.jr_record.specs.declared.journal.Journal.{Ghosts}
 use Rattle.jr_boxes.specs.declared.inbox.Inbox.{Inbox}
@@ -18,7 +18,7 @@ use Rattle.conn_steps.specs.Settling.{IsPast, Gains, Refuses}
 use Rattle.conn_steps.specs.Agreeing.{Agrees}
 use Rattle.conn_loop.specs.Conn.{HasSeen}
 use Rattle.turn_laws.specs.Legs.{given_in, sent_in, first_line}
-use Rattle.loop_laws.specs.Turned.{WasCut}
+use Rattle.turn_laws.specs.Turned.{WasCut}
 use Rattle.conn_serve.specs.declared.answer.ServeFault.{ServeFault}
 use Rattle.conn_serve.specs.declared.answer.ServeFault.TheVariants as faults
 use Rattle.conn_serve.specs.Answers.{close_of}

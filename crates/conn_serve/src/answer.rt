@@ -3,10 +3,10 @@
 ghost use Rattle.std.specs.Prelude.{◌≡◌};
 ghost use Rattle.conn_serve.specs.Answers.{close_of, submit_fault, finish_fault, yields, answer_of};
 
+use conn_lines::Close;
 use conn_turns::{TurnEnd, TurnFault};
 use fixp_shake::Phase;
 use jr_boxes::{CloseFault, SubmitFault};
-use session_lines::Close;
 use thiserror::Error;
 
 /// How the connections of a life ended that did not fail.

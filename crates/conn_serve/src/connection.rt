@@ -6,12 +6,12 @@ ghost use Rattle.gate_turn.specs.Places.{known};
 ghost use Rattle.gate_turn.specs.Calls.{IsFree};
 ghost use Rattle.gate_senders.specs.Gate.{IsPassAt};
 ghost use Rattle.conn_turns.specs.News.{items_of};
-ghost use Rattle.session_lines.specs.declared.close.Close.{Close};
+ghost use Rattle.conn_lines.specs.declared.close.Close.{Close};
 ghost use Rattle.conn_steps.specs.Settling.{SameKind};
 ghost use Rattle.conn_steps.specs.Agreeing.{Agrees};
 ghost use Rattle.conn_loop.specs.Conn.{line_of, GoesOn, HasSeen, Looks};
 ghost use Rattle.conn_loop.specs.Turned.{Leaves};
-ghost use Rattle.loop_laws.specs.Turned.{WasTurn};
+ghost use Rattle.turn_laws.specs.Turned.{WasTurn};
 ghost use Rattle.conn_serve.specs.Answers.{IsOfTurn, IsOfConnection};
 ghost use Rattle.conn_serve.specs.Connections.{ClosesAs};
 ghost use Rattle.conn_serve.specs.Lines.{IsShort};
@@ -20,6 +20,7 @@ ghost use Rattle.conn_serve.specs.Turned.{CutOff, Turned, GivenUp, TurnedOn, Giv
 
 use crate::answer::{ServeFault, close_of};
 use crate::news::Teller;
+use conn_lines::Close;
 use conn_loop::Conn;
 use conn_turns::News;
 use gate_senders::{Gate, Kept};
@@ -28,7 +29,6 @@ use gw_links::{Clock, Link};
 use gw_outside::Sink;
 use jr_boxes::Inbox;
 use jr_record::Journal;
-use session_lines::Close;
 use std::sync::Wait;
 use std::sync::atomic::{AtomicBool, Ordering};
 

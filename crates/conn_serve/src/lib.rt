@@ -1,6 +1,6 @@
 //! One end serves the connections of a life, one after another, with its senders beside them: each turn's news and each
 //! connection's end stand on OUT as soon as they are known, and each link goes back to its dialer. Relies on `conn_loop` for a
-//! turn, on `session_lines` for the lines, on `sender_plans` for the senders, and on std's threads.
+//! turn, on `conn_lines` for the lines, on `gate_plans` for the senders, and on std's threads.
 #![tactic(auto)]
 
 mod answer;

@@ -2,7 +2,7 @@
 
 ghost use Rattle.std.specs.Prelude.{◌≡◌, ◌≤◌, true, false, OnErr, Ok, Some, None, Err, IfOk, IfErr, IfSome, OnOk};
 ghost use Rattle.gw_outside.specs.Faults.{HasRisen};
-ghost use Rattle.reply_laws.specs.Machine.{phase_of};
+ghost use Rattle.fixp_machine.specs.Machine.{phase_of};
 ghost use Rattle.jr_boxes.specs.Inbox.{faults_of};
 ghost use Rattle.gate_turn.specs.Places.{known};
 ghost use Rattle.gate_turn.specs.Calls.{IsFree};
@@ -18,6 +18,7 @@ ghost use Rattle.conn_serve.specs.Served.{IsRound, ServedLife, IsNext};
 use crate::answer::{LifeEnd, ServeFault};
 use crate::connection::one_connection;
 use crate::news::Teller;
+use conn_lines::Close;
 use conn_loop::Conn;
 use fixp_replies::Ending;
 use gate_senders::{Gate, Kept};
@@ -26,7 +27,6 @@ use gw_links::{Clock, Dialer};
 use gw_outside::Sink;
 use jr_boxes::Inbox;
 use jr_record::Journal;
-use session_lines::Close;
 use std::alloc::Global;
 use std::sync::Wait;
 use std::sync::atomic::{AtomicBool, Ordering};

@@ -4,14 +4,14 @@ ghost use Rattle.std.specs.Prelude.{◌≡◌, ◌⊎◌, ◌≤◌, ◌++◌, [
 ghost use Rattle.std.specs.Io.KnownBytes.{Appends};
 ghost use Rattle.gw_outside.specs.Faults.{HasRisen, TakesFront};
 ghost use Rattle.conn_turns.specs.News.{items_of};
-ghost use Rattle.session_lines.specs.Lines.{connection_line};
+ghost use Rattle.conn_lines.specs.Lines.{connection_line};
 ghost use Rattle.conn_serve.specs.Lines.{news_line, news_lines, IsShort};
 ghost use Rattle.conn_serve.specs.declared.answer.ServeFault.TheVariants as faults;
 
 use crate::answer::ServeFault;
+use conn_lines::{Close, push_connection_line, push_deliver_line, push_not_applied_line};
 use conn_turns::{News, NewsItem};
 use gw_outside::{Sink, push_all};
-use session_lines::{Close, push_connection_line, push_deliver_line, push_not_applied_line};
 use std::alloc::{AllocError, Global};
 
 /// What a life tells on OUT: the news of the last turn, and room for their lines, which is used again.

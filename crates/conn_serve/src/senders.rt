@@ -4,15 +4,15 @@ ghost use Rattle.std.specs.Prelude.{◌≡◌, All, Ok, Err, IfOk, IfErr, ◌<�
 ghost use Rattle.gate_turn.specs.Places.{known};
 ghost use Rattle.gate_turn.specs.Calls.{IsFree};
 ghost use Rattle.gate_senders.specs.Gate.{IsPassAt};
-ghost use Rattle.sender_plans.specs.Runs.{IsReady, RanEach, IsLowest};
+ghost use Rattle.gate_plans.specs.Runs.{IsReady, RanEach, IsLowest};
 ghost use Rattle.conn_serve.specs.Senders.{refusal_of, Finishes, IsRefusal, FinishedFirst, SubmittedAll};
 
 use crate::answer::{ServeFault, refused_finish, refused_submit};
+use gate_plans::{OpenDoor, Sender, run_senders};
 use gate_senders::{Gate, Kept};
 use gate_turn::Pass;
 use jr_boxes::SubmitFault;
 use jr_record::Journal;
-use sender_plans::{OpenDoor, Sender, run_senders};
 use std::sync::Wait;
 use std::sync::atomic::{AtomicBool, Ordering};
 use std::thread::Threads;

@@ -15,9 +15,9 @@ use Rattle.fixp_replies.specs.Incoming.{Incoming, IsIncoming, application, sessi
 use Rattle.fixp_replies.specs.Acts.{is_record}
 use Rattle.fixp_replies.specs.Outcomes.{Outcome}
 use Rattle.fixp_replies.specs.Replies.{reply_of}
-use Rattle.reply_laws.specs.Machine.{State, after_act, done_pending, run, around}
-use Rattle.reply_laws.specs.Fitting.{CanTake}
-use Rattle.growth_laws.specs.Accepting.{payload_in, records_of}
+use Rattle.fixp_machine.specs.Machine.{State, after_act, done_pending, run, around}
+use Rattle.fixp_machine.specs.Fitting.{CanTake}
+use Rattle.fixp_machine.specs.Accepting.{payload_in, records_of}
 use Rattle.jr_record.specs.declared.journal.Journal.{Ghosts}
 use Rattle.jr_boxes.specs.declared.inbox.Inbox.{Inbox}
 use Rattle.jr_boxes.specs.Inbox.{limits_of}

@@ -4,8 +4,8 @@ use Rattle.session_model.specs.Inbox.{InboxRecord}
 use Rattle.sofh_frame.specs.Framing.{Frame, BeginsWith}
 use Rattle.fixp_replies.specs.Acts.{is_record}
 use Rattle.fixp_replies.specs.Incoming.{IsIncoming}
-use Rattle.reply_laws.specs.Machine.{State, step}
-use Rattle.reply_laws.specs.Machine as calls
+use Rattle.fixp_machine.specs.Machine.{State, step}
+use Rattle.fixp_machine.specs.Machine as calls
 use Rattle.jr_record.specs.declared.journal.Journal.{Ghosts}
 use Rattle.jr_boxes.specs.declared.inbox.Inbox.{Inbox}
 use Rattle.jr_boxes.specs.Inbox.{limits_of}

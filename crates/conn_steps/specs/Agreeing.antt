@@ -3,7 +3,7 @@ use Rattle.std.specs.Prelude.{◌≡◌, ℕ, ◌+◌, ◌*◌, ◌≤◌, true,
 use Rattle.jr_record.specs.declared.journal.Journal.{Ghosts}
 use Rattle.jr_boxes.specs.declared.inbox.Inbox.{Inbox}
 use Rattle.jr_boxes.specs.Inbox.{next_of, is_negotiated, peer_last_of, flow_of, limits_of}
-use Rattle.reply_laws.specs.Machine.{State}
+use Rattle.fixp_machine.specs.Machine.{State}
 
 -- The machine between its calls, so many frames before a turn's frames end: no act is still to be done, no moment lies ahead,
 -- there is room for the frames, and what is unsent and untold is little

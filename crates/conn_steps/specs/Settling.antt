@@ -7,8 +7,8 @@ use Rattle.fixp_msgs.specs.Payload.{IsApplication}
 use Rattle.fixp_replies.specs.declared.act.Act.{Act}
 use Rattle.fixp_replies.specs.declared.facts.EndState.{EndState}
 use Rattle.fixp_replies.specs.Incoming.{application}
-use Rattle.reply_laws.specs.Fitting.{CanTake, recorded_after}
-use Rattle.growth_laws.specs.Accepting.{records_of}
+use Rattle.fixp_machine.specs.Fitting.{CanTake, recorded_after}
+use Rattle.fixp_machine.specs.Accepting.{records_of}
 use Rattle.jr_record.specs.declared.journal.Journal.{Ghosts}
 use Rattle.jr_record.specs.declared.faults.AppendFault.{AppendFault}
 use Rattle.jr_record.specs.declared.faults.AppendFault.TheVariants as append

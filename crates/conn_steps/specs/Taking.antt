@@ -11,12 +11,12 @@ use Rattle.sofh_frame.specs.Framing.{Frame}
 use Rattle.fixp_replies.specs.Acts.{is_record}
 use Rattle.fixp_replies.specs.Incoming.{Incoming, IsIncoming}
 use Rattle.fixp_replies.specs.Replies.{reply_of}
-use Rattle.reply_laws.specs.Machine.{State, step, run, around}
-use Rattle.reply_laws.specs.Machine as calls
+use Rattle.fixp_machine.specs.Machine.{State, step, run, around}
+use Rattle.fixp_machine.specs.Machine as calls
 use Rattle.conn_turns.specs.declared.news.NewsItem.{NewsItem}
 use Rattle.conn_turns.specs.declared.answer.TurnFault.{TurnFault}
 use Rattle.conn_turns.specs.declared.answer.TurnFault.TheVariants as faults
-use Rattle.growth_laws.specs.Accepting.{records_of}
+use Rattle.fixp_machine.specs.Accepting.{records_of}
 use Rattle.conn_turns.specs.News.{told_by}
 use Rattle.conn_turns.specs.Lines.{Line, TakenFrame, IsNext, IsTaken, AreTaken, reply_at, frame_calls, line_after, lines_after}
 use Rattle.conn_turns.specs.Frames.{adds, tells, added, told}

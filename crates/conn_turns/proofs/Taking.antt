@@ -2,7 +2,7 @@
 use Rattle.std.proofs.Common.{◌≡◌, ℕ, List, [], ◌∷◌, ◌++◌, length, refl, sym, ap, ◌∙◌, arith, append_assoc, append-nil, length-append}
 use Rattle.sofh_frame.specs.Framing.{Frame, header_of, spelled}
 use Rattle.sofh_frame.specs.Splits.{spelled_all}
-use Rattle.reply_laws.specs.Machine.{State, Call, step, run}
+use Rattle.fixp_machine.specs.Machine.{State, Call, step, run}
 use Rattle.conn_turns.specs.Lines.{Line, TakenFrame, size_of, frame_calls, IsTaken, line_after, lines_after, AreTaken}
 use Rattle.conn_turns.specs.Frames.{adds, tells, added, told}
 use Rattle.session_model.specs.Journal.{History}

@@ -3,7 +3,7 @@ use Rattle.std.specs.Prelude.{◌≡◌, ℕ, ◌<◌, ◌≤◌, Bool, List, []
 use Rattle.session_model.specs.Journal.{History, BeginsHistory}
 use Rattle.gw_links.specs.declared.link.Got.{Got}
 use Rattle.gw_links.specs.Links.{LinkTold, IsAnswer, count_of, gives_lesser}
-use Rattle.reply_laws.specs.Machine.{State, run}
+use Rattle.fixp_machine.specs.Machine.{State, run}
 use Rattle.conn_turns.specs.Lines.{Line, lines_after, AreTaken}
 use Rattle.conn_turns.specs.Frames.{IsDone, broken_at, is_link_over}
 use Rattle.conn_turns.specs.Turns.{Work, first_calls, closing_calls, again_calls, outbox_calls, calls_of_frames, served_of, served_now, live_of, finish_of}

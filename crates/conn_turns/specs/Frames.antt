@@ -2,8 +2,8 @@
 use Rattle.std.specs.Prelude.{◌≡◌, ◌⊎◌, ℕ, ◌&&◌, Bool, true, false, not, nat_lt, if◌then◌else◌, IsTrue, List, [], ◌∷◌, ◌++◌, Option, Some, None, is_some, is_none}
 use Rattle.session_model.specs.Inbox.{InboxRecord}
 use Rattle.sofh_frame.specs.Framing.{First, frame, rest, bad_length, bad_encoding, first_of}
-use Rattle.reply_laws.specs.Machine.{State}
-use Rattle.growth_laws.specs.Accepting.{records_of}
+use Rattle.fixp_machine.specs.Machine.{State}
+use Rattle.fixp_machine.specs.Accepting.{records_of}
 use Rattle.conn_turns.specs.declared.news.NewsItem.{NewsItem}
 use Rattle.conn_turns.specs.News.{told_by}
 use Rattle.conn_turns.specs.Lines.{Line, TakenFrame, reply_at, line_after}

@@ -3,7 +3,7 @@ use Rattle.std.specs.Prelude.{◌≡◌, ℕ, ◌+◌, List, ◌++◌, map}
 use Rattle.std.specs.List.{AllByRecursion}
 use Rattle.sofh_frame.specs.Framing.{Frame, IsFrame}
 use Rattle.sofh_frame.specs.Splits.{spelled_all, place_behind}
-use Rattle.reply_laws.specs.Machine.{run}
+use Rattle.fixp_machine.specs.Machine.{run}
 use Rattle.conn_turns.specs.Lines.{Line, TakenFrame, lines_after, AreTaken}
 use Rattle.session_model.specs.Journal.{History}
 use Rattle.conn_turns.specs.Turns.{Work, works, first_calls, calls_of, calls_of_frames, sending_calls}

@@ -5,8 +5,8 @@ use Rattle.fixp_replies.specs.Acts.{is_record}
 use Rattle.fixp_replies.specs.Incoming.{Incoming, IsIncoming}
 use Rattle.fixp_replies.specs.Outcomes.{Outcome}
 use Rattle.fixp_replies.specs.Replies.{reply_of}
-use Rattle.reply_laws.specs.Machine.{State, Call, did, run, around}
-use Rattle.reply_laws.specs.Machine as calls
+use Rattle.fixp_machine.specs.Machine.{State, Call, did, run, around}
+use Rattle.fixp_machine.specs.Machine as calls
 
 -- the session machine; the bytes read of which no frame was taken yet; the place of the first of them among all bytes of the
 -- connection; and whether the link has given its end

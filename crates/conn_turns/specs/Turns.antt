@@ -7,8 +7,8 @@ use Rattle.fixp_shake.specs.Flows.{is_absent}
 use Rattle.fixp_shake.specs.Phases.{is_established}
 use Rattle.gw_links.specs.declared.link.Got.{Got}
 use Rattle.gw_links.specs.declared.link.Got.TheVariants as gots
-use Rattle.reply_laws.specs.Machine.{State, Call, bad_frame, tick, turn_done, closed, link_end, live, again, taken, reserve, run}
-use Rattle.reply_laws.specs.Machine as calls
+use Rattle.fixp_machine.specs.Machine.{State, Call, bad_frame, tick, turn_done, closed, link_end, live, again, taken, reserve, run}
+use Rattle.fixp_machine.specs.Machine as calls
 use Rattle.conn_turns.specs.Lines.{TakenFrame, frame_calls}
 
 -- What a turn did that did not only send. now: its moment in milliseconds. got: what its one receive found, None where the framer

@@ -12,8 +12,8 @@ use Rattle.fixp_replies.specs.Events.{heartbeats, lateness, turn_ended, outbox_f
 use Rattle.fixp_replies.specs.Incoming.{Incoming}
 use Rattle.fixp_replies.specs.Outcomes.{Outcome}
 use Rattle.fixp_replies.specs.Replies.{reply_of}
-use Rattle.reply_laws.specs.Machine.{State, Call, begin, frame, bad_frame, did, tick, turn_done, closed, link_end, live, again, taken, reserve, around, bytes_of, wrote, made, reply_applied, broken_by, done_pending, served_again, step, run}
-use Rattle.growth_laws.specs.Accepting.{records_of}
+use Rattle.fixp_machine.specs.Machine.{State, Call, begin, frame, bad_frame, did, tick, turn_done, closed, link_end, live, again, taken, reserve, around, bytes_of, wrote, made, reply_applied, broken_by, done_pending, served_again, step, run}
+use Rattle.fixp_machine.specs.Accepting.{records_of}
 use Rattle.connection_laws.specs.Writing.{writes}
 use Rattle.connection_laws.specs.Courses.{Waiting, Course, accepted_by, counting, called, next_done, next_course, course_after, Continues, StateIsRun}
 use Rattle.connection_laws.specs.Standing.{MayStand, CallsGoOn}

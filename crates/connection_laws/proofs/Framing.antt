@@ -14,7 +14,7 @@ use Rattle.fixp_msgs.specs.Payload.{IsApplication}
 use Rattle.fixp_msgs.proofs.Found.{found}
 use Rattle.fixp_msgs.proofs.Written.{message_spells}
 use Rattle.session_model.specs.Events.{Event}
-use Rattle.reply_laws.specs.Machine.{payload_frame}
+use Rattle.fixp_machine.specs.Machine.{payload_frame}
 use Rattle.connection_laws.specs.Writing.{Piece, said, entry, bytes_of_piece, events_of_piece}
 use Rattle.connection_laws.specs.Framed.{AreFrames, PiecesAreFrames}
 

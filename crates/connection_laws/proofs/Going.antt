@@ -31,12 +31,12 @@ use Rattle.fixp_replies.specs.Serving.{own_finishing}
 use Rattle.fixp_replies.specs.declared.facts.OwnFinish.TheVariants as finishes
 use Rattle.fixp_replies.specs.Outcomes.{Outcome}
 use Rattle.fixp_replies.specs.Replies.{reply_to_bad_frame}
-use Rattle.reply_laws.specs.Machine.{State, begin, frame, bad_frame, did, tick, turn_done, closed, link_end, live, again, taken, reserve, around, bytes_of, wrote, made, reply_applied, after_bad_frame, after_act, broken_by, ticked, after_turn, after_closed, link_ended, payload_frames, counted_sent, sent_live, rest_of, range_end, sent_again, done_pending, served_again}
-use Rattle.reply_laws.proofs.Calls.{begun_as}
-use Rattle.growth_laws.specs.Accepting as accepting
-use Rattle.growth_laws.specs.Accepting.{model_flow, event_of, records_of, Agrees, GrowsBy, told_in, turn_end, outbox_finish}
-use Rattle.growth_laws.proofs.Growing.{quiet_grows, unmoved}
-use Rattle.growth_laws.proofs.Accepted.{accepted_frame_grows, refused_frame_spares, frame_tells, begins_agreeing, own_keeps_agreeing, alike, is_done}
+use Rattle.fixp_machine.specs.Machine.{State, begin, frame, bad_frame, did, tick, turn_done, closed, link_end, live, again, taken, reserve, around, bytes_of, wrote, made, reply_applied, after_bad_frame, after_act, broken_by, ticked, after_turn, after_closed, link_ended, payload_frames, counted_sent, sent_live, rest_of, range_end, sent_again, done_pending, served_again}
+use Rattle.fixp_machine.proofs.Calls.{begun_as}
+use Rattle.fixp_machine.specs.Accepting as accepting
+use Rattle.fixp_machine.specs.Accepting.{model_flow, event_of, records_of, Agrees, GrowsBy, told_in, turn_end, outbox_finish}
+use Rattle.fixp_machine.proofs.Growing.{quiet_grows, unmoved}
+use Rattle.fixp_machine.proofs.Accepted.{accepted_frame_grows, refused_frame_spares, frame_tells, begins_agreeing, own_keeps_agreeing, alike, is_done}
 use Rattle.connection_laws.specs.Writing.{events_in, written_again, said_with, Piece, said, said_all, entries, bytes_written, events_written, ranges_told, said_breaking, range_closed, is_reached, SameOwn, nothing, shakes, resends, WritesOwn, HearsHandshake}
 use Rattle.connection_laws.specs.Courses.{Waiting, Course, inbox_of, reply_to, accepted_by, still_waiting, next_done, next_course}
 use Rattle.connection_laws.specs.Standing.{number_at, OwnFlow, Stands, AreEntries, IsOpen, MayGoLive, MayGoAgain, ConnectionBegins, BeginsAgain, CallKeeps, CallsKeep, StandsLonger, WaitingGrows}

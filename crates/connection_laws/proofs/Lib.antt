@@ -7,3 +7,7 @@ pub mod Continuing
 pub mod Lived
 pub mod Living
 pub mod Sampled
+pub mod Spelled
+pub mod LegalReplied
+pub mod Called
+pub mod Written

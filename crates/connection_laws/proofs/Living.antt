@@ -11,8 +11,8 @@ use Rattle.session_model.proofs.Images.{image_of_none}
 use Rattle.session_model.proofs.Kept.{serving_goes_on}
 use Rattle.session_model.proofs.Lists.{prefix_self}
 use Rattle.fixp_shake.specs.declared.config.EndConfig.{EndConfig}
-use Rattle.reply_laws.specs.Machine.{State}
-use Rattle.growth_laws.specs.Accepting.{model_flow}
+use Rattle.fixp_machine.specs.Machine.{State}
+use Rattle.fixp_machine.specs.Accepting.{model_flow}
 use Rattle.connection_laws.specs.Writing.{events_written}
 use Rattle.connection_laws.specs.Courses.{Course, inbox_of, beginning, Continues}
 use Rattle.connection_laws.specs.Standing.{Stands}

@@ -4,9 +4,9 @@ use Rattle.session_model.specs.Events.{message}
 use Rattle.fixp_msgs.specs.Canonical.{frame_bytes}
 use Rattle.fixp_msgs.specs.Message.{Message}
 use Rattle.fixp_msgs.specs.Numbering.{announcement_of}
-use Rattle.reply_laws.specs.Machine.{bytes_of, payload_frame, payload_frames}
-use Rattle.growth_laws.specs.Accepting as accepting
-use Rattle.growth_laws.specs.Accepting.{model_flow, event_of, records_of, Agrees, GrowsBy, told_in, turn_end, outbox_finish}
+use Rattle.fixp_machine.specs.Machine.{bytes_of, payload_frame, payload_frames}
+use Rattle.fixp_machine.specs.Accepting as accepting
+use Rattle.fixp_machine.specs.Accepting.{model_flow, event_of, records_of, Agrees, GrowsBy, told_in, turn_end, outbox_finish}
 use Rattle.connection_laws.specs.Writing.{events_in, said_all, entries, bytes_written, events_written, ranges_told}
 
 pub bytes_said : (ms : List Message) → bytes_written (said_all ms) ≡ bytes_of ms

@@ -35,10 +35,10 @@ use Rattle.fixp_replies.specs.Handshake.{awaits_client, serves_client, establish
 use Rattle.fixp_replies.specs.Flowing.{bad_retransmission, counted, taken_as, finish_act, peer_finished, answers_finish, is_filled, is_past_finish, sequence_taken, sequence_follows, restarted, finished_last, finish_fault, finished}
 use Rattle.fixp_replies.specs.Serving.{request_answered, own_finishing}
 use Rattle.fixp_replies.specs.Replies.{reply_of, template_of, rows_of, answer_of, terminates}
-use Rattle.reply_laws.proofs.Rows.{AllRows, by_row, all_rows, all_within, announced_rows, own_rows}
-use Rattle.reply_laws.proofs.Tests.{some-none}
-use Rattle.growth_laws.specs.Accepting.{event_of}
-use Rattle.growth_laws.proofs.Accepted.{is_done, not_negotiated, not_established}
+use Rattle.fixp_machine.proofs.Rows.{AllRows, by_row, all_rows, all_within, announced_rows, own_rows}
+use Rattle.fixp_machine.proofs.Tests.{some-none}
+use Rattle.fixp_machine.specs.Accepting.{event_of}
+use Rattle.fixp_machine.proofs.Accepted.{is_done, not_negotiated, not_established}
 use Rattle.connection_laws.specs.Writing.{events_in, is_reached, SameOwn, WritesOwn, nothing, shakes, resends, HearsHandshake, FrameWrites, FrameHears}
 
 -- what holds of each reply

@@ -7,8 +7,8 @@ use Rattle.session_model.specs.Events.{Event}
 use Rattle.session_model.specs.Growth as model
 use Rattle.session_model.specs.Lives.{Connection, Served, Writes, KeepsConnections}
 use Rattle.fixp_msgs.specs.declared.flow.Flow.TheVariants as flows
-use Rattle.reply_laws.specs.Machine.{State, Call}
-use Rattle.growth_laws.specs.Accepting.{model_flow, records_of}
+use Rattle.fixp_machine.specs.Machine.{State, Call}
+use Rattle.fixp_machine.specs.Accepting.{model_flow, records_of}
 use Rattle.connection_laws.specs.Writing.{Piece, events_written, ranges_told}
 use Rattle.connection_laws.specs.Courses.{Waiting, Course, inbox_of, beginning, reply_to, accepted_by, course_after}
 use Rattle.connection_laws.specs.Standing.{Stands, AllMayStand}

@@ -7,8 +7,8 @@ use Rattle.fixp_replies.specs.Acts.{is_record}
 use Rattle.fixp_replies.specs.Incoming.{Incoming}
 use Rattle.fixp_replies.specs.Outcomes.{Outcome}
 use Rattle.fixp_replies.specs.Replies.{reply_of}
-use Rattle.reply_laws.specs.Machine.{State, Call, begin, frame, did, taken, around, connected, step, run}
-use Rattle.growth_laws.specs.Accepting.{event_of, records_of}
+use Rattle.fixp_machine.specs.Machine.{State, Call, begin, frame, did, taken, around, connected, step, run}
+use Rattle.fixp_machine.specs.Accepting.{event_of, records_of}
 use Rattle.connection_laws.specs.Writing.{Piece, writes}
 
 -- a frame whose act is still to be done: its message, classified, its place and its moment

@@ -5,3 +5,5 @@ pub mod Standing
 pub mod Connections
 pub mod Living
 pub mod Samples
+pub mod Ranges
+pub mod LegalLaws

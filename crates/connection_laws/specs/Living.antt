@@ -4,8 +4,8 @@ use Rattle.session_model.specs.Journal.{Entry}
 use Rattle.session_model.specs.Inbox.{InboxRecord, next_number}
 use Rattle.session_model.specs.Lives.{Served, served_on, KeepsConnections}
 use Rattle.fixp_msgs.specs.declared.flow.Flow.TheVariants as flows
-use Rattle.reply_laws.specs.Machine.{State, Call}
-use Rattle.growth_laws.specs.Accepting.{model_flow}
+use Rattle.fixp_machine.specs.Machine.{State, Call}
+use Rattle.fixp_machine.specs.Accepting.{model_flow}
 use Rattle.connection_laws.specs.Writing.{Piece}
 use Rattle.connection_laws.specs.Courses.{Waiting, Course, inbox_of, beginning, course_after}
 use Rattle.connection_laws.specs.Standing.{AllMayStand}

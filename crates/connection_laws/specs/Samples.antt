@@ -9,7 +9,7 @@ use Rattle.fixp_shake.specs.declared.config.Role.TheVariants as roles
 use Rattle.fixp_shake.specs.declared.config.EndConfig.{EndConfig}
 use Rattle.fixp_replies.specs.declared.facts.EndState.{EndState}
 use Rattle.fixp_replies.specs.Incoming.{application, session}
-use Rattle.reply_laws.specs.Machine.{Call, frame, did, live, again, turn_done, fresh}
+use Rattle.fixp_machine.specs.Machine.{Call, frame, did, live, again, turn_done, fresh}
 use Rattle.connection_laws.specs.Writing.{events_written, ranges_told}
 use Rattle.connection_laws.specs.Courses.{Course, beginning, course_after}
 use Rattle.connection_laws.specs.Standing.{AllMayStand}

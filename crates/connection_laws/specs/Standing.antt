@@ -13,8 +13,8 @@ use Rattle.fixp_shake.specs.Flows.{is_recoverable, is_sequenced, is_absent}
 use Rattle.fixp_shake.specs.Phases.{is_established, is_shaken}
 use Rattle.fixp_replies.specs.declared.facts.Facts.{Facts}
 use Rattle.fixp_replies.specs.Acts.{is_record}
-use Rattle.reply_laws.specs.Machine.{State, Call, begin, frame, bad_frame, did, tick, turn_done, closed, link_end, live, again, taken, reserve, MayCall}
-use Rattle.growth_laws.specs.Accepting.{model_flow, records_of, Agrees}
+use Rattle.fixp_machine.specs.Machine.{State, Call, begin, frame, bad_frame, did, tick, turn_done, closed, link_end, live, again, taken, reserve, MayCall}
+use Rattle.fixp_machine.specs.Accepting.{model_flow, records_of, Agrees}
 use Rattle.connection_laws.specs.Writing.{bytes_written, events_written, ranges_told, is_reached}
 use Rattle.connection_laws.specs.Courses.{Waiting, Course, inbox_of, beginning, reply_to, accepted_by, next_course, course_after, Continues}
 

@@ -19,8 +19,8 @@ use Rattle.fixp_replies.specs.Facts.{Around, announced_number}
 use Rattle.fixp_replies.specs.Incoming.{Incoming}
 use Rattle.fixp_replies.specs.Outcomes.{Outcome, breaks}
 use Rattle.fixp_replies.specs.Replies.{reply_of, reply_to_bad_frame}
-use Rattle.reply_laws.specs.Machine.{State, Call, begin, frame, bad_frame, did, tick, turn_done, closed, link_end, live, again, taken, reserve, around, payload_frame, rest_of}
-use Rattle.growth_laws.specs.Accepting.{event_of, told_by}
+use Rattle.fixp_machine.specs.Machine.{State, Call, begin, frame, bad_frame, did, tick, turn_done, closed, link_end, live, again, taken, reserve, around, payload_frame, rest_of}
+use Rattle.fixp_machine.specs.Accepting.{event_of, told_by}
 
 -- the events of the own flow that some session messages carry
 abbrev pub events_in : List Message → List Event

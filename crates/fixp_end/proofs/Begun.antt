@@ -8,7 +8,7 @@ use Rattle.fixp_replies.specs.declared.facts.Facts.{Facts}
 use Rattle.fixp_replies.specs.Facts.{Around, is_initiator, connecting}
 use Rattle.fixp_replies.specs.Outcomes.{opening_negotiate, opening_establish}
 use Rattle.fixp_replies.specs.Events.{Made, begun}
-use Rattle.reply_laws.specs.Sound.{Sound}
+use Rattle.fixp_machine.specs.Sound.{Sound}
 
 -- the facts of a connection that begins are sound where what is recorded is
 connecting_sound : (cfg : EndConfig) (f : Facts) (phase : Phase) → Sound cfg f → (is_initiator cfg.role ≡ false → (is_negotiating phase || is_establishing phase) ≡ false)

@@ -13,7 +13,7 @@ use Rattle.fixp_replies.specs.declared.facts.EndState.{EndState}
 use Rattle.fixp_replies.specs.declared.facts.Facts.{Facts}
 use Rattle.fixp_replies.specs.Incoming.{Incoming, IsIncoming, application, session, wrong_order, too_short, unknown}
 use Rattle.fixp_replies.specs.Outcomes.{Outcome}
-use Rattle.reply_laws.specs.Fitting.{IsMessage, CanTake, WasSent, Fits, recorded_after}
+use Rattle.fixp_machine.specs.Fitting.{IsMessage, CanTake, WasSent, Fits, recorded_after}
 use Rattle.fixp_end.specs.Doing.{Serves}
 
 -- the number of entries sent moves with no act

@@ -5,7 +5,7 @@ use Rattle.std.proofs.lemmas.Grind.{flat_map-append}
 use Rattle.std.proofs.lemmas.List.Elements.{All-head, All-tail}
 use Rattle.session_model.specs.Inbox.{Numbered}
 use Rattle.jr_record.specs.Records.{IsPayload}
-use Rattle.reply_laws.specs.Machine.{payload_frame, payload_frames}
+use Rattle.fixp_machine.specs.Machine.{payload_frame, payload_frames}
 use Rattle.fixp_end.specs.Sending.{FramesFit, payloads_of}
 
 payloads-append : (first second : List Numbered) → payloads_of (first ++ second) ≡ payloads_of first ++ payloads_of second

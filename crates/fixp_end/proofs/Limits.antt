@@ -12,7 +12,7 @@ use Rattle.fixp_replies.specs.declared.facts.Facts.{Facts}
 use Rattle.fixp_replies.specs.Facts.{Around}
 use Rattle.fixp_replies.specs.Events.{heartbeats, is_due}
 use Rattle.fixp_replies.specs.Outgoing.{outgoing_message, messages_of, carries_credentials, place_limit}
-use Rattle.reply_laws.specs.Sound.{is_opening}
+use Rattle.fixp_machine.specs.Sound.{is_opening}
 
 abbrev pub ArePlain : List Message → Type 0
 ArePlain ms = AllByRecursion (λ (m : Message). is_opening m ≡ false) ms

@@ -2,7 +2,7 @@
 use Rattle.std.proofs.Common.{◌≡◌, ℕ, ◌-◌, true, false, Some, subst, refl}
 use Rattle.fixp_replies.specs.Acts.{is_record}
 use Rattle.fixp_replies.specs.Outcomes.{Outcome}
-use Rattle.reply_laws.specs.Machine.{State, reply_applied, after_frame}
+use Rattle.fixp_machine.specs.Machine.{State, reply_applied, after_frame}
 
 pub after-record : (s : State) (o p : Outcome) (now : ℕ) → o ≡ p → is_record o.act ≡ true
     → record s { moment = now; last_received = now; room = s.room - 1; pending = Some o } ≡ after_frame s p now

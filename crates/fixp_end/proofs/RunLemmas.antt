@@ -9,7 +9,7 @@ use Rattle.fixp_msgs.specs.Message.{Message}
 use Rattle.fixp_msgs.specs.Canonical.{frame_bytes}
 use Rattle.flow_idem.specs.Runs.{joined, runs_of}
 use Rattle.fixp_replies.specs.Events.{applied_runs}
-use Rattle.reply_laws.specs.Machine.{bytes_of}
+use Rattle.fixp_machine.specs.Machine.{bytes_of}
 
 abbrev Small : ℕ → List Range → Type 0
 Small k [] = ⊤

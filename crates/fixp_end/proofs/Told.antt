@@ -7,7 +7,7 @@ use Rattle.fixp_replies.specs.declared.facts.OwnFinish.TheVariants as own
 use Rattle.fixp_replies.specs.Facts.{Around}
 use Rattle.fixp_replies.specs.Events.{Made, outbox_finished, tells_finish, finish_told}
 use Rattle.fixp_replies.specs.Serving.{own_finishing}
-use Rattle.reply_laws.specs.Sound.{Sound}
+use Rattle.fixp_machine.specs.Sound.{Sound}
 
 abbrev told_as : Around → Facts → ℕ → Bool → Made
 told_as x f last b =

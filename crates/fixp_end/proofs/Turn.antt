@@ -9,8 +9,8 @@ use Rattle.fixp_shake.specs.declared.phase.Phase.TheVariants.{Closing}
 use Rattle.fixp_replies.specs.declared.facts.Facts.{Facts}
 use Rattle.fixp_replies.specs.Facts.{Around, in_phase}
 use Rattle.fixp_replies.specs.Events.{Made, applied_runs, closes, turn_ended}
-use Rattle.reply_laws.specs.Machine.{bytes_of, sent_at}
-use Rattle.reply_laws.specs.Sound.{Sound, MayWrite}
+use Rattle.fixp_machine.specs.Machine.{bytes_of, sent_at}
+use Rattle.fixp_machine.specs.Sound.{Sound, MayWrite}
 use Rattle.fixp_end.proofs.Limits.{ArePlain}
 
 abbrev turn_as : Around → Facts → List Range → Bool → Made

@@ -5,7 +5,7 @@ use Rattle.fixp_msgs.specs.Canonical.{frame_bytes}
 use Rattle.fixp_shake.specs.declared.config.EndConfig.{EndConfig}
 use Rattle.fixp_replies.specs.declared.reply.Outgoing.{Outgoing}
 use Rattle.fixp_replies.specs.Outgoing.{messages_of}
-use Rattle.reply_laws.specs.Machine.{bytes_of}
+use Rattle.fixp_machine.specs.Machine.{bytes_of}
 
 first_of_places : (cfg : EndConfig) (place : Option Outgoing) (later : List (Option Outgoing)) → messages_of cfg (place ∷ later) ≡ messages_of cfg (place ∷ []) ++ messages_of cfg later
 first_of_places cfg None later = refl

@@ -4,7 +4,7 @@ use Rattle.sbe_prim.specs.declared.Order.{Order}
 use Rattle.fixp_replies.specs.declared.act.Act.{Act}
 use Rattle.fixp_replies.specs.Incoming.{Incoming, IsIncoming}
 use Rattle.fixp_replies.specs.Replies.{reply_of}
-use Rattle.reply_laws.specs.Machine.{State, around, after_frame}
+use Rattle.fixp_machine.specs.Machine.{State, around, after_frame}
 
 -- the end answers a frame by the reply table: by the row of the one message that the frame is
 pub record AnswersFrame (old new : State) (order : Order) (message : List ℕ) (at now : ℕ) (act : Act) : Type 0 where

@@ -3,8 +3,8 @@ use Rattle.std.specs.Prelude.{◌≡◌, ℕ, Option, Some, None, IfSome}
 use Rattle.fixp_replies.specs.declared.facts.EndState.{EndState}
 use Rattle.fixp_replies.specs.declared.facts.Facts.{Facts}
 use Rattle.fixp_replies.specs.Outcomes.{Outcome}
-use Rattle.reply_laws.specs.Fitting.{WasSent}
-use Rattle.reply_laws.specs.Machine.{State}
+use Rattle.fixp_machine.specs.Fitting.{WasSent}
+use Rattle.fixp_machine.specs.Machine.{State}
 
 -- what is recorded once the act that is pending is done; where none is, what is recorded now
 abbrev pub recorded_with : Option Outcome → EndState → EndState

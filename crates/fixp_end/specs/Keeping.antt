@@ -5,7 +5,7 @@ use Rattle.fixp_shake.specs.Flows.{is_idempotent}
 use Rattle.flow_idem.specs.Applying.{Applying}
 use Rattle.fixp_replies.specs.declared.facts.Facts.{Facts}
 use Rattle.fixp_replies.specs.Outcomes.{Outcome}
-use Rattle.reply_laws.specs.Sound.{Sound, KeepsSound}
+use Rattle.fixp_machine.specs.Sound.{Sound, KeepsSound}
 use Rattle.fixp_end.specs.Doing.{Serves}
 
 -- a pending outcome may still take room for one announcement

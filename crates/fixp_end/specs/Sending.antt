@@ -1,7 +1,7 @@
 -- Entries that are sent: their payloads, and their numbers.
 use Rattle.std.specs.Prelude.{◌≡◌, ◌≤◌, ◌*◌, ℕ, List, map, length, All}
 use Rattle.jr_record.specs.Records.{IsPayload}
-use Rattle.reply_laws.specs.Machine.{payload_frames}
+use Rattle.fixp_machine.specs.Machine.{payload_frames}
 use Rattle.session_model.specs.Inbox.{Numbered}
 use Rattle.session_model.specs.Journal.{counts_from}
 

@@ -5,7 +5,7 @@ ghost use Rattle.fixp_msgs.specs.declared.flow.Flow.TheVariants.{Recoverable};
 ghost use Rattle.fixp_replies.specs.Facts.{around_of};
 ghost use Rattle.fixp_replies.specs.Acts.{is_record};
 ghost use Rattle.fixp_replies.specs.Outgoing.{outcome_of, reply_limit, written_limit};
-ghost use Rattle.reply_laws.specs.Sound.{KeepsSound};
+ghost use Rattle.fixp_machine.specs.Sound.{KeepsSound};
 ghost use Rattle.fixp_end.specs.Doing.{Serves};
 
 use crate::output::Output;
@@ -55,7 +55,7 @@ impl Model for End {
     ghost use Rattle.std.specs.Prelude.{◌≤◌, IfSome};
     ghost use Rattle.std.specs.Option.{option_map};
     ghost use Rattle.fixp_replies.specs.Outgoing.{outcome_of};
-    ghost use Rattle.reply_laws.specs.Machine.{State};
+    ghost use Rattle.fixp_machine.specs.Machine.{State};
     ghost use Rattle.fixp_replies.specs.Outgoing.{reply_limit, written_limit};
     ghost use Rattle.fixp_end.specs.Keeping.{Keeps};
 
@@ -84,12 +84,12 @@ impl Model for End {
 impl End {
     ghost use Rattle.fixp_replies.specs.Events.{heartbeats, lateness};
     ghost use Rattle.fixp_replies.specs.Outcomes.{breaks};
-    ghost use Rattle.reply_laws.specs.Machine.{fresh, connected, around, wrote, bytes_of, broken_by, ticked, after_closed, after_turn, payload_frames, range_end, rest_of, sent_again, sent_live, reply_applied, after_bad_frame, after_act, link_ended, phase_of};
+    ghost use Rattle.fixp_machine.specs.Machine.{fresh, connected, around, wrote, bytes_of, broken_by, ticked, after_closed, after_turn, payload_frames, range_end, rest_of, sent_again, sent_live, reply_applied, after_bad_frame, after_act, link_ended, phase_of};
     ghost use Rattle.fixp_shake.specs.Flows.{is_absent};
     ghost use Rattle.fixp_shake.specs.Phases.{is_established};
     ghost use Rattle.fixp_msgs.specs.Numbering.{payload_of};
     ghost use Rattle.fixp_msgs.specs.Payload.{IsApplication};
-    ghost use Rattle.reply_laws.specs.Fitting.{CanTake, WasSent, recorded_after};
+    ghost use Rattle.fixp_machine.specs.Fitting.{CanTake, WasSent, recorded_after};
     ghost use Rattle.fixp_end.specs.Answers.{AnswersFrame};
     ghost use Rattle.fixp_end.specs.Doing.{Stays, Waits, recorded_once_done};
     ghost use Rattle.fixp_end.specs.Sending.{AreFrom, payloads_of};

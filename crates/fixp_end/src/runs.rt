@@ -4,8 +4,8 @@ ghost use Rattle.std.specs.Prelude.{◌≡◌, ◌+◌, ◌*◌, ◌<◌, ◌≤
 ghost use Rattle.flow_idem.specs.Runs.{runs_of};
 ghost use Rattle.fixp_replies.specs.Events.{applied_runs, turn_ended};
 ghost use Rattle.fixp_replies.specs.Facts.{around_of};
-ghost use Rattle.reply_laws.specs.Machine.{bytes_of, sent_at};
-ghost use Rattle.reply_laws.specs.Sound.{Sound};
+ghost use Rattle.fixp_machine.specs.Machine.{bytes_of, sent_at};
+ghost use Rattle.fixp_machine.specs.Sound.{Sound};
 
 use crate::output::Output;
 use crate::sound::finish_turn;

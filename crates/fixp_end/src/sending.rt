@@ -2,7 +2,7 @@
 
 ghost use Rattle.std.specs.Prelude.{◌≡◌, ◌+◌, ◌<◌, ◌≤◌, ◌^◌, ◌++◌, ◌∷◌, [], length, take};
 ghost use Rattle.fixp_end.specs.Sending.{FramesFit, payloads_of};
-ghost use Rattle.reply_laws.specs.Machine.{payload_frames, sent_at, rest_of};
+ghost use Rattle.fixp_machine.specs.Machine.{payload_frames, sent_at, rest_of};
 
 use crate::output::Output;
 use fixp_msgs::Range;

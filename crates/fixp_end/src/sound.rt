@@ -9,16 +9,16 @@ ghost use Rattle.fixp_replies.specs.Incoming.{incoming_of};
 ghost use Rattle.fixp_replies.specs.Outcomes.{breaks};
 ghost use Rattle.fixp_replies.specs.Outgoing.{messages_of, outcome_of, place_limit, reply_limit, written_limit};
 ghost use Rattle.fixp_replies.specs.Replies.{reply_of, reply_to_bad_frame};
-ghost use Rattle.reply_laws.specs.Fitting.{CanTake, IsMessage, recorded_after};
-ghost use Rattle.reply_laws.specs.Sound.{Sound, KeepsSound, MayWrite};
+ghost use Rattle.fixp_machine.specs.Fitting.{CanTake, IsMessage, recorded_after};
+ghost use Rattle.fixp_machine.specs.Sound.{Sound, KeepsSound, MayWrite};
 ghost use Rattle.fixp_end.specs.Doing.{Serves};
 
+use fixp_machine::{acts_fit, sound_goes_on};
 use fixp_replies::{
     Around, Facts, Incoming, Outgoing, Reply, begin, end_turn, heartbeat_due, reply_to,
     reply_to_bad_frame, tell_finish,
 };
 use fixp_shake::Violation;
-use reply_laws::{acts_fit, sound_goes_on};
 
 /// The reply to a frame.
 pub fn reply_to_frame(around: &Around<'_>, facts: &mut Facts, incoming: &Incoming<'_>) -> Reply

@@ -3,8 +3,8 @@
 ghost use Rattle.std.specs.Prelude.{◌≡◌, ◌+◌, ◌≤◌, ◌++◌, true, false, length};
 ghost use Rattle.fixp_shake.specs.Flows.{is_idempotent};
 ghost use Rattle.fixp_replies.specs.Acts.{is_record};
-ghost use Rattle.reply_laws.specs.Machine.{to_tell};
-ghost use Rattle.reply_laws.specs.Sound.{Advances};
+ghost use Rattle.fixp_machine.specs.Machine.{to_tell};
+ghost use Rattle.fixp_machine.specs.Sound.{Advances};
 
 use fixp_replies::Act;
 use fixp_shake::{EndConfig, is_idempotent};

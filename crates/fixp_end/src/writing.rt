@@ -4,8 +4,8 @@ ghost use Rattle.std.specs.Prelude.{◌≡◌, ◌+◌, ◌≤◌, ◌++◌, ◌
 ghost use Rattle.std.specs.List.{AllByRecursion};
 ghost use Rattle.fixp_msgs.specs.Canonical.{frame_bytes, IsWritable};
 ghost use Rattle.fixp_replies.specs.Outgoing.{messages_of, outgoing_message, carries_credentials, frame_limit, place_limit, written_limit};
-ghost use Rattle.reply_laws.specs.Machine.{bytes_of, sent_at};
-ghost use Rattle.reply_laws.specs.Sound.{MayWrite};
+ghost use Rattle.fixp_machine.specs.Machine.{bytes_of, sent_at};
+ghost use Rattle.fixp_machine.specs.Sound.{MayWrite};
 
 use crate::messages::session_message;
 use crate::output::Output;

@@ -3,17 +3,17 @@
 use crate::again::{place_of_frame, text_of_file};
 use crate::lines::{push_disk, push_input, push_journal, push_place, push_sink, push_source};
 use crate::report::Report;
-use config_faults::{Wanted, push_config_fault};
-use fault_text::{push_decode_fault, push_encode_fault, push_text_fault};
-use gateway::{Bad, Command, Outside, Status, Which, command_of, run};
+use cmd_config::Role;
+use cmd_run::{Bad, Command, Outside, Status, Which, command_of, run};
 use gw_outside::{Disk, Sink, Source};
 use gw_real::{
     DiskReason, FileDisk, FileSink, FileSource, Kept, Named, Opening, Reason, STANDARD_OUTPUT,
 };
+use say_config::{Wanted, push_config_fault};
+use say_faults::{push_decode_fault, push_encode_fault, push_text_fault};
 use sbe_layout::Plan;
 use schema_load::load;
 use schema_toml::{ConfigFault, TEXT_LIMIT};
-use session_config::Role;
 use sofh_frame::ROOM;
 use std::alloc::{AllocError, Global};
 use std::fs::File;

@@ -1,10 +1,10 @@
 //! What is wrong with a file of a run, in a line.
 
-use config_faults::push_file;
-use fault_text::{push_broken_rule, push_malformed, push_refused};
+use cmd_run::{Bad, JournalCause, Which};
 use fixp_shake::Violation;
-use gateway::{Bad, JournalCause, Which};
 use gw_real::{DiskReason, Kept, Named, Reason, STANDARD_OUTPUT};
+use say_config::push_file;
+use say_faults::{push_broken_rule, push_malformed, push_refused};
 use std::alloc::AllocError;
 use std::io;
 

@@ -1,5 +1,5 @@
 //! An order gateway for sessions of the FIX Performance Session Layer: `main` names the files of the command line, has
-//! the command run over them, prints its status and exits with it. What is between is the crate `gateway`.
+//! the command run over them, prints its status and exits with it. What is between is the crate `cmd_run`.
 #![tactic(auto)]
 
 mod again;
@@ -10,8 +10,8 @@ mod session_said;
 mod sessions;
 mod usage;
 
+use cmd_run::{Status, command_of};
 use files::run_over_files;
-use gateway::{Status, command_of};
 use gw_real::{FileDisk, Opening};
 use report::{Report, finish};
 use sessions::{Session, SessionFiles, run_over_sockets};

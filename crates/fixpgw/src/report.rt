@@ -1,6 +1,6 @@
 //! How a run ended, on standard output and standard error.
 
-use gateway::Status;
+use cmd_run::Status;
 use std::process::ExitCode;
 
 /// How a run ended.

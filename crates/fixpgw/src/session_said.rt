@@ -3,14 +3,14 @@
 use crate::again::text_of_file;
 use crate::lines::{push_disk, push_input, push_journal, push_place, push_sink, push_source};
 use crate::sessions::{Devices, Session, named};
-use config_faults::{Wanted, push_config_fault};
-use fault_text::{push_plan_fault, push_rejected};
-use gateway::{Bad, JournalCause, Status, Which};
+use cmd_config::{Role, read_configuration};
+use cmd_run::{Bad, JournalCause, Status, Which};
 use gw_outside::Disk;
 use gw_real::{DiskReason, FileDisk, Kept, Named, Reason};
 use gw_sockets::{AcceptDialer, ConnectDialer, SocketReason};
+use say_config::{Wanted, push_config_fault};
+use say_faults::{push_plan_fault, push_rejected};
 use schema_toml::ConfigFault;
-use session_config::{Role, read_configuration};
 use std::alloc::{AllocError, Global};
 use std::fs::File;
 use std::io::{self, ErrorKind};

@@ -5,15 +5,14 @@ ghost use Rattle.std.specs.Prelude.{◌≡◌, false};
 
 use crate::report::Report;
 use crate::session_said::{SaysWhy, line_of};
-use gateway::Status;
+use cmd_config::Role;
+use cmd_run::Status;
+use cmd_session::{Role as EndRole, SessionOutside, run_session};
 use gw_links::{Clock as LinkClock, Dialer};
 use gw_outside::{Disk, Sink, Source};
 use gw_real::{FileSink, FileSource, Named, STANDARD_OUTPUT};
 use gw_sockets::{AcceptDialer, ConnectDialer, MachineClock};
 use schema_toml::TEXT_LIMIT;
-use session_command::{Role as EndRole, SessionOutside, run_session};
-use session_config::Role;
-use session_words::positive;
 use std::alloc::Global;
 use std::fs::File;
 use std::io::{self, Printer};
@@ -22,6 +21,7 @@ use std::rt::Files;
 use std::sync::Wait;
 use std::thread::Threads;
 use std::time::Clock;
+use text_words::positive;
 
 /// The file at a path, or the address, which is this to the command.
 pub const fn named<'a>(role: &'static str, path: &'a str) -> Named<'a> {

@@ -2,8 +2,8 @@
 
 use crate::report::Report;
 use crate::sessions::role_of;
-use config_faults::quoted;
-use gateway::Status;
+use cmd_run::Status;
+use say_config::quoted;
 use std::alloc::{AllocError, Global};
 
 pub const VERSION: &str = "fixpgw 0.1.0";

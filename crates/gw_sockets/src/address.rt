@@ -2,7 +2,7 @@
 
 ghost use Rattle.std.specs.Prelude.{IfOk, IfErr};
 ghost use Rattle.std.specs.declared.net.socket_addr.SocketAddrV4.{SocketAddrV4};
-ghost use Rattle.session_words.specs.Words.{IsAddress};
+ghost use Rattle.text_words.specs.Words.{IsAddress};
 
 use std::net::SocketAddrV4;
 use thiserror::Error;
@@ -20,7 +20,7 @@ pub fn parse_address(text: &str) -> Result<SocketAddrV4, AddressFault>
     ensures found { IfOk result (λ a. IsAddress text.now a) }
     ensures fault { IfErr result (λ _. (a : SocketAddrV4) → IsAddress text.now a → ⊥) }
 {
-    match session_words::parse_address(text.as_bytes()) {
+    match text_words::parse_address(text.as_bytes()) {
         Some(address) => Ok(address),
         None => Err(AddressFault),
     }

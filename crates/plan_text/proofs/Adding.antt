@@ -2,8 +2,8 @@
 use Rattle.std.proofs.Common.{◌≡◌, ℕ, zero, suc, ◌+◌, ◌-◌, ◌<◌, ◌≤◌, ◌==◌, true, false, if◌then◌else◌, List, [], ◌∷◌, ◌++◌, length, take, get_or, refl, ap, sym, ◌∙◌, arith}
 use Rattle.std.proofs.Math.ListN.{set, length-set}
 use Rattle.std.proofs.lemmas.Bool.Decides.{nat_tests}
-use Rattle.send_plans.specs.Plans.{payloads_of}
-use Rattle.send_plans.specs.declared.plan.Plan.{Plan}
+use Rattle.plan_values.specs.Plans.{payloads_of}
+use Rattle.plan_values.specs.declared.plan.Plan.{Plan}
 use Rattle.plan_text.specs.Progress.{IsAdded}
 
 at_place : (old : List Plan) (new d : Plan) (k i : ℕ) (all : List (List ℕ)) → k < length old → i ≡ k → payloads_of new ≡ all → payloads_of (get_or (set old k new) i d) ≡ all

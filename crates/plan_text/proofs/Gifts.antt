@@ -1,8 +1,8 @@
 -- Payloads of senders, one more at a time.
 use Rattle.std.proofs.Common.{◌≡◌, ℕ, suc, ◌+◌, ◌<◌, ◌==◌, Bool, true, false, if◌then◌else◌, List, [], ◌∷◌, ◌++◌, length, get_or, refl, ap, ◌∙◌, arith}
 use Rattle.std.specs.Prelude.{map}
-use Rattle.send_plans.specs.Plans.{payloads_of}
-use Rattle.send_plans.specs.declared.plan.Plan.{Plan}
+use Rattle.plan_values.specs.Plans.{payloads_of}
+use Rattle.plan_values.specs.declared.plan.Plan.{Plan}
 use Rattle.plan_text.specs.Plans.{Gift, Gives, AreGiven, payloads_of_sender, payloads_of_senders}
 
 -- one gift more, of the sender or of another

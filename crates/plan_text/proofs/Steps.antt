@@ -3,8 +3,8 @@ use Rattle.std.proofs.Common.{◌≡◌, ℕ, suc, ◌+◌, ◌<◌, ◌≤◌, 
 use Rattle.std.specs.Prelude.{map}
 use Rattle.sbe_text.specs.Lines.{lines_in}
 use Rattle.sbe_text.proofs.Feeds.{lines_within}
-use Rattle.send_plans.specs.Plans.{payloads_of}
-use Rattle.send_plans.specs.declared.plan.Plan.{Plan}
+use Rattle.plan_values.specs.Plans.{payloads_of}
+use Rattle.plan_values.specs.declared.plan.Plan.{Plan}
 use Rattle.plan_text.specs.Plans.{Gift, Gives, AreGiven, payloads_of_sender, payloads_of_senders, HasPlans, IsRefusedAt}
 use Rattle.plan_text.specs.Progress.{IsAdded, HaveRead}
 use Rattle.plan_text.proofs.Gifts.{of_sender_more, given_more, all_senders}

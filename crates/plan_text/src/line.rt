@@ -6,10 +6,10 @@ ghost use Rattle.plan_text.specs.Plans.{Gift, Gives};
 ghost use Rattle.plan_text.specs.Progress.{IsAdded};
 
 use hex::FromHexError;
+use plan_values::Plan;
 use sbe_value::Bytes;
-use send_plans::Plan;
-use session_words::number_before;
 use std::alloc::{AllocError, Global};
+use text_words::number_before;
 
 /// The sender at the front of a line, and the digits behind the blank.
 fn sender_and_digits(line: &[u8], senders: usize) -> Option<(usize, &[u8])>

@@ -1,14 +1,14 @@
 //! All lines of a text, one after another.
 
 ghost use Rattle.std.specs.Prelude.{◌≡◌, ℕ, ◌<◌, [], length, map, slice_index_or, IfOk, IfErr};
-ghost use Rattle.send_plans.specs.Plans.{payloads_of};
-ghost use Rattle.send_plans.specs.declared.plan.Plan as plan;
+ghost use Rattle.plan_values.specs.Plans.{payloads_of};
+ghost use Rattle.plan_values.specs.declared.plan.Plan as plan;
 ghost use Rattle.plan_text.specs.Plans.{HasPlans, IsFaultOf};
 
 use crate::fault::PlanFault;
 use crate::line::add_line;
+use plan_values::Plan;
 use sbe_text::first_line;
-use send_plans::Plan;
 use std::alloc::{AllocError, Global};
 
 /// So many plans without payloads.

@@ -7,7 +7,7 @@ use Rattle.sbe_layout.specs.declared.items.DataPlan.{DataPlan}
 use Rattle.sbe_layout.specs.declared.plan.MessagePlan.{MessagePlan}
 use Rattle.sbe_layout.specs.Trees.{no_plans}
 use Rattle.sbe_layout.specs.Plans as plans
-use Rattle.session_schema.specs.SessionSchema.{session_schema}
+use Rattle.session_grammar.specs.SessionSchema.{session_schema}
 use Rattle.fixp_msgs.specs.Message.{Message}
 use Rattle.fixp_msgs.specs.Table.{Row, row_of, templates}
 use Rattle.fixp_msgs.specs.Spelled.{message_at}

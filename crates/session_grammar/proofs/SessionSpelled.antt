@@ -19,7 +19,7 @@ use Rattle.sbe_layout.specs.Plans as plans
 use Rattle.sbe_grammar.specs.Parts.{Then, IsNumber}
 use Rattle.sbe_grammar.specs.Spelling.{SpellsGroups, SpellsData, SpellsBy}
 use Rattle.sbe_grammar.proofs.MessagesRead.{spelled_once}
-use Rattle.session_schema.specs.SessionSchema as session
+use Rattle.session_grammar.specs.SessionSchema as session
 use Rattle.fixp_msgs.specs.Header.{block_length_in, template_in, schema_in, session_schema}
 use Rattle.fixp_msgs.specs.Message.{Message}
 use Rattle.fixp_msgs.specs.Table.{row_of, size_of, block_size, is_template}

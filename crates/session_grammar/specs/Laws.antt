@@ -3,7 +3,7 @@ use Rattle.std.specs.Prelude.{◌≡◌, ◌↔◌, ℕ, List}
 use Rattle.sbe_value.specs.declared.message.Message as tree
 use Rattle.sbe_layout.specs.Plans.{plan_of}
 use Rattle.sbe_grammar.specs.Spelling as grammar
-use Rattle.session_schema.specs.SessionSchema.{session_schema}
+use Rattle.session_grammar.specs.SessionSchema.{session_schema}
 use Rattle.fixp_msgs.specs.Message.{Message}
 use Rattle.fixp_msgs.specs.Grammar.{Spells}
 use Rattle.session_grammar.specs.SessionTrees.{tree_of}

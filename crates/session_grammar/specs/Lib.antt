@@ -1,2 +1,4 @@
+pub mod SessionSchema
+pub mod SchemaLaws
 pub mod SessionTrees
 pub mod Laws

@@ -8,8 +8,8 @@ use Rattle.session_model.proofs.Lists.{all_append}
 use Rattle.fixp_replies.specs.Acts.{is_record}
 use Rattle.fixp_replies.specs.Outcomes.{Outcome}
 use Rattle.fixp_replies.specs.Replies.{reply_of}
-use Rattle.reply_laws.specs.Machine.{State, Call, begin, frame, bad_frame, did, tick, turn_done, closed, link_end, live, again, taken, reserve, around, reply_applied, step, run}
-use Rattle.growth_laws.specs.Accepting.{records_of}
+use Rattle.fixp_machine.specs.Machine.{State, Call, begin, frame, bad_frame, did, tick, turn_done, closed, link_end, live, again, taken, reserve, around, reply_applied, step, run}
+use Rattle.fixp_machine.specs.Accepting.{records_of}
 use Rattle.conn_turns.specs.Lines.{Line, TakenFrame, reply_at, frame_calls, line_after, AreTaken}
 use Rattle.conn_turns.specs.Frames.{adds, added}
 use Rattle.conn_turns.specs.Turns.{Work, only_sends, works, link_lost, cut_short, not_begun, first_calls, calls_of_frames, closing_calls, outbox_calls, sending_calls, is_end}

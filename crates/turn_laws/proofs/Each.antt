@@ -2,7 +2,7 @@
 use Rattle.std.proofs.Common.{ℕ, Bool, true, false, List, [], ◌∷◌, ◌++◌, Option, Some, None}
 use Rattle.std.specs.List.{AllByRecursion}
 use Rattle.session_model.proofs.Lists.{all_append}
-use Rattle.reply_laws.specs.Machine.{Call, bad_frame, turn_done, closed, link_end, live, again}
+use Rattle.fixp_machine.specs.Machine.{Call, bad_frame, turn_done, closed, link_end, live, again}
 use Rattle.conn_turns.specs.Turns.{bad_calls, end_calls, call_for, again_calls, live_calls, finish_calls}
 
 -- of the call of what may have come

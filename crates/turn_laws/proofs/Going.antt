@@ -8,8 +8,8 @@ use Rattle.fixp_replies.specs.Outcomes.{Outcome}
 use Rattle.fixp_shake.specs.declared.violation.Violation.{Violation}
 use Rattle.fixp_replies.specs.Events.{heartbeats, lateness, turn_ended, outbox_finished, finish_told, link_ending}
 use Rattle.flow_idem.specs.Runs.{runs_of}
-use Rattle.reply_laws.specs.Machine.{State, Call, bad_frame, did, tick, turn_done, closed, link_end, taken, reserve, around, bytes_of, wrote, made, reply_applied, broken_by, ticked, after_turn, after_closed, link_ended, done_pending, step, run}
-use Rattle.reply_laws.specs.Machine as calls
+use Rattle.fixp_machine.specs.Machine.{State, Call, bad_frame, did, tick, turn_done, closed, link_end, taken, reserve, around, bytes_of, wrote, made, reply_applied, broken_by, ticked, after_turn, after_closed, link_ended, done_pending, step, run}
+use Rattle.fixp_machine.specs.Machine as calls
 use Rattle.conn_turns.specs.Lines.{Line, TakenFrame, reply_at, frame_calls, IsTaken, line_after, AreTaken}
 use Rattle.conn_turns.specs.Turns.{first_calls, calls_of_frames, bad_calls, end_calls, sending_calls}
 use Rattle.conn_turns.proofs.Taking.{run_append}

@@ -5,3 +5,4 @@ pub mod Working
 pub mod Running
 pub mod Sent
 pub mod Adding
+pub mod Repacking

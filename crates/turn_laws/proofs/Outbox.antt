@@ -14,7 +14,7 @@ use Rattle.fixp_shake.specs.Flows.{is_recoverable, is_sequenced, is_absent}
 use Rattle.fixp_shake.specs.Phases.{is_shaken, is_establishing, is_established}
 use Rattle.fixp_replies.specs.declared.act.Ending.{Ending}
 use Rattle.fixp_replies.specs.declared.facts.Facts.{Facts}
-use Rattle.reply_laws.specs.Machine.{State, live, again, served_again, step}
+use Rattle.fixp_machine.specs.Machine.{State, live, again, served_again, step}
 use Rattle.conn_turns.specs.Turns.{payloads_from, again_calls, live_calls, served_of, served_now, sends_live, live_of}
 use Rattle.connection_laws.specs.Writing.{events_written}
 use Rattle.connection_laws.specs.Courses.{Course}

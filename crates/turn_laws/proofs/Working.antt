@@ -6,11 +6,11 @@ use Rattle.session_model.specs.Journal.{Entry, History}
 use Rattle.session_model.proofs.Lists.{prefix_trans}
 use Rattle.sofh_frame.specs.Framing.{first_of}
 use Rattle.fixp_replies.specs.declared.act.Ending.{Ending}
-use Rattle.reply_laws.specs.Machine.{State, Call, link_end, run}
+use Rattle.fixp_machine.specs.Machine.{State, Call, link_end, run}
 use Rattle.conn_turns.specs.Lines.{Line, TakenFrame, IsNext, lines_after}
 use Rattle.conn_turns.specs.Frames.{is_broken, broken_at, is_bad}
 use Rattle.conn_turns.specs.Turns.{Work, Turn, only_sends, works, link_lost, cut_short, not_begun, first_calls, calls_of_frames, closing_calls, again_calls, live_calls, finish_calls, outbox_calls, sending_calls, calls_of, is_end}
-use Rattle.reply_laws.specs.Machine as calls
+use Rattle.fixp_machine.specs.Machine as calls
 use Rattle.conn_turns.specs.Exact.{Served, closed_at}
 use Rattle.conn_turns.proofs.Taking.{run_append, frames_make_calls, work_makes_calls}
 use Rattle.connection_laws.specs.Courses.{Course, course_after}

@@ -5,7 +5,7 @@ use mathlib.Core.List.{IsPrefix}
 use Rattle.session_model.specs.Journal.{Entry, History}
 use Rattle.session_model.specs.Inbox.{InboxRecord, next_number}
 use Rattle.fixp_replies.specs.Acts.{is_record}
-use Rattle.reply_laws.specs.Machine.{State, Call, connected, taken, link_end, run}
+use Rattle.fixp_machine.specs.Machine.{State, Call, connected, taken, link_end, run}
 use Rattle.conn_turns.specs.Lines.{Line, TakenFrame, reply_at, lines_after}
 use Rattle.conn_turns.specs.Turns.{Turn, only_sends, works, link_lost, cut_short, not_begun, calls_of}
 use Rattle.connection_laws.specs.Writing.{Piece, bytes_of_piece, bytes_written}

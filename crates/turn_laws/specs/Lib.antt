@@ -2,3 +2,4 @@ pub mod Turns
 pub mod Standing
 pub mod Legs
 pub mod Lives
+pub mod Turned

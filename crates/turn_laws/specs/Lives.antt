@@ -3,8 +3,8 @@ use Rattle.std.specs.Prelude.{◌≡◌, ⊤, List, [], ◌∷◌, Some}
 use Rattle.session_model.specs.Journal.{Entry}
 use Rattle.session_model.specs.Inbox.{InboxRecord}
 use Rattle.session_model.specs.Lives.{served_on, KeepsConnections}
-use Rattle.reply_laws.specs.Machine.{State}
-use Rattle.growth_laws.specs.Accepting.{model_flow}
+use Rattle.fixp_machine.specs.Machine.{State}
+use Rattle.fixp_machine.specs.Accepting.{model_flow}
 use Rattle.connection_laws.specs.Courses.{Waiting, inbox_of}
 use Rattle.connection_laws.specs.Connections.{refused_by}
 use Rattle.connection_laws.specs.Living.{Leg, state_behind, inbox_behind, life_on, Opens}

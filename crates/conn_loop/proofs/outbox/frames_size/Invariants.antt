@@ -1,5 +1,5 @@
 use Rattle.std.proofs.Common.{◌≡◌, ◌*◌, ◌≤◌, length, take}
-use Rattle.reply_laws.specs.Machine.{payload_frames}
+use Rattle.fixp_machine.specs.Machine.{payload_frames}
 use Rattle.fixp_end.specs.Sending.{payloads_of}
 use Rattle.conn_loop.proofs.outbox.frames_size.Given as goal
 

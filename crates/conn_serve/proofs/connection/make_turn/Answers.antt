@@ -3,7 +3,7 @@ use Rattle.std.proofs.lemmas.Result.{on_ok_weaker}
 use Rattle.conn_turns.specs.declared.answer.TurnFault.{TurnFault}
 use Rattle.gate_turn.specs.Places.{known}
 use Rattle.conn_loop.specs.Conn.{line_of}
-use Rattle.loop_laws.proofs.Repacking.{turn_is_one, cut_is_one}
+use Rattle.turn_laws.proofs.Repacking.{turn_is_one, cut_is_one}
 use Rattle.conn_serve.proofs.Making.{whole_at, err_at, on_cut, on_both, goes_made, closed_made, of_turn_made, blamed_made}
 use Rattle.conn_serve.proofs.Turning.{was_short, cut_is_short}
 use Rattle.conn_serve.proofs.connection.make_turn.Goals as goal

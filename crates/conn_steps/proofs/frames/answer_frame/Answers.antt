@@ -1,6 +1,6 @@
 use Rattle.std.proofs.Common.{◌≡◌, true, false, sym, subst, ◌∙◌}
 use Rattle.fixp_replies.specs.Acts.{is_record}
-use Rattle.reply_laws.specs.Machine.{State, done_pending}
+use Rattle.fixp_machine.specs.Machine.{State, done_pending}
 use Rattle.conn_steps.proofs.Answering.{done_is, refused_record, past_as, refuses_as, replied, answered}
 use Rattle.conn_steps.proofs.frames.answer_frame.Goals as goal
 

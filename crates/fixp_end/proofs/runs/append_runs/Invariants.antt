@@ -1,7 +1,7 @@
 use Rattle.std.proofs.Common.{◌≡◌, ◌+◌, ◌*◌, ◌≤◌, ◌++◌, length, take}
 use Rattle.flow_idem.specs.Runs.{runs_of}
 use Rattle.fixp_replies.specs.Events.{applied_runs}
-use Rattle.reply_laws.specs.Machine.{bytes_of}
+use Rattle.fixp_machine.specs.Machine.{bytes_of}
 use Rattle.fixp_end.proofs.runs.append_runs.Given as goal
 
 abbrev pub invariant-loop-place : goal.invariant-loop-place

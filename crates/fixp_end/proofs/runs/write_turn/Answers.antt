@@ -2,7 +2,7 @@ use Rattle.std.proofs.Common.{◌∙◌, ◌++◌, [], ◌∷◌, ap}
 use Rattle.flow_idem.specs.Runs.{runs_of}
 use Rattle.fixp_replies.specs.Events.{Made, applied_runs}
 use Rattle.fixp_replies.specs.Outgoing.{messages_of}
-use Rattle.reply_laws.specs.Machine.{bytes_of, sent_at}
+use Rattle.fixp_machine.specs.Machine.{bytes_of, sent_at}
 use Rattle.fixp_end.proofs.Turn.{written_behind, sent_behind}
 use Rattle.fixp_end.proofs.runs.write_turn.Goals as goal
 

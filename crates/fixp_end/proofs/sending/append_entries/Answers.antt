@@ -1,6 +1,6 @@
 use Rattle.std.proofs.Common.{ℕ, List, length, take, ap, arith, length-append}
 use Rattle.session_model.specs.Inbox.{Numbered}
-use Rattle.reply_laws.specs.Machine.{payload_frames}
+use Rattle.fixp_machine.specs.Machine.{payload_frames}
 use Rattle.fixp_end.specs.Sending.{payloads_of}
 use Rattle.fixp_end.proofs.Frames.{frames_within}
 use Rattle.fixp_end.proofs.sending.append_entries.Goals as goal

@@ -1,5 +1,5 @@
 use Rattle.std.proofs.Common.{◌≡◌, ◌++◌, take}
-use Rattle.reply_laws.specs.Machine.{payload_frames}
+use Rattle.fixp_machine.specs.Machine.{payload_frames}
 use Rattle.fixp_end.specs.Sending.{payloads_of}
 use Rattle.fixp_end.proofs.sending.append_entries.Given as goal
 

@@ -2,7 +2,7 @@ use Rattle.std.proofs.Common.{◌∙◌, sym, subst, ap}
 use Rattle.fixp_replies.specs.declared.facts.Facts.{Facts}
 use Rattle.fixp_replies.specs.Facts.{around_of}
 use Rattle.fixp_replies.specs.Events.{Made}
-use Rattle.reply_laws.specs.Sound.{Sound}
+use Rattle.fixp_machine.specs.Sound.{Sound}
 use Rattle.fixp_end.proofs.Told.{told_sound, told_recorded, told_serving}
 use Rattle.fixp_end.proofs.sound.finish_sending.Goals as goal
 

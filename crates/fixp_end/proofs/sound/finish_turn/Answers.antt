@@ -4,7 +4,7 @@ use Rattle.fixp_msgs.specs.Message.{Message}
 use Rattle.fixp_replies.specs.declared.facts.Facts.{Facts}
 use Rattle.fixp_replies.specs.Facts.{around_of}
 use Rattle.fixp_replies.specs.Events.{Made}
-use Rattle.reply_laws.specs.Sound.{Sound, MayWrite}
+use Rattle.fixp_machine.specs.Sound.{Sound, MayWrite}
 use Rattle.fixp_end.proofs.Turn.{turn_sound, turn_recorded, turn_serving, turn_is_plain, turn_writes}
 use Rattle.fixp_end.proofs.Limits.{ArePlain, plain_is_small}
 use Rattle.fixp_end.proofs.sound.finish_turn.Goals as goal

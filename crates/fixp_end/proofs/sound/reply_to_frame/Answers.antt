@@ -3,7 +3,7 @@ use Rattle.fixp_replies.specs.Facts.{around_of}
 use Rattle.fixp_replies.specs.Incoming.{incoming_of}
 use Rattle.fixp_replies.specs.Outcomes.{Outcome}
 use Rattle.fixp_replies.specs.Outgoing.{outcome_of}
-use Rattle.reply_laws.specs.Fitting.{Fits}
+use Rattle.fixp_machine.specs.Fitting.{Fits}
 use Rattle.fixp_end.proofs.Doing.{serves_next}
 use Rattle.fixp_end.proofs.sound.reply_to_frame.Goals as goal
 

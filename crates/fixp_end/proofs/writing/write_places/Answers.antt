@@ -1,6 +1,6 @@
 use Rattle.std.proofs.Common.{List, ℕ, [], ◌∷◌, ◌++◌, ap, ◌∙◌}
 use Rattle.fixp_replies.specs.Outgoing.{messages_of}
-use Rattle.reply_laws.specs.Machine.{bytes_of}
+use Rattle.fixp_machine.specs.Machine.{bytes_of}
 use Rattle.fixp_end.proofs.Written.{three_written}
 use Rattle.fixp_end.proofs.writing.write_places.Goals as goal
 

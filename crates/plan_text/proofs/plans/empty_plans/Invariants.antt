@@ -1,6 +1,6 @@
 use Rattle.std.proofs.Common.{◌≡◌, ℕ, ◌<◌, [], length, get_or}
-use Rattle.send_plans.specs.Plans.{payloads_of}
-use Rattle.send_plans.specs.declared.plan.Plan.{Plan}
+use Rattle.plan_values.specs.Plans.{payloads_of}
+use Rattle.plan_values.specs.declared.plan.Plan.{Plan}
 use Rattle.plan_text.proofs.plans.empty_plans.Given as goal
 
 abbrev pub invariant-loop-sender : goal.invariant-loop-sender

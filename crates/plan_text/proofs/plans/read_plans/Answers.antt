@@ -1,5 +1,5 @@
 use Rattle.std.proofs.Common.{◌≡◌, ◌+◌, List, length, drop, sym, subst, ◌∙◌, rules}
-use Rattle.send_plans.specs.declared.plan.Plan.{Plan}
+use Rattle.plan_values.specs.declared.plan.Plan.{Plan}
 use Rattle.plan_text.specs.Progress.{HaveRead}
 use Rattle.plan_text.proofs.Adding.{written_back}
 use Rattle.plan_text.proofs.Steps.{none_yet, one_more, all_read, refused, count_within}

@@ -1,5 +1,5 @@
 use Rattle.std.proofs.Common.{◌≡◌, ◌∷◌, [], ◌++◌, Bool, sym, ap, ◌∙◌}
-use Rattle.reply_laws.specs.Machine.{State, turn_done, run}
+use Rattle.fixp_machine.specs.Machine.{State, turn_done, run}
 use Rattle.conn_turns.specs.Lines.{Line}
 use Rattle.conn_turns.specs.Frames.{broken_at, is_link_over}
 use Rattle.conn_turns.specs.Turns.{bad_calls, end_calls}

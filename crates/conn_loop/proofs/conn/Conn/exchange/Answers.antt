@@ -1,5 +1,5 @@
 use Rattle.std.proofs.Common.{◌∷◌, [], inl, inr, refl, ap, subst, ◌∙◌}
-use Rattle.reply_laws.specs.Machine.{State, link_end, run}
+use Rattle.fixp_machine.specs.Machine.{State, link_end, run}
 use Rattle.gate_turn.specs.Places.{known}
 use Rattle.conn_turns.specs.Lines.{Line}
 use Rattle.conn_loop.specs.Conn.{line_of, KeepsAll}

@@ -1,7 +1,7 @@
 use Rattle.std.proofs.Common.{◌≡◌, ◌≤◌, ◌++◌, [], ℕ, List, length, take, drop, true, false, Ok, refl, sym, ap, subst, ◌∙◌, arith, length-drop, take-append-drop, true≢false}
 use Rattle.std.proofs.lemmas.List.{length-take-le}
 use Rattle.gw_links.specs.Links.{Moved}
-use Rattle.reply_laws.specs.Machine.{State}
+use Rattle.fixp_machine.specs.Machine.{State}
 use Rattle.conn_turns.specs.declared.answer.TurnEnd.{TurnEnd}
 use Rattle.conn_steps.proofs.Following.{line_is}
 use Rattle.conn_loop.proofs.conn.Conn.send.Goals as goal

@@ -6,7 +6,7 @@ use Rattle.fixp_msgs.specs.declared.numbering.Range.{Range}
 use Rattle.fixp_shake.specs.declared.config.EndConfig.{EndConfig}
 use Rattle.fixp_replies.specs.declared.facts.EndState.{EndState}
 use Rattle.fixp_end.specs.Sending.{AreFrom, payloads_of}
-use Rattle.reply_laws.specs.Machine.{State, payload_frames, sent_again, run}
+use Rattle.fixp_machine.specs.Machine.{State, payload_frames, sent_again, run}
 use Rattle.gate_turn.specs.Places.{known}
 use Rattle.conn_turns.specs.Turns.{again_calls, served_of}
 use Rattle.conn_steps.proofs.Following.{line_is}

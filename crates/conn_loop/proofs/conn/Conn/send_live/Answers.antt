@@ -2,7 +2,7 @@ use Rattle.std.proofs.Common.{◌≡◌, ◌+◌, ℕ, Bool, List, length, Optio
 use Rattle.session_model.specs.Inbox.{Numbered}
 use Rattle.session_model.proofs.Lists.{prefix_length}
 use Rattle.fixp_end.specs.Sending.{AreFrom, payloads_of}
-use Rattle.reply_laws.specs.Machine.{State, payload_frames, sent_live, run}
+use Rattle.fixp_machine.specs.Machine.{State, payload_frames, sent_live, run}
 use Rattle.gate_turn.specs.Places.{known}
 use Rattle.conn_turns.specs.Turns.{live_calls, payloads_from, sends_live}
 use Rattle.conn_steps.proofs.Following.{line_is}

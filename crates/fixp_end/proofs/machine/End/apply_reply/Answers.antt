@@ -1,6 +1,6 @@
 use Rattle.std.proofs.Common.{arith, subst, sym}
-use Rattle.reply_laws.specs.Machine.{State}
-use Rattle.reply_laws.specs.Sound.{Sound}
+use Rattle.fixp_machine.specs.Machine.{State}
+use Rattle.fixp_machine.specs.Sound.{Sound}
 use Rattle.fixp_end.proofs.machine.End.apply_reply.Goals as goal
 
 pub invariant_of-self : goal.invariant_of-self

@@ -1,7 +1,7 @@
 use Rattle.std.proofs.Common.{sym, ap, subst, ◌∙◌}
 use Rattle.fixp_replies.specs.Incoming.{incoming_of}
-use Rattle.reply_laws.specs.Fitting.{CanTake, IsMessage}
-use Rattle.reply_laws.specs.Machine.{State}
+use Rattle.fixp_machine.specs.Fitting.{CanTake, IsMessage}
+use Rattle.fixp_machine.specs.Machine.{State}
 use Rattle.fixp_end.proofs.Doing.{takes_payload}
 use Rattle.fixp_end.proofs.machine.End.on_frame.Goals as goal
 use Rattle.fixp_replies.specs.Outcomes.{Outcome}

@@ -1,5 +1,0 @@
-use Rattle.box_judge.proofs.Verdicts.{one_verdict}
-use Rattle.box_judge.proofs.laws.one_verdict_of_box.Goals as goal
-
-pub returns : goal.returns
-returns c = one_verdict

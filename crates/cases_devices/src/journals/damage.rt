@@ -1,0 +1,160 @@
+//! Journals that are cut off or changed, against a second and plain reading of the format.
+
+use crate::journals::made::{Found, PAYLOAD, ROOM, WIDE, formatted, look};
+use gw_fakes::MemDisk;
+use gw_outside::{Bytes, Disk};
+use jr_log::LogJournal;
+use jr_record::{Journal, Record};
+use std::alloc::{AllocError, Global};
+
+/// The header of a journal.
+const HEADER: [u8; 16] = [
+    0x46, 0x49, 0x58, 0x50, 0x4A, 0x52, 0x4E, 0x31, 0, 0, 0, 0, 0, 0, 0, 0,
+];
+
+/// A number of eight bytes, the least significant first; 0 where they are not all there.
+fn number(bytes: &[u8]) -> u64 {
+    match bytes.first_chunk::<8>() {
+        Some(eight) => u64::from_le_bytes(*eight),
+        None => 0,
+    }
+}
+
+/// Whether a body of this kind lies in its ranges.
+fn is_legal(kind: u8, body: &[u8]) -> bool {
+    let payload = |front: usize| (front + 10..=front + 16_386).contains(&body.len());
+    match kind {
+        1 => {
+            payload(10) && (1..=16).contains(&body[0]) && body[1] == 0 && number(&body[2..]) != 0
+        }
+        2 => payload(8) && number(body) != 0,
+        3 => body.len() == 16 && number(body) != 0 && number(&body[8..]) != 0,
+        4 | 6 => body.is_empty(),
+        5 => body.len() == 8,
+        _ => false,
+    }
+}
+
+/// The bytes behind the record at the front; none where no record is spelled there.
+fn behind_record(bytes: &[u8]) -> Option<&[u8]> {
+    let (front, others) = bytes.split_at_checked(5)?;
+    let length = u32::from_le_bytes([front[1], front[2], front[3], front[4]]) as usize;
+    let (body, rest) = others.split_at_checked(length)?;
+    is_legal(front[0], body).then_some(rest)
+}
+
+/// What is to be found in these bytes, read off the format.
+fn awaited(bytes: &[u8]) -> Found {
+    let Some((front, behind)) = bytes.split_at_checked(16) else {
+        return Found::NotFormatted;
+    };
+    if front != HEADER.as_slice() {
+        return Found::NotFormatted;
+    }
+    let mut rest = behind;
+    for records in 0..bytes.len() as u64 {
+        let at = bytes.len().saturating_sub(rest.len()) as u64;
+        let Some((gate, others)) = rest.split_first() else {
+            return Found::Damaged(at);
+        };
+        if *gate != 1 {
+            return Found::Records(records);
+        }
+        let Some(behind) = behind_record(others) else {
+            return Found::Damaged(at);
+        };
+        rest = behind;
+    }
+    // Each record takes bytes, so the loop ends above.
+    Found::Failed
+}
+
+/// The bytes of a journal of three records of different kinds; none where a call is refused.
+fn three(alloc: Global) -> Result<Option<Vec<u8>>, AllocError> {
+    let Some(disk) = formatted(alloc)? else {
+        return Ok(None);
+    };
+    let Ok(mut journal) = LogJournal::open(alloc, disk, WIDE) else {
+        return Ok(None);
+    };
+    let apply = Record::Apply {
+        number: 3,
+        payload: Bytes::from_slice(alloc, &PAYLOAD)?,
+    };
+    let skip = Record::Skip { from: 1, count: 2 };
+    let all = journal.append(skip).is_ok()
+        && journal.append(apply).is_ok()
+        && journal.append(Record::Negotiated).is_ok();
+    let disk = journal.close();
+    Ok(if all {
+        Some(disk.content().to_vec(alloc)?)
+    } else {
+        None
+    })
+}
+
+/// What opening a disk of these bytes finds.
+fn opened(alloc: Global, bytes: &[u8]) -> Result<Found, AllocError> {
+    let mut disk = MemDisk::without_faults(alloc, ROOM)?;
+    if disk.write_at(0, bytes).is_err() {
+        return Ok(Found::Failed);
+    }
+    Ok(look(alloc, disk).0)
+}
+
+/// How many of some bytes are found as they are to be.
+#[derive(Drop)]
+struct Tally {
+    tried: u64,
+    awaited: u64,
+}
+
+impl Tally {
+    fn count(&mut self, alloc: Global, bytes: &[u8]) -> Result<(), AllocError> {
+        self.tried = self.tried.saturating_add(1);
+        if opened(alloc, bytes)? == awaited(bytes) {
+            self.awaited = self.awaited.saturating_add(1);
+        }
+        Ok(())
+    }
+}
+
+/// A journal of three records, cut off behind each of its bytes.
+pub fn cut(alloc: Global) -> Result<String, AllocError> {
+    let Some(whole) = three(alloc)? else {
+        return format!(in alloc; "no journal of three records");
+    };
+    let mut tally = Tally {
+        tried: 0,
+        awaited: 0,
+    };
+    for end in 0..=whole.len() {
+        tally.count(alloc, whole.as_slice().split_at(end).0)?;
+    }
+    format!(in alloc;
+        "cut off: {} of {} as the format says",
+        tally.awaited, tally.tried
+    )
+}
+
+/// A journal of three records, with each of its bytes changed in turn in three ways.
+pub fn changed(alloc: Global) -> Result<String, AllocError> {
+    let Some(whole) = three(alloc)? else {
+        return format!(in alloc; "no journal of three records");
+    };
+    let mut tally = Tally {
+        tried: 0,
+        awaited: 0,
+    };
+    for at in 0..whole.len() {
+        for mask in [0x01, 0x10, 0xFF] {
+            let mut bytes = whole.as_slice().to_vec(alloc)?;
+            bytes[at] ^= mask;
+            tally.count(alloc, bytes.as_slice())?;
+        }
+    }
+    format!(in alloc;
+        "changed: {} of {} as the format says",
+        tally.awaited, tally.tried
+    )
+}

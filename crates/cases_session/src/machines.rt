@@ -1,0 +1,33 @@
+//! Cases of two session machines, the two ends of one session: for each pair of flows their connections are cut at every
+//! place, and what each end settles is judged by plain lists. What it has to print stands in `stdout`, worked out by hand.
+
+mod cuts;
+mod entries;
+mod judge;
+mod line;
+mod session;
+mod side;
+
+use fixp_end::Flow;
+use std::io;
+
+/// The flows of one direction.
+const FLOWS: [Flow; 4] = [
+    Flow::Recoverable,
+    Flow::Idempotent,
+    Flow::Unsequenced,
+    Flow::None,
+];
+
+/// Prints what the section shows.
+pub fn print<R: Print + AllocGlobal>(rt: &R) -> io::Result<()> {
+    let alloc = rt.alloc();
+    let entries = entries::entries(alloc)?;
+    for initiator in FLOWS {
+        for acceptor in FLOWS {
+            rt.println(cuts::at_once(alloc, initiator, acceptor, entries.as_slice())?)?;
+            rt.println(cuts::by_threes(alloc, initiator, acceptor, entries.as_slice())?)?;
+        }
+    }
+    Ok(())
+}

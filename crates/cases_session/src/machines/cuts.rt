@@ -1,0 +1,170 @@
+//! The runs of a session with its connections cut at every place: two for each frame that a connection carries.
+
+use crate::machines::entries::COUNT;
+use crate::machines::judge::Moment;
+use crate::machines::line::Passage;
+use crate::machines::session::Session;
+use fixp_end::Flow;
+use jr_boxes::Stable;
+use std::alloc::{AllocError, Global};
+
+/// At how many places a second connection is cut, at most: at more than it has.
+const MOST: u64 = 400;
+
+/// What one run showed.
+#[derive(Clone, Copy)]
+struct Run {
+    /// Whether the last connection that was to be cut was cut before it ended by itself.
+    cut: bool,
+    /// How many frames the last connection carried.
+    carried: u64,
+    /// How many of them asked for a retransmission.
+    requests: u64,
+}
+
+/// What all runs of sessions with two flows showed.
+#[derive(Drop)]
+struct Runs<'a> {
+    alloc: Global,
+    initiator: Flow,
+    acceptor: Flow,
+    entries: &'a [Stable],
+    /// How many messages an end sends live in a turn, at most.
+    pace: u64,
+    /// How many frames a connection carries that is not cut.
+    frames: u64,
+    /// At how many places the first connection alone was cut.
+    places: u64,
+    /// How often a retransmission was asked for behind those.
+    requests: u64,
+    /// At how many places a second connection was cut too.
+    second_places: u64,
+    /// The places of the first cuts behind which something was wrong, of the first connection and of the second, and what.
+    fault: Option<(Option<u64>, Option<u64>, &'static str)>,
+}
+
+impl<'a> Runs<'a> {
+    /// No runs yet.
+    fn none(
+        alloc: Global,
+        initiator: Flow,
+        acceptor: Flow,
+        entries: &'a [Stable],
+        pace: u64,
+    ) -> Runs<'a> {
+        Runs {
+            alloc,
+            initiator,
+            acceptor,
+            entries,
+            pace,
+            frames: 0,
+            places: 0,
+            requests: 0,
+            second_places: 0,
+            fault: None,
+        }
+    }
+
+    /// Keeps what is wrong after a connection, where nothing was before.
+    fn judge(&mut self, session: &Session, cuts: &[u64], moment: Moment) {
+        if self.fault.is_some() {
+            return;
+        }
+        if let Some(what) = session.fault(self.entries, moment) {
+            let first = cuts.first().copied();
+            let second = cuts.get(1).copied();
+            self.fault = Some((first, second, what));
+        }
+    }
+
+    /// Runs a session whose first connections are cut at these places, and one more that is not.
+    fn run(&mut self, cuts: &[u64]) -> Result<Run, AllocError> {
+        let mut session = Session::new(self.alloc, self.initiator, self.acceptor, self.pace)?;
+        let mut cut = false;
+        for place in cuts {
+            cut = !session.connect(self.entries, &mut Passage::cut_at(*place))?;
+            self.judge(&session, cuts, Moment::Cut);
+        }
+        let mut whole = Passage::whole();
+        session.connect(self.entries, &mut whole)?;
+        self.judge(&session, cuts, Moment::Last);
+        Ok(Run {
+            cut,
+            carried: whole.carried,
+            requests: whole.requests,
+        })
+    }
+
+    /// Runs all sessions with a first cut at this place: without a second one, and with one at each place of the next connection.
+    fn run_behind(&mut self, first: u64) -> Result<(), AllocError> {
+        let single = self.run(&[first])?;
+        self.places = self.places.saturating_add(1);
+        self.requests = self.requests.saturating_add(single.requests);
+        for second in 0..MOST {
+            if !self.run(&[first, second])?.cut {
+                return Ok(());
+            }
+            self.second_places = self.second_places.saturating_add(1);
+        }
+        Ok(())
+    }
+
+    /// Runs all sessions.
+    fn run_all(&mut self) -> Result<(), AllocError> {
+        self.frames = self.run(&[])?.carried;
+        for first in 0..self.frames.saturating_mul(2) {
+            self.run_behind(first)?;
+        }
+        Ok(())
+    }
+
+    /// Whether all held, in words.
+    fn verdict(&self) -> Result<String, AllocError> {
+        match self.fault {
+            Some((first, second, what)) => {
+                format!(in self.alloc; "{what} where the cuts are at {first:?} and {second:?}")
+            }
+            None => format!(in self.alloc; "holds"),
+        }
+    }
+}
+
+/// What the sessions with these flows show whose ends send all their messages in one turn: how many frames a connection carries
+/// that is not cut, at how many places one was cut and how many retransmissions were asked for behind that, and at how many
+/// places two were cut.
+pub fn at_once(
+    alloc: Global,
+    initiator: Flow,
+    acceptor: Flow,
+    entries: &[Stable],
+) -> Result<String, AllocError> {
+    let mut runs = Runs::none(alloc, initiator, acceptor, entries, COUNT);
+    runs.run_all()?;
+    format!(in alloc;
+        "{initiator:?} and {acceptor:?}: {} frames, one cut at {} places with {} requests behind, two cuts at {} places, {}",
+        runs.frames,
+        runs.places,
+        runs.requests,
+        runs.second_places,
+        runs.verdict()?
+    )
+}
+
+/// The same where each end sends three messages in a turn, at most: without the numbers that depend on what is under way at
+/// the cuts.
+pub fn by_threes(
+    alloc: Global,
+    initiator: Flow,
+    acceptor: Flow,
+    entries: &[Stable],
+) -> Result<String, AllocError> {
+    let mut runs = Runs::none(alloc, initiator, acceptor, entries, 3);
+    runs.run_all()?;
+    format!(in alloc;
+        "{initiator:?} and {acceptor:?} by threes: {} frames, one cut at {} places and two cuts, {}",
+        runs.frames,
+        runs.places,
+        runs.verdict()?
+    )
+}

@@ -1,0 +1,103 @@
+//! Sessions of two ends over their turns: two connections against each other over pipes in memory, with gates, journals and inboxes
+//! as a session has them. Senders submit between the turns, links give and take a part or a byte at a time, and connections are cut
+//! where it is drawn; the last one is not. The journals are opened again and judged by plain lists. Then each end hears what an honest
+//! peer sends in a connection with one byte changed, by `tapes.txt`. What the program has to print stands in `stdout`, worked out by
+//! hand: how many sessions and tapes there are, and that all hold.
+
+mod chance;
+mod judge;
+mod narrow;
+mod runs;
+mod session;
+mod tapes;
+
+use fixp_end::{Flow, Role};
+use runs::{Kind, push_sessions};
+use std::alloc::{AllocError, Global};
+use std::rt::Files;
+use std::sync::Wait;
+use std::{fs, io};
+use tapes::{push_heard, read_tape};
+
+/// All flows.
+const FLOWS: [Flow; 4] = [
+    Flow::Recoverable,
+    Flow::Idempotent,
+    Flow::Unsequenced,
+    Flow::None,
+];
+
+/// Adds how the sessions of two flows go: over links whose width is drawn for each turn, and over links of a byte.
+fn push_flows<R: Wait>(
+    rt: &R,
+    alloc: Global,
+    line: &mut String,
+    flows: [Flow; 2],
+) -> Result<(), AllocError> {
+    let drawn = Kind {
+        flows,
+        width: 0,
+        rounds: 60,
+    };
+    let single = Kind {
+        flows,
+        width: 1,
+        rounds: 600,
+    };
+    let [client, server] = flows;
+    write!(line, "{client:?} and {server:?}: ")?;
+    push_sessions(alloc, line, drawn, 40, rt)?;
+    line.push_str(", and of a byte at a time ")?;
+    push_sessions(alloc, line, single, 4, rt)
+}
+
+/// Prints how the sessions of two flows go.
+fn print_flows<R: Print + AllocGlobal + Wait>(rt: &R, flows: [Flow; 2]) -> io::Result<()> {
+    let mut line = String::new(rt.alloc());
+    push_flows(rt, rt.alloc(), &mut line, flows)?;
+    rt.println(line)
+}
+
+/// Prints how the sessions of all pairs of flows go.
+fn print_sessions<R: Print + AllocGlobal + Wait>(rt: &R) -> io::Result<()> {
+    for client in FLOWS {
+        for server in FLOWS {
+            print_flows(rt, [client, server])?;
+        }
+    }
+    Ok(())
+}
+
+/// Adds how an end of this role hears the tapes of the lines that begin with this word.
+fn push_tapes<R: Wait>(
+    rt: &R,
+    alloc: Global,
+    line: &mut String,
+    role: Role,
+    name: &str,
+    lines: &str,
+) -> Result<(), AllocError> {
+    write!(line, "{name}: ")?;
+    let mut tape = read_tape(alloc, role, name, lines)?;
+    push_heard(alloc, line, &mut tape, rt)
+}
+
+/// Prints how an end of this role hears the tapes of the lines that begin with this word.
+fn print_tapes<R: Print + AllocGlobal + Wait>(
+    rt: &R,
+    role: Role,
+    name: &str,
+    lines: &str,
+) -> io::Result<()> {
+    let mut line = String::new(rt.alloc());
+    push_tapes(rt, rt.alloc(), &mut line, role, name, lines)?;
+    rt.println(line)
+}
+
+/// Prints what the section shows.
+pub fn print<R: Files + Print + AllocGlobal + Wait>(rt: &R) -> io::Result<()> {
+    print_sessions(rt)?;
+    let lines = fs::read_to_string(rt, "tapes.txt")?;
+    print_tapes(rt, Role::Acceptor, "accept", lines.as_str())?;
+    print_tapes(rt, Role::Initiator, "connect", lines.as_str())
+}

@@ -1,0 +1,271 @@
+//! The cases.
+use crate::senders_at_once::boxes::{Case, Setting, WIDE, in_order, ready, reopened};
+use crate::senders_at_once::doors::{Closing, Meeting};
+use crate::senders_at_once::runs::{Log, Ran, run, run_finished};
+use gate_plans::{Door, OpenDoor};
+use gw_fakes::Pick;
+use jr_boxes::{CloseFault, Outbox, SubmitFault};
+use jr_record::Limits;
+use std::alloc::{AllocError, Global};
+use std::sync::Wait;
+use std::thread::Threads;
+
+/// A case whose outbox has room, on a disk that does not fail.
+const fn wide<'a>(lengths: &'a [u8]) -> Case<'a> {
+    Case {
+        limits: WIDE,
+        fuse: None,
+        lengths,
+    }
+}
+
+/// Runs the senders of a case at once; None where a call is refused.
+fn run_case<D: Door + Sync, R: Threads + Wait + Sync>(
+    alloc: Global,
+    case: Case<'_>,
+    door: &D,
+    rt: &R,
+) -> Option<Ran> {
+    let Setting { outbox, plans } = ready(alloc, case)?;
+    run(alloc, outbox, plans, door, rt)
+}
+
+/// How many messages all senders were told of.
+fn all_done(done: &[u64; 4]) -> u64 {
+    let mut sum = 0u64;
+    for count in done {
+        sum = sum.saturating_add(*count);
+    }
+    sum
+}
+
+/// Two senders, the first of which waits for the second.
+pub fn meeting<R: Threads + Wait + Sync>(
+    alloc: Global,
+    rt: &R,
+    line: &mut String,
+) -> Result<(), AllocError> {
+    let door = Meeting::new();
+    match run_case(alloc, wide(&[3, 5]), &door, rt) {
+        Some(ran) => add_meeting(door.met(), &ran, line),
+        None => line.push_str("no outbox"),
+    }
+}
+
+fn add_meeting(met: bool, ran: &Ran, line: &mut String) -> Result<(), AllocError> {
+    let (answer, front) = (ran.answer, ran.outbox.front());
+    write!(
+        line,
+        "sender 1 met sender 2: {met}, {answer:?}, {front} entries"
+    )
+}
+
+/// Plans of different lengths.
+pub fn plain<R: Threads + Wait + Sync>(
+    alloc: Global,
+    lengths: &[u8],
+    rt: &R,
+    line: &mut String,
+) -> Result<(), AllocError> {
+    match run_case(alloc, wide(lengths), &OpenDoor, rt) {
+        Some(mut ran) => add_plain(&mut ran, line),
+        None => line.push_str("no outbox"),
+    }
+}
+
+fn add_plain(ran: &mut Ran, line: &mut String) -> Result<(), AllocError> {
+    let (answer, done, refused) = (ran.answer, ran.done, ran.refused);
+    write!(line, "{answer:?}, done {done:?}, refused {refused:?}, ")?;
+    add_entries(&mut ran.outbox, line)
+}
+
+/// Adds how many entries an outbox has, and how many of them each sender.
+fn add_entries(outbox: &mut Outbox<Log>, line: &mut String) -> Result<(), AllocError> {
+    let (first, second) = (outbox.mine(1), outbox.mine(2));
+    let (third, fourth) = (outbox.mine(3), outbox.mine(4));
+    let (front, ordered) = (outbox.front(), in_order(outbox));
+    write!(
+        line,
+        "{front} entries, {first} {second} {third} {fourth}, in order {ordered}"
+    )
+}
+
+/// Two senders at an outbox that their messages fill.
+pub fn limits<R: Threads + Wait + Sync>(
+    alloc: Global,
+    limits: Limits,
+    rt: &R,
+    line: &mut String,
+) -> Result<(), AllocError> {
+    let case = Case {
+        limits,
+        fuse: None,
+        lengths: &[20, 20],
+    };
+    match run_case(alloc, case, &OpenDoor, rt) {
+        Some(mut ran) => add_limits(&mut ran, line),
+        None => line.push_str("no outbox"),
+    }
+}
+
+fn add_limits(ran: &mut Ran, line: &mut String) -> Result<(), AllocError> {
+    let (answer, done, front) = (ran.answer, all_done(&ran.done), ran.outbox.front());
+    let ordered = in_order(&mut ran.outbox);
+    write!(
+        line,
+        "{answer:?}, done {done} in all, {front} entries, in order {ordered}"
+    )
+}
+
+/// Runs two senders and adds the Finish meanwhile; None where a call is refused.
+fn run_closing<R: Threads + Wait + Sync>(
+    alloc: Global,
+    door: &Closing,
+    rt: &R,
+) -> Option<(Ran, Result<(), CloseFault>)> {
+    let Setting { outbox, plans } = ready(alloc, wide(&[100, 200]))?;
+    if plans.is_empty() {
+        return None;
+    }
+    run_finished(alloc, outbox, plans, door, rt)
+}
+
+/// Two senders, and the Finish, which is added while they submit: not before sender 1 calls for its message 11, and before its
+/// message 40. What was told of stands in the outbox as it is opened again, and its Finish is last.
+pub fn finishing<R: Threads + Wait + Sync>(
+    alloc: Global,
+    rt: &R,
+    line: &mut String,
+) -> Result<(), AllocError> {
+    let door = Closing::new(11, 40);
+    match run_closing(alloc, &door, rt) {
+        Some((ran, finished)) => {
+            write!(line, "finish {finished:?}, ")?;
+            add_finished(alloc, ran, line)
+        }
+        None => line.push_str("no gate"),
+    }
+}
+
+fn add_finished(alloc: Global, ran: Ran, line: &mut String) -> Result<(), AllocError> {
+    let Ran {
+        answer: _,
+        done,
+        refused,
+        outbox,
+    } = ran;
+    match reopened(alloc, outbox, Pick::Old) {
+        Some(mut outbox) => {
+            add_closed(&done, &refused, line)?;
+            add_standing(&done, &mut outbox, line)
+        }
+        None => line.push_str("not opened again"),
+    }
+}
+
+/// Adds what became of the two senders.
+fn add_closed(
+    done: &[u64; 4],
+    refused: &[Option<SubmitFault>; 4],
+    line: &mut String,
+) -> Result<(), AllocError> {
+    let [first, second, ..] = *refused;
+    let whole = if done[1] == 200 {
+        second.is_none()
+    } else {
+        second == Some(SubmitFault::Closed)
+    };
+    let told = done[0] >= 10 && done[0] < 40;
+    write!(
+        line,
+        "sender 1 {first:?}, told 10 to 39: {told}, sender 2 done or closed: {whole}, "
+    )
+}
+
+/// Adds whether what was told stands, in order, and the Finish behind it.
+fn add_standing(
+    done: &[u64; 4],
+    outbox: &mut Outbox<Log>,
+    line: &mut String,
+) -> Result<(), AllocError> {
+    let (first, second) = (outbox.mine(1), outbox.mine(2));
+    let last = outbox.closed() && outbox.front() == first.saturating_add(second);
+    let stands = first == done[0] && second == done[1];
+    let ordered = in_order(outbox);
+    write!(
+        line,
+        "what was told stands: {stands}, in order {ordered}, the Finish stands last: {last}"
+    )
+}
+
+/// Two senders of two messages each, where the disk fails after so many calls: how many messages were told of, how many refusals
+/// were of the failing call and of the broken outbox, and how many entries there are after a stop that leaves this. False where
+/// the outbox is not opened before the disk fails.
+pub fn failing<R: Threads + Wait + Sync>(
+    alloc: Global,
+    fuse: u64,
+    pick: Pick,
+    rt: &R,
+    line: &mut String,
+) -> Result<bool, AllocError> {
+    let case = Case {
+        limits: WIDE,
+        fuse: Some(fuse),
+        lengths: &[2, 2],
+    };
+    match run_case(alloc, case, &OpenDoor, rt) {
+        Some(ran) => add_failed(alloc, ran, pick, line),
+        None => Ok(false),
+    }
+}
+
+fn add_failed(alloc: Global, ran: Ran, pick: Pick, line: &mut String) -> Result<bool, AllocError> {
+    let Ran {
+        answer: _,
+        done,
+        refused,
+        outbox,
+    } = ran;
+    match reopened(alloc, outbox, pick) {
+        Some(mut outbox) => {
+            add_refused(&done, &refused, line)?;
+            add_kept(&done, &mut outbox, line)?;
+        }
+        None => line.push_str("not opened again")?,
+    }
+    Ok(true)
+}
+
+/// How many senders were refused for the failing call, and how many for another reason than it and the broken outbox.
+fn refusals(refused: &[Option<SubmitFault>; 4]) -> (u64, u64) {
+    let (mut faults, mut others) = (0u64, 0u64);
+    for fault in refused {
+        match fault {
+            Some(SubmitFault::Fault) => faults = faults.saturating_add(1),
+            Some(SubmitFault::Broken) | None => {}
+            Some(_) => others = others.saturating_add(1),
+        }
+    }
+    (faults, others)
+}
+
+fn add_refused(
+    done: &[u64; 4],
+    refused: &[Option<SubmitFault>; 4],
+    line: &mut String,
+) -> Result<(), AllocError> {
+    let (faults, others) = refusals(refused);
+    let told = all_done(done);
+    write!(line, "told {told}, faults {faults}, others {others}, ")
+}
+
+fn add_kept(
+    done: &[u64; 4],
+    outbox: &mut Outbox<Log>,
+    line: &mut String,
+) -> Result<(), AllocError> {
+    let kept = outbox.mine(1) >= done[0] && outbox.mine(2) >= done[1];
+    let front = outbox.front();
+    let ordered = in_order(outbox);
+    write!(line, "{front} entries, kept {kept}, in order {ordered}")
+}

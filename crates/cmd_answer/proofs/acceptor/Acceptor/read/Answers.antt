@@ -1,0 +1,29 @@
+use Rattle.std.proofs.Common.{ℕ, List, ◌++◌, length, take, refl, ap, ◌∙◌}
+use Rattle.std.proofs.KnownBytes.{Consumes-trans}
+use Rattle.cmd_answer.proofs.Rounds.{kept-front, after-finish, stands-filled, written_over-same, room_left}
+use Rattle.cmd_answer.proofs.acceptor.Acceptor.read.Goals as goal
+
+pub returns-in_default-clause-after : goal.returns-in_default-clause-after
+returns-in_default-clause-after g c = λ cfg before wire out talks.
+    kept-front cfg before _ c.args.self.now talks (record { input = g.S.Source.left c.pull.new.self; wire = wire; out = out }) refl refl
+
+pub returns-then-count-eq0-clause-after : goal.returns-then-count-eq0-clause-after
+returns-then-count-eq0-clause-after g c = λ cfg before wire out talks.
+    let bytes = rw c.if-count-eq0.true at c.in-Ok.ensures.bytes in
+    rw c.finish.ensures (
+    after-finish cfg before _ (record { input = g.S.Source.left c.pull.new.self; wire = wire; out = out }) c.args.self.now _
+    talks c.requires.idle.ready.going c.requires.waits c.requires.idle.unsent c.requires.idle.lines bytes.0 (bytes.1 refl (rw c.pull.auto.into (room_left c.args.self.now.framer.held (length c.room.result.now) c.requires.waits c.room.ensures.size))) refl refl)
+
+pub returns-clause-after : goal.returns-clause-after
+returns-clause-after g c = λ cfg before wire out talks.
+    let kept = c.pull.auto.into ∙ ap length c.room.ensures.value in
+    let held = c.filled.ensures.held ∙ ap (λ (l : List ℕ). c.args.self.now.framer.held ++ take c.in-Ok.count l) (written_over-same c.args.self.now.framer.room c.pull.new.into kept) in
+    record {
+      read = talks.read ++ take c.in-Ok.count c.pull.new.into;
+      wire = talks.wire;
+      out = talks.out;
+      stands = stands-filled cfg talks.read talks.wire talks.out (take c.in-Ok.count c.pull.new.into) c.args.self.now _ talks.stands refl refl refl held;
+      consumed = Consumes-trans _ _ _ _ _ talks.consumed c.in-Ok.ensures.bytes.0;
+      wire_gained = talks.wire_gained;
+      out_gained = talks.out_gained;
+    }

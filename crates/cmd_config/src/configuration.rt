@@ -1,0 +1,298 @@
+//! The configuration of a session for a role: nine keys, with what the role asks
+//! of several of them.
+
+ghost use Rattle.std.specs.Prelude.{◌≡◌, ◌<◌, ◌≤◌, codes, [], length, IfOk, Err};
+ghost use Rattle.toml_walk.specs.Keys.{get_or_default};
+ghost use Rattle.toml.specs.View.{view};
+ghost use Rattle.toml_walk.specs.Reading.{Reads};
+ghost use Rattle.schema_toml.specs.Faults.{Tells, text_limit};
+ghost use Rattle.cmd_config.specs.Laws.{KeepsRole};
+ghost use Rattle.cmd_config.specs.Settings.{IsLinkInRange, IsTradeInRange, allows_client, allows_desks, allows_senders, allows_server, configuration_of, configuration_of_document, configuration_of_text, credentials_of, ensure_in_range, is_none, is_unsequenced, link_of, own_flow, peer_flow, trade_of};
+
+use crate::limits::{DESKS, DESKS_ARE_BUILT, KEEPALIVE, ORDER_VERSION, REFERENCE, SENDERS};
+use crate::readers::{Credentials, Flows, Sessions};
+use fixp_msgs::Flow;
+use sbe_value::Bytes;
+use schema_toml::{ConfigFault, TEXT_LIMIT};
+use std::alloc::Global;
+use toml::Value;
+use toml_walk::{
+    TomlFault, deny_unknown_keys, get_or_default, natural_at, natural_or, out_of_range,
+    read_document, required,
+};
+
+/// What a configuration is for.
+#[derive(Clone, Copy, Debug, PartialEq, Eq)]
+pub enum Role {
+    /// The acceptor over recorded bytes.
+    Answer,
+    /// The acceptor on live connections.
+    Accept,
+    /// The initiator on live connections.
+    Connect,
+}
+
+/// What a configuration says of the session itself.
+#[derive(Debug, Drop)]
+pub struct Link {
+    /// The 16 bytes of the session's UUID.
+    pub session: [u8; 16],
+    /// The own heartbeat interval, 100 to 60,000 milliseconds.
+    pub keepalive: u32,
+    /// The flow that the client sends.
+    pub client_flow: Flow,
+    /// The flow that the server sends.
+    pub server_flow: Flow,
+    /// The credentials that a client gives, at most 2,048 bytes.
+    pub credentials: Bytes,
+}
+
+/// What a configuration says of those who send and of their orders.
+#[derive(Clone, Copy, Debug, PartialEq, Eq)]
+pub struct Trade {
+    /// How many senders there are, 0 to 16.
+    pub senders: u8,
+    /// How many desks there are, 0 to 16.
+    pub desks: u8,
+    /// The version of the order schema, 1 or 2.
+    pub order_version: u8,
+    /// The mantissa of the reference price, 1 to 10^15.
+    pub reference: u64,
+}
+
+/// A configuration: the values of all nine keys.
+#[derive(Debug, Drop)]
+pub struct Configuration {
+    /// The session, its flows and credentials.
+    pub link: Link,
+    /// The senders, the desks and their orders.
+    pub trade: Trade,
+}
+
+/// Checks a condition on the value at a key.
+///
+/// # Errors
+/// `Range` at that key where it is not met.
+fn ensure_in_range(alloc: Global, key: &str, holds: bool) -> Result<(), TomlFault>
+    ensures { Reads result (ensure_in_range key.now holds) }
+{
+    if holds {
+        Ok(())
+    } else {
+        Err(out_of_range(alloc, key))
+    }
+}
+
+fn is_unsequenced(flow: Flow) -> bool
+    ensures { result ≡ is_unsequenced flow }
+{
+    matches!(flow, Flow::Unsequenced)
+}
+
+fn is_none(flow: Flow) -> bool
+    ensures { result ≡ is_none flow }
+{
+    matches!(flow, Flow::None)
+}
+
+/// Whether a role may read this flow of the client.
+fn allows_client(role: Role, client: Flow) -> bool
+    ensures { result ≡ allows_client role client }
+{
+    match role {
+        Role::Answer => is_unsequenced(client),
+        Role::Accept | Role::Connect => true,
+    }
+}
+
+/// Whether a role may be with this flow of the server.
+fn allows_server(role: Role, server: Flow) -> bool
+    ensures { result ≡ allows_server role server }
+{
+    match role {
+        Role::Answer => is_none(server),
+        Role::Accept | Role::Connect => true,
+    }
+}
+
+/// The flow that a role sends.
+pub fn own_flow(role: Role, client: Flow, server: Flow) -> Flow
+    ensures { result ≡ own_flow role client server }
+{
+    match role {
+        Role::Connect => client,
+        Role::Answer | Role::Accept => server,
+    }
+}
+
+/// The flow that a role receives.
+pub fn peer_flow(role: Role, client: Flow, server: Flow) -> Flow
+    ensures { result ≡ peer_flow role client server }
+{
+    match role {
+        Role::Connect => server,
+        Role::Answer | Role::Accept => client,
+    }
+}
+
+/// Whether there may be so many senders of a flow.
+fn allows_senders(own: Flow, senders: u64) -> bool
+    ensures { result ≡ allows_senders own senders }
+{
+    if is_none(own) {
+        senders == 0
+    } else {
+        senders != 0
+    }
+}
+
+/// Whether a role may have so many desks.
+fn allows_desks(role: Role, server: Flow, has_senders_key: bool, desks: u64) -> bool
+    ensures { result ≡ allows_desks role server has_senders_key desks }
+{
+    desks == 0
+        || (DESKS_ARE_BUILT && matches!(role, Role::Accept) && !has_senders_key && !is_none(server))
+}
+
+/// The credentials, none where the key is absent.
+#[tactic(auto, using(crate::proofs::Readings::credentials_le))]
+fn read_credentials(alloc: Global, keys: &Value) -> Result<Bytes, TomlFault>
+    ensures value { Reads result (get_or_default (codes "credentials") [] credentials_of (view keys.now)) }
+    ensures short { IfOk result (λ bytes. length bytes ≤ 2048) }
+{
+    get_or_default::<Credentials>(alloc, (), keys, "credentials", Bytes::new(alloc))
+}
+
+/// The keys of the session itself.
+fn read_link(alloc: Global, role: Role, keys: &Value) -> Result<Link, TomlFault>
+    ensures value { Reads result (link_of role (view keys.now)) }
+    ensures range { IfOk result IsLinkInRange }
+{
+    let session = required::<Sessions>(alloc, (), keys, "session")?;
+    let keepalive = natural_at(
+        alloc,
+        keys,
+        "keepalive",
+        KEEPALIVE.least,
+        KEEPALIVE.greatest,
+    )?;
+    let client = required::<Flows>(alloc, (), keys, "client_flow")?;
+    ensure_in_range(alloc, "client_flow", allows_client(role, client))?;
+    let server = required::<Flows>(alloc, (), keys, "server_flow")?;
+    ensure_in_range(alloc, "server_flow", allows_server(role, server))?;
+    let credentials = read_credentials(alloc, keys)?;
+    Ok(Link {
+        session,
+        keepalive: keepalive as u32,
+        client_flow: client,
+        server_flow: server,
+        credentials,
+    })
+}
+
+/// The keys of senders, desks and orders.
+fn read_trade(
+    alloc: Global,
+    role: Role,
+    client: Flow,
+    server: Flow,
+    keys: &Value,
+) -> Result<Trade, TomlFault>
+    ensures value { Reads result (trade_of role client server (view keys.now)) }
+    ensures range { IfOk result IsTradeInRange }
+{
+    let has_senders_key = keys.get("senders").is_some();
+    let senders = natural_or(alloc, keys, "senders", SENDERS.least, SENDERS.greatest, 1)?;
+    let own = own_flow(role, client, server);
+    ensure_in_range(alloc, "senders", allows_senders(own, senders))?;
+    let desks = natural_or(alloc, keys, "desks", DESKS.least, DESKS.greatest, 0)?;
+    ensure_in_range(
+        alloc,
+        "desks",
+        allows_desks(role, server, has_senders_key, desks),
+    )?;
+    let order_version = natural_or(
+        alloc,
+        keys,
+        "order_version",
+        ORDER_VERSION.least,
+        ORDER_VERSION.greatest,
+        1,
+    )?;
+    let reference = natural_or(
+        alloc,
+        keys,
+        "reference",
+        REFERENCE.least,
+        REFERENCE.greatest,
+        1_000_000,
+    )?;
+    Ok(Trade {
+        senders: senders as u8,
+        desks: desks as u8,
+        order_version: order_version as u8,
+        reference,
+    })
+}
+
+fn read_table(alloc: Global, role: Role, keys: &Value) -> Result<Configuration, TomlFault>
+    ensures value { Reads result (configuration_of role (view keys.now)) }
+    ensures link { IfOk result (λ c. IsLinkInRange c.link) }
+    ensures trade { IfOk result (λ c. IsTradeInRange c.trade) }
+{
+    let link = read_link(alloc, role, keys)?;
+    let trade = read_trade(alloc, role, link.client_flow, link.server_flow, keys)?;
+    deny_unknown_keys(
+        alloc,
+        keys,
+        &[
+            "session",
+            "keepalive",
+            "client_flow",
+            "server_flow",
+            "credentials",
+            "senders",
+            "desks",
+            "order_version",
+            "reference",
+        ],
+    )?;
+    Ok(Configuration { link, trade })
+}
+
+/// The configuration that a document is.
+#[tactic(auto, using(crate::proofs::Kept::read_keeps_role))]
+pub fn read_keys(alloc: Global, role: Role, text: &[u8]) -> Result<Configuration, TomlFault>
+    ensures value { Reads result (configuration_of_document role text.now) }
+    ensures link { IfOk result (λ c. IsLinkInRange c.link) }
+    ensures trade { IfOk result (λ c. IsTradeInRange c.trade) }
+    ensures role { IfOk result (KeepsRole role) }
+{
+    let keys = read_document(alloc, text)?;
+    read_table(alloc, role, &keys)
+}
+
+/// What a text configures for a role.
+///
+/// # Errors
+/// `TooLong` exactly where the text is longer than `TEXT_LIMIT`, and else the first fault in the order in which
+/// its keys are visited; a condition on several keys is out of range at the later of them.
+pub fn read_configuration(
+    alloc: Global,
+    role: Role,
+    text: &[u8],
+) -> Result<Configuration, ConfigFault>
+    ensures exact { Tells result (configuration_of_text role text.now) }
+    ensures too_long { text_limit < length text.now → result ≡ Err ConfigFault.TooLong }
+    ensures link { IfOk result (λ c. IsLinkInRange c.link) }
+    ensures trade { IfOk result (λ c. IsTradeInRange c.trade) }
+    ensures role { IfOk result (KeepsRole role) }
+{
+    if text.len() > TEXT_LIMIT {
+        return Err(ConfigFault::TooLong);
+    }
+    match read_keys(alloc, role, text) {
+        Ok(configuration) => Ok(configuration),
+        Err(fault) => Err(ConfigFault::Toml(fault)),
+    }
+}

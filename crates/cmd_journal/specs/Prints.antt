@@ -1,0 +1,76 @@
+-- What `journal` prints of the disks of the two journals (this project's profile).
+use Rattle.std.specs.Prelude.{◌≡◌, ◌⊎◌, ℕ, List, Option}
+use Rattle.std.specs.Option.{ForSome}
+use Rattle.std.specs.Io.KnownBytes.{Appends}
+use Rattle.gw_outside.specs.Faults.{HasRisen, TakesFront}
+use Rattle.jr_record.specs.declared.record.Record.{Record}
+use Rattle.jr_record.specs.Images.{IsJournal}
+use Rattle.jr_boxes.specs.declared.faults.Which.{Which}
+use Rattle.jr_boxes.specs.declared.faults.Which.TheVariants.{Outbox, Inbox}
+use Rattle.jr_judge.specs.Judged.{IsBox, IsNoBox}
+use Rattle.cmd_base.specs.declared.status.Status.{Status}
+use Rattle.cmd_base.specs.declared.status.Status.TheVariants.{Done, OutputFault, JournalFault, JournalBad, Memory}
+use Rattle.cmd_base.specs.Contents.{Disks}
+use Rattle.jr_text.specs.Lines.{journal_lines}
+
+-- what the status of a journal that was not opened says of the content that its disk told
+abbrev pub IsRefusal : Which → Option (List ℕ) → Status → Type 0
+IsRefusal which content (JournalBad box cause) = (box ≡ which) × ForSome content (IsNoBox which cause)
+IsRefusal which content JournalFault = Unit {0}
+IsRefusal which content Memory = Unit {0}
+IsRefusal which content _ = ⊥
+
+-- an output gained all of some lines at status 0, and a front of them where it or memory failed
+abbrev pub GaveLines : List ℕ → Option (List ℕ) → Option (List ℕ) → Status → Type 0
+GaveLines lines before after Done = Appends before after lines
+GaveLines lines before after OutputFault = TakesFront before after lines
+GaveLines lines before after Memory = TakesFront before after lines
+GaveLines lines before after _ = ⊥
+
+-- both disks hold these records, each its box, and every content that a stop may leave of them afterwards does
+pub record HoldBoth {D : Type 0} (told : D → Option (List ℕ)) (may_leave : D → List ℕ → Type 0) (before after : Disks D) (outbox inbox : List Record) : Type 0 where
+  pub outbox_told : ForSome (told before.outbox) (IsBox Outbox outbox)
+  pub inbox_told : ForSome (told before.inbox) (IsBox Inbox inbox)
+  pub outbox_left : (image : List ℕ) → may_leave after.outbox image → IsJournal image outbox
+  pub inbox_left : (image : List ℕ) → may_leave after.inbox image → IsJournal image inbox
+
+-- OUT gained all lines of the records that both disks hold, or a front of them
+pub record PrintsAll {D : Type 0} (told : D → Option (List ℕ)) (may_leave : D → List ℕ → Type 0) (before after : Disks D) (old new : Option (List ℕ)) : Type 0 where
+  pub outbox : List Record
+  pub inbox : List Record
+  pub hold : HoldBoth told may_leave before after outbox inbox
+  pub gained : Appends old new (journal_lines outbox inbox)
+
+pub record PrintsFront {D : Type 0} (told : D → Option (List ℕ)) (may_leave : D → List ℕ → Type 0) (before after : Disks D) (old new : Option (List ℕ)) : Type 0 where
+  pub outbox : List Record
+  pub inbox : List Record
+  pub hold : HoldBoth told may_leave before after outbox inbox
+  pub gained : TakesFront old new (journal_lines outbox inbox)
+
+-- the disk of the outbox holds one
+pub record HoldsOutbox {D : Type 0} (told : D → Option (List ℕ)) (disks : Disks D) : Type 0 where
+  pub outbox : List Record
+  pub outbox_told : ForSome (told disks.outbox) (IsBox Outbox outbox)
+
+-- the outbox is none, or its device failed, and neither the inbox nor OUT was touched
+pub record RefusesOutbox {D K : Type 0} (before after : Disks D) (old new : K) (P : Type 0) : Type 0 where
+  pub why : P
+  pub inbox : after.inbox ≡ before.inbox
+  pub out : new ≡ old
+
+-- the disk of the outbox holds one, the inbox is none, or its device failed, and OUT was not touched
+pub record RefusesInbox {D K : Type 0} (told : D → Option (List ℕ)) (before : Disks D) (old new : K) (P : Type 0) : Type 0 where
+  pub outbox : HoldsOutbox told before
+  pub why : P
+  pub out : new ≡ old
+
+-- What a status says of the disks, and of what OUT took: the outbox is opened first
+abbrev pub Prints : {D K : Type 0} → (D → Option (List ℕ)) → (D → List ℕ → Type 0) → (D → ℕ) → (K → Option (List ℕ)) → Disks D → Disks D → K → K → Status → Type 0
+Prints told may_leave faults taken before after old new Done = PrintsAll told may_leave before after (taken old) (taken new)
+Prints told may_leave faults taken before after old new OutputFault = PrintsFront told may_leave before after (taken old) (taken new)
+Prints told may_leave faults taken before after old new Memory = (new ≡ old) ⊎ PrintsFront told may_leave before after (taken old) (taken new)
+Prints told may_leave faults taken before after old new (JournalBad Outbox cause) = RefusesOutbox before after old new (ForSome (told before.outbox) (IsNoBox Outbox cause))
+Prints told may_leave faults taken before after old new (JournalBad Inbox cause) = RefusesInbox told before old new (ForSome (told before.inbox) (IsNoBox Inbox cause))
+Prints told may_leave faults taken before after old new JournalFault =
+    RefusesOutbox before after old new (HasRisen (faults before.outbox) (faults after.outbox)) ⊎ RefusesInbox told before old new (HasRisen (faults before.inbox) (faults after.inbox))
+Prints told may_leave faults taken before after old new _ = ⊥

@@ -1,0 +1,34 @@
+-- What is left for a run of `journal` over told disks in which no device failed, by what is found of them.
+use Rattle.std.specs.Prelude.{◌≡◌, ◌⊎◌, ℕ, List, Option, Some, Result, Ok, Err}
+use Rattle.std.specs.Io.KnownBytes.{Appends}
+use Rattle.jr_record.specs.declared.record.Record.{Record}
+use Rattle.jr_boxes.specs.declared.faults.Which.{Which}
+use Rattle.jr_boxes.specs.declared.faults.Which.TheVariants.{Outbox, Inbox}
+use Rattle.jr_boxes.specs.declared.faults.JournalCause.{JournalCause}
+use Rattle.jr_judge.specs.Judged.{IsVerdict}
+use Rattle.cmd_base.specs.declared.status.Status.{Status}
+use Rattle.cmd_base.specs.declared.status.Status.TheVariants.{Done, JournalBad, Memory}
+use Rattle.cmd_base.specs.Causes.{Counts, IsCaused}
+use Rattle.cmd_base.specs.Contents.{Disks}
+use Rattle.jr_text.specs.Lines.{journal_lines}
+use Rattle.cmd_journal.specs.Prints.{Prints}
+use Rattle.cmd_run.specs.Completeness.{NoneRose}
+
+-- a disk tells a content of which this is found: the records of its box, or why it is none
+pub record Tells {D : Type 0} (told : D → Option (List ℕ)) (which : Which) (disk : D) (found : Result (List Record) JournalCause) : Type 0 where
+  pub content : List ℕ
+  pub tells : told disk ≡ Some content
+  pub is : IsVerdict which content found
+
+-- the first journal that is none is refused, with its cause; where there is none, all lines were printed
+abbrev pub Finishes : {K : Type 0} → (K → Option (List ℕ)) → Result (List Record) JournalCause → Result (List Record) JournalCause → K → K → Status → Type 0
+Finishes taken (Err cause) inbox old new status = (status ≡ JournalBad Outbox cause) × (new ≡ old)
+Finishes taken (Ok outbox) (Err cause) old new status = (status ≡ JournalBad Inbox cause) × (new ≡ old)
+Finishes taken (Ok outbox) (Ok inbox) old new status = (status ≡ Done) × Appends (taken old) (taken new) (journal_lines outbox inbox)
+
+-- over two told disks it did that, or memory ran out
+abbrev pub JournalCompletes : {D K : Type 0} → (D → Option (List ℕ)) → (D → List ℕ → Type 0) → (D → ℕ) → (K → Option (List ℕ)) → Type 0
+JournalCompletes {D} {K} told may_leave faults taken = (before after : Disks D) (old new : K) (counts risen : Counts) (status : Status) (outbox inbox : Result (List Record) JournalCause)
+    → Tells told Outbox before.outbox outbox → Tells told Inbox before.inbox inbox
+    → Prints told may_leave faults taken before after old new status → IsCaused counts risen status → NoneRose counts risen
+    → (status ≡ Memory) ⊎ Finishes taken outbox inbox old new status

@@ -1,0 +1,204 @@
+-- One life over both journals, from what it was over their boxes.
+use Rattle.std.proofs.Common.{◌≡◌, ◌⊎◌, inl, inr, ⊎_elim, ℕ, ◌+◌, ◌-◌, ◌^◌, ◌≤◌, true, false, List, [], ◌++◌, length, Option, Result, sym, ap, subst, ◌∙◌, arith}
+use Rattle.std.specs.Prelude.{option_to_list}
+use Rattle.std.specs.Option.{ForSome}
+use Rattle.std.proofs.Math.Logic.{∥∥₁_map, ∥∥₁_elim}
+use Rattle.std.proofs.lemmas.Bool.{cases_Bool}
+use mathlib.Core.List.{IsPrefix, is_set as List-set}
+use mathlib.Core.Sum.{⊎_set}
+use native.Mathlib.Nat.{ℕ_set}
+use Rattle.gw_outside.specs.Faults.{HasRisen}
+use Rattle.session_model.specs.Journal.{Entry, OutboxRecord, entries, InOrder}
+use Rattle.session_model.specs.Inbox.{InboxRecord}
+use Rattle.session_model.specs.Lives.{KeepsConnections, KeepsOutbox}
+use Rattle.fixp_shake.specs.declared.config.EndConfig.{EndConfig}
+use Rattle.fixp_machine.specs.Machine.{State, fresh}
+use Rattle.fixp_machine.specs.Accepting.{model_flow}
+use Rattle.connection_laws.specs.Living.{Opens}
+use Rattle.turn_laws.specs.Standing.{Has}
+use Rattle.two_ends.specs.Meeting.{life_in}
+use Rattle.two_ends.specs.Loops.{machine_life}
+use Rattle.gw_links.specs.Dialers.{DialerTold}
+use Rattle.jr_record.specs.declared.journal.Journal.{Ghosts}
+use Rattle.jr_record.specs.declared.record.Record.{Record}
+use Rattle.jr_record.specs.declared.limits.Limits.{Limits as JournalLimits}
+use Rattle.jr_record.specs.Images.{IsJournal, Leaves, journal_size}
+use Rattle.jr_boxes.specs.Outboxes.{outbox_of, records_of_history}
+use Rattle.jr_boxes.specs.Inboxes.{records_of_inbox}
+use Rattle.jr_boxes.specs.declared.outbox.Outbox.{Outbox}
+use Rattle.jr_boxes.specs.declared.inbox.Inbox.{Inbox}
+use Rattle.jr_boxes.specs.Outbox as outboxes
+use Rattle.jr_boxes.specs.Inbox as inboxes
+use Rattle.jr_boxes.proofs.Kept.{length-places}
+use Rattle.gate_turn.specs.Views.{Limits}
+use Rattle.conn_steps.specs.Settling.{IsPast, HaveRoom}
+use Rattle.conn_serve.specs.declared.answer.ServeFault.{ServeFault}
+use Rattle.conn_serve.specs.Connections.{adds_of, refused_of_all, wanted_of_all}
+use Rattle.conn_serve.specs.Opening.{opened_state}
+use Rattle.life_laws.specs.Lives.{all_of, LifeOfLoop, served_of}
+use Rattle.life_laws.proofs.Loops.{served_keeps}
+use Rattle.life_laws.proofs.Opened.{opened_opens}
+use Rattle.life_laws.specs.Plans.{plan_in}
+use Rattle.life_laws.specs.PlanLives.{LivedBoxes, WasFull, FillsInbox}
+use Rattle.life_laws.proofs.Outboxes.{entries-outbox_of, plans_keep_outbox}
+use Rattle.cmd_base.specs.declared.status.Status.{Status}
+use Rattle.cmd_session.specs.Lived.{LeavesImages, KeepsRecords, FullInbox, limits, OpensOutbox, OpensInbox, LivedOver, LivedOn, Lived}
+
+-- a disk's count rose where that of a box over it did
+pub risen_over : (disk now_disk old new : ℕ) → disk ≤ old → new ≡ now_disk → HasRisen old new → HasRisen disk now_disk
+risen_over disk now_disk old new least same h = omega (arith, least, same, h)
+
+record_set : IsSet Record
+record_set = hlevel (ℕ_set, List-set, ⊎_set)
+
+records_prop : (rs qs : List Record) → IsProp (rs ≡ qs)
+records_prop rs qs = List-set record_set rs qs
+
+order_prop : (es : List Entry) → IsProp (InOrder es)
+order_prop es = hlevel (ℕ_set, List-set)
+
+module _ {D J : Type 0} {H : Ghosts J} (outbox : Outbox J H) (told : D → Option (List ℕ)) (may_leave : D → List ℕ → Type 0) (disk : D → ℕ) (disk_at : J → D) (leaves_are : (j : J) (image : Option (List Record)) → Leaves (may_leave (disk_at j)) image → H.leaves j image)
+    (only : (j : J) (rs qs : List Record) → H.stands j rs → H.stands j qs → rs ≡ qs) (sizes : (j : J) (rs : List Record) → H.stands j rs → journal_size rs ≡ H.size j) where
+  -- a box that changed nothing leaves what its disk held
+  pub outbox_kept : (before after : D) → OpensOutbox (told before) outbox → after ≡ disk_at (outboxes.journal_of outbox) → KeepsRecords told may_leave before after
+  outbox_kept before after o same = record {
+    records = records_of_history o.history;
+    held = o.told;
+    left = λ image left. o.holds.journal.images image (leaves_are (outboxes.journal_of outbox) image (subst (λ (d : D). Leaves (may_leave d) image) same left));
+  }
+
+  pub inbox_kept : (before after : D) (box : Inbox J H) → OpensInbox (told before) box → after ≡ disk_at (inboxes.journal_of box) → KeepsRecords told may_leave before after
+  inbox_kept before after box o same = record {
+    records = records_of_inbox o.inbox;
+    held = o.told;
+    left = λ image left. o.holds.journal.images image (leaves_are (inboxes.journal_of box) image (subst (λ (d : D). Leaves (may_leave d) image) same left));
+  }
+
+  module _ (config : EndConfig) (plans : List (List (List ℕ))) (dialed later : Option DialerTold) (out now_out : Option (List ℕ)) (out_disk now_out_disk in_disk now_in_disk : D) (closed : Outbox J H) (box since : Inbox J H) (result : Result (Unit {0}) ServeFault)
+      (o : OpensOutbox (told out_disk) outbox) (i : OpensInbox (told in_disk) box) (limit : ((outboxes.limits_of outbox).entries ≡ 2 ^ 24) × ((outboxes.limits_of outbox).bytes ≡ 2 ^ 30))
+      (in_limit : (inboxes.limits_of box).bytes ≡ 2 ^ 30) (now_out_is : now_out_disk ≡ disk_at (outboxes.journal_of closed)) (now_in_is : now_in_disk ≡ disk_at (inboxes.journal_of since))
+      (out_least : disk out_disk ≤ outboxes.faults_of outbox) (in_least : disk in_disk ≤ inboxes.faults_of box) (out_count : disk now_out_disk ≡ outboxes.faults_of closed) (in_count : disk now_in_disk ≡ inboxes.faults_of since)
+      (l : LivedBoxes dialed later out now_out config plans outbox closed box since result) where
+    abbrev machine : State
+    machine = fresh config (opened_state l.opening box) (2 ^ 24)
+
+    abbrev entries_then : List Entry
+    entries_then = entries (outbox_of l.closing)
+
+    -- the outbox told the records of the history that the gate opened on
+    same_records : records_of_history o.history ≡ records_of_history l.opening
+    same_records = ∥∥₁_elim l.opened (records_prop (records_of_history o.history) (records_of_history l.opening))
+        (λ h. only (outboxes.journal_of outbox) (records_of_history o.history) (records_of_history l.opening) o.holds.journal.stands_for h.journal.stands_for)
+
+    has : Has entries_then l.seen
+    has = subst (λ (es : List Entry). Has es l.seen) (sym (entries-outbox_of l.closing)) (record { begins = l.begins.made; few = l.few })
+
+    opens : Opens (entries (outbox_of l.opening)) entries_then machine i.inbox
+    opens = subst (λ (es : List Entry). Opens es entries_then machine i.inbox) (sym (entries-outbox_of l.opening))
+        (opened_opens box l.opening config (2 ^ 24) entries_then i.inbox (subst (λ (es : List Entry). IsPrefix l.opening.made es) (sym (entries-outbox_of l.closing)) l.plans_kept.begins.made) i.holds)
+
+    life : LifeOfLoop (outbox_of l.opening) (outbox_of l.closing) [] machine i.inbox (all_of l.served.ended l.served.given_up) (refused_of_all (option_to_list l.served.given_up))
+    life = served_keeps box since dialed later out now_out l.opening l.seen machine l.connections (outbox_of l.opening) (outbox_of l.closing) [] i.inbox l.served has opens
+
+    connections : KeepsConnections (model_flow config.own_flow) (model_flow config.peer_flow) (entries (life_in (machine_life life.life)).opening_outbox) (entries (life_in (machine_life life.life)).closing_outbox) (served_of life.life)
+    connections = subst (λ (rs : List OutboxRecord). KeepsConnections (model_flow config.own_flow) (model_flow config.peer_flow) (entries rs) (entries life.life.closing_outbox) (served_of life.life)) (sym life.outboxes.0)
+        (subst (λ (rs : List OutboxRecord). KeepsConnections (model_flow config.own_flow) (model_flow config.peer_flow) (entries (outbox_of l.opening)) (entries rs) (served_of life.life)) (sym life.outboxes.1) life.keeps)
+
+    order : InOrder l.closing.made
+    order = ∥∥₁_elim l.stands (order_prop l.closing.made) (λ s. s.outbox.in_order)
+
+    outbox_is_kept : KeepsOutbox (plan_in plans) (life_in (machine_life life.life))
+    outbox_is_kept = plans_keep_outbox plans l.opening l.closing (life_in (machine_life life.life)) l.plans_kept order life.outboxes.0 life.outboxes.1 life.outboxes.2 (_, sym life.keeps.inbox_adds)
+
+    -- what is left of both journals
+    images : outboxes.is_broken closed ≡ false → ∥ LeavesImages (may_leave now_out_disk) (records_of_history l.closing) [] ∥₁
+    images sound = ∥∥₁_map (l.holds sound) (λ h image left. h.journal.images image (leaves_are (outboxes.journal_of closed) image (subst (λ (d : D). Leaves (may_leave d) image) now_out_is left)))
+
+    out_left : (HasRisen (disk out_disk) (disk now_out_disk) → ⊥) → ∥ LeavesImages (may_leave now_out_disk) (records_of_history l.closing) [] ∥₁
+    out_left never = ⊎_elim
+        (λ (b : outboxes.is_broken closed ≡ true). absurd (never (risen_over (disk out_disk) (disk now_out_disk) (outboxes.faults_of outbox) (outboxes.faults_of closed) out_least (sym out_count) (l.broken b))))
+        images
+        (cases_Bool (outboxes.is_broken closed))
+
+    abbrev list : List InboxRecord
+    list = i.inbox ++ adds_of (all_of l.served.ended l.served.given_up)
+
+    held : inboxes.HoldsBox since list (refused_of_all (option_to_list l.served.given_up))
+    held = l.served.refuses.holds i.inbox i.holds
+
+    -- what was added had room behind what the inbox's journal took as it opened
+    room : HaveRoom (2 ^ 30) (journal_size (records_of_inbox i.inbox)) (adds_of (all_of l.served.ended l.served.given_up) ++ refused_of_all (option_to_list l.served.given_up))
+    room = subst (λ (n : ℕ). HaveRoom n (journal_size (records_of_inbox i.inbox)) records) in_limit
+        (subst (λ (n : ℕ). HaveRoom (inboxes.limits_of box).bytes n records) (sym (sizes (inboxes.journal_of box) (records_of_inbox i.inbox) i.holds.journal.stands_for)) l.served.refuses.room)
+      where
+        records : List InboxRecord
+        records = adds_of (all_of l.served.ended l.served.given_up) ++ refused_of_all (option_to_list l.served.given_up)
+
+    abbrev wanted : List InboxRecord
+    wanted = wanted_of_all (option_to_list l.served.given_up)
+
+    full : (entries bytes : ℕ) → FillsInbox since wanted entries bytes ⊎ WasFull (record { entries = (outboxes.limits_of outbox).entries; bytes = (outboxes.limits_of outbox).bytes }) l.opening l.closing entries bytes
+        → FullInbox list wanted entries bytes ⊎ WasFull limits l.opening l.closing entries bytes
+    full entries bytes (inl f) = inl (record {
+      entries_are = f.entries_are ∙ (ap length held.noticed.places ∙ length-places 0 list);
+      bytes_are = f.bytes_are ∙ sym (sizes (inboxes.journal_of since) (records_of_inbox list) held.journal.stands_for);
+      past = subst (λ (n : ℕ). IsPast n bytes wanted) (ap (λ (x : JournalLimits). x.bytes) l.limits ∙ in_limit) f.past;
+    })
+    full entries bytes (inr w) =
+        let same : (◌≡◌ {A = Limits} (record { entries = (outboxes.limits_of outbox).entries; bytes = (outboxes.limits_of outbox).bytes }) limits) =
+        ap (λ (n : ℕ). record { entries = n; bytes = (outboxes.limits_of outbox).bytes }) limit.0 ∙ ap (λ (n : ℕ). record { entries = 2 ^ 24; bytes = n }) limit.1 in
+        inr (subst (λ (x : Limits). WasFull x l.opening l.closing entries bytes) same w)
+
+    pub lived_over : LivedOver told may_leave disk config plans dialed later out now_out out_disk now_out_disk in_disk now_in_disk box since result
+    lived_over = record {
+      opening = l.opening;
+      closing = l.closing;
+      inbox = i.inbox;
+      seen = l.seen;
+      connections = l.connections;
+      refused = l.refused;
+      out_opened = subst (λ (rs : List Record). ForSome (told out_disk) (λ content. IsJournal content rs)) same_records o.told;
+      in_opened = i.told;
+      holds = i.holds;
+      served = l.served;
+      answer = l.answer;
+      refusal = l.refusal;
+      life = life;
+      contract = record { connections = connections; outbox = outbox_is_kept };
+      out_left = out_left;
+      in_left = λ image left. held.journal.images image (leaves_are (inboxes.journal_of since) image (subst (λ (d : D). Leaves (may_leave d) image) now_in_is left));
+      room = room;
+      marked = l.marked;
+      journal = λ e. ⊎_elim
+          (λ risen. inr (risen_over (disk in_disk) (disk now_in_disk) (inboxes.faults_of box) (inboxes.faults_of since) in_least (sym in_count) risen))
+          (λ risen. inl (risen_over (disk out_disk) (disk now_out_disk) (outboxes.faults_of outbox) (outboxes.faults_of closed) out_least (sym out_count) risen))
+          (l.journal e);
+      full = λ entries bytes e. full entries bytes (l.full entries bytes e);
+    }
+
+  -- what was lived over the boxes was lived over their disks
+  pub lived_disks : {S K N : Type 0} (left : S → Option (List ℕ)) (taken : K → Option (List ℕ)) (carried : N → Option DialerTold) (sink : K → ℕ) (dials : N → ℕ) (senders : ℕ) (config : EndConfig) (input : S) (out now_out : K) (out_disk now_out_disk in_disk now_in_disk : D) (dialer now_dialer : N)
+      (closed : Outbox J H) (box since : Inbox J H) (status : Status) (o : OpensOutbox (told out_disk) outbox) (i : OpensInbox (told in_disk) box) (limit : ((outboxes.limits_of outbox).entries ≡ 2 ^ 24) × ((outboxes.limits_of outbox).bytes ≡ 2 ^ 30))
+      (in_limit : (inboxes.limits_of box).bytes ≡ 2 ^ 30) (now_out_is : now_out_disk ≡ disk_at (outboxes.journal_of closed)) (now_in_is : now_in_disk ≡ disk_at (inboxes.journal_of since))
+      (out_least : disk out_disk ≤ outboxes.faults_of outbox) (in_least : disk in_disk ≤ inboxes.faults_of box) (out_count : disk now_out_disk ≡ outboxes.faults_of closed) (in_count : disk now_in_disk ≡ inboxes.faults_of since)
+      → LivedOn left taken carried sink dials senders config input out now_out dialer now_dialer outbox closed box since status
+      → Lived H left taken told may_leave carried sink disk dials senders config input out now_out out_disk now_out_disk in_disk now_in_disk dialer now_dialer status
+  lived_disks left taken carried sink dials senders config input out now_out out_disk now_out_disk in_disk now_in_disk dialer now_dialer closed box since status o i limit in_limit now_out_is now_in_is out_least in_least out_count in_count l = record {
+    plans = l.plans;
+    life = l.life;
+    lived = ⊎_elim
+        (λ b. inl (record {
+          cause = b.cause;
+          dialer_is = b.dialer_is;
+          out_kept = outbox_kept out_disk now_out_disk o (now_out_is ∙ ap (λ (x : Outbox J H). disk_at (outboxes.journal_of x)) b.outbox_is);
+          in_kept = inbox_kept in_disk now_in_disk box i (now_in_is ∙ ap (λ (x : Inbox J H). disk_at (inboxes.journal_of x)) b.box_is);
+        }))
+        (λ h. inr (record {
+          box = box;
+          since = since;
+          result = h.result;
+          status_is = h.status_is;
+          over = lived_over config l.plans (carried dialer) (carried now_dialer) (taken out) (taken now_out) out_disk now_out_disk in_disk now_in_disk closed box since h.result o i limit in_limit now_out_is now_in_is out_least in_least out_count in_count h.boxes;
+        }))
+        l.lived;
+  }

@@ -1,0 +1,172 @@
+-- What is left of the senders behind a life, and what its answer blames.
+use Rattle.std.proofs.Common.{◌≡◌, ◌⊎◌, ⊎_elim, ℕ, ◌+◌, ◌<◌, Bool, true, false, List, [], ◌∷◌, ◌++◌, ◌^◌, length, take, slice_index_or, All, Option, Some, None, Result, Err, IfErr, sym, ap, ◌∙◌, subst, arith, append-nil}
+use Rattle.std.proofs.lemmas.Option.{none-some}
+use mathlib.Core.Logic.{dite}
+use native.Mathlib.Decide.{ℕ_discrete}
+use Rattle.std.specs.Prelude.{option_to_list}
+use Rattle.std.specs.Io.KnownBytes.{Appends}
+use Rattle.fixp_shake.specs.declared.config.EndConfig.{EndConfig}
+use Rattle.fixp_machine.specs.Machine.{State, fresh}
+use Rattle.gw_links.specs.Dialers.{DialerTold}
+use Rattle.session_model.specs.Journal.{History}
+use Rattle.jr_record.specs.declared.journal.Journal.{Ghosts}
+use Rattle.jr_boxes.specs.declared.inbox.Inbox.{Inbox}
+use Rattle.jr_boxes.specs.declared.outbox.Outbox.{Outbox}
+use Rattle.jr_boxes.specs.declared.faults.SubmitFault.{SubmitFault}
+use Rattle.jr_boxes.specs.declared.faults.SubmitFault.TheVariants as submit
+use Rattle.gate_turn.specs.Views.{Part}
+use Rattle.gate_turn.specs.Places.{known}
+use Rattle.gate_senders.specs.declared.gate.Gate.{Gate}
+use Rattle.gate_plans.specs.Runs.{IsReady}
+use Rattle.gate_plans.specs.Seats.{Seated}
+use Rattle.gate_plans.specs.declared.sender.Sender.{Sender}
+use Rattle.gate_plans.proofs.Seating.{seated_still}
+use Rattle.conn_serve.specs.declared.answer.ServeFault.{ServeFault}
+use Rattle.conn_serve.specs.declared.answer.ServeFault.TheVariants as faults
+use Rattle.conn_serve.specs.declared.answer.LifeEnd.{LifeEnd}
+use Rattle.conn_serve.specs.Answers.{answer_of}
+use Rattle.conn_serve.specs.Senders.{refusal_of, IsRefusal, FinishedFirst, SubmittedAll}
+use Rattle.conn_serve.specs.Causes.{Tells}
+use Rattle.conn_serve.specs.Lines.{lines_from}
+use Rattle.conn_serve.specs.Served.{lacks_lines, ServedLife}
+use Rattle.conn_serve.specs.Opening.{opened_state, ServedBy}
+use Rattle.life_laws.specs.PlanLives.{LivedBoxes}
+use Rattle.life_laws.proofs.Passes.{answer_blames, blamed_at}
+use Rattle.cmd_base.specs.declared.status.Status.{Status}
+use Rattle.cmd_session.specs.Lived.{HasLived}
+
+module _ {J : Type 0} {G : Ghosts J} (gate : Gate J G) (made : ℕ) where
+  -- the Finish leaves them their passes
+  finished_seated : (ran after : List (Sender J G)) (refused : Option ServeFault) → FinishedFirst ran after refused → All (IsReady gate) after → Seated gate ran made → Seated gate after made
+  finished_seated ran after refused f ready s = record {
+    ready = ready;
+    numbers = λ i d lt. dite (ℕ_discrete i 0)
+        (λ e. subst (λ k. (known (slice_index_or after k d).pass).number ≡ k + 1) (sym e) ((f.first d).turn.number ∙ s.numbers 0 d (omega (arith, lt, e, f.long))))
+        (λ ne. ap (λ (t : Sender J G). (known t.pass).number) (f.others i d (omega (arith, ne))) ∙ s.numbers i d (omega (arith, lt, f.long)));
+    first = λ d lt. (f.first d).turn.made ∙ s.first d (omega (arith, lt, f.long));
+  }
+
+  submitted_seated : (before after : List (Sender J G)) (refused : Option ServeFault) → SubmittedAll gate before after refused → All (IsReady gate) after → Seated gate before made → Seated gate after made
+  submitted_seated before after refused w ready s =
+      let ran = seated_still gate made before w.ran w.each s in
+      ⊎_elim (λ h. subst (λ xs. Seated gate xs made) (sym h.0) ran) (λ h. finished_seated w.ran after refused h.2 ready ran) w.finished
+
+  submitted_long : (before after : List (Sender J G)) (refused : Option ServeFault) → SubmittedAll gate before after refused → length after ≡ length before
+  submitted_long before after refused w = ⊎_elim (λ h. ap length h.0 ∙ w.each.long) (λ h. h.2.long ∙ w.each.long) w.finished
+
+  -- a life leaves them their passes
+  pub served_seated : {P Q : Type 0} (before after : List (Sender J G)) (refused : Option ServeFault) → SubmittedAll gate before after refused ⊎ ((after ≡ before) × P × Q) → All (IsReady gate) after
+      → Seated gate before made → Seated gate after made
+  served_seated before after refused w ready s = ⊎_elim (λ h. submitted_seated before after refused h ready s) (λ h. subst (λ xs. Seated gate xs made) (sym h.0) s) w
+
+  pub served_long : {P Q : Type 0} (before after : List (Sender J G)) (refused : Option ServeFault) → SubmittedAll gate before after refused ⊎ ((after ≡ before) × P × Q) → length after ≡ length before
+  served_long before after refused w = ⊎_elim (λ h. submitted_long before after refused h) (λ h. ap length h.0) w
+
+never_output : (met : Option SubmitFault) → refusal_of met ≡ Some faults.Output → ⊥
+never_output None e = cc
+never_output (Some submit.Broken) e = cc
+never_output (Some submit.Closed) e = cc
+never_output (Some (submit.Full entries bytes)) e = cc
+never_output (Some submit.Memory) e = cc
+never_output (Some submit.Fault) e = cc
+
+never_dial : (met : Option SubmitFault) → refusal_of met ≡ Some faults.Dial → ⊥
+never_dial None e = cc
+never_dial (Some submit.Broken) e = cc
+never_dial (Some submit.Closed) e = cc
+never_dial (Some (submit.Full entries bytes)) e = cc
+never_dial (Some submit.Memory) e = cc
+never_dial (Some submit.Fault) e = cc
+
+-- a refusal is none of these: it comes of no sender, and of no Finish
+not_refused : {J : Type 0} {G : Ghosts J} {Q : Type 0} (gate : Gate J G) (before after : List (Sender J G)) (refused : Option ServeFault) (x : ServeFault) → ((met : Option SubmitFault) → refusal_of met ≡ Some x → ⊥)
+    → (x ≡ faults.Journal → ⊥) → (x ≡ faults.Memory → ⊥) → SubmittedAll gate before after refused ⊎ ((after ≡ before) × (refused ≡ None) × Q) → refused ≡ Some x → ⊥
+not_refused {J} {G} gate before after refused x met journal memory w e = ⊎_elim
+    (λ h. ⊎_elim
+    (λ k. let m = subst (λ r. IsRefusal h.ran r) e k.1 in met m.sender.refused m.is)
+    (λ k. by_first h.ran k.1 k.2)
+    h.finished)
+    (λ h. none-some x (sym h.1 ∙ e))
+    w
+  where
+    by_first : (ran : List (Sender J G)) → 0 < length ran → FinishedFirst ran after refused → ⊥
+    by_first [] some f = omega (arith, some)
+    by_first (s ∷ ran) some f = ⊎_elim journal memory ((f.first s).few x e)
+
+-- an answer that is no refusal is that of the connections
+answer_is : (connections : Result LifeEnd ServeFault) (refused : Option ServeFault) (x : ServeFault) → (x ≡ faults.Memory → ⊥) → (refused ≡ Some x → ⊥) → answer_of connections refused ≡ Err x → connections ≡ Err x
+answer_is connections refused x memory never e = ⊎_elim (λ c. c) (λ r. absurd (never r)) (answer_blames connections refused x memory e)
+
+-- an answer that blames OUT, or the dialer, is caused by it
+pub output_caused : {J : Type 0} {G : Ghosts J} {Q : Type 0} (gate : Gate J G) (before after : List (Sender J G)) (connections : Result LifeEnd ServeFault) (refused : Option ServeFault) (result : Result (Unit {0}) ServeFault) (P : ServeFault → Type 0)
+    → SubmittedAll gate before after refused ⊎ ((after ≡ before) × (refused ≡ None) × Q) → IfErr connections P → result ≡ answer_of connections refused → result ≡ Err faults.Output → P faults.Output
+output_caused gate before after connections refused result P w blamed answer e =
+    blamed_at P connections faults.Output blamed (answer_is connections refused faults.Output (λ x. cc) (not_refused gate before after refused faults.Output never_output (λ x. cc) (λ x. cc) w) (sym answer ∙ e))
+
+pub dial_caused : {J : Type 0} {G : Ghosts J} {Q : Type 0} (gate : Gate J G) (before after : List (Sender J G)) (connections : Result LifeEnd ServeFault) (refused : Option ServeFault) (result : Result (Unit {0}) ServeFault) (P : ServeFault → Type 0)
+    → SubmittedAll gate before after refused ⊎ ((after ≡ before) × (refused ≡ None) × Q) → IfErr connections P → result ≡ answer_of connections refused → result ≡ Err faults.Dial → P faults.Dial
+dial_caused gate before after connections refused result P w blamed answer e =
+    blamed_at P connections faults.Dial blamed (answer_is connections refused faults.Dial (λ x. cc) (not_refused gate before after refused faults.Dial never_dial (λ x. cc) (λ x. cc) w) (sym answer ∙ e))
+
+-- the same of lists that are equal
+pub served_moved : {J : Type 0} {G : Ghosts J} {O : Type 0} {H : Ghosts O} {gate : Gate O H} {dialed later : Option DialerTold} {out now_out : Option (List ℕ)} {a b c d : ℕ} {p q : Part} {m : State} {box since : Inbox J G} {before after other behind : List (Sender O H)} {result : Result (Unit {0}) ServeFault}
+    → before ≡ other → after ≡ behind → ServedBy gate dialed later out now_out a b c d p q m box since before after result → ServedBy gate dialed later out now_out a b c d p q m box since other behind result
+served_moved {gate = gate} {dialed = dialed} {later = later} {out = out} {now_out = now_out} {a = a} {b = b} {c = c} {d = d} {p = p} {q = q} {m = m} {box = box} {since = since} {after = after} {other = other} {result = result} first second s =
+    subst (λ (ss : List (Sender _ _)). ServedBy gate dialed later out now_out a b c d p q m box since other ss result) second
+    (subst (λ (ss : List (Sender _ _)). ServedBy gate dialed later out now_out a b c d p q m box since ss after result) first s)
+
+-- OUT that took nothing first took what it took behind that
+takes_earlier : (old mid new : Option (List ℕ)) (lines : List ℕ) → Appends old mid [] → Appends mid new lines → Appends old new lines
+takes_earlier None mid new lines h t = tt
+takes_earlier (Some xs) None new lines h t = absurd h
+takes_earlier (Some xs) (Some ys) new lines h t = subst (λ (zs : List ℕ). Appends (Some zs) new lines) (h ∙ append-nil xs) t
+
+tells_earlier : (lacking : Bool) (old mid new : Option (List ℕ)) (lines : List ℕ) → Appends old mid [] → Tells lacking mid new lines → Tells lacking old new lines
+tells_earlier false old mid new lines h t = takes_earlier old mid new lines h t
+tells_earlier true old mid new lines h t = record { count = t.count; within = t.within; appended = takes_earlier old mid new (take t.count lines) h t.appended }
+
+module _ {J : Type 0} {G : Ghosts J} {O : Type 0} {H : Ghosts O} (dialed later : Option DialerTold) (old out now_out : Option (List ℕ)) (config other : EndConfig) (plans : List (List (List ℕ))) (outbox closed : Outbox O H) (box since : Inbox J G) where
+  served_earlier : (before seen : History) (m : State) (result : Result LifeEnd ServeFault) → Appends old out [] → ServedLife dialed later out now_out before seen m box since result → ServedLife dialed later old now_out before seen m box since result
+  served_earlier before seen m result h s = record {
+    ended = s.ended;
+    given_up = s.given_up;
+    behind = s.behind;
+    mid = s.mid;
+    were = s.were;
+    gave_up = s.gave_up;
+    refuses = s.refuses;
+    lines = tells_earlier (lacks_lines result) old out now_out (lines_from 1 (s.ended ++ option_to_list s.given_up)) h s.lines;
+    came = s.came;
+    tells = s.tells;
+    answer = s.answer;
+    past = s.past;
+  }
+
+  boxes_earlier : (result : Result (Unit {0}) ServeFault) → Appends old out [] → LivedBoxes dialed later out now_out config plans outbox closed box since result → LivedBoxes dialed later old now_out config plans outbox closed box since result
+  unfolding served_earlier
+  boxes_earlier result h l = record {
+    opening = l.opening;
+    closing = l.closing;
+    seen = l.seen;
+    connections = l.connections;
+    refused = l.refused;
+    few = l.few;
+    opened = l.opened;
+    stands = l.stands;
+    holds = l.holds;
+    broken = l.broken;
+    plans_kept = l.plans_kept;
+    begins = l.begins;
+    served = served_earlier l.opening l.seen (fresh config (opened_state l.opening box) (2 ^ 24)) l.connections h l.served;
+    limits = l.limits;
+    answer = l.answer;
+    refusal = l.refusal;
+    marked = l.marked;
+    journal = l.journal;
+    full = l.full;
+  }
+
+  -- what was lived behind a push of nothing, by an equal configuration
+  pub lived_from : (status : Status) → Appends old out [] → config ≡ other → HasLived dialed later out now_out config plans outbox closed box since status → HasLived dialed later old now_out other plans outbox closed box since status
+  lived_from status h same l = subst (λ (c : EndConfig). HasLived dialed later old now_out c plans outbox closed box since status) same
+      (record { result = l.result; status_is = l.status_is; boxes = boxes_earlier l.result h l.boxes })

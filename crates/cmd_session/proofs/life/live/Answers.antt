@@ -1,0 +1,32 @@
+use Rattle.std.proofs.Common.{◌∙◌, inl, inr, refl, subst, arith}
+use Rattle.jr_log.specs.Behind.{few_records}
+use Rattle.life_laws.proofs.Boxes.{lived_boxes}
+use Rattle.jr_boxes.specs.Outbox.{faults_of, is_broken}
+use Rattle.gate_turn.specs.Rule.{In, Sound}
+use Rattle.gate_turn.specs.Listed.{known_at}
+use Rattle.gate_senders.specs.Kept.{account}
+use Rattle.cmd_session.proofs.Counting.{never_fell}
+use Rattle.cmd_session.proofs.life.live.Goals as goal
+
+pub returns-clause-outbox_never_falls : goal.returns-clause-outbox_never_falls
+returns-clause-outbox_never_falls g c =
+    let closed = c.close.ensures.closed in
+    let inside : In (known_at c.serve_seated-answer.new.passes 1).made 1 = record { from_one = omega arith; up_to = c.serve_seated-answer.ensures.back.some_made } in
+    let opening = closed.closed.opened 1 inside ∙ c.in-Ok-made_gate.ensures.opened.told in
+    let sound = subst (λ a. Sound a (account c.close.result closed.history)) opening (closed.closed.found 1 inside).sound in
+    never_fell (faults_of c.args.outbox) (faults_of c.close.result) (is_broken c.args.outbox) (is_broken c.close.result) sound.faults (λ e. (sound.broken e).rose)
+
+pub returns-clause-lived : goal.returns-clause-lived
+returns-clause-lived g c =
+    let j = c.close.result.journal in
+    inr (record {
+      result = c.serve_seated-answer.result;
+      status_is = c.status_of.ensures.value;
+      boxes = lived_boxes _ _ _ _ _ _ _ _ _ _ _ _ _ c.in-Ok-made_gate.ensures.opened c.requires.sound c.requires.in_sound c.close.ensures.closed (omega (arith, c.close.result.within.all, few_records j.records.items j.size j.sized j.small)) c.serve_seated-answer.ensures.served;
+    })
+
+pub returns-in_default-clause-lived : goal.returns-in_default-clause-lived
+returns-in_default-clause-lived g c = inl (record { cause = inl refl; dialer_is = refl; box_is = refl; outbox_is = refl })
+
+pub returns-in-Err-clause-lived : goal.returns-in-Err-clause-lived
+returns-in-Err-clause-lived g c = inl (record { cause = inl refl; dialer_is = refl; box_is = refl; outbox_is = c.in-Err.ensures.refused })

@@ -1,0 +1,171 @@
+-- One life of a session over both journals: what they held, what was served, and what they hold behind it (this project's profile).
+use Rattle.std.specs.Prelude.{◌≡◌, ◌⊎◌, ℕ, ◌^◌, ◌<◌, true, List, [], ◌++◌, length, Option, IfSome, option_to_list, Result, Ok, Err, IsSomeAnd}
+use Rattle.std.specs.Option.{ForSome}
+use Rattle.gw_outside.specs.Faults.{HasRisen}
+use Rattle.session_model.specs.Journal.{History}
+use Rattle.session_model.specs.Inbox.{InboxRecord, applied}
+use Rattle.session_model.specs.Lives.{IsImage, KeepsContract}
+use Rattle.fixp_shake.specs.declared.config.EndConfig.{EndConfig}
+use Rattle.fixp_machine.specs.Machine.{fresh}
+use Rattle.fixp_machine.specs.Accepting.{model_flow}
+use Rattle.two_ends.specs.Meeting.{life_in}
+use Rattle.two_ends.specs.Loops.{machine_life}
+use Rattle.gw_links.specs.Dialers.{DialerTold}
+use Rattle.jr_record.specs.declared.journal.Journal.{Ghosts}
+use Rattle.jr_record.specs.declared.record.Record.{Record}
+use Rattle.jr_record.specs.Images.{IsJournal, Leaves, journal_size}
+use Rattle.jr_boxes.specs.Outboxes.{outbox_of, records_of_history}
+use Rattle.jr_boxes.specs.Inboxes.{records_of_inbox}
+use Rattle.jr_boxes.specs.declared.outbox.Outbox.{Outbox}
+use Rattle.jr_boxes.specs.declared.inbox.Inbox.{Inbox}
+use Rattle.jr_boxes.specs.Outbox as outboxes
+use Rattle.jr_boxes.specs.Inbox as inboxes
+use Rattle.cmd_base.specs.declared.status.Status.{Status}
+use Rattle.cmd_base.specs.declared.status.Status.TheVariants.{Done, OutputFault, JournalFault, DialFault, Unfinished, Rejected, Full, Turns, Memory}
+use Rattle.gate_turn.specs.Views.{Limits}
+use Rattle.conn_steps.specs.Settling.{IsPast, HaveRoom}
+use Rattle.conn_serve.specs.declared.answer.ServeFault.{ServeFault}
+use Rattle.conn_serve.specs.declared.answer.ServeFault.TheVariants as faults
+use Rattle.conn_serve.specs.declared.answer.LifeEnd.{LifeEnd}
+use Rattle.conn_serve.specs.Answers.{answer_of}
+use Rattle.conn_serve.specs.Connections.{adds_of, refused_of_all, wanted_of_all}
+use Rattle.conn_serve.specs.Served.{ServedLife}
+use Rattle.conn_serve.specs.Opening.{opened_state, IsUnrefused}
+use Rattle.life_laws.specs.Lives.{all_of, LifeOfLoop}
+use Rattle.life_laws.specs.Plans.{plan_in}
+use Rattle.life_laws.specs.PlanLives.{IsOfSender, LivedBoxes, WasFull}
+use Rattle.cmd_session.specs.Inputs.{ArePlanned}
+
+-- the status of a life that was served so
+abbrev pub status_of : Result (Unit {0}) ServeFault → Status
+status_of (Ok _) = Done
+status_of (Err faults.Output) = OutputFault
+status_of (Err faults.Journal) = JournalFault
+status_of (Err faults.Dial) = DialFault
+status_of (Err (faults.Unfinished phase)) = Unfinished phase
+status_of (Err (faults.Rejected template code)) = Rejected template code
+status_of (Err (faults.Full entries bytes)) = Full entries bytes
+status_of (Err faults.Turns) = Turns
+status_of (Err faults.Memory) = Memory
+
+-- the statuses of a life
+abbrev pub IsOfLife : Status → Type 0
+IsOfLife Done = Unit {0}
+IsOfLife OutputFault = Unit {0}
+IsOfLife JournalFault = Unit {0}
+IsOfLife DialFault = Unit {0}
+IsOfLife (Unfinished phase) = Unit {0}
+IsOfLife (Rejected template code) = Unit {0}
+IsOfLife (Full entries bytes) = Unit {0}
+IsOfLife Turns = Unit {0}
+IsOfLife Memory = Unit {0}
+IsOfLife _ = ⊥
+
+-- each content that a stop may leave is a journal of the closing records and of a beginning of those refused
+abbrev pub LeavesImages : (List ℕ → Type 0) → (closing refused : List Record) → Type 0
+LeavesImages may_leave closing refused = (image : Option (List Record)) → Leaves may_leave image → IsSomeAnd image (IsImage closing refused)
+
+-- a disk told a journal, and leaves no other records
+pub record KeepsRecords {D : Type 0} (told : D → Option (List ℕ)) (may_leave : D → List ℕ → Type 0) (before after : D) : Type 0 where
+  pub records : List Record
+  pub held : ForSome (told before) (λ content. IsJournal content records)
+  pub left : LeavesImages (may_leave after) records []
+
+-- an inbox of this list has so many messages, and so many bytes, and its journal no room for the one record that was wanted
+pub record FullInbox (inbox wanted : List InboxRecord) (entries bytes : ℕ) : Type 0 where
+  pub entries_are : entries ≡ length (applied inbox)
+  pub bytes_are : bytes ≡ journal_size (records_of_inbox inbox)
+  pub past : IsPast (2 ^ 30) bytes wanted
+
+-- the limits of both journals
+abbrev pub limits : Limits
+limits = record { entries = 2 ^ 24; bytes = 2 ^ 30 }
+
+module _ {J : Type 0} {G : Ghosts J} where
+  -- a content is a journal of a history, which the outbox holds
+  pub record OpensOutbox (content : Option (List ℕ)) (box : Outbox J G) : Type 0 where
+    pub history : History
+    pub told : ForSome content (λ bytes. IsJournal bytes (records_of_history history))
+    pub holds : outboxes.HoldsBox box history []
+
+  -- a content is a journal of a list, which the inbox holds
+  pub record OpensInbox (content : Option (List ℕ)) (box : Inbox J G) : Type 0 where
+    pub inbox : List InboxRecord
+    pub told : ForSome content (λ bytes. IsJournal bytes (records_of_inbox inbox))
+    pub holds : inboxes.HoldsBox box inbox []
+
+  -- One life over both journals. They held a history and a list; what serves its connections is a machine that is made of both; and it keeps
+  -- the contract of one end, by these plans. What is left are the records of the closing history and list, and in the inbox a beginning
+  -- of those refused. Every record that the life added to its inbox had room, and so had the one whose append the disk failed. Why it
+  -- answers so: the connections and the refusal say it (`IsLifeAnswer`, `answer_of`), and the counts
+  pub record LivedOver {D : Type 0} (told : D → Option (List ℕ)) (may_leave : D → List ℕ → Type 0) (disk : D → ℕ) (config : EndConfig) (plans : List (List (List ℕ))) (dialed later : Option DialerTold) (out now_out : Option (List ℕ)) (out_disk now_out_disk in_disk now_in_disk : D) (box since : Inbox J G) (result : Result (Unit {0}) ServeFault) : Type 0 where
+    pub opening : History
+    pub closing : History
+    pub inbox : List InboxRecord
+    pub seen : History
+    pub connections : Result LifeEnd ServeFault
+    pub refused : Option ServeFault
+    pub out_opened : ForSome (told out_disk) (λ content. IsJournal content (records_of_history opening))
+    pub in_opened : ForSome (told in_disk) (λ content. IsJournal content (records_of_inbox inbox))
+    pub holds : inboxes.HoldsBox box inbox []
+    pub served : ServedLife dialed later out now_out opening seen (fresh config (opened_state opening box) (2 ^ 24)) box since connections
+    pub answer : result ≡ answer_of connections refused
+    pub refusal : IfSome refused IsOfSender
+    pub life : LifeOfLoop (outbox_of opening) (outbox_of closing) [] (fresh config (opened_state opening box) (2 ^ 24)) inbox (all_of served.ended served.given_up) (refused_of_all (option_to_list served.given_up))
+    pub contract : KeepsContract (model_flow config.own_flow) (model_flow config.peer_flow) (plan_in plans) (life_in (machine_life life.life))
+    pub out_left : (HasRisen (disk out_disk) (disk now_out_disk) → ⊥) → ∥ LeavesImages (may_leave now_out_disk) (records_of_history closing) [] ∥₁
+    pub in_left : LeavesImages (may_leave now_in_disk) (records_of_inbox (inbox ++ adds_of (all_of served.ended served.given_up))) (records_of_inbox (refused_of_all (option_to_list served.given_up)))
+    pub room : HaveRoom (2 ^ 30) (journal_size (records_of_inbox inbox)) (adds_of (all_of served.ended served.given_up) ++ refused_of_all (option_to_list served.given_up))
+    pub marked : IsUnrefused result → 0 < length plans → closing.finished ≡ true
+    pub journal : result ≡ Err faults.Journal → HasRisen (disk out_disk) (disk now_out_disk) ⊎ HasRisen (disk in_disk) (disk now_in_disk)
+    pub full : (entries bytes : ℕ) → result ≡ Err (faults.Full entries bytes) → FullInbox (inbox ++ adds_of (all_of served.ended served.given_up)) (wanted_of_all (option_to_list served.given_up)) entries bytes ⊎ WasFull limits opening closing entries bytes
+
+-- INPUT has these plans, and the status is one of a life, with its cause where it blames OUT or the dialer
+pub record IsPlannedLife {S K N : Type 0} (left : S → Option (List ℕ)) (sink : K → ℕ) (dials : N → ℕ) (senders : ℕ) (input : S) (out now_out : K) (dialer now_dialer : N) (plans : List (List (List ℕ))) (status : Status) : Type 0 where
+  pub planned : ArePlanned senders (left input) plans
+  pub of_life : IsOfLife status
+  pub output : status ≡ OutputFault → HasRisen (sink out) (sink now_out)
+  pub dial : status ≡ DialFault → HasRisen (dials dialer) (dials now_dialer)
+
+-- no life began, for want of memory, or since OUT could not be begun: the dialer and the boxes are as they were
+pub record BeganNone {K N I O : Type 0} (sink : K → ℕ) (out now_out : K) (dialer now_dialer : N) (box since : I) (outbox closed : O) (status : Status) : Type 0 where
+  pub cause : (status ≡ Memory) ⊎ ((status ≡ OutputFault) × HasRisen (sink out) (sink now_out))
+  pub dialer_is : now_dialer ≡ dialer
+  pub box_is : since ≡ box
+  pub outbox_is : closed ≡ outbox
+
+-- the same over disks: each leaves what it held
+pub record LeftAll {K D N : Type 0} (told : D → Option (List ℕ)) (may_leave : D → List ℕ → Type 0) (sink : K → ℕ) (out now_out : K) (dialer now_dialer : N) (out_disk now_out_disk in_disk now_in_disk : D) (status : Status) : Type 0 where
+  pub cause : (status ≡ Memory) ⊎ ((status ≡ OutputFault) × HasRisen (sink out) (sink now_out))
+  pub dialer_is : now_dialer ≡ dialer
+  pub out_kept : KeepsRecords told may_leave out_disk now_out_disk
+  pub in_kept : KeepsRecords told may_leave in_disk now_in_disk
+
+module _ {J : Type 0} {G : Ghosts J} {O : Type 0} {H : Ghosts O} where
+  -- it lived over the boxes, and the status is that of its answer
+  pub record HasLived (dialed later : Option DialerTold) (out now_out : Option (List ℕ)) (config : EndConfig) (plans : List (List (List ℕ))) (outbox closed : Outbox O H) (box since : Inbox J G) (status : Status) : Type 0 where
+    pub result : Result (Unit {0}) ServeFault
+    pub status_is : status ≡ status_of result
+    pub boxes : LivedBoxes dialed later out now_out config plans outbox closed box since result
+
+  -- INPUT has plans; OUT was begun; and no life began, or one was lived over the boxes
+  pub record LivedOn {S K N : Type 0} (left : S → Option (List ℕ)) (taken : K → Option (List ℕ)) (carried : N → Option DialerTold) (sink : K → ℕ) (dials : N → ℕ) (senders : ℕ) (config : EndConfig) (input : S) (out now_out : K) (dialer now_dialer : N) (outbox closed : Outbox O H) (box since : Inbox J G) (status : Status) : Type 0 where
+    pub plans : List (List (List ℕ))
+    pub life : IsPlannedLife left sink dials senders input out now_out dialer now_dialer plans status
+    pub lived : BeganNone sink out now_out dialer now_dialer box since outbox closed status
+        ⊎ HasLived (carried dialer) (carried now_dialer) (taken out) (taken now_out) config plans outbox closed box since status
+
+-- it lived over both disks, and the status is that of its answer
+pub record HasLivedOver {D J : Type 0} (G : Ghosts J) (told : D → Option (List ℕ)) (may_leave : D → List ℕ → Type 0) (disk : D → ℕ) (config : EndConfig) (plans : List (List (List ℕ))) (dialed later : Option DialerTold) (out now_out : Option (List ℕ)) (out_disk now_out_disk in_disk now_in_disk : D) (status : Status) : Type 0 where
+  pub box : Inbox J G
+  pub since : Inbox J G
+  pub result : Result (Unit {0}) ServeFault
+  pub status_is : status ≡ status_of result
+  pub over : LivedOver told may_leave disk config plans dialed later out now_out out_disk now_out_disk in_disk now_in_disk box since result
+
+-- INPUT has plans; OUT was begun; and no life began, or one was lived over both disks
+pub record Lived {S K D N J : Type 0} (G : Ghosts J) (left : S → Option (List ℕ)) (taken : K → Option (List ℕ)) (told : D → Option (List ℕ)) (may_leave : D → List ℕ → Type 0) (carried : N → Option DialerTold) (sink : K → ℕ) (disk : D → ℕ) (dials : N → ℕ) (senders : ℕ) (config : EndConfig) (input : S) (out now_out : K) (out_disk now_out_disk in_disk now_in_disk : D) (dialer now_dialer : N) (status : Status) : Type 0 where
+  pub plans : List (List (List ℕ))
+  pub life : IsPlannedLife left sink dials senders input out now_out dialer now_dialer plans status
+  pub lived : LeftAll told may_leave sink out now_out dialer now_dialer out_disk now_out_disk in_disk now_in_disk status
+      ⊎ HasLivedOver G told may_leave disk config plans (carried dialer) (carried now_dialer) (taken out) (taken now_out) out_disk now_out_disk in_disk now_in_disk status

@@ -1,0 +1,14 @@
+//! The commands `accept` and `connect` over devices of any kind: CONFIG, the journals with the outbox first, the plans of the
+//! senders in INPUT, and then one life of a session. Relies on `cmd_base` for statuses and texts, on `cmd_config` and
+//! `plan_text` for what those spell, on `jr_log` and `jr_boxes` for the journals, and on `conn_serve` for the life.
+#![tactic(auto)]
+
+mod boxes;
+mod command;
+mod inputs;
+mod life;
+mod outside;
+
+pub use command::run_session;
+pub use fixp_shake::Role;
+pub use outside::SessionOutside;

@@ -1,7 +1,0 @@
-use Rattle.std.proofs.Common.{le_refl}
-use Rattle.conn_loop.specs.Conn.{line_of}
-use Rattle.driven_ends.proofs.Driving.{stands_at}
-use Rattle.driven_ends.proofs.driven.DrivenEnd.finish.Goals as goal
-
-pub invariant_of-self : goal.invariant_of-self
-invariant_of-self g c = (c.finish.ensures.has, stands_at c.self.inside.standing (line_of c.self.inside.conn) _ _ _ _ c.self.inside.inbox (le_refl _) c.finish.ensures.connection c.self.invariant.1)

@@ -1,4 +1,0 @@
-use Rattle.fault_text.proofs.walk.+push_element.Given as goal
-
-abbrev pub decreases-push_element : goal.decreases-push_element
-decreases-push_element l = l.depth

@@ -1,0 +1,7 @@
+pub mod Tests
+pub mod Rows
+pub mod Keeping
+pub mod Calls
+pub mod Moving
+pub mod Growing
+pub mod Accepted

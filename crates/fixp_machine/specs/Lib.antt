@@ -1,0 +1,4 @@
+pub mod Fitting
+pub mod Sound
+pub mod Machine
+pub mod Accepting

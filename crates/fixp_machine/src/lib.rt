@@ -1,0 +1,16 @@
+//! The session machine: its state, its calls and what each makes of it, as the product is written in; and what it keeps to: what holds
+//! of each reply of the reply table, and how each frame grows the inbox, as the session model has it. The functions have empty
+//! bodies; their clauses are statements about the definitions that the machine's code meets.
+#![tactic(auto)]
+
+mod fitting;
+mod growing;
+mod machine;
+mod sound;
+
+pub use fitting::acts_fit;
+pub use growing::{
+    accepted_frame_grows, begins_agreeing, frame_tells, own_keeps_agreeing, refused_frame_spares,
+};
+pub use machine::calls_keep_sound;
+pub use sound::sound_goes_on;

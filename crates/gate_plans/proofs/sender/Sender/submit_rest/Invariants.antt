@@ -1,0 +1,12 @@
+use Rattle.std.proofs.Common.{◌≡◌, None}
+use Rattle.gate_plans.specs.Runs.{IsReady, plan_of, Ran}
+use Rattle.gate_plans.proofs.sender.Sender.submit_rest.Given as goal
+
+abbrev pub invariant-loop-done : goal.invariant-loop-done
+invariant-loop-done g l = record {
+  ready : IsReady l.gate l.self;
+  at : l.self.done ≡ l.done;
+  plan : plan_of l.self ≡ plan_of l.fn.self;
+  unrefused : l.self.refused ≡ None;
+  goes : (t : _) → Ran l.gate l.self t → Ran l.gate l.fn.self t;
+}

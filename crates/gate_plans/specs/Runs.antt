@@ -1,0 +1,106 @@
+-- What becomes of a sender while its plan is submitted: s before, t behind it. Plans are this project's profile.
+use Rattle.std.specs.Prelude.{◌≡◌, ◌⊎◌, ℕ, ◌+◌, ◌-◌, ◌<◌, ◌≤◌, List, All, Contains, length, take, drop, slice_get, slice_index_or, Some, None, Result, Ok, Err}
+use Rattle.jr_record.specs.declared.journal.Journal.{Ghosts}
+use Rattle.jr_boxes.specs.declared.faults.SubmitFault.{SubmitFault}
+use Rattle.gate_turn.specs.Places.{known}
+use Rattle.gate_turn.specs.Calls.{IsFree}
+use Rattle.gate_senders.specs.Gate.{IsSenderAt}
+use Rattle.gate_senders.specs.Shown.{TakesTurn, Submitted}
+use Rattle.gate_senders.specs.declared.gate.Gate.{Gate}
+use Rattle.plan_values.specs.Plans.{payloads_of}
+use Rattle.gate_plans.specs.Sent.{GoesOn, Sent, IsShown, refusals}
+use Rattle.gate_plans.specs.declared.sender.Sender.{Sender}
+
+module _ {J : Type 0} {G : Ghosts J} where
+  -- the payloads that it is to send
+  abbrev pub plan_of : Sender J G → List (List ℕ)
+  plan_of s = payloads_of s.plan
+
+  -- its pass is one of the gate's senders', and does not wait
+  pub record IsReady (gate : Gate J G) (s : Sender J G) : Type 0 where
+    pub own : IsSenderAt gate s.pass
+    pub free : IsFree s.pass
+
+  -- the refusal f was met at the message behind those done, which the plan has
+  pub record WasRefused (s t : Sender J G) (f : SubmitFault) : Type 0 where
+    pub payload : List ℕ
+    pub next : slice_get (plan_of t) t.done ≡ Some payload
+    pub shown : IsShown (known s.pass) (known t.pass) payload f
+
+  -- It submitted its plan from `done` on. The messages accepted are those of the plan from the old `done` to the new one; it took
+  -- a turn for each of them and for a refusal; and it stopped at the plan's end or at a refusal
+  pub record Ran (gate : Gate J G) (s t : Sender J G) : Type 0 where
+    pub ready : IsReady gate t
+    pub plan : plan_of t ≡ plan_of s
+    pub pass : GoesOn (known s.pass) (known t.pass)
+    pub done : s.done ≤ t.done
+    pub within : (t.done ≡ s.done) ⊎ (t.done ≤ length (plan_of s))
+    pub numbers : List ℕ
+    pub each : length numbers ≡ t.done - s.done
+    pub sent : Sent (known s.pass) (known t.pass) (take (t.done - s.done) (drop s.done (plan_of s))) numbers
+    pub turns : (known t.pass).turns ≡ (known s.pass).turns + (t.done - s.done) + refusals t.refused
+    pub whole : t.refused ≡ None → length (plan_of s) ≤ t.done
+    pub refused : (f : SubmitFault) → t.refused ≡ Some f → WasRefused s t f
+
+  -- the messages that the outbox has of it were counted as done, and nothing else changed
+  pub record Counted (gate : Gate J G) (s t : Sender J G) : Type 0 where
+    pub ready : IsReady gate t
+    pub plan : plan_of t ≡ plan_of s
+    pub pass : GoesOn (known s.pass) (known t.pass)
+    pub mine : (known t.pass).mine ≡ (known s.pass).mine
+    pub done : t.done ≡ length (known t.pass).mine
+
+  -- each sender was counted so, in its place
+  pub record CountedEach (gate : Gate J G) (before after : List (Sender J G)) : Type 0 where
+    pub long : length after ≡ length before
+    pub each : (i : ℕ) (d : Sender J G) → i < length before → Counted gate (slice_index_or before i d) (slice_index_or after i d)
+
+  -- the next message of the plan was accepted, as some number
+  pub record Accepted (gate : Gate J G) (s t : Sender J G) : Type 0 where
+    pub ready : IsReady gate t
+    pub plan : plan_of t ≡ plan_of s
+    pub done : t.done ≡ s.done + 1
+    pub refused : t.refused ≡ s.refused
+    pub payload : List ℕ
+    pub next : slice_get (plan_of s) s.done ≡ Some payload
+    pub turn : TakesTurn (known s.pass) (known t.pass)
+    pub ended : (known t.pass).ended ≡ (known s.pass).ended
+    pub number : ℕ
+    pub submitted : Submitted (known s.pass) (known t.pass) payload number
+
+  -- the next message of the plan was refused
+  pub record Refused (gate : Gate J G) (s t : Sender J G) : Type 0 where
+    pub ready : IsReady gate t
+    pub plan : plan_of t ≡ plan_of s
+    pub done : t.done ≡ s.done
+    pub turn : TakesTurn (known s.pass) (known t.pass)
+    pub ended : (known t.pass).ended ≡ (known s.pass).ended
+    pub mine : (known t.pass).mine ≡ (known s.pass).mine
+    pub fault : SubmitFault
+    pub refused : t.refused ≡ Some fault
+    pub was : WasRefused s t fault
+
+  -- each sender ran, in its place
+  pub record RanEach (gate : Gate J G) (before after : List (Sender J G)) : Type 0 where
+    pub long : length after ≡ length before
+    pub each : (i : ℕ) (d : Sender J G) → i < length before → Ran gate (slice_index_or before i d) (slice_index_or after i d)
+
+  -- it met no refusal
+  abbrev pub HasNone : Sender J G → Type 0
+  HasNone t = t.refused ≡ None
+
+  -- where it met a refusal, its number is not below n
+  abbrev pub IsNotBelow : ℕ → Sender J G → Type 0
+  IsNotBelow n t = (f : SubmitFault) → t.refused ≡ Some f → n ≤ (known t.pass).number
+
+  -- f is the refusal of a sender, and no other sender that met one has a lower number
+  pub record IsLowestRefusal (senders : List (Sender J G)) (f : SubmitFault) : Type 0 where
+    pub sender : Sender J G
+    pub there : Contains senders sender
+    pub refused : sender.refused ≡ Some f
+    pub lowest : All (IsNotBelow (known sender.pass).number) senders
+
+  -- the answer to all of them: that none met a refusal, or the lowest sender's
+  abbrev pub IsLowest : List (Sender J G) → Result (Unit {0}) SubmitFault → Type 0
+  IsLowest senders (Ok _) = All HasNone senders
+  IsLowest senders (Err f) = IsLowestRefusal senders f

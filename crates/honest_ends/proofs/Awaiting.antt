@@ -1,0 +1,174 @@
+-- What a reader awaits, by its flow and as far as the handshake is.
+use Rattle.std.proofs.Common.{◌≡◌, ℕ, ◌≤◌, ◌&&◌, Bool, true, false, if◌then◌else◌, List, ◌∷◌, Option, Some, None, refl, sym, ap, subst, ◌∙◌, arith, true≢false}
+use Rattle.std.specs.Prelude.{is_some}
+use Rattle.fixp_msgs.specs.declared.flow.Flow.{Flow}
+use Rattle.flow_recover.specs.Receiving as receiver_is
+use Rattle.flow_recover.specs.Receiving.{Receiving}
+use Rattle.flow_retrans.specs.declared.request.Request.{Request}
+use Rattle.flow_retrans.specs.declared.request.Request.TheVariants as requests
+use Rattle.fixp_shake.specs.declared.config.EndConfig.{EndConfig}
+use Rattle.fixp_shake.specs.declared.violation.Violation.{Violation}
+use Rattle.fixp_shake.specs.declared.violation.Violation.TheVariants.{BadFrame, UnknownTemplate, NotInPhase, OtherSession, WentBack, MissingNext, NumberTooLarge, BadRetransmission, AfterFinish, FlowNone, Silent, HandshakeLate}
+use Rattle.fixp_shake.specs.Flows.{is_recoverable, is_sequenced}
+use Rattle.fixp_shake.specs.Phases.{is_shaken}
+use Rattle.fixp_replies.specs.declared.facts.Facts.{Facts}
+use Rattle.fixp_replies.specs.Facts.{Around}
+use Rattle.fixp_replies.specs.Outcomes.{Outcome}
+use Rattle.fixp_msgs.specs.Message.{Message, establish, establishment_ack, sequence, retransmission}
+use Rattle.connection_laws.specs.Writing.{Piece, said, entry}
+use Rattle.honest_ends.specs.Numbers.{Awaited, exactly, at_most, announces, live_after, awaited_after, left_after, Runs, Answers, Matches, NotNumber, to_come, Line, Idle, Lined, Other}
+use Rattle.honest_ends.proofs.Running.{number_of, runs_top}
+use Rattle.honest_ends.specs.Numbered.{next_live, awaits, awaited}
+use Rattle.honest_ends.specs.NumberLaws.{NoNumber}
+
+pub not_number : (A : Type 0) (v : Violation) → A → NotNumber A v → NoNumber v
+not_number A (BadFrame at) a n = tt
+not_number A (UnknownTemplate id) a n = tt
+not_number A (NotInPhase template phase) a n = tt
+not_number A (OtherSession template) a n = tt
+not_number A (WentBack announced expected) a n = absurd n
+not_number A (MissingNext template) a n = tt
+not_number A (NumberTooLarge announced) a n = absurd n
+not_number A (BadRetransmission expected found) a n = absurd (n a)
+not_number A (AfterFinish last found) a n = tt
+not_number A (FlowNone template) a n = tt
+not_number A (Silent last now) a n = tt
+not_number A (HandshakeLate start now) a n = tt
+
+-- what is awaited, before the handshake is done and from then on
+and_false : (b : Bool) → (b && false) ≡ false
+and_false true = refl
+and_false false = refl
+
+and_true : (b : Bool) → (b && true) ≡ b
+and_true true = refl
+and_true false = refl
+
+pub awaited_before : (c : EndConfig) (f : Facts) → is_shaken f.connection.phase ≡ false → awaited c f ≡ at_most (next_live c f)
+awaited_before c f e = ap (λ b. awaits (is_sequenced c.peer_flow && b) (next_live c f)) e ∙ ap (λ b. awaits b (next_live c f)) (and_false (is_sequenced c.peer_flow))
+
+pub awaited_then : (c : EndConfig) (f : Facts) → is_shaken f.connection.phase ≡ true → awaited c f ≡ awaits (is_sequenced c.peer_flow) (next_live c f)
+awaited_then c f e = ap (λ b. awaits (is_sequenced c.peer_flow && b) (next_live c f)) e ∙ ap (λ b. awaits b (next_live c f)) (and_true (is_sequenced c.peer_flow))
+
+pub number_awaited : (b : Bool) (n : ℕ) → number_of (awaits b n) ≡ n
+number_awaited true n = refl
+number_awaited false n = refl
+
+-- the receiver and the inbox decide it
+pub same_live : (c : EndConfig) (f g : Facts) → g.connection.receiver ≡ f.connection.receiver → g.recorded.inbox_next ≡ f.recorded.inbox_next → next_live c g ≡ next_live c f
+same_live c f g e n = ap (λ (k : Receiving). if is_recoverable c.peer_flow then k.live else g.recorded.inbox_next) e ∙ ap (λ (k : ℕ). if is_recoverable c.peer_flow then f.connection.receiver.live else k) n
+
+pub same_awaited : (c : EndConfig) (f g : Facts) → is_shaken g.connection.phase ≡ is_shaken f.connection.phase → g.connection.receiver ≡ f.connection.receiver → g.recorded.inbox_next ≡ f.recorded.inbox_next → awaited c g ≡ awaited c f
+same_awaited c f g s e n = ap (λ b. awaits (is_sequenced c.peer_flow && b) (next_live c g)) s ∙ ap (λ (k : ℕ). awaits (is_sequenced c.peer_flow && is_shaken f.connection.phase) k) (same_live c f g e n)
+
+pub line_same : (f g : Facts) → g.connection.receiver ≡ f.connection.receiver → g.connection.requester ≡ f.connection.requester → g.recorded.inbox_next ≡ f.recorded.inbox_next → Line f → Line g
+line_same f g e q n line = record {
+  waits = ap (λ (k : Receiving). k.next) e ∙ (line.waits ∙ sym n);
+  low = subst (λ (k : Receiving). k.next ≤ k.live) (sym e) line.low;
+  matches = subst (λ (k : Receiving). Matches k g.connection.requester) (sym e) (subst (λ (k : Request). Matches f.connection.receiver k) (sym q) line.matches);
+}
+
+pub idle_same : (f g : Facts) → g.connection.receiver ≡ f.connection.receiver → g.connection.requester ≡ f.connection.requester → Idle f → Idle g
+idle_same f g e q idle = record { even = ap (λ k. receiver_is.gap k) e ∙ idle.even; none = q ∙ idle.none }
+
+-- a flow without numbers announces none
+unannounced : (flow : Flow) (p : Piece) → is_sequenced flow ≡ false → is_some (announces flow p) ≡ false
+unannounced flow (entry payload) e = refl
+unannounced flow (said m) e = by_message m
+  where
+    by_message : (k : Message) → is_some (announces flow (said k)) ≡ false
+    by_message (establish id timestamp keepalive next credentials) = ap (λ b. is_some (if b then next else None)) e
+    by_message (establishment_ack id timestamp keepalive next) = ap (λ b. is_some (if b then next else None)) e
+    by_message (sequence next) = ap (λ b. is_some (if b then Some next else None)) e
+    by_message _ = refl
+
+pub after_at_most : (flow : Flow) (p : Piece) (b : ℕ) (l : Option ℕ) (t : Bool) → is_some (announces flow p) ≡ t → awaited_after flow p (at_most b) l ≡ awaits t (live_after flow p b l)
+after_at_most flow p b l true e = ap (λ s. if s then exactly (live_after flow p b l) else at_most (live_after flow p b l)) e
+after_at_most flow p b l false e = ap (λ s. if s then exactly (live_after flow p b l) else at_most (live_after flow p b l)) e
+
+-- once the handshake is done
+pub after_then : (flow : Flow) (p : Piece) (b : ℕ) (l : Option ℕ) → awaited_after flow p (awaits (is_sequenced flow) b) l ≡ awaits (is_sequenced flow) (live_after flow p b l)
+after_then flow p b l = by_flow (is_sequenced flow) refl
+  where
+    by_flow : (t : Bool) → is_sequenced flow ≡ t → awaited_after flow p (awaits t b) l ≡ awaits t (live_after flow p b l)
+    by_flow true e = refl
+    by_flow false e = after_at_most flow p b l false (unannounced flow p e)
+
+-- a reader behind a message: its numbers are those that the message makes of them
+pub record Moves (c : EndConfig) (p : Piece) (f g : Facts) : Type 0 where
+  pub live : next_live c g ≡ live_after c.peer_flow p (next_live c f) (to_come f.connection.requester)
+  pub left : to_come g.connection.requester ≡ left_after p (to_come f.connection.requester)
+  pub line : is_recoverable c.peer_flow ≡ true → Line g
+  pub idle : is_recoverable c.peer_flow ≡ false → Idle g
+  pub rises : is_recoverable c.peer_flow ≡ true → f.recorded.inbox_next ≤ g.recorded.inbox_next
+
+pub live_is : (c : EndConfig) (f : Facts) → is_recoverable c.peer_flow ≡ true → next_live c f ≡ f.connection.receiver.live
+live_is c f e = ap (λ b. if b then f.connection.receiver.live else f.recorded.inbox_next) e
+
+pub inbox_of : (c : EndConfig) (f : Facts) → is_recoverable c.peer_flow ≡ false → next_live c f ≡ f.recorded.inbox_next
+inbox_of c f e = ap (λ b. if b then f.connection.receiver.live else f.recorded.inbox_next) e
+
+pub lined_moves : (x : Around) (f : Facts) (p : Piece) (A : Type 0) (o : Outcome) → is_recoverable x.config.peer_flow ≡ true
+    → Lined A f (live_after x.config.peer_flow p f.connection.receiver.live (to_come f.connection.requester)) (left_after p (to_come f.connection.requester)) o → o.ending ≡ None → Moves x.config p f o.next
+lined_moves x f p A o rec h going =
+    let r = h.next going in
+    record {
+      live = live_is x.config o.next rec ∙ (r.live ∙ ap (λ (n : ℕ). live_after x.config.peer_flow p n (to_come f.connection.requester)) (sym (live_is x.config f rec)));
+      left = r.left;
+      line = λ _. r.line;
+      idle = λ n. absurd (true≢false (sym rec ∙ n));
+      rises = λ _. r.rises;
+    }
+
+-- nothing is left where nothing was asked for
+left_none : (p : Piece) (q : Request) → q ≡ requests.Nothing → Answers q p → left_after p None ≡ None
+left_none (entry payload) q e a = refl
+left_none (said m) q e a = by_message m a
+  where
+    by_message : (k : Message) → Answers q (said k) → left_after (said k) None ≡ None
+    by_message (retransmission id next timestamp count) b = absurd (cc (e, b.0))
+    by_message _ b = refl
+
+pub other_moves : (x : Around) (f : Facts) (p : Piece) (A : Type 0) (o : Outcome) → is_recoverable x.config.peer_flow ≡ false → Idle f → Answers f.connection.requester p
+    → Other A f (live_after x.config.peer_flow p f.recorded.inbox_next None) o → o.ending ≡ None → Moves x.config p f o.next
+other_moves x f p A o other idle answers h going =
+    let r = h.next going in
+    let none : to_come f.connection.requester ≡ None = ap to_come idle.none in
+    record {
+      live = inbox_of x.config o.next other ∙ (r.next ∙ (ap (λ (n : ℕ). live_after x.config.peer_flow p n None) (sym (inbox_of x.config f other))
+          ∙ ap (λ (l : Option ℕ). live_after x.config.peer_flow p (next_live x.config f) l) (sym none)));
+      left = ap to_come r.idle.none ∙ (sym (left_none p f.connection.requester idle.none answers) ∙ ap (λ (l : Option ℕ). left_after p l) (sym none));
+      line = λ n. absurd (true≢false (sym n ∙ other));
+      idle = λ _. r.idle;
+      rises = λ n. absurd (true≢false (sym n ∙ other));
+    }
+
+-- What is under way to a reader brings it to this number, and to so much of a retransmission
+pub record Ready (c : EndConfig) (f : Facts) (way : List Piece) (k : ℕ) (m : Option ℕ) : Type 0 where
+  pub runs : Runs c.peer_flow (awaited c f) (to_come f.connection.requester) way k m
+  pub line : is_recoverable c.peer_flow ≡ true → Line f
+  pub idle : is_recoverable c.peer_flow ≡ false → Idle f
+  pub opening : is_shaken f.connection.phase ≡ false → Idle f
+
+-- then its live number is no greater, nor what its inbox awaits
+pub ready_live : (c : EndConfig) (f : Facts) (way : List Piece) (k : ℕ) (m : Option ℕ) → Ready c f way k m → next_live c f ≤ k
+ready_live c f way k m r =
+    let top = runs_top c.peer_flow (awaited c f) (to_come f.connection.requester) way k m r.runs in
+    let same = number_awaited (is_sequenced c.peer_flow && is_shaken f.connection.phase) (next_live c f) in
+    omega (arith, top, same)
+
+pub ready_top : (c : EndConfig) (f : Facts) (way : List Piece) (k : ℕ) (m : Option ℕ) → Ready c f way k m → f.recorded.inbox_next ≤ k
+ready_top c f way k m r = by_flow (is_recoverable c.peer_flow) refl
+  where
+    by_flow : (b : Bool) → is_recoverable c.peer_flow ≡ b → f.recorded.inbox_next ≤ k
+    by_flow true e = let line = r.line e in let waits = line.waits in let below = line.low in let same = live_is c f e in let h = ready_live c f way k m r in omega (arith, waits, below, same, h)
+    by_flow false e = let same = inbox_of c f e in let h = ready_live c f way k m r in omega (arith, same, h)
+
+-- behind a message that moves it
+pub moved_runs : (c : EndConfig) (f g : Facts) (p : Piece) (left : List Piece) (k : ℕ) (m : Option ℕ) → Moves c p f g → is_shaken g.connection.phase ≡ true
+    → awaited_after c.peer_flow p (awaited c f) (to_come f.connection.requester) ≡ awaits (is_sequenced c.peer_flow) (live_after c.peer_flow p (next_live c f) (to_come f.connection.requester))
+    → Runs c.peer_flow (awaited c f) (to_come f.connection.requester) (p ∷ left) k m → Runs c.peer_flow (awaited c g) (to_come g.connection.requester) left k m
+moved_runs c f g p left k m v then_shaken after r =
+    subst (λ (l : Option ℕ). Runs c.peer_flow (awaited c g) l left k m) (sym v.left)
+    (subst (λ (a : Awaited). Runs c.peer_flow a (left_after p (to_come f.connection.requester)) left k m)
+    (after ∙ (ap (λ (n : ℕ). awaits (is_sequenced c.peer_flow) n) (sym v.live) ∙ sym (awaited_then c g then_shaken))) r.1)

@@ -1,0 +1,656 @@
+-- What a reader in Established expects of numbers behind each message that is under way to it.
+use Rattle.std.proofs.Common.{◌≡◌, ℕ, ◌+◌, ◌-◌, ◌≤◌, ◌==◌, ◌&&◌, ◌||◌, nat_lt, not, Bool, true, false, if◌then◌else◌, List, [], ◌∷◌, Option, Some, None, refl, sym, ap, subst, ◌∙◌, arith, true≢false, eqb-true, eq-eqb}
+use Rattle.std.specs.Prelude.{⊤, is_some, is_none, unwrap_or, IfSome, Result, Ok, Err}
+use Rattle.fixp_msgs.specs.declared.numbering.Range.{Range}
+use Rattle.fixp_msgs.specs.declared.flow.Flow.{Flow}
+use Rattle.fixp_msgs.specs.Message.{Message, negotiate, negotiation_response, negotiation_reject, establish, establishment_ack, establishment_reject, sequence, unsequenced_heartbeat, retransmit_request, retransmission, retransmit_reject, applied, not_applied, finished_sending, finished_receiving, terminate}
+use Rattle.flow_recover.specs.declared.receiver.Seen.{Seen}
+use Rattle.flow_recover.specs.declared.receiver.Seen.TheVariants.{Deliver, Gap, Repeat}
+use Rattle.flow_recover.specs.Receiving as receiver_is
+use Rattle.flow_retrans.specs.declared.requester.BadStart.{BadStart}
+use Rattle.flow_retrans.specs.declared.judging.RetransmitCode.{RetransmitCode}
+use Rattle.flow_retrans.specs.Judging.{judged}
+use Rattle.flow_retrans.specs.Requests as request_is
+use Rattle.fixp_shake.specs.declared.violation.Violation.{Violation}
+use Rattle.fixp_shake.specs.declared.violation.Violation.TheVariants.{AfterFinish, WentBack, MissingNext, NumberTooLarge, FlowNone}
+use Rattle.fixp_shake.specs.Flows.{is_recoverable, is_idempotent, is_sequenced, is_absent}
+use Rattle.fixp_shake.specs.Phases.{is_established}
+use Rattle.fixp_replies.specs.declared.act.Act.{Act}
+use Rattle.fixp_replies.specs.declared.act.Act.TheVariants as acts
+use Rattle.fixp_replies.specs.declared.act.Ending.{Ending}
+use Rattle.fixp_replies.specs.declared.act.Ending.TheVariants as endings
+use Rattle.fixp_replies.specs.declared.facts.Facts.{Facts}
+use Rattle.fixp_replies.specs.declared.facts.OwnFinish.TheVariants as own
+use Rattle.flow_retrans.specs.declared.request.Request.{Request}
+use Rattle.flow_retrans.specs.declared.request.Request.TheVariants as requests
+use Rattle.fixp_replies.specs.declared.facts.PeerFinish.TheVariants as peer
+use Rattle.fixp_replies.specs.Incoming.{application, session}
+use Rattle.fixp_replies.specs.Facts.{Around, is_own, receiving, requesting, serves, awaiting, gap_to_ask, having_asked, expected_number, message_number, live_number, finishes_exchanged, peer_last, awaits_gap}
+use Rattle.fixp_replies.specs.Outcomes.{Outcome, goes_on, accepts, ends, breaks, not_in_phase, skip_of, told_skip}
+use Rattle.fixp_replies.specs.Announcing.{Announced, jumped_over, announced, announcement_fault, refuses}
+use Rattle.fixp_replies.specs.Flowing.{bad_retransmission, counted, taken_as, peer_finished, answers_finish, is_filled, is_past_finish, sequence_follows, sequence_taken, restarted, finished_last, finish_fault, finished, is_last, application_rows, sequence_rows, retransmission_rows, retransmit_reject_rows, finished_sending_rows}
+use Rattle.fixp_replies.specs.Serving.{request_answered, own_finishing, retransmit_request_rows, finished_receiving_rows}
+use Rattle.fixp_replies.specs.Replies.{rows_of, answer_of}
+use Rattle.fixp_machine.proofs.Rows.{by_row, all_rows, all_within}
+use Rattle.connection_laws.specs.Writing.{Piece, said, entry}
+use Rattle.two_ends.specs.Reading.{incoming_of}
+use Rattle.fixp_shake.specs.declared.config.EndConfig.{EndConfig}
+use Rattle.flow_recover.specs.Receiving.{Receiving}
+use Rattle.flow_recover.proofs.Chains.{next_counted}
+use Rattle.std.proofs.lemmas.Bool.{ltb-false}
+use Rattle.std.proofs.lemmas.Bool.Decides.{nat_tests}
+use Rattle.fixp_machine.proofs.Tests.{delivers, passes}
+use Rattle.honest_ends.proofs.Deciding.{Decides, decides_within, ended_by}
+use Rattle.honest_ends.proofs.PhaseOpening.{asks_none}
+use Rattle.honest_ends.proofs.Moving.{not_over}
+use Rattle.honest_ends.proofs.Replying.{foreign, heard}
+use Rattle.honest_ends.specs.Numbers.{After, AfterOther, Answers, Before, BeforeOther, HasOne, Idle, IsFlowing, IsWhole, Line, Lined, Matches, NotNumber, Other, Peer, Reaches, Rests, announces, live_after, left_after, to_come}
+
+no_violation : (A : Type 0) (v : Violation) → None ≡ Some (endings.Violation v) → NotNumber A v
+no_violation A v e = absurd cc
+
+terminated_fine : (A : Type 0) (b : Bool) (code : ℕ) (w : Violation) → Some (if b then endings.Finished else endings.PeerTerminated code) ≡ Some (endings.Violation w) → NotNumber A w
+terminated_fine A true code w e = absurd cc
+terminated_fine A false code w e = absurd cc
+
+-- a gap that is asked for ends at the live number
+asked_line : (f : Facts) (q : Request) → f.connection.requester ≡ q → Line f
+    → (b : Bool) → nat_lt f.connection.receiver.next f.connection.receiver.live ≡ b
+    → Line (having_asked f (if is_none (request_is.outstanding q) then (if b then Some (record { from = f.connection.receiver.next; count = f.connection.receiver.live - f.connection.receiver.next }) else None) else None))
+    × (to_come (having_asked f (if is_none (request_is.outstanding q) then (if b then Some (record { from = f.connection.receiver.next; count = f.connection.receiver.live - f.connection.receiver.next }) else None) else None)).connection.requester ≡ to_come f.connection.requester)
+asked_line f requests.Nothing e line true t =
+    let none : f.connection.receiver.again ≡ None = subst (λ (q : Request). Matches f.connection.receiver q) e line.matches in
+    let low = line.low in
+    (record { waits = line.waits; low = low; matches = (none, omega (arith, low)) }, sym (ap to_come e))
+asked_line f requests.Nothing e line false t = (line, refl)
+asked_line f (requests.Asked range) e line b t = (line, refl)
+asked_line f (requests.Coming range next left) e line b t = (line, refl)
+
+same_receiver : (f g : Facts) (least b : ℕ) (l : Option ℕ) → g.connection.receiver ≡ f.connection.receiver → g.connection.requester ≡ f.connection.requester → g.recorded.inbox_next ≡ f.recorded.inbox_next
+    → Reaches f least b l → Reaches g least b l
+same_receiver f g least b l r q n h = record {
+  line = record {
+    waits = ap (λ k. k.next) r ∙ (h.line.waits ∙ sym n);
+    low = subst (λ (k : Receiving). k.next ≤ k.live) (sym r) h.line.low;
+    matches = subst (λ (k : Receiving). Matches k g.connection.requester) (sym r) (subst (λ (k : Request). Matches f.connection.receiver k) (sym q) h.line.matches);
+  };
+  rises = let k = h.rises in omega (arith, k, n);
+  live = ap (λ k. k.live) r ∙ h.live;
+  left = ap to_come q ∙ h.left;
+}
+
+-- what is asked for leaves the inbox and the receiver
+asked_receiver : (g : Facts) (r : Option Range) → ((having_asked g r).connection.receiver ≡ g.connection.receiver) × ((having_asked g r).recorded.inbox_next ≡ g.recorded.inbox_next)
+asked_receiver g None = (refl, refl)
+asked_receiver g (Some r) = (refl, refl)
+
+-- the connection goes on
+pub going : (x : Around) (A : Type 0) (f g : Facts) (act : Act) (written : List Message) (b : ℕ) (l : Option ℕ) → Reaches g f.recorded.inbox_next b l → Lined A f b l (goes_on x act written g)
+going x A f g act written b l h =
+    let a = asked_line g g.connection.requester refl h.line (nat_lt g.connection.receiver.next g.connection.receiver.live) refl in
+    let same = asked_receiver g (gap_to_ask g) in
+    record {
+      fine = no_violation A;
+      next = λ _. record {
+        line = a.0;
+        rises = let k = h.rises in let n = same.1 in omega (arith, k, n);
+        live = ap (λ k. k.live) same.0 ∙ h.live;
+        left = a.1 ∙ h.left;
+      };
+      over = λ some. not_over {A = Ending} None refl some;
+    }
+
+-- it ends
+ending : (x : Around) (A : Type 0) (f g : Facts) (code : ℕ) (v : Violation) (b : ℕ) (l : Option ℕ) → g.recorded.inbox_next ≡ f.recorded.inbox_next → NotNumber A v → Lined A f b l (ends x g code (endings.Violation v))
+ending x A f g code v b l same h = record { fine = λ w e. ended_by (NotNumber A) (finishes_exchanged x g) v w e h; next = λ none. absurd cc; over = λ _. same }
+
+bad : (x : Around) (A : Type 0) (f : Facts) (k : Option BadStart) (b : ℕ) (l : Option ℕ) → is_some k ≡ true → (A → ⊥) → Lined A f b l (bad_retransmission x f k)
+bad x A f None b l some wrong = absurd (true≢false (sym some))
+bad x A f (Some k) b l some wrong = ending x A f f 2 _ b l refl wrong
+
+refusing : (x : Around) (A : Type 0) (f g : Facts) (v : Option Violation) (b : ℕ) (l : Option ℕ) → g.recorded.inbox_next ≡ f.recorded.inbox_next → is_some v ≡ true → ((w : Violation) → v ≡ Some w → NotNumber A w)
+    → Lined A f b l (refuses x g v)
+refusing x A f g None b l same some h = absurd (true≢false (sym some))
+refusing x A f g (Some v) b l same some h = ending x A f g 2 v b l same (h v refl)
+
+pub number_fault : (A : Type 0) (x : Around) (f : Facts) (t : ℕ) (next : Option ℕ)
+    → (is_sequenced x.config.peer_flow ≡ true → is_none next ≡ false → (nat_lt (x.most + 1) (unwrap_or next 0) ≡ false) × (nat_lt (unwrap_or next 0) (expected_number x f) ≡ false))
+    → (v : Violation) → announcement_fault x f t next ≡ Some v → NotNumber A v
+number_fault A x f t next fits v e = by_tests (is_sequenced x.config.peer_flow) (is_none next) (nat_lt (x.most + 1) (unwrap_or next 0)) (nat_lt (unwrap_or next 0) (expected_number x f)) fits e
+  where
+    by_tests : (numbered missing large back : Bool) → (numbered ≡ true → missing ≡ false → (large ≡ false) × (back ≡ false))
+        → (if not numbered then None else if missing then Some (MissingNext t) else if large then Some (NumberTooLarge (unwrap_or next 0))
+        else if back then Some (WentBack (unwrap_or next 0) (expected_number x f)) else None) ≡ Some v
+        → NotNumber A v
+    by_tests false missing large back fits e = absurd cc
+    by_tests true true large back fits e = let same : MissingNext t ≡ v = cc e in subst (λ (u : Violation). NotNumber A u) same tt
+    by_tests true false true back fits e = absurd (true≢false (fits refl refl).0)
+    by_tests true false false true fits e = absurd (true≢false (fits refl refl).1)
+    by_tests true false false false fits e = absurd cc
+
+pub not_less : (a b : ℕ) → b ≤ a → nat_lt a b ≡ false
+not_less a b h = grind (arith, nat_tests)
+
+finish_fine : (A : Type 0) (x : Around) (f : Facts) (last : Option ℕ) (v : Violation) → finish_fault x f last ≡ Some v → NotNumber A v
+finish_fine A x f last v e = by_tests (is_absent x.config.peer_flow) (is_sequenced x.config.peer_flow) (is_none last) (not (is_last x f (finished_last x last))) e
+  where
+    by_tests : (absent numbered missing other : Bool)
+        → (if absent then Some (FlowNone 14) else if numbered && missing then Some (MissingNext 14)
+        else if numbered && other then Some (AfterFinish (finished_last x last) (live_number x f)) else None) ≡ Some v
+        → NotNumber A v
+    by_tests true numbered missing other e = let same : FlowNone 14 ≡ v = cc e in subst (λ (u : Violation). NotNumber A u) same tt
+    by_tests false true true other e = let same : MissingNext 14 ≡ v = cc e in subst (λ (u : Violation). NotNumber A u) same tt
+    by_tests false true false true e = let same : AfterFinish (finished_last x last) (live_number x f) ≡ v = cc e in subst (λ (u : Violation). NotNumber A u) same tt
+    by_tests false true false false e = absurd cc
+    by_tests false false missing other e = absurd cc
+
+-- a message more of a whole retransmission, and one that is not whole at its end
+has_one : (q : Request) → HasOne (to_come q) → is_some (request_is.message_fault q) ≡ true → ⊥
+has_one requests.Nothing one some = true≢false (sym some)
+has_one (requests.Asked range) one some = true≢false (sym some)
+has_one (requests.Coming range next left) one some = by_test (left == 0) refl some
+  where
+    by_test : (b : Bool) → (left == 0) ≡ b → is_some {T = BadStart} (if b then Some (record { expected = 0; found = next }) else None) ≡ true → ⊥
+    by_test true e s = let none = eqb-true left 0 e in omega (arith, none, one)
+    by_test false e s = true≢false (sym s)
+
+is_whole : (q : Request) → IsWhole (to_come q) → is_some (request_is.sequence_fault q) ≡ true → ⊥
+is_whole requests.Nothing whole some = true≢false (sym some)
+is_whole (requests.Asked range) whole some = true≢false (sym some)
+is_whole (requests.Coming range next left) whole some =
+    true≢false (sym some ∙ ap (λ b. is_some {T = BadStart} (if b then None else Some (record { expected = next; found = 0 }))) (eq-eqb left 0 whole))
+
+-- one message more is counted
+record Counted (next live : ℕ) (l : Option ℕ) (b : ℕ) (r : Receiving) (q : Request) : Type 0 where
+  low : r.next ≤ r.live
+  matches : Matches r q
+  number : r.live ≡ b
+  left : to_come q ≡ l
+  rises : next ≤ r.next
+
+one_past : (t : Bool) (n k : ℕ) → n + 1 ≤ k → (if t then n + 1 else n) ≤ k
+one_past true n k h = h
+one_past false n k h = omega (arith, h)
+
+no_lower : (t : Bool) (n : ℕ) → n ≤ (if t then n + 1 else n)
+no_lower true n = omega arith
+no_lower false n = omega arith
+
+past_again : (n next live : ℕ) → n + 1 ≤ live → next ≤ live → (if n == next then next + 1 else next) ≤ live
+past_again n next live h low = by_test (n == next) refl
+  where
+    by_test : (t : Bool) → (n == next) ≡ t → (if t then next + 1 else next) ≤ live
+    by_test true e = let same = eqb-true n next e in omega (arith, same, h)
+    by_test false e = low
+
+count_line : (flow : Flow) (next live : ℕ) (again : Option ℕ) (q : Request) → next ≤ live → Matches (record { next = next; live = live; again = again }) q → HasOne (to_come q)
+    → Counted next live (left_after (entry []) (to_come q)) (live_after flow (entry []) live (to_come q)) (receiver_is.after_message (record { next = next; live = live; again = again })) (request_is.after_message q)
+count_line flow next live None requests.Nothing low m one = record { low = one_past (live == next) next (live + 1) (omega (arith, low)); matches = refl; number = refl; left = refl; rises = no_lower (live == next) next }
+count_line flow next live None (requests.Asked range) low m one =
+    let k = m.1 in record { low = one_past (live == next) next (live + 1) (omega (arith, low)); matches = (refl, omega (arith, k)); number = refl; left = refl; rises = no_lower (live == next) next }
+count_line flow next live None (requests.Coming range n left) low m one = absurd (cc (m.0))
+count_line flow next live (Some k) requests.Nothing low m one = absurd (cc m)
+count_line flow next live (Some k) (requests.Asked range) low m one = absurd (cc (m.0))
+count_line flow next live (Some k) (requests.Coming range n left) low m one =
+    let same : k ≡ n = cc (m.0) in
+    let h = m.1 in
+    record { low = past_again k next live (omega (arith, same, h, one)) low; matches = (ap (λ (j : ℕ). Some (j + 1)) same, omega (arith, h, one)); number = refl; left = refl; rises = no_lower (k == next) next }
+
+counted_line : (flow : Flow) (f : Facts) → Line f → HasOne (to_come f.connection.requester)
+    → Counted f.connection.receiver.next f.connection.receiver.live (left_after (entry []) (to_come f.connection.requester)) (live_after flow (entry []) f.connection.receiver.live (to_come f.connection.requester))
+    (receiver_is.after_message f.connection.receiver) (request_is.after_message f.connection.requester)
+counted_line flow f line one = count_line flow f.connection.receiver.next f.connection.receiver.live f.connection.receiver.again f.connection.requester line.low line.matches one
+
+taking : (x : Around) (A : Type 0) (f : Facts) (s : Seen) (b : ℕ) (l : Option ℕ) → receiver_is.seen f.connection.receiver ≡ s → Line f → HasOne (to_come f.connection.requester)
+    → l ≡ left_after (entry []) (to_come f.connection.requester) → live_after x.config.peer_flow (entry []) f.connection.receiver.live (to_come f.connection.requester) ≡ b → Lined A f b l (taken_as x (counted f) s)
+taking x A f (Deliver n) b l is line one e top =
+    let r = f.connection.receiver in
+    let d = delivers r.next (receiver_is.number r) n is in
+    let c = counted_line x.config.peer_flow f line one in
+    let waits = line.waits in
+    let d0 = d.0 in let d1 = d.1 in
+    going x A f (awaiting (counted f) (n + 1)) (acts.Apply n) [] b l (record {
+      line = record {
+        waits = next_counted r.next r.live r.again ∙ (ap (λ t. if t then r.next + 1 else r.next) (eq-eqb (receiver_is.number r) r.next d.1) ∙ omega (arith, d0, d1));
+        low = c.low;
+        matches = c.matches;
+      };
+      rises = omega (arith, waits, d0, d1);
+      live = c.number ∙ top;
+      left = c.left ∙ sym e;
+    })
+taking x A f (Gap n) b l is line one e top =
+    let r = f.connection.receiver in
+    let c = counted_line x.config.peer_flow f line one in
+    going x A f (counted f) acts.Nothing [] b l (record {
+      line = record { waits = next_counted r.next r.live r.again ∙ (ap (λ t. if t then r.next + 1 else r.next) ((passes r.next (receiver_is.number r) n).0 is) ∙ line.waits); low = c.low; matches = c.matches };
+      rises = omega arith;
+      live = c.number ∙ top;
+      left = c.left ∙ sym e;
+    })
+taking x A f (Repeat n) b l is line one e top =
+    let r = f.connection.receiver in
+    let c = counted_line x.config.peer_flow f line one in
+    going x A f (counted f) acts.Nothing [] b l (record {
+      line = record { waits = next_counted r.next r.live r.again ∙ (ap (λ t. if t then r.next + 1 else r.next) ((passes r.next (receiver_is.number r) n).1 is) ∙ line.waits); low = c.low; matches = c.matches };
+      rises = omega arith;
+      live = c.number ∙ top;
+      left = c.left ∙ sym e;
+    })
+
+-- the number of the next message is not above the limit
+number_low : (flow : Flow) (most live : ℕ) (again : Option ℕ) (next : ℕ) (q : Request) → Matches (record { next = next; live = live; again = again }) q → HasOne (to_come q)
+    → live_after flow (entry []) live (to_come q) ≤ most + 1 → unwrap_or again live ≤ most
+number_low flow most live None next requests.Nothing m one top = omega (arith, top)
+number_low flow most live None next (requests.Asked range) m one top = omega (arith, top)
+number_low flow most live None next (requests.Coming range n left) m one top = absurd (cc (m.0))
+number_low flow most live (Some k) next requests.Nothing m one top = absurd (cc m)
+number_low flow most live (Some k) next (requests.Asked range) m one top = absurd (cc (m.0))
+number_low flow most live (Some k) next (requests.Coming range n left) m one top = let same : k ≡ n = cc (m.0) in let h = m.1 in omega (arith, same, h, one, top)
+
+-- a recoverable flow has numbers
+pub sequenced_of : (flow : Flow) → is_recoverable flow ≡ true → is_sequenced flow ≡ true
+sequenced_of flow e = ap (λ b. b || is_idempotent flow) e
+
+-- what an announcement makes of a reader of a recoverable flow
+pub announced_is : (x : Around) (f : Facts) (next : Option ℕ) → is_recoverable x.config.peer_flow ≡ true
+    → announced x f next ≡ record { facts = receiving f (receiver_is.announced f.connection.receiver (unwrap_or next 0)); skipped = None }
+announced_is x f next rec = by_flow (is_recoverable x.config.peer_flow) (is_idempotent x.config.peer_flow) rec
+  where
+    chosen : (r i : Bool) → Announced
+    chosen r i = if r then record { facts = receiving f (receiver_is.announced f.connection.receiver (unwrap_or next 0)); skipped = None }
+        else if i then record { facts = awaiting f (unwrap_or next 0); skipped = jumped_over f.recorded.inbox_next (unwrap_or next 0) }
+        else record { facts = f; skipped = None }
+
+    by_flow : (r i : Bool) → r ≡ true → chosen r i ≡ record { facts = receiving f (receiver_is.announced f.connection.receiver (unwrap_or next 0)); skipped = None }
+    by_flow true i e = refl
+    by_flow false i e = absurd (true≢false (sym e))
+
+ended_matches : (r : Receiving) (q : Request) (n : ℕ) → Matches r q → r.live ≤ n → Matches (receiver_is.announced r n) (request_is.after_sequence q) × (to_come (request_is.after_sequence q) ≡ None)
+ended_matches r requests.Nothing n m h = (refl, refl)
+ended_matches r (requests.Asked range) n m h = let k = m.1 in ((refl, omega (arith, k, h)), refl)
+ended_matches r (requests.Coming range next left) n m h = (refl, refl)
+
+following : (x : Around) (A : Type 0) (f g : Facts) (next : ℕ) (a : Announced) (b : ℕ) (l : Option ℕ) → g.recorded.inbox_next ≡ f.recorded.inbox_next → Reaches a.facts f.recorded.inbox_next b l → Lined A f b l (sequence_follows x g next a)
+following x A f g next a b l same h =
+    by_row (Lined A f b l) (is_past_finish x g next) (breaks x g (AfterFinish (unwrap_or (peer_last g) 0) next)) (sequence_taken x a)
+    (λ _. ending x A f g 2 _ b l same tt)
+    (λ _. by_row (Lined A f b l) (is_filled a.facts) (answers_finish x a.facts (unwrap_or (awaits_gap a.facts.connection.peer_finish) 0)) (goes_on x (skip_of a.skipped) (told_skip a.skipped) a.facts)
+    (λ _. going x A f (peer_finished a.facts (peer.Exchanged (unwrap_or (awaits_gap a.facts.connection.peer_finish) 0)) (Some (unwrap_or a.facts.recorded.peer_last (unwrap_or (awaits_gap a.facts.connection.peer_finish) 0)))) _ (finished_receiving x.config.session ∷ []) b l
+    (same_receiver a.facts _ f.recorded.inbox_next b l refl refl refl h))
+    (λ _. going x A f a.facts (skip_of a.skipped) (told_skip a.skipped) b l h))
+
+-- nothing of it moves
+abbrev Stays : Type 0 → Facts → Outcome → Type 0
+Stays A f o = Lined A f f.connection.receiver.live (to_come f.connection.requester) o
+
+here : (f : Facts) → Line f → Reaches f f.recorded.inbox_next f.connection.receiver.live (to_come f.connection.requester)
+here f line = record { line = line; rises = omega arith; live = refl; left = refl }
+
+passing : (x : Around) (A : Type 0) (f g : Facts) (act : Act) (written : List Message) → Line f → g.connection.receiver ≡ f.connection.receiver → g.connection.requester ≡ f.connection.requester
+    → g.recorded.inbox_next ≡ f.recorded.inbox_next → Stays A f (goes_on x act written g)
+passing x A f g act written line r q n =
+    going x A f g act written f.connection.receiver.live (to_come f.connection.requester) (same_receiver f g f.recorded.inbox_next f.connection.receiver.live (to_come f.connection.requester) r q n (here f line))
+
+message_lined : (x : Around) (f : Facts) (payload : List ℕ) → Before x f (entry payload) → Decides (After x f (entry payload)) (application_rows x f)
+message_lined x f payload k =
+    let b : ℕ = live_after x.config.peer_flow (entry payload) f.connection.receiver.live (to_come f.connection.requester) in
+    let l : Option ℕ = left_after (entry payload) (to_come f.connection.requester) in (
+      λ _. ending x ⊤ f f 2 _ b l refl tt,
+      λ _. (
+        λ _. ending x ⊤ f f 2 _ b l refl tt,
+        λ _. (
+          λ large. absurd (true≢false (sym large ∙ not_less x.most (message_number x f) low)),
+          λ _. (
+            λ other. absurd (true≢false (sym other ∙ ap not k.recoverable)),
+            λ _. (
+              λ some. absurd (has_one f.connection.requester k.fits some),
+              λ _. (λ _. taking x ⊤ f (receiver_is.seen f.connection.receiver) b l refl k.line k.fits refl refl, λ e. absurd (true≢false e)),
+            ),
+          ),
+        ),
+      ),
+    )
+  where
+    low : message_number x f ≤ x.most
+    low = subst (λ (r : Bool). (if r then receiver_is.number f.connection.receiver else f.recorded.inbox_next) ≤ x.most) (sym k.recoverable)
+        (number_low x.config.peer_flow x.most f.connection.receiver.live f.connection.receiver.again f.connection.receiver.next f.connection.requester k.line.matches k.fits k.top)
+
+-- a Sequence of a flow with numbers
+told : (flow : Flow) (next b : ℕ) → is_sequenced flow ≡ true → live_after flow (said (sequence next)) b None ≡ next
+told flow next b e = ap (λ t. unwrap_or (if t then Some next else None) b) e
+
+told_low : (flow : Flow) (next b : ℕ) → is_sequenced flow ≡ true → IfSome (announces flow (said (sequence next))) (λ n. b ≤ n) → b ≤ next
+told_low flow next b e h = subst (λ (t : Bool). IfSome (if t then Some next else None) (λ n. b ≤ n)) e h
+
+sequence_lined : (x : Around) (f : Facts) (next : ℕ) → Before x f (said (sequence next)) → Decides (After x f (said (sequence next))) (sequence_rows x f next)
+sequence_lined x f next k = subst (λ (b : ℕ). Decides (Lined ⊤ f b None) (sequence_rows x f next)) (sym is_told) (
+  λ some. absurd (is_whole f.connection.requester k.fits.1 some),
+  λ _. (
+    λ some. refusing x ⊤ f g (announcement_fault x g 7 (Some next)) next None refl some
+        (number_fault ⊤ x g 7 (Some next) (λ _ _. (not_less (x.most + 1) next (let t = is_told in let top = k.top in omega (arith, t, top)), not_less next (expected_number x g) high))),
+    λ _. (λ _. following x ⊤ f g next (announced x g (Some next)) next None refl reached, λ e. absurd (true≢false e)),
+  ),
+)
+  where
+    g : Facts
+    g = requesting f (request_is.after_sequence f.connection.requester)
+
+    is_told : live_after x.config.peer_flow (said (sequence next)) f.connection.receiver.live (to_come f.connection.requester) ≡ next
+    is_told = told x.config.peer_flow next f.connection.receiver.live (sequenced_of x.config.peer_flow k.recoverable)
+
+    enough : f.connection.receiver.live ≤ next
+    enough = told_low x.config.peer_flow next f.connection.receiver.live (sequenced_of x.config.peer_flow k.recoverable) k.fits.0
+
+    high : expected_number x g ≤ next
+    high = subst (λ (r : Bool). (if r then receiver_is.expected f.connection.receiver else f.recorded.inbox_next) ≤ next) (sym k.recoverable)
+        (let low = k.line.low in let fits = enough in omega (arith, low, fits))
+
+    reached : Reaches (announced x g (Some next)).facts f.recorded.inbox_next next None
+    reached =
+        let m = ended_matches f.connection.receiver f.connection.requester next k.line.matches enough in
+        let low = k.line.low in
+        let fits = enough in
+        subst (λ (a : Announced). Reaches a.facts f.recorded.inbox_next next None) (sym (announced_is x g (Some next) k.recoverable))
+        (record { line = record { waits = k.line.waits; low = omega (arith, low, fits); matches = m.0 }; rises = omega arith; live = refl; left = m.1 })
+
+-- a Retransmission that answers the request
+begins : (r : Receiving) (q : Request) (next count : ℕ) → to_come q ≡ None → Matches r q → is_some (request_is.start_fault (request_is.outstanding q) next count) ≡ false
+    → Matches (receiver_is.retransmitted r next) (request_is.started q next count) × (to_come (request_is.started q next count) ≡ Some count)
+begins r requests.Nothing next count none m e = absurd (true≢false e)
+begins r (requests.Asked range) next count none m e =
+    let t = tests (next == range.from) (count == 0 || nat_lt range.count count) e in
+    let same = eqb-true next range.from t.0 in
+    let few = ltb-false range.count count (or_right (count == 0) (nat_lt range.count count) t.1) in
+    let h = m.1 in
+    ((refl, omega (arith, same, few, h)), refl)
+  where
+    tests : (a b : Bool) → is_some {T = BadStart} (if not a then Some (record { expected = range.from; found = next }) else if b then Some (record { expected = range.count; found = count }) else None) ≡ false
+        → (a ≡ true) × (b ≡ false)
+    tests true false e = (refl, refl)
+    tests true true e = absurd (true≢false e)
+    tests false b e = absurd (true≢false e)
+
+    or_right : (a b : Bool) → (a || b) ≡ false → b ≡ false
+    or_right true b e = absurd (true≢false e)
+    or_right false b e = e
+begins r (requests.Coming range n left) next count none m e = absurd (cc none)
+
+-- it does
+no_fault : (q : Request) (next count : ℕ) → (q ≡ requests.Asked (record { from = next; count = count })) × (1 ≤ count) → is_some (request_is.start_fault (request_is.outstanding q) next count) ≡ false
+no_fault q next count a = ap (λ (r : Request). is_some (request_is.start_fault (request_is.outstanding r) next count)) a.0
+    ∙ (ap (λ b. is_some {T = BadStart} (if not b then Some (record { expected = next; found = next }) else if count == 0 || nat_lt count count then Some (record { expected = count; found = count }) else None)) (eq-eqb next next refl)
+    ∙ ap (λ b. is_some {T = BadStart} (if b then Some (record { expected = count; found = count }) else None)) (some_of_it count a.1))
+  where
+    some_of_it : (n : ℕ) → 1 ≤ n → (n == 0 || nat_lt n n) ≡ false
+    some_of_it n h = grind (arith, nat_tests)
+
+restart_lined : (x : Around) (f : Facts) (id : List ℕ) (next timestamp count : ℕ) → Before x f (said (retransmission id next timestamp count))
+    → Decides (After x f (said (retransmission id next timestamp count))) (retransmission_rows x f next count)
+restart_lined x f id next timestamp count k =
+    let A = Answers f.connection.requester (said (retransmission id next timestamp count)) in (
+      λ some. bad x A f (request_is.start_fault (request_is.outstanding f.connection.requester) next count) f.connection.receiver.live (Some count) some
+          (λ a. true≢false (sym some ∙ no_fault f.connection.requester next count a)),
+      λ fits. (
+        λ _. let m = begins f.connection.receiver f.connection.requester next count k.fits.1 k.line.matches fits in
+            going x A f (restarted f next count) acts.Nothing [] f.connection.receiver.live (Some count)
+            (record { line = record { waits = k.line.waits; low = k.line.low; matches = m.0 }; rises = omega arith; live = refl; left = m.1 }),
+        λ e. absurd (true≢false e),
+      ),
+    )
+
+requested : (x : Around) (f : Facts) (id : List ℕ) (timestamp : ℕ) (r : Result Range RetransmitCode) → Line f → Stays ⊤ f (request_answered x f id timestamp r)
+requested x f id timestamp (Ok range) line = passing x ⊤ f (serves f (Some range)) acts.Nothing (retransmission x.config.session range.from timestamp range.count ∷ []) line refl refl refl
+requested x f id timestamp (Err code) line = record { fine = no_violation ⊤; next = λ _. here f line; over = λ some. not_over {A = Ending} None refl some }
+
+finishing : (x : Around) (f : Facts) (n : ℕ) → Line f → Stays ⊤ f (finished x f n)
+finishing x f n line = by_row (Stays ⊤ f) (is_some (receiver_is.gap f.connection.receiver)) (accepts x [] (peer_finished f (peer.Read n) f.recorded.peer_last)) (answers_finish x f n)
+    (λ _. passing x ⊤ f (peer_finished f (peer.Read n) f.recorded.peer_last) acts.Nothing [] line refl refl refl)
+    (λ _. passing x ⊤ f (peer_finished f (peer.Exchanged n) (Some (unwrap_or f.recorded.peer_last n))) _ (finished_receiving x.config.session ∷ []) line refl refl refl)
+
+stopping : (x : Around) (A : Type 0) (f : Facts) (code : ℕ) (v : Violation) → NotNumber A v → Stays A f (ends x f code (endings.Violation v))
+stopping x A f code v h = ending x A f f code v f.connection.receiver.live (to_come f.connection.requester) refl h
+
+-- the reply in Established of a reader of a recoverable flow
+pub recoverable_reply : (x : Around) (f : Facts) (theirs : EndConfig) (p : Piece) → Peer x.config theirs → is_established f.connection.phase ≡ true → IsFlowing theirs p → Before x f p → After x f p (answer_of x f (incoming_of p))
+recoverable_reply x f theirs (entry payload) are now flows k =
+    heard (After x f (entry payload)) x f (application payload) (decides_within (After x f (entry payload)) (is_established f.connection.phase) (application_rows x f) now (message_lined x f payload k))
+recoverable_reply x f theirs (said (negotiate id timestamp flow credentials)) are now flows k = absurd flows
+recoverable_reply x f theirs (said (negotiation_response id timestamp flow credentials)) are now flows k = absurd flows
+recoverable_reply x f theirs (said (negotiation_reject id timestamp code reason)) are now flows k = absurd flows
+recoverable_reply x f theirs (said (establish id timestamp keepalive next credentials)) are now flows k = absurd flows
+recoverable_reply x f theirs (said (establishment_ack id timestamp keepalive next)) are now flows k = absurd flows
+recoverable_reply x f theirs (said (establishment_reject id timestamp code reason)) are now flows k = absurd flows
+recoverable_reply x f theirs (said (sequence next)) are now flows k =
+    heard (After x f (said (sequence next))) x f (session (sequence next)) (decides_within (After x f (said (sequence next))) (is_established f.connection.phase) (sequence_rows x f next) now (sequence_lined x f next k))
+recoverable_reply x f theirs (said unsequenced_heartbeat) are now flows k = passing x ⊤ f f acts.Nothing [] k.line refl refl refl
+recoverable_reply x f theirs (said (retransmit_request id timestamp first count)) are now flows k =
+    heard (Stays ⊤ f) x f (session (retransmit_request id timestamp first count)) (decides_within (Stays ⊤ f) (is_established f.connection.phase) (retransmit_request_rows x f id timestamp first count) now (
+      λ _. stopping x ⊤ f 4 _ tt,
+      λ _. (λ _. requested x f id timestamp (judged (is_own x id) (is_recoverable x.config.own_flow) first count f.recorded.sent) k.line, λ e. absurd (true≢false e)),
+    ))
+recoverable_reply x f theirs (said (retransmission id next timestamp count)) are now flows k =
+    let P = After x f (said (retransmission id next timestamp count)) in
+    heard P x f (session (retransmission id next timestamp count)) (
+      foreign x id (flows ∙ are.session),
+      λ _.
+          decides_within P (is_established f.connection.phase) (retransmission_rows x f next count) now (restart_lined x f id next timestamp count k),
+    )
+recoverable_reply x f theirs (said (retransmit_reject id timestamp code reason)) are now flows k =
+    heard (Stays ⊥ f) x f (session (retransmit_reject id timestamp code reason)) (
+      foreign x id (flows ∙ are.session),
+      λ _.
+          decides_within (Stays ⊥ f) (is_established f.connection.phase) (retransmit_reject_rows x f) now (λ _. stopping x ⊥ f 2 _ (λ wrong. wrong), λ e. absurd (true≢false e)),
+    )
+recoverable_reply x f theirs (said (applied first count)) are now flows k = passing x ⊤ f f acts.Nothing [] k.line refl refl refl
+recoverable_reply x f theirs (said (not_applied first count)) are now flows k =
+    by_row (Stays ⊤ f) (is_idempotent x.config.own_flow) (goes_on x (acts.Told first count) [] f) (accepts x [] f)
+    (λ _. passing x ⊤ f f (acts.Told first count) [] k.line refl refl refl) (λ _. passing x ⊤ f f acts.Nothing [] k.line refl refl refl)
+recoverable_reply x f theirs (said (finished_sending id last)) are now flows k =
+    heard (Stays ⊤ f) x f (session (finished_sending id last)) (
+      foreign x id (flows.0 ∙ are.session),
+      λ _.
+          decides_within (Stays ⊤ f) (is_established f.connection.phase) (finished_sending_rows x f last) now (
+            λ some. refusing x ⊤ f f (finish_fault x f last) f.connection.receiver.live (to_come f.connection.requester) refl some (finish_fine ⊤ x f last),
+            λ _. (λ _. finishing x f (finished_last x last) k.line, λ e. absurd (true≢false e)),
+          ),
+    )
+recoverable_reply x f theirs (said (finished_receiving id)) are now flows k =
+    all_rows (Stays ⊤ f) (not_in_phase x f 15) (rows_of x f (session (finished_receiving id))) (stopping x ⊤ f 2 _ tt)
+    (foreign x id (flows ∙ are.session), λ _. all_within (Stays ⊤ f) (is_established f.connection.phase) (finished_receiving_rows x f) (λ _. (λ _. passing x ⊤ f (own_finishing f own.Exchanged) acts.Nothing [] k.line refl refl refl, λ _. tt)))
+recoverable_reply x f theirs (said (terminate id code reason)) are now flows k =
+    heard (Stays ⊤ f) x f (session (terminate id code reason)) (
+      foreign x id (flows ∙ are.session),
+      λ _.
+          (λ _. record { fine = λ w same. terminated_fine ⊤ (finishes_exchanged x f) code w same; next = λ none. absurd cc; over = λ _. refl }, λ e. absurd (true≢false e)),
+    )
+
+pub rests : (x : Around) (A : Type 0) (f g : Facts) (act : Act) (written : List Message) (b : ℕ) → Rests g b → Other A f b (goes_on x act written g)
+rests x A f g act written b h = record {
+  fine = no_violation A;
+  next = λ _. subst (λ (r : Option Range). Rests (having_asked g r) b) (sym (asks_none g h.idle.even)) h;
+  over = λ some. not_over {A = Ending} None refl some;
+}
+
+stops : (x : Around) (A : Type 0) (f g : Facts) (code : ℕ) (v : Violation) (b : ℕ) → g.recorded.inbox_next ≡ f.recorded.inbox_next → NotNumber A v → Other A f b (ends x g code (endings.Violation v))
+stops x A f g code v b same h = record { fine = λ w e. ended_by (NotNumber A) (finishes_exchanged x g) v w e h; next = λ none. absurd cc; over = λ _. same }
+
+refusing_other : (x : Around) (A : Type 0) (f g : Facts) (v : Option Violation) (b : ℕ) → g.recorded.inbox_next ≡ f.recorded.inbox_next → is_some v ≡ true → ((w : Violation) → v ≡ Some w → NotNumber A w)
+    → Other A f b (refuses x g v)
+refusing_other x A f g None b same some h = absurd (true≢false (sym some))
+refusing_other x A f g (Some v) b same some h = stops x A f g 2 v b same (h v refl)
+
+-- nothing of it moves
+abbrev StaysOther : Type 0 → Facts → Outcome → Type 0
+StaysOther A f o = Other A f f.recorded.inbox_next o
+
+rest : (f : Facts) → Idle f → Rests f f.recorded.inbox_next
+rest f idle = record { idle = idle; next = refl }
+
+message_rests : (x : Around) (f : Facts) (payload : List ℕ) → BeforeOther x f (entry payload) → Decides (Other ⊤ f (f.recorded.inbox_next + 1)) (application_rows x f)
+message_rests x f payload k =
+    let b : ℕ = f.recorded.inbox_next + 1 in (
+      λ _. stops x ⊤ f f 2 _ b refl tt,
+      λ _. (
+        λ _. stops x ⊤ f f 2 _ b refl tt,
+        λ _. (
+          λ large. absurd (true≢false (sym large ∙ not_less x.most (message_number x f) low)),
+          λ _. (
+            λ _. rests x ⊤ f (awaiting f (f.recorded.inbox_next + 1)) (acts.Apply f.recorded.inbox_next) [] b (record { idle = record { even = k.idle.even; none = k.idle.none }; next = refl }),
+            λ rec. absurd (true≢false (sym (ap not k.other) ∙ rec)),
+          ),
+        ),
+      ),
+    )
+  where
+    low : message_number x f ≤ x.most
+    low = subst (λ (r : Bool). (if r then receiver_is.number f.connection.receiver else f.recorded.inbox_next) ≤ x.most) (sym k.other) (let top = k.top in omega (arith, top))
+
+following_other : (x : Around) (A : Type 0) (f g : Facts) (next : ℕ) (a : Announced) (b : ℕ) → g.recorded.inbox_next ≡ f.recorded.inbox_next → Rests a.facts b → Other A f b (sequence_follows x g next a)
+following_other x A f g next a b same h =
+    by_row (Other A f b) (is_past_finish x g next) (breaks x g (AfterFinish (unwrap_or (peer_last g) 0) next)) (sequence_taken x a)
+    (λ _. stops x A f g 2 _ b same tt)
+    (λ _. by_row (Other A f b) (is_filled a.facts) (answers_finish x a.facts (unwrap_or (awaits_gap a.facts.connection.peer_finish) 0)) (goes_on x (skip_of a.skipped) (told_skip a.skipped) a.facts)
+    (λ _. rests x A f (peer_finished a.facts (peer.Exchanged (unwrap_or (awaits_gap a.facts.connection.peer_finish) 0)) (Some (unwrap_or a.facts.recorded.peer_last (unwrap_or (awaits_gap a.facts.connection.peer_finish) 0)))) _ (finished_receiving x.config.session ∷ []) b
+    (record { idle = record { even = h.idle.even; none = h.idle.none }; next = h.next }))
+    (λ _. rests x A f a.facts (skip_of a.skipped) (told_skip a.skipped) b h))
+
+-- what an announcement makes of a reader of a flow that is not recoverable: an idempotent one awaits the number, and another what it did
+pub announced_rests : (x : Around) (g : Facts) (next : Option ℕ) (b : ℕ) → is_recoverable x.config.peer_flow ≡ false → Idle g → (is_idempotent x.config.peer_flow ≡ false → g.recorded.inbox_next ≡ b)
+    → (is_idempotent x.config.peer_flow ≡ true → unwrap_or next 0 ≡ b) → Rests (announced x g next).facts b
+announced_rests x g next b other idle stays moves = by_flow (is_recoverable x.config.peer_flow) (is_idempotent x.config.peer_flow) other stays moves
+  where
+    chosen : (r i : Bool) → Announced
+    chosen r i = if r then record { facts = receiving g (receiver_is.announced g.connection.receiver (unwrap_or next 0)); skipped = None }
+        else if i then record { facts = awaiting g (unwrap_or next 0); skipped = jumped_over g.recorded.inbox_next (unwrap_or next 0) }
+        else record { facts = g; skipped = None }
+
+    by_flow : (r i : Bool) → r ≡ false → (i ≡ false → g.recorded.inbox_next ≡ b) → (i ≡ true → unwrap_or next 0 ≡ b) → Rests (chosen r i).facts b
+    by_flow true i e stays moves = absurd (true≢false e)
+    by_flow false true e stays moves = record { idle = record { even = idle.even; none = idle.none }; next = moves refl }
+    by_flow false false e stays moves = record { idle = idle; next = stays refl }
+
+-- a flow that is not recoverable has numbers where it is idempotent
+pub other_sequenced : (flow : Flow) (b : Bool) → is_recoverable flow ≡ false → is_idempotent flow ≡ b → is_sequenced flow ≡ b
+other_sequenced flow b r i = ap (λ t. t || is_idempotent flow) r ∙ i
+
+sequence_rests : (x : Around) (f : Facts) (next : ℕ) → BeforeOther x f (said (sequence next)) → Decides (AfterOther x f (said (sequence next))) (sequence_rows x f next)
+sequence_rests x f next k = (
+  λ some. absurd (is_whole f.connection.requester (subst (λ (q : Request). IsWhole (to_come q)) (sym k.idle.none) tt) some),
+  λ _. (
+    λ some. refusing_other x ⊤ f g (announcement_fault x g 7 (Some next)) b refl some
+        (number_fault ⊤ x g 7 (Some next) (λ numbered _. (not_less (x.most + 1) next (low numbered), not_less next (expected_number x g) (high numbered)))),
+    λ _. (λ _. following_other x ⊤ f g next (announced x g (Some next)) b refl (announced_rests x g (Some next) b k.other idle stays moves), λ e. absurd (true≢false e)),
+  ),
+)
+  where
+    flow : Flow
+    flow = x.config.peer_flow
+
+    g : Facts
+    g = requesting f (request_is.after_sequence f.connection.requester)
+
+    b : ℕ
+    b = live_after x.config.peer_flow (said (sequence next)) f.recorded.inbox_next None
+
+    idle : Idle g
+    idle = record { even = k.idle.even; none = ap (λ q. request_is.after_sequence q) k.idle.none }
+
+    stays : is_idempotent flow ≡ false → f.recorded.inbox_next ≡ b
+    stays e = sym (ap (λ t. unwrap_or (if t then Some next else None) f.recorded.inbox_next) (other_sequenced flow false k.other e))
+
+    moves : is_idempotent flow ≡ true → next ≡ b
+    moves e = sym (told flow next f.recorded.inbox_next (other_sequenced flow true k.other e))
+
+    low : is_sequenced flow ≡ true → next ≤ x.most + 1
+    low numbered = let t = told flow next f.recorded.inbox_next numbered in let top = k.top in omega (arith, t, top)
+
+    high : is_sequenced flow ≡ true → expected_number x g ≤ next
+    high numbered = subst (λ (r : Bool). (if r then receiver_is.expected f.connection.receiver else f.recorded.inbox_next) ≤ next) (sym k.other) (told_low flow next f.recorded.inbox_next numbered k.fits.0)
+
+passing_other : (x : Around) (A : Type 0) (f g : Facts) (act : Act) (written : List Message) → Idle f → g.connection.receiver ≡ f.connection.receiver → g.connection.requester ≡ f.connection.requester
+    → g.recorded.inbox_next ≡ f.recorded.inbox_next → StaysOther A f (goes_on x act written g)
+passing_other x A f g act written idle r q n = rests x A f g act written f.recorded.inbox_next
+    (record { idle = record { even = ap (λ k. receiver_is.gap k) r ∙ idle.even; none = q ∙ idle.none }; next = n })
+
+requested_other : (x : Around) (f : Facts) (id : List ℕ) (timestamp : ℕ) (r : Result Range RetransmitCode) → Idle f → StaysOther ⊤ f (request_answered x f id timestamp r)
+requested_other x f id timestamp (Ok range) idle = passing_other x ⊤ f (serves f (Some range)) acts.Nothing (retransmission x.config.session range.from timestamp range.count ∷ []) idle refl refl refl
+requested_other x f id timestamp (Err code) idle = record { fine = no_violation ⊤; next = λ _. rest f idle; over = λ some. not_over {A = Ending} None refl some }
+
+finishing_other : (x : Around) (f : Facts) (n : ℕ) → Idle f → StaysOther ⊤ f (finished x f n)
+finishing_other x f n idle = by_row (StaysOther ⊤ f) (is_some (receiver_is.gap f.connection.receiver)) (accepts x [] (peer_finished f (peer.Read n) f.recorded.peer_last)) (answers_finish x f n)
+    (λ _. passing_other x ⊤ f (peer_finished f (peer.Read n) f.recorded.peer_last) acts.Nothing [] idle refl refl refl)
+    (λ _. passing_other x ⊤ f (peer_finished f (peer.Exchanged n) (Some (unwrap_or f.recorded.peer_last n))) _ (finished_receiving x.config.session ∷ []) idle refl refl refl)
+
+never_starts : (q : Request) (next count : ℕ) → q ≡ requests.Nothing → is_some (request_is.start_fault (request_is.outstanding q) next count) ≡ true
+never_starts q next count e = ap (λ k. is_some (request_is.start_fault (request_is.outstanding k) next count)) e
+
+bad_other : (x : Around) (A : Type 0) (f : Facts) (k : Option BadStart) (b : ℕ) → is_some k ≡ true → (A → ⊥) → Other A f b (bad_retransmission x f k)
+bad_other x A f None b some wrong = absurd (true≢false (sym some))
+bad_other x A f (Some k) b some wrong = stops x A f f 2 _ b refl wrong
+
+nothing_asked : (q : Request) (r : Range) → q ≡ requests.Nothing → q ≡ requests.Asked r → ⊥
+nothing_asked q r e k = cc (e, k)
+
+stopping_other : (x : Around) (A : Type 0) (f : Facts) (code : ℕ) (v : Violation) → NotNumber A v → StaysOther A f (ends x f code (endings.Violation v))
+stopping_other x A f code v h = stops x A f f code v f.recorded.inbox_next refl h
+
+-- the reply in Established of a reader of a flow that is not recoverable
+pub other_reply : (x : Around) (f : Facts) (theirs : EndConfig) (p : Piece) → Peer x.config theirs → is_established f.connection.phase ≡ true → IsFlowing theirs p → BeforeOther x f p
+    → AfterOther x f p (answer_of x f (incoming_of p))
+other_reply x f theirs (entry payload) are now flows k =
+    let P = Other ⊤ f (f.recorded.inbox_next + 1) in
+    heard P x f (application payload) (decides_within P (is_established f.connection.phase) (application_rows x f) now (message_rests x f payload k))
+other_reply x f theirs (said (negotiate id timestamp flow credentials)) are now flows k = absurd flows
+other_reply x f theirs (said (negotiation_response id timestamp flow credentials)) are now flows k = absurd flows
+other_reply x f theirs (said (negotiation_reject id timestamp code reason)) are now flows k = absurd flows
+other_reply x f theirs (said (establish id timestamp keepalive next credentials)) are now flows k = absurd flows
+other_reply x f theirs (said (establishment_ack id timestamp keepalive next)) are now flows k = absurd flows
+other_reply x f theirs (said (establishment_reject id timestamp code reason)) are now flows k = absurd flows
+other_reply x f theirs (said (sequence next)) are now flows k =
+    let P = AfterOther x f (said (sequence next)) in
+    heard P x f (session (sequence next)) (decides_within P (is_established f.connection.phase) (sequence_rows x f next) now (sequence_rests x f next k))
+other_reply x f theirs (said unsequenced_heartbeat) are now flows k = passing_other x ⊤ f f acts.Nothing [] k.idle refl refl refl
+other_reply x f theirs (said (retransmit_request id timestamp first count)) are now flows k =
+    heard (StaysOther ⊤ f) x f (session (retransmit_request id timestamp first count)) (decides_within (StaysOther ⊤ f) (is_established f.connection.phase) (retransmit_request_rows x f id timestamp first count) now (
+      λ _. stopping_other x ⊤ f 4 _ tt,
+      λ _. (λ _. requested_other x f id timestamp (judged (is_own x id) (is_recoverable x.config.own_flow) first count f.recorded.sent) k.idle, λ e. absurd (true≢false e)),
+    ))
+other_reply x f theirs (said (retransmission id next timestamp count)) are now flows k =
+    let A = Answers f.connection.requester (said (retransmission id next timestamp count)) in
+    heard (StaysOther A f) x f (session (retransmission id next timestamp count)) (
+      foreign x id (flows ∙ are.session),
+      λ _.
+          decides_within (StaysOther A f) (is_established f.connection.phase) (retransmission_rows x f next count) now (
+            λ some. bad_other x A f (request_is.start_fault (request_is.outstanding f.connection.requester) next count) f.recorded.inbox_next some (λ a. nothing_asked f.connection.requester _ k.idle.none a.0),
+            λ fits. absurd (true≢false (sym (never_starts f.connection.requester next count k.idle.none) ∙ fits)),
+          ),
+    )
+other_reply x f theirs (said (retransmit_reject id timestamp code reason)) are now flows k =
+    heard (StaysOther ⊥ f) x f (session (retransmit_reject id timestamp code reason)) (
+      foreign x id (flows ∙ are.session),
+      λ _.
+          decides_within (StaysOther ⊥ f) (is_established f.connection.phase) (retransmit_reject_rows x f) now (λ _. stopping_other x ⊥ f 2 _ (λ wrong. wrong), λ e. absurd (true≢false e)),
+    )
+other_reply x f theirs (said (applied first count)) are now flows k = passing_other x ⊤ f f acts.Nothing [] k.idle refl refl refl
+other_reply x f theirs (said (not_applied first count)) are now flows k =
+    by_row (StaysOther ⊤ f) (is_idempotent x.config.own_flow) (goes_on x (acts.Told first count) [] f) (accepts x [] f)
+    (λ _. passing_other x ⊤ f f (acts.Told first count) [] k.idle refl refl refl) (λ _. passing_other x ⊤ f f acts.Nothing [] k.idle refl refl refl)
+other_reply x f theirs (said (finished_sending id last)) are now flows k =
+    heard (StaysOther ⊤ f) x f (session (finished_sending id last)) (
+      foreign x id (flows.0 ∙ are.session),
+      λ _.
+          decides_within (StaysOther ⊤ f) (is_established f.connection.phase) (finished_sending_rows x f last) now (
+            λ some. refusing_other x ⊤ f f (finish_fault x f last) f.recorded.inbox_next refl some (finish_fine ⊤ x f last),
+            λ _. (λ _. finishing_other x f (finished_last x last) k.idle, λ e. absurd (true≢false e)),
+          ),
+    )
+other_reply x f theirs (said (finished_receiving id)) are now flows k =
+    all_rows (StaysOther ⊤ f) (not_in_phase x f 15) (rows_of x f (session (finished_receiving id))) (stopping_other x ⊤ f 2 _ tt)
+    (foreign x id (flows ∙ are.session), λ _. all_within (StaysOther ⊤ f) (is_established f.connection.phase) (finished_receiving_rows x f) (λ _. (λ _. passing_other x ⊤ f (own_finishing f own.Exchanged) acts.Nothing [] k.idle refl refl refl, λ _. tt)))
+other_reply x f theirs (said (terminate id code reason)) are now flows k =
+    heard (StaysOther ⊤ f) x f (session (terminate id code reason)) (
+      foreign x id (flows ∙ are.session),
+      λ _.
+          (λ _. record { fine = λ w same. terminated_fine ⊤ (finishes_exchanged x f) code w same; next = λ none. absurd cc; over = λ _. refl }, λ e. absurd (true≢false e)),
+    )

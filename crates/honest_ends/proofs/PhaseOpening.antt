@@ -1,0 +1,272 @@
+-- What an end replies before the handshake is done, to a peer that keeps to the rules.
+use Rattle.std.proofs.Common.{◌≡◌, inl, inr, ℕ, ◌+◌, ◌≤◌, ◌==◌, ◌&&◌, ◌||◌, min, max, nat_lt, not, Bool, true, false, if◌then◌else◌, List, [], ◌∷◌, Option, Some, None, refl, sym, ap, subst, ◌∙◌, arith, true≢false, eq-eqb}
+use Rattle.std.specs.Prelude.{is_some, is_none, IsSome}
+use Rattle.std.specs.List.{AllByRecursion}
+use Rattle.std.specs.Str.{bytes_eq}
+use Rattle.std.proofs.lemmas.Bool.Decides.{nat_tests}
+use Rattle.fixp_msgs.specs.declared.numbering.Range.{Range}
+use Rattle.fixp_msgs.specs.Flow.{flow_code}
+use Rattle.fixp_msgs.specs.Message.{Message, negotiate, negotiation_response, negotiation_reject, establish, establishment_ack, establishment_reject, sequence, unsequenced_heartbeat, retransmit_request, retransmission, retransmit_reject, applied, not_applied, finished_sending, finished_receiving, terminate}
+use Rattle.flow_recover.specs.Receiving as receiver_is
+use Rattle.flow_retrans.specs.Requests as request_is
+use Rattle.fixp_shake.specs.declared.config.EndConfig.{EndConfig}
+use Rattle.fixp_shake.specs.declared.phase.Phase.{Phase}
+use Rattle.fixp_shake.specs.declared.phase.Phase.TheVariants as phases
+use Rattle.fixp_shake.specs.declared.violation.Violation.{Violation}
+use Rattle.fixp_shake.specs.Flows.{is_idempotent, is_sequenced}
+use Rattle.fixp_shake.specs.Phases.{is_negotiating, is_establishing, is_closing, is_shaken}
+use Rattle.fixp_replies.specs.declared.act.Act.{Act}
+use Rattle.fixp_replies.specs.declared.act.Act.TheVariants as acts
+use Rattle.fixp_replies.specs.declared.facts.Facts.{Facts}
+use Rattle.fixp_replies.specs.Facts.{Around, is_own, in_phase, negotiated as as_negotiated, gap_to_ask, having_asked, finishes_exchanged}
+use Rattle.fixp_replies.specs.Incoming.{Incoming, session}
+use Rattle.fixp_replies.specs.Outcomes.{Outcome, Row, goes_on, accepts, ignores, request_for, skip_of, told_skip, opening_negotiate, opening_establish}
+use Rattle.fixp_replies.specs.Announcing.{Announced, announced, announcement_fault, refuses}
+use Rattle.fixp_replies.specs.Handshake.{awaits_client, established, acknowledges, negotiate_rows, establish_rows, shaken, negotiation_response_rows, negotiation_reject_rows, establishment_ack_rows, establishment_reject_rows}
+use Rattle.fixp_replies.specs.Replies.{reply_of, answer_of, terminates}
+use Rattle.fixp_machine.proofs.Rows.{by_row}
+use Rattle.connection_laws.specs.Writing.{Piece, said, entry, said_all}
+use Rattle.two_ends.specs.Reading.{incoming_of}
+use Rattle.honest_ends.specs.PhaseLaws.{IsLeft}
+use Rattle.honest_ends.proofs.Shapes.{IsFree, IsAsk, IsAnswer, IsAck, OneAtMost, AckFirst}
+use Rattle.honest_ends.proofs.Deciding.{Decides, decides_within, same_bytes, ended_by, never}
+use Rattle.honest_ends.proofs.Replying.{Left, asked_phase, asked_flows, skip_flows, none_left, terminated_left, fault_left, announced_decides, foreign, heard}
+use Rattle.honest_ends.specs.Numbers.{IsFlowing, Peer}
+
+-- before the handshake is done nothing is asked for or sent again
+pub record Quiet (f : Facts) : Type 0 where
+  pub even : receiver_is.gap f.connection.receiver ≡ None
+  pub free : f.connection.serving ≡ None
+
+pub asks_none : (f : Facts) → receiver_is.gap f.connection.receiver ≡ None → gap_to_ask f ≡ None
+asks_none f e = by_test (is_none (request_is.outstanding f.connection.requester))
+  where
+    by_test : (b : Bool) → (if b then receiver_is.gap f.connection.receiver else None) ≡ None
+    by_test true = e
+    by_test false = refl
+
+pub quiet_same : (f g : Facts) → g.connection ≡ f.connection → Quiet f → Quiet g
+quiet_same f g e q = record { even = ap (λ c. receiver_is.gap c.receiver) e ∙ q.even; free = ap (λ c. c.serving) e ∙ q.free }
+
+-- nothing of the connection changes, and no message is written that some phase would not take
+pub record Spares (cfg : EndConfig) (f : Facts) (o : Outcome) : Type 0 where
+  pub same : o.next ≡ f
+  pub writes : AllByRecursion (IsFree cfg) (said_all o.written)
+  pub ends : Left o
+
+sparing : (x : Around) (f : Facts) (act : Act) → receiver_is.gap f.connection.receiver ≡ None → Spares x.config f (goes_on x act [] f)
+sparing x f act e = record {
+  same = ap (λ (g : Option Range). having_asked f g) (asks_none f e);
+  writes = subst (λ (g : Option Range). AllByRecursion (IsFree x.config) (said_all (request_for x g))) (sym (asks_none f e)) tt;
+  ends = none_left;
+}
+
+answered_free : (x : Around) (f : Facts) (theirs : EndConfig) (p : Piece) → Peer x.config theirs → receiver_is.gap f.connection.receiver ≡ None → IsFree theirs p → Spares x.config f (answer_of x f (incoming_of p))
+answered_free x f theirs (entry payload) are even free = absurd free
+answered_free x f theirs (said (negotiate id timestamp flow credentials)) are even free = absurd free
+answered_free x f theirs (said (negotiation_response id timestamp flow credentials)) are even free = absurd free
+answered_free x f theirs (said (negotiation_reject id timestamp code reason)) are even free = absurd free
+answered_free x f theirs (said (establish id timestamp keepalive next credentials)) are even free = absurd free
+answered_free x f theirs (said (establishment_ack id timestamp keepalive next)) are even free = absurd free
+answered_free x f theirs (said (establishment_reject id timestamp code reason)) are even free = absurd free
+answered_free x f theirs (said (sequence next)) are even free = absurd free
+answered_free x f theirs (said unsequenced_heartbeat) are even free = sparing x f acts.Nothing even
+answered_free x f theirs (said (retransmit_request id timestamp first count)) are even free = absurd free
+answered_free x f theirs (said (retransmission id next timestamp count)) are even free = absurd free
+answered_free x f theirs (said (retransmit_reject id timestamp code reason)) are even free = absurd free
+answered_free x f theirs (said (applied first count)) are even free = sparing x f acts.Nothing even
+answered_free x f theirs (said (not_applied first count)) are even free =
+    by_row (Spares x.config f) (is_idempotent x.config.own_flow) (goes_on x (acts.Told first count) [] f) (accepts x [] f)
+    (λ _. sparing x f (acts.Told first count) even) (λ _. sparing x f acts.Nothing even)
+answered_free x f theirs (said (finished_sending id last)) are even free = absurd free
+answered_free x f theirs (said (finished_receiving id)) are even free = absurd free
+answered_free x f theirs (said (terminate id code reason)) are even free =
+    heard (Spares x.config f) x f (session (terminate id code reason)) (foreign x id (free ∙ are.session), λ _. (λ _. record { same = refl; writes = (refl, tt); ends = λ w same. terminated_left (finishes_exchanged x f) code w same }, λ e. absurd (true≢false e)))
+
+-- a free message, before the handshake is done
+pub free_reply : (x : Around) (f : Facts) (theirs : EndConfig) (p : Piece) → Peer x.config theirs → Quiet f → IsFree theirs p → Spares x.config f (reply_of x f (incoming_of p))
+free_reply x f theirs p are quiet free =
+    by_row (Spares x.config f) (is_closing f.connection.phase && not (terminates x (incoming_of p))) (ignores f) (answer_of x f (incoming_of p))
+    (λ _. record { same = refl; writes = tt; ends = none_left })
+    (λ _. answered_free x f theirs p are quiet.even free)
+
+-- before the handshake is done nothing is ignored
+open_before : (P : Outcome → Type 0) (x : Around) (f : Facts) (i : Incoming) → is_shaken f.connection.phase ≡ false → P (answer_of x f i) → P (reply_of x f i)
+open_before P x f i before h =
+    by_row P (is_closing f.connection.phase && not (terminates x i)) (ignores f) (answer_of x f i)
+    (λ e. absurd (closes f.connection.phase (not (terminates x i)) before e))
+    (λ _. h)
+  where
+    closes : (p : Phase) (b : Bool) → is_shaken p ≡ false → (is_closing p && b) ≡ true → ⊥
+    closes phases.Idle b s e = true≢false (sym e)
+    closes phases.Negotiating b s e = true≢false (sym e)
+    closes phases.Establishing b s e = true≢false (sym e)
+    closes phases.Established b s e = true≢false s
+    closes phases.Closing b s e = true≢false s
+    closes phases.Ended b s e = true≢false (sym e)
+
+pub number_given : (b : Bool) (n : ℕ) → b ≡ true → is_some (if b then Some n else None) ≡ true
+number_given true n e = refl
+number_given false n e = absurd (true≢false (sym e))
+
+-- what an acceptor makes of what an initiator asks for in this phase of its own: it answers, or it acknowledges
+pub data Asked (cfg : EndConfig) (ph : Phase) (f : Facts) (o : Outcome) : Type 0 where
+  answers : o.next.connection.phase ≡ f.connection.phase → Quiet o.next → OneAtMost cfg (IsAnswer cfg ph) (said_all o.written) → Left o → Asked cfg ph f o
+  acknowledged : ph ≡ phases.Establishing → o.next.connection.phase ≡ phases.Established → AckFirst cfg (said_all o.written) → Left o → Asked cfg ph f o
+
+-- the connection goes on, and this alone is written
+writes_alone : (x : Around) (g : Facts) (P : Piece → Type 0) (m : Message) → Quiet g → P (said m) → OneAtMost x.config P (said_all (m ∷ request_for x (gap_to_ask g)))
+writes_alone x g P m quiet h = subst (λ (r : Option Range). OneAtMost x.config P (said_all (m ∷ request_for x r))) (sym (asks_none g quiet.even)) (inl (h, tt))
+
+still_quiet : (g : Facts) → Quiet g → Quiet (having_asked g (gap_to_ask g))
+still_quiet g quiet = subst (λ (r : Option Range). Quiet (having_asked g r)) (sym (asks_none g quiet.even)) quiet
+
+-- where the handshake is answered by Establish and by Negotiate
+negotiate_asked : (x : Around) (f : Facts) (theirs : EndConfig) (id : List ℕ) (timestamp flow : ℕ) (credentials : List ℕ) → Peer x.config theirs → theirs.credentials ≡ x.config.credentials → Quiet f
+    → IsAsk theirs phases.Negotiating (said (negotiate id timestamp flow credentials)) → Decides (Asked x.config phases.Negotiating f) (negotiate_rows x f id timestamp flow credentials)
+negotiate_asked x f theirs id timestamp flow credentials are same quiet asks = (
+  λ n. never (is_own x id) (same_bytes id x.config.session (asks.0 ∙ are.session)) n,
+  λ _. (
+    λ n. never (bytes_eq credentials x.config.credentials) (same_bytes credentials x.config.credentials (asks.2 ∙ same)) n,
+    λ _. (
+      λ n. never (flow == flow_code x.config.peer_flow) (eq-eqb flow (flow_code x.config.peer_flow) (asks.1 ∙ ap (λ k. flow_code k) (sym are.flow))) n,
+      λ _. (
+        λ _. answers refl quiet (inl ((asks.0 ∙ are.session, refl), tt)) none_left,
+        λ _. (
+          λ _. answers (asked_phase g (gap_to_ask g)) (still_quiet g (record { even = quiet.even; free = quiet.free }))
+              (writes_alone x g (IsAnswer x.config phases.Negotiating) (negotiation_response x.config.session timestamp (flow_code x.config.own_flow) []) (record { even = quiet.even; free = quiet.free }) (refl, refl)) none_left,
+          λ e. absurd (true≢false e),
+        ),
+      ),
+    ),
+  ),
+)
+  where
+    g : Facts
+    g = as_negotiated f
+
+in_range : (k : ℕ) → 100 ≤ k → k ≤ 60000 → (nat_lt k 100 || nat_lt 60000 k) ≡ false
+in_range k low high = grind (arith, nat_tests)
+
+establish_asked : (x : Around) (f : Facts) (theirs : EndConfig) (id : List ℕ) (timestamp keepalive : ℕ) (next : Option ℕ) (credentials : List ℕ)
+    → Peer x.config theirs → theirs.credentials ≡ x.config.credentials → (100 ≤ theirs.keepalive) × (theirs.keepalive ≤ 60000) → Quiet f
+    → IsAsk theirs phases.Establishing (said (establish id timestamp keepalive next credentials)) → Decides (Asked x.config phases.Establishing f) (establish_rows x f id timestamp keepalive next credentials)
+establish_asked x f theirs id timestamp keepalive next credentials are same range quiet asks = (
+  λ _. answers refl quiet (inl ((asks.0 ∙ are.session, refl), tt)) none_left,
+  λ _. (
+    λ out. absurd (true≢false (sym out ∙ in_range keepalive (subst (λ (k : ℕ). 100 ≤ k) (sym asks.1) range.0) (subst (λ (k : ℕ). k ≤ 60000) (sym asks.1) range.1))),
+    λ _. (
+      λ n. never (bytes_eq credentials x.config.credentials) (same_bytes credentials x.config.credentials (asks.3 ∙ same)) n,
+      λ _. announced_decides (Asked x.config phases.Establishing f) x f 4 next (acknowledges x timestamp keepalive)
+          (λ some. refused (announcement_fault x f 4 next) (fault_left x f 4 next (λ n. asks.2 (ap (λ k. is_sequenced k) (sym are.flow) ∙ n))))
+          (acknowledging (announced x f next)),
+    ),
+  ),
+)
+  where
+    refused : (v : Option Violation) → ((w : Violation) → v ≡ Some w → IsLeft w) → Asked x.config phases.Establishing f (refuses x f v)
+    refused None h = answers refl quiet tt none_left
+    refused (Some v) h = answers refl quiet (inr (refl, tt)) (λ w e. ended_by IsLeft (finishes_exchanged x f) v w e (h v refl))
+
+    acknowledging : (a : Announced) → Asked x.config phases.Establishing f (acknowledges x timestamp keepalive a)
+    acknowledging a =
+        let g : Facts = established a.facts keepalive in
+        acknowledged refl (asked_phase g (gap_to_ask g))
+        (inl ((refl, λ n. number_given (is_sequenced x.config.own_flow) (a.facts.recorded.sent + 1) n), asked_flows x (told_skip a.skipped) (gap_to_ask g) (skip_flows x.config a.skipped)))
+        none_left
+
+decides_first : (P : Outcome → Type 0) (b : Bool) (first second : List Row) → b ≡ true → Decides P first → Decides P (if b then first else second)
+decides_first P true first second e d = d
+decides_first P false first second e d = absurd (true≢false (sym e))
+
+-- an acceptor that waits for its client reads what this asks for
+pub ask_reply : (x : Around) (f : Facts) (theirs : EndConfig) (ph : Phase) (p : Piece) → Peer x.config theirs → theirs.credentials ≡ x.config.credentials
+    → (100 ≤ theirs.keepalive) × (theirs.keepalive ≤ 60000) → awaits_client x f ≡ true → is_shaken f.connection.phase ≡ false → Quiet f → IsAsk theirs ph p → Asked x.config ph f (reply_of x f (incoming_of p))
+ask_reply x f theirs phases.Negotiating (said (negotiate id timestamp flow credentials)) are same range waits before quiet asks =
+    open_before (Asked x.config phases.Negotiating f) x f (session (negotiate id timestamp flow credentials)) before (heard (Asked x.config phases.Negotiating f) x f (session (negotiate id timestamp flow credentials))
+    (decides_within (Asked x.config phases.Negotiating f) (awaits_client x f) (negotiate_rows x f id timestamp flow credentials) waits (negotiate_asked x f theirs id timestamp flow credentials are same quiet asks)))
+ask_reply x f theirs phases.Establishing (said (establish id timestamp keepalive next credentials)) are same range waits before quiet asks =
+    open_before (Asked x.config phases.Establishing f) x f (session (establish id timestamp keepalive next credentials)) before (heard (Asked x.config phases.Establishing f) x f (session (establish id timestamp keepalive next credentials))
+    (decides_first (Asked x.config phases.Establishing f) (awaits_client x f) (establish_rows x f id timestamp keepalive next credentials) _ waits
+    (establish_asked x f theirs id timestamp keepalive next credentials are same range quiet asks)))
+ask_reply x f theirs _ _ are same range waits before quiet asks = absurd asks
+
+-- what an initiator makes of an answer: it asks again, in this phase
+pub record AsksAgain (cfg : EndConfig) (o : Outcome) : Type 0 where
+  pub before : is_shaken o.next.connection.phase ≡ false
+  pub quiet : Quiet o.next
+  pub writes : OneAtMost cfg (IsAsk cfg o.next.connection.phase) (said_all o.written)
+  pub ends : Left o
+
+asking : (x : Around) (g : Facts) (act : Act) (m : Message) → is_shaken g.connection.phase ≡ false → Quiet g → IsAsk x.config g.connection.phase (said m) → AsksAgain x.config (goes_on x act (m ∷ []) g)
+asking x g act m before quiet asks = record {
+  before = ap (λ p. is_shaken p) (asked_phase g (gap_to_ask g)) ∙ before;
+  quiet = still_quiet g quiet;
+  writes = subst (λ (p : Phase). OneAtMost x.config (IsAsk x.config p) (said_all (m ∷ request_for x (gap_to_ask g)))) (sym (asked_phase g (gap_to_ask g))) (writes_alone x g (IsAsk x.config g.connection.phase) m quiet asks);
+  ends = none_left;
+}
+
+establishing : (x : Around) (f : Facts) → Quiet f → AsksAgain x.config (shaken x f)
+establishing x f quiet =
+    asking x (in_phase (as_negotiated f) phases.Establishing) _ (opening_establish x f) refl (record { even = quiet.even; free = quiet.free })
+    (refl, refl, (λ n. number_given (is_sequenced x.config.own_flow) (f.recorded.sent + 1) n), refl)
+
+negotiating : (p : Phase) → p ≡ phases.Negotiating → is_negotiating p ≡ true
+negotiating p e = ap (λ q. is_negotiating q) e
+
+is_it_establishing : (p : Phase) → p ≡ phases.Establishing → is_establishing p ≡ true
+is_it_establishing p e = ap (λ q. is_establishing q) e
+
+pub answer_reply : (x : Around) (f : Facts) (theirs : EndConfig) (ph : Phase) (p : Piece) → Peer x.config theirs → f.connection.phase ≡ ph → is_shaken f.connection.phase ≡ false → Quiet f → IsAnswer theirs ph p
+    → AsksAgain x.config (reply_of x f (incoming_of p))
+answer_reply x f theirs phases.Negotiating (said (negotiation_response id timestamp flow credentials)) are is before quiet answer =
+    open_before (AsksAgain x.config) x f (session (negotiation_response id timestamp flow credentials)) before (heard (AsksAgain x.config) x f (session (negotiation_response id timestamp flow credentials)) (
+      foreign x id (answer.0 ∙ are.session),
+      λ _. (decides_within (AsksAgain x.config) (is_negotiating f.connection.phase) (negotiation_response_rows x f flow) (negotiating f.connection.phase is) (
+        λ n. never (flow == flow_code x.config.peer_flow) (eq-eqb flow (flow_code x.config.peer_flow) (answer.1 ∙ ap (λ k. flow_code k) (sym are.flow))) n,
+        λ _. (λ _. establishing x f quiet, λ e. absurd (true≢false e)),
+      )),
+    ))
+answer_reply x f theirs phases.Negotiating (said (negotiation_reject id timestamp code reason)) are is before quiet answer =
+    open_before (AsksAgain x.config) x f (session (negotiation_reject id timestamp code reason)) before (heard (AsksAgain x.config) x f (session (negotiation_reject id timestamp code reason)) (
+      foreign x id (answer.0 ∙ are.session),
+      λ _. (decides_within (AsksAgain x.config) (is_negotiating f.connection.phase) (negotiation_reject_rows x f code) (negotiating f.connection.phase is) (
+        λ _. establishing x f quiet,
+        λ n. absurd (true≢false (sym (eq-eqb code 4 answer.1) ∙ n)),
+      )),
+    ))
+answer_reply x f theirs phases.Establishing (said (establishment_reject id timestamp code reason)) are is before quiet answer =
+    open_before (AsksAgain x.config) x f (session (establishment_reject id timestamp code reason)) before (heard (AsksAgain x.config) x f (session (establishment_reject id timestamp code reason)) (
+      foreign x id (answer.0 ∙ are.session),
+      λ _. (decides_within (AsksAgain x.config) (is_establishing f.connection.phase) (establishment_reject_rows x f code) (is_it_establishing f.connection.phase is) (
+        λ _. asking x (in_phase f phases.Negotiating) acts.Nothing (opening_negotiate x) refl (record { even = quiet.even; free = quiet.free }) (refl, refl, refl),
+        λ n. absurd (true≢false (sym (eq-eqb code 2 answer.1) ∙ n)),
+      )),
+    ))
+answer_reply x f theirs _ _ are is before quiet answer = absurd answer
+
+-- what it makes of an acknowledgement: the handshake is done, or the announcement is refused
+pub data Acknowledged (cfg : EndConfig) (f : Facts) (o : Outcome) : Type 0 where
+  stands : o.next.connection.phase ≡ phases.Established → AllByRecursion (IsFlowing cfg) (said_all o.written) → Left o → Acknowledged cfg f o
+  lost : IsSome o.ending → o.next ≡ f → AllByRecursion (IsFree cfg) (said_all o.written) → Left o → Acknowledged cfg f o
+
+pub ack_reply : (x : Around) (f : Facts) (theirs : EndConfig) (p : Piece) → Peer x.config theirs → f.connection.phase ≡ phases.Establishing → is_shaken f.connection.phase ≡ false → IsAck theirs p
+    → Acknowledged x.config f (reply_of x f (incoming_of p))
+ack_reply x f theirs (said (establishment_ack id timestamp keepalive next)) are is before ack =
+    open_before (Acknowledged x.config f) x f (session (establishment_ack id timestamp keepalive next)) before (heard (Acknowledged x.config f) x f (session (establishment_ack id timestamp keepalive next)) (
+      foreign x id (ack.0 ∙ are.session),
+      λ _. (decides_within (Acknowledged x.config f) (is_establishing f.connection.phase) (establishment_ack_rows x f keepalive next) (is_it_establishing f.connection.phase is)
+          (announced_decides (Acknowledged x.config f) x f 5 next (λ (a : Announced). goes_on x (skip_of a.skipped) (told_skip a.skipped) (established a.facts (min 60000 (max 100 keepalive))))
+          (λ some. refused (announcement_fault x f 5 next) some (fault_left x f 5 next (λ n. ack.1 (ap (λ k. is_sequenced k) (sym are.flow) ∙ n))))
+          (standing (announced x f next) (min 60000 (max 100 keepalive))))),
+    ))
+  where
+    refused : (v : Option Violation) → is_some v ≡ true → ((w : Violation) → v ≡ Some w → IsLeft w) → Acknowledged x.config f (refuses x f v)
+    refused None some h = absurd (true≢false (sym some))
+    refused (Some v) some h = lost refl refl (refl, tt) (λ w e. ended_by IsLeft (finishes_exchanged x f) v w e (h v refl))
+
+    standing : (a : Announced) (interval : ℕ) → Acknowledged x.config f (goes_on x (skip_of a.skipped) (told_skip a.skipped) (established a.facts interval))
+    standing a interval =
+        let g : Facts = established a.facts interval in
+        stands (asked_phase g (gap_to_ask g)) (asked_flows x (told_skip a.skipped) (gap_to_ask g) (skip_flows x.config a.skipped)) none_left
+ack_reply x f theirs _ are is before ack = absurd ack

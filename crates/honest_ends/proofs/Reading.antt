@@ -1,0 +1,194 @@
+-- A reader that expects what is under way expects the rest of it behind its first message.
+use Rattle.std.proofs.Common.{◌≡◌, ℕ, ◌+◌, ◌≤◌, ◌&&◌, ◌||◌, Bool, true, false, List, ◌∷◌, Option, Some, None, refl, sym, ap, subst, ◌∙◌, arith, true≢false}
+use Rattle.std.specs.Prelude.{IsSome}
+use Rattle.fixp_shake.specs.declared.config.EndConfig.{EndConfig}
+use Rattle.fixp_shake.specs.declared.violation.Violation.{Violation}
+use Rattle.fixp_shake.specs.Flows.{is_recoverable, is_sequenced}
+use Rattle.fixp_shake.specs.Phases.{is_established, is_closing, is_shaken}
+use Rattle.fixp_replies.specs.declared.act.Ending.{Ending}
+use Rattle.fixp_replies.specs.declared.act.Ending.TheVariants as endings
+use Rattle.fixp_replies.specs.declared.facts.Facts.{Facts}
+use Rattle.fixp_replies.specs.Facts.{Around}
+use Rattle.fixp_replies.specs.Outcomes.{Outcome}
+use Rattle.fixp_replies.specs.Replies.{reply_of}
+use Rattle.connection_laws.specs.Writing.{Piece, WritesOwn, nothing, shakes, resends}
+use Rattle.connection_laws.proofs.Replied.{frame_writes}
+use Rattle.two_ends.specs.Reading.{incoming_of}
+use Rattle.honest_ends.specs.Numbers.{Awaited, at_most, live_after, awaited_after, left_after, Fits, Runs, Answers, Idle, Before, After, BeforeOther, AfterOther, Peer, IsFlowing, to_come}
+use Rattle.honest_ends.proofs.Expected.{reader_expects}
+use Rattle.honest_ends.proofs.Running.{Below, fits_below, lower, number_after, grows, runs_top}
+use Rattle.honest_ends.specs.Numbered.{next_live, awaits, awaited}
+use Rattle.honest_ends.specs.NumberLaws.{NoNumber}
+use Rattle.honest_ends.proofs.Awaiting.{not_number, awaited_before, awaited_then, number_awaited, after_then, after_at_most, Moves, lined_moves, other_moves, inbox_of, live_is, same_live, line_same, idle_same, Ready, ready_top, moved_runs}
+use Rattle.honest_ends.proofs.NumberOpening.{Hears, still, done, Opens, opening_reply}
+
+-- the reply breaks no rule of numbers, and its reader is ready for the rest, where its connection goes on; its inbox awaits no more than
+-- what was sent brings it to
+pub record Heard (c : EndConfig) (f : Facts) (left : List Piece) (k : ℕ) (m : Option ℕ) (o : Outcome) : Type 0 where
+  pub fine : (v : Violation) → o.ending ≡ Some (endings.Violation v) → NoNumber v
+  pub one : is_recoverable c.peer_flow ≡ true → 1 ≤ f.recorded.inbox_next → 1 ≤ o.next.recorded.inbox_next
+  pub top : o.next.recorded.inbox_next ≤ k
+  pub goes : o.ending ≡ None → Ready c o.next left k m
+
+by_ending : (P : Type 0) (e : Option Ending) → (e ≡ None → P) → (IsSome e → P) → P
+by_ending P None f g = f refl
+by_ending P (Some e) f g = g refl
+
+-- a handshake that is done stays done
+stays_shaken : (x : Around) (f : Facts) (p : Piece) → is_shaken f.connection.phase ≡ true → is_shaken (reply_of x f (incoming_of p)).next.connection.phase ≡ true
+stays_shaken x f p e = by_case (frame_writes x f (incoming_of p))
+  where
+    by_case : WritesOwn x f (reply_of x f (incoming_of p)) → is_shaken (reply_of x f (incoming_of p)).next.connection.phase ≡ true
+    by_case (nothing n s) = s.stays e
+    by_case (shakes s) = absurd (true≢false (sym e ∙ s.before))
+    by_case (resends r) = r.stays
+
+heard_of : (c : EndConfig) (f : Facts) (p : Piece) (left : List Piece) (k : ℕ) (m : Option ℕ) (o : Outcome) → f.recorded.inbox_next ≤ k → ((v : Violation) → o.ending ≡ Some (endings.Violation v) → NoNumber v)
+    → (IsSome o.ending → o.next.recorded.inbox_next ≡ f.recorded.inbox_next)
+    → (o.ending ≡ None → Ready c o.next left k m × (is_recoverable c.peer_flow ≡ true → f.recorded.inbox_next ≤ o.next.recorded.inbox_next)) → Heard c f left k m o
+heard_of c f p left k m o top fine over next = record {
+  fine = fine;
+  one = λ rec one. by_ending (1 ≤ o.next.recorded.inbox_next) o.ending (λ e. let rises = (next e).1 rec in omega (arith, rises, one)) (λ e. let same = over e in omega (arith, same, one));
+  top = by_ending (o.next.recorded.inbox_next ≤ k) o.ending (λ e. ready_top c o.next left k m (next e).0) (λ e. let same = over e in omega (arith, same, top));
+  goes = λ e. (next e).0;
+}
+
+-- one that moved, once the handshake is done
+ready_moved : (c : EndConfig) (f g : Facts) (p : Piece) (left : List Piece) (k : ℕ) (m : Option ℕ) → Moves c p f g → is_shaken g.connection.phase ≡ true
+    → awaited_after c.peer_flow p (awaited c f) (to_come f.connection.requester) ≡ awaits (is_sequenced c.peer_flow) (live_after c.peer_flow p (next_live c f) (to_come f.connection.requester))
+    → Ready c f (p ∷ left) k m → Ready c g left k m
+ready_moved c f g p left k m v shaken after r = record {
+  runs = moved_runs c f g p left k m v shaken after r.runs;
+  line = v.line;
+  idle = v.idle;
+  opening = λ n. absurd (true≢false (sym shaken ∙ n));
+}
+
+-- its first number is within the limit
+first_within : (c : EndConfig) (f : Facts) (p : Piece) (left : List Piece) (k most : ℕ) (m : Option ℕ) → Runs c.peer_flow (awaited c f) (to_come f.connection.requester) (p ∷ left) k m → k ≤ most
+    → live_after c.peer_flow p (next_live c f) (to_come f.connection.requester) ≤ most
+first_within c f p left k most m r high =
+    let top = runs_top c.peer_flow (awaited_after c.peer_flow p (awaited c f) (to_come f.connection.requester)) (left_after p (to_come f.connection.requester)) left k m r.1 in
+    let after = number_after c.peer_flow p (awaited c f) (to_come f.connection.requester) in
+    let same = ap (λ (n : ℕ). live_after c.peer_flow p n (to_come f.connection.requester)) (number_awaited (is_sequenced c.peer_flow && is_shaken f.connection.phase) (next_live c f)) in
+    omega (arith, top, after, same, high)
+
+below_it : (b : Bool) (n : ℕ) → Below (at_most n) (awaits b n)
+below_it true n = omega arith
+below_it false n = omega arith
+
+-- in Established
+established_reads : (x : Around) (f : Facts) (theirs : EndConfig) (p : Piece) (left : List Piece) (k : ℕ) (m : Option ℕ) → Peer x.config theirs → is_established f.connection.phase ≡ true → is_shaken f.connection.phase ≡ true
+    → IsFlowing theirs p → Ready x.config f (p ∷ left) k m → Answers f.connection.requester p → k ≤ x.most + 1 → f.recorded.inbox_next ≤ k → Heard x.config f left k m (reply_of x f (incoming_of p))
+established_reads x f theirs p left k m are now shaken flows r answers high top = by_flow (is_recoverable c.peer_flow) refl
+  where
+    c : EndConfig
+    c = x.config
+
+    o : Outcome
+    o = reply_of x f (incoming_of p)
+
+    l : Option ℕ
+    l = to_come f.connection.requester
+
+    both : (Before x f p → After x f p o) × (BeforeOther x f p → AfterOther x f p o)
+    both = reader_expects x f theirs p are now flows
+
+    after : awaited_after c.peer_flow p (awaited c f) l ≡ awaits (is_sequenced c.peer_flow) (live_after c.peer_flow p (next_live c f) l)
+    after = ap (λ (a : Awaited). awaited_after c.peer_flow p a l) (awaited_then c f shaken) ∙ after_then c.peer_flow p (next_live c f) l
+
+    fits : Fits c.peer_flow p (at_most (next_live c f)) l
+    fits = fits_below c.peer_flow p (at_most (next_live c f)) (awaited c f) l (below_it (is_sequenced c.peer_flow && is_shaken f.connection.phase) (next_live c f)) r.runs.0
+
+    within : live_after c.peer_flow p (next_live c f) l ≤ x.most + 1
+    within = first_within c f p left k (x.most + 1) m r.runs high
+
+    by_flow : (b : Bool) → is_recoverable c.peer_flow ≡ b → Heard c f left k m o
+    by_flow true rec =
+        let same = live_is c f rec in
+        let h : After x f p o = both.0 (record {
+          recoverable = rec;
+          line = r.line rec;
+          fits = subst (λ (n : ℕ). Fits c.peer_flow p (at_most n) l) same fits;
+          top = subst (λ (n : ℕ). live_after c.peer_flow p n l ≤ x.most + 1) same within;
+        }) in
+        heard_of c f p left k m o top (λ v e. not_number (Answers f.connection.requester p) v answers (h.fine v e)) h.over
+        (λ e. let v = lined_moves x f p (Answers f.connection.requester p) o rec h e in (ready_moved c f o.next p left k m v (stays_shaken x f p shaken) after r, v.rises))
+    by_flow false other =
+        let same = inbox_of c f other in
+        let idle = r.idle other in
+        let none : l ≡ None = ap to_come idle.none in
+        let h : AfterOther x f p o = both.1 (record {
+          other = other;
+          idle = idle;
+          fits = subst (λ (n : ℕ). Fits c.peer_flow p (at_most n) None) same (subst (λ (j : Option ℕ). Fits c.peer_flow p (at_most (next_live c f)) j) none fits);
+          top = subst (λ (n : ℕ). live_after c.peer_flow p n None ≤ x.most + 1) same (subst (λ (j : Option ℕ). live_after c.peer_flow p (next_live c f) j ≤ x.most + 1) none within);
+        }) in
+        heard_of c f p left k m o top (λ v e. not_number (Answers f.connection.requester p) v answers (h.fine v e)) h.over
+        (λ e. let v = other_moves x f p (Answers f.connection.requester p) o other idle answers h e in (ready_moved c f o.next p left k m v (stays_shaken x f p shaken) after r, v.rises))
+
+-- before the handshake is done
+opening_reads : (x : Around) (f : Facts) (p : Piece) (left : List Piece) (k : ℕ) (m : Option ℕ) → is_shaken f.connection.phase ≡ false → Ready x.config f (p ∷ left) k m → k ≤ x.most + 1 → f.recorded.inbox_next ≤ k
+    → Heard x.config f left k m (reply_of x f (incoming_of p))
+opening_reads x f p left k m before r high top =
+    heard_of c f p left k m o top h.fine h.over (λ e. by_hearing (h.next e))
+  where
+    c : EndConfig
+    c = x.config
+
+    o : Outcome
+    o = reply_of x f (incoming_of p)
+
+    idle : Idle f
+    idle = r.opening before
+
+    none : to_come f.connection.requester ≡ None
+    none = ap to_come idle.none
+
+    waits : awaited c f ≡ at_most (next_live c f)
+    waits = awaited_before c f before
+
+    fits : Fits c.peer_flow p (at_most (next_live c f)) None
+    fits = subst (λ (l : Option ℕ). Fits c.peer_flow p (at_most (next_live c f)) l) none (subst (λ (a : Awaited). Fits c.peer_flow p a (to_come f.connection.requester)) waits r.runs.0)
+
+    within : live_after c.peer_flow p (next_live c f) None ≤ x.most + 1
+    within = subst (λ (l : Option ℕ). live_after c.peer_flow p (next_live c f) l ≤ x.most + 1) none (first_within c f p left k (x.most + 1) m r.runs high)
+
+    h : Opens c f p o
+    h = opening_reply x f p before idle r.line fits within
+
+    more : Runs c.peer_flow (awaited_after c.peer_flow p (at_most (next_live c f)) None) (left_after p None) left k m
+    more = subst (λ (l : Option ℕ). Runs c.peer_flow (awaited_after c.peer_flow p (at_most (next_live c f)) l) (left_after p l) left k m) none
+        (subst (λ (a : Awaited). Runs c.peer_flow (awaited_after c.peer_flow p a (to_come f.connection.requester)) (left_after p (to_come f.connection.requester)) left k m) waits r.runs.1)
+
+    below : Below (at_most (next_live c f)) (awaited_after c.peer_flow p (at_most (next_live c f)) None)
+    below = let up = grows c.peer_flow p (at_most (next_live c f)) None fits in let after = number_after c.peer_flow p (at_most (next_live c f)) None in omega (arith, up, after)
+
+    by_hearing : Hears c p f o.next → Ready c o.next left k m × (is_recoverable c.peer_flow ≡ true → f.recorded.inbox_next ≤ o.next.recorded.inbox_next)
+    by_hearing (still then_before e q n no_left) = (
+      record {
+        runs = subst (λ (a : Awaited). Runs c.peer_flow a (to_come o.next.connection.requester) left k m) (sym (awaited_before c o.next then_before ∙ ap at_most (same_live c f o.next e n)))
+            (subst (λ (l : Option ℕ). Runs c.peer_flow (at_most (next_live c f)) l left k m) (sym (ap to_come q ∙ none))
+            (lower c.peer_flow (at_most (next_live c f)) (awaited_after c.peer_flow p (at_most (next_live c f)) None) None left k m below
+            (subst (λ (l : Option ℕ). Runs c.peer_flow (awaited_after c.peer_flow p (at_most (next_live c f)) None) l left k m) no_left more)));
+        line = λ rec. line_same f o.next e q n (r.line rec);
+        idle = λ _. idle_same f o.next e q idle;
+        opening = λ _. idle_same f o.next e q idle;
+      },
+      λ _. omega (arith, n),
+    )
+    by_hearing (done shaken told v) =
+        let after = ap (λ (a : Awaited). awaited_after c.peer_flow p a (to_come f.connection.requester)) waits ∙ after_at_most c.peer_flow p (next_live c f) (to_come f.connection.requester) (is_sequenced c.peer_flow) told in
+        (ready_moved c f o.next p left k m v shaken after r, v.rises)
+
+-- the reply of a reader that has not begun to close its connection
+pub reads : (x : Around) (f : Facts) (theirs : EndConfig) (p : Piece) (left : List Piece) (k : ℕ) (m : Option ℕ) → Peer x.config theirs → is_closing f.connection.phase ≡ false
+    → (is_shaken f.connection.phase ≡ true → IsFlowing theirs p) → Ready x.config f (p ∷ left) k m → Answers f.connection.requester p → k ≤ x.most + 1 → f.recorded.inbox_next ≤ k
+    → Heard x.config f left k m (reply_of x f (incoming_of p))
+reads x f theirs p left k m are yet flows r answers high top = by_phase (is_established f.connection.phase) refl
+  where
+    by_phase : (b : Bool) → is_established f.connection.phase ≡ b → Heard x.config f left k m (reply_of x f (incoming_of p))
+    by_phase true now =
+        let shaken : is_shaken f.connection.phase ≡ true = ap (λ b. b || is_closing f.connection.phase) now in
+        established_reads x f theirs p left k m are now shaken (flows shaken) r answers high top
+    by_phase false not_now = opening_reads x f p left k m (ap (λ b. b || is_closing f.connection.phase) not_now ∙ yet) r high top

@@ -1,0 +1,25 @@
+-- What the journals of the two ends of one session hold of each other, where these ends alone formatted and wrote them.
+use Rattle.std.specs.Prelude.{◌≡◌, ℕ, ◌+◌, ◌≤◌, true, if◌then◌else◌, List, length, Some, IfSome}
+use Rattle.session_model.specs.Journal.{Entry}
+use Rattle.fixp_msgs.specs.declared.flow.Flow.{Flow}
+use Rattle.fixp_shake.specs.Flows.{is_recoverable, is_sequenced}
+use Rattle.fixp_machine.specs.Machine.{State}
+use Rattle.honest_ends.specs.Worlds.{World, Starts}
+
+-- the last number that a finish of this flow names, where its outbox comes to have these entries: a flow without numbers names 0
+abbrev pub last_told : Flow → List Entry → ℕ
+last_told flow h = if is_sequenced flow then length h else 0
+
+-- What a reader has recorded of a writer's messages the writer has sent, and on a recoverable flow its inbox awaits number 1 at least.
+-- Where it recorded a finish, the writer is finished and has sent all of its entries. And the reader takes the number of each of them
+pub record Knows (h : List Entry) (writer reader : State) : Type 0 where
+  pub sent : writer.facts.recorded.sent ≤ length h
+  pub most : length h ≤ reader.most
+  pub one : is_recoverable reader.config.peer_flow ≡ true → 1 ≤ reader.facts.recorded.inbox_next
+  pub next : reader.facts.recorded.inbox_next ≤ writer.facts.recorded.sent + 1
+  pub finish : IfSome writer.facts.recorded.finish (λ n. n ≡ length h)
+  pub last : IfSome reader.facts.recorded.peer_last (λ n. (writer.facts.recorded.finish ≡ Some (length h)) × (writer.facts.recorded.sent ≡ length h) × (n ≡ last_told writer.config.own_flow h))
+
+-- two ends at their beginning, which know so much of each other
+abbrev pub StartsKnown : (of_initiator of_acceptor : List Entry) → World → Type 0
+StartsKnown hi ha w = Starts w × Knows hi w.initiator w.acceptor × Knows ha w.acceptor w.initiator

@@ -1,0 +1,13 @@
+pub mod Worlds
+pub mod PhaseLaws
+pub mod Numbers
+pub mod PhaseSamples
+pub mod Knowing
+pub mod Numbered
+pub mod NumberLaws
+pub mod NumberSamples
+pub mod Finished
+pub mod FinishLaws
+pub mod Resting
+pub mod RestLaws
+pub mod RestSamples

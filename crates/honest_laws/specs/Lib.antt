@@ -1,4 +1,0 @@
-pub mod Worlds
-pub mod Laws
-pub mod Numbers
-pub mod Samples

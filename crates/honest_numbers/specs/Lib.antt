@@ -1,4 +1,0 @@
-pub mod Knowing
-pub mod Numbered
-pub mod Laws
-pub mod Samples

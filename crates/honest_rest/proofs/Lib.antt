@@ -1,4 +1,0 @@
-pub mod Settling
-pub mod Stepping
-pub mod Sampled
-pub mod Laws

@@ -1,5 +1,0 @@
-use Rattle.honest_rest.proofs.Laws.{quiet_has_all}
-use Rattle.honest_rest.proofs.rest.quiet_has_all.Goals as goal
-
-pub returns : goal.returns
-returns c = record { law = quiet_has_all }

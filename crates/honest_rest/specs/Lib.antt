@@ -1,3 +1,0 @@
-pub mod Resting
-pub mod Laws
-pub mod Samples

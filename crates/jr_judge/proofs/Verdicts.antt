@@ -1,0 +1,72 @@
+-- One verdict at most is found of a content.
+use Rattle.std.proofs.Common.{◌≡◌, ℕ, ◌+◌, ◌<◌, ◌≤◌, List, Result, Ok, Err, take, inl, inr, refl, sym, ap, subst, ◌∙◌, arith}
+use Rattle.std.proofs.lemmas.Bool.{cases_lt}
+use Rattle.std.proofs.lemmas.List.{take-take}
+use Rattle.session_model.specs.Journal.{History}
+use Rattle.session_model.specs.Inbox.{InboxRecord}
+use Rattle.fixp_msgs.specs.declared.flow.Flow.TheVariants as flows
+use Rattle.jr_record.specs.declared.record.Record.{Record}
+use Rattle.jr_record.proofs.Verdicts.{at_most_one_verdict}
+use Rattle.jr_boxes.specs.declared.faults.Which.{Which}
+use Rattle.jr_boxes.specs.declared.faults.Which.TheVariants.{Outbox, Inbox}
+use Rattle.jr_boxes.specs.declared.faults.JournalCause.TheVariants.{NotFormatted, Damaged, Wrong, Already}
+use Rattle.jr_boxes.specs.Outboxes.{IsOutbox}
+use Rattle.jr_boxes.specs.Inboxes.{IsInbox}
+use Rattle.jr_judge.specs.Judged.{AreThoseOf, IsWrongIn, IsBox, IsWrong, OneVerdict}
+use Rattle.jr_judge.proofs.Prefixes.{outbox_first, inbox_first}
+
+-- the records of a box exclude none
+not_wrong : (which : Which) (records : List Record) (at : ℕ) → AreThoseOf which records → IsWrongIn which records at → ⊥
+not_wrong Outbox records at those wrong = let first = outbox_first records those.0 (at + 1) those.1 in wrong.excluded first.0 first.1
+not_wrong Inbox records at those wrong = let first = inbox_first flows.Idempotent records those.0 (at + 1) those.1 in wrong.excluded first.0 first.1
+
+-- those before the first that is excluded exclude none
+not_before : (which : Which) (records : List Record) (at place : ℕ) → at < place → IsWrongIn which records at → IsWrongIn which records place → ⊥
+not_before Outbox records at place below wrong later =
+    let first = outbox_first (take place records) later.history (at + 1) later.before in
+    wrong.excluded first.0 (subst (λ (rs : List Record). IsOutbox rs first.0) (take-take (at + 1) place records (omega (arith, below))) first.1)
+not_before Inbox records at place below wrong later =
+    let first = inbox_first flows.Idempotent (take place records) later.list (at + 1) later.before in
+    wrong.excluded first.0 (subst (λ (rs : List Record). IsInbox flows.Idempotent rs first.0) (take-take (at + 1) place records (omega (arith, below))) first.1)
+
+same_place : (which : Which) (records : List Record) (at place : ℕ) → IsWrongIn which records at → IsWrongIn which records place → at ≡ place
+same_place which records at place wrong other = elim (cases_lt at place) as (λ _. at ≡ place) [
+  | inl below ↦ absurd (not_before which records at place below wrong other)
+  | inr least ↦ elim (cases_lt place at) as (λ _. at ≡ place) [
+    | inl above ↦ absurd (not_before which records place at above other wrong)
+    | inr most ↦ omega (arith, least, most)
+  ]
+]
+
+box_or_wrong : (which : Which) (content : List ℕ) (records : List Record) (at : ℕ) → IsBox which records content → IsWrong which at content → ⊥
+box_or_wrong which content records at b w =
+    let same : w.records ≡ records = at_most_one_verdict.one_list content w.records records w.journal b.journal in
+    not_wrong which records at b.those (subst (λ (rs : List Record). IsWrongIn which rs at) same w.wrong)
+
+wrong_once : (which : Which) (content : List ℕ) (at place : ℕ) → IsWrong which at content → IsWrong which place content → at ≡ place
+wrong_once which content at place a b =
+    let same : a.records ≡ b.records = at_most_one_verdict.one_list content a.records b.records a.journal b.journal in
+    same_place which b.records at place (subst (λ (rs : List Record). IsWrongIn which rs at) same a.wrong) b.wrong
+
+pub one_verdict : OneVerdict
+one_verdict which content (Ok r) (Ok s) a b = ap Ok (at_most_one_verdict.one_list content r s a.journal b.journal)
+one_verdict which content (Ok r) (Err NotFormatted) a b = absurd (at_most_one_verdict.formatted content r a.journal b)
+one_verdict which content (Ok r) (Err (Damaged at)) a b = absurd (at_most_one_verdict.whole content r at a.journal b)
+one_verdict which content (Ok r) (Err (Wrong at)) a b = absurd (box_or_wrong which content r at a b)
+one_verdict which content (Ok r) (Err Already) a b = absurd b
+one_verdict which content (Err NotFormatted) (Ok s) a b = absurd (at_most_one_verdict.formatted content s b.journal a)
+one_verdict which content (Err NotFormatted) (Err NotFormatted) a b = refl
+one_verdict which content (Err NotFormatted) (Err (Damaged at)) a b = absurd (at_most_one_verdict.damaged content at b a)
+one_verdict which content (Err NotFormatted) (Err (Wrong at)) a b = absurd (at_most_one_verdict.formatted content b.records b.journal a)
+one_verdict which content (Err NotFormatted) (Err Already) a b = absurd b
+one_verdict which content (Err (Damaged at)) (Ok s) a b = absurd (at_most_one_verdict.whole content s at b.journal a)
+one_verdict which content (Err (Damaged at)) (Err NotFormatted) a b = absurd (at_most_one_verdict.damaged content at a b)
+one_verdict which content (Err (Damaged at)) (Err (Damaged place)) a b = ap (λ (n : ℕ). Err (Damaged n)) (at_most_one_verdict.one_place content at place a b)
+one_verdict which content (Err (Damaged at)) (Err (Wrong place)) a b = absurd (at_most_one_verdict.whole content b.records at b.journal a)
+one_verdict which content (Err (Damaged at)) (Err Already) a b = absurd b
+one_verdict which content (Err (Wrong at)) (Ok s) a b = absurd (box_or_wrong which content s at b a)
+one_verdict which content (Err (Wrong at)) (Err NotFormatted) a b = absurd (at_most_one_verdict.formatted content a.records a.journal b)
+one_verdict which content (Err (Wrong at)) (Err (Damaged place)) a b = absurd (at_most_one_verdict.whole content a.records place a.journal b)
+one_verdict which content (Err (Wrong at)) (Err (Wrong place)) a b = ap (λ (n : ℕ). Err (Wrong n)) (wrong_once which content at place a b)
+one_verdict which content (Err (Wrong at)) (Err Already) a b = absurd b
+one_verdict which content (Err Already) b c d = absurd c

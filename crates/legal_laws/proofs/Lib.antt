@@ -1,4 +1,0 @@
-pub mod Spelled
-pub mod Replied
-pub mod Called
-pub mod Written

@@ -1,5 +1,0 @@
-use Rattle.legal_laws.proofs.Spelled.{spelled_fits}
-use Rattle.legal_laws.proofs.writing.spelled_fits.Goals as goal
-
-pub returns : goal.returns
-returns c = record { law = spelled_fits }

@@ -1,0 +1,103 @@
+-- What the passes knew is what the boxes hold, once the gate is closed.
+use Rattle.std.proofs.Common.{◌≡◌, ◌⊎◌, inl, inr, ⊎_elim, ℕ, ◌+◌, ◌^◌, ◌<◌, Bool, true, false, true≢false, if◌then◌else◌, List, length, Option, Result, sym, ap, subst, ◌∙◌, arith}
+use Rattle.gw_outside.specs.Faults.{HasRisen}
+use Rattle.session_model.specs.Journal.{History, BeginsHistory}
+use Rattle.fixp_shake.specs.declared.config.EndConfig.{EndConfig}
+use Rattle.fixp_machine.specs.Machine.{fresh}
+use Rattle.gw_links.specs.Dialers.{DialerTold}
+use Rattle.jr_record.specs.declared.journal.Journal.{Ghosts}
+use Rattle.jr_boxes.specs.declared.inbox.Inbox.{Inbox}
+use Rattle.jr_boxes.specs.Inbox as inboxes
+use Rattle.jr_boxes.specs.declared.outbox.Outbox.{Outbox}
+use Rattle.jr_boxes.specs.Outbox.{front_of, limits_of, faults_of, is_broken}
+use Rattle.gate_turn.specs.Views.{Account, HasFailed, Part}
+use Rattle.gate_turn.specs.Rule.{In, Sound}
+use Rattle.gate_turn.specs.Listed.{known_at}
+use Rattle.gate_turn.specs.Steps.{Found}
+use Rattle.gate_turn.specs.declared.passes.Passes.{Passes}
+use Rattle.gate_turn.proofs.Failing.{failed_after}
+use Rattle.gate_senders.specs.Kept.{account, next_entry, IsFullAt}
+use Rattle.gate_senders.specs.Gate.{opening_of, OpensOn, ClosedWith}
+use Rattle.gate_senders.specs.declared.gate.Gate.{Gate}
+use Rattle.gate_senders.specs.declared.kept.Kept.{Kept}
+use Rattle.gate_senders.proofs.Keeping.{front_is}
+use Rattle.conn_serve.specs.declared.answer.ServeFault.{ServeFault}
+use Rattle.conn_serve.specs.Opening.{opened_state}
+use Rattle.life_laws.specs.PlanLives.{SomePass, SeesMark, SeesFailure, MetFull, WasFull, BlamesInbox, ServedAt, LivedBoxes}
+use Rattle.life_laws.proofs.Plans.{plans_are_kept}
+
+-- where a count, and one more once it is broken, shows a failure, the count rose
+risen_of : (old new : ℕ) (was now : Bool) → was ≡ false → HasFailed (old + (if was then 1 else 0)) (new + (if now then 1 else 0)) → HasRisen old new
+risen_of old new true now sound f = absurd (true≢false sound)
+risen_of old new false true sound f = omega (arith, f.disk)
+risen_of old new false false sound f = omega (arith, f.disk)
+
+module _ {J : Type 0} {G : Ghosts J} {O : Type 0} {H : Ghosts O} (gate : Gate O H) (passes : Passes (Kept O H)) (plans : List (List (List ℕ))) (dialed later : Option DialerTold) (out now_out : Option (List ℕ)) (config : EndConfig)
+    (outbox closed : Outbox O H) (box since : Inbox J G) (result : Result (Unit {0}) ServeFault) (o : OpensOn gate outbox) (sound : is_broken outbox ≡ false) (in_sound : inboxes.is_broken box ≡ false) (k : ClosedWith gate passes closed) (few : front_of closed < 2 ^ 40)
+    (s : ServedAt (opening_of gate) plans (known_at passes) dialed later out now_out (fresh config (opened_state (opening_of gate).history box) (2 ^ 24)) box since result) where
+  within : (n : ℕ) → In (length plans + 1) n → In (known_at passes 1).made n
+  within n h = record { from_one = h.from_one; up_to = omega (arith, h.up_to, s.made.made) }
+
+  found : (n : ℕ) → In (length plans + 1) n → Found (known_at passes n) (account closed k.history)
+  found n h = k.closed.found n (within n h)
+
+  opened : (n : ℕ) → In (length plans + 1) n → (known_at passes n).opening ≡ account outbox (opening_of gate).history
+  opened n h = k.closed.opened n (within n h) ∙ o.told
+
+  risen : HasFailed (account outbox (opening_of gate).history).faults (account closed k.history).faults → HasRisen (faults_of outbox) (faults_of closed)
+  risen f = risen_of (faults_of outbox) (faults_of closed) (is_broken outbox) (is_broken closed) sound f
+
+  first : In (length plans + 1) 1
+  first = record { from_one = omega arith; up_to = omega arith }
+
+  last : In (length plans + 1) (length plans + 1)
+  last = record { from_one = omega arith; up_to = omega arith }
+
+  broken : is_broken closed ≡ true → HasRisen (faults_of outbox) (faults_of closed)
+  broken b = risen ((subst (λ (a : Account). Sound a (account closed k.history)) (opened 1 first) (found 1 first).sound).broken b)
+
+  marked : SomePass (length plans + 1) SeesMark (known_at passes) → k.history.finished ≡ true
+  marked m = ap (λ (h : History). h.finished) (sym ((found m.number m.inside).seen.alone m.is)) ∙ m.is
+
+  failed : SomePass (length plans + 1) SeesFailure (known_at passes) → HasRisen (faults_of outbox) (faults_of closed)
+  failed m = risen (subst (λ (a : Account). HasFailed a.faults (account closed k.history).faults) (opened m.number m.inside)
+      (failed_after (known_at passes m.number).opening.faults (known_at passes m.number).faults (account closed k.history).faults m.is (found m.number m.inside).faults))
+
+  inbox_risen : BlamesInbox box since → HasRisen (inboxes.faults_of box) (inboxes.faults_of since)
+  inbox_risen (inl risen) = risen
+  inbox_risen (inr broken) = absurd (true≢false (sym broken ∙ in_sound))
+
+  was_full : (entries bytes : ℕ) → SomePass (length plans + 1) (MetFull entries bytes) (known_at passes)
+      → WasFull (record { entries = (limits_of outbox).entries; bytes = (limits_of outbox).bytes }) (opening_of gate).history k.history entries bytes
+  was_full entries bytes m =
+      let p : Part = known_at passes m.number in
+      record {
+        history = p.seen;
+        behind = subst (λ (a : Account). BeginsHistory a.history p.seen) (opened m.number m.inside) m.is.behind;
+        begins = (found m.number m.inside).seen;
+        entry = next_entry p.seen p.number m.is.payload;
+        full = subst (λ (a : Account). IsFullAt a.limits p.seen (next_entry p.seen p.number m.is.payload) entries bytes) (opened m.number m.inside) m.is.full;
+      }
+
+  pub lived_boxes : LivedBoxes dialed later out now_out config plans outbox closed box since result
+  lived_boxes = record {
+    opening = (opening_of gate).history;
+    closing = k.history;
+    seen = (known_at passes (length plans + 1)).seen;
+    connections = s.connections;
+    refused = s.refused;
+    few = subst (λ (n : ℕ). n < 2 ^ 40) (front_is closed k.history k.stands) few;
+    opened = o.holds;
+    stands = k.stands;
+    holds = k.holds;
+    broken = broken;
+    plans_kept = plans_are_kept (opening_of gate) (account closed k.history) plans (known_at passes) s.made k.closed;
+    begins = (found (length plans + 1) last).seen;
+    served = s.life;
+    limits = s.limits;
+    answer = s.answer;
+    refusal = s.refusal;
+    marked = λ u many. marked (s.marked u many);
+    journal = λ e. ⊎_elim (λ b. inl (inbox_risen b)) (λ m. inr (failed m)) (s.journal e);
+    full = λ entries bytes e. ⊎_elim (λ b. inl b) (λ m. inr (was_full entries bytes m)) (s.full entries bytes e);
+  }

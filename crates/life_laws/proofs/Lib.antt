@@ -1,0 +1,10 @@
+pub mod Turned
+pub mod Behind
+pub mod Waits
+pub mod Loops
+pub mod Opened
+pub mod Plans
+pub mod Outboxes
+pub mod Senders
+pub mod Passes
+pub mod Boxes

@@ -1,0 +1,100 @@
+-- A served life is one of the loop.
+use Rattle.std.proofs.Common.{◌≡◌, ◌⊎◌, inl, inr, List, [], ◌∷◌, ◌++◌, Option, Some, None, refl, sym, ap, subst, ◌∙◌, append-nil}
+use Rattle.std.specs.Prelude.{IfSome, option_to_list}
+use Rattle.std.specs.List.{AllByRecursion}
+use Rattle.session_model.specs.Journal.{Entry, OutboxRecord, entries}
+use Rattle.session_model.specs.Inbox.{InboxRecord}
+use Rattle.fixp_msgs.specs.Payload.{IsApplication}
+use Rattle.fixp_machine.specs.Machine.{State}
+use Rattle.jr_record.specs.declared.journal.Journal.{Ghosts}
+use Rattle.jr_boxes.specs.declared.inbox.Inbox.{Inbox}
+use Rattle.conn_turns.specs.Lines.{Line}
+use Rattle.connection_laws.specs.Living.{Leg, AllMayRun, Opens}
+use Rattle.connection_laws.proofs.Living.{opening_on, none_refused, closing_on}
+use Rattle.connection_laws.specs.Ranges.{IsInRange}
+use Rattle.turn_laws.specs.Legs.{TurnedLeg, course_on}
+use Rattle.turn_laws.specs.Lives.{AllAreTurns, legs_of, state_after, inbox_after}
+use Rattle.turn_laws.proofs.Running.{all_run, turns_serve, turns_refused}
+use Rattle.two_ends.specs.Loops.{IsRefusedOn, IsTimely}
+use Rattle.conn_serve.specs.Connections.{Connection, refused_of_all}
+use Rattle.conn_serve.specs.Served.{WasGivenUp}
+use Rattle.life_laws.specs.Lives.{turned, all_of, LifeOfLoop, LifeMayTurn, ServedKeeps}
+use Rattle.life_laws.proofs.Turned.{IsTurnedOne}
+use Rattle.life_laws.proofs.Behind.{AreBehind, given_turned, turned_append, given_adds, AllTurned, with_given, all_turned, life_behind}
+use Rattle.life_laws.proofs.Waits.{Waits, waits_or_none}
+
+-- a life of which a stop may leave nothing that was refused
+whole_life : (opening closing refused : List OutboxRecord) (m : State) (i : List InboxRecord) (cs : List Connection) (left : List InboxRecord) → Opens (entries opening) (entries closing) m i
+    → AllTurned (entries closing) m i cs → left ≡ [] → LifeOfLoop opening closing refused m i cs left
+whole_life opening closing refused m i cs left o all none =
+    let legs : List Leg = legs_of m i (turned cs) in
+    let may : AllMayRun (entries closing) m i legs = all_run (entries closing) m i (turned cs) o.awaits o.enough all.turns in
+    record {
+      life = record { opening_outbox = opening; closing_outbox = closing; refused_outbox = refused; state = m; inbox = i; legs = turned cs; last = None };
+      outboxes = (refl, refl, refl);
+      begins = (refl, refl);
+      legs = append-nil (turned cs);
+      turns = all.turns;
+      last = tt;
+      inbox = (opening_on m i legs (entries opening) (entries closing) o may, closing_on m i legs ∙ all.adds, none_refused m i legs ∙ sym none);
+      keeps = turns_serve (entries opening) (entries closing) m i (turned cs) o all.turns;
+    }
+
+-- one on whose last connection a frame waits
+waiting_life : (opening closing refused : List OutboxRecord) (m mid : State) (i : List InboxRecord) (last : Line) (cs : List Connection) (c : Connection) (left : List InboxRecord)
+    → Opens (entries opening) (entries closing) m i → AreBehind (entries closing) m mid i cs → IsTurnedOne (entries closing) (state_after m i (turned cs)) (inbox_after m i (turned cs)) last c
+    → Waits (course_on (state_after m i (turned cs)) (inbox_after m i (turned cs)) c.leg) left → LifeOfLoop opening closing refused m i (cs ++ c ∷ []) left
+waiting_life opening closing refused m mid i last cs c left o b x w =
+    let legs : List Leg = legs_of m i (turned cs) in
+    let may : AllMayRun (entries closing) m i legs = all_run (entries closing) m i (turned cs) o.awaits o.enough b.turns in
+    record {
+      life = record { opening_outbox = opening; closing_outbox = closing; refused_outbox = refused; state = m; inbox = i; legs = turned cs; last = Some (record { leg = c.leg; waiting = w.waiting }) };
+      outboxes = (refl, refl, refl);
+      begins = (refl, refl);
+      legs = sym (turned_append cs c);
+      turns = b.turns;
+      last = record { turns = x.turns; waits = w.is };
+      inbox = (opening_on m i legs (entries opening) (entries closing) o may, given_adds (entries closing) m mid i last cs c b x, w.left_are);
+      keeps = turns_refused (entries opening) (entries closing) m i (turned cs) c.leg w.waiting o b.turns x.turns w.is;
+    }
+
+module _ {J : Type 0} {G : Ghosts J} where
+  pub served_keeps : (box since : Inbox J G) → ServedKeeps box since
+  served_keeps box since dialed later out now_out before seen m result opening closing refused i k has o =
+      by_given k.given_up k.gave_up
+    where
+      h : List Entry
+      h = entries closing
+
+      b : AreBehind h m k.mid i k.ended
+      b = life_behind dialed later out now_out before seen m box since result h i k has o.awaits o.enough
+
+      by_given : (given_up : Option Connection) → WasGivenUp k.behind seen k.mid given_up → LifeOfLoop opening closing refused m i (all_of k.ended given_up) (refused_of_all (option_to_list given_up))
+      by_given None g = whole_life opening closing refused m i (all_of k.ended None) [] o (all_turned h k.behind seen m k.mid i k.ended None b has g) refl
+      by_given (Some c) g = subst (λ (rs : List InboxRecord). LifeOfLoop opening closing refused m i (all_of k.ended (Some c)) rs) (sym (append-nil c.refused)) (by_waiting (waits_or_none h k.behind seen (state_after m i (turned k.ended)) k.mid (inbox_after m i (turned k.ended)) g.0 c g.1 x))
+        where
+          x : IsTurnedOne h (state_after m i (turned k.ended)) (inbox_after m i (turned k.ended)) g.0 c
+          x = given_turned h k.behind seen m k.mid i k.ended c b has g
+
+          by_waiting : (c.refused ≡ []) ⊎ Waits (course_on (state_after m i (turned k.ended)) (inbox_after m i (turned k.ended)) c.leg) c.refused → LifeOfLoop opening closing refused m i (k.ended ++ c ∷ []) c.refused
+          by_waiting (inl none) = whole_life opening closing refused m i (k.ended ++ c ∷ []) c.refused o (with_given h m k.mid i g.0 k.ended c b x) none
+          by_waiting (inr w) = waiting_life opening closing refused m k.mid i g.0 k.ended c c.refused o b x w
+
+pub life_may_turn : LifeMayTurn
+life_may_turn opening closing refused m i cs left l o range payloads timely = record {
+  own_flow = ap (λ (s : State). s.config.own_flow) l.begins.0;
+  peer_flow = ap (λ (s : State). s.config.peer_flow) l.begins.0;
+  range = subst (λ (s : State). IsInRange s) (sym l.begins.0) range;
+  opens = subst (λ (s : State). Opens (entries l.life.opening_outbox) (entries l.life.closing_outbox) s l.life.inbox) (sym l.begins.0)
+      (subst (λ (rs : List InboxRecord). Opens (entries l.life.opening_outbox) (entries l.life.closing_outbox) m rs) (sym l.begins.1)
+      (subst (λ (rs : List OutboxRecord). Opens (entries rs) (entries l.life.closing_outbox) m i) (sym l.outboxes.0)
+      (subst (λ (rs : List OutboxRecord). Opens (entries opening) (entries rs) m i) (sym l.outboxes.1) o)));
+  payloads = subst (λ (rs : List OutboxRecord). AllByRecursion (λ (e : Entry). IsApplication e.payload) (entries rs)) (sym l.outboxes.1) payloads;
+  turns = subst (λ (rs : List OutboxRecord). AllAreTurns (entries rs) l.life.state l.life.inbox l.life.legs) (sym l.outboxes.1)
+      (subst (λ (s : State). AllAreTurns (entries closing) s l.life.inbox l.life.legs) (sym l.begins.0)
+      (subst (λ (rs : List InboxRecord). AllAreTurns (entries closing) m rs l.life.legs) (sym l.begins.1) l.turns));
+  last = subst (λ (rs : List OutboxRecord). IfSome l.life.last (IsRefusedOn (entries rs) (state_after l.life.state l.life.inbox l.life.legs) (inbox_after l.life.state l.life.inbox l.life.legs))) (sym l.outboxes.1)
+      (subst (λ (s : State). IfSome l.life.last (IsRefusedOn (entries closing) (state_after s l.life.inbox l.life.legs) (inbox_after s l.life.inbox l.life.legs))) (sym l.begins.0)
+      (subst (λ (rs : List InboxRecord). IfSome l.life.last (IsRefusedOn (entries closing) (state_after m rs l.life.legs) (inbox_after m rs l.life.legs))) (sym l.begins.1) l.last));
+  timely = subst (λ (ts : List TurnedLeg). AllByRecursion IsTimely ts) (sym l.legs) timely;
+}

@@ -1,0 +1,326 @@
+-- The passes of a life once all are back: those of the senders, and that of the connection behind them.
+use Rattle.std.proofs.Common.{◌≡◌, ◌⊎◌, inl, inr, ⊎_elim, ℕ, zero, suc, ◌+◌, ◌<◌, true, false, true≢false, List, [], ◌∷◌, length, slice_index_or, All, Option, Some, None, Result, Ok, Err, if◌then◌else◌, refl, sym, ap, subst, ◌∙◌, arith, add-one}
+use Rattle.std.specs.Prelude.{option_to_list, IfErr, IfSome}
+use Rattle.std.proofs.lemmas.Bool.{cases_Bool}
+use mathlib.Core.Logic.{dite}
+use native.Mathlib.Decide.{ℕ_discrete}
+use Rattle.session_model.specs.Journal.{History, entries_of, BeginsHistory}
+use Rattle.fixp_machine.specs.Machine.{State}
+use Rattle.gw_links.specs.Dialers.{DialerTold}
+use Rattle.jr_record.specs.declared.journal.Journal.{Ghosts}
+use Rattle.jr_boxes.specs.declared.inbox.Inbox.{Inbox}
+use Rattle.jr_boxes.specs.Inbox.{limits_of}
+use Rattle.jr_boxes.specs.declared.faults.SubmitFault.{SubmitFault}
+use Rattle.jr_boxes.specs.declared.faults.SubmitFault.TheVariants as submit
+use Rattle.gate_turn.specs.Views.{Account, HasFailed, Part, new_part}
+use Rattle.gate_turn.specs.Rule.{In}
+use Rattle.gate_turn.specs.Places.{known}
+use Rattle.gate_turn.specs.Listed.{pass_at, known_if, known_at}
+use Rattle.gate_turn.specs.declared.pass.Pass.{Pass}
+use Rattle.gate_turn.specs.declared.passes.Passes.{Passes}
+use Rattle.gate_turn.proofs.Failing.{failed_before}
+use Rattle.gate_senders.specs.declared.gate.Gate.{Gate}
+use Rattle.gate_senders.specs.declared.kept.Kept.{Kept}
+use Rattle.conn_loop.specs.Conn.{Looks}
+use Rattle.gate_plans.specs.Runs.{HasNone, CountedEach, WasRefused}
+use Rattle.gate_plans.specs.Seats.{Seated, HasTheirs}
+use Rattle.gate_plans.specs.declared.sender.Sender.{Sender}
+use Rattle.conn_serve.specs.declared.answer.ServeFault.{ServeFault}
+use Rattle.conn_serve.specs.declared.answer.ServeFault.TheVariants as faults
+use Rattle.conn_serve.specs.declared.answer.LifeEnd.{LifeEnd}
+use Rattle.conn_serve.specs.declared.answer.LifeEnd.TheVariants as ends
+use Rattle.conn_serve.specs.Answers.{answer_of, yields}
+use Rattle.conn_serve.specs.Causes.{BlamesJournal, IsBlamed}
+use Rattle.conn_serve.specs.Connections.{wanted_of_all}
+use Rattle.conn_serve.specs.Senders.{refusal_of, MetRefusal, IsRefusal, Finishes, FinishedFirst, SubmittedAll, SomeMarked}
+use Rattle.conn_serve.specs.Served.{ServedLife}
+use Rattle.conn_serve.specs.Opening.{ServedBy, IsUnrefused}
+use Rattle.life_laws.specs.Plans.{plan_in, MadeOf, IsAllMade, PlansMade}
+use Rattle.life_laws.specs.PlanLives.{SomePass, IsOfSender, SeesMark, SeesFailure, MetFull, BlamesInbox, FillsInbox, ServedAt}
+use Rattle.life_laws.proofs.Senders.{PartMade, AllFresh, SendersMade, senders_made, ran_part, ran_at}
+
+-- an answer that is neither want of memory nor done is that of the connections, or a refusal
+pub answer_blames : (connections : Result LifeEnd ServeFault) (refused : Option ServeFault) (x : ServeFault) → (x ≡ faults.Memory → ⊥) → answer_of connections refused ≡ Err x → (connections ≡ Err x) ⊎ (refused ≡ Some x)
+answer_blames (Ok ends.Finished) None x memory e = cc
+answer_blames (Ok ends.Finished) (Some r) x memory e = let same : r ≡ x = cc in inr (ap Some same)
+answer_blames (Ok ends.Stopped) None x memory e = let same : faults.Memory ≡ x = cc in absurd (memory (sym same))
+answer_blames (Ok ends.Stopped) (Some r) x memory e = let same : r ≡ x = cc in inr (ap Some same)
+answer_blames (Err fault) None x memory e = let same : fault ≡ x = cc in inl (ap Err same)
+answer_blames (Err fault) (Some r) x memory e = ⊎_elim
+    (λ yes.
+    let given : Err r ≡ Err x = sym (ap (λ b. if b then Err r else Err fault) yes) ∙ e in
+    let same : r ≡ x = cc in
+    inr (ap Some same))
+    (λ no.
+    let given : Err fault ≡ Err x = sym (ap (λ b. if b then Err r else Err fault) no) ∙ e in
+    let same : fault ≡ x = cc in
+    inl (ap Err same))
+    (cases_Bool (yields fault))
+
+-- which refusals of a sender are those of a journal, and of a limit
+refused_journal : (met : Option SubmitFault) → refusal_of met ≡ Some faults.Journal → (met ≡ Some submit.Broken) ⊎ (met ≡ Some submit.Fault)
+refused_journal None e = cc
+refused_journal (Some submit.Broken) e = inl refl
+refused_journal (Some submit.Closed) e = cc
+refused_journal (Some (submit.Full n m)) e = cc
+refused_journal (Some submit.Memory) e = cc
+refused_journal (Some submit.Fault) e = inr refl
+
+refused_full : (met : Option SubmitFault) (entries bytes : ℕ) → refusal_of met ≡ Some (faults.Full entries bytes) → met ≡ Some (submit.Full entries bytes)
+refused_full None entries bytes e = cc
+refused_full (Some submit.Broken) entries bytes e = cc
+refused_full (Some submit.Closed) entries bytes e = cc
+refused_full (Some (submit.Full n m)) entries bytes e = let a : n ≡ entries = cc in let b : m ≡ bytes = cc in ap (λ k. Some (submit.Full k m)) a ∙ ap (λ k. Some (submit.Full entries k)) b
+refused_full (Some submit.Memory) entries bytes e = cc
+refused_full (Some submit.Fault) entries bytes e = cc
+
+-- what a sender met is a refusal of a sender
+refused_sender : (met : Option SubmitFault) (fault : ServeFault) → refusal_of met ≡ Some fault → IsOfSender fault
+refused_sender None fault e = cc
+refused_sender (Some submit.Broken) fault e = let same : faults.Journal ≡ fault = cc in subst IsOfSender same tt
+refused_sender (Some submit.Closed) fault e = cc
+refused_sender (Some (submit.Full entries bytes)) fault e = let same : faults.Full entries bytes ≡ fault = cc in subst IsOfSender same tt
+refused_sender (Some submit.Memory) fault e = let same : faults.Memory ≡ fault = cc in subst IsOfSender same tt
+refused_sender (Some submit.Fault) fault e = let same : faults.Journal ≡ fault = cc in subst IsOfSender same tt
+
+-- what an answer blames
+pub blamed_at : {A : Type 0} (P : ServeFault → Type 0) (r : Result A ServeFault) (x : ServeFault) → IfErr r P → r ≡ Err x → P x
+blamed_at P (Ok a) x h e = cc
+blamed_at P (Err y) x h e = let same : y ≡ x = cc in subst P same h
+
+-- the element of a list at a place that it has
+pub at_place : {X : Type 0} (xs : List X) (i : ℕ) → i < length xs → X
+at_place [] i lt = absurd (omega (arith, lt))
+at_place (x ∷ xs) i lt = x
+
+-- what a pass knew that was made and took no turn, by its place in a list that it was taken out of
+pub part_at : {T : Type 0} (old at : Passes T) (pass : Pass T) (n : ℕ) (p : Part) → known_at old n ≡ p → pass_at at n ≡ pass_at old n → pass_at at n ≡ Some pass → known pass ≡ p
+part_at {T} old at pass n p is same there = ap (λ (o : Option (Pass T)). known_if o) (sym there ∙ same) ∙ is
+
+module _ {J : Type 0} {G : Ghosts J} (gate : Gate J G) (a : Account) (plans : List (List (List ℕ))) (seated counted after : List (Sender J G)) (old new : Passes (Kept J G)) (last : Pass (Kept J G)) (first now : Part)
+    (fresh : AllFresh gate a plans seated) (count : CountedEach gate seated counted) (seats : Seated gate after (length plans + 1)) (theirs : HasTheirs old new after) (there : pass_at old (length plans + 1) ≡ Some last)
+    (was : (m : ℕ) × (first ≡ new_part (length plans + 1) m a)) (looks : Looks first now) (now_is : known last ≡ now) (only : length plans ≡ 0 → first.made ≡ 1) where
+  module _ (m : SendersMade gate a plans after) where
+    -- the pass of a sender is in its place, and that of the connection behind them
+    sender_at : (i : ℕ) (d : Sender J G) → i < length after → known_at new (suc i) ≡ known (slice_index_or after i d).pass
+    sender_at i d lt = ap (λ (o : Option (Pass (Kept J G))). known_if o) (ap (λ (n : ℕ). pass_at new n) (sym (add-one i)) ∙ theirs.theirs i d lt)
+
+    last_at : known_at new (length plans + 1) ≡ now
+    last_at = ap (λ (o : Option (Pass (Kept J G))). known_if o) (theirs.others (length plans + 1) (omega (arith, m.long)) ∙ there) ∙ now_is
+
+    in_after : (i : ℕ) → In (length plans) (suc i) → i < length after
+    in_after i h = omega (arith, h.up_to, m.long)
+
+    part_of : (i : ℕ) → In (length plans) (suc i) → PartMade a (suc i) (plan_in plans (suc i) []) (known_at new (suc i))
+    part_of i h =
+        let lt : i < length after = in_after i h in
+        let d : Sender J G = at_place after i lt in
+        subst (λ (p : Part). PartMade a (suc i) (plan_in plans (suc i) []) p) (sym (sender_at i d lt)) (m.each i d lt)
+
+    number_at : (n : ℕ) → In (length plans + 1) n → (known_at new n).number ≡ n
+    number_at zero h = absurd (omega (arith, h.from_one))
+    number_at (suc i) h = dite (ℕ_discrete (suc i) (length plans + 1))
+        (λ e.
+        subst (λ (n : ℕ). (known_at new n).number ≡ n) (sym e) (ap (λ (p : Part). p.number) last_at ∙ (looks.number ∙ ap (λ (p : Part). p.number) was.1)))
+        (λ ne. (part_of i (record { from_one = omega arith; up_to = omega (arith, h.up_to, ne) })).number)
+
+    each_at : (s : ℕ) → In (length plans) s → MadeOf (entries_of a.history.made s) s (plan_in plans s []) (known_at new s).mine
+    each_at zero h = absurd (omega (arith, h.from_one))
+    each_at (suc i) h = (part_of i h).of
+
+    last_mine : (known_at new (length plans + 1)).mine ≡ entries_of a.history.made (length plans + 1)
+    last_mine = ap (λ (p : Part). p.mine) last_at ∙ (looks.mine ∙ ap (λ (p : Part). p.mine) was.1)
+
+    last_unended : (known_at new (length plans + 1)).ended ≡ false
+    last_unended = ap (λ (p : Part). p.ended) last_at ∙ (looks.ended ∙ ap (λ (p : Part). p.ended) was.1)
+
+    unended_at : ((i : ℕ) (d : Sender J G) → i < length after → (known (slice_index_or after i d).pass).ended ≡ false) → (n : ℕ) → In (length plans + 1) n → (known_at new n).ended ≡ false
+    unended_at none zero h = absurd (omega (arith, h.from_one))
+    unended_at none (suc i) h = dite (ℕ_discrete (suc i) (length plans + 1))
+        (λ e. subst (λ (n : ℕ). (known_at new n).ended ≡ false) (sym e) last_unended)
+        (λ ne.
+        let lt : i < length after = omega (arith, h.up_to, ne, m.long) in
+        let d : Sender J G = at_place after i lt in
+        ap (λ (p : Part). p.ended) (sender_at i d lt) ∙ none i d lt)
+
+    all_at : ((i : ℕ) (d : Sender J G) → i < length after → IsAllMade (entries_of a.history.made (suc i)) (suc i) (plan_in plans (suc i) []) (known (slice_index_or after i d).pass).mine)
+        → (s : ℕ) → In (length plans) s → IsAllMade (entries_of a.history.made s) s (plan_in plans s []) (known_at new s).mine
+    all_at all zero h = absurd (omega (arith, h.from_one))
+    all_at all (suc i) h =
+        let lt : i < length after = in_after i h in
+        let d : Sender J G = at_place after i lt in
+        ap (λ (p : Part). p.mine) (sender_at i d lt) ∙ all i d lt
+
+    ended_at : ((i : ℕ) (d : Sender J G) → i < length after → (known (slice_index_or after i d).pass).ended ≡ false)
+        ⊎ ((i : ℕ) (d : Sender J G) → i < length after → IsAllMade (entries_of a.history.made (suc i)) (suc i) (plan_in plans (suc i) []) (known (slice_index_or after i d).pass).mine)
+        → (n : ℕ) → In (length plans + 1) n → (known_at new n).ended ≡ true → (s : ℕ) → In (length plans) s → IsAllMade (entries_of a.history.made s) s (plan_in plans s []) (known_at new s).mine
+    ended_at (inl none) n h e s k = absurd (true≢false (sym e ∙ unended_at none n h))
+    ended_at (inr all) n h e s k = all_at all s k
+
+    made_at : (known_at new 1).made ≡ length plans + 1
+    made_at = dite (ℕ_discrete (length plans) 0)
+        (λ e.
+        let one : 1 ≡ length plans + 1 = omega (arith, e) in
+        ap (λ (n : ℕ). (known_at new n).made) one ∙ (ap (λ (p : Part). p.made) last_at ∙ (looks.made ∙ (only e ∙ one))))
+        (λ ne.
+        let lt : 0 < length after = omega (arith, m.long, ne) in
+        let d : Sender J G = at_place after 0 lt in
+        ap (λ (p : Part). p.made) (sender_at 0 d lt) ∙ seats.first d lt)
+
+    pub plans_made : PlansMade a plans (known_at new)
+    plans_made = record { made = made_at; number = number_at; each = each_at; last = last_mine; ended = ended_at m.ended }
+
+    -- a sender whose pass is so
+    some_sender : (P : Part → Type 0) (i : ℕ) (d : Sender J G) → i < length after → P (known (slice_index_or after i d).pass) → SomePass (length plans + 1) P (known_at new)
+    some_sender P i d lt p = record {
+      number = suc i;
+      inside = record { from_one = omega arith; up_to = omega (arith, lt, m.long) };
+      is = subst P (sym (sender_at i d lt)) p;
+    }
+
+    pub marked_at : SomeMarked after → SomePass (length plans + 1) SeesMark (known_at new)
+    marked_at k = some_sender SeesMark k.there.0 k.sender k.there.1 (subst (λ (s : Sender J G). SeesMark (known s.pass)) (sym k.there.2) k.marked)
+
+    -- a failure that the connection's pass, or a sender's, shows
+    last_failed : HasFailed first.faults now.faults ⊎ HasFailed now.opening.faults now.faults → SomePass (length plans + 1) SeesFailure (known_at new)
+    last_failed f = record {
+      number = length plans + 1;
+      inside = record { from_one = omega arith; up_to = omega arith };
+      is = subst SeesFailure (sym last_at) (since_opening f);
+    }
+      where
+        since_opening : HasFailed first.faults now.faults ⊎ HasFailed now.opening.faults now.faults → SeesFailure now
+        since_opening (inl h) =
+            let same : now.opening.faults ≡ first.faults = ap (λ (b : Account). b.faults) (looks.opening ∙ ap (λ (p : Part). p.opening) was.1) ∙ sym (ap (λ (p : Part). p.faults) was.1) in
+            subst (λ (n : ℕ). HasFailed n now.faults) (sym same) h
+        since_opening (inr h) = h
+
+  -- what the refusal of a life shows
+  module _ (refused : Option ServeFault) (s : SubmittedAll gate counted after refused) where
+    made : SendersMade gate a plans after
+    made = senders_made gate a plans seated counted fresh count {P = Unit {0}} {Q = Unit {0}} after refused (inl s)
+
+    -- a failure between two parts, the first of which goes on from the opening
+    failed_since : (n : ℕ) (plan : List (List ℕ)) (p q : Part) → PartMade a n plan p → PartMade a n plan q → HasFailed p.faults q.faults ⊎ HasFailed q.opening.faults q.faults → SeesFailure q
+    failed_since n plan p q x y (inl h) = subst (λ (b : Account). HasFailed b.faults q.faults) (sym y.opening) (failed_before a.faults p.faults q.faults x.faults h)
+    failed_since n plan p q x y (inr h) = h
+
+    module _ (ran_is : after ≡ s.ran) (fault : ServeFault) (met : MetRefusal s.ran fault) where
+      abbrev i : ℕ
+      i = met.there.0
+
+      was_refused : (f : SubmitFault) → met.sender.refused ≡ Some f → WasRefused (slice_index_or counted i met.sender) (slice_index_or s.ran i met.sender) f
+      was_refused f e = (ran_at gate a plans seated counted fresh count after refused s i met.sender met.there.1).refused f (ap (λ (t : Sender J G). t.refused) met.there.2 ∙ e)
+
+      ran_is_made : PartMade a (suc i) (plan_in plans (suc i) []) (known (slice_index_or s.ran i met.sender).pass)
+      ran_is_made = ran_part gate a plans seated counted fresh count after refused s i met.sender met.there.1
+
+      counted_is_made : PartMade a (suc i) (plan_in plans (suc i) []) (known (slice_index_or counted i met.sender).pass)
+      counted_is_made = (senders_made gate a plans seated counted fresh count {P = Unit {0}} {Q = Unit {0}} counted None (inr (refl, tt, tt))).each i met.sender (omega (arith, met.there.1, s.each.long))
+
+      to_pass : (P : Part → Type 0) → P (known (slice_index_or s.ran i met.sender).pass) → SomePass (length plans + 1) P (known_at new)
+      to_pass P p = some_sender made P i met.sender (subst (λ (l : List (Sender J G)). i < length l) (sym ran_is) met.there.1) (subst (λ (l : List (Sender J G)). P (known (slice_index_or l i met.sender).pass)) (sym ran_is) p)
+
+      met_journal : fault ≡ faults.Journal → SomePass (length plans + 1) SeesFailure (known_at new)
+      met_journal e = ⊎_elim
+          (λ b. to_pass SeesFailure (failed_since (suc i) (plan_in plans (suc i) []) (known (slice_index_or counted i met.sender).pass) (known (slice_index_or s.ran i met.sender).pass) counted_is_made ran_is_made (inr ((was_refused submit.Broken b).shown.broken refl))))
+          (λ f. to_pass SeesFailure (failed_since (suc i) (plan_in plans (suc i) []) (known (slice_index_or counted i met.sender).pass) (known (slice_index_or s.ran i met.sender).pass) counted_is_made ran_is_made (inl ((was_refused submit.Fault f).shown.failed refl))))
+          (refused_journal met.sender.refused (met.is ∙ ap Some e))
+
+      met_full : (entries bytes : ℕ) → fault ≡ faults.Full entries bytes → SomePass (length plans + 1) (MetFull entries bytes) (known_at new)
+      met_full entries bytes e =
+          let w = was_refused (submit.Full entries bytes) (refused_full met.sender.refused entries bytes (met.is ∙ ap Some e)) in
+          let q : Part = known (slice_index_or s.ran i met.sender).pass in
+          to_pass (MetFull entries bytes) (record {
+            payload = w.payload;
+            behind = subst (λ (b : Account). BeginsHistory b.history q.seen) (sym ran_is_made.opening) ran_is_made.behind;
+            full = w.shown.full entries bytes refl;
+          })
+
+    refused_as : (fault : ServeFault) → refused ≡ Some fault → ((after ≡ s.ran) × MetRefusal s.ran fault) ⊎ ((0 < length s.ran) × FinishedFirst s.ran after (Some fault))
+    refused_as fault e = by_kind s.finished
+      where
+        by_kind : ((after ≡ s.ran) × IsRefusal s.ran refused × (0 < length s.ran → (All HasNone s.ran → ⊥))) ⊎ (All HasNone s.ran × (0 < length s.ran) × FinishedFirst s.ran after refused)
+            → ((after ≡ s.ran) × MetRefusal s.ran fault) ⊎ ((0 < length s.ran) × FinishedFirst s.ran after (Some fault))
+        by_kind (inl h) = inl (h.0, subst (IsRefusal s.ran) e h.1)
+        by_kind (inr h) = inr (h.1, subst (λ (r : Option ServeFault). FinishedFirst s.ran after r) e h.2)
+
+    pub refused_journal_shown : refused ≡ Some faults.Journal → SomePass (length plans + 1) SeesFailure (known_at new)
+    refused_journal_shown e = ⊎_elim
+        (λ h. met_journal h.0 faults.Journal h.1 refl)
+        (λ h.
+        let d : Sender J G = at_place s.ran 0 h.0 in
+        let f : Finishes (known (slice_index_or s.ran 0 d).pass) (known (slice_index_or after 0 d).pass) (Some faults.Journal) = h.1.first d in
+        let lt : 0 < length after = omega (arith, h.0, h.1.long) in
+        some_sender made SeesFailure 0 d lt
+        (failed_since 1 (plan_in plans 1 []) (known (slice_index_or s.ran 0 d).pass) (known (slice_index_or after 0 d).pass) (ran_part gate a plans seated counted fresh count after refused s 0 d h.0) (made.each 0 d lt) (f.journal refl)))
+        (refused_as faults.Journal e)
+
+    pub refused_full_shown : (entries bytes : ℕ) → refused ≡ Some (faults.Full entries bytes) → SomePass (length plans + 1) (MetFull entries bytes) (known_at new)
+    refused_full_shown entries bytes e = ⊎_elim
+        (λ h. met_full h.0 (faults.Full entries bytes) h.1 entries bytes refl)
+        (λ h.
+        let d : Sender J G = at_place s.ran 0 h.0 in
+        absurd (⊎_elim (λ x. cc) (λ x. cc) ((h.1.first d).few (faults.Full entries bytes) refl)))
+        (refused_as (faults.Full entries bytes) e)
+
+    pub refused_of_sender : (fault : ServeFault) → refused ≡ Some fault → IsOfSender fault
+    refused_of_sender fault e = ⊎_elim
+        (λ h. refused_sender h.1.sender.refused fault h.1.is)
+        (λ h.
+        let d : Sender J G = at_place s.ran 0 h.0 in
+        ⊎_elim (λ x. subst IsOfSender (sym x) tt) (λ x. subst IsOfSender (sym x) tt) ((h.1.first d).few fault refl))
+        (refused_as fault e)
+
+  -- what a served life is of the passes
+  module _ {I : Type 0} {K : Ghosts I} (dialed later : Option DialerTold) (out now_out : Option (List ℕ)) (out_faults now_out_faults dial_faults now_dial_faults : ℕ) (m : State) (box since : Inbox I K) (result : Result (Unit {0}) ServeFault)
+      (s : ServedBy gate dialed later out now_out out_faults now_out_faults dial_faults now_dial_faults first now m box since counted after result) (marked : IsUnrefused result → 0 < length counted → SomeMarked after) (limits : limits_of since ≡ limits_of box) where
+    all_made : SendersMade gate a plans after
+    all_made = senders_made gate a plans seated counted fresh count after s.refused s.senders
+
+    by_refusal : (x : ServeFault) (P : Type 0) → s.refused ≡ Some x → (SubmittedAll gate counted after s.refused → P) → P
+    by_refusal x P e p = ⊎_elim p (λ h. let none : None ≡ Some x = sym h.1 ∙ e in absurd cc) s.senders
+
+    journal_at : result ≡ Err faults.Journal → BlamesInbox box since ⊎ SomePass (length plans + 1) SeesFailure (known_at new)
+    journal_at e = ⊎_elim
+        (λ c. by_blame ((blamed_at (IsBlamed out_faults now_out_faults dial_faults now_dial_faults first now box since) s.connections faults.Journal s.blamed c).journal refl))
+        (λ r. inr (by_refusal faults.Journal (SomePass (length plans + 1) SeesFailure (known_at new)) r (λ h. refused_journal_shown s.refused h r)))
+        (answer_blames s.connections s.refused faults.Journal (λ x. cc) (sym s.answer ∙ e))
+      where
+        by_blame : BlamesJournal first now box since → BlamesInbox box since ⊎ SomePass (length plans + 1) SeesFailure (known_at new)
+        by_blame (inl risen) = inl (inl risen)
+        by_blame (inr (inl broken)) = inl (inr broken)
+        by_blame (inr (inr failed)) = inr (last_failed all_made failed)
+
+    life : ServedLife dialed later out now_out a.history (known_at new (length plans + 1)).seen m box since s.connections
+    life = subst (λ (p : Part). ServedLife dialed later out now_out a.history p.seen m box since s.connections) (sym (last_at all_made))
+        (subst (λ (h : History). ServedLife dialed later out now_out h now.seen m box since s.connections) (ap (λ (p : Part). p.seen) was.1) s.life)
+
+    full_at : (entries bytes : ℕ) → result ≡ Err (faults.Full entries bytes) → FillsInbox since (wanted_of_all (option_to_list life.given_up)) entries bytes ⊎ SomePass (length plans + 1) (MetFull entries bytes) (known_at new)
+    full_at entries bytes e = ⊎_elim
+        (λ c.
+        let b = (blamed_at (IsBlamed out_faults now_out_faults dial_faults now_dial_faults first now box since) s.connections (faults.Full entries bytes) s.blamed c).full entries bytes refl in
+        inl (record { entries_are = b.0; bytes_are = b.1; past = life.past entries bytes c }))
+        (λ r. inr (by_refusal (faults.Full entries bytes) (SomePass (length plans + 1) (MetFull entries bytes) (known_at new)) r (λ h. refused_full_shown s.refused h entries bytes r)))
+        (answer_blames s.connections s.refused (faults.Full entries bytes) (λ x. cc) (sym s.answer ∙ e))
+
+    refusal_at : IfSome s.refused IsOfSender
+    refusal_at = where_some s.refused (λ x e. by_refusal x (IsOfSender x) e (λ h. refused_of_sender s.refused h x e))
+      where
+        where_some : (r : Option ServeFault) → ((x : ServeFault) → r ≡ Some x → IsOfSender x) → IfSome r IsOfSender
+        where_some None h = tt
+        where_some (Some x) h = h x refl
+
+    pub served_at : ServedAt a plans (known_at new) dialed later out now_out m box since result
+    served_at = record {
+      connections = s.connections;
+      refused = s.refused;
+      made = plans_made all_made;
+      life = life;
+      limits = limits;
+      answer = s.answer;
+      refusal = refusal_at;
+      marked = λ u many. marked_at all_made (marked u (omega (arith, many, count.long, fresh.long)));
+      journal = journal_at;
+      full = full_at;
+    }

@@ -1,0 +1,194 @@
+-- What the passes of senders know behind a life, in which each went on with its plan.
+use Rattle.std.proofs.Common.{◌≡◌, ◌⊎◌, inl, inr, ℕ, zero, suc, ◌+◌, ◌-◌, ◌<◌, ◌≤◌, false, List, [], ◌++◌, length, take, drop, map, reverse, slice_index_or, All, Option, None, if◌then◌else◌, ◌==◌, sym, ap, subst, ◌∙◌, arith, add-one, append-nil, length-drop}
+use Rattle.std.proofs.lemmas.List.{take_all, get_or-map, reverse-reverse, length-map}
+use Rattle.session_model.specs.Journal.{Entry, History, entries_of, BeginsHistory}
+use Rattle.jr_record.specs.declared.journal.Journal.{Ghosts}
+use Rattle.gate_turn.specs.Views.{Account, Part, new_part}
+use Rattle.gate_turn.specs.Rule.{In}
+use Rattle.gate_turn.specs.Places.{known}
+use Rattle.gate_turn.specs.Listed.{known_if, known_at}
+use Rattle.gate_turn.specs.declared.pass.Pass.{Pass}
+use Rattle.gate_turn.specs.declared.passes.Passes.{Passes}
+use Rattle.gate_turn.proofs.Histories.{begins_on}
+use Rattle.gate_senders.specs.Gate.{opening_of, MadeAt}
+use Rattle.gate_senders.specs.Shown.{TakesTurn}
+use Rattle.gate_senders.specs.declared.gate.Gate.{Gate}
+use Rattle.gate_senders.specs.declared.kept.Kept.{Kept}
+use Rattle.plan_values.specs.Plans.{payloads_of}
+use Rattle.plan_values.specs.declared.plan.Plan.{Plan}
+use Rattle.gate_plans.specs.Sent.{entries_behind}
+use Rattle.gate_plans.specs.Runs.{plan_of, HasNone, Counted, CountedEach, Ran}
+use Rattle.gate_plans.specs.Seats.{SeatedFrom}
+use Rattle.gate_plans.specs.declared.sender.Sender.{Sender}
+use Rattle.conn_serve.specs.declared.answer.ServeFault.{ServeFault}
+use Rattle.conn_serve.specs.Senders.{IsRefusal, FinishedFirst, SubmittedAll}
+use Rattle.life_laws.specs.Plans.{plan_in, MadeOf, IsAllMade}
+
+-- what a pass knows that was made with a value that said this, and went on with a plan
+pub record PartMade (a : Account) (n : ℕ) (plan : List (List ℕ)) (p : Part) : Type 0 where
+  pub number : p.number ≡ n
+  pub opening : p.opening ≡ a
+  pub behind : BeginsHistory a.history p.seen
+  pub faults : a.faults ≤ p.faults
+  pub of : MadeOf (entries_of a.history.made n) n plan p.mine
+
+-- a pass that took one turn more, and made nothing
+pub part_still : (a : Account) (n : ℕ) (plan : List (List ℕ)) (p q : Part) → PartMade a n plan p → TakesTurn p q → q.mine ≡ p.mine → PartMade a n plan q
+part_still a n plan p q m turn mine = record {
+  number = turn.number ∙ m.number;
+  opening = turn.opening ∙ m.opening;
+  behind = begins_on a.history p.seen q.seen m.behind turn.seen;
+  faults = omega (arith, m.faults, turn.faults);
+  of = record { count = m.of.count; are = mine ∙ m.of.are };
+}
+
+module _ {J : Type 0} {G : Ghosts J} (gate : Gate J G) (a : Account) where
+  -- a sender that was seated, with a plan, and has done nothing yet
+  pub record Fresh (n : ℕ) (plan : List (List ℕ)) (s : Sender J G) : Type 0 where
+    pub made : ℕ
+    pub part : known s.pass ≡ new_part n made a
+    pub plan_is : plan_of s ≡ plan
+
+  counted_made : (n : ℕ) (plan : List (List ℕ)) (s c : Sender J G) → Fresh n plan s → Counted gate s c → PartMade a n plan (known c.pass)
+  counted_made n plan s c f k = record {
+    number = k.pass.number ∙ ap (λ (p : Part). p.number) f.part;
+    opening = k.pass.opening ∙ ap (λ (p : Part). p.opening) f.part;
+    behind = subst (λ (h : History). BeginsHistory h (known c.pass).seen) (ap (λ (p : Part). p.seen) f.part) k.pass.seen;
+    faults = subst (λ (m : ℕ). m ≤ (known c.pass).faults) (ap (λ (p : Part). p.faults) f.part) k.pass.faults;
+    of = record { count = 0; are = k.mine ∙ ap (λ (p : Part). p.mine) f.part ∙ sym (append-nil (entries_of a.history.made n)) };
+  }
+
+  counted_had : (n : ℕ) (plan : List (List ℕ)) (s c : Sender J G) → Fresh n plan s → Counted gate s c → (known c.pass).mine ≡ entries_of a.history.made n
+  counted_had n plan s c f k = k.mine ∙ ap (λ (p : Part). p.mine) f.part
+
+  -- it made exactly the messages that were accepted
+  ran_mine : (n : ℕ) (plan : List (List ℕ)) (s c t : Sender J G) → Fresh n plan s → Counted gate s c → Ran gate c t
+      → (known t.pass).mine ≡ entries_of a.history.made n ++ entries_behind n (length (entries_of a.history.made n)) (take (t.done - c.done) (drop (length (entries_of a.history.made n)) plan))
+  ran_mine n plan s c t f k r =
+      let had : List Entry = entries_of a.history.made n in
+      let mine : (known c.pass).mine ≡ had = counted_had n plan s c f k in
+      let number : (known c.pass).number ≡ n = k.pass.number ∙ ap (λ (p : Part). p.number) f.part in
+      let done : c.done ≡ length had = k.done ∙ ap length mine in
+      let same : plan_of c ≡ plan = k.plan ∙ f.plan_is in
+      r.sent.mine
+      ∙ (ap (λ (es : List Entry). es ++ entries_behind (known c.pass).number (length es) (take (t.done - c.done) (drop c.done (plan_of c)))) mine
+      ∙ (ap (λ (m : ℕ). had ++ entries_behind m (length had) (take (t.done - c.done) (drop c.done (plan_of c)))) number
+      ∙ (ap (λ (d : ℕ). had ++ entries_behind n (length had) (take (t.done - c.done) (drop d (plan_of c)))) done
+      ∙ ap (λ (ps : List (List ℕ)). had ++ entries_behind n (length had) (take (t.done - c.done) (drop (length had) ps))) same)))
+
+  ran_made : (n : ℕ) (plan : List (List ℕ)) (s c t : Sender J G) → Fresh n plan s → Counted gate s c → Ran gate c t → PartMade a n plan (known t.pass)
+  ran_made n plan s c t f k r =
+      let m = counted_made n plan s c f k in
+      record {
+        number = r.pass.number ∙ m.number;
+        opening = r.pass.opening ∙ m.opening;
+        behind = begins_on a.history (known c.pass).seen (known t.pass).seen m.behind r.pass.seen;
+        faults = omega (arith, m.faults, r.pass.faults);
+        of = record { count = t.done - c.done; are = ran_mine n plan s c t f k r };
+      }
+
+  -- all of the plan, where it met no refusal
+  ran_all : (n : ℕ) (plan : List (List ℕ)) (s c t : Sender J G) → Fresh n plan s → Counted gate s c → Ran gate c t → t.refused ≡ None → IsAllMade (entries_of a.history.made n) n plan (known t.pass).mine
+  ran_all n plan s c t f k r none =
+      let had : List Entry = entries_of a.history.made n in
+      let done : c.done ≡ length had = k.done ∙ ap length (counted_had n plan s c f k) in
+      let long : length (plan_of c) ≡ length plan = ap length (k.plan ∙ f.plan_is) in
+      let whole : length (plan_of c) ≤ t.done = r.whole none in
+      let within : length (drop (length had) plan) ≤ t.done - c.done = omega (arith, length-drop (length had) plan, done, long, whole) in
+      ran_mine n plan s c t f k r ∙ ap (λ (ps : List (List ℕ)). had ++ entries_behind n (length had) ps) (take_all (t.done - c.done) (drop (length had) plan) within)
+
+  counted_unended : (n : ℕ) (plan : List (List ℕ)) (s c : Sender J G) → Fresh n plan s → Counted gate s c → (known c.pass).ended ≡ false
+  counted_unended n plan s c f k = k.pass.ended ∙ ap (λ (p : Part). p.ended) f.part
+
+module _ {J : Type 0} {G : Ghosts J} (gate : Gate J G) (a : Account) (plans : List (List (List ℕ))) where
+  -- so many senders were seated, each with its plan
+  pub record AllFresh (senders : List (Sender J G)) : Type 0 where
+    pub long : length senders ≡ length plans
+    pub each : (i : ℕ) (d : Sender J G) → i < length senders → Fresh gate a (suc i) (plan_in plans (suc i) []) (slice_index_or senders i d)
+
+  -- what all of them know behind a life; where one made the mark, each made all of its plan
+  pub record SendersMade (after : List (Sender J G)) : Type 0 where
+    pub long : length after ≡ length plans
+    pub each : (i : ℕ) (d : Sender J G) → i < length after → PartMade a (suc i) (plan_in plans (suc i) []) (known (slice_index_or after i d).pass)
+    pub ended : ((i : ℕ) (d : Sender J G) → i < length after → (known (slice_index_or after i d).pass).ended ≡ false)
+        ⊎ ((i : ℕ) (d : Sender J G) → i < length after → IsAllMade (entries_of a.history.made (suc i)) (suc i) (plan_in plans (suc i) []) (known (slice_index_or after i d).pass).mine)
+
+  module _ (seated counted : List (Sender J G)) (fresh : AllFresh seated) (count : CountedEach gate seated counted) where
+    count_made : SendersMade counted
+    count_made = record {
+      long = count.long ∙ fresh.long;
+      each = λ i d lt.
+          let within : i < length seated = omega (arith, lt, count.long) in
+          counted_made gate a (suc i) (plan_in plans (suc i) []) (slice_index_or seated i d) (slice_index_or counted i d) (fresh.each i d within) (count.each i d within);
+      ended = inl (λ i d lt.
+          let within : i < length seated = omega (arith, lt, count.long) in
+          counted_unended gate a (suc i) (plan_in plans (suc i) []) (slice_index_or seated i d) (slice_index_or counted i d) (fresh.each i d within) (count.each i d within));
+    }
+
+    module _ (after : List (Sender J G)) (refused : Option ServeFault) (s : SubmittedAll gate counted after refused) where
+      pub ran_within : (i : ℕ) → i < length s.ran → i < length seated
+      ran_within i lt = omega (arith, lt, s.each.long, count.long)
+
+      pub ran_at : (i : ℕ) (d : Sender J G) → i < length s.ran → Ran gate (slice_index_or counted i d) (slice_index_or s.ran i d)
+      ran_at i d lt = s.each.each i d (omega (arith, lt, s.each.long))
+
+      pub ran_part : (i : ℕ) (d : Sender J G) → i < length s.ran → PartMade a (suc i) (plan_in plans (suc i) []) (known (slice_index_or s.ran i d).pass)
+      ran_part i d lt = ran_made gate a (suc i) (plan_in plans (suc i) []) (slice_index_or seated i d) (slice_index_or counted i d) (slice_index_or s.ran i d)
+          (fresh.each i d (ran_within i lt)) (count.each i d (ran_within i lt)) (ran_at i d lt)
+
+      ran_unended : (i : ℕ) (d : Sender J G) → i < length s.ran → (known (slice_index_or s.ran i d).pass).ended ≡ false
+      ran_unended i d lt = (ran_at i d lt).pass.ended
+          ∙ counted_unended gate a (suc i) (plan_in plans (suc i) []) (slice_index_or seated i d) (slice_index_or counted i d) (fresh.each i d (ran_within i lt)) (count.each i d (ran_within i lt))
+
+      ran_whole : All HasNone s.ran → (i : ℕ) (d : Sender J G) → i < length s.ran → IsAllMade (entries_of a.history.made (suc i)) (suc i) (plan_in plans (suc i) []) (known (slice_index_or s.ran i d).pass).mine
+      ran_whole none i d lt = ran_all gate a (suc i) (plan_in plans (suc i) []) (slice_index_or seated i d) (slice_index_or counted i d) (slice_index_or s.ran i d)
+          (fresh.each i d (ran_within i lt)) (count.each i d (ran_within i lt)) (ran_at i d lt) (none i d lt)
+
+      ran_long : length s.ran ≡ length plans
+      ran_long = s.each.long ∙ count.long ∙ fresh.long
+
+      ran_only : SendersMade s.ran
+      ran_only = record { long = ran_long; each = ran_part; ended = inl ran_unended }
+
+      with_finish : All HasNone s.ran → FinishedFirst s.ran after refused → SendersMade after
+      with_finish none f = record { long = f.long ∙ ran_long; each = each_at; ended = inr all_at }
+        where
+          each_at : (i : ℕ) (d : Sender J G) → i < length after → PartMade a (suc i) (plan_in plans (suc i) []) (known (slice_index_or after i d).pass)
+          each_at zero d lt = part_still a 1 (plan_in plans 1 []) (known (slice_index_or s.ran 0 d).pass) (known (slice_index_or after 0 d).pass) (ran_part 0 d (omega (arith, lt, f.long))) (f.first d).turn (f.first d).mine
+          each_at (suc i) d lt = subst (λ (t : Sender J G). PartMade a (suc (suc i)) (plan_in plans (suc (suc i)) []) (known t.pass)) (sym (f.others (suc i) d (omega arith))) (ran_part (suc i) d (omega (arith, lt, f.long)))
+
+          all_at : (i : ℕ) (d : Sender J G) → i < length after → IsAllMade (entries_of a.history.made (suc i)) (suc i) (plan_in plans (suc i) []) (known (slice_index_or after i d).pass).mine
+          all_at zero d lt = (f.first d).mine ∙ ran_whole none 0 d (omega (arith, lt, f.long))
+          all_at (suc i) d lt = ap (λ (t : Sender J G). (known t.pass).mine) (f.others (suc i) d (omega arith)) ∙ ran_whole none (suc i) d (omega (arith, lt, f.long))
+
+      submitted_made : SendersMade after
+      submitted_made = by_kind s.finished
+        where
+          by_kind : ((after ≡ s.ran) × IsRefusal s.ran refused × (0 < length s.ran → (All HasNone s.ran → ⊥))) ⊎ (All HasNone s.ran × (0 < length s.ran) × FinishedFirst s.ran after refused) → SendersMade after
+          by_kind (inl h) = subst SendersMade (sym h.0) ran_only
+          by_kind (inr h) = with_finish h.0 h.2
+
+    -- whether they submitted, or there was no memory to begin
+    pub senders_made : {P Q : Type 0} (after : List (Sender J G)) (refused : Option ServeFault) → SubmittedAll gate counted after refused ⊎ ((after ≡ counted) × P × Q) → SendersMade after
+    senders_made after refused (inl s) = submitted_made after refused s
+    senders_made after refused (inr h) = subst SendersMade (sym h.0) count_made
+
+module _ {J : Type 0} {G : Ghosts J} (gate : Gate J G) where
+  -- they are seated out of the passes of a gate that was just made, with the plans of the other end of a list
+  pub fresh_seated : (passes : Passes (Kept J G)) (given : List Plan) (senders : List (Sender J G)) → MadeAt gate passes (length given + 1) → length senders ≡ length given
+      → SeatedFrom passes (reverse given) senders → AllFresh gate (opening_of gate) (map (λ (p : Plan). payloads_of p) given) senders
+  fresh_seated passes given senders made count from = record {
+    long = count ∙ sym (length-map given (λ (p : Plan). payloads_of p));
+    each = λ i d lt.
+        let in_made : In (length given + 1) (i + 1) = record { from_one = omega arith; up_to = omega (arith, lt, count) } in
+        let there : known (slice_index_or senders i d).pass ≡ known_at passes (i + 1) = ap (λ (o : Option (Pass (Kept J G))). known_if o) (sym (from.passes_are i d lt)) in
+        let part : known (slice_index_or senders i d).pass ≡ new_part (i + 1) (if i + 1 == 1 then length given + 1 else 0) (opening_of gate) = there ∙ (made.each (i + 1) in_made).1 in
+        let plans_are : given ≡ map (λ (s : Sender J G). s.plan) senders =
+        sym (reverse-reverse given) ∙ (ap reverse from.plans_are ∙ reverse-reverse (map (λ (s : Sender J G). s.plan) senders)) in
+        record {
+          made = if i + 1 == 1 then length given + 1 else 0;
+          part = part ∙ ap (λ (n : ℕ). new_part n (if i + 1 == 1 then length given + 1 else 0) (opening_of gate)) (add-one i);
+          plan_is = sym (get_or-map (λ (p : Plan). payloads_of p) given i d.plan [] (omega (arith, lt, count))
+              ∙ (ap (λ (ps : List Plan). payloads_of (slice_index_or ps i d.plan)) plans_are ∙ ap (λ (p : Plan). payloads_of p) (get_or-map (λ (s : Sender J G). s.plan) senders i d d.plan lt)));
+        };
+  }

@@ -1,0 +1,4 @@
+pub mod Lives
+pub mod Plans
+pub mod PlanLaws
+pub mod PlanLives

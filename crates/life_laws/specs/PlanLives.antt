@@ -1,0 +1,109 @@
+-- What a life of connections and senders left, of a gate's passes, and of the boxes once the gate is closed (this project's profile).
+use Rattle.std.specs.Prelude.{◌≡◌, ◌⊎◌, ⊤, ℕ, ◌+◌, ◌^◌, ◌<◌, true, false, List, [], length, Option, IfSome, option_to_list, Result, Err}
+use Rattle.gw_outside.specs.Faults.{HasRisen}
+use Rattle.session_model.specs.Journal.{Entry, History, BeginsHistory}
+use Rattle.session_model.specs.Inbox.{InboxRecord}
+use Rattle.fixp_shake.specs.declared.config.EndConfig.{EndConfig}
+use Rattle.fixp_machine.specs.Machine.{State, fresh}
+use Rattle.gw_links.specs.Dialers.{DialerTold}
+use Rattle.jr_record.specs.declared.journal.Journal.{Ghosts}
+use Rattle.jr_boxes.specs.declared.inbox.Inbox.{Inbox}
+use Rattle.jr_boxes.specs.Inbox as inboxes
+use Rattle.jr_boxes.specs.declared.outbox.Outbox.{Outbox}
+use Rattle.jr_boxes.specs.Outbox as outboxes
+use Rattle.gate_turn.specs.Views.{Account, HasFailed, Limits, Part}
+use Rattle.gate_turn.specs.Rule.{In}
+use Rattle.gate_senders.specs.Kept.{next_entry, IsFullAt}
+use Rattle.conn_serve.specs.declared.answer.ServeFault.{ServeFault}
+use Rattle.conn_serve.specs.declared.answer.ServeFault.TheVariants as faults
+use Rattle.conn_serve.specs.declared.answer.LifeEnd.{LifeEnd}
+use Rattle.conn_steps.specs.Settling.{IsPast}
+use Rattle.conn_serve.specs.Answers.{answer_of}
+use Rattle.conn_serve.specs.Connections.{wanted_of_all}
+use Rattle.conn_serve.specs.Served.{ServedLife}
+use Rattle.conn_serve.specs.Opening.{opened_state, IsUnrefused}
+use Rattle.life_laws.specs.Plans.{PlansMade, KeepsPlans}
+
+-- of what so many passes know, this is so of one
+pub record SomePass (made : ℕ) (P : Part → Type 0) (known : ℕ → Part) : Type 0 where
+  pub number : ℕ
+  pub inside : In made number
+  pub is : P (known number)
+
+-- the refusals of a sender, and of the Finish
+abbrev pub IsOfSender : ServeFault → Type 0
+IsOfSender faults.Journal = ⊤
+IsOfSender (faults.Full entries bytes) = ⊤
+IsOfSender faults.Memory = ⊤
+IsOfSender _ = ⊥
+
+-- it has seen the mark
+abbrev pub SeesMark : Part → Type 0
+SeesMark p = p.seen.finished ≡ true
+
+-- it knows that a call of the device failed since the opening
+abbrev pub SeesFailure : Part → Type 0
+SeesFailure p = HasFailed p.opening.faults p.faults
+
+-- a message of its was refused, behind the opening history, at one that is at a limit
+pub record MetFull (entries bytes : ℕ) (p : Part) : Type 0 where
+  pub payload : List ℕ
+  pub behind : BeginsHistory p.opening.history p.seen
+  pub full : IsFullAt p.opening.limits p.seen (next_entry p.seen p.number payload) entries bytes
+
+-- between the opening history and the closing one an entry was refused at a history that is at a limit
+pub record WasFull (limits : Limits) (opening closing : History) (entries bytes : ℕ) : Type 0 where
+  pub history : History
+  pub behind : BeginsHistory opening history
+  pub begins : BeginsHistory history closing
+  pub entry : Entry
+  pub full : IsFullAt limits history entry entries bytes
+
+module _ {J : Type 0} {G : Ghosts J} where
+  -- a call of the disk of the inbox failed, or one had failed before
+  abbrev pub BlamesInbox : (box since : Inbox J G) → Type 0
+  BlamesInbox box since = HasRisen (inboxes.faults_of box) (inboxes.faults_of since) ⊎ (inboxes.is_broken box ≡ true)
+
+  -- the inbox has so many messages, and so many bytes, and no room for the one record that was wanted
+  pub record FillsInbox (since : Inbox J G) (wanted : List InboxRecord) (entries bytes : ℕ) : Type 0 where
+    pub entries_are : entries ≡ inboxes.count_of since
+    pub bytes_are : bytes ≡ inboxes.size_of since
+    pub past : IsPast (inboxes.limits_of since).bytes bytes wanted
+
+  -- The connections were served and the plans submitted beside each other; the passes are back, with that of the connection behind the
+  -- senders'; and it answers what comes first of both
+  pub record ServedAt (opening : Account) (plans : List (List (List ℕ))) (known : ℕ → Part) (dialed later : Option DialerTold) (out now_out : Option (List ℕ)) (m : State) (box since : Inbox J G) (result : Result (Unit {0}) ServeFault) : Type 0 where
+    pub connections : Result LifeEnd ServeFault
+    pub refused : Option ServeFault
+    pub made : PlansMade opening plans known
+    pub life : ServedLife dialed later out now_out opening.history (known (length plans + 1)).seen m box since connections
+    pub limits : inboxes.limits_of since ≡ inboxes.limits_of box
+    pub answer : result ≡ answer_of connections refused
+    pub refusal : IfSome refused IsOfSender
+    pub marked : IsUnrefused result → 0 < length plans → SomePass (length plans + 1) SeesMark known
+    pub journal : result ≡ Err faults.Journal → BlamesInbox box since ⊎ SomePass (length plans + 1) SeesFailure known
+    pub full : (entries bytes : ℕ) → result ≡ Err (faults.Full entries bytes) → FillsInbox since (wanted_of_all (option_to_list life.given_up)) entries bytes ⊎ SomePass (length plans + 1) (MetFull entries bytes) known
+
+module _ {J : Type 0} {G : Ghosts J} {O : Type 0} {H : Ghosts O} where
+  -- The same, once the outbox is out of the gate again: it was opened on one history and closed on another, which keeps the plans
+  pub record LivedBoxes (dialed later : Option DialerTold) (out now_out : Option (List ℕ)) (config : EndConfig) (plans : List (List (List ℕ))) (outbox closed : Outbox O H) (box since : Inbox J G) (result : Result (Unit {0}) ServeFault) : Type 0 where
+    pub opening : History
+    pub closing : History
+    pub seen : History
+    pub connections : Result LifeEnd ServeFault
+    pub refused : Option ServeFault
+    pub few : length closing.made < 2 ^ 40
+    pub opened : ∥ outboxes.HoldsBox outbox opening [] ∥₁
+    pub stands : ∥ outboxes.StandsFor closed closing ∥₁
+    pub holds : outboxes.is_broken closed ≡ false → ∥ outboxes.HoldsBox closed closing [] ∥₁
+    pub broken : outboxes.is_broken closed ≡ true → HasRisen (outboxes.faults_of outbox) (outboxes.faults_of closed)
+    pub plans_kept : KeepsPlans plans opening closing
+    pub begins : BeginsHistory seen closing
+    pub served : ServedLife dialed later out now_out opening seen (fresh config (opened_state opening box) (2 ^ 24)) box since connections
+    pub limits : inboxes.limits_of since ≡ inboxes.limits_of box
+    pub answer : result ≡ answer_of connections refused
+    pub refusal : IfSome refused IsOfSender
+    pub marked : IsUnrefused result → 0 < length plans → closing.finished ≡ true
+    pub journal : result ≡ Err faults.Journal → HasRisen (inboxes.faults_of box) (inboxes.faults_of since) ⊎ HasRisen (outboxes.faults_of outbox) (outboxes.faults_of closed)
+    pub full : (entries bytes : ℕ) → result ≡ Err (faults.Full entries bytes)
+        → FillsInbox since (wanted_of_all (option_to_list served.given_up)) entries bytes ⊎ WasFull (record { entries = (outboxes.limits_of outbox).entries; bytes = (outboxes.limits_of outbox).bytes }) opening closing entries bytes

@@ -1,0 +1,42 @@
+//! A served life, as a life of the connection loop.
+
+ghost use Rattle.life_laws.specs.Lives.{LifeMayTurn, LifeOpens, OpenedInRange, OpenedOpens, ServedIsALoopLife, ServedIsTurned, ServedKeeps};
+
+use jr_boxes::Inbox;
+use jr_record::Journal;
+
+/// A life opens where its first connection may begin.
+pub fn life_opens<I: Journal>(inbox: &Inbox<I>)
+    ensures law { LifeOpens inbox.now }
+{}
+
+/// The connections of a served life are turns, one behind another, and the inbox that is left holds what they add.
+pub fn served_is_turned<I: Journal>(inbox: &Inbox<I>, since: &Inbox<I>)
+    ensures law { ServedIsTurned inbox.now since.now }
+{}
+
+/// A served life is one of the loop that keeps on its connections what the session model asks of it.
+pub fn served_keeps<I: Journal>(inbox: &Inbox<I>, since: &Inbox<I>)
+    ensures law { ServedKeeps inbox.now since.now }
+{}
+
+/// Such a life may be one of two ends that run the loop, where its numbers are in range, its outbox has payloads of application
+/// messages, and its links and its clock are as they have to be.
+pub fn life_may_turn()
+    ensures law { LifeMayTurn }
+{}
+
+/// A life opens where `serve` makes its machine of what the inbox has and the outbox had.
+pub fn opened_opens<I: Journal>(inbox: &Inbox<I>)
+    ensures law { OpenedOpens inbox.now }
+{}
+
+/// That machine is in range.
+pub fn opened_in_range<I: Journal>(inbox: &Inbox<I>)
+    ensures law { OpenedInRange inbox.now }
+{}
+
+/// What `serve` ensures of a life is a life of the loop that may be one of two ends that run it.
+pub fn served_is_a_loop_life<I: Journal>(inbox: &Inbox<I>, since: &Inbox<I>)
+    ensures law { ServedIsALoopLife inbox.now since.now }
+{}

@@ -1,5 +1,0 @@
-use Rattle.link_cases.proofs.Unused.{one_more_unused}
-use Rattle.link_cases.proofs.dialers.tapes.Goals as goal
-
-pub loop-word-preserved : goal.loop-word-preserved
-loop-word-preserved c = rw c.in_ok-push.ensures.items (one_more_unused _ _ _ _ _ c.loop-word.invariant c.in_ok-without_faults.ensures)

@@ -1,5 +1,0 @@
-use Rattle.link_laws.proofs.Cutting.{written_is_read}
-use Rattle.link_laws.proofs.reading.written_is_read.Goals as goal
-
-pub returns : goal.returns
-returns c = record { law = written_is_read }

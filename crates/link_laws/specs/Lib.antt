@@ -1,5 +1,0 @@
-pub mod Reading
-pub mod Refusing
-pub mod Hearing
-pub mod Meeting
-pub mod Samples

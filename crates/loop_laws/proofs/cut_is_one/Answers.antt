@@ -1,5 +1,0 @@
-use Rattle.loop_laws.proofs.Repacking.{cut_is_one}
-use Rattle.loop_laws.proofs.cut_is_one.Goals as goal
-
-pub returns : goal.returns
-returns c args = record { law = cut_is_one args.args.inbox.now args.args.since.now }

@@ -1,4 +1,0 @@
-pub mod Given
-pub mod Whole
-pub mod Ends
-pub mod Sampled

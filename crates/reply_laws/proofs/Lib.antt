@@ -1,5 +1,0 @@
-pub mod Tests
-pub mod Rows
-pub mod Keeping
-pub mod Calls
-pub mod Moving

@@ -1,0 +1,45 @@
+-- Journals without records and an INPUT without bytes.
+use Rattle.std.proofs.Common.{◌≡◌, ℕ, false, List, [], ◌∷◌, ◌++◌, length, Option, Some, None, IsSomeAnd, refl, sym, ap, subst, length-append, arith}
+use Rattle.session_model.specs.Inbox.{InboxRecord}
+use Rattle.fixp_msgs.specs.declared.flow.Flow.{Flow}
+use Rattle.jr_record.specs.Images.{IsJournal}
+use Rattle.jr_boxes.specs.declared.faults.Which.{Which}
+use Rattle.jr_boxes.specs.declared.faults.Which.TheVariants.{Outbox, Inbox}
+use Rattle.plan_text.specs.Plans.{payloads_of_senders}
+use Rattle.cmd_session.specs.Boxes.{IsBox}
+use Rattle.cmd_session.specs.Inputs.{flow_received}
+use Rattle.cmd_session.specs.declared.outside.SessionOutside.{SessionOutside}
+use Rattle.run_laws.specs.Completeness.{TellsPlans, FreshIsSetUp}
+
+-- what follows of the value that is told
+of_told : {A : Type 0} (o : Option A) (P Q : A → Type 0) → ((a : A) → P a → Q a) → IsSomeAnd o P → IsSomeAnd o Q
+of_told None P Q f h = h
+of_told (Some a) P Q f h = f a h
+
+no_record : (before after : List InboxRecord) (r : InboxRecord) → [] ≡ before ++ r ∷ after → ⊥
+no_record before after r e = omega (arith, ap length e, length-append before (r ∷ after))
+
+-- a journal without records is one of either box
+empty_box : (which : Which) (flow : Flow) (content : List ℕ) → IsJournal content [] → IsBox which flow content
+empty_box Outbox flow content j = record {
+  records = [];
+  journal = j;
+  those = (record { made = []; finished = false }, record { spelled = refl; senders = tt; payloads = tt; in_order = λ s. refl });
+}
+empty_box Inbox flow content j = record {
+  records = [];
+  journal = j;
+  those = ([], record { spelled = refl; fits = λ before after r e. absurd (no_record before after r e) });
+}
+
+-- no line gives no payload
+no_lines : (senders : ℕ) → TellsPlans senders []
+no_lines senders = record { short = omega arith; plans = payloads_of_senders 1 senders []; has = record { gifts = []; given = tt; plans_are = refl } }
+
+pub fresh_is_set_up : {S K D N C : Type 0} (left : S → Option (List ℕ)) (told : D → Option (List ℕ)) (before : SessionOutside S K D N C) → FreshIsSetUp left told before
+fresh_is_set_up left told before role c config outbox inbox input = record {
+  config = config;
+  outbox = of_told (told before.out_disk) (λ content. IsJournal content []) (IsBox Outbox (flow_received role c.link)) (empty_box Outbox (flow_received role c.link)) outbox;
+  inbox = of_told (told before.in_disk) (λ content. IsJournal content []) (IsBox Inbox (flow_received role c.link)) (empty_box Inbox (flow_received role c.link)) inbox;
+  input = subst (λ (o : Option (List ℕ)). IsSomeAnd o (TellsPlans c.trade.senders)) (sym input) (no_lines c.trade.senders);
+}

@@ -1,0 +1,69 @@
+-- Where what is read at a step is in order, a run that stops there wants memory.
+use Rattle.std.proofs.Common.{◌≡◌, ℕ, ◌+◌, ◌<◌, List, length, Option, Some, None, Result, Ok, IsSomeAnd, refl, subst, arith}
+use Rattle.fixp_msgs.specs.declared.flow.Flow.{Flow}
+use Rattle.schema_toml.specs.declared.fault.ConfigFault.{ConfigFault}
+use Rattle.cmd_config.specs.declared.configuration.Configuration.{Configuration}
+use Rattle.plan_text.specs.Plans.{AreGiven}
+use Rattle.plan_text.proofs.OneReading.{none_among}
+use Rattle.jr_record.specs.declared.record.Record.{Record}
+use Rattle.jr_record.proofs.Verdicts.{at_most_one_verdict}
+use Rattle.jr_boxes.specs.declared.faults.Which.{Which}
+use Rattle.jr_boxes.specs.declared.faults.Which.TheVariants.{Outbox, Inbox}
+use Rattle.jr_boxes.specs.declared.faults.JournalCause.{JournalCause}
+use Rattle.jr_boxes.specs.declared.faults.JournalCause.TheVariants.{NotFormatted, Damaged, Wrong, Already}
+use Rattle.jr_judge.proofs.Prefixes.{outbox_first, inbox_first}
+use Rattle.cmd_base.specs.Texts.{Refuses, input_limit}
+use Rattle.cmd_base.specs.declared.status.Bad.TheVariants.{Line, TooLong}
+use Rattle.cmd_base.specs.declared.status.Status.{Status}
+use Rattle.cmd_base.specs.declared.status.Status.TheVariants.{Config, InputFault, JournalFault, JournalBad, Message, Memory}
+use Rattle.cmd_session.specs.Inputs.{IsLineOf, RefusesInput}
+use Rattle.cmd_session.specs.Boxes.{AreThoseOf, IsWrongIn, IsBox, IsNoBox, IsNotOpened}
+use Rattle.run_laws.specs.Completeness.{TellsPlans}
+
+-- the value that is told, of which this is so
+pub some_of : {A : Type 0} (o : Option A) (P : A → Type 0) → IsSomeAnd o P → (a : A) × (o ≡ Some a) × P a
+some_of None P h = absurd h
+some_of (Some a) P h = (a, refl, h)
+
+pub config_memory : (c : Configuration) (told : Result Configuration ConfigFault) (status : Status) → told ≡ Ok c → Refuses status told → (status ≡ InputFault → ⊥) → status ≡ Memory
+config_memory c told (Config fault) good refused never = cc
+config_memory c told InputFault good refused never = absurd (never refl)
+config_memory c told Memory good refused never = refl
+config_memory c told _ good refused never = absurd refused
+
+-- the records of a box have none that it excludes
+none_wrong : (which : Which) (flow : Flow) (records : List Record) (at : ℕ) → AreThoseOf which flow records → IsWrongIn which flow records at → ⊥
+none_wrong Outbox flow records at those wrong = let first = outbox_first records those.0 (at + 1) those.1 in wrong.excluded first.0 first.1
+none_wrong Inbox flow records at those wrong = let first = inbox_first flow records those.0 (at + 1) those.1 in wrong.excluded first.0 first.1
+
+-- a content is not a journal of a box and none
+not_both : (which : Which) (flow : Flow) (cause : JournalCause) (content : List ℕ) → IsBox which flow content → IsNoBox which flow cause content → ⊥
+not_both which flow NotFormatted content box none = at_most_one_verdict.formatted content box.records box.journal none
+not_both which flow (Damaged at) content box none = at_most_one_verdict.whole content box.records at box.journal none
+not_both which flow (Wrong at) content box none = none_wrong which flow box.records at box.those
+    (subst (λ (rs : List Record). IsWrongIn which flow rs at) (at_most_one_verdict.one_list content none.records box.records none.journal box.journal) none.wrong)
+not_both which flow Already content box none = none
+
+pub box_memory : (which : Which) (flow : Flow) (told : Option (List ℕ)) (status : Status) → IsSomeAnd told (IsBox which flow) → IsNotOpened which flow told status → (status ≡ JournalFault → ⊥) → status ≡ Memory
+box_memory which flow told (JournalBad box cause) is refused never =
+    let t = some_of told (IsBox which flow) is in
+    absurd (not_both which flow cause t.0 t.2 (refused.1 t.0 t.1))
+box_memory which flow told JournalFault is refused never = absurd (never refl)
+box_memory which flow told Memory is refused never = refl
+box_memory which flow told _ is refused never = absurd refused
+
+-- a text that has plans is not refused
+not_a_line : (senders line : ℕ) (text : List ℕ) → TellsPlans senders text → IsLineOf senders line text → ⊥
+not_a_line senders line text tells refused =
+    let r = refused.1 in
+    none_among senders r.before r.behind r.here tells.has.gifts (subst (λ (ls : List (List ℕ)). AreGiven senders ls tells.has.gifts) r.lines tells.has.given) r.none
+
+not_too_long : (senders : ℕ) (text : List ℕ) → TellsPlans senders text → input_limit < length text → ⊥
+not_too_long senders text tells long = omega (arith, tells.short, long)
+
+pub input_memory : (senders : ℕ) (told : Option (List ℕ)) (status : Status) → IsSomeAnd told (TellsPlans senders) → RefusesInput senders told status → (status ≡ InputFault → ⊥) → status ≡ Memory
+input_memory senders told (Message (Line line)) is refused never = let t = some_of told (TellsPlans senders) is in absurd (not_a_line senders line t.0 t.2 (refused t.0 t.1))
+input_memory senders told (Message TooLong) is refused never = let t = some_of told (TellsPlans senders) is in absurd (not_too_long senders t.0 t.2 (refused t.0 t.1))
+input_memory senders told InputFault is refused never = absurd (never refl)
+input_memory senders told Memory is refused never = refl
+input_memory senders told _ is refused never = absurd refused

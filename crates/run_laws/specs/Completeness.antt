@@ -1,0 +1,121 @@
+-- What a run of `accept` or `connect` ends with where all that it begins on is in order and told, and no call of a device failed (this
+-- project's profile).
+use Rattle.std.specs.Prelude.{⊤, ◌≡◌, ◌⊎◌, ℕ, ◌<◌, ◌≤◌, true, Contains, List, [], length, Option, Some, IsSomeAnd, Ok, Err}
+use Rattle.gw_outside.specs.Faults.{HasRisen}
+use Rattle.session_model.specs.Journal.{History}
+use Rattle.fixp_replies.specs.declared.act.Ending.TheVariants as endings
+use Rattle.fixp_shake.specs.declared.config.Role.{Role}
+use Rattle.fixp_machine.specs.Machine.{State}
+use Rattle.cmd_config.specs.declared.configuration.Configuration.{Configuration}
+use Rattle.plan_text.specs.Plans.{HasPlans}
+use Rattle.gw_links.specs.Dialers.{DialerTold}
+use Rattle.jr_record.specs.declared.journal.Journal.{Ghosts}
+use Rattle.jr_record.specs.Images.{IsJournal}
+use Rattle.jr_boxes.specs.declared.faults.Which.TheVariants.{Outbox, Inbox}
+use Rattle.conn_lines.specs.declared.close.Close.TheVariants as closes
+use Rattle.cmd_base.specs.Causes.{SessionCounts}
+use Rattle.cmd_base.specs.Texts.{input_limit}
+use Rattle.cmd_base.specs.declared.status.Status.{Status}
+use Rattle.cmd_base.specs.declared.status.Status.TheVariants.{Done, Unfinished, Rejected, Full, Turns, Memory}
+use Rattle.conn_serve.specs.declared.answer.ServeFault.{ServeFault}
+use Rattle.conn_serve.specs.declared.answer.ServeFault.TheVariants as faults
+use Rattle.conn_serve.specs.declared.answer.LifeEnd.TheVariants as ends
+use Rattle.conn_serve.specs.Connections.{Connection}
+use Rattle.conn_serve.specs.Served.{IsLifeAnswer}
+use Rattle.cmd_session.specs.Inputs.{configuration_at, flow_received, end_of}
+use Rattle.cmd_session.specs.Boxes.{IsBox}
+use Rattle.cmd_session.specs.Lived.{HasLivedOver}
+use Rattle.cmd_session.specs.Outsides.{counts_of}
+use Rattle.cmd_session.specs.Steps.{Steps}
+use Rattle.cmd_session.specs.declared.outside.SessionOutside.{SessionOutside}
+
+-- no count of faults rose
+pub record NoneRose (before after : SessionCounts) : Type 0 where
+  pub config : HasRisen before.config after.config → ⊥
+  pub input : HasRisen before.input after.input → ⊥
+  pub out : HasRisen before.out after.out → ⊥
+  pub out_disk : HasRisen before.out_disk after.out_disk → ⊥
+  pub in_disk : HasRisen before.in_disk after.in_disk → ⊥
+  pub dialer : HasRisen before.dialer after.dialer → ⊥
+
+-- a text is not too long, and has plans for so many senders
+pub record TellsPlans (senders : ℕ) (text : List ℕ) : Type 0 where
+  pub short : length text ≤ input_limit
+  pub plans : List (List (List ℕ))
+  pub has : HasPlans senders text plans
+
+-- What a session begins on is told, and in order: CONFIG spells this configuration for an end of this role, the disks hold an outbox and an
+-- inbox of the flow that it receives, and INPUT has plans for its senders
+pub record IsSetUp {S K D N C : Type 0} (left : S → Option (List ℕ)) (told : D → Option (List ℕ)) (role : Role) (c : Configuration) (before : SessionOutside S K D N C) : Type 0 where
+  pub config : IsSomeAnd (left before.config) (λ text. configuration_at role text ≡ Ok c)
+  pub outbox : IsSomeAnd (told before.out_disk) (IsBox Outbox (flow_received role c.link))
+  pub inbox : IsSomeAnd (told before.in_disk) (IsBox Inbox (flow_received role c.link))
+  pub input : IsSomeAnd (left before.input) (TellsPlans c.trade.senders)
+
+-- one of some connections ended as Finished
+pub record OneFinished (ended : List Connection) : Type 0 where
+  pub connection : Connection
+  pub among : Contains ended connection
+  pub finished : connection.close ≡ Some (closes.Ended endings.Finished)
+
+-- What the connections of a life did, by its status. At Done the last that ended did so as Finished, and none before it; at Unfinished none
+-- did, and none is left; at Rejected the last was rejected; at Turns one took all its turns (`IsLifeAnswer`). At Full and Memory nothing more
+-- is said here, and there is no other status
+abbrev pub EndsAs : (behind seen : History) (m : State) (later : Option DialerTold) (ended : List Connection) → Option Connection → Status → Type 0
+EndsAs behind seen m later ended given_up Done = IsLifeAnswer behind seen m later ended given_up (Ok ends.Finished)
+EndsAs behind seen m later ended given_up (Unfinished phase) = IsLifeAnswer behind seen m later ended given_up (Err (faults.Unfinished phase))
+EndsAs behind seen m later ended given_up (Rejected template code) = IsLifeAnswer behind seen m later ended given_up (Err (faults.Rejected template code))
+EndsAs behind seen m later ended given_up Turns = IsLifeAnswer behind seen m later ended given_up (Err faults.Turns)
+EndsAs behind seen m later ended given_up (Full entries bytes) = ⊤
+EndsAs behind seen m later ended given_up Memory = ⊤
+EndsAs behind seen m later ended given_up _ = ⊥
+
+-- the status where a connection ended as Finished: Done; or Full, where a sender was refused so; or memory ran out
+abbrev pub IsBehindFinish : Option ServeFault → Status → Type 0
+IsBehindFinish refused Done = ⊤
+IsBehindFinish refused (Full entries bytes) = refused ≡ Some (faults.Full entries bytes)
+IsBehindFinish refused Memory = ⊤
+IsBehindFinish refused _ = ⊥
+
+-- the statuses that come of the connections alone: no sender was refused
+abbrev pub IsOfConnections : Status → Type 0
+IsOfConnections Done = ⊤
+IsOfConnections (Unfinished phase) = ⊤
+IsOfConnections (Rejected template code) = ⊤
+IsOfConnections Turns = ⊤
+IsOfConnections _ = ⊥
+
+-- memory ran out before a life began: the dialer is as it was
+pub record WantsMemory {S K D N C : Type 0} (before after : SessionOutside S K D N C) (status : Status) : Type 0 where
+  pub status_is : status ≡ Memory
+  pub dialer_is : after.dialer ≡ before.dialer
+
+-- A life by the plans of INPUT over both disks, each connection of which ended by a row of a turn but for one that was given up, if one was
+-- (`LivedOver`). Its connections did what the status says; where one ended as Finished the status is Done, or that of a refusal in its place; at
+-- Full it answered so, and `LivedOver` says why; and where there are senders, the mark stands at each status that comes of the connections alone
+pub record Completed {S K D N C J : Type 0} (G : Ghosts J) (left : S → Option (List ℕ)) (taken : K → Option (List ℕ)) (told : D → Option (List ℕ)) (may_leave : D → List ℕ → Type 0) (carried : N → Option DialerTold) (disk : D → ℕ) (role : Role) (c : Configuration) (before after : SessionOutside S K D N C) (status : Status) : Type 0 where
+  pub plans : List (List (List ℕ))
+  pub planned : IsSomeAnd (left before.input) (λ text. HasPlans c.trade.senders text plans)
+  pub lived : HasLivedOver G told may_leave disk (end_of role c.link) plans (carried before.dialer) (carried after.dialer) (taken before.out) (taken after.out) before.out_disk after.out_disk before.in_disk after.in_disk status
+  pub ends : EndsAs lived.over.served.behind lived.over.seen lived.over.served.mid (carried after.dialer) lived.over.served.ended lived.over.served.given_up status
+  pub finished : OneFinished lived.over.served.ended → IsBehindFinish lived.over.refused status
+  pub full : (entries bytes : ℕ) → status ≡ Full entries bytes → lived.result ≡ Err (faults.Full entries bytes)
+  pub marked : IsOfConnections status → 0 < c.trade.senders → lived.over.closing.finished ≡ true
+
+-- Whatever a run keeps to, by its clause `steps`: set up so, and where no call of a device failed, it lived and completed, or memory ran out
+-- before
+abbrev pub RunCompletes : {S K D N C J : Type 0} → Ghosts J → (S → Option (List ℕ)) → (K → Option (List ℕ)) → (D → Option (List ℕ)) → (D → List ℕ → Type 0) → (N → Option DialerTold) → (S → ℕ) → (K → ℕ) → (D → ℕ) → (N → ℕ) → (before after : SessionOutside S K D N C) → Type 0
+RunCompletes G left taken told may_leave carried source sink disk dials before after =
+    (role : Role) (c : Configuration) (status : Status)
+    → IsSetUp left told role c before → NoneRose (counts_of source sink disk dials before) (counts_of source sink disk dials after)
+    → Steps G left taken told may_leave carried source sink disk dials role before after status
+    → WantsMemory before after status ⊎ Completed G left taken told may_leave carried disk role c before after status
+
+-- two journals without records, as `format` makes them, and an INPUT without bytes, are in order with any CONFIG that spells a configuration
+abbrev pub FreshIsSetUp : {S K D N C : Type 0} → (S → Option (List ℕ)) → (D → Option (List ℕ)) → (before : SessionOutside S K D N C) → Type 0
+FreshIsSetUp left told before =
+    (role : Role) (c : Configuration)
+    → IsSomeAnd (left before.config) (λ text. configuration_at role text ≡ Ok c)
+    → IsSomeAnd (told before.out_disk) (λ content. IsJournal content []) → IsSomeAnd (told before.in_disk) (λ content. IsJournal content [])
+    → left before.input ≡ Some []
+    → IsSetUp left told role c before

@@ -1,0 +1,273 @@
+//! What the value at a key has to be.
+
+use cmd_config::{DESKS, FLOW_WORDS, KEEPALIVE, ORDER_VERSION, REFERENCE, Range, Role, SENDERS};
+use std::alloc::AllocError;
+use toml::Value;
+
+/// What the value at a key has to be.
+#[derive(Clone, Copy)]
+pub enum Admitted {
+    /// A whole number in a range.
+    Number(Range),
+    /// One of some words.
+    Words(&'static [&'static str]),
+    /// What these words say.
+    Other(&'static str),
+}
+
+/// The words of primitive types.
+const PRIMITIVES: &[&str] = &[
+    "char", "int8", "int16", "int32", "int64", "uint8", "uint16", "uint32", "uint64", "float",
+    "double",
+];
+
+/// What the value at each of some keys has to be.
+struct Row {
+    keys: &'static [&'static str],
+    admitted: Admitted,
+}
+
+/// The keys of a session's configuration.
+const SETTINGS: &[Row] = &[
+    Row {
+        keys: &["session"],
+        admitted: Admitted::Other("a UUID"),
+    },
+    Row {
+        keys: &["keepalive"],
+        admitted: Admitted::Number(KEEPALIVE),
+    },
+    Row {
+        keys: &["client_flow", "server_flow"],
+        admitted: Admitted::Words(FLOW_WORDS),
+    },
+    Row {
+        keys: &["credentials"],
+        admitted: Admitted::Other("at most 2048 bytes in pairs of hexadecimal digits"),
+    },
+    Row {
+        keys: &["senders"],
+        admitted: Admitted::Number(SENDERS),
+    },
+    Row {
+        keys: &["desks"],
+        admitted: Admitted::Number(DESKS),
+    },
+    Row {
+        keys: &["order_version"],
+        admitted: Admitted::Number(ORDER_VERSION),
+    },
+    Row {
+        keys: &["reference"],
+        admitted: Admitted::Number(REFERENCE),
+    },
+];
+
+/// The keys of a schema. A `length` is a primitive in data.
+const SCHEMA: &[Row] = &[
+    Row {
+        keys: &["id", "version"],
+        admitted: Admitted::Number(Range {
+            least: 0,
+            greatest: 65534,
+        }),
+    },
+    Row {
+        keys: &["bit"],
+        admitted: Admitted::Number(Range {
+            least: 0,
+            greatest: 63,
+        }),
+    },
+    Row {
+        keys: &["length", "prim", "block_prim", "count_prim"],
+        admitted: Admitted::Words(PRIMITIVES),
+    },
+    Row {
+        keys: &["order"],
+        admitted: Admitted::Words(&["little", "big"]),
+    },
+    Row {
+        keys: &["presence"],
+        admitted: Admitted::Words(&["required", "optional", "constant"]),
+    },
+    Row {
+        keys: &["kind"],
+        admitted: Admitted::Words(&["number", "enum", "set", "composite"]),
+    },
+    Row {
+        keys: &["name"],
+        admitted: Admitted::Other("a name of 1 to 64 letters, digits and _, the first no digit"),
+    },
+    Row {
+        keys: &["type"],
+        admitted: Admitted::Other("the name of a type, or a list of types at the top"),
+    },
+    Row {
+        keys: &["value"],
+        admitted: Admitted::Other("a number of 128 bits, or the text of a constant"),
+    },
+    Row {
+        keys: &["null", "min", "max", "offset", "since", "block_length"],
+        admitted: Admitted::Other("a whole number of 128 bits"),
+    },
+    Row {
+        keys: &[
+            "message", "fields", "groups", "data", "values", "bits", "members",
+        ],
+        admitted: Admitted::Other("a list of tables"),
+    },
+];
+
+/// Whether a text is one of some words.
+fn is_one_of(text: &str, words: &[&str]) -> bool {
+    for word in words {
+        if *word == text {
+            return true;
+        }
+    }
+    false
+}
+
+/// What a table has for a key.
+fn admitted_in(rows: &[Row], key: &str) -> Option<Admitted> {
+    for row in rows {
+        if is_one_of(key, row.keys) {
+            return Some(row.admitted);
+        }
+    }
+    None
+}
+
+/// What stands at a key of a session's configuration.
+pub fn in_settings(key: &str) -> Admitted {
+    admitted_in(SETTINGS, key).unwrap_or(Admitted::Other("admitted here"))
+}
+
+/// What a command asks of a key on top.
+#[derive(Clone, Copy)]
+pub struct Asked {
+    /// Which command asks.
+    pub by: &'static str,
+    /// What it asks for.
+    pub value: &'static str,
+    /// Where it asks for that, behind a blank; nothing where it always does.
+    pub condition: &'static str,
+    /// What an absent key stands for.
+    pub default: &'static str,
+}
+
+/// What a command always asks of a key.
+const fn always(by: &'static str, value: &'static str, default: &'static str) -> Asked {
+    Asked {
+        by,
+        value,
+        condition: "",
+        default,
+    }
+}
+
+/// What a live command asks of `senders`, at which this is found: none exactly where its own flow is none.
+fn asked_of_senders(role: Role, by: &'static str, found: Option<&Value>) -> Asked {
+    let is_zero = matches!(found, Some(Value::Integer(0)));
+    let condition = match (role, is_zero) {
+        (Role::Connect, true) => " where client_flow is not \"none\"",
+        (Role::Connect, false) => " where client_flow is \"none\"",
+        (_, true) => " where server_flow is not \"none\"",
+        (_, false) => " where server_flow is \"none\"",
+    };
+    Asked {
+        by,
+        value: if is_zero { "from 1 to 16" } else { "0" },
+        condition,
+        default: "1",
+    }
+}
+
+/// What `answer` asks of a key on top.
+fn asked_by_answer(key: &str) -> Option<Asked> {
+    match key {
+        "client_flow" => Some(always("answer", "\"unsequenced\"", "")),
+        "server_flow" => Some(always("answer", "\"none\"", "")),
+        "senders" => Some(always("answer", "0", "1")),
+        "desks" => Some(always("answer", "0", "0")),
+        _ => None,
+    }
+}
+
+/// What a live command asks of a key on top, at which this is found.
+fn asked_by_live(role: Role, by: &'static str, key: &str, found: Option<&Value>) -> Option<Asked> {
+    match key {
+        "senders" => Some(asked_of_senders(role, by, found)),
+        "desks" => Some(always(by, "0", "0")),
+        _ => None,
+    }
+}
+
+/// What the command of a role asks of a key on top, at which this is found.
+pub fn asked_by(role: Role, key: &str, found: Option<&Value>) -> Option<Asked> {
+    match role {
+        Role::Answer => asked_by_answer(key),
+        Role::Accept => asked_by_live(role, "accept", key, found),
+        Role::Connect => asked_by_live(role, "connect", key, found),
+    }
+}
+
+/// What stands at a key of a schema, at which this is found; the `length` of a type is a number.
+pub fn in_schema(key: &str, found: Option<&Value>) -> Admitted {
+    match (key, found) {
+        ("length", Some(Value::Integer(_))) => Admitted::Number(Range {
+            least: 1,
+            greatest: 16384,
+        }),
+        _ => admitted_in(SCHEMA, key).unwrap_or(Admitted::Other("a table")),
+    }
+}
+
+/// Adds the words that a value has to be one of.
+fn push_words(line: &mut String, words: &[&str]) -> Result<(), AllocError> {
+    line.push_str("one of ")?;
+    let mut is_first = true;
+    for word in words {
+        if !is_first {
+            line.push_str(", ")?;
+        }
+        write!(line, "\"{word}\"")?;
+        is_first = false;
+    }
+    Ok(())
+}
+
+impl Admitted {
+    /// Adds what is admitted, as a noun.
+    pub fn push(self, line: &mut String) -> Result<(), AllocError> {
+        match self {
+            Admitted::Number(Range { least, greatest }) => {
+                write!(line, "a whole number from {least} to {greatest}")
+            }
+            Admitted::Words(words) => push_words(line, words),
+            Admitted::Other(what) => line.push_str(what),
+        }
+    }
+
+    /// Adds what is admitted of the values of the right kind.
+    pub fn push_range(self, line: &mut String) -> Result<(), AllocError> {
+        match self {
+            Admitted::Number(Range { least, greatest }) => {
+                write!(line, "from {least} to {greatest}")
+            }
+            other => other.push(line),
+        }
+    }
+
+    /// Whether a value is admitted by itself.
+    pub fn holds(self, value: &Value) -> bool {
+        match (self, value) {
+            (Admitted::Number(range), Value::Integer(number)) => {
+                range.least as i128 <= *number as i128 && *number as i128 <= range.greatest as i128
+            }
+            (Admitted::Words(words), Value::String(text)) => { is_one_of(text.as_str(), words) }
+            _ => false,
+        }
+    }
+}

@@ -1,5 +1,0 @@
-use Rattle.serve_laws.proofs.Behind.{life_opens}
-use Rattle.serve_laws.proofs.lives.life_opens.Goals as goal
-
-pub returns : goal.returns
-returns c args = record { law = life_opens args.args.inbox.now }

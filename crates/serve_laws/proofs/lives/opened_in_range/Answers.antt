@@ -1,5 +1,0 @@
-use Rattle.serve_laws.proofs.Opened.{opened_in_range}
-use Rattle.serve_laws.proofs.lives.opened_in_range.Goals as goal
-
-pub returns : goal.returns
-returns c args = record { law = opened_in_range args.args.inbox.now }

@@ -1,5 +1,0 @@
-use Rattle.serve_laws.proofs.Opened.{served_is_a_loop_life}
-use Rattle.serve_laws.proofs.lives.served_is_a_loop_life.Goals as goal
-
-pub returns : goal.returns
-returns c args = record { law = served_is_a_loop_life args.args.inbox.now args.args.since.now }

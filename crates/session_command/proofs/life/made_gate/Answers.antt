@@ -1,7 +1,0 @@
-use Rattle.std.proofs.Common.{arith}
-use Rattle.gate_senders.specs.Gate.{opening_of}
-use Rattle.session_command.proofs.Opened.{few_entries}
-use Rattle.session_command.proofs.life.made_gate.Goals as goal
-
-pub returns-in-Ok-clause-sent : goal.returns-in-Ok-clause-sent
-returns-in-Ok-clause-sent g c = omega (arith, c.requires.few_entries, few_entries c.args.outbox (opening_of c.in-Ok.made.0).history c.in-Ok.ensures.opened.holds)

@@ -1,6 +1,0 @@
--- The law, as it is proved of its definition.
-use Rattle.session_config.proofs.Unknown.{unknown_key_is_least}
-use Rattle.session_config.proofs.laws.unknown_key_is_least.Goals as goal
-
-pub returns : goal.returns
-returns c = record { law = unknown_key_is_least }

@@ -1,5 +1,0 @@
-use Rattle.session_grammar.proofs.Tied.{spelled_alike}
-use Rattle.session_grammar.proofs.spelled_alike.Goals as goal
-
-pub returns : goal.returns
-returns c = record { law = spelled_alike }

@@ -1,5 +1,0 @@
-pub mod Plans
-pub mod Outboxes
-pub mod Senders
-pub mod Passes
-pub mod Boxes

@@ -1,6 +1,0 @@
--- The law, as it is computed of its definition.
-use Rattle.session_schema.proofs.Computed.{session_blocks}
-use Rattle.session_schema.proofs.session_blocks.Goals as goal
-
-pub returns : goal.returns
-returns c = record { law = session_blocks }

@@ -1,2 +1,0 @@
-pub mod SessionSchema
-pub mod Laws

@@ -1,0 +1,10 @@
+pub mod Cutting
+pub mod Refused
+pub mod Deaf
+pub mod Heard
+pub mod Sessions
+pub mod Sampled
+pub mod Given
+pub mod Whole
+pub mod Ends
+pub mod LoopSampled

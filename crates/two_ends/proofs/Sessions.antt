@@ -1,0 +1,191 @@
+-- Connections that are linked by their bytes are linked, and so two ends are a session.
+use Rattle.std.proofs.Common.{◌≡◌, ℕ, List, [], ◌∷◌, ◌++◌, map, Option, Some, None, IfSome, refl, sym, ap, subst, ◌∙◌, append-nil}
+use Rattle.std.specs.Prelude.{flat_map}
+use Rattle.std.specs.List.{AllByRecursion}
+use Rattle.std.proofs.lemmas.List.{map-append}
+use Rattle.sofh_frame.specs.Splits.{frames_of}
+use Rattle.session_model.specs.Journal.{Entry, OutboxRecord, entries}
+use Rattle.session_model.specs.Inbox.{InboxRecord}
+use Rattle.session_model.specs.Events.{Event}
+use Rattle.session_model.specs.Lives.{Connection, Served, Life, KeepsConnections, KeepsOutbox, KeepsContract, TakenFrom, rest_lost, taken, rejected, Linked}
+use Rattle.session_model.specs.Lives
+use Rattle.session_model.proofs.Lists.{prefix_trans, all_append}
+use Rattle.session_model.specs.Growth as model
+use Rattle.session_model.specs.Guarantee.{Session}
+use Rattle.session_model.proofs.Guarantees.{session_turns_round, recoverable_guarantee, idempotent_guarantee, unsequenced_guarantee, no_flow_guarantee}
+use Rattle.fixp_msgs.specs.declared.flow.Flow.{Flow}
+use Rattle.fixp_msgs.specs.declared.flow.Flow.TheVariants as flows
+use Rattle.fixp_machine.specs.Machine.{State}
+use Rattle.fixp_machine.specs.Accepting.{model_flow}
+use Rattle.connection_laws.specs.Writing.{Piece, bytes_written, events_written}
+use Rattle.connection_laws.specs.Courses.{Waiting, Course, inbox_of}
+use Rattle.connection_laws.specs.Living.{Leg, course_of, AllMayRun, state_behind, inbox_behind, life_on, Opens}
+use Rattle.connection_laws.proofs.Living.{ran, behind, life_serves, life_refused}
+use Rattle.two_ends.specs.Reading.{AreRead}
+use Rattle.two_ends.specs.Hearing.{came, AreFirstOf, TakesFrom}
+use Rattle.two_ends.specs.Meeting.{Run, course_in, accepted_in, connection_in, MayBegin, ReadsFrom, no_more, left_alone, right_alone, paired, LinksHold, Refused, MachineLife, served_with, life_in, runs_on, last_run, runs_of, MayRefuse, MayLive, SessionOfEnds, Holds, EndsHold}
+use Rattle.two_ends.proofs.Cutting.{written_is_read}
+use Rattle.two_ends.proofs.Heard.{events_begin, heard_from}
+
+-- what is taken of the frames that came, with that of the frame whose records were refused
+takes_in : (written : List Event) (c : Course) (q : Option Waiting) → IfSome q (λ w. c.waiting ≡ Some w) → TakesFrom written c → TakenFrom written (accepted_in c q)
+takes_in written c None waits t = t.accepted
+takes_in written c (Some w) waits t = t.waiting w waits
+
+-- nothing is taken of nothing
+takes_nothing : (w a : List Event) → w ≡ [] → TakenFrom w a → a ≡ []
+takes_nothing w a e rest_lost = refl
+takes_nothing w a e (taken k) = absurd (cc e)
+takes_nothing w a e (rejected k) = absurd (cc e)
+
+-- a connection to which no frame came accepted nothing
+alone : (r : Run) → MayBegin r → came r.leg.calls ≡ [] → (connection_in r).accepted ≡ []
+alone r may none =
+    takes_nothing [] (accepted_in (course_in r) r.refused) refl
+    (takes_in [] (course_in r) r.refused may.refused
+    (heard_from r.outbox r.state r.inbox r.leg.moment r.leg.calls [] [] [] may.awaits may.enough may.calls (subst (λ is. AreFirstOf is []) (sym none) tt) tt ([], refl)))
+
+-- an end takes of what it read from another
+reads : (reader writer : Run) → MayBegin reader → MayBegin writer → ReadsFrom reader writer → TakenFrom (connection_in writer).written (connection_in reader).accepted
+reads reader writer mine theirs from =
+    takes_in (events_written writer.leg.whole) (course_in reader) reader.refused mine.refused
+    (heard_from reader.outbox reader.state reader.inbox reader.leg.moment reader.leg.calls read (events_written writer.leg.whole) (frames_of from.came.bytes) mine.awaits mine.enough mine.calls
+    from.came.frames r.frames (events_begin read writer.leg.whole (from.whole.all read r.first (prefix_trans (bytes_written read) from.came.bytes from.sent r.whole from.came.begins))))
+  where
+    d : Course
+    d = course_in writer
+
+    both : (read : List Piece) × AreRead d.output from.came.bytes read
+    both = written_is_read d.output from.came.bytes from.legal from.came.are_bytes (prefix_trans from.came.bytes from.sent (bytes_written d.output) from.came.begins from.written)
+
+    read : List Piece
+    read = both.0
+
+    r : AreRead d.output from.came.bytes read
+    r = both.1
+
+pub links_hold : LinksHold
+links_hold [] [] all_a all_b no_more = Lives.Linked.no_more
+links_hold (a ∷ as') bs all_a all_b (left_alone none linked) = Lives.Linked.left_alone (alone a all_a.0 none) (links_hold as' bs all_a.1 all_b linked)
+links_hold as' (b ∷ bs) all_a all_b (right_alone none linked) = Lives.Linked.right_alone (alone b all_b.0 none) (links_hold as' bs all_a all_b.1 linked)
+links_hold (a ∷ as') (b ∷ bs) all_a all_b (paired p q linked) =
+    Lives.Linked.paired (reads a b all_a.0 all_b.0 p) (reads b a all_b.0 all_a.0 q) (links_hold as' bs all_a.1 all_b.1 linked)
+
+-- the connections of a life are those of its runs
+connections_on : (h : List Entry) (s : State) (inbox : List InboxRecord) (legs : List Leg) → map connection_in (runs_on h s inbox legs) ≡ (life_on s inbox legs).connections
+connections_on h s inbox [] = refl
+connections_on h s inbox (leg ∷ later) =
+    let here : Run = record { outbox = h; state = s; inbox = inbox; leg = leg; refused = None } in
+    ap (λ cs. connection_in here ∷ cs) (connections_on h (course_of s inbox leg).state (inbox_of (course_of s inbox leg)) later)
+
+connections_in : (l : MachineLife) → map connection_in (runs_of l) ≡ (life_in l).served.connections
+connections_in l =
+    map-append connection_in (runs_on h l.state l.inbox l.legs) (last_run h s inbox l.last)
+    ∙ (ap (λ cs. cs ++ map connection_in (last_run h s inbox l.last)) (connections_on h l.state l.inbox l.legs) ∙ by_last l.last)
+  where
+    h : List Entry
+    h = entries l.closing_outbox
+
+    s : State
+    s = state_behind l.state l.inbox l.legs
+
+    inbox : List InboxRecord
+    inbox = inbox_behind l.state l.inbox l.legs
+
+    first : Served
+    first = life_on l.state l.inbox l.legs
+
+    by_last : (q : Option Refused) → first.connections ++ map connection_in (last_run h s inbox q) ≡ (served_with first s inbox q).connections
+    by_last None = append-nil first.connections
+    by_last (Some r) = refl
+
+connections_of_all : (lives : List MachineLife) → map connection_in (flat_map runs_of lives) ≡ flat_map (λ (life : Life). life.served.connections) (map life_in lives)
+connections_of_all [] = refl
+connections_of_all (l ∷ later) =
+    map-append connection_in (runs_of l) (flat_map runs_of later)
+    ∙ (ap (λ cs. cs ++ map connection_in (flat_map runs_of later)) (connections_in l) ∙ ap (λ cs. (life_in l).served.connections ++ cs) (connections_of_all later))
+
+-- each of them begins where it may
+may_begin_on : (opened h : List Entry) (s : State) (inbox : List InboxRecord) (legs : List Leg) → Opens opened h s inbox → AllMayRun h s inbox legs → AllByRecursion MayBegin (runs_on h s inbox legs)
+may_begin_on opened h s inbox [] o all = tt
+may_begin_on opened h s inbox (leg ∷ later) o all = (
+  record { awaits = o.awaits; enough = o.enough; calls = all.0.calls; refused = tt },
+  may_begin_on opened h (course_of s inbox leg).state (inbox_of (course_of s inbox leg)) later (ran opened h s inbox leg o all.0).next all.1,
+)
+
+may_begin_last : (opened h : List Entry) (s : State) (inbox : List InboxRecord) (q : Option Refused) → Opens opened h s inbox → IfSome q (MayRefuse h s inbox) → AllByRecursion MayBegin (last_run h s inbox q)
+may_begin_last opened h s inbox None o may = tt
+may_begin_last opened h s inbox (Some r) o may = (record { awaits = o.awaits; enough = o.enough; calls = may.runs.calls; refused = may.waits }, tt)
+
+may_begin : (own peer : Flow) (lives : List MachineLife) → AllByRecursion (MayLive own peer) lives → AllByRecursion MayBegin (flat_map runs_of lives)
+may_begin own peer [] all = tt
+may_begin own peer (l ∷ later) all =
+    let opened : List Entry = entries l.opening_outbox in
+    let h : List Entry = entries l.closing_outbox in
+    let s : State = state_behind l.state l.inbox l.legs in
+    let inbox : List InboxRecord = inbox_behind l.state l.inbox l.legs in
+    let may = all.0 in
+    all_append MayBegin (runs_of l) (flat_map runs_of later)
+    (all_append MayBegin (runs_on h l.state l.inbox l.legs) (last_run h s inbox l.last) (may_begin_on opened h l.state l.inbox l.legs may.opens may.legs)
+    (may_begin_last opened h s inbox l.last (behind opened h l.state l.inbox l.legs may.opens may.legs).opens may.last))
+    (may_begin own peer later all.1)
+
+-- each life keeps its contract
+keeps : (own peer : Flow) (l : MachineLife) → MayLive own peer l
+    → KeepsConnections (model_flow own) (model_flow peer) (entries l.opening_outbox) (entries l.closing_outbox) (life_in l).served
+keeps own peer l may =
+    subst (λ k. KeepsConnections (model_flow k) (model_flow peer) opened h (life_in l).served) may.own_flow
+    (subst (λ k. KeepsConnections (model_flow l.state.config.own_flow) (model_flow k) opened h (life_in l).served) may.peer_flow (by_last l.last may.last))
+  where
+    opened : List Entry
+    opened = entries l.opening_outbox
+
+    h : List Entry
+    h = entries l.closing_outbox
+
+    s : State
+    s = state_behind l.state l.inbox l.legs
+
+    inbox : List InboxRecord
+    inbox = inbox_behind l.state l.inbox l.legs
+
+    by_last : (q : Option Refused) → IfSome q (MayRefuse h s inbox)
+        → KeepsConnections (model_flow l.state.config.own_flow) (model_flow l.state.config.peer_flow) opened h (served_with (life_on l.state l.inbox l.legs) s inbox q)
+    by_last None none = life_serves opened h l.state l.inbox l.legs may.opens may.legs
+    by_last (Some r) last = life_refused opened h l.state l.inbox l.legs r.leg r.waiting may.opens may.legs last.runs last.waits
+
+contracts : (own peer : Flow) (plan : ℕ → List (List ℕ) → List (List ℕ)) (lives : List MachineLife) → AllByRecursion (MayLive own peer) lives
+    → AllByRecursion (KeepsOutbox plan) (map life_in lives) → AllByRecursion (KeepsContract (model_flow own) (model_flow peer) plan) (map life_in lives)
+contracts own peer plan [] all outboxes = tt
+contracts own peer plan (l ∷ later) all outboxes = (record { connections = keeps own peer l all.0; outbox = outboxes.0 }, contracts own peer plan later all.1 outboxes.1)
+
+pub session_of_ends : SessionOfEnds
+session_of_ends flow_a flow_b plan_a plan_b a b outbox_a outbox_b inbox_a inbox_b e = record {
+  chained_a = e.chained_a;
+  chained_b = e.chained_b;
+  contract_a = contracts flow_a flow_b plan_a a e.lives_a e.outboxes_a;
+  contract_b = contracts flow_b flow_a plan_b b e.lives_b e.outboxes_b;
+  linked =
+      subst (λ cs. Linked cs (flat_map (λ (life : Life). life.served.connections) (map life_in b))) (connections_of_all a)
+      (subst (λ cs. Linked (map connection_in (flat_map runs_of a)) cs) (connections_of_all b)
+      (links_hold (flat_map runs_of a) (flat_map runs_of b) (may_begin flow_a flow_b a e.lives_a) (may_begin flow_b flow_a b e.lives_b) e.linked));
+}
+
+-- by the guarantee of the sender's flow
+holds : (flow : Flow) (other : model.Flow) (plan_a plan_b : ℕ → List (List ℕ) → List (List ℕ)) (a b : List Life)
+    (outbox_a outbox_b : List OutboxRecord) (inbox_a inbox_b : List InboxRecord)
+    → Session (model_flow flow) other plan_a plan_b a b outbox_a outbox_b inbox_a inbox_b → Holds flow (entries outbox_a) inbox_b
+holds flows.Recoverable other plan_a plan_b a b outbox_a outbox_b inbox_a inbox_b s = (recoverable_guarantee other plan_a plan_b a b outbox_a outbox_b inbox_a inbox_b s).0
+holds flows.Idempotent other plan_a plan_b a b outbox_a outbox_b inbox_a inbox_b s = (idempotent_guarantee other plan_a plan_b a b outbox_a outbox_b inbox_a inbox_b s).0
+holds flows.Unsequenced other plan_a plan_b a b outbox_a outbox_b inbox_a inbox_b s = (unsequenced_guarantee other plan_a plan_b a b outbox_a outbox_b inbox_a inbox_b s).0
+holds flows.None other plan_a plan_b a b outbox_a outbox_b inbox_a inbox_b s = no_flow_guarantee other plan_a plan_b a b outbox_a outbox_b inbox_a inbox_b s
+
+pub ends_hold : EndsHold
+ends_hold flow_a flow_b plan_a plan_b a b outbox_a outbox_b inbox_a inbox_b e =
+    let fa : model.Flow = model_flow flow_a in
+    let fb : model.Flow = model_flow flow_b in
+    let s = session_of_ends flow_a flow_b plan_a plan_b a b outbox_a outbox_b inbox_a inbox_b e in (
+      holds flow_a fb plan_a plan_b (map life_in a) (map life_in b) outbox_a outbox_b inbox_a inbox_b s,
+      holds flow_b fa plan_b plan_a (map life_in b) (map life_in a) outbox_b outbox_a inbox_b inbox_a
+          (session_turns_round fa fb plan_a plan_b (map life_in a) (map life_in b) outbox_a outbox_b inbox_a inbox_b s),
+    )

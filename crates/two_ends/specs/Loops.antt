@@ -1,0 +1,116 @@
+-- Two ends that run the connection loop over their lives, whose connections are linked by what the links gave and took.
+use Rattle.std.specs.Prelude.{◌≡◌, ℕ, List, [], ◌∷◌, ◌++◌, map, flat_map, Option, Some, None, option_map, IfSome}
+use Rattle.std.specs.List.{AllByRecursion}
+use mathlib.Core.List.{IsPrefix}
+use Rattle.sofh_frame.specs.Framing.{IsBytes}
+use Rattle.sofh_frame.specs.Splits.{frames_of}
+use Rattle.session_model.specs.Journal.{Entry, OutboxRecord, entries}
+use Rattle.session_model.specs.Inbox.{InboxRecord}
+use Rattle.session_model.specs.Lives.{Life, KeepsOutbox, Chained}
+use Rattle.fixp_msgs.specs.Payload.{IsApplication}
+use Rattle.fixp_msgs.specs.declared.flow.Flow.{Flow}
+use Rattle.fixp_machine.specs.Machine.{State}
+use Rattle.conn_turns.specs.Turns.{Turn, only_sends, works, link_lost, cut_short, not_begun}
+use Rattle.connection_laws.specs.Courses.{Waiting}
+use Rattle.connection_laws.specs.Living.{Opens}
+use Rattle.connection_laws.specs.Ranges.{IsInRange, IsInTime}
+use Rattle.two_ends.specs.Meeting.{Refused, MachineLife, life_in}
+use Rattle.turn_laws.specs.Legs.{TurnedLeg, all_turns, AreTurnsOf, given_on, sent_on, course_on, leg_of}
+use Rattle.turn_laws.specs.Lives.{AllAreTurns, legs_of, state_after, inbox_after}
+
+-- a last connection of a life, on which the append of the records of the frame that waits failed
+pub record RefusedLeg : Type 0 where
+  pub leg : TurnedLeg
+  pub waiting : Waiting
+
+-- a life of the loop: its outbox, the state and the inbox on which it opened, its connections by their turns, and such a last one,
+-- if any
+pub record LoopLife : Type 0 where
+  pub opening_outbox : List OutboxRecord
+  pub closing_outbox : List OutboxRecord
+  pub refused_outbox : List OutboxRecord
+  pub state : State
+  pub inbox : List InboxRecord
+  pub legs : List TurnedLeg
+  pub last : Option RefusedLeg
+
+abbrev pub refused_leg : State → List InboxRecord → RefusedLeg → Refused
+refused_leg s inbox r = record { leg = leg_of s inbox r.leg; waiting = r.waiting }
+
+-- as a life of the machine, and as one of the session model
+abbrev pub machine_life : LoopLife → MachineLife
+machine_life l = record {
+  opening_outbox = l.opening_outbox;
+  closing_outbox = l.closing_outbox;
+  refused_outbox = l.refused_outbox;
+  state = l.state;
+  inbox = l.inbox;
+  legs = legs_of l.state l.inbox l.legs;
+  last = option_map (refused_leg (state_after l.state l.inbox l.legs) (inbox_after l.state l.inbox l.legs)) l.last;
+}
+
+abbrev pub lives_of : List LoopLife → List Life
+lives_of lives = map life_in (map machine_life lives)
+
+-- a last connection is turns over this outbox, and the frame waits there
+pub record IsRefusedOn (h : List Entry) (s : State) (inbox : List InboxRecord) (r : RefusedLeg) : Type 0 where
+  pub turns : AreTurnsOf h s r.leg
+  pub waits : (course_on s inbox r.leg).waiting ≡ Some r.waiting
+
+-- its connections, one behind another
+abbrev pub last_leg : Option RefusedLeg → List TurnedLeg
+last_leg None = []
+last_leg (Some r) = r.leg ∷ []
+
+abbrev pub legs_in : LoopLife → List TurnedLeg
+legs_in l = l.legs ++ last_leg l.last
+
+-- the moment of a turn
+abbrev pub moment_of : Turn → ℕ
+moment_of (only_sends now sent lost) = now
+moment_of (works w) = w.now
+moment_of (link_lost now) = now
+moment_of (cut_short now received frames refused) = now
+moment_of not_begun = 0
+
+-- what the link gave on a connection are bytes, and its moments are below 2^44
+pub record IsTimely (t : TurnedLeg) : Type 0 where
+  pub bytes : IsBytes (given_on t)
+  pub begins : IsInTime t.moment
+  pub turns : AllByRecursion (λ (turn : Turn). IsInTime (moment_of turn)) (all_turns t)
+
+-- The life is of an end with these flows, whose numbers are in range, and opens where it may; its closing outbox has payloads of
+-- application messages; and each of its connections is turns over that outbox, of bytes and in time
+pub record MayTurn (own peer : Flow) (l : LoopLife) : Type 0 where
+  pub own_flow : l.state.config.own_flow ≡ own
+  pub peer_flow : l.state.config.peer_flow ≡ peer
+  pub range : IsInRange l.state
+  pub opens : Opens (entries l.opening_outbox) (entries l.closing_outbox) l.state l.inbox
+  pub payloads : AllByRecursion (λ (e : Entry). IsApplication e.payload) (entries l.closing_outbox)
+  pub turns : AllAreTurns (entries l.closing_outbox) l.state l.inbox l.legs
+  pub last : IfSome l.last (IsRefusedOn (entries l.closing_outbox) (state_after l.state l.inbox l.legs) (inbox_after l.state l.inbox l.legs))
+  pub timely : AllByRecursion IsTimely (legs_in l)
+
+-- what the link gave one end are the first of the bytes that it took of the other
+abbrev pub ReadsOf : (reader writer : TurnedLeg) → Type 0
+ReadsOf reader writer = IsPrefix (given_on reader) (sent_on writer)
+
+-- Connections linked by what went over their links: paired in the same order at both ends, each in at most one pair. In a pair the
+-- link gives each end of what it took of the other; to a connection in no pair it gave no whole frame
+pub data LinkedLinks : List TurnedLeg → List TurnedLeg → Type 0 where
+  no_more : LinkedLinks [] []
+  left_alone : {a : TurnedLeg} {as' bs : List TurnedLeg} → frames_of (given_on a) ≡ [] → LinkedLinks as' bs → LinkedLinks (a ∷ as') bs
+  right_alone : {b : TurnedLeg} {as' bs : List TurnedLeg} → frames_of (given_on b) ≡ [] → LinkedLinks as' bs → LinkedLinks as' (b ∷ bs)
+  paired : {a b : TurnedLeg} {as' bs : List TurnedLeg} → ReadsOf a b → ReadsOf b a → LinkedLinks as' bs → LinkedLinks (a ∷ as') (b ∷ bs)
+
+-- Two ends that run the loop: the flow that one sends the other receives; the lives of each are chained from empty journals, may
+-- leave these now, and keep their outboxes; and their connections are linked by what went over their links
+pub record TwoLoops (flow_a flow_b : Flow) (plan_a plan_b : ℕ → List (List ℕ) → List (List ℕ)) (a b : List LoopLife)
+    (outbox_a outbox_b : List OutboxRecord) (inbox_a inbox_b : List InboxRecord) : Type 0 where
+  pub lives_a : AllByRecursion (MayTurn flow_a flow_b) a
+  pub lives_b : AllByRecursion (MayTurn flow_b flow_a) b
+  pub chained_a : Chained [] [] (lives_of a) outbox_a inbox_a
+  pub chained_b : Chained [] [] (lives_of b) outbox_b inbox_b
+  pub outboxes_a : AllByRecursion (KeepsOutbox plan_a) (lives_of a)
+  pub outboxes_b : AllByRecursion (KeepsOutbox plan_b) (lives_of b)
+  pub linked : LinkedLinks (flat_map legs_in a) (flat_map legs_in b)

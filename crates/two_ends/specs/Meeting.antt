@@ -1,0 +1,166 @@
+-- Two ends over their lives, whose connections are linked by the bytes that went over them.
+use Rattle.std.specs.Prelude.{◌≡◌, ℕ, ◌≤◌, List, [], ◌∷◌, ◌++◌, map, flat_map, length, Option, Some, None, IfSome}
+use Rattle.std.specs.List.{AllByRecursion}
+use mathlib.Core.List.{IsPrefix}
+use Rattle.session_model.specs.Journal.{Entry, OutboxRecord, entries}
+use Rattle.session_model.specs.Inbox.{InboxRecord, next_number, applied, skips}
+use Rattle.session_model.specs.Events.{Event}
+use Rattle.session_model.specs.Growth.{AppliesPrefix, SettlesOnce, DeliversRising}
+use Rattle.session_model.specs.Lives.{Connection, Served, Life, served_on, KeepsOutbox, Chained, Linked}
+use Rattle.session_model.specs.Guarantee.{Session}
+use Rattle.fixp_msgs.specs.declared.flow.Flow.{Flow}
+use Rattle.fixp_msgs.specs.declared.flow.Flow.TheVariants as flows
+use Rattle.fixp_machine.specs.Machine.{State}
+use Rattle.fixp_machine.specs.Accepting.{model_flow}
+use Rattle.connection_laws.specs.Writing.{Piece, bytes_written}
+use Rattle.connection_laws.specs.Framed.{IsLegalPiece}
+use Rattle.connection_laws.specs.Courses.{Waiting, Course, inbox_of, beginning, reply_to, accepted_by}
+use Rattle.connection_laws.specs.Standing.{AllMayStand}
+use Rattle.connection_laws.specs.Connections.{connection_of, refused_by}
+use Rattle.connection_laws.specs.Living.{Leg, course_of, MayRun, AllMayRun, state_behind, inbox_behind, life_on, Opens}
+use Rattle.two_ends.specs.Hearing.{came, CameFrom}
+
+-- One connection of the machine: over an outbox with these entries it begins in this state, over this inbox. Where the append
+-- of the records of the frame that waits failed, this is the frame
+pub record Run : Type 0 where
+  pub outbox : List Entry
+  pub state : State
+  pub inbox : List InboxRecord
+  pub leg : Leg
+  pub refused : Option Waiting
+
+abbrev pub course_in : Run → Course
+course_in r = course_of r.state r.inbox r.leg
+
+-- what it accepted, with the event of that frame
+abbrev pub accepted_in : Course → Option Waiting → List Event
+accepted_in c None = c.accepted
+accepted_in c (Some w) = c.accepted ++ accepted_by (reply_to c.state w) w.incoming
+
+-- the connection in the session model's words
+abbrev pub connection_in : Run → Connection
+connection_in r = record (connection_of (course_in r) r.leg.whole r.leg.drained) { accepted = accepted_in (course_in r) r.refused }
+
+-- it begins where the end awaits the inbox's next number and has sent no more than the outbox has, and each call may come
+pub record MayBegin (r : Run) : Type 0 where
+  pub awaits : r.state.facts.recorded.inbox_next ≡ next_number r.inbox
+  pub enough : r.state.facts.recorded.sent ≤ length r.outbox
+  pub calls : AllMayStand r.outbox (beginning r.state r.inbox r.leg.moment) r.leg.calls
+  pub refused : IfSome r.refused (λ w. (course_in r).waiting ≡ Some w)
+
+-- the frames that the link took whole, where these are the bytes that it took: of those written, the first, as far as it took all
+-- of their bytes
+pub record TookWhole (c : Course) (sent : List ℕ) (whole : List Piece) : Type 0 where
+  pub first : IsPrefix whole c.output
+  pub within : IsPrefix (bytes_written whole) sent
+  pub all : (more : List Piece) → IsPrefix more c.output → IsPrefix (bytes_written more) sent → IsPrefix more whole
+
+-- The frames that came to one end are the first of bytes that begin those that the link took of the other, which wrote legal ones.
+-- What the link took are the first bytes of those written; a link that failed as it sent may have taken more than it said
+pub record ReadsFrom (reader writer : Run) : Type 0 where
+  pub sent : List ℕ
+  pub written : IsPrefix sent (bytes_written (course_in writer).output)
+  pub came : CameFrom sent reader.leg.calls
+  pub legal : AllByRecursion IsLegalPiece (course_in writer).output
+  pub whole : TookWhole (course_in writer) sent writer.leg.whole
+
+-- Connections linked by bytes: paired in the same order at both ends, each in at most one pair. In a pair each end reads from
+-- the other; to a connection in no pair no frame came
+pub data LinkedByBytes : List Run → List Run → Type 0 where
+  no_more : LinkedByBytes [] []
+  left_alone : {a : Run} {as' bs : List Run} → came a.leg.calls ≡ [] → LinkedByBytes as' bs → LinkedByBytes (a ∷ as') bs
+  right_alone : {b : Run} {as' bs : List Run} → came b.leg.calls ≡ [] → LinkedByBytes as' bs → LinkedByBytes as' (b ∷ bs)
+  paired : {a b : Run} {as' bs : List Run} → ReadsFrom a b → ReadsFrom b a → LinkedByBytes as' bs → LinkedByBytes (a ∷ as') (b ∷ bs)
+
+abbrev pub LinksHold : Type 0
+LinksHold = (as' bs : List Run) → AllByRecursion MayBegin as' → AllByRecursion MayBegin bs → LinkedByBytes as' bs
+    → Linked (map connection_in as') (map connection_in bs)
+
+-- a last connection of a life, on which the append of the records of the frame that waits failed
+pub record Refused : Type 0 where
+  pub leg : Leg
+  pub waiting : Waiting
+
+-- a life of the machine: its outbox, the state and the inbox on which it opened, its connections, and such a last one, if any
+pub record MachineLife : Type 0 where
+  pub opening_outbox : List OutboxRecord
+  pub closing_outbox : List OutboxRecord
+  pub refused_outbox : List OutboxRecord
+  pub state : State
+  pub inbox : List InboxRecord
+  pub legs : List Leg
+  pub last : Option Refused
+
+-- what it served
+abbrev pub served_with : Served → State → List InboxRecord → Option Refused → Served
+served_with served s inbox None = served
+served_with served s inbox (Some r) = served_on served (refused_by (course_of s inbox r.leg) r.waiting r.leg.whole r.leg.drained)
+
+abbrev pub life_in : MachineLife → Life
+life_in l = record {
+  opening_outbox = l.opening_outbox;
+  closing_outbox = l.closing_outbox;
+  refused_outbox = l.refused_outbox;
+  served = served_with (life_on l.state l.inbox l.legs) (state_behind l.state l.inbox l.legs) (inbox_behind l.state l.inbox l.legs) l.last;
+}
+
+-- its connections, one behind another
+abbrev pub runs_on : List Entry → State → List InboxRecord → List Leg → List Run
+runs_on h s inbox [] = []
+runs_on h s inbox (leg ∷ later) =
+    record { outbox = h; state = s; inbox = inbox; leg = leg; refused = None } ∷ runs_on h (course_of s inbox leg).state (inbox_of (course_of s inbox leg)) later
+
+abbrev pub last_run : List Entry → State → List InboxRecord → Option Refused → List Run
+last_run h s inbox None = []
+last_run h s inbox (Some r) = record { outbox = h; state = s; inbox = inbox; leg = r.leg; refused = Some r.waiting } ∷ []
+
+abbrev pub runs_of : MachineLife → List Run
+runs_of l =
+    runs_on (entries l.closing_outbox) l.state l.inbox l.legs
+    ++ last_run (entries l.closing_outbox) (state_behind l.state l.inbox l.legs) (inbox_behind l.state l.inbox l.legs) l.last
+
+-- on the last connection each call may come, and the frame waits there
+pub record MayRefuse (h : List Entry) (s : State) (inbox : List InboxRecord) (r : Refused) : Type 0 where
+  pub runs : MayRun h s inbox r.leg
+  pub waits : (course_of s inbox r.leg).waiting ≡ Some r.waiting
+
+-- the life is of an end with these flows, opens where it may, and on each of its connections each call may come
+pub record MayLive (own peer : Flow) (l : MachineLife) : Type 0 where
+  pub own_flow : l.state.config.own_flow ≡ own
+  pub peer_flow : l.state.config.peer_flow ≡ peer
+  pub opens : Opens (entries l.opening_outbox) (entries l.closing_outbox) l.state l.inbox
+  pub legs : AllMayRun (entries l.closing_outbox) l.state l.inbox l.legs
+  pub last : IfSome l.last (MayRefuse (entries l.closing_outbox) (state_behind l.state l.inbox l.legs) (inbox_behind l.state l.inbox l.legs))
+
+-- Two ends of the machine: the flow that one sends the other receives; the lives of each are chained from empty journals, may
+-- leave these now, and keep their outboxes; and their connections are linked by bytes
+pub record TwoEnds (flow_a flow_b : Flow) (plan_a plan_b : ℕ → List (List ℕ) → List (List ℕ)) (a b : List MachineLife)
+    (outbox_a outbox_b : List OutboxRecord) (inbox_a inbox_b : List InboxRecord) : Type 0 where
+  pub lives_a : AllByRecursion (MayLive flow_a flow_b) a
+  pub lives_b : AllByRecursion (MayLive flow_b flow_a) b
+  pub chained_a : Chained [] [] (map life_in a) outbox_a inbox_a
+  pub chained_b : Chained [] [] (map life_in b) outbox_b inbox_b
+  pub outboxes_a : AllByRecursion (KeepsOutbox plan_a) (map life_in a)
+  pub outboxes_b : AllByRecursion (KeepsOutbox plan_b) (map life_in b)
+  pub linked : LinkedByBytes (flat_map runs_of a) (flat_map runs_of b)
+
+-- they are a session of the session model
+abbrev pub SessionOfEnds : Type 0
+SessionOfEnds = (flow_a flow_b : Flow) (plan_a plan_b : ℕ → List (List ℕ) → List (List ℕ)) (a b : List MachineLife)
+    (outbox_a outbox_b : List OutboxRecord) (inbox_a inbox_b : List InboxRecord)
+    → TwoEnds flow_a flow_b plan_a plan_b a b outbox_a outbox_b inbox_a inbox_b
+    → Session (model_flow flow_a) (model_flow flow_b) plan_a plan_b (map life_in a) (map life_in b) outbox_a outbox_b inbox_a inbox_b
+
+-- what an inbox holds of the outbox of the peer, by the kind of the peer's flow
+abbrev pub Holds : Flow → List Entry → List InboxRecord → Type 0
+Holds flows.Recoverable outbox inbox = AppliesPrefix outbox inbox
+Holds flows.Idempotent outbox inbox = SettlesOnce outbox inbox
+Holds flows.Unsequenced outbox inbox = DeliversRising outbox inbox
+Holds flows.None outbox inbox = (applied inbox ≡ []) × (skips inbox ≡ [])
+
+-- so each inbox holds of the other's outbox what the session guarantee says
+abbrev pub EndsHold : Type 0
+EndsHold = (flow_a flow_b : Flow) (plan_a plan_b : ℕ → List (List ℕ) → List (List ℕ)) (a b : List MachineLife)
+    (outbox_a outbox_b : List OutboxRecord) (inbox_a inbox_b : List InboxRecord)
+    → TwoEnds flow_a flow_b plan_a plan_b a b outbox_a outbox_b inbox_a inbox_b
+    → Holds flow_a (entries outbox_a) inbox_b × Holds flow_b (entries outbox_b) inbox_a

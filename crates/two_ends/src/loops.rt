@@ -1,0 +1,28 @@
+//! What went over the links of two ends, and what these hold of each other.
+
+ghost use Rattle.two_ends.specs.LoopLaws.{GivenCame, SentAreWhole, LoopsAreEnds, LoopsAreASession, LoopsHold};
+
+/// The frames that came in the turns of a connection are the first of the bytes that the link gave.
+pub fn given_came()
+    ensures law { GivenCame }
+{}
+
+/// The frames that are said to be taken whole are those whose bytes the link took.
+pub fn sent_are_whole()
+    ensures law { SentAreWhole }
+{}
+
+/// Two ends that run the loop, linked by what went over their links, are two ends of the machine.
+pub fn loops_are_ends()
+    ensures law { LoopsAreEnds }
+{}
+
+/// So they are a session of the session model.
+pub fn loops_are_a_session()
+    ensures law { LoopsAreASession }
+{}
+
+/// Each inbox holds of the other's outbox what the session guarantee says, by the kind of that end's flow.
+pub fn loops_hold()
+    ensures law { LoopsHold }
+{}

@@ -1,0 +1,14 @@
+//! The premises of the laws, met by two ends.
+
+ghost use Rattle.two_ends.specs.Samples.{HandshakeSample};
+ghost use Rattle.two_ends.specs.LoopSamples.{TurnsSample};
+
+/// Two ends that shake hands over one link meet all premises, and each accepts the other's announcement.
+pub fn handshake_sample()
+    ensures law { HandshakeSample }
+{}
+
+/// Two ends that shake hands over one link, turn by turn, meet all premises, and each accepts the other's announcement.
+pub fn turns_sample()
+    ensures law { TurnsSample }
+{}
