@@ -28,7 +28,14 @@ greatest_number = 2 ^ 24
 
 -- the acceptor that `answer` is: it reads an unsequenced flow, and sends none
 abbrev pub acceptor_of : Settings → EndConfig
-acceptor_of s = record { role = Acceptor; session = s.session; own_flow = flows.None; peer_flow = flows.Unsequenced; keepalive = s.keepalive; credentials = s.credentials }
+acceptor_of s = record {
+  role = Acceptor;
+  session = s.session;
+  own_flow = flows.None;
+  peer_flow = flows.Unsequenced;
+  keepalive = s.keepalive;
+  credentials = s.credentials;
+}
 
 -- a new session: not negotiated, and awaiting message 1
 abbrev pub first_facts : Facts

@@ -65,7 +65,13 @@ pub record Stands (cfg : EndConfig) (read wire out : List ℕ) (a : Acceptor) : 
   pub classified : AllByRecursion IsClassified received
   pub config : a.end.config ≡ cfg
   pub most : a.end.most ≡ greatest_number
-  pub stage : stage_after cfg received ≡ record { place = a.place; facts = a.end.facts; wire = wire ++ a.end.unsent; out = out ++ a.lines.items; ending = a.end.ending }
+  pub stage : stage_after cfg received ≡ record {
+    place = a.place;
+    facts = a.end.facts;
+    wire = wire ++ a.end.unsent;
+    out = out ++ a.lines.items;
+    ending = a.end.ending;
+  }
 
 -- The frames before bytes that are no frame were answered, and so were those bytes.
 pub record BrokeOff (cfg : EndConfig) (read wire out : List ℕ) (a : Acceptor) : Type 0 where
@@ -76,7 +82,8 @@ pub record BrokeOff (cfg : EndConfig) (read wire out : List ℕ) (a : Acceptor) 
   pub broken : IsBroken (first_of a.framer.held)
   pub going : (stage_after cfg received).ending ≡ None
   pub place : a.place ≡ (stage_after cfg received).place
-  pub wire_is : wire ++ a.end.unsent ≡ (stage_after cfg received).wire ++ bytes_of (reply_to_bad_frame (around_place cfg (stage_after cfg received).place) (stage_after cfg received).facts).written
+  pub wire_is : wire ++ a.end.unsent ≡ (stage_after cfg received).wire
+      ++ bytes_of (reply_to_bad_frame (around_place cfg (stage_after cfg received).place) (stage_after cfg received).facts).written
   pub out_is : out ++ a.lines.items ≡ (stage_after cfg received).out
   pub ending : a.end.ending ≡ (reply_to_bad_frame (around_place cfg (stage_after cfg received).place) (stage_after cfg received).facts).ending
 

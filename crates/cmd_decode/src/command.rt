@@ -34,7 +34,7 @@ pub fn decode<R: Wait, S: Source, K: Sink, D: Disk>(
     ensures cause { IsCaused (faults_of S.faults K.faults D.faults outside.old) (faults_of S.faults K.faults D.faults outside.new) result }
     ensures ends { IsOfStreams result }
 {
-    match read_config::<S, Plan>(alloc, &mut outside.config) {
+    match read_config::<S, Plan>(alloc, (), &mut outside.config) {
         Ok(plan) => print_frames(rt, alloc, &plan, &mut outside.input, &mut outside.out),
         Err(status) => status,
     }

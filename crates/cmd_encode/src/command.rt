@@ -29,7 +29,7 @@ pub fn encode<S: Source, K: Sink, D: Disk>(alloc: Global, outside: &mut Outside<
     ensures cause { IsCaused (faults_of S.faults K.faults D.faults outside.old) (faults_of S.faults K.faults D.faults outside.new) result }
     ensures ends { IsOfStreams result }
 {
-    match read_config::<S, Plan>(alloc, &mut outside.config) {
+    match read_config::<S, Plan>(alloc, (), &mut outside.config) {
         Ok(plan) => write_frames(alloc, &plan, &mut outside.input, &mut outside.wire),
         Err(status) => status,
     }

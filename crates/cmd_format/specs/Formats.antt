@@ -40,6 +40,7 @@ pub record FailsAtInbox {D : Type 0} (told : D → Option (List ℕ)) (may_leave
 abbrev pub Formats : {D : Type 0} → (D → Option (List ℕ)) → (D → List ℕ → Type 0) → (D → ℕ) → Disks D → Disks D → Status → Type 0
 Formats told may_leave faults before after Done = IsMade told may_leave before.outbox after.outbox × IsMade told may_leave before.inbox after.inbox
 Formats told may_leave faults before after (JournalBad Outbox Already) = IsAlready told may_leave before.outbox after.outbox × (after.inbox ≡ before.inbox)
-Formats told may_leave faults before after (JournalBad Inbox Already) = IsMade told may_leave before.outbox after.outbox × IsAlready told may_leave before.inbox after.inbox
+Formats told may_leave faults before after (JournalBad Inbox Already) = IsMade told may_leave before.outbox after.outbox
+    × IsAlready told may_leave before.inbox after.inbox
 Formats told may_leave faults before after JournalFault = FailsAtOutbox faults before after ⊎ FailsAtInbox told may_leave faults before after
 Formats told may_leave faults before after _ = ⊥

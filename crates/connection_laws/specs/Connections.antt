@@ -20,7 +20,13 @@ pub record WasTaken (c : Course) (whole : List Piece) (drained : Bool) : Type 0 
 
 -- the connection, of whose frames the link took these
 abbrev pub connection_of : Course → List Piece → Bool → Connection
-connection_of c whole drained = record { accepted = c.accepted; written = events_written whole; added = c.added; reported = ranges_told whole; drained = drained }
+connection_of c whole drained = record {
+  accepted = c.accepted;
+  written = events_written whole;
+  added = c.added;
+  reported = ranges_told whole;
+  drained = drained;
+}
 
 -- a life that served it, and none of whose records was refused
 abbrev pub served_by : Course → List Piece → Bool → Served
@@ -64,7 +70,8 @@ ConnectionServes = (opened h : List Entry) (s : State) (inbox : List InboxRecord
     → s.facts.recorded.inbox_next ≡ next_number inbox → s.facts.recorded.sent ≤ length h
     → (s.config.own_flow ≡ flows.Unsequenced → length opened ≤ s.facts.recorded.sent)
     → AllMayStand h (beginning s inbox now) calls → WasTaken (course_after (beginning s inbox now) calls) whole drained
-    → KeepsConnections (model_flow s.config.own_flow) (model_flow s.config.peer_flow) opened h (served_by (course_after (beginning s inbox now) calls) whole drained)
+    → KeepsConnections (model_flow s.config.own_flow) (model_flow s.config.peer_flow) opened h
+    (served_by (course_after (beginning s inbox now) calls) whole drained)
 
 -- the entries in which what was written of a flow stands, where so many were sent: on a flow without numbers those alone
 abbrev pub sent_part : model.Flow → ℕ → List Entry → List Entry
@@ -78,7 +85,8 @@ abbrev pub WritingGoesOn : Type 0
 WritingGoesOn = (opened h longer : List Entry) (c : Course) (whole : List Piece) (earlier : List (List Event))
     → IsPrefix h longer → c.sent_before ≤ length h → Stands longer c → OpenedBefore c opened → IsPrefix whole c.output
     → Writes (model_flow c.state.config.own_flow) opened (sent_part (model_flow c.state.config.own_flow) c.sent_before h) earlier
-    → Writes (model_flow c.state.config.own_flow) opened (sent_part (model_flow c.state.config.own_flow) c.state.facts.recorded.sent longer) (earlier ++ events_written whole ∷ [])
+    → Writes (model_flow c.state.config.own_flow) opened (sent_part (model_flow c.state.config.own_flow) c.state.facts.recorded.sent longer)
+    (earlier ++ events_written whole ∷ [])
 
 -- and it is what a life may write
 abbrev pub PartIsWritten : Type 0

@@ -73,7 +73,8 @@ called c call = record c {
 
 -- where the act of a frame is a record, its outcome takes effect once the act is done
 abbrev pub next_framed : Course → Waiting → Outcome → Course
-next_framed c w o = if is_record o.act then record (called c (frame w.incoming w.at w.moment)) { waiting = Some w } else counting (called c (frame w.incoming w.at w.moment)) o w.incoming
+next_framed c w o = if is_record o.act then record (called c (frame w.incoming w.at w.moment)) { waiting = Some w }
+    else counting (called c (frame w.incoming w.at w.moment)) o w.incoming
 
 abbrev pub next_done : Course → Option Outcome → Option Waiting → Course
 next_done c None w = c
@@ -82,7 +83,8 @@ next_done c (Some o) (Some w) = counting c o w.incoming
 
 abbrev pub next_course : Course → Call → Course
 next_course c (begin now) = beginning c.state (inbox_of c) now
-next_course c (frame incoming at now) = next_framed c (record { incoming = incoming; at = at; moment = now }) (reply_of (around c.state at now) c.state.facts incoming)
+next_course c (frame incoming at now) = next_framed c (record { incoming = incoming; at = at; moment = now })
+    (reply_of (around c.state at now) c.state.facts incoming)
 next_course c (did now) = next_done (called c (did now)) c.state.pending c.waiting
 next_course c (taken count) = record (called c (taken count)) { taken = c.taken ++ take count c.state.unsent }
 next_course c call = called c call

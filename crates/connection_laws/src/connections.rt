@@ -8,7 +8,8 @@ pub fn connection_kept()
     ensures law { ConnectionKept }
 {}
 
-/// So is one at which the append of a record failed: the record's frame is accepted, and not processed for sure.
+/// A connection at which the append of a record failed is one that a life may have served: the record's frame is accepted, and not
+/// processed for sure.
 pub fn refused_kept()
     ensures law { RefusedKept }
 {}
@@ -33,7 +34,7 @@ pub fn life_serves()
     ensures law { LifeServes }
 {}
 
-/// So it does where on the last connection the append of a record failed.
+/// A life on whose last connection the append of a record failed keeps on its connections what the session model asks of it.
 pub fn life_refused()
     ensures law { LifeRefused }
 {}

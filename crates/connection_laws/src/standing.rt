@@ -13,7 +13,7 @@ pub fn connection_begins()
     ensures law { ConnectionBegins }
 {}
 
-/// So does a connection that begins behind another, over what that has left.
+/// A connection that begins behind another stands, over what that has left.
 pub fn begins_again()
     ensures law { BeginsAgain }
 {}

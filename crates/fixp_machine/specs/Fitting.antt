@@ -29,7 +29,8 @@ IsMessage (unknown template) = ⊥
 abbrev pub CanTake : Flow → (most : ℕ) → EndState → (HasMessage : Type 0) → Act → Type 0
 CanTake flow most recorded HasMessage acts.Nothing = ⊤
 CanTake flow most recorded HasMessage (acts.Apply number) = HasMessage × (number ≡ recorded.inbox_next) × (number ≤ most)
-CanTake flow most recorded HasMessage (acts.Skip from count) = (flow ≡ flows.Idempotent) × (from ≡ recorded.inbox_next) × (1 ≤ count) × (from + count ≤ most + 1)
+CanTake flow most recorded HasMessage (acts.Skip from count) = (flow ≡ flows.Idempotent) × (from ≡ recorded.inbox_next) × (1 ≤ count)
+    × (from + count ≤ most + 1)
 CanTake flow most recorded HasMessage acts.Negotiated = recorded.negotiated ≡ false
 CanTake flow most recorded HasMessage (acts.PeerFinished last) = recorded.peer_last ≡ None
 CanTake flow most recorded HasMessage (acts.Told from count) = ⊤

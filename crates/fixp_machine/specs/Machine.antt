@@ -100,7 +100,8 @@ to_tell cfg acts.Ended = []
 
 -- an outcome takes effect
 abbrev pub reply_applied : State → Outcome → ℕ → State
-reply_applied s o now = record (wrote s (bytes_of o.written) now) { facts = o.next; ending = o.ending; pending = None; untold = s.untold ++ to_tell s.config o.act }
+reply_applied s o now = record (wrote s (bytes_of o.written) now)
+    { facts = o.next; ending = o.ending; pending = None; untold = s.untold ++ to_tell s.config o.act }
 
 -- the end after a frame with this outcome: where the act is a record, the outcome is pending
 abbrev pub after_frame : State → Outcome → ℕ → State

@@ -4,12 +4,12 @@
 #![tactic(auto)]
 
 mod fitting;
-mod growing;
+mod growth;
 mod machine;
 mod sound;
 
 pub use fitting::acts_fit;
-pub use growing::{
+pub use growth::{
     accepted_frame_grows, begins_agreeing, frame_tells, own_keeps_agreeing, refused_frame_spares,
 };
 pub use machine::calls_keep_sound;

@@ -49,4 +49,5 @@ anew w = record {
 
 -- begin with what the laws ask of a beginning
 abbrev pub StaysKnown : Type 0
-StaysKnown = (hi ha : List Entry) (w : World) (steps : List Step) → StartsKnown hi ha w → AllMayStep hi ha w steps → StartsKnown hi ha (anew (world_after w steps))
+StaysKnown = (hi ha : List Entry) (w : World) (steps : List Step) → StartsKnown hi ha w → AllMayStep hi ha w steps
+    → StartsKnown hi ha (anew (world_after w steps))

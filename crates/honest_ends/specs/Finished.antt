@@ -50,7 +50,8 @@ pub record Tells (h : List Entry) (writer reader : State) (way : List Piece) : T
   pub known : IfSome (peer_last reader.facts) (λ last. IsLast h writer last)
   pub under_way : AllByRecursion (IsTold h writer) way
   pub behind : reader.ending ≡ None → is_closing reader.facts.connection.phase ≡ false → NoneLiveBehind (to_come reader.facts.connection.requester) way
-  pub behind_known : reader.ending ≡ None → is_closing reader.facts.connection.phase ≡ false → IsSome (peer_last reader.facts) → NoneLive (to_come reader.facts.connection.requester) way
+  pub behind_known : reader.ending ≡ None → is_closing reader.facts.connection.phase ≡ false → IsSome (peer_last reader.facts)
+      → NoneLive (to_come reader.facts.connection.requester) way
 
 -- both flows
 pub record Finished (hi ha : List Entry) (w : World) : Type 0 where

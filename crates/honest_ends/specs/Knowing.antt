@@ -18,7 +18,8 @@ pub record Knows (h : List Entry) (writer reader : State) : Type 0 where
   pub one : is_recoverable reader.config.peer_flow ≡ true → 1 ≤ reader.facts.recorded.inbox_next
   pub next : reader.facts.recorded.inbox_next ≤ writer.facts.recorded.sent + 1
   pub finish : IfSome writer.facts.recorded.finish (λ n. n ≡ length h)
-  pub last : IfSome reader.facts.recorded.peer_last (λ n. (writer.facts.recorded.finish ≡ Some (length h)) × (writer.facts.recorded.sent ≡ length h) × (n ≡ last_told writer.config.own_flow h))
+  pub last : IfSome reader.facts.recorded.peer_last (λ n. (writer.facts.recorded.finish ≡ Some (length h)) × (writer.facts.recorded.sent ≡ length h)
+      × (n ≡ last_told writer.config.own_flow h))
 
 -- two ends at their beginning, which know so much of each other
 abbrev pub StartsKnown : (of_initiator of_acceptor : List Entry) → World → Type 0

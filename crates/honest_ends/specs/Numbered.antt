@@ -33,14 +33,16 @@ awaited c f = awaits (is_announced c f) (next_live c f)
 
 -- a request names the range that is open, which the writer can send again: messages from number 1 on, as many as one request may ask for
 abbrev pub Names : Request → Piece → Type 0
-Names q (said (retransmit_request id timestamp first count)) = (q ≡ requests.Asked (record { from = first; count = count })) × (1 ≤ first) × (1 ≤ count) × (count ≤ request_limit)
+Names q (said (retransmit_request id timestamp first count)) = (q ≡ requests.Asked (record { from = first; count = count })) × (1 ≤ first) × (1 ≤ count)
+    × (count ≤ request_limit)
 Names q p = ⊤
 
 -- A reader whose connection goes on. What is under way brings it from what it awaits to exactly one past what was sent, and to what is
 -- left of the range that is served. What it asked for lies below its live number; a request under way back names it, and a
 -- Retransmission under way answers it, and nothing is asked for before the handshake is done
 pub record Expects (writer reader : State) (way back : List Piece) : Type 0 where
-  pub runs : Runs writer.config.own_flow (awaited reader.config reader.facts) (to_come reader.facts.connection.requester) way (writer.facts.recorded.sent + 1) (served writer.facts.connection.serving)
+  pub runs : Runs writer.config.own_flow (awaited reader.config reader.facts) (to_come reader.facts.connection.requester) way
+      (writer.facts.recorded.sent + 1) (served writer.facts.connection.serving)
   pub line : is_recoverable reader.config.peer_flow ≡ true → Line reader.facts
   pub idle : is_recoverable reader.config.peer_flow ≡ false → Idle reader.facts
   pub opening : is_shaken reader.facts.connection.phase ≡ false → Idle reader.facts

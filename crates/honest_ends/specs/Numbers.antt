@@ -45,7 +45,8 @@ IsFlowing cfg (said (retransmission id next timestamp count)) = id ≡ cfg.sessi
 IsFlowing cfg (said (retransmit_reject id timestamp code reason)) = id ≡ cfg.session
 IsFlowing cfg (said (applied first count)) = ⊤
 IsFlowing cfg (said (not_applied first count)) = ⊤
-IsFlowing cfg (said (finished_sending id last)) = (id ≡ cfg.session) × (is_absent cfg.own_flow ≡ false) × (is_sequenced cfg.own_flow ≡ true → is_some last ≡ true)
+IsFlowing cfg (said (finished_sending id last)) = (id ≡ cfg.session) × (is_absent cfg.own_flow ≡ false)
+    × (is_sequenced cfg.own_flow ≡ true → is_some last ≡ true)
 IsFlowing cfg (said (finished_receiving id)) = id ≡ cfg.session
 IsFlowing cfg (said (terminate id code reason)) = id ≡ cfg.session
 
@@ -225,5 +226,7 @@ RunsBetween flow f ps g = Runs flow (exactly (f.recorded.sent + 1)) (served f.co
 -- what each reply writes, and each other call where it may come, brings the reader from the one to the other
 abbrev pub WriterKeeps : Type 0
 WriterKeeps =
-    ((x : Around) (f : Facts) (p : Piece) → RunsBetween x.config.own_flow f (said_all (reply_of x f (incoming_of p)).written) (reply_of x f (incoming_of p)).next)
-    × ((h : List Entry) (s : State) (call : Call) → IsOther h call → MayStand h s call → RunsBetween s.config.own_flow s.facts (written s (call ∷ [])) (run s (call ∷ [])).facts)
+    ((x : Around) (f : Facts) (p : Piece) → RunsBetween x.config.own_flow f (said_all (reply_of x f (incoming_of p)).written)
+    (reply_of x f (incoming_of p)).next)
+    × ((h : List Entry) (s : State) (call : Call) → IsOther h call → MayStand h s call
+    → RunsBetween s.config.own_flow s.facts (written s (call ∷ [])) (run s (call ∷ [])).facts)

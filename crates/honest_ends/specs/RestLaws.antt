@@ -15,12 +15,14 @@ QuietHasAll = (hi ha : List Entry) (w : World) (steps : List Step) → StartsKno
 
 -- or if both finishes are exchanged, where a finish that was recorded before came behind all of its flow
 abbrev pub OverHasAll : Type 0
-OverHasAll = (hi ha : List Entry) (w : World) (steps : List Step) → StartsKnown hi ha w → EndsLast w.initiator → EndsLast w.acceptor → AllMayStep hi ha w steps → IsOver (world_after w steps)
+OverHasAll = (hi ha : List Entry) (w : World) (steps : List Step) → StartsKnown hi ha w → EndsLast w.initiator → EndsLast w.acceptor
+    → AllMayStep hi ha w steps → IsOver (world_after w steps)
     → HasAll ha (world_after w steps).initiator × HasAll hi (world_after w steps).acceptor
 
 -- so at rest each inbox has all that the other end's outbox comes to have
 abbrev pub RestHasAll : Type 0
-RestHasAll = (hi ha : List Entry) (w : World) (steps : List Step) → StartsKnown hi ha w → EndsLast w.initiator → EndsLast w.acceptor → AllMayStep hi ha w steps → IsAtRest hi ha (world_after w steps)
+RestHasAll = (hi ha : List Entry) (w : World) (steps : List Step) → StartsKnown hi ha w → EndsLast w.initiator → EndsLast w.acceptor
+    → AllMayStep hi ha w steps → IsAtRest hi ha (world_after w steps)
     → HasAll ha (world_after w steps).initiator × HasAll hi (world_after w steps).acceptor
 
 -- and a finish that both have recorded then comes behind all of its flow, so it does where their next lives begin

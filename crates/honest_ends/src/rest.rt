@@ -8,12 +8,12 @@ pub fn quiet_has_all()
     ensures law { QuietHasAll }
 {}
 
-/// So have two ends that have exchanged both finishes, where a finish recorded before the beginning came behind all of its flow.
+/// Two ends that have exchanged both finishes have all of each other's entries, where a finish recorded before the beginning came behind all of its flow.
 pub fn over_has_all()
     ensures law { OverHasAll }
 {}
 
-/// So have two ends at rest.
+/// Two ends at rest have all of each other's entries.
 pub fn rest_has_all()
     ensures law { RestHasAll }
 {}

@@ -6,7 +6,8 @@ use Rattle.jr_record.specs.declared.record.Record.TheVariants.{Entry, Apply, Ski
 
 -- the line of the record of this number; a payload is given in lower-case hexadecimal
 abbrev pub line_of : ℕ → Record → List ℕ
-line_of n (Entry sender k payload) = codes "entry " ++ decimal n ++ codes " sender " ++ decimal sender ++ codes " k " ++ decimal k ++ codes " " ++ encode_lower payload ++ 10 ∷ []
+line_of n (Entry sender k payload) = codes "entry " ++ decimal n ++ codes " sender " ++ decimal sender ++ codes " k " ++ decimal k ++ codes " "
+    ++ encode_lower payload ++ 10 ∷ []
 line_of n (Apply number payload) = codes "apply " ++ decimal number ++ codes " " ++ encode_lower payload ++ 10 ∷ []
 line_of n (Skip from count) = codes "skip " ++ decimal from ++ codes " " ++ decimal count ++ 10 ∷ []
 line_of n Negotiated = codes "negotiated" ++ 10 ∷ []

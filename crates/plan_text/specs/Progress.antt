@@ -9,7 +9,8 @@ use Rattle.plan_text.specs.Plans.{Gift, AreGiven, payloads_of_sender}
 pub record IsAdded (g : Gift) (before after : List Plan) : Type 0 where
   pub many : length after ≡ length before
   pub each : (i : ℕ) (d : Plan) → i < length before
-      → payloads_of (slice_index_or after i d) ≡ (if g.sender == i + 1 then payloads_of (slice_index_or before i d) ++ g.payload ∷ [] else payloads_of (slice_index_or before i d))
+      → payloads_of (slice_index_or after i d) ≡ (if g.sender == i + 1 then payloads_of (slice_index_or before i d) ++ g.payload ∷ []
+      else payloads_of (slice_index_or before i d))
 
 -- these plans have what the lines in front of those that are left give, of which there are so many
 pub record HaveRead (senders : ℕ) (text left : List ℕ) (plans : List Plan) (count : ℕ) : Type 0 where

@@ -11,4 +11,5 @@ SessionIsChecked = IsTrue (is_checked (session_schema 0))
 -- Each template has the bytes of the profile's table
 abbrev pub SessionBlocks : Type 0
 SessionBlocks = map {B = ℕ × ℕ} (λ m. (m.id, bytes_of_block session_types m.block_length m.fields)) (session_schema 0).messages
-    ≡ (1, 25) ∷ (2, 25) ∷ (3, 25) ∷ (4, 36) ∷ (5, 36) ∷ (6, 25) ∷ (7, 8) ∷ (8, 0) ∷ (9, 36) ∷ (10, 36) ∷ (11, 25) ∷ (12, 12) ∷ (13, 12) ∷ (14, 24) ∷ (15, 16) ∷ (16, 17) ∷ []
+    ≡ (1, 25) ∷ (2, 25) ∷ (3, 25) ∷ (4, 36) ∷ (5, 36) ∷ (6, 25) ∷ (7, 8) ∷ (8, 0) ∷ (9, 36) ∷ (10, 36) ∷ (11, 25) ∷ (12, 12) ∷ (13, 12) ∷ (14, 24)
+    ∷ (15, 16) ∷ (16, 17) ∷ []

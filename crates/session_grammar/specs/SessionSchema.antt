@@ -82,10 +82,13 @@ counted id name = message id name (u64_field 1 (codes "from_seq") ∷ u32_field 
 abbrev pub negotiation_messages : List MessageDef
 negotiation_messages =
     message 1 (codes "Negotiate") (session_id ∷ u64_field 2 (codes "timestamp") ∷ u8_field 3 (codes "client_flow") ∷ []) (data_field 4 (codes "credentials"))
-    ∷ message 2 (codes "NegotiationResponse") (session_id ∷ u64_field 2 (codes "request_timestamp") ∷ u8_field 3 (codes "server_flow") ∷ []) (data_field 4 (codes "credentials"))
+    ∷ message 2 (codes "NegotiationResponse") (session_id ∷ u64_field 2 (codes "request_timestamp") ∷ u8_field 3 (codes "server_flow") ∷ [])
+    (data_field 4 (codes "credentials"))
     ∷ coded 3 (codes "NegotiationReject")
-    ∷ message 4 (codes "Establish") (session_id ∷ u64_field 2 (codes "timestamp") ∷ u32_field 3 (codes "keepalive") ∷ opt_field 4 (codes "next_seq") ∷ []) (data_field 5 (codes "credentials"))
-    ∷ message 5 (codes "EstablishmentAck") (session_id ∷ u64_field 2 (codes "request_timestamp") ∷ u32_field 3 (codes "keepalive") ∷ opt_field 4 (codes "next_seq") ∷ []) []
+    ∷ message 4 (codes "Establish") (session_id ∷ u64_field 2 (codes "timestamp") ∷ u32_field 3 (codes "keepalive") ∷ opt_field 4 (codes "next_seq") ∷ [])
+    (data_field 5 (codes "credentials"))
+    ∷ message 5 (codes "EstablishmentAck") (session_id ∷ u64_field 2 (codes "request_timestamp") ∷ u32_field 3 (codes "keepalive")
+    ∷ opt_field 4 (codes "next_seq") ∷ []) []
     ∷ coded 6 (codes "EstablishmentReject")
     ∷ []
 
@@ -93,8 +96,10 @@ abbrev pub transfer_messages : List MessageDef
 transfer_messages =
     message 7 (codes "Sequence") (u64_field 1 (codes "next_seq") ∷ []) []
     ∷ message 8 (codes "UnsequencedHeartbeat") [] []
-    ∷ message 9 (codes "RetransmitRequest") (session_id ∷ u64_field 2 (codes "timestamp") ∷ u64_field 3 (codes "from_seq") ∷ u32_field 4 (codes "count") ∷ []) []
-    ∷ message 10 (codes "Retransmission") (session_id ∷ u64_field 2 (codes "next_seq") ∷ u64_field 3 (codes "request_timestamp") ∷ u32_field 4 (codes "count") ∷ []) []
+    ∷ message 9 (codes "RetransmitRequest") (session_id ∷ u64_field 2 (codes "timestamp") ∷ u64_field 3 (codes "from_seq") ∷ u32_field 4 (codes "count")
+    ∷ []) []
+    ∷ message 10 (codes "Retransmission") (session_id ∷ u64_field 2 (codes "next_seq") ∷ u64_field 3 (codes "request_timestamp")
+    ∷ u32_field 4 (codes "count") ∷ []) []
     ∷ coded 11 (codes "RetransmitReject")
     ∷ counted 12 (codes "Applied")
     ∷ counted 13 (codes "NotApplied")

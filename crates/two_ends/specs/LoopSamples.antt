@@ -57,7 +57,15 @@ begins config = fresh config recorded 100
 
 -- a life of one connection
 abbrev pub life_on_leg : EndConfig → TurnedLeg → LoopLife
-life_on_leg config leg = record { opening_outbox = []; closing_outbox = []; refused_outbox = []; state = begins config; inbox = []; legs = leg ∷ []; last = None }
+life_on_leg config leg = record {
+  opening_outbox = [];
+  closing_outbox = [];
+  refused_outbox = [];
+  state = begins config;
+  inbox = [];
+  legs = leg ∷ [];
+  last = None;
+}
 
 abbrev pub TurnsSample : Type 0
 TurnsSample =

@@ -108,7 +108,8 @@ life_in l = record {
 abbrev pub runs_on : List Entry → State → List InboxRecord → List Leg → List Run
 runs_on h s inbox [] = []
 runs_on h s inbox (leg ∷ later) =
-    record { outbox = h; state = s; inbox = inbox; leg = leg; refused = None } ∷ runs_on h (course_of s inbox leg).state (inbox_of (course_of s inbox leg)) later
+    record { outbox = h; state = s; inbox = inbox; leg = leg; refused = None }
+    ∷ runs_on h (course_of s inbox leg).state (inbox_of (course_of s inbox leg)) later
 
 abbrev pub last_run : List Entry → State → List InboxRecord → Option Refused → List Run
 last_run h s inbox None = []

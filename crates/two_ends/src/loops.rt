@@ -17,7 +17,7 @@ pub fn loops_are_ends()
     ensures law { LoopsAreEnds }
 {}
 
-/// So they are a session of the session model.
+/// Two ends that run the loop, linked by what went over their links, are a session of the session model.
 pub fn loops_are_a_session()
     ensures law { LoopsAreASession }
 {}

@@ -12,7 +12,7 @@ pub fn session_of_ends()
     ensures law { SessionOfEnds }
 {}
 
-/// So each inbox holds of the other end's outbox what the session guarantee says, by the kind of that end's flow.
+/// In such a session each inbox holds of the other end's outbox what the session guarantee says, by the kind of that end's flow.
 pub fn ends_hold()
     ensures law { EndsHold }
 {}

@@ -1,5 +1,5 @@
 use Rattle.fixp_machine.proofs.Accepted.{refused_frame_spares}
-use Rattle.fixp_machine.proofs.growing.refused_frame_spares.Goals as goal
+use Rattle.fixp_machine.proofs.growth.refused_frame_spares.Goals as goal
 
 pub returns : goal.returns
 returns c = record { law = refused_frame_spares }
