@@ -25,10 +25,8 @@ use Rattle.gate_turn.proofs.Histories.{begins_self}
 use Rattle.gate_senders.specs.declared.gate.Gate.{Gate}
 use Rattle.gate_senders.specs.declared.kept.Kept.{Kept}
 use Rattle.gate_plans.proofs.Seating.{all_behind, all_back}
-use Rattle.gw_links.specs.Links.{LinkTold, Carried}
 use Rattle.conn_turns.specs.Lines.{Line, TakenFrame, AreTaken, size_of, line_after, lines_after}
 use Rattle.conn_turns.specs.Exact.{line_ticked}
-use Rattle.conn_turns.specs.declared.news.NewsItem.{NewsItem}
 use Rattle.conn_turns.specs.declared.answer.TurnEnd.{TurnEnd}
 use Rattle.conn_turns.specs.declared.answer.TurnEnd.TheVariants as ends
 use Rattle.conn_turns.specs.declared.answer.TurnFault.{TurnFault}
@@ -36,6 +34,7 @@ use Rattle.conn_turns.specs.declared.answer.TurnFault.TheVariants as faults
 use Rattle.conn_steps.specs.Agreeing.{Agrees}
 use Rattle.conn_loop.specs.declared.conn.Conn.{Conn}
 use Rattle.conn_loop.specs.Conn.{line_of, new_line, line_begun, line_cut, answer_of, GoesOn, HasSeen}
+use Rattle.conn_loop.specs.Live.{LiveEnd}
 use Rattle.conn_loop.specs.Turned.{DidTurn, Exchanged, Leaves}
 use Rattle.fixp_shake.specs.declared.config.EndConfig.{EndConfig}
 use Rattle.conn_loop.proofs.Working.{seen_same}
@@ -138,16 +137,14 @@ module _ {J : Type 0} {G : Ghosts J} where
   rests m p box some l = record { over = λ _. some; time = l.time; sent = l.sent; credentials = l.credentials; seen = l.seen; agrees = l.agrees }
 
   -- a turn moves the place by the bytes of at most 16 frames
-  worked_place : (box since : Inbox J G) (now : ℕ) (eager : Bool) (told later : Option LinkTold) (carried after : Option Carried) (before seen : History) (l new : Line) (result : Result TurnEnd TurnFault) (news newer : List NewsItem)
-      → Exchanged now eager told later carried after before seen l new result box since news newer → new.place ≤ l.place + 262240
-  worked_place box since now eager told later carried after before seen l new result news newer (inl w) =
+  worked_place : (now : ℕ) (eager : Bool) (old new : LiveEnd J G) (result : Result TurnEnd TurnFault) → Exchanged now eager old new result → new.line.place ≤ old.line.place + 262240
+  worked_place now eager old new result (inl w) =
       omega (arith, ap (λ (x : Line). x.place) w.line, w.served.place, frames_place w.work.now _ w.work.frames w.served.frames, w.served.few)
-  worked_place box since now eager told later carried after before seen l new result news newer (inr z) = omega (arith, ap (λ (x : Line). x.place) z.line)
+  worked_place now eager old new result (inr z) = omega (arith, ap (λ (x : Line). x.place) z.line)
 
-  pub turn_place : (box since : Inbox J G) (now : ℕ) (eager : Bool) (told later : Option LinkTold) (carried after : Option Carried) (before seen : History) (old new : Line) (result : Result TurnEnd TurnFault) (newer : List NewsItem)
-      → DidTurn now eager told later carried after before seen old new result box since newer → new.place ≤ old.place + 262240
-  turn_place box since now eager told later carried after before seen old new result newer (inl x) = omega (arith, ap (λ (y : Line). y.place) x.sent.line)
-  turn_place box since now eager told later carried after before seen old new result newer (inr y) = worked_place box since now eager told later carried after before seen (line_ticked old now) new result [] newer y.exchanged
+  pub turn_place : (now : ℕ) (eager : Bool) (old new : LiveEnd J G) (result : Result TurnEnd TurnFault) → DidTurn now eager old new result → new.line.place ≤ old.line.place + 262240
+  turn_place now eager old new result (inl x) = omega (arith, ap (λ (y : Line). y.place) x.sent.line)
+  turn_place now eager old new result (inr y) = worked_place now eager (record old { line = line_ticked old.line now }) new result y.exchanged
 
   -- where it stands behind a turn
   pub stands_behind : (r : Result TurnEnd TurnFault) (new : Line) (most : ℕ) (p : Part) (box : Inbox J G) → OnOk r (new.place ≤ most) → (r ≡ Ok ends.Go → GoesOn new.machine) → OnOk r (Leaves new.machine p box)

@@ -1,11 +1,10 @@
--- The entries that are fetched of an outbox: their payloads, their numbers, how many they are and how long their frames.
-use Rattle.std.proofs.Common.{◌≡◌, ℕ, zero, suc, ◌+◌, ◌-◌, ◌<◌, min, List, [], ◌∷◌, length, take, drop, get_or, refl, ap, ◌∙◌, arith, length-append, length-drop}
+-- The entries that are fetched of an outbox: their payloads, their numbers, how many they are, and how long their payloads.
+use Rattle.std.proofs.Common.{◌≡◌, ℕ, zero, suc, ◌+◌, ◌-◌, ◌<◌, min, All, List, [], ◌∷◌, length, take, drop, get_or, refl, sym, ap, subst, ◌∙◌, arith, length-drop}
 use Rattle.std.proofs.lemmas.List.{length-take}
 use Rattle.session_model.specs.Inbox.{Numbered}
 use Rattle.session_model.specs.Journal.{Entry, History, payloads}
-use Rattle.fixp_machine.specs.Machine.{payload_frames}
 use Rattle.fixp_end.specs.Sending.{AreFrom, payloads_of}
-use Rattle.fixp_end.proofs.Frames.{frames_more, frame_size}
+use Rattle.jr_record.specs.Records.{IsPayload}
 use Rattle.gate_senders.specs.Kept.{numbered_from, messages}
 use Rattle.conn_turns.specs.Turns.{payloads_from}
 
@@ -34,17 +33,9 @@ length_fetched h from most =
     length_numbered from (take most (drop (from - 1) h.made))
     ∙ (length-take most (drop (from - 1) h.made) ∙ ap (λ (n : ℕ). min most n) (length-drop (from - 1) h.made))
 
--- one more of some entries
-pub sized_more : (es : List Numbered) (i : ℕ) (d : Numbered) (size more : ℕ) → i < length es → size ≡ length (payload_frames (payloads_of (take i es)))
-    → more ≡ size + (length (get_or es i d).payload + 4) → more ≡ length (payload_frames (payloads_of (take (i + 1) es)))
-sized_more es i d size more h before now = omega (
-  arith,
-  before,
-  now,
-  ap (λ (bytes : List ℕ). length bytes) (frames_more es i d h),
-  length-append (payload_frames (payloads_of (take i es))) (payload_frames ((get_or es i d).payload ∷ [])),
-  frame_size (get_or es i d).payload,
-)
+-- the payloads of some entries are of a payload's length where those of the same entries are
+pub sized : {es given : List Numbered} → es ≡ given → All (λ (m : Numbered). IsPayload m.payload) given → All (λ (m : Numbered). IsPayload m.payload) es
+sized same all = subst (All (λ (m : Numbered). IsPayload m.payload)) (sym same) all
 
 -- the number of one of some entries
 pub counted_at : (es : List Numbered) (first i : ℕ) (d : Numbered) → AreFrom first es → i < length es → (get_or es i d).number ≡ first + i

@@ -4,7 +4,6 @@ use Rattle.std.specs.Prelude.{◌||◌, IsSome, ◌⊎◌, ◌≢◌, OnOk, IfOk
 use Rattle.gw_links.specs.Links.{LinkTold, Carried, Moved}
 use Rattle.gw_links.specs.declared.link.Got.{Got}
 use Rattle.gw_links.proofs.Moving.{moved_more}
-use Rattle.session_model.specs.Journal.{History}
 use Rattle.fixp_machine.specs.Machine.{State}
 use Rattle.jr_record.specs.declared.journal.Journal.{Ghosts}
 use Rattle.jr_boxes.specs.declared.inbox.Inbox.{Inbox}
@@ -16,7 +15,7 @@ use Rattle.conn_turns.specs.declared.answer.TurnEnd.{TurnEnd}
 use Rattle.conn_turns.specs.declared.answer.TurnEnd.TheVariants as ends
 use Rattle.conn_turns.specs.Lines.{Line}
 use Rattle.conn_turns.specs.Frames.{added, told}
-use Rattle.conn_turns.specs.Turns.{is_end}
+use Rattle.conn_turns.specs.Turns.{Work, is_end}
 use Rattle.conn_turns.specs.Exact.{Served, line_ticked}
 use Rattle.conn_steps.specs.Settling.{Gains}
 use Rattle.conn_steps.proofs.Rooms.{gains_none, refuses_none}
@@ -28,7 +27,9 @@ use Rattle.conn_steps.specs.Agreeing.{Agrees}
 use Rattle.conn_loop.specs.Conn.{answer_of, GoesOn, HasSeen, KeepsAll, MayServe}
 use Rattle.conn_loop.specs.Moving.{ReceivedOnce, SentOnce, IsLossOf}
 use Rattle.conn_loop.proofs.Working.{seen_same}
-use Rattle.conn_loop.specs.Turned.{ServedFrames, CutShort, DidWork, CutTurn, Exchanged, DidTurn, Leaves}
+use Rattle.conn_loop.specs.Turned.{received_by, ServedFrames, CutShort, DidWork, CutTurn, Exchanged, DidTurn, Leaves}
+use Rattle.conn_steps.specs.Ends.{taking_end}
+use Rattle.conn_loop.specs.Live.{LiveEnd}
 
 -- a turn that answers that the connection goes on left it open
 pub goes_on : (o : Option Ending) → ends.Go ≡ answer_of o → o ≡ None
@@ -88,13 +89,16 @@ goes_still now old l new g limit begun done untold moment config facts small k s
 }
 
 module _ {J : Type 0} {G : Ghosts J} where
-  pub did_work : (now : ℕ) (eager : Bool) (told_before told_between later : Option LinkTold) (carried carried_between after : Option Carried) (before seen : History) (l r mid new : Line) (result : Result TurnEnd TurnFault) (got : Option Got) (box since : Inbox J G) (news newer : List NewsItem)
-      → ReceivedOnce eager told_before told_between carried carried_between l r got → ServedFrames now before seen r mid box since news newer → SentOnce told_between later carried_between after mid new result
-      → DidWork now eager told_before later carried after before seen l new result box since news newer
-  did_work now eager told_before told_between later carried carried_between after before seen l r mid new result got box since news newer x y z =
-      let s : Served before seen (record l { held = l.held ++ x.received; over = l.over || is_end got }) mid y.work = subst (λ (k : Line). Served before seen k mid y.work) x.line y.served in
+  pub did_work : (now : ℕ) (eager : Bool) (old new : LiveEnd J G) (told_between : Option LinkTold) (carried_between : Option Carried) (r mid : Line) (result : Result TurnEnd TurnFault) (got : Option Got)
+      → ReceivedOnce eager old.told told_between old.carried carried_between old.line r got
+      → ServedFrames now old.seen new.seen (taking_end r old.box old.news) (taking_end mid new.box new.news)
+      → SentOnce told_between new.told carried_between new.carried mid new.line result
+      → DidWork now eager old new result
+  did_work now eager old new told_between carried_between r mid result got x y z =
+      let w : Work = record y.work { got = got; received = x.received; sent = z.sent; lost = z.lost } in
+      let s : Served old.seen new.seen (received_by old.line w) mid y.work = subst (λ (k : Line). Served old.seen new.seen k mid y.work) x.line y.served in
       record {
-        work = record y.work { got = got; received = x.received; sent = z.sent; lost = z.lost };
+        work = w;
         at = y.at;
         received = x.found;
         behind = mid;
@@ -122,10 +126,10 @@ module _ {J : Type 0} {G : Ghosts J} where
         answer = z.answer;
         kept = z.kept;
         line = z.line;
-        gains = subst (λ (k : Line). Gains box since (added now k y.work.frames)) x.line y.gains;
-        news_are = subst (λ (k : Line). newer ≡ news ++ told now k y.work.frames) x.line y.news_are;
-        moved = subst (λ (bytes : List ℕ). Moved told_before later carried after bytes z.sent) (append-nil x.received)
-            (moved_more told_before told_between later carried carried_between after x.received [] [] z.sent x.moved z.moved);
+        gains = subst (λ (k : Line). Gains old.box new.box (added now k y.work.frames)) x.line y.gains;
+        news_are = subst (λ (k : Line). new.news ≡ old.news ++ told now k y.work.frames) x.line y.news_are;
+        moved = subst (λ (bytes : List ℕ). Moved old.told new.told old.carried new.carried bytes z.sent) (append-nil x.received)
+            (moved_more old.told told_between new.told old.carried carried_between new.carried x.received [] [] z.sent x.moved z.moved);
       }
 
   pub cut_turn : (now : ℕ) (eager : Bool) (told_before told_between : Option LinkTold) (carried carried_between : Option Carried) (l r : Line) (got : Option Got) (box since : Inbox J G) (news newer : List NewsItem) (fault : TurnFault)
@@ -165,25 +169,28 @@ module _ {J : Type 0} {G : Ghosts J} where
     };
   }
 
-  pub only_sent : (now n : ℕ) (eager : Bool) (told_before later : Option LinkTold) (carried after : Option Carried) (seen : History) (old l new : Line) (result : Result TurnEnd TurnFault) (box : Inbox J G) (newer : List NewsItem) → now ≡ n → l ≡ line_ticked old now
-      → (old.machine.unsent ≢ []) ⊎ IsSome l.machine.ending → SentOnce told_before later carried after l new result → newer ≡ [] → DidTurn n eager told_before later carried after seen seen old new result box box newer
-  only_sent now n eager told_before later carried after seen old l new result box newer is ticks why sent none = inl (record {
-    why = subst (λ (k : ℕ). (old.machine.unsent ≢ []) ⊎ IsSome (line_ticked old k).machine.ending) is (subst (λ (x : Line). (old.machine.unsent ≢ []) ⊎ IsSome x.machine.ending) ticks why);
-    sent = subst (λ (k : ℕ). SentOnce told_before later carried after (line_ticked old k) new result) is (subst (λ (x : Line). SentOnce told_before later carried after x new result) ticks sent);
-    same_box = refl;
-    no_news = none;
-    same_seen = refl;
+  pub only_sent : (now n : ℕ) (eager : Bool) (old new : LiveEnd J G) (l : Line) (result : Result TurnEnd TurnFault) → now ≡ n → l ≡ line_ticked old.line now
+      → (old.line.machine.unsent ≢ []) ⊎ IsSome l.machine.ending → SentOnce old.told new.told old.carried new.carried l new.line result
+      → new.box ≡ old.box → new.news ≡ old.news → new.seen ≡ old.seen → DidTurn n eager old new result
+  only_sent now n eager old new l result is ticks why sent box news seen = inl (record {
+    why = subst (λ (k : ℕ). (old.line.machine.unsent ≢ []) ⊎ IsSome (line_ticked old.line k).machine.ending) is
+        (subst (λ (x : Line). (old.line.machine.unsent ≢ []) ⊎ IsSome x.machine.ending) ticks why);
+    sent = subst (λ (k : ℕ). SentOnce old.told new.told old.carried new.carried (line_ticked old.line k) new.line result) is
+        (subst (λ (x : Line). SentOnce old.told new.told old.carried new.carried x new.line result) ticks sent);
+    same_box = box;
+    same_news = news;
+    same_seen = seen;
   })
 
-  pub did_more : (now n : ℕ) (eager : Bool) (told_before later : Option LinkTold) (carried after : Option Carried) (before seen : History) (old l new : Line) (result : Result TurnEnd TurnFault) (box since : Inbox J G) (news newer : List NewsItem) → now ≡ n → l ≡ line_ticked old now
-      → old.machine.unsent ≡ [] → l.machine.ending ≡ None → news ≡ [] → Exchanged now eager told_before later carried after before seen l new result box since news newer
-      → DidTurn n eager told_before later carried after before seen old new result box since newer
-  did_more now n eager told_before later carried after before seen old l new result box since news newer is ticks idle goes none x = inr (record {
+  pub did_more : (now n : ℕ) (eager : Bool) (old new : LiveEnd J G) (l : Line) (news : List NewsItem) (result : Result TurnEnd TurnFault) → now ≡ n → l ≡ line_ticked old.line now
+      → old.line.machine.unsent ≡ [] → l.machine.ending ≡ None → news ≡ old.news → Exchanged now eager (record old { line = l; news = news }) new result
+      → DidTurn n eager old new result
+  did_more now n eager old new l news result is ticks idle goes none x = inr (record {
     idle = idle;
-    unended = subst (λ (k : ℕ). (line_ticked old k).machine.ending ≡ None) is (subst (λ (y : Line). y.machine.ending ≡ None) ticks goes);
-    exchanged = subst (λ (k : ℕ). Exchanged k eager told_before later carried after before seen (line_ticked old k) new result box since [] newer) is
-        (subst (λ (y : Line). Exchanged now eager told_before later carried after before seen y new result box since [] newer) ticks
-        (subst (λ (ns : List NewsItem). Exchanged now eager told_before later carried after before seen l new result box since ns newer) none x));
+    unended = subst (λ (k : ℕ). (line_ticked old.line k).machine.ending ≡ None) is (subst (λ (y : Line). y.machine.ending ≡ None) ticks goes);
+    exchanged = subst (λ (k : ℕ). Exchanged k eager (record old { line = line_ticked old.line k }) new result) is
+        (subst (λ (y : Line). Exchanged now eager (record old { line = y }) new result) ticks
+        (subst (λ (ns : List NewsItem). Exchanged now eager (record old { line = l; news = ns }) new result) none x));
   })
 
   pub cut_as : (now n : ℕ) (old l : Line) (box since : Inbox J G) (news newer : List NewsItem) (r : Result TurnEnd TurnFault) → now ≡ n → l ≡ line_ticked old now → news ≡ []

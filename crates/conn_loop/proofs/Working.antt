@@ -11,7 +11,7 @@ use Rattle.conn_turns.specs.declared.news.NewsItem.{NewsItem}
 use Rattle.conn_turns.specs.declared.answer.TurnFault.{TurnFault}
 use Rattle.conn_turns.specs.declared.answer.TurnFault.TheVariants as faults
 use Rattle.conn_turns.specs.Lines.{Line, lines_after}
-use Rattle.conn_turns.specs.Frames.{IsDone, added, broken_at, is_link_over}
+use Rattle.conn_turns.specs.Frames.{IsDone, added, unframed_at, is_link_over}
 use Rattle.conn_turns.specs.Turns.{bad_calls, end_calls, again_calls, live_calls, finish_calls, served_of, served_now, live_of, finish_of, calls_of_frames}
 use Rattle.conn_turns.proofs.Taking.{run_append, frames_make_calls}
 use Rattle.conn_steps.specs.Taking.{TookFrames, CutFrames, Blames}
@@ -19,10 +19,11 @@ use Rattle.conn_steps.proofs.Rooms.{refuses_none}
 use Rattle.conn_loop.specs.Conn.{HasSeen, Looks}
 use Rattle.conn_loop.specs.Serving.{ServedOutbox}
 use Rattle.conn_loop.specs.Turned.{ServedFrames, CutShort}
+use Rattle.conn_steps.specs.Ends.{taking_end}
 
 -- what the machine is told behind so many frames
 abbrev ends_at : ℕ → ℕ → Line → List Call
-ends_at now count l = bad_calls now (broken_at count l) ++ (end_calls (is_link_over l) ++ turn_done now ∷ [])
+ends_at now count l = bad_calls now (unframed_at count l) ++ (end_calls (is_link_over l) ++ turn_done now ∷ [])
 
 pub looks_self : (p : Part) → Looks p p
 looks_self p = record { seen = begins_self p.seen; faults = omega arith; number = refl; made = refl; opening = refl; mine = refl; ended = refl }
@@ -46,8 +47,8 @@ seen_same m n p sent finish h = record {
 }
 
 module _ {J : Type 0} {G : Ghosts J} where
-  pub served_frames : (now count : ℕ) (h seen : History) (old mid closed new : Line) (box after : Inbox J G) (news later : List NewsItem) → TookFrames now count old mid box after news later
-      → IsDone count mid × (count ≤ 16) → closed ≡ record mid { machine = run mid.machine (ends_at now count mid) } → ServedOutbox now h seen closed new → ServedFrames now h seen old new box after news later
+  pub served_frames : (now count : ℕ) (h seen : History) (old mid closed new : Line) (box after : Inbox J G) (news later : List NewsItem) → TookFrames now count (taking_end old box news) (taking_end mid after later)
+      → IsDone count mid × (count ≤ 16) → closed ≡ record mid { machine = run mid.machine (ends_at now count mid) } → ServedOutbox now h seen closed new → ServedFrames now h seen (taking_end old box news) (taking_end new after later)
   served_frames now count h seen old mid closed new box after news later t last closes s =
       let l : Line = lines_after now old t.frames in
       let many : ℕ = length t.frames in
@@ -61,7 +62,7 @@ module _ {J : Type 0} {G : Ghosts J} where
           got = None;
           received = [];
           frames = t.frames;
-          broken = broken_at many l;
+          broken = unframed_at many l;
           link_over = is_link_over l;
           again = s.again;
           live = s.live;
@@ -99,7 +100,7 @@ module _ {J : Type 0} {G : Ghosts J} where
       }
 
   -- cut at a frame whose act was refused
-  pub cut_at_frame : (now : ℕ) (old new : Line) (box after : Inbox J G) (news later : List NewsItem) (fault : TurnFault) → Blames box after fault → CutFrames now old new box after news later fault
+  pub cut_at_frame : (now : ℕ) (old new : Line) (box after : Inbox J G) (news later : List NewsItem) (fault : TurnFault) → Blames box after fault → CutFrames now (taking_end old box news) (taking_end new after later) fault
       → CutShort now old box after news later fault
   cut_at_frame now old new box after news later fault blames c = record {
     frames = c.frames;
@@ -115,7 +116,7 @@ module _ {J : Type 0} {G : Ghosts J} where
   }
 
   -- cut at the outbox
-  pub cut_at_outbox : (now count : ℕ) (old mid : Line) (box after : Inbox J G) (news later : List NewsItem) (fault : TurnFault) → TookFrames now count old mid box after news later → count ≤ 16
+  pub cut_at_outbox : (now count : ℕ) (old mid : Line) (box after : Inbox J G) (news later : List NewsItem) (fault : TurnFault) → TookFrames now count (taking_end old box news) (taking_end mid after later) → count ≤ 16
       → ((entries bytes : ℕ) → fault ≡ faults.Full entries bytes → ⊥) → CutShort now old box after news later fault
   cut_at_outbox now count old mid box after news later fault t few never_full = record {
     frames = t.frames;

@@ -18,11 +18,11 @@ line_of c = record { machine = c.end; held = c.framer.held; place = c.place; ove
 abbrev pub new_line : State → Line
 new_line m = record { machine = m; held = []; place = 0; over = false }
 
--- it begins: nothing is held
+-- a connection begins: nothing is held
 abbrev pub line_begun : Line → ℕ → Line
 line_begun l now = record { machine = run l.machine (begin now ∷ []); held = []; place = 0; over = false }
 
--- it is cut: what is held and unsent is dropped, and it ends, if it has not ended
+-- a connection is cut: what is held and unsent is dropped, and it ends, if it has not ended
 abbrev pub line_cut : Line → Line
 line_cut l = record l { machine = run l.machine (taken (length l.machine.unsent) ∷ link_end ∷ []); held = [] }
 
@@ -77,7 +77,7 @@ pub record SameInbox (old new : State) : Type 0 where
   pub untold : new.untold ≡ old.untold
   pub ending : new.ending ≡ old.ending
 
--- it is the same pass, which made nothing: what it has seen begins with what it had seen, and its count of faults did not fall
+-- the new one is the same pass, which made nothing: what it has seen begins with what it had seen, and its count of faults did not fall
 pub record Looks (p q : Part) : Type 0 where
   pub seen : BeginsHistory p.seen q.seen
   pub faults : p.faults ≤ q.faults

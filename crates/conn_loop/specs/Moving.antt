@@ -14,11 +14,11 @@ use Rattle.conn_turns.specs.Exact.{Received, most_held}
 use Rattle.conn_loop.specs.Conn.{answer_of}
 
 -- what was received stands behind what was held, and it is known whether the link has given its end
-pub record ReceivedOnce (eager : Bool) (told later : Option LinkTold) (carried after : Option Carried) (old new : Line) (got : Option Got) : Type 0 where
+pub record ReceivedOnce (eager : Bool) (told told' : Option LinkTold) (carried carried' : Option Carried) (old new : Line) (got : Option Got) : Type 0 where
   pub received : List ℕ
   pub line : new ≡ record old { held = old.held ++ received; over = old.over || is_end got }
   pub found : (room : ℕ) → room + length old.held ≡ most_held → Received eager told room received got
-  pub moved : Moved told later carried after received []
+  pub moved : Moved told told' carried carried' received []
 
 -- a turn answers so of a machine whose link failed in this state: the fault, where the connection had not ended before and ends as one
 -- whose link has ended; and else, as where both finishes were exchanged, how it ended
@@ -28,13 +28,13 @@ IsLossOf old new (Err fault) = (fault ≡ faults.Link) × (old.ending ≡ None) 
 
 -- a front of what was unsent was sent: as much as the link took, or, where it failed, some front. Where it failed, the answer is that
 -- of a loss, and else how the connection then stands
-pub record SentOnce (told later : Option LinkTold) (carried after : Option Carried) (old new : Line) (result : Result TurnEnd TurnFault) : Type 0 where
+pub record SentOnce (told told' : Option LinkTold) (carried carried' : Option Carried) (old new : Line) (result : Result TurnEnd TurnFault) : Type 0 where
   pub sent : List ℕ
   pub lost : Bool
   pub front : IsPrefix sent old.machine.unsent
   pub line : new ≡ record old { machine = run old.machine (sending_calls sent lost) }
   pub whole : lost ≡ false → old.machine.unsent ≡ sent ++ new.machine.unsent
-  pub full : lost ≡ false → 0 < length new.machine.unsent → IfSome later (λ t. t.room ≡ 0)
+  pub full : lost ≡ false → 0 < length new.machine.unsent → IfSome told' (λ t. t.room ≡ 0)
   pub answer : lost ≡ true → IsLossOf old.machine new.machine result
   pub kept : lost ≡ false → result ≡ Ok (answer_of new.machine.ending)
-  pub moved : Moved told later carried after [] sent
+  pub moved : Moved told told' carried carried' [] sent

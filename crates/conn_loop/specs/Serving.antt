@@ -25,7 +25,7 @@ pub record BlamesPass (p q : Part) (fault : TurnFault) : Type 0 where
 
 -- the range that was served was sent again whole, entries were sent live where that may be, and the finish was told where it
 -- stands, each of the outbox as it was seen then
-pub record ServedOutbox (now : ℕ) (seen_before seen_after : History) (old new : Line) : Type 0 where
+pub record ServedOutbox (now : ℕ) (seen seen' : History) (old new : Line) : Type 0 where
   pub again : Option (List (List ℕ))
   pub live : Option (List (List ℕ))
   pub finish : Option ℕ
@@ -33,8 +33,8 @@ pub record ServedOutbox (now : ℕ) (seen_before seen_after : History) (old new 
   pub at_live : History
   pub again_is : again ≡ served_of (served_now old.machine) at_again
   pub live_is : live ≡ live_of (run old.machine (again_calls now again)) at_live
-  pub finish_is : finish ≡ finish_of old.machine seen_after
-  pub seen_again : BeginsHistory seen_before at_again
+  pub finish_is : finish ≡ finish_of old.machine seen'
+  pub seen_again : BeginsHistory seen at_again
   pub seen_live : BeginsHistory at_again at_live
-  pub seen_finish : BeginsHistory at_live seen_after
+  pub seen_finish : BeginsHistory at_live seen'
   pub line : new ≡ record old { machine = run old.machine (again_calls now again ++ (live_calls now live ++ finish_calls now finish)) }

@@ -3,7 +3,7 @@
 ghost use Rattle.std.specs.Prelude.{◌≡◌, ◌++◌, ◌∷◌, [], ◌^◌, ◌<◌, ◌≤◌, length, true, None};
 ghost use Rattle.sofh_frame.specs.Framing.{first_of};
 ghost use Rattle.fixp_machine.specs.Machine.{run, turn_done};
-ghost use Rattle.conn_turns.specs.Frames.{is_whole, is_bad, is_broken, broken_at, is_link_over};
+ghost use Rattle.conn_turns.specs.Frames.{is_whole, is_bad, is_unframed, unframed_at, is_link_over};
 ghost use Rattle.conn_turns.specs.Turns.{bad_calls, end_calls};
 ghost use Rattle.conn_steps.specs.Agreeing.{IsInTurn};
 ghost use Rattle.conn_loop.specs.Conn.{KeepsAll};
@@ -39,7 +39,7 @@ impl Conn {
     fn tell_bad(&mut self, taken: u64, now: u64)
         requires in_turn { IsInTurn (line_of self.old).machine now 0 }
         requires time { now < 2 ^ 44 }
-        ensures told { line_of self.new ≡ record (line_of self.old) { machine = run (line_of self.old).machine (bad_calls now (broken_at taken (line_of self.old))) } }
+        ensures told { line_of self.new ≡ record (line_of self.old) { machine = run (line_of self.old).machine (bad_calls now (unframed_at taken (line_of self.old))) } }
         ensures keeps { KeepsAll (line_of self.old).machine (line_of self.new).machine now }
     {
         if taken < FRAMES && self.may_take() && self.holds_bad() {
@@ -64,7 +64,7 @@ impl Conn {
     pub(crate) fn close_frames(&mut self, taken: u64, now: u64)
         requires in_turn { IsInTurn (line_of self.old).machine now 0 }
         requires time { now < 2 ^ 44 }
-        ensures closed { line_of self.new ≡ record (line_of self.old) { machine = run (line_of self.old).machine (bad_calls now (broken_at taken (line_of self.old)) ++ (end_calls (is_link_over (line_of self.old)) ++ turn_done now ∷ [])) } }
+        ensures closed { line_of self.new ≡ record (line_of self.old) { machine = run (line_of self.old).machine (bad_calls now (unframed_at taken (line_of self.old)) ++ (end_calls (is_link_over (line_of self.old)) ++ turn_done now ∷ [])) } }
         ensures begun { (line_of self.new).machine.begun ≡ true }
         ensures done { (line_of self.new).machine.pending ≡ None }
         ensures config { (line_of self.new).machine.config ≡ (line_of self.old).machine.config }

@@ -9,6 +9,7 @@ ghost use Rattle.conn_turns.specs.Frames.{is_whole, may_take, IsDone};
 ghost use Rattle.conn_steps.specs.Settling.{SameKind};
 ghost use Rattle.conn_steps.specs.Agreeing.{IsInTurn, Agrees, KeepsOwn};
 ghost use Rattle.conn_steps.specs.Taking.{TookFrame, RefusedFrame, TookFrames, CutFrames, Blames};
+ghost use Rattle.conn_steps.specs.Ends.{taking_end};
 
 use crate::conn::Conn;
 use conn_steps::answer_frame;
@@ -44,9 +45,9 @@ impl Conn {
         requires time { now < 2 ^ 44 }
         requires place { (line_of self.old).place < 2 ^ 63 + 2 ^ 62 }
         requires agrees { Agrees (line_of self.old).machine inbox.old }
-        ensures took { result ≡ Ok true → TookFrame now (line_of self.old) (line_of self.new) inbox.old inbox.new (items_of news.old) (items_of news.new) }
+        ensures took { result ≡ Ok true → TookFrame now (taking_end (line_of self.old) inbox.old (items_of news.old)) (taking_end (line_of self.new) inbox.new (items_of news.new)) }
         ensures none { result ≡ Ok false → (is_whole (first_of (line_of self.new).held) ≡ false) × (line_of self.new ≡ line_of self.old) × (inbox.new ≡ inbox.old) × (items_of news.new ≡ items_of news.old) }
-        ensures refused { IfErr result (RefusedFrame now (line_of self.old) (line_of self.new) inbox.old inbox.new (items_of news.old) (items_of news.new)) }
+        ensures refused { IfErr result (RefusedFrame now (taking_end (line_of self.old) inbox.old (items_of news.old)) (taking_end (line_of self.new) inbox.new (items_of news.new))) }
         ensures in_turn { (frames : ℕ) → IsInTurn (line_of self.old).machine now (frames + 1) → result ≡ Ok true → IsInTurn (line_of self.new).machine now frames }
         ensures place { result ≡ Ok true → (line_of self.new).place ≤ (line_of self.old).place + 16390 }
         ensures agrees { OnOk result (Agrees (line_of self.new).machine inbox.new) }
@@ -91,9 +92,9 @@ impl Conn {
         requires time { now < 2 ^ 44 }
         requires place { (line_of self.old).place < 2 ^ 63 }
         requires agrees { Agrees (line_of self.old).machine inbox.old }
-        ensures took { IfOk result (λ count. TookFrames now count (line_of self.old) (line_of self.new) inbox.old inbox.new (items_of news.old) (items_of news.new)) }
+        ensures took { IfOk result (λ count. TookFrames now count (taking_end (line_of self.old) inbox.old (items_of news.old)) (taking_end (line_of self.new) inbox.new (items_of news.new))) }
         ensures last { IfOk result (λ count. IsDone count (line_of self.new) × (count ≤ 16)) }
-        ensures cut { IfErr result (CutFrames now (line_of self.old) (line_of self.new) inbox.old inbox.new (items_of news.old) (items_of news.new)) }
+        ensures cut { IfErr result (CutFrames now (taking_end (line_of self.old) inbox.old (items_of news.old)) (taking_end (line_of self.new) inbox.new (items_of news.new))) }
         ensures in_turn { OnOk result (IsInTurn (line_of self.new).machine now 0) }
         ensures agrees { OnOk result (Agrees (line_of self.new).machine inbox.new) }
         ensures own { OnOk result (KeepsOwn (line_of self.old).machine (line_of self.new).machine) }

@@ -5,12 +5,12 @@
 
 mod closing;
 mod conn;
-mod exchange;
 mod frames;
 mod outbox;
 mod receiving;
 mod sending;
 mod turn;
+mod work;
 
 pub use conn::Conn;
 pub use conn_turns::{News, NewsItem, TurnEnd, TurnFault};

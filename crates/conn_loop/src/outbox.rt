@@ -2,8 +2,8 @@
 
 ghost use Rattle.std.specs.Prelude.{◌≡◌, ◌≢◌, ℕ, ◌+◌, ◌*◌, ◌^◌, ◌<◌, ◌≤◌, not, length, None, Ok, Err, IfOk, IfErr, OnOk};
 ghost use Rattle.fixp_shake.specs.Flows.{is_absent};
-ghost use Rattle.fixp_end.specs.Sending.{AreFrom, payloads_of};
-ghost use Rattle.fixp_machine.specs.Machine.{run, payload_frames};
+ghost use Rattle.fixp_end.specs.Sending.{AreFrom};
+ghost use Rattle.fixp_machine.specs.Machine.{run};
 ghost use Rattle.jr_record.specs.declared.faults.FetchFault.TheVariants as fetching;
 ghost use Rattle.gate_turn.specs.Views.{HasFailed};
 ghost use Rattle.gate_turn.specs.Places.{known};
@@ -24,19 +24,6 @@ use std::sync::Wait;
 
 /// How many entries a turn sends live at most.
 const LIVE: u16 = 16;
-
-/// How many bytes the frames of entries take.
-fn frames_size(entries: &[Stable]) -> u64
-    requires { length entries.now ≤ 2 ^ 16 }
-    ensures exact { result ≡ length (payload_frames (payloads_of entries.now)) }
-    ensures small { result ≤ 16390 * length entries.now }
-{
-    let mut size = 0;
-    for entry in entries {
-        size += entry.payload().len() as u64 + 4;
-    }
-    size
-}
 
 /// The number of the last entry, or 0 where there is none.
 fn last_number(entries: &[Stable]) -> u64
@@ -118,7 +105,6 @@ impl Conn {
         };
         match gate.fetch(pass, range.from, range.count as u16, rt) {
             Ok(entries) => {
-                let _ = frames_size(entries.as_slice());
                 self.end.send_again(entries.as_slice(), now);
                 Ok(())
             }
@@ -153,7 +139,7 @@ impl Conn {
         }
         match gate.fetch(pass, self.end.sent() + 1, LIVE, rt) {
             Ok(entries) => {
-                let _ = frames_size(entries.as_slice());
+                // An entry tells at its number alone that this is below 2^40, as the machine asks of the last one.
                 let _ = last_number(entries.as_slice());
                 self.end.send_live(entries.as_slice(), now);
                 Ok(())

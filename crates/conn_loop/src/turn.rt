@@ -1,7 +1,8 @@
-//! A turn of a connection.
+//! A turn of a connection, whole.
 
-ghost use Rattle.std.specs.Prelude.{◌≡◌, ◌≢◌, ◌⊎◌, ℕ, ◌+◌, ◌^◌, ◌<◌, ◌≤◌, [], true, false, length, Ok, Err, None, IsSome, IsTrue, IsFalse, IfOk, IfErr, OnOk, OnErr};
+ghost use Rattle.std.specs.Prelude.{◌≡◌, ◌⊎◌, ℕ, ◌+◌, ◌^◌, ◌<◌, ◌≤◌, [], max, true, Ok, Err, Some, None, IfOk, IfErr, OnOk};
 ghost use Rattle.gw_outside.specs.Faults.{HasRisen};
+ghost use Rattle.fixp_replies.specs.declared.act.Ending.TheVariants as endings;
 ghost use Rattle.jr_boxes.specs.Inbox.{faults_of, is_broken, size_of, count_of};
 ghost use Rattle.gate_turn.specs.Views.{HasFailed};
 ghost use Rattle.gate_turn.specs.Places.{known};
@@ -9,72 +10,37 @@ ghost use Rattle.gate_turn.specs.Calls.{IsFree};
 ghost use Rattle.gate_senders.specs.Gate.{IsPassAt};
 ghost use Rattle.conn_turns.specs.News.{items_of};
 ghost use Rattle.conn_turns.specs.declared.answer.TurnFault.TheVariants as faults;
+ghost use Rattle.conn_turns.specs.declared.answer.TurnEnd.TheVariants as ends;
 ghost use Rattle.conn_turns.specs.Exact.{line_ticked};
 ghost use Rattle.conn_steps.specs.Settling.{SameKind};
 ghost use Rattle.conn_steps.specs.Agreeing.{IsInTurn, Agrees};
-ghost use Rattle.conn_loop.specs.Conn.{GoesOn, HasSeen, Looks, MayServe};
-ghost use Rattle.conn_loop.specs.Turned.{ServedFrames, CutShort};
+ghost use Rattle.conn_loop.specs.Conn.{GoesOn, HasSeen, Looks};
+ghost use Rattle.conn_loop.specs.Turned.{Exchanged, CutTurn, DidTurn, Leaves};
+ghost use Rattle.conn_loop.specs.Live.{live_end};
 
 use crate::conn::Conn;
-use conn_turns::{News, TurnFault};
+use conn_turns::{News, TurnEnd, TurnFault};
 use gate_senders::{Gate, Kept};
 use gate_turn::Pass;
+use gw_links::{Clock, Link};
 use jr_boxes::Inbox;
 use jr_record::Journal;
-use std::alloc::AllocError;
 use std::sync::Wait;
 
 impl Conn {
-    ghost use Rattle.conn_loop.specs.Conn.{line_of};
+    ghost use Rattle.conn_loop.specs.Conn.{line_of, answer_of};
 
-    /// Takes the memory of a turn and ticks, and says whether the turn does more than send.
-    ///
-    /// # Errors
-    /// Want of memory: nothing has changed.
-    #[tactic(auto, using(crate::proofs::Ticking::tick_len))]
-    pub(crate) fn start(&mut self, now: u64) -> Result<bool, AllocError>
-        requires goes { GoesOn (line_of self.old).machine }
-        requires time { ((line_of self.old).machine.moment ≤ now) × (now < 2 ^ 44) }
-        ensures ticked { OnOk result (line_of self.new ≡ line_ticked (line_of self.old) now) }
-        ensures idle { result ≡ Ok true → (line_of self.old).machine.unsent ≡ [] }
-        ensures unended { result ≡ Ok true → (line_of self.new).machine.ending ≡ None }
-        ensures in_turn { result ≡ Ok true → IsInTurn (line_of self.new).machine now 16 }
-        ensures why { result ≡ Ok false → ((line_of self.old).machine.unsent ≢ []) ⊎ IsSome (line_of self.new).machine.ending }
-        ensures facts { OnOk result ((line_of self.new).machine.facts ≡ (line_of self.old).machine.facts) }
-        ensures begun { OnOk result ((line_of self.new).machine.begun ≡ true) }
-        ensures done { OnOk result ((line_of self.new).machine.pending ≡ None) }
-        ensures untold { OnOk result ((line_of self.new).machine.untold ≡ []) }
-        ensures moment { OnOk result ((line_of self.new).machine.moment ≡ now) }
-        ensures little { result ≡ Ok false → (line_of self.new).machine.ending ≡ None → length (line_of self.new).machine.unsent ≤ length (line_of self.old).machine.unsent }
-        ensures config { OnOk result ((line_of self.new).machine.config ≡ (line_of self.old).machine.config) }
-        ensures most { OnOk result ((line_of self.new).machine.most ≡ (line_of self.old).machine.most) }
-        ensures err { OnErr result (line_of self.new ≡ line_of self.old) }
-    {
-        if self.end.reserve().is_err() {
-            return Err(AllocError);
-        }
-        let idle = self.end.out().is_empty();
-        self.end.on_tick(now);
-        if !idle {
-            return Ok(false);
-        }
-        Ok(self.end.ending().is_none())
-    }
-
-    /// Takes frames, tells the machine what ends them, and serves the outbox.
-    ///
-    /// # Errors
-    /// Where a record was refused, the outbox could not be read, or memory ran out.
-    #[tactic(auto, using(crate::proofs::Working::looks_self, crate::proofs::Working::seen_same))]
-    pub(crate) fn work<O: Journal, I: Journal, R: Wait>(
+    /// Receives, works and sends.
+    fn exchange<L: Link, O: Journal, I: Journal, R: Wait>(
         &mut self,
+        link: &mut L,
         gate: &Gate<O>,
         pass: &mut Pass<Kept<O>>,
         inbox: &mut Inbox<I>,
         news: &mut News,
         now: u64,
         rt: &R,
-    ) -> Result<(), TurnFault>
+    ) -> Result<TurnEnd, TurnFault>
         requires own { IsPassAt gate.now pass.old }
         requires free { IsFree pass.old }
         requires in_turn { IsInTurn (line_of self.old).machine now 16 }
@@ -83,29 +49,90 @@ impl Conn {
         requires sent { (line_of self.old).machine.facts.recorded.sent < 2 ^ 40 }
         requires seen { HasSeen (line_of self.old).machine (known pass.old) }
         requires agrees { Agrees (line_of self.old).machine inbox.old }
+        requires unended { (line_of self.old).machine.ending ≡ None }
         ensures own { IsPassAt gate.now pass.new }
         ensures free { IsFree pass.new }
         ensures looks { Looks (known pass.old) (known pass.new) }
-        ensures served { OnOk result (ServedFrames now (known pass.old).seen (known pass.new).seen (line_of self.old) (line_of self.new) inbox.old inbox.new (items_of news.old) (items_of news.new)) }
-        ensures cut { IfErr result (CutShort now (line_of self.old) inbox.old inbox.new (items_of news.old) (items_of news.new)) }
-        ensures serve { OnOk result (MayServe (line_of self.new).machine now 5000000 (known pass.new)) }
-        ensures agrees { OnOk result (Agrees (line_of self.new).machine inbox.new) }
-        ensures unserved { OnOk result ((line_of self.new).machine.ending ≡ None → (line_of self.new).machine.facts.connection.serving ≡ None) }
-        ensures untold { OnOk result ((line_of self.new).machine.ending ≡ None → (line_of self.new).machine.untold ≡ []) }
-        ensures config { OnOk result ((line_of self.new).machine.config ≡ (line_of self.old).machine.config) }
-        ensures no_link { IfErr result (λ fault. fault ≡ faults.Link → ⊥) }
-        ensures inbox { IfErr result (λ fault. fault ≡ faults.Inbox → HasRisen (faults_of inbox.old) (faults_of inbox.new)) }
-        ensures outbox { IfErr result (λ fault. fault ≡ faults.Outbox → HasFailed (known pass.old).faults (known pass.new).faults) }
-        ensures broken { IfErr result (λ fault. fault ≡ faults.Broken → (is_broken inbox.new ≡ true) ⊎ HasFailed (known pass.new).opening.faults (known pass.new).faults) }
-        ensures full { IfErr result (λ fault. (entries bytes : ℕ) → fault ≡ faults.Full entries bytes → (entries ≡ count_of inbox.new) × (bytes ≡ size_of inbox.new)) }
+        ensures did { OnOk result (Exchanged now L.eager (live_end (L.told link.old) (L.carried link.old) (known pass.old).seen (line_of self.old) inbox.old (items_of news.old)) (live_end (L.told link.new) (L.carried link.new) (known pass.new).seen (line_of self.new) inbox.new (items_of news.new)) result) }
+        ensures lost { result ≡ Err faults.Link → Exchanged now L.eager (live_end (L.told link.old) (L.carried link.old) (known pass.old).seen (line_of self.old) inbox.old (items_of news.old)) (live_end (L.told link.new) (L.carried link.new) (known pass.new).seen (line_of self.new) inbox.new (items_of news.new)) result }
+        ensures cut { IfErr result (λ fault. (fault ≡ faults.Link → ⊥) → CutTurn now (line_of self.old) inbox.old inbox.new (items_of news.old) (items_of news.new) fault) }
+        ensures answer { IfOk result (λ end. end ≡ answer_of (line_of self.new).machine.ending) }
+        ensures goes { result ≡ Ok ends.Go → GoesOn (line_of self.new).machine }
+        ensures leaves { OnOk result (Leaves (line_of self.new).machine (known pass.new) inbox.new) }
+        ensures leaves_lost { result ≡ Err faults.Link → Leaves (line_of self.new).machine (known pass.new) inbox.new }
+        ensures ended_lost { result ≡ Err faults.Link → (line_of self.new).machine.ending ≡ Some endings.LinkEnded }
+        ensures link { result ≡ Err faults.Link → HasRisen (L.faults link.old) (L.faults link.new) }
+        ensures inbox { result ≡ Err faults.Inbox → HasRisen (faults_of inbox.old) (faults_of inbox.new) }
+        ensures outbox { result ≡ Err faults.Outbox → HasFailed (known pass.old).faults (known pass.new).faults }
+        ensures broken { result ≡ Err faults.Broken → (is_broken inbox.new ≡ true) ⊎ HasFailed (known pass.new).opening.faults (known pass.new).faults }
+        ensures full { (entries bytes : ℕ) → result ≡ Err (faults.Full entries bytes) → (entries ≡ count_of inbox.new) × (bytes ≡ size_of inbox.new) }
         ensures kind { SameKind inbox.old inbox.new }
-        ensures never_falls { faults_of inbox.old ≤ faults_of inbox.new }
+        ensures never_falls { (faults_of inbox.old ≤ faults_of inbox.new) × (L.faults link.old ≤ L.faults link.new) }
+        ensures stays { L.place link.new ≡ L.place link.old }
     {
-        let taken = match self.take_frames(inbox, news, now) {
-            Ok(taken) => taken,
-            Err(fault) => return Err(fault),
+        let Ok(_) = self.receive(link) else {
+            return self.lose_link();
         };
-        self.close_frames(taken, now);
-        self.serve_outbox(gate, pass, now, rt)
+        if let Err(fault) = self.work(gate, pass, inbox, news, now, rt) {
+            return Err(fault);
+        }
+        self.send(link)
+    }
+
+    /// One turn. `news` is emptied first, and has then what was delivered and told. Where output is unsent at its start, or its
+    /// tick ends the connection, the turn only sends. Else it receives once, takes at most 16 frames, serves the outbox, and
+    /// sends until the link takes nothing.
+    ///
+    /// # Errors
+    /// `Link` where the link failed before the connection had ended and both finishes were exchanged: `begin` may follow. After
+    /// any other the connection is given up: `Inbox`, `Outbox`, `Broken`, `Full` and `Memory`, where a record was refused, the
+    /// outbox could not be read, or memory ran out.
+    #[tactic(auto, using(crate::proofs::Working::looks_self))]
+    pub fn turn<L: Link, O: Journal, I: Journal, C: Clock, R: Wait>(
+        &mut self,
+        link: &mut L,
+        gate: &Gate<O>,
+        pass: &mut Pass<Kept<O>>,
+        inbox: &mut Inbox<I>,
+        clock: &mut C,
+        news: &mut News,
+        rt: &R,
+    ) -> Result<TurnEnd, TurnFault>
+        requires own { IsPassAt gate.now pass.old }
+        requires free { IsFree pass.old }
+        requires goes { GoesOn (line_of self.old).machine }
+        requires place { (line_of self.old).place < 2 ^ 63 }
+        requires seen { HasSeen (line_of self.old).machine (known pass.old) }
+        requires agrees { Agrees (line_of self.old).machine inbox.old }
+        ensures own { IsPassAt gate.now pass.new }
+        ensures free { IsFree pass.new }
+        ensures looks { Looks (known pass.old) (known pass.new) }
+        ensures did { OnOk result (DidTurn (max (C.last clock.new) (line_of self.old).machine.moment) L.eager (live_end (L.told link.old) (L.carried link.old) (known pass.old).seen (line_of self.old) inbox.old []) (live_end (L.told link.new) (L.carried link.new) (known pass.new).seen (line_of self.new) inbox.new (items_of news.new)) result) }
+        ensures lost { result ≡ Err faults.Link → DidTurn (max (C.last clock.new) (line_of self.old).machine.moment) L.eager (live_end (L.told link.old) (L.carried link.old) (known pass.old).seen (line_of self.old) inbox.old []) (live_end (L.told link.new) (L.carried link.new) (known pass.new).seen (line_of self.new) inbox.new (items_of news.new)) result }
+        ensures cut { IfErr result (λ fault. (fault ≡ faults.Link → ⊥) → CutTurn (max (C.last clock.new) (line_of self.old).machine.moment) (line_ticked (line_of self.old) (max (C.last clock.new) (line_of self.old).machine.moment)) inbox.old inbox.new [] (items_of news.new) fault) }
+        ensures answer { IfOk result (λ end. end ≡ answer_of (line_of self.new).machine.ending) }
+        ensures goes { result ≡ Ok ends.Go → GoesOn (line_of self.new).machine }
+        ensures leaves { OnOk result (Leaves (line_of self.new).machine (known pass.new) inbox.new) }
+        ensures leaves_lost { result ≡ Err faults.Link → Leaves (line_of self.new).machine (known pass.new) inbox.new }
+        ensures ended_lost { result ≡ Err faults.Link → (line_of self.new).machine.ending ≡ Some endings.LinkEnded }
+        ensures link { result ≡ Err faults.Link → HasRisen (L.faults link.old) (L.faults link.new) }
+        ensures inbox { result ≡ Err faults.Inbox → HasRisen (faults_of inbox.old) (faults_of inbox.new) }
+        ensures outbox { result ≡ Err faults.Outbox → HasFailed (known pass.old).faults (known pass.new).faults }
+        ensures broken { result ≡ Err faults.Broken → (is_broken inbox.new ≡ true) ⊎ HasFailed (known pass.new).opening.faults (known pass.new).faults }
+        ensures full { (entries bytes : ℕ) → result ≡ Err (faults.Full entries bytes) → (entries ≡ count_of inbox.new) × (bytes ≡ size_of inbox.new) }
+        ensures kind { SameKind inbox.old inbox.new }
+        ensures never_falls { (faults_of inbox.old ≤ faults_of inbox.new) × (L.faults link.old ≤ L.faults link.new) }
+        ensures stays { L.place link.new ≡ L.place link.old }
+        ensures clock { C.told clock.new ≡ C.told clock.old }
+    {
+        news.clear();
+        let now = self.moment(clock);
+        let Ok(works) = self.start(now) else {
+            return Err(TurnFault::Memory);
+        };
+        if !works {
+            return self.send(link);
+        }
+        self.exchange(link, gate, pass, inbox, news, now, rt)
     }
 }

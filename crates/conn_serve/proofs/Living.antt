@@ -39,6 +39,7 @@ use Rattle.conn_serve.specs.Causes.{lacks_at, Tells}
 use Rattle.conn_serve.specs.Turned.{TurnedOn, GivenUpOn, MayBegin}
 use Rattle.conn_serve.specs.Served.{AllCame, carried_by, IsTold, IsNext, IsNextLink, IsLifeAnswer, lacks_lines, ServedLife, Lived, EndedOne, GaveOneUp, MadeNone, IsRound}
 use Rattle.conn_serve.proofs.Turning.{tells_on, tells_all}
+use Rattle.conn_serve.specs.Moments.{LifeAt, connection_at, life_at}
 
 -- ---- links that come back
 
@@ -129,11 +130,11 @@ module _ {J : Type 0} {G : Ghosts J} where
 
   -- ---- one connection
 
-  pub ended_one : {L : Type 0} (carried_of : L → Option Carried) (first last : L) (told later_told : Option LinkTold) (n : ℕ) (lacking : Bool) (dialed between later : Option DialerTold) (out mid_out now_out : Option (List ℕ)) (before seen : History) (m : State) (new : Line) (box since : Inbox J G) (close : Close)
-      → IsNextLink carried_of first dialed between → TurnedOn told later_told (carried_of first) (carried_of last) out mid_out before seen m new box since
+  pub ended_one : {L : Type 0} (carried_of : L → Option Carried) (first last : L) (told later_told : Option LinkTold) (n : ℕ) (lacking : Bool) (dialed between later : Option DialerTold) (out mid_out now_out : Option (List ℕ)) (before seen : History) (l new : Line) (box since : Inbox J G) (close : Close)
+      → IsNextLink carried_of first dialed between → TurnedOn (connection_at told (carried_of first) out before l box) (connection_at later_told (carried_of last) mid_out seen new since)
       → later ≡ option_map (returned (carried_of last)) between → ClosesAs close new.machine.ending → Tells lacking mid_out now_out (connection_line n close)
-      → EndedOne n lacking dialed later out now_out before seen m new.machine box since close
-  ended_one carried_of first last told later_told n lacking dialed between later out mid_out now_out before seen m new box since close next on back closed lines =
+      → EndedOne n lacking (life_at dialed out before box) (life_at later now_out seen since) l.machine new.machine close
+  ended_one carried_of first last told later_told n lacking dialed between later out mid_out now_out before seen l new box since close next on back closed lines =
       let t = on.turned in
       let leg : TurnedLeg = record { moment = on.moment; turns = t.turns; cut = None } in
       let given : given_on leg ≡ flat_map given_in t.turns = ap (flat_map given_in) (append-nil t.turns) in
@@ -171,7 +172,7 @@ module _ {J : Type 0} {G : Ghosts J} where
 
   pub gave_one : {L : Type 0} (carried_of : L → Option Carried) (first : L) (last : Option Carried) (why : Option ServeFault) (dialed between later : Option DialerTold) (out now_out : Option (List ℕ)) (before seen : History) (m : State) (box since : Inbox J G)
       → IsNextLink carried_of first dialed between → GivenUpOn why out now_out before seen m box since → later ≡ option_map (returned last) between
-      → GaveOneUp why dialed later out now_out before seen m box since
+      → GaveOneUp why (life_at dialed out before box) (life_at later now_out seen since) m
   gave_one carried_of first last why dialed between later out now_out before seen m box since next on back =
       let g = on.given_up in
       record {
@@ -200,35 +201,35 @@ module _ {J : Type 0} {G : Ghosts J} where
 
   -- ---- a round
 
-  pub round_lacking : (n : ℕ) (dialed later : Option DialerTold) (out now_out : Option (List ℕ)) (before seen : History) (m new : State) (box since : Inbox J G) (close : Close) (fault : ServeFault) (H : Type 0)
-      → ((fault ≡ faults.Output) × H) ⊎ (fault ≡ faults.Memory) → EndedOne n true dialed later out now_out before seen m new box since close
-      → IsRound n dialed later out now_out before seen m new box since (Err fault)
-  round_lacking n dialed later out now_out before seen m new box since close fault H (inl a) e =
-      subst (λ (f : ServeFault). IsRound n dialed later out now_out before seen m new box since (Err f)) (sym a.0) (inl (close, e))
-  round_lacking n dialed later out now_out before seen m new box since close fault H (inr b) e =
-      subst (λ (f : ServeFault). IsRound n dialed later out now_out before seen m new box since (Err f)) (sym b) (inl (close, e))
+  pub round_lacking : (n : ℕ) (old new : LifeAt J G) (m m' : State) (close : Close) (fault : ServeFault) (H : Type 0)
+      → ((fault ≡ faults.Output) × H) ⊎ (fault ≡ faults.Memory) → EndedOne n true old new m m' close
+      → IsRound n old new m m' (Err fault)
+  round_lacking n old new m m' close fault H (inl a) e =
+      subst (λ (f : ServeFault). IsRound n old new m m' (Err f)) (sym a.0) (inl (close, e))
+  round_lacking n old new m m' close fault H (inr b) e =
+      subst (λ (f : ServeFault). IsRound n old new m m' (Err f)) (sym b) (inl (close, e))
 
-  pub round_ended : (n : ℕ) (dialed later : Option DialerTold) (out now_out : Option (List ℕ)) (before seen : History) (m new : State) (box since : Inbox J G) (close : Close)
-      → EndedOne n false dialed later out now_out before seen m new box since close → IsRound n dialed later out now_out before seen m new box since (end_behind close)
-  round_ended n dialed later out now_out before seen m new box since (closes.Ended endings.Finished) e = e
-  round_ended n dialed later out now_out before seen m new box since (closes.Ended (endings.PeerTerminated code)) e = (closes.Ended (endings.PeerTerminated code), tt, e)
-  round_ended n dialed later out now_out before seen m new box since (closes.Ended endings.LinkEnded) e = (closes.Ended endings.LinkEnded, tt, e)
-  round_ended n dialed later out now_out before seen m new box since (closes.Ended (endings.Rejected template code)) e = e
-  round_ended n dialed later out now_out before seen m new box since (closes.Ended (endings.Violation violation)) e = (closes.Ended (endings.Violation violation), tt, e)
-  round_ended n dialed later out now_out before seen m new box since closes.LinkFault e = (closes.LinkFault, tt, e)
+  pub round_ended : (n : ℕ) (old new : LifeAt J G) (m m' : State) (close : Close)
+      → EndedOne n false old new m m' close → IsRound n old new m m' (end_behind close)
+  round_ended n old new m m' (closes.Ended endings.Finished) e = e
+  round_ended n old new m m' (closes.Ended (endings.PeerTerminated code)) e = (closes.Ended (endings.PeerTerminated code), tt, e)
+  round_ended n old new m m' (closes.Ended endings.LinkEnded) e = (closes.Ended endings.LinkEnded, tt, e)
+  round_ended n old new m m' (closes.Ended (endings.Rejected template code)) e = e
+  round_ended n old new m m' (closes.Ended (endings.Violation violation)) e = (closes.Ended (endings.Violation violation), tt, e)
+  round_ended n old new m m' closes.LinkFault e = (closes.LinkFault, tt, e)
 
-  pub round_given : (n : ℕ) (dialed later : Option DialerTold) (out now_out : Option (List ℕ)) (before seen : History) (m new : State) (box since : Inbox J G) (fault : ServeFault)
-      → IsOfConnection fault → GaveOneUp (Some fault) dialed later out now_out before seen m box since → IsRound n dialed later out now_out before seen m new box since (Err fault)
-  round_given n dialed later out now_out before seen m new box since faults.Output is g = inr g
-  round_given n dialed later out now_out before seen m new box since faults.Journal is g = g
-  round_given n dialed later out now_out before seen m new box since faults.Dial is g = absurd is
-  round_given n dialed later out now_out before seen m new box since (faults.Unfinished phase) is g = absurd is
-  round_given n dialed later out now_out before seen m new box since (faults.Rejected template code) is g = absurd is
-  round_given n dialed later out now_out before seen m new box since (faults.Full entries bytes) is g = g
-  round_given n dialed later out now_out before seen m new box since faults.Turns is g = g
-  round_given n dialed later out now_out before seen m new box since faults.Memory is g = inr g
+  pub round_given : (n : ℕ) (old new : LifeAt J G) (m m' : State) (fault : ServeFault)
+      → IsOfConnection fault → GaveOneUp (Some fault) old new m → IsRound n old new m m' (Err fault)
+  round_given n old new m m' faults.Output is g = inr g
+  round_given n old new m m' faults.Journal is g = g
+  round_given n old new m m' faults.Dial is g = absurd is
+  round_given n old new m m' (faults.Unfinished phase) is g = absurd is
+  round_given n old new m m' (faults.Rejected template code) is g = absurd is
+  round_given n old new m m' (faults.Full entries bytes) is g = g
+  round_given n old new m m' faults.Turns is g = g
+  round_given n old new m m' faults.Memory is g = inr g
 
-  made_none : (dialed later : Option DialerTold) (out : Option (List ℕ)) (seen : History) (m : State) (box : Inbox J G) → later ≡ dialed → MadeNone dialed later out out seen seen m m box box
+  made_none : (dialed later : Option DialerTold) (out : Option (List ℕ)) (seen : History) (m : State) (box : Inbox J G) → later ≡ dialed → MadeNone (life_at dialed out seen box) (life_at later out seen box) m m
   made_none dialed later out seen m box same = record {
     same_dialer = subst (λ (d : Option DialerTold). AllCame dialed d []) (sym same) (came_none dialed);
     same_out = Appends-nil out;
@@ -238,7 +239,7 @@ module _ {J : Type 0} {G : Ghosts J} where
   }
 
   pub round_none : {L : Type 0} (carried_of : L → Option Carried) (n : ℕ) (dialed later : Option DialerTold) (out : Option (List ℕ)) (seen : History) (m : State) (box : Inbox J G) (fault : ServeFault)
-      → IsNext carried_of dialed later (Err fault) → ((phase : _) → fault ≡ faults.Unfinished phase → phase ≡ phase_of m) → IsRound n dialed later out out seen seen m m box box (Err fault)
+      → IsNext carried_of dialed later (Err fault) → ((phase : _) → fault ≡ faults.Unfinished phase → phase ≡ phase_of m) → IsRound n (life_at dialed out seen box) (life_at later out seen box) m m (Err fault)
   round_none carried_of n dialed later out seen m box faults.Output next phase_is = absurd next
   round_none carried_of n dialed later out seen m box faults.Journal next phase_is = absurd next
   round_none carried_of n dialed later out seen m box faults.Dial next phase_is = made_none dialed later out seen m box next
@@ -250,12 +251,12 @@ module _ {J : Type 0} {G : Ghosts J} where
 
   -- ---- a life so far: the connection of the number n is next
 
-  pub record LivedTo (n : ℕ) (dialed later : Option DialerTold) (out now_out : Option (List ℕ)) (before seen : History) (m new : State) (box since : Inbox J G) : Type 0 where
+  pub record LivedTo (n : ℕ) (old new : LifeAt J G) (m m' : State) : Type 0 where
     pub ended : List Connection
     pub number : n ≡ 1 + length ended
-    pub lived : Lived dialed later out now_out before seen m new box since ended
+    pub lived : Lived old new m m' ended
 
-  pub lived_none : (dialed : Option DialerTold) (out : Option (List ℕ)) (seen : History) (m : State) (box : Inbox J G) → LivedTo 1 dialed dialed out out seen seen m m box box
+  pub lived_none : (dialed : Option DialerTold) (out : Option (List ℕ)) (seen : History) (m : State) (box : Inbox J G) → LivedTo 1 (life_at dialed out seen box) (life_at dialed out seen box) m m
   lived_none dialed out seen m box = record {
     ended = [];
     number = refl;
@@ -265,21 +266,21 @@ module _ {J : Type 0} {G : Ghosts J} where
   gains_with : (a b c : Inbox J G) (cs : List Connection) (x : Connection) → Gains a b (adds_of cs) → Gains b c x.adds → Gains a c (adds_of (cs ++ x ∷ []))
   gains_with a b c cs x first later = subst (Gains a c) (sym (adds_append cs x)) (gains_on a b c (adds_of cs) x.adds first later)
 
-  pub lived_more : (n : ℕ) (dialed between later : Option DialerTold) (out mid_out now_out : Option (List ℕ)) (before middle seen : History) (m mid new : State) (box mid_box since : Inbox J G)
-      → LivedTo n dialed between out mid_out before middle m mid box mid_box → IsRound n between later mid_out now_out middle seen mid new mid_box since (Ok None)
-      → LivedTo (n + 1) dialed later out now_out before seen m new box since
-  lived_more n dialed between later out mid_out now_out before middle seen m mid new box mid_box since l r =
+  pub lived_more : (n : ℕ) (old mid new : LifeAt J G) (m m' m'' : State)
+      → LivedTo n old mid m m' → IsRound n mid new m' m'' (Ok None)
+      → LivedTo (n + 1) old new m m''
+  lived_more n old mid new m m' m'' l r =
       let (close, follows, e) = r in
       let x = e.connection in
       record {
         ended = l.ended ++ x ∷ [];
         number = omega (arith, l.number, length-append l.ended (x ∷ []));
         lived = record {
-          were = ended_on before middle seen m mid new l.ended x l.lived.were e.ended;
-          gains = gains_with box mid_box since l.ended x l.lived.gains e.gains;
-          lines = lines_so false n out mid_out now_out l.ended x l.number l.lived.lines e.lines;
-          came = came_with dialed between later l.ended x l.lived.came e.came;
-          tells = told_with dialed between later l.ended x l.lived.came l.lived.tells e.tells;
+          were = ended_on old.seen mid.seen new.seen m m' m'' l.ended x l.lived.were e.ended;
+          gains = gains_with old.box mid.box new.box l.ended x l.lived.gains e.gains;
+          lines = lines_so false n old.out mid.out new.out l.ended x l.number l.lived.lines e.lines;
+          came = came_with old.dialed mid.dialed new.dialed l.ended x l.lived.came e.came;
+          tells = told_with old.dialed mid.dialed new.dialed l.ended x l.lived.came l.lived.tells e.tells;
           followed = All-append IsFollowed l.ended (x ∷ []) l.lived.followed (All-cons IsFollowed x [] (subst (λ (o : Option Close). IfSome o Follows) (sym e.closed) follows) (All-nil IsFollowed));
         };
       }
@@ -287,118 +288,119 @@ module _ {J : Type 0} {G : Ghosts J} where
   -- ---- and how it ends
 
   -- behind a last connection that ended
-  over_ended : (result : Result LifeEnd ServeFault) (n : ℕ) (dialed between later : Option DialerTold) (out mid_out now_out : Option (List ℕ)) (before middle seen : History) (m mid new : State) (box mid_box since : Inbox J G) (close : Close)
-      → (l : LivedTo n dialed between out mid_out before middle m mid box mid_box) → (e : EndedOne n (lacks_lines result) between later mid_out now_out middle seen mid new mid_box since close)
-      → IsLifeAnswer seen seen new later (l.ended ++ e.connection ∷ []) None result → ServedLife dialed later out now_out before seen m box since result
-  over_ended result n dialed between later out mid_out now_out before middle seen m mid new box mid_box since close l e answer =
+  over_ended : (result : Result LifeEnd ServeFault) (n : ℕ) (old mid new : LifeAt J G) (m m' m'' : State) (close : Close)
+      → (l : LivedTo n old mid m m') → (e : EndedOne n (lacks_lines result) mid new m' m'' close)
+      → IsLifeAnswer new.seen new.seen m'' new.dialed (l.ended ++ e.connection ∷ []) None result → ServedLife old new m result
+  over_ended result n old mid new m m' m'' close l e answer =
       let x = e.connection in
       let cs : List Connection = l.ended ++ x ∷ [] in
       record {
         ended = cs;
         given_up = None;
-        behind = seen;
-        mid = new;
-        were = ended_on before middle seen m mid new l.ended x l.lived.were e.ended;
+        behind = new.seen;
+        mid = m'';
+        were = ended_on old.seen mid.seen new.seen m m' m'' l.ended x l.lived.were e.ended;
         gave_up = refl;
-        refuses = refuses_none box since (adds_of (cs ++ []))
-            (subst (λ (ds : List Connection). Gains box since (adds_of ds)) (sym (append-nil cs)) (gains_with box mid_box since l.ended x l.lived.gains e.gains));
-        lines = subst (λ (ds : List Connection). Tells (lacks_lines result) out now_out (lines_from 1 ds)) (sym (append-nil cs)) (lines_so (lacks_lines result) n out mid_out now_out l.ended x l.number l.lived.lines e.lines);
-        came = subst (λ (ds : List Connection). AllCame dialed later (carried_by ds)) (sym (append-nil cs)) (came_with dialed between later l.ended x l.lived.came e.came);
-        tells = told_with dialed between later l.ended x l.lived.came l.lived.tells e.tells;
+        refuses = refuses_none old.box new.box (adds_of (cs ++ []))
+            (subst (λ (ds : List Connection). Gains old.box new.box (adds_of ds)) (sym (append-nil cs)) (gains_with old.box mid.box new.box l.ended x l.lived.gains e.gains));
+        lines = subst (λ (ds : List Connection). Tells (lacks_lines result) old.out new.out (lines_from 1 ds)) (sym (append-nil cs)) (lines_so (lacks_lines result) n old.out mid.out new.out l.ended x l.number l.lived.lines e.lines);
+        came = subst (λ (ds : List Connection). AllCame old.dialed new.dialed (carried_by ds)) (sym (append-nil cs)) (came_with old.dialed mid.dialed new.dialed l.ended x l.lived.came e.came);
+        tells = told_with old.dialed mid.dialed new.dialed l.ended x l.lived.came l.lived.tells e.tells;
         answer = answer;
-        past = λ entries bytes is. absurd (never_full seen seen new later cs result entries bytes answer is);
+        past = λ entries bytes is. absurd (never_full new.seen new.seen m'' new.dialed cs result entries bytes answer is);
       }
 
   -- behind a connection that was given up
-  over_given : (result : Result LifeEnd ServeFault) (why : Option ServeFault) (n : ℕ) (dialed between later : Option DialerTold) (out mid_out now_out : Option (List ℕ)) (before middle seen : History) (m mid : State) (box mid_box since : Inbox J G)
-      → (l : LivedTo n dialed between out mid_out before middle m mid box mid_box) → (g : GaveOneUp why between later mid_out now_out middle seen mid mid_box since) → lacks_at why ≡ lacks_lines result
+  over_given : (result : Result LifeEnd ServeFault) (why : Option ServeFault) (n : ℕ) (old mid new : LifeAt J G) (m m' : State)
+      → (l : LivedTo n old mid m m') → (g : GaveOneUp why mid new m') → lacks_at why ≡ lacks_lines result
       → ((entries bytes : ℕ) → result ≡ Err (faults.Full entries bytes) → why ≡ Some (faults.Full entries bytes))
-      → IsLifeAnswer middle seen mid later l.ended (Some g.connection) result → ServedLife dialed later out now_out before seen m box since result
-  over_given result why n dialed between later out mid_out now_out before middle seen m mid box mid_box since l g lacking full answer =
+      → IsLifeAnswer mid.seen new.seen m' new.dialed l.ended (Some g.connection) result → ServedLife old new m result
+  over_given result why n old mid new m m' l g lacking full answer =
       let x = g.connection in
-      let told : Tells (lacks_at why) mid_out now_out (news_lines x.news ++ close_line n x.close) = subst (λ (o : Option Close). Tells (lacks_at why) mid_out now_out (news_lines x.news ++ close_line n o)) (sym g.unclosed)
-      (subst (Tells (lacks_at why) mid_out now_out) (sym (append-nil (news_lines x.news))) g.lines) in
+      let told : Tells (lacks_at why) mid.out new.out (news_lines x.news ++ close_line n x.close) = subst (λ (o : Option Close). Tells (lacks_at why) mid.out new.out (news_lines x.news ++ close_line n o)) (sym g.unclosed)
+      (subst (Tells (lacks_at why) mid.out new.out) (sym (append-nil (news_lines x.news))) g.lines) in
       record {
         ended = l.ended;
         given_up = Some x;
-        behind = middle;
-        mid = mid;
+        behind = mid.seen;
+        mid = m';
         were = l.lived.were;
         gave_up = (g.last, g.is, g.unclosed);
-        refuses = subst (λ (rs : List InboxRecord). Refuses box since rs (x.refused ++ [])) (sym (adds_append l.ended x))
-            (subst (Refuses box since (adds_of l.ended ++ x.adds)) (sym (append-nil x.refused)) (refuses_on box mid_box since (adds_of l.ended) x.adds x.refused l.lived.gains g.refuses));
-        lines = lines_so (lacks_lines result) n out mid_out now_out l.ended x l.number l.lived.lines (subst (λ (b : Bool). Tells b mid_out now_out (news_lines x.news ++ close_line n x.close)) lacking told);
-        came = came_with dialed between later l.ended x l.lived.came g.came;
+        refuses = subst (λ (rs : List InboxRecord). Refuses old.box new.box rs (x.refused ++ [])) (sym (adds_append l.ended x))
+            (subst (Refuses old.box new.box (adds_of l.ended ++ x.adds)) (sym (append-nil x.refused)) (refuses_on old.box mid.box new.box (adds_of l.ended) x.adds x.refused l.lived.gains g.refuses));
+        lines = lines_so (lacks_lines result) n old.out mid.out new.out l.ended x l.number l.lived.lines (subst (λ (b : Bool). Tells b mid.out new.out (news_lines x.news ++ close_line n x.close)) lacking told);
+        came = came_with old.dialed mid.dialed new.dialed l.ended x l.lived.came g.came;
         tells = l.lived.tells;
         answer = answer;
-        past = λ entries bytes e. subst (IsPast (limits_of since).bytes bytes) (sym (append-nil x.wanted)) (g.past entries bytes (full entries bytes e));
+        past = λ entries bytes e. subst (IsPast (limits_of new.box).bytes bytes) (sym (append-nil x.wanted)) (g.past entries bytes (full entries bytes e));
       }
 
   -- behind those that ended, with no further one
-  over_none : (result : Result LifeEnd ServeFault) (n : ℕ) (dialed between later : Option DialerTold) (out mid_out now_out : Option (List ℕ)) (before middle seen : History) (m mid new : State) (box mid_box since : Inbox J G)
-      → (l : LivedTo n dialed between out mid_out before middle m mid box mid_box) → MadeNone between later mid_out now_out middle seen mid new mid_box since
-      → IsLifeAnswer middle seen mid later l.ended None result → ServedLife dialed later out now_out before seen m box since result
-  over_none result n dialed between later out mid_out now_out before middle seen m mid new box mid_box since l none answer =
+  over_none : (result : Result LifeEnd ServeFault) (n : ℕ) (old mid new : LifeAt J G) (m m' m'' : State)
+      → (l : LivedTo n old mid m m') → MadeNone mid new m' m''
+      → IsLifeAnswer mid.seen new.seen m' new.dialed l.ended None result → ServedLife old new m result
+  over_none result n old mid new m m' m'' l none answer =
       let cs = l.ended in
       record {
         ended = cs;
         given_up = None;
-        behind = middle;
-        mid = mid;
+        behind = mid.seen;
+        mid = m';
         were = l.lived.were;
         gave_up = none.same_seen;
-        refuses = refuses_none box since (adds_of (cs ++ [])) (subst (λ (ds : List Connection). Gains box since (adds_of ds)) (sym (append-nil cs))
-            (subst (Gains box since) (append-nil (adds_of cs)) (gains_on box mid_box since (adds_of cs) [] l.lived.gains none.same_box)));
-        lines = subst (λ (ds : List Connection). Tells (lacks_lines result) out now_out (lines_from 1 ds)) (sym (append-nil cs))
-            (tells_all (lacks_lines result) out now_out (lines_from 1 cs) (subst (Appends out now_out) (append-nil (lines_from 1 cs)) (Appends-trans out mid_out now_out (lines_from 1 cs) [] l.lived.lines none.same_out)));
-        came = subst (λ (ds : List Connection). AllCame dialed later (carried_by ds)) (sym (append-nil cs)) (subst (AllCame dialed later) (append-nil (carried_by cs)) (came_on dialed between later (carried_by cs) [] l.lived.came none.same_dialer));
+        refuses = refuses_none old.box new.box (adds_of (cs ++ [])) (subst (λ (ds : List Connection). Gains old.box new.box (adds_of ds)) (sym (append-nil cs))
+            (subst (Gains old.box new.box) (append-nil (adds_of cs)) (gains_on old.box mid.box new.box (adds_of cs) [] l.lived.gains none.same_box)));
+        lines = subst (λ (ds : List Connection). Tells (lacks_lines result) old.out new.out (lines_from 1 ds)) (sym (append-nil cs))
+            (tells_all (lacks_lines result) old.out new.out (lines_from 1 cs) (subst (Appends old.out new.out) (append-nil (lines_from 1 cs)) (Appends-trans old.out mid.out new.out (lines_from 1 cs) [] l.lived.lines none.same_out)));
+        came = subst (λ (ds : List Connection). AllCame old.dialed new.dialed (carried_by ds)) (sym (append-nil cs)) (subst (AllCame old.dialed new.dialed) (append-nil (carried_by cs)) (came_on old.dialed mid.dialed new.dialed (carried_by cs) [] l.lived.came none.same_dialer));
         tells = l.lived.tells;
         answer = answer;
-        past = λ entries bytes e. absurd (never_full middle seen mid later cs result entries bytes answer e);
+        past = λ entries bytes e. absurd (never_full mid.seen new.seen m' new.dialed cs result entries bytes answer e);
       }
 
-  pub over_stopped : (n : ℕ) (dialed later : Option DialerTold) (out now_out : Option (List ℕ)) (before seen : History) (m new : State) (box since : Inbox J G)
-      → LivedTo n dialed later out now_out before seen m new box since → ServedLife dialed later out now_out before seen m box since (Ok ends.Stopped)
-  over_stopped n dialed later out now_out before seen m new box since l =
-      over_none (Ok ends.Stopped) n dialed later later out now_out now_out before seen seen m new new box since since l (made_none later later now_out seen new since refl) l.lived.followed
+  pub over_stopped : (n : ℕ) (old new : LifeAt J G) (m m' : State)
+      → LivedTo n old new m m' → ServedLife old new m (Ok ends.Stopped)
+  over_stopped n old new m m' l =
+      over_none (Ok ends.Stopped) n old new new m m' m' l (made_none new.dialed new.dialed new.out new.seen m' new.box refl) l.lived.followed
 
-  pub over_ok : (end : LifeEnd) (n : ℕ) (dialed between later : Option DialerTold) (out mid_out now_out : Option (List ℕ)) (before middle seen : History) (m mid new : State) (box mid_box since : Inbox J G)
-      → LivedTo n dialed between out mid_out before middle m mid box mid_box → IsRound n between later mid_out now_out middle seen mid new mid_box since (Ok (Some end))
-      → ServedLife dialed later out now_out before seen m box since (Ok end)
-  over_ok ends.Finished n dialed between later out mid_out now_out before middle seen m mid new box mid_box since l r =
-      over_ended (Ok ends.Finished) n dialed between later out mid_out now_out before middle seen m mid new box mid_box since (closes.Ended endings.Finished) l r
+  pub over_ok : (end : LifeEnd) (n : ℕ) (old mid new : LifeAt J G) (m m' m'' : State)
+      → LivedTo n old mid m m' → IsRound n mid new m' m'' (Ok (Some end))
+      → ServedLife old new m (Ok end)
+  over_ok ends.Finished n old mid new m m' m'' l r =
+      over_ended (Ok ends.Finished) n old mid new m m' m'' (closes.Ended endings.Finished) l r
       (refl, record { earlier = l.ended; last = r.connection; are = refl; closed = r.closed; followed = l.lived.followed })
-  over_ok ends.Stopped n dialed between later out mid_out now_out before middle seen m mid new box mid_box since l r =
-      over_given (Ok ends.Stopped) None n dialed between later out mid_out now_out before middle seen m mid box mid_box since l r refl (λ entries bytes e. cc) l.lived.followed
+  over_ok ends.Stopped n old mid new m m' m'' l r =
+      over_given (Ok ends.Stopped) None n old mid new m m' l r refl (λ entries bytes e. cc) l.lived.followed
 
-  pub over_err : (fault : ServeFault) (n : ℕ) (dialed between later : Option DialerTold) (out mid_out now_out : Option (List ℕ)) (before middle seen : History) (m mid new : State) (box mid_box since : Inbox J G)
-      → LivedTo n dialed between out mid_out before middle m mid box mid_box → IsRound n between later mid_out now_out middle seen mid new mid_box since (Err fault)
-      → ServedLife dialed later out now_out before seen m box since (Err fault)
-  over_err faults.Output n dialed between later out mid_out now_out before middle seen m mid new box mid_box since l (inl e) =
-      over_ended (Err faults.Output) n dialed between later out mid_out now_out before middle seen m mid new box mid_box since e.0 l e.1 tt
-  over_err faults.Output n dialed between later out mid_out now_out before middle seen m mid new box mid_box since l (inr g) =
-      over_given (Err faults.Output) (Some faults.Output) n dialed between later out mid_out now_out before middle seen m mid box mid_box since l g refl (λ entries bytes e. cc) tt
-  over_err faults.Journal n dialed between later out mid_out now_out before middle seen m mid new box mid_box since l r =
-      over_given (Err faults.Journal) (Some faults.Journal) n dialed between later out mid_out now_out before middle seen m mid box mid_box since l r refl (λ entries bytes e. cc) (l.lived.followed, r.connection, refl, r.cut_short.0 refl)
-  over_err faults.Dial n dialed between later out mid_out now_out before middle seen m mid new box mid_box since l r =
-      over_none (Err faults.Dial) n dialed between later out mid_out now_out before middle seen m mid new box mid_box since l r (l.lived.followed, refl)
-  over_err (faults.Unfinished phase) n dialed between later out mid_out now_out before middle seen m mid new box mid_box since l r =
-      over_none (Err (faults.Unfinished phase)) n dialed between later out mid_out now_out before middle seen m mid new box mid_box since l r.0 (l.lived.followed, refl, r.1, r.2)
-  over_err (faults.Rejected template code) n dialed between later out mid_out now_out before middle seen m mid new box mid_box since l r =
-      over_ended (Err (faults.Rejected template code)) n dialed between later out mid_out now_out before middle seen m mid new box mid_box since (closes.Ended (endings.Rejected template code)) l r
+  pub over_err : (fault : ServeFault) (n : ℕ) (old mid new : LifeAt J G) (m m' m'' : State)
+      → LivedTo n old mid m m' → IsRound n mid new m' m'' (Err fault)
+      → ServedLife old new m (Err fault)
+  over_err faults.Output n old mid new m m' m'' l (inl e) =
+      over_ended (Err faults.Output) n old mid new m m' m'' e.0 l e.1 tt
+  over_err faults.Output n old mid new m m' m'' l (inr g) =
+      over_given (Err faults.Output) (Some faults.Output) n old mid new m m' l g refl (λ entries bytes e. cc) tt
+  over_err faults.Journal n old mid new m m' m'' l r =
+      over_given (Err faults.Journal) (Some faults.Journal) n old mid new m m' l r refl (λ entries bytes e. cc) (l.lived.followed, r.connection, refl, r.cut_short.0 refl)
+  over_err faults.Dial n old mid new m m' m'' l r =
+      over_none (Err faults.Dial) n old mid new m m' m'' l r (l.lived.followed, refl)
+  over_err (faults.Unfinished phase) n old mid new m m' m'' l r =
+      over_none (Err (faults.Unfinished phase)) n old mid new m m' m'' l r.0 (l.lived.followed, refl, r.1, r.2)
+  over_err (faults.Rejected template code) n old mid new m m' m'' l r =
+      over_ended (Err (faults.Rejected template code)) n old mid new m m' m'' (closes.Ended (endings.Rejected template code)) l r
       (refl, record { earlier = l.ended; last = r.connection; are = refl; closed = r.closed; followed = l.lived.followed })
-  over_err (faults.Full entries bytes) n dialed between later out mid_out now_out before middle seen m mid new box mid_box since l r =
-      over_given (Err (faults.Full entries bytes)) (Some (faults.Full entries bytes)) n dialed between later out mid_out now_out before middle seen m mid box mid_box since l r refl (λ n m e. cc)
+  over_err (faults.Full entries bytes) n old mid new m m' m'' l r =
+      over_given (Err (faults.Full entries bytes)) (Some (faults.Full entries bytes)) n old mid new m m' l r refl (λ n m e. cc)
       (l.lived.followed, r.connection, refl, r.cut_short.1 entries bytes refl)
-  over_err faults.Turns n dialed between later out mid_out now_out before middle seen m mid new box mid_box since l r =
-      over_given (Err faults.Turns) (Some faults.Turns) n dialed between later out mid_out now_out before middle seen m mid box mid_box since l r refl (λ entries bytes e. cc)
+  over_err faults.Turns n old mid new m m' m'' l r =
+      over_given (Err faults.Turns) (Some faults.Turns) n old mid new m m' l r refl (λ entries bytes e. cc)
       (l.lived.followed, r.connection, refl, record { last = r.last; is = r.is; spent = r.spent refl })
-  over_err faults.Memory n dialed between later out mid_out now_out before middle seen m mid new box mid_box since l (inl e) =
-      over_ended (Err faults.Memory) n dialed between later out mid_out now_out before middle seen m mid new box mid_box since e.0 l e.1 tt
-  over_err faults.Memory n dialed between later out mid_out now_out before middle seen m mid new box mid_box since l (inr g) =
-      over_given (Err faults.Memory) (Some faults.Memory) n dialed between later out mid_out now_out before middle seen m mid box mid_box since l g refl (λ entries bytes e. cc) tt
+  over_err faults.Memory n old mid new m m' m'' l (inl e) =
+      over_ended (Err faults.Memory) n old mid new m m' m'' e.0 l e.1 tt
+  over_err faults.Memory n old mid new m m' m'' l (inr g) =
+      over_given (Err faults.Memory) (Some faults.Memory) n old mid new m m' l g refl (λ entries bytes e. cc) tt
 
   -- where there was no memory to begin, none was served
-  pub nothing_served : (dialed : Option DialerTold) (out : Option (List ℕ)) (seen : History) (m : State) (box : Inbox J G) → ServedLife dialed dialed out out seen seen m box box (Err faults.Memory)
+  pub nothing_served : (dialed : Option DialerTold) (out : Option (List ℕ)) (seen : History) (m : State) (box : Inbox J G) → ServedLife (life_at dialed out seen box) (life_at dialed out seen box) m (Err faults.Memory)
   nothing_served dialed out seen m box =
-      over_none (Err faults.Memory) 1 dialed dialed dialed out out out seen seen seen m m m box box box (lived_none dialed out seen m box) (made_none dialed dialed out seen m box refl) tt
+      let l : LifeAt J G = life_at dialed out seen box in
+      over_none (Err faults.Memory) 1 l l l m m m (lived_none dialed out seen m box) (made_none dialed dialed out seen m box refl) tt

@@ -22,6 +22,7 @@ use Rattle.conn_serve.specs.declared.answer.ServeFault.TheVariants as faults
 use Rattle.conn_serve.specs.Answers.{close_of, IsOfTurn}
 use Rattle.conn_serve.specs.Connections.{ClosesAs}
 use Rattle.conn_serve.specs.Causes.{BlamesJournal, IsBlamed}
+use Rattle.conn_serve.specs.Moments.{FaultsAt, faults_at}
 
 -- what holds where it answers, and where its link failed, holds where the connection goes on or has ended
 pub on_whole : (P : Type 0) (r : Result TurnEnd TurnFault) → OnOk r P → (r ≡ Err turn_faults.Link → P) → OnOk (close_of r) P
@@ -96,7 +97,7 @@ of_turn_made (Err (turn_faults.Full entries bytes)) = tt
 of_turn_made (Err turn_faults.Memory) = tt
 
 module _ {J : Type 0} {G : Ghosts J} where
-  blames : (p q : Part) (box since : Inbox J G) → BlamesJournal p q box since → IsBlamed 0 0 0 0 p q box since faults.Journal
+  blames : (p q : Part) (box since : Inbox J G) → BlamesJournal p q box since → IsBlamed (faults_at 0 0 p box) (faults_at 0 0 q since) faults.Journal
   blames p q box since b = record { output = λ e. cc; journal = λ _. b; dial = λ e. cc; full = λ entries bytes e. cc }
 
   pub blamed_made : (p q : Part) (box since : Inbox J G) (r : Result TurnEnd TurnFault) → SameKind box since
@@ -104,7 +105,7 @@ module _ {J : Type 0} {G : Ghosts J} where
       → (r ≡ Err turn_faults.Outbox → HasFailed p.faults q.faults)
       → (r ≡ Err turn_faults.Broken → (is_broken since ≡ true) ⊎ HasFailed q.opening.faults q.faults)
       → ((entries bytes : ℕ) → r ≡ Err (turn_faults.Full entries bytes) → (entries ≡ count_of since) × (bytes ≡ size_of since))
-      → IfErr (close_of r) (IsBlamed 0 0 0 0 p q box since)
+      → IfErr (close_of r) (IsBlamed (faults_at 0 0 p box) (faults_at 0 0 q since))
   blamed_made p q box since (Ok turn_ends.Go) kind inbox outbox broken full = tt
   blamed_made p q box since (Ok (turn_ends.Ended x)) kind inbox outbox broken full = tt
   blamed_made p q box since (Err turn_faults.Link) kind inbox outbox broken full = tt
@@ -126,12 +127,11 @@ module _ {J : Type 0} {G : Ghosts J} where
   blames_since p m q box mid after pass inbox later kind (inr (inr (inr failed))) = inr (inr (inr failed))
 
   -- what is to blame behind the middle is to blame for the whole
-  pub blamed_since : (out mid_out now_out dialer mid_dialer now_dialer : ℕ) (p m q : Part) (box mid after : Inbox J G) (fault : ServeFault)
-      → out ≤ mid_out → dialer ≤ mid_dialer → p.faults ≤ m.faults → faults_of box ≤ faults_of mid → faults_of mid ≤ faults_of after → SameKind box mid
-      → IsBlamed mid_out now_out mid_dialer now_dialer m q mid after fault → IsBlamed out now_out dialer now_dialer p q box after fault
-  blamed_since out mid_out now_out dialer mid_dialer now_dialer p m q box mid after fault less_out less_dialer pass inbox later kind b = record {
+  pub blamed_since : (old mid new : FaultsAt J G) (fault : ServeFault) → old.out ≤ mid.out → old.dialer ≤ mid.dialer → old.pass.faults ≤ mid.pass.faults
+      → faults_of old.box ≤ faults_of mid.box → faults_of mid.box ≤ faults_of new.box → SameKind old.box mid.box → IsBlamed mid new fault → IsBlamed old new fault
+  blamed_since old mid new fault less_out less_dialer pass inbox later kind b = record {
     output = λ e. omega (arith, less_out, b.output e);
-    journal = λ e. blames_since p m q box mid after pass inbox later kind (b.journal e);
+    journal = λ e. blames_since old.pass mid.pass new.pass old.box mid.box new.box pass inbox later kind (b.journal e);
     dial = λ e. omega (arith, less_dialer, b.dial e);
     full = b.full;
   }

@@ -4,12 +4,9 @@ use Rattle.std.specs.Prelude.{if◌then◌else◌}
 use Rattle.std.proofs.lemmas.Bool.{false≢true}
 use Rattle.std.proofs.lemmas.List.Elements.{All-cons, All-nil, All-head, All-tail}
 use Rattle.jr_record.specs.declared.journal.Journal.{Ghosts}
-use Rattle.jr_boxes.specs.declared.inbox.Inbox.{Inbox}
 use Rattle.jr_boxes.specs.declared.faults.SubmitFault.{SubmitFault}
 use Rattle.jr_boxes.specs.declared.faults.SubmitFault.TheVariants as submit
-use Rattle.gw_links.specs.Dialers.{DialerTold}
 use Rattle.fixp_machine.specs.Machine.{State}
-use Rattle.gate_turn.specs.Views.{Part}
 use Rattle.gate_turn.specs.Places.{known}
 use Rattle.gate_senders.specs.declared.gate.Gate.{Gate}
 use Rattle.gate_plans.specs.Runs.{IsReady, HasNone}
@@ -23,6 +20,7 @@ use Rattle.conn_serve.specs.declared.answer.LifeEnd.TheVariants as ends
 use Rattle.conn_serve.specs.Answers.{answer_of, yields}
 use Rattle.conn_serve.specs.Senders.{refusal_of, OnlyClosed, IsRefusal, FinishedFirst, SubmittedAll, SomeMarked}
 use Rattle.conn_serve.specs.Opening.{ServedBy, IsUnrefused}
+use Rattle.conn_serve.specs.Moments.{ServingAt}
 
 closed_of : (o : Option SubmitFault) (f : SubmitFault) → refusal_of o ≡ None → o ≡ Some f → f ≡ submit.Closed
 closed_of None f e is = cc
@@ -128,22 +126,22 @@ unanswered (Err e) f firm u = by_kind (yields e) refl u
     by_kind false is u = false≢true (sym is ∙ u)
 
 module _ {J : Type 0} {G : Ghosts J} {O : Type 0} {H : Ghosts O} where
-  pub marked_by : (gate : Gate O H) (dialed later : Option DialerTold) (out now_out : Option (List ℕ)) (a b c d : ℕ) (p q : Part) (m : State) (box since : Inbox J G) (before after : List (Sender O H)) (result : Result (Unit {0}) ServeFault)
-      → ServedBy gate dialed later out now_out a b c d p q m box since before after result → IsUnrefused result → 0 < length before → SomeMarked after
-  marked_by gate dialed later out now_out a b c d p q m box since before after result s u many = by_kind s.senders s.refused refl
+  pub marked_by : (gate : Gate O H) (old new : ServingAt J G O H) (m : State) (result : Result (Unit {0}) ServeFault)
+      → ServedBy gate old new m result → IsUnrefused result → 0 < length old.senders → SomeMarked new.senders
+  marked_by gate old new m result s u many = by_kind s.senders s.refused refl
     where
       answered : (o : Option ServeFault) → s.refused ≡ o → IsUnrefused (answer_of s.connections o)
       answered o e = subst IsUnrefused (s.answer ∙ ap (answer_of s.connections) e) u
 
-      by_kind : SubmittedAll gate before after s.refused ⊎ ((after ≡ before) × (s.refused ≡ None) × (s.connections ≡ Err faults.Memory)) → (o : Option ServeFault) → s.refused ≡ o → SomeMarked after
-      by_kind (inl x) None e = marked_of gate before after (subst (SubmittedAll gate before after) e x) many
-      by_kind (inl x) (Some f) e = absurd (unanswered s.connections f (firm_of gate before after f (subst (SubmittedAll gate before after) e x)) (answered (Some f) e))
+      by_kind : SubmittedAll gate old.senders new.senders s.refused ⊎ ((new.senders ≡ old.senders) × (s.refused ≡ None) × (s.connections ≡ Err faults.Memory)) → (o : Option ServeFault) → s.refused ≡ o → SomeMarked new.senders
+      by_kind (inl x) None e = marked_of gate old.senders new.senders (subst (SubmittedAll gate old.senders new.senders) e x) many
+      by_kind (inl x) (Some f) e = absurd (unanswered s.connections f (firm_of gate old.senders new.senders f (subst (SubmittedAll gate old.senders new.senders) e x)) (answered (Some f) e))
       by_kind (inr x) o e = absurd (false≢true (subst (λ (r : Result LifeEnd ServeFault). IsUnrefused (answer_of r None)) x.2 (answered None x.1)))
 
-  pub seated_by : (gate : Gate O H) (dialed later : Option DialerTold) (out now_out : Option (List ℕ)) (a b c d : ℕ) (p q : Part) (m : State) (box since : Inbox J G) (before after : List (Sender O H)) (result : Result (Unit {0}) ServeFault)
-      → ServedBy gate dialed later out now_out a b c d p q m box since before after result → (made : ℕ) → Seated gate before made → Seated gate after made
-  seated_by gate dialed later out now_out a b c d p q m box since before after result s made h = by_kind s.senders
+  pub seated_by : (gate : Gate O H) (old new : ServingAt J G O H) (m : State) (result : Result (Unit {0}) ServeFault)
+      → ServedBy gate old new m result → (made : ℕ) → Seated gate old.senders made → Seated gate new.senders made
+  seated_by gate old new m result s made h = by_kind s.senders
     where
-      by_kind : SubmittedAll gate before after s.refused ⊎ ((after ≡ before) × (s.refused ≡ None) × (s.connections ≡ Err faults.Memory)) → Seated gate after made
-      by_kind (inl x) = seated_after gate made before after s.refused x h
+      by_kind : SubmittedAll gate old.senders new.senders s.refused ⊎ ((new.senders ≡ old.senders) × (s.refused ≡ None) × (s.connections ≡ Err faults.Memory)) → Seated gate new.senders made
+      by_kind (inl x) = seated_after gate made old.senders new.senders s.refused x h
       by_kind (inr x) = subst (λ (l : List (Sender O H)). Seated gate l made) (sym x.0) h

@@ -1,23 +1,22 @@
 -- Where a life opens.
-use Rattle.std.proofs.Common.{◌≡◌, ◌≤◌, ℕ, Bool, true, false, List, length, Option, Some, None, Result, refl, sym, ap, subst, ◌∙◌, arith}
+use Rattle.std.proofs.Common.{◌≡◌, ◌≤◌, ℕ, Bool, true, false, length, Some, None, Result, refl, sym, ap, subst, ◌∙◌, arith}
 use Rattle.std.specs.Prelude.{◌<◌, if◌then◌else◌, IfSome}
 use Rattle.std.proofs.lemmas.Bool.{false≢true}
 use Rattle.session_model.specs.Journal.{History, BeginsHistory}
 use Rattle.session_model.proofs.Lists.{prefix_length}
 use Rattle.fixp_shake.specs.declared.config.EndConfig.{EndConfig}
 use Rattle.fixp_machine.specs.Machine.{State, fresh}
-use Rattle.gw_links.specs.Dialers.{DialerTold}
 use Rattle.jr_record.specs.declared.journal.Journal.{Ghosts}
 use Rattle.jr_boxes.specs.declared.inbox.Inbox.{Inbox}
 use Rattle.jr_boxes.specs.Inbox.{flow_of, limits_of}
 use Rattle.gate_turn.specs.Views.{Part}
 use Rattle.gate_senders.specs.declared.gate.Gate.{Gate}
-use Rattle.gate_plans.specs.declared.sender.Sender.{Sender}
 use Rattle.conn_serve.specs.declared.answer.ServeFault.{ServeFault}
 use Rattle.conn_serve.specs.declared.answer.ServeFault.TheVariants as faults
 use Rattle.conn_serve.specs.Causes.{IsBlamed}
 use Rattle.conn_serve.specs.Turned.{MayBegin}
 use Rattle.conn_serve.specs.Opening.{opened_state, ServedBy}
+use Rattle.conn_serve.specs.Moments.{FaultsAt, ServingAt}
 
 mark : (h s : History) → BeginsHistory h s → (b : Bool) → h.finished ≡ b → IfSome (if b then Some (length h.made) else None) (λ n. (s.finished ≡ true) × (length s.made ≡ n))
 mark h s begins true e = (ap (λ (x : History). x.finished) (sym (begins.alone e)) ∙ e, ap (λ (x : History). length x.made) (sym (begins.alone e)))
@@ -35,10 +34,9 @@ module _ {J : Type 0} {G : Ghosts J} where
     agrees = record { flow = flow; most = within; next = refl; negotiated = refl; peer_last = refl };
   })
 
-  pub blamed_none : (a b c d : ℕ) (p q : Part) (box since : Inbox J G) → IsBlamed a b c d p q box since faults.Memory
-  blamed_none a b c d p q box since = record { output = λ e. cc; journal = λ e. cc; dial = λ e. cc; full = λ entries bytes e. cc }
+  pub blamed_none : (old new : FaultsAt J G) → IsBlamed old new faults.Memory
+  blamed_none old new = record { output = λ e. cc; journal = λ e. cc; dial = λ e. cc; full = λ entries bytes e. cc }
 
 module _ {J : Type 0} {G : Ghosts J} {O : Type 0} {H : Ghosts O} where
-  pub served_at : (gate : Gate O H) (dialed later : Option DialerTold) (out now_out : Option (List ℕ)) (a b c d : ℕ) (p q : Part) (m n : State) (box since : Inbox J G) (before after : List (Sender O H)) (result : Result (Unit {0}) ServeFault)
-      → m ≡ n → ServedBy gate dialed later out now_out a b c d p q m box since before after result → ServedBy gate dialed later out now_out a b c d p q n box since before after result
-  served_at gate dialed later out now_out a b c d p q m n box since before after result is served = subst (λ (s : State). ServedBy gate dialed later out now_out a b c d p q s box since before after result) is served
+  pub served_at : (gate : Gate O H) (old new : ServingAt J G O H) (m n : State) (result : Result (Unit {0}) ServeFault) → m ≡ n → ServedBy gate old new m result → ServedBy gate old new n result
+  served_at gate old new m n result is served = subst (λ (s : State). ServedBy gate old new s result) is served

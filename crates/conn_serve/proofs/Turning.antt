@@ -37,6 +37,8 @@ use Rattle.conn_serve.specs.Causes.{lacks, lacks_at, Tells}
 use Rattle.conn_serve.specs.Turned.{Turned, CutOff, GivenUp, TurnedOn, GivenUpOn}
 use Rattle.conn_serve.specs.Answers.{close_of, IsOfTurn}
 use Rattle.conn_serve.proofs.Shortness.{turn_short, told_short}
+use Rattle.conn_loop.specs.Live.{LiveEnd, live_end}
+use Rattle.conn_serve.specs.Moments.{ConnectionAt, connection_at}
 
 -- ---- lists of turns
 
@@ -137,16 +139,16 @@ full_turn turn_faults.Memory entries bytes e = cc
 module _ {J : Type 0} {G : Ghosts J} where
   -- ---- what a turn told is short
 
-  pub was_short : (told later : Option LinkTold) (carried after : Option Carried) (before seen : History) (old new : Line) (box since : Inbox J G) (news : List NewsItem)
-      → WasTurn told later carried after before seen old new box since news → All IsShort news
-  was_short told later carried after before seen old new box since news was = subst (All IsShort) (sym was.news_are) (turn_short before seen old new was.turn was.is)
+  pub was_short : (old new : LiveEnd J G) → old.news ≡ [] → WasTurn old new → All IsShort new.news
+  was_short old new none was =
+      subst (All IsShort) (sym (was.news_are ∙ ap (λ (ns : List NewsItem). ns ++ tells_in old.line was.turn) none)) (turn_short old.seen new.seen old.line new.line was.turn was.is)
 
   pub cut_is_short : (old : Line) (box since : Inbox J G) (news : List NewsItem) (why : ServeFault) → CutOff old box since news why → All IsShort news
   cut_is_short old box since news why c = subst (All IsShort) (sym c.cut.news_are) (told_short c.now _ c.cut.frames c.cut.cut.taken)
 
   -- ---- turns
 
-  pub turned_none : (told : Option LinkTold) (carried : Option Carried) (out : Option (List ℕ)) (seen : History) (l : Line) (box : Inbox J G) → Turned told told carried carried out out seen seen l l box box 0
+  pub turned_none : (told : Option LinkTold) (carried : Option Carried) (out : Option (List ℕ)) (seen : History) (l : Line) (box : Inbox J G) → Turned (connection_at told carried out seen l box) (connection_at told carried out seen l box) 0
   turned_none told carried out seen l box = record {
     turns = [];
     news = [];
@@ -158,92 +160,92 @@ module _ {J : Type 0} {G : Ghosts J} where
     lines = Appends-nil out;
   }
 
-  pub turned_once : (told later : Option LinkTold) (carried after : Option Carried) (out now_out : Option (List ℕ)) (before seen : History) (old new : Line) (box since : Inbox J G) (news : List NewsItem)
-      → old.machine.ending ≡ None → WasTurn told later carried after before seen old new box since news → Appends out now_out (news_lines news)
-      → Turned told later carried after out now_out before seen old new box since 1
-  turned_once told later carried after out now_out before seen old new box since news unended was lines = record {
+  pub turned_once : (old new : ConnectionAt J G) (news : List NewsItem)
+      → old.line.machine.ending ≡ None → WasTurn (live_end old.told old.carried old.seen old.line old.box []) (live_end new.told new.carried new.seen new.line new.box news) → Appends old.out new.out (news_lines news)
+      → Turned old new 1
+  turned_once old new news unended was lines = record {
     turns = was.turn ∷ [];
-    news = tells_in old was.turn;
-    adds = adds_in old was.turn;
+    news = tells_in old.line was.turn;
+    adds = adds_in old.line was.turn;
     many = refl;
-    were = one_turn before seen old new was.turn unended was.is;
+    were = one_turn old.seen new.seen old.line new.line was.turn unended was.is;
     gains = was.gains;
-    moved = subst (λ (g : List ℕ). Moved told later carried after g (flat_map sent_in (was.turn ∷ []))) (sym (append-nil (given_in was.turn)))
-        (subst (Moved told later carried after (given_in was.turn)) (sym (append-nil (sent_in was.turn))) was.moved);
-    lines = subst (λ (ns : List NewsItem). Appends out now_out (news_lines ns)) was.news_are lines;
+    moved = subst (λ (g : List ℕ). Moved old.told new.told old.carried new.carried g (flat_map sent_in (was.turn ∷ []))) (sym (append-nil (given_in was.turn)))
+        (subst (Moved old.told new.told old.carried new.carried (given_in was.turn)) (sym (append-nil (sent_in was.turn))) was.moved);
+    lines = subst (λ (ns : List NewsItem). Appends old.out new.out (news_lines ns)) was.news_are lines;
   }
 
-  pub turned_on : (told between later : Option LinkTold) (carried held after : Option Carried) (out mid_out now_out : Option (List ℕ)) (before mid seen : History) (old middle new : Line) (box mid_box since : Inbox J G) (n k : ℕ)
-      → Turned told between carried held out mid_out before mid old middle box mid_box n → Turned between later held after mid_out now_out mid seen middle new mid_box since k
-      → Turned told later carried after out now_out before seen old new box since (n + k)
-  turned_on told between later carried held after out mid_out now_out before mid seen old middle new box mid_box since n k x y = record {
+  pub turned_on : (old mid new : ConnectionAt J G) (n k : ℕ)
+      → Turned old mid n → Turned mid new k
+      → Turned old new (n + k)
+  turned_on old mid new n k x y = record {
     turns = x.turns ++ y.turns;
     news = x.news ++ y.news;
     adds = x.adds ++ y.adds;
     many = omega (arith, x.many, y.many, length-append x.turns y.turns);
-    were = turns_on before mid seen old middle new x.turns y.turns x.news y.news x.adds y.adds x.were y.were;
-    gains = gains_on box mid_box since x.adds y.adds x.gains y.gains;
-    moved = subst (λ (g : List ℕ). Moved told later carried after g (flat_map sent_in (x.turns ++ y.turns))) (sym (flat_map-append given_in x.turns y.turns))
-        (subst (Moved told later carried after (flat_map given_in x.turns ++ flat_map given_in y.turns)) (sym (flat_map-append sent_in x.turns y.turns))
-        (moved_more told between later carried held after _ _ _ _ x.moved y.moved));
-    lines = subst (Appends out now_out) (sym (lines_on x.news y.news)) (Appends-trans out mid_out now_out (news_lines x.news) (news_lines y.news) x.lines y.lines);
+    were = turns_on old.seen mid.seen new.seen old.line mid.line new.line x.turns y.turns x.news y.news x.adds y.adds x.were y.were;
+    gains = gains_on old.box mid.box new.box x.adds y.adds x.gains y.gains;
+    moved = subst (λ (g : List ℕ). Moved old.told new.told old.carried new.carried g (flat_map sent_in (x.turns ++ y.turns))) (sym (flat_map-append given_in x.turns y.turns))
+        (subst (Moved old.told new.told old.carried new.carried (flat_map given_in x.turns ++ flat_map given_in y.turns)) (sym (flat_map-append sent_in x.turns y.turns))
+        (moved_more old.told mid.told new.told old.carried mid.carried new.carried _ _ _ _ x.moved y.moved));
+    lines = subst (Appends old.out new.out) (sym (lines_on x.news y.news)) (Appends-trans old.out mid.out new.out (news_lines x.news) (news_lines y.news) x.lines y.lines);
   }
 
-  pub turned_place : (told later : Option LinkTold) (carried after : Option Carried) (out now_out : Option (List ℕ)) (before seen : History) (old new : Line) (box since : Inbox J G) (n : ℕ)
-      → Turned told later carried after out now_out before seen old new box since n → new.place ≤ old.place + n * 262240
-  turned_place told later carried after out now_out before seen old new box since n t =
+  pub turned_place : (old new : ConnectionAt J G) (n : ℕ)
+      → Turned old new n → new.line.place ≤ old.line.place + n * 262240
+  turned_place old new n t =
       let many = t.many in
-      subst (λ (k : ℕ). new.place ≤ old.place + k * 262240) many (turns_place before seen old new t.turns t.news t.adds t.were)
+      subst (λ (k : ℕ). new.line.place ≤ old.line.place + k * 262240) many (turns_place old.seen new.seen old.line new.line t.turns t.news t.adds t.were)
 
   -- ---- where it is given up
 
   -- behind whole turns, with no turn cut short
-  pub given_whole : (why : Option ServeFault) (told later : Option LinkTold) (carried after : Option Carried) (out now_out : Option (List ℕ)) (before seen : History) (old new : Line) (box since : Inbox J G) (n : ℕ)
-      → Turned told later carried after out now_out before seen old new box since n
-      → (why ≡ Some faults.Turns → (n ≡ 1099511627776) × (new.machine.ending ≡ None)) → (why ≡ Some faults.Journal → ⊥) → ((entries bytes : ℕ) → why ≡ Some (faults.Full entries bytes) → ⊥)
-      → GivenUp why out now_out before seen old box since
-  given_whole why told later carried after out now_out before seen old new box since n t turns no_journal no_full = record {
-    last = new;
-    behind = seen;
+  pub given_whole : (why : Option ServeFault) (old new : ConnectionAt J G) (n : ℕ)
+      → Turned old new n
+      → (why ≡ Some faults.Turns → (n ≡ 1099511627776) × (new.line.machine.ending ≡ None)) → (why ≡ Some faults.Journal → ⊥) → ((entries bytes : ℕ) → why ≡ Some (faults.Full entries bytes) → ⊥)
+      → GivenUp why old.out new.out old.seen new.seen old.line old.box new.box
+  given_whole why old new n t turns no_journal no_full = record {
+    last = new.line;
+    behind = new.seen;
     turns = t.turns;
     news = t.news;
     adds = t.adds;
     were = t.were;
-    grows = begins_self seen;
+    grows = begins_self new.seen;
     cut = None;
     cut_told = [];
     cut_added = [];
     refused = [];
     wanted = [];
     is_cut = (refl, refl, refl, refl);
-    refuses = refuses_none box since (t.adds ++ []) (subst (Gains box since) (sym (append-nil t.adds)) t.gains);
-    lines = tells_all (lacks_at why) out now_out _ (subst (λ (ns : List NewsItem). Appends out now_out (news_lines ns)) (sym (append-nil t.news)) t.lines);
+    refuses = refuses_none old.box new.box (t.adds ++ []) (subst (Gains old.box new.box) (sym (append-nil t.adds)) t.gains);
+    lines = tells_all (lacks_at why) old.out new.out _ (subst (λ (ns : List NewsItem). Appends old.out new.out (news_lines ns)) (sym (append-nil t.news)) t.lines);
     spent = λ e. record { many = t.many ∙ (turns e).0; unended = (turns e).1; whole = refl };
     cut_short = (λ e. absurd (no_journal e), λ entries bytes e. absurd (no_full entries bytes e));
     past = λ entries bytes e. absurd (no_full entries bytes e);
   }
 
   -- at a whole turn whose lines are lacking
-  pub given_lacking : (fault : ServeFault) (told later : Option LinkTold) (carried after : Option Carried) (out now_out : Option (List ℕ)) (before seen : History) (old new : Line) (box since : Inbox J G) (news : List NewsItem)
-      → old.machine.ending ≡ None → WasTurn told later carried after before seen old new box since news → Tells (lacks fault) out now_out (news_lines news)
+  pub given_lacking : (fault : ServeFault) (old new : ConnectionAt J G) (news : List NewsItem)
+      → old.line.machine.ending ≡ None → WasTurn (live_end old.told old.carried old.seen old.line old.box []) (live_end new.told new.carried new.seen new.line new.box news) → Tells (lacks fault) old.out new.out (news_lines news)
       → (fault ≡ faults.Output) ⊎ (fault ≡ faults.Memory)
-      → GivenUp (Some fault) out now_out before seen old box since
-  given_lacking fault told later carried after out now_out before seen old new box since news unended was lines which = record {
-    last = new;
-    behind = seen;
+      → GivenUp (Some fault) old.out new.out old.seen new.seen old.line old.box new.box
+  given_lacking fault old new news unended was lines which = record {
+    last = new.line;
+    behind = new.seen;
     turns = was.turn ∷ [];
-    news = tells_in old was.turn;
-    adds = adds_in old was.turn;
-    were = one_turn before seen old new was.turn unended was.is;
-    grows = begins_self seen;
+    news = tells_in old.line was.turn;
+    adds = adds_in old.line was.turn;
+    were = one_turn old.seen new.seen old.line new.line was.turn unended was.is;
+    grows = begins_self new.seen;
     cut = None;
     cut_told = [];
     cut_added = [];
     refused = [];
     wanted = [];
     is_cut = (refl, refl, refl, refl);
-    refuses = refuses_none box since (adds_in old was.turn ++ []) (subst (Gains box since) (sym (append-nil (adds_in old was.turn))) was.gains);
-    lines = subst (λ (ns : List NewsItem). Tells (lacks fault) out now_out (news_lines ns)) (was.news_are ∙ sym (append-nil (tells_in old was.turn))) lines;
+    refuses = refuses_none old.box new.box (adds_in old.line was.turn ++ []) (subst (Gains old.box new.box) (sym (append-nil (adds_in old.line was.turn))) was.gains);
+    lines = subst (λ (ns : List NewsItem). Tells (lacks fault) old.out new.out (news_lines ns)) (was.news_are ∙ sym (append-nil (tells_in old.line was.turn))) lines;
     spent = λ e. by_kind which (inl (cc));
     cut_short = (λ e. by_kind which (inr (inl (cc))), λ entries bytes e. by_kind which (inr (inr (entries, bytes, cc))));
     past = λ entries bytes e. by_kind which (inr (inr (entries, bytes, cc)));
@@ -283,16 +285,16 @@ module _ {J : Type 0} {G : Ghosts J} where
   }
 
   -- behind further turns
-  pub given_on : (why : Option ServeFault) (told between : Option LinkTold) (carried held : Option Carried) (out mid_out now_out : Option (List ℕ)) (before mid seen : History) (old middle : Line) (box mid_box since : Inbox J G) (n : ℕ)
-      → Turned told between carried held out mid_out before mid old middle box mid_box n → GivenUp why mid_out now_out mid seen middle mid_box since → (why ≡ Some faults.Turns → ⊥)
-      → GivenUp why out now_out before seen old box since
-  given_on why told between carried held out mid_out now_out before mid seen old middle box mid_box since n x y no_turns = record {
+  pub given_on : (why : Option ServeFault) (old mid : ConnectionAt J G) (now_out : Option (List ℕ)) (seen : History) (since : Inbox J G) (n : ℕ)
+      → Turned old mid n → GivenUp why mid.out now_out mid.seen seen mid.line mid.box since → (why ≡ Some faults.Turns → ⊥)
+      → GivenUp why old.out now_out old.seen seen old.line old.box since
+  given_on why old mid now_out seen since n x y no_turns = record {
     last = y.last;
     behind = y.behind;
     turns = x.turns ++ y.turns;
     news = x.news ++ y.news;
     adds = x.adds ++ y.adds;
-    were = turns_on before mid y.behind old middle y.last x.turns y.turns x.news y.news x.adds y.adds x.were y.were;
+    were = turns_on old.seen mid.seen y.behind old.line mid.line y.last x.turns y.turns x.news y.news x.adds y.adds x.were y.were;
     grows = y.grows;
     cut = y.cut;
     cut_told = y.cut_told;
@@ -300,23 +302,23 @@ module _ {J : Type 0} {G : Ghosts J} where
     refused = y.refused;
     wanted = y.wanted;
     is_cut = y.is_cut;
-    refuses = subst (λ (rs : List InboxRecord). Refuses box since rs y.refused) (sym (append_assoc x.adds y.adds y.cut_added))
-        (refuses_on box mid_box since x.adds (y.adds ++ y.cut_added) y.refused x.gains y.refuses);
-    lines = subst (Tells (lacks_at why) out now_out) (sym (ap news_lines (append_assoc x.news y.news y.cut_told) ∙ lines_on x.news (y.news ++ y.cut_told)))
-        (tells_on (lacks_at why) out mid_out now_out (news_lines x.news) (news_lines (y.news ++ y.cut_told)) x.lines y.lines);
+    refuses = subst (λ (rs : List InboxRecord). Refuses old.box since rs y.refused) (sym (append_assoc x.adds y.adds y.cut_added))
+        (refuses_on old.box mid.box since x.adds (y.adds ++ y.cut_added) y.refused x.gains y.refuses);
+    lines = subst (Tells (lacks_at why) old.out now_out) (sym (ap news_lines (append_assoc x.news y.news y.cut_told) ∙ lines_on x.news (y.news ++ y.cut_told)))
+        (tells_on (lacks_at why) old.out mid.out now_out (news_lines x.news) (news_lines (y.news ++ y.cut_told)) x.lines y.lines);
     spent = λ e. absurd (no_turns e);
     cut_short = y.cut_short;
     past = y.past;
   }
 
   -- a turn whose lines are lacking, whole or cut short
-  pub given_told : {A : Type 0} (r : Result A ServeFault) (fault : ServeFault) (H : Type 0) (told later : Option LinkTold) (carried after : Option Carried) (out now_out : Option (List ℕ)) (before seen : History) (old new : Line) (box since : Inbox J G) (news : List NewsItem)
-      → old.machine.ending ≡ None → BeginsHistory before seen → OnOk r (WasTurn told later carried after before seen old new box since news) → IfErr r (CutOff old box since news)
-      → TakesFront out now_out (news_lines news) → ((fault ≡ faults.Output) × H) ⊎ (fault ≡ faults.Memory) → GivenUp (Some fault) out now_out before seen old box since
-  given_told (Ok a) fault H told later carried after out now_out before seen old new box since news unended grows whole cut front cause =
-      given_lacking fault told later carried after out now_out before seen old new box since news unended whole (lacking_tells fault H out now_out (news_lines news) cause front) (which_lacks fault H cause)
-  given_told (Err e) fault H told later carried after out now_out before seen old new box since news unended grows whole cut front cause =
-      given_cut fault e out now_out before seen old box since news grows cut (lacking_tells fault H out now_out (news_lines news) cause front) (lacking_spent fault H cause) (λ entries bytes is. absurd (lacking_full fault H entries bytes cause is))
+  pub given_told : {A : Type 0} (r : Result A ServeFault) (fault : ServeFault) (H : Type 0) (old new : ConnectionAt J G) (news : List NewsItem)
+      → old.line.machine.ending ≡ None → BeginsHistory old.seen new.seen → OnOk r (WasTurn (live_end old.told old.carried old.seen old.line old.box []) (live_end new.told new.carried new.seen new.line new.box news)) → IfErr r (CutOff old.line old.box new.box news)
+      → TakesFront old.out new.out (news_lines news) → ((fault ≡ faults.Output) × H) ⊎ (fault ≡ faults.Memory) → GivenUp (Some fault) old.out new.out old.seen new.seen old.line old.box new.box
+  given_told (Ok a) fault H old new news unended grows whole cut front cause =
+      given_lacking fault old new news unended whole (lacking_tells fault H old.out new.out (news_lines news) cause front) (which_lacks fault H cause)
+  given_told (Err e) fault H old new news unended grows whole cut front cause =
+      given_cut fault e old.out new.out old.seen new.seen old.line old.box new.box news grows cut (lacking_tells fault H old.out new.out (news_lines news) cause front) (lacking_spent fault H cause) (λ entries bytes is. absurd (lacking_full fault H entries bytes cause is))
 
   -- and one that was cut short, and whose lines were told
   pub given_answer : {A : Type 0} (r : Result A ServeFault) (out now_out : Option (List ℕ)) (before seen : History) (old : Line) (box since : Inbox J G) (news : List NewsItem)
@@ -341,6 +343,5 @@ module _ {J : Type 0} {G : Ghosts J} where
       → GivenUp why out now_out before seen start box since → GivenUpOn why out now_out before seen l.machine box since
   given_first why out now_out before seen l start now box since is g = record { moment = now; given_up = subst (λ (x : Line). GivenUp why out now_out before seen x box since) is g }
 
-  pub turned_first : (told later : Option LinkTold) (carried after : Option Carried) (out now_out : Option (List ℕ)) (before seen : History) (l start new : Line) (now : ℕ) (box since : Inbox J G) (n : ℕ) → start ≡ line_begun l now
-      → Turned told later carried after out now_out before seen start new box since n → TurnedOn told later carried after out now_out before seen l.machine new box since
-  turned_first told later carried after out now_out before seen l start new now box since n is t = record { moment = now; count = n; turned = subst (λ (x : Line). Turned told later carried after out now_out before seen x new box since n) is t }
+  pub turned_first : (old new : ConnectionAt J G) (start : Line) (now n : ℕ) → start ≡ line_begun old.line now → Turned (record old { line = start }) new n → TurnedOn old new
+  turned_first old new start now n is t = record { moment = now; count = n; turned = subst (λ (x : Line). Turned (record old { line = x }) new n) is t }

@@ -8,6 +8,7 @@ use Rattle.jr_boxes.specs.Inbox.{faults_of, is_broken, size_of, count_of}
 use Rattle.gate_turn.specs.Views.{HasFailed, Part}
 use Rattle.conn_serve.specs.declared.answer.ServeFault.{ServeFault}
 use Rattle.conn_serve.specs.declared.answer.ServeFault.TheVariants as faults
+use Rattle.conn_serve.specs.Moments.{FaultsAt}
 
 -- behind these faults lines may be lacking on OUT
 abbrev pub lacks : ServeFault → Bool
@@ -32,13 +33,13 @@ Tells true old new lines = TakesFront old new lines
 module _ {J : Type 0} {G : Ghosts J} where
   -- a journal is to blame: the inbox's count rose, or it was broken before, or a call of the outbox's disk failed, as the count that the
   -- pass has seen shows: meanwhile, or since its opening
-  abbrev pub BlamesJournal : (p q : Part) (box since : Inbox J G) → Type 0
-  BlamesJournal p q box since =
-      HasRisen (faults_of box) (faults_of since) ⊎ ((is_broken box ≡ true) ⊎ (HasFailed p.faults q.faults ⊎ HasFailed q.opening.faults q.faults))
+  abbrev pub BlamesJournal : (p p' : Part) (box box' : Inbox J G) → Type 0
+  BlamesJournal p p' box box' =
+      HasRisen (faults_of box) (faults_of box') ⊎ ((is_broken box ≡ true) ⊎ (HasFailed p.faults p'.faults ⊎ HasFailed p'.opening.faults p'.faults))
 
   -- what a fault is to blame for
-  pub record IsBlamed (out now_out dialer now_dialer : ℕ) (p q : Part) (box since : Inbox J G) (fault : ServeFault) : Type 0 where
-    pub output : fault ≡ faults.Output → HasRisen out now_out
-    pub journal : fault ≡ faults.Journal → BlamesJournal p q box since
-    pub dial : fault ≡ faults.Dial → HasRisen dialer now_dialer
-    pub full : (entries bytes : ℕ) → fault ≡ faults.Full entries bytes → (entries ≡ count_of since) × (bytes ≡ size_of since)
+  pub record IsBlamed (old new : FaultsAt J G) (fault : ServeFault) : Type 0 where
+    pub output : fault ≡ faults.Output → HasRisen old.out new.out
+    pub journal : fault ≡ faults.Journal → BlamesJournal old.pass new.pass old.box new.box
+    pub dial : fault ≡ faults.Dial → HasRisen old.dialer new.dialer
+    pub full : (entries bytes : ℕ) → fault ≡ faults.Full entries bytes → (entries ≡ count_of new.box) × (bytes ≡ size_of new.box)

@@ -37,7 +37,8 @@ abbrev pub WereTurns : (before after : History) (old new : Line) → List Turn �
 WereTurns before after old new [] news adds = (new ≡ old) × (after ≡ before) × (news ≡ []) × (adds ≡ [])
 WereTurns before after old new (t ∷ later) news adds =
     (old.machine.ending ≡ None) × (mid : Line) × (between : History) × IsTurn before between old mid t
-    × (more : List NewsItem) × (rest : List InboxRecord) × (news ≡ tells_in old t ++ more) × (adds ≡ adds_in old t ++ rest) × WereTurns between after mid new later more rest
+    × (more : List NewsItem) × (rest : List InboxRecord) × (news ≡ tells_in old t ++ more) × (adds ≡ adds_in old t ++ rest)
+    × WereTurns between after mid new later more rest
 
 -- a turn of this line was cut short by a fault: what it told, the records that the inbox gained, those that a stop may leave, and what
 -- the act of the frame that was refused would have added
@@ -54,12 +55,12 @@ pub record WasCutAt (last : Line) (t : Turn) (news : List NewsItem) (adds refuse
   pub refused_are : refused ≡ refused_of fault now (lines_after now (line_received last now received cut.over) frames) next
   pub wanted_are : wanted ≡ wanted_of now (lines_after now (line_received last now received cut.over) frames) next
 
--- the same where there was none
+-- a turn of this line was cut short, if one was; where none was, nothing was told, gained, refused or wanted
 abbrev pub CutAt : Line → Option Turn → List NewsItem → (adds refused wanted : List InboxRecord) → Type 0
 CutAt last None news adds refused wanted = (news ≡ []) × (adds ≡ []) × (refused ≡ []) × (wanted ≡ [])
 CutAt last (Some t) news adds refused wanted = WasCutAt last t news adds refused wanted
 
--- It began at its moment in the state m; its whole turns led to the line `last`, and behind them one was cut short, if one was. What
+-- A connection began at its moment in the state m; its whole turns led to the line `last`, and behind them one was cut short, if one was. What
 -- was seen of the outbox begins with what was seen behind the whole turns
 pub record IsConnection (before after : History) (m : State) (last : Line) (c : Connection) : Type 0 where
   pub seen : History
@@ -79,7 +80,7 @@ abbrev pub ClosesAs : Close → Option Ending → Type 0
 ClosesAs (closes.Ended e) ending = ending ≡ Some e
 ClosesAs closes.LinkFault ending = ending ≡ Some endings.LinkEnded
 
--- it ended: none of its turns was cut short, and its link carried exactly the bytes that were given and sent in them
+-- a connection ended: none of its turns was cut short, and its link carried exactly the bytes that were given and sent in them
 pub record HasEnded (before after : History) (m new : State) (c : Connection) : Type 0 where
   pub last : Line
   pub is : IsConnection before after m last c

@@ -10,4 +10,5 @@ use Rattle.conn_serve.specs.Connections.{WereTurns}
 
 -- the whole turns of a connection are turns one behind another, as the laws over turns speak of them
 abbrev pub WereAreTurns : Type 0
-WereAreTurns = (before after : History) (old new : Line) (turns : List Turn) (news : List NewsItem) (adds : List InboxRecord) → WereTurns before after old new turns news adds → AreTurns before after old new turns
+WereAreTurns = (before after : History) (old new : Line) (turns : List Turn) (news : List NewsItem) (adds : List InboxRecord)
+    → WereTurns before after old new turns news adds → AreTurns before after old new turns

@@ -1,5 +1,6 @@
 pub mod Answers
 pub mod Connections
+pub mod Moments
 pub mod Lines
 pub mod Causes
 pub mod Turned

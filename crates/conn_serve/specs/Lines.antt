@@ -20,7 +20,7 @@ abbrev pub close_line : ℕ → Option Close → List ℕ
 close_line n None = []
 close_line n (Some close) = connection_line n close
 
--- those of connections, the first of which has the number n: of each its news, and then its end
+-- the lines of connections, the first of which has the number n: of each its news, and then its end
 abbrev pub lines_from : ℕ → List Connection → List ℕ
 lines_from n [] = []
 lines_from n (c ∷ later) = (news_lines c.news ++ close_line n c.close) ++ lines_from (n + 1) later

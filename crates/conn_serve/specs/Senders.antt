@@ -27,7 +27,7 @@ refusal_of None = None
 refusal_of (Some f) = submit_fault f
 
 module _ {J : Type 0} {G : Ghosts J} where
-  -- it met no refusal, or only that the outbox is closed
+  -- a sender met no refusal, or only that the outbox is closed
   abbrev pub OnlyClosed : Sender J G → Type 0
   OnlyClosed s = refusal_of s.refused ≡ None
 
@@ -51,7 +51,8 @@ module _ {J : Type 0} {G : Ghosts J} where
   -- behind their plans: where all are submitted and there are senders, the Finish was added or refused; else nothing more was done
   abbrev pub IsFinished : (ran after : List (Sender J G)) → Option ServeFault → Type 0
   IsFinished ran after refused =
-      ((after ≡ ran) × IsRefusal ran refused × (0 < length ran → (All HasNone ran → ⊥))) ⊎ (All HasNone ran × (0 < length ran) × FinishedFirst ran after refused)
+      ((after ≡ ran) × IsRefusal ran refused × (0 < length ran → (All HasNone ran → ⊥)))
+      ⊎ (All HasNone ran × (0 < length ran) × FinishedFirst ran after refused)
 
   -- each sender submitted its plan until it was done or refused, and then came the Finish
   pub record SubmittedAll (gate : Gate J G) (before after : List (Sender J G)) (refused : Option ServeFault) : Type 0 where

@@ -8,7 +8,6 @@ use Rattle.std.specs.Option.{option_map}
 use Rattle.gw_links.specs.Links.{Carried, CarriedNothing}
 use Rattle.gw_links.specs.Dialers.{DialerTold}
 use Rattle.jr_record.specs.declared.journal.Journal.{Ghosts}
-use Rattle.jr_boxes.specs.declared.inbox.Inbox.{Inbox}
 use Rattle.jr_boxes.specs.Inbox.{limits_of}
 use Rattle.conn_lines.specs.declared.close.Close.{Close}
 use Rattle.conn_lines.specs.declared.close.Close.TheVariants as closes
@@ -21,6 +20,7 @@ use Rattle.conn_serve.specs.declared.answer.LifeEnd.TheVariants as ends
 use Rattle.conn_serve.specs.Connections.{Connection, IsConnection, HasEnded, AllEnded, Follows, IsFollowed, adds_of, refused_of_all, wanted_of_all}
 use Rattle.conn_serve.specs.Lines.{news_lines, close_line, lines_from}
 use Rattle.conn_serve.specs.Causes.{lacks, lacks_at, Tells}
+use Rattle.conn_serve.specs.Moments.{LifeAt}
 use Rattle.conn_serve.specs.Turned.{IsSpent}
 
 -- links came back to a dialer that tells it, which had carried this, each of one of the connections that were left
@@ -34,7 +34,7 @@ AllCame None (Some new) more = ⊥
 AllCame (Some old) None more = ⊥
 AllCame (Some old) (Some new) more = Came old new more
 
--- it tells what it carried
+-- the link of a connection tells what it carried
 abbrev pub IsTold : Connection → Type 0
 IsTold c = IsTrue (is_some c.carried)
 
@@ -74,24 +74,27 @@ abbrev pub WasGivenUp : (before after : History) (m : State) → Option Connecti
 WasGivenUp before after m None = after ≡ before
 WasGivenUp before after m (Some c) = (last : Line) × IsConnection before after m last c × (c.close ≡ None)
 
--- it was given up after all its turns
+-- a connection was given up after all its turns
 pub record SpentConnection (before after : History) (m : State) (c : Connection) : Type 0 where
   pub last : Line
   pub is : IsConnection before after m last c
   pub spent : IsSpent last c.leg.turns c.leg.cut
 
 -- Why it answers so. m: the machine behind the connections that ended. Where OUT or memory failed nothing more is said
-abbrev pub IsLifeAnswer : (before after : History) (m : State) (later : Option DialerTold) (ended : List Connection) → Option Connection → Result LifeEnd ServeFault → Type 0
-IsLifeAnswer before after m later ended given (Ok ends.Finished) = (given ≡ None) × EndsWith (closes.Ended endings.Finished) ended
-IsLifeAnswer before after m later ended given (Ok ends.Stopped) = All IsFollowed ended
-IsLifeAnswer before after m later ended given (Err faults.Output) = ⊤
-IsLifeAnswer before after m later ended given (Err faults.Journal) = All IsFollowed ended × (c : Connection) × (given ≡ Some c) × IsSome c.leg.cut
-IsLifeAnswer before after m later ended given (Err faults.Dial) = All IsFollowed ended × (given ≡ None)
-IsLifeAnswer before after m later ended given (Err (faults.Unfinished phase)) = All IsFollowed ended × (given ≡ None) × (phase ≡ phase_of m) × IfSome later (λ t. t.left ≡ 0)
-IsLifeAnswer before after m later ended given (Err (faults.Rejected template code)) = (given ≡ None) × EndsWith (closes.Ended (endings.Rejected template code)) ended
-IsLifeAnswer before after m later ended given (Err (faults.Full entries bytes)) = All IsFollowed ended × (c : Connection) × (given ≡ Some c) × IsSome c.leg.cut
-IsLifeAnswer before after m later ended given (Err faults.Turns) = All IsFollowed ended × (c : Connection) × (given ≡ Some c) × SpentConnection before after m c
-IsLifeAnswer before after m later ended given (Err faults.Memory) = ⊤
+abbrev pub IsLifeAnswer : (seen seen' : History) (m : State) (dialed' : Option DialerTold) (ended : List Connection) → Option Connection
+    → Result LifeEnd ServeFault → Type 0
+IsLifeAnswer seen seen' m dialed' ended given (Ok ends.Finished) = (given ≡ None) × EndsWith (closes.Ended endings.Finished) ended
+IsLifeAnswer seen seen' m dialed' ended given (Ok ends.Stopped) = All IsFollowed ended
+IsLifeAnswer seen seen' m dialed' ended given (Err faults.Output) = ⊤
+IsLifeAnswer seen seen' m dialed' ended given (Err faults.Journal) = All IsFollowed ended × (c : Connection) × (given ≡ Some c) × IsSome c.leg.cut
+IsLifeAnswer seen seen' m dialed' ended given (Err faults.Dial) = All IsFollowed ended × (given ≡ None)
+IsLifeAnswer seen seen' m dialed' ended given (Err (faults.Unfinished phase)) = All IsFollowed ended × (given ≡ None) × (phase ≡ phase_of m)
+    × IfSome dialed' (λ t. t.left ≡ 0)
+IsLifeAnswer seen seen' m dialed' ended given (Err (faults.Rejected template code)) = (given ≡ None)
+    × EndsWith (closes.Ended (endings.Rejected template code)) ended
+IsLifeAnswer seen seen' m dialed' ended given (Err (faults.Full entries bytes)) = All IsFollowed ended × (c : Connection) × (given ≡ Some c) × IsSome c.leg.cut
+IsLifeAnswer seen seen' m dialed' ended given (Err faults.Turns) = All IsFollowed ended × (c : Connection) × (given ≡ Some c) × SpentConnection seen seen' m c
+IsLifeAnswer seen seen' m dialed' ended given (Err faults.Memory) = ⊤
 
 -- lines may be lacking at this answer
 abbrev pub lacks_lines : {A : Type 0} → Result A ServeFault → Bool
@@ -102,74 +105,72 @@ module _ {J : Type 0} {G : Ghosts J} where
   -- Connections ended, one behind another, each but the last followed by the next, and a last one was given up, if one was. The inbox
   -- gained what they add; OUT took their lines, numbered from 1; and their links came back. At Full the inbox's journal has no room for
   -- the record of the frame that was refused on the last one
-  pub record ServedLife (dialed later : Option DialerTold) (out now_out : Option (List ℕ)) (before seen : History) (m : State) (box since : Inbox J G) (result : Result LifeEnd ServeFault) : Type 0 where
+  pub record ServedLife (old new : LifeAt J G) (m : State) (result : Result LifeEnd ServeFault) : Type 0 where
     pub ended : List Connection
     pub given_up : Option Connection
     pub behind : History
     pub mid : State
-    pub were : AllEnded before behind m mid ended
-    pub gave_up : WasGivenUp behind seen mid given_up
-    pub refuses : Refuses box since (adds_of (ended ++ option_to_list given_up)) (refused_of_all (option_to_list given_up))
-    pub lines : Tells (lacks_lines result) out now_out (lines_from 1 (ended ++ option_to_list given_up))
-    pub came : AllCame dialed later (carried_by (ended ++ option_to_list given_up))
-    pub tells : IsTrue (is_some dialed) → All IsTold ended
-    pub answer : IsLifeAnswer behind seen mid later ended given_up result
-    pub past : (entries bytes : ℕ) → result ≡ Err (faults.Full entries bytes) → IsPast (limits_of since).bytes bytes (wanted_of_all (option_to_list given_up))
+    pub were : AllEnded old.seen behind m mid ended
+    pub gave_up : WasGivenUp behind new.seen mid given_up
+    pub refuses : Refuses old.box new.box (adds_of (ended ++ option_to_list given_up)) (refused_of_all (option_to_list given_up))
+    pub lines : Tells (lacks_lines result) old.out new.out (lines_from 1 (ended ++ option_to_list given_up))
+    pub came : AllCame old.dialed new.dialed (carried_by (ended ++ option_to_list given_up))
+    pub tells : IsTrue (is_some old.dialed) → All IsTold ended
+    pub answer : IsLifeAnswer behind new.seen mid new.dialed ended given_up result
+    pub past : (entries bytes : ℕ) → result ≡ Err (faults.Full entries bytes)
+        → IsPast (limits_of new.box).bytes bytes (wanted_of_all (option_to_list given_up))
 
   -- connections that ended so far, each followed by the next
-  pub record Lived (dialed later : Option DialerTold) (out now_out : Option (List ℕ)) (before seen : History) (m new : State) (box since : Inbox J G) (ended : List Connection) : Type 0 where
-    pub were : AllEnded before seen m new ended
-    pub gains : Gains box since (adds_of ended)
-    pub lines : Appends out now_out (lines_from 1 ended)
-    pub came : AllCame dialed later (carried_by ended)
-    pub tells : IsTrue (is_some dialed) → All IsTold ended
+  pub record Lived (old new : LifeAt J G) (m m' : State) (ended : List Connection) : Type 0 where
+    pub were : AllEnded old.seen new.seen m m' ended
+    pub gains : Gains old.box new.box (adds_of ended)
+    pub lines : Appends old.out new.out (lines_from 1 ended)
+    pub came : AllCame old.dialed new.dialed (carried_by ended)
+    pub tells : IsTrue (is_some old.dialed) → All IsTold ended
     pub followed : All IsFollowed ended
 
   -- the connection of the number n ended so
-  pub record EndedOne (n : ℕ) (lacking : Bool) (dialed later : Option DialerTold) (out now_out : Option (List ℕ)) (before seen : History) (m new : State) (box since : Inbox J G) (close : Close) : Type 0 where
+  pub record EndedOne (n : ℕ) (lacking : Bool) (old new : LifeAt J G) (m m' : State) (close : Close) : Type 0 where
     pub connection : Connection
     pub closed : connection.close ≡ Some close
-    pub ended : HasEnded before seen m new connection
-    pub gains : Gains box since connection.adds
-    pub lines : Tells lacking out now_out (news_lines connection.news ++ close_line n connection.close)
-    pub came : AllCame dialed later (connection.carried ∷ [])
-    pub tells : IsTrue (is_some dialed) → IsTold connection
+    pub ended : HasEnded old.seen new.seen m m' connection
+    pub gains : Gains old.box new.box connection.adds
+    pub lines : Tells lacking old.out new.out (news_lines connection.news ++ close_line n connection.close)
+    pub came : AllCame old.dialed new.dialed (connection.carried ∷ [])
+    pub tells : IsTrue (is_some old.dialed) → IsTold connection
 
   -- a connection was given up
-  pub record GaveOneUp (why : Option ServeFault) (dialed later : Option DialerTold) (out now_out : Option (List ℕ)) (before seen : History) (m : State) (box since : Inbox J G) : Type 0 where
+  pub record GaveOneUp (why : Option ServeFault) (old new : LifeAt J G) (m : State) : Type 0 where
     pub connection : Connection
     pub unclosed : connection.close ≡ None
     pub last : Line
-    pub is : IsConnection before seen m last connection
-    pub refuses : Refuses box since connection.adds connection.refused
-    pub lines : Tells (lacks_at why) out now_out (news_lines connection.news)
-    pub came : AllCame dialed later (connection.carried ∷ [])
+    pub is : IsConnection old.seen new.seen m last connection
+    pub refuses : Refuses old.box new.box connection.adds connection.refused
+    pub lines : Tells (lacks_at why) old.out new.out (news_lines connection.news)
+    pub came : AllCame old.dialed new.dialed (connection.carried ∷ [])
     pub spent : why ≡ Some faults.Turns → IsSpent last connection.leg.turns connection.leg.cut
-    pub cut_short : (why ≡ Some faults.Journal → IsSome connection.leg.cut) × ((entries bytes : ℕ) → why ≡ Some (faults.Full entries bytes) → IsSome connection.leg.cut)
-    pub past : (entries bytes : ℕ) → why ≡ Some (faults.Full entries bytes) → IsPast (limits_of since).bytes bytes connection.wanted
+    pub cut_short : (why ≡ Some faults.Journal → IsSome connection.leg.cut)
+        × ((entries bytes : ℕ) → why ≡ Some (faults.Full entries bytes) → IsSome connection.leg.cut)
+    pub past : (entries bytes : ℕ) → why ≡ Some (faults.Full entries bytes) → IsPast (limits_of new.box).bytes bytes connection.wanted
 
   -- no connection was made
-  pub record MadeNone (dialed later : Option DialerTold) (out now_out : Option (List ℕ)) (before seen : History) (m new : State) (box since : Inbox J G) : Type 0 where
-    pub same_dialer : AllCame dialed later []
-    pub same_out : Appends out now_out []
-    pub same_seen : seen ≡ before
-    pub same_machine : new ≡ m
-    pub same_box : Gains box since []
+  pub record MadeNone (old new : LifeAt J G) (m m' : State) : Type 0 where
+    pub same_dialer : AllCame old.dialed new.dialed []
+    pub same_out : Appends old.out new.out []
+    pub same_seen : new.seen ≡ old.seen
+    pub same_machine : m' ≡ m
+    pub same_box : Gains old.box new.box []
 
   -- One round of a life, for the connection of the number n, as it answers: None where the next one follows
-  abbrev pub IsRound : (n : ℕ) (dialed later : Option DialerTold) (out now_out : Option (List ℕ)) (before seen : History) (m new : State) (box since : Inbox J G) → Result (Option LifeEnd) ServeFault → Type 0
-  IsRound n dialed later out now_out before seen m new box since (Ok None) = (close : Close) × Follows close × EndedOne n false dialed later out now_out before seen m new box since close
-  IsRound n dialed later out now_out before seen m new box since (Ok (Some ends.Finished)) = EndedOne n false dialed later out now_out before seen m new box since (closes.Ended endings.Finished)
-  IsRound n dialed later out now_out before seen m new box since (Ok (Some ends.Stopped)) = GaveOneUp None dialed later out now_out before seen m box since
-  IsRound n dialed later out now_out before seen m new box since (Err faults.Output) =
-      ((close : Close) × EndedOne n true dialed later out now_out before seen m new box since close) ⊎ GaveOneUp (Some faults.Output) dialed later out now_out before seen m box since
-  IsRound n dialed later out now_out before seen m new box since (Err faults.Journal) = GaveOneUp (Some faults.Journal) dialed later out now_out before seen m box since
-  IsRound n dialed later out now_out before seen m new box since (Err faults.Dial) = MadeNone dialed later out now_out before seen m new box since
-  IsRound n dialed later out now_out before seen m new box since (Err (faults.Unfinished phase)) =
-      MadeNone dialed later out now_out before seen m new box since × (phase ≡ phase_of m) × IfSome later (λ t. t.left ≡ 0)
-  IsRound n dialed later out now_out before seen m new box since (Err (faults.Rejected template code)) =
-      EndedOne n false dialed later out now_out before seen m new box since (closes.Ended (endings.Rejected template code))
-  IsRound n dialed later out now_out before seen m new box since (Err (faults.Full entries bytes)) = GaveOneUp (Some (faults.Full entries bytes)) dialed later out now_out before seen m box since
-  IsRound n dialed later out now_out before seen m new box since (Err faults.Turns) = GaveOneUp (Some faults.Turns) dialed later out now_out before seen m box since
-  IsRound n dialed later out now_out before seen m new box since (Err faults.Memory) =
-      ((close : Close) × EndedOne n true dialed later out now_out before seen m new box since close) ⊎ GaveOneUp (Some faults.Memory) dialed later out now_out before seen m box since
+  abbrev pub IsRound : (n : ℕ) (old new : LifeAt J G) (m m' : State) → Result (Option LifeEnd) ServeFault → Type 0
+  IsRound n old new m m' (Ok None) = (close : Close) × Follows close × EndedOne n false old new m m' close
+  IsRound n old new m m' (Ok (Some ends.Finished)) = EndedOne n false old new m m' (closes.Ended endings.Finished)
+  IsRound n old new m m' (Ok (Some ends.Stopped)) = GaveOneUp None old new m
+  IsRound n old new m m' (Err faults.Output) = ((close : Close) × EndedOne n true old new m m' close) ⊎ GaveOneUp (Some faults.Output) old new m
+  IsRound n old new m m' (Err faults.Journal) = GaveOneUp (Some faults.Journal) old new m
+  IsRound n old new m m' (Err faults.Dial) = MadeNone old new m m'
+  IsRound n old new m m' (Err (faults.Unfinished phase)) = MadeNone old new m m' × (phase ≡ phase_of m) × IfSome new.dialed (λ t. t.left ≡ 0)
+  IsRound n old new m m' (Err (faults.Rejected template code)) = EndedOne n false old new m m' (closes.Ended (endings.Rejected template code))
+  IsRound n old new m m' (Err (faults.Full entries bytes)) = GaveOneUp (Some (faults.Full entries bytes)) old new m
+  IsRound n old new m m' (Err faults.Turns) = GaveOneUp (Some faults.Turns) old new m
+  IsRound n old new m m' (Err faults.Memory) = ((close : Close) × EndedOne n true old new m m' close) ⊎ GaveOneUp (Some faults.Memory) old new m

@@ -5,7 +5,7 @@ use Rattle.std.specs.Io.KnownBytes.{Appends}
 use Rattle.session_model.specs.Journal.{History, BeginsHistory}
 use Rattle.session_model.specs.Inbox.{InboxRecord}
 use Rattle.fixp_machine.specs.Machine.{State}
-use Rattle.gw_links.specs.Links.{LinkTold, Carried, Moved}
+use Rattle.gw_links.specs.Links.{Moved}
 use Rattle.jr_record.specs.declared.journal.Journal.{Ghosts}
 use Rattle.jr_boxes.specs.declared.inbox.Inbox.{Inbox}
 use Rattle.jr_boxes.specs.Inbox.{limits_of}
@@ -24,6 +24,7 @@ use Rattle.conn_serve.specs.declared.answer.ServeFault.TheVariants as faults
 use Rattle.conn_serve.specs.Answers.{close_of}
 use Rattle.conn_serve.specs.Connections.{WereTurns, CutAt}
 use Rattle.conn_serve.specs.Lines.{news_lines}
+use Rattle.conn_serve.specs.Moments.{ConnectionAt}
 use Rattle.conn_serve.specs.Causes.{lacks_at, Tells}
 
 -- a connection took all its turns: 2^40, the last of which did not end it
@@ -35,44 +36,44 @@ pub record IsSpent (last : Line) (turns : List Turn) (cut : Option Turn) : Type 
 module _ {J : Type 0} {G : Ghosts J} where
   -- so many whole turns were made: what they told stands on OUT, what they add in the inbox, and the link moved what was given and
   -- sent in them
-  pub record Turned (told later : Option LinkTold) (carried after : Option Carried) (out now_out : Option (List ℕ)) (before seen : History) (old new : Line) (box since : Inbox J G) (count : ℕ) : Type 0 where
+  pub record Turned (old new : ConnectionAt J G) (count : ℕ) : Type 0 where
     pub turns : List Turn
     pub news : List NewsItem
     pub adds : List InboxRecord
     pub many : length turns ≡ count
-    pub were : WereTurns before seen old new turns news adds
-    pub gains : Gains box since adds
-    pub moved : Moved told later carried after (flat_map given_in turns) (flat_map sent_in turns)
-    pub lines : Appends out now_out (news_lines news)
+    pub were : WereTurns old.seen new.seen old.line new.line turns news adds
+    pub gains : Gains old.box new.box adds
+    pub moved : Moved old.told new.told old.carried new.carried (flat_map given_in turns) (flat_map sent_in turns)
+    pub lines : Appends old.out new.out (news_lines news)
 
   -- a turn was cut short by a fault, which is this one to its connection
-  pub record CutOff (old : Line) (box since : Inbox J G) (news : List NewsItem) (why : ServeFault) : Type 0 where
+  pub record CutOff (old : Line) (box box' : Inbox J G) (news' : List NewsItem) (why : ServeFault) : Type 0 where
     pub now : ℕ
     pub fault : TurnFault
     pub is : close_of (Err fault) ≡ Err why
-    pub cut : WasCut now old fault box since news
+    pub cut : WasCut now old fault box box' news'
 
   -- behind whole turns it was given up, for this fault, or because it was told to stop; a turn behind them was cut short, if one was. At
   -- Full the inbox's journal has no room for the one record that was wanted
-  pub record GivenUp (why : Option ServeFault) (out now_out : Option (List ℕ)) (before seen : History) (old : Line) (box since : Inbox J G) : Type 0 where
+  pub record GivenUp (why : Option ServeFault) (out out' : Option (List ℕ)) (seen seen' : History) (old : Line) (box box' : Inbox J G) : Type 0 where
     pub last : Line
     pub behind : History
     pub turns : List Turn
     pub news : List NewsItem
     pub adds : List InboxRecord
-    pub were : WereTurns before behind old last turns news adds
-    pub grows : BeginsHistory behind seen
+    pub were : WereTurns seen behind old last turns news adds
+    pub grows : BeginsHistory behind seen'
     pub cut : Option Turn
     pub cut_told : List NewsItem
     pub cut_added : List InboxRecord
     pub refused : List InboxRecord
     pub wanted : List InboxRecord
     pub is_cut : CutAt last cut cut_told cut_added refused wanted
-    pub refuses : Refuses box since (adds ++ cut_added) refused
-    pub lines : Tells (lacks_at why) out now_out (news_lines (news ++ cut_told))
+    pub refuses : Refuses box box' (adds ++ cut_added) refused
+    pub lines : Tells (lacks_at why) out out' (news_lines (news ++ cut_told))
     pub spent : why ≡ Some faults.Turns → IsSpent last turns cut
     pub cut_short : (why ≡ Some faults.Journal → IsSome cut) × ((entries bytes : ℕ) → why ≡ Some (faults.Full entries bytes) → IsSome cut)
-    pub past : (entries bytes : ℕ) → why ≡ Some (faults.Full entries bytes) → IsPast (limits_of since).bytes bytes wanted
+    pub past : (entries bytes : ℕ) → why ≡ Some (faults.Full entries bytes) → IsPast (limits_of box').bytes bytes wanted
 
   -- the next connection may begin of this machine, with this pass and this inbox
   pub record MayBegin (m : State) (p : Part) (box : Inbox J G) : Type 0 where
@@ -83,13 +84,13 @@ module _ {J : Type 0} {G : Ghosts J} where
     pub seen : HasSeen m p
     pub agrees : Agrees m box
 
-  -- a connection began in the state m, and its whole turns were made
-  pub record TurnedOn (told later : Option LinkTold) (carried after : Option Carried) (out now_out : Option (List ℕ)) (before seen : History) (m : State) (new : Line) (box since : Inbox J G) : Type 0 where
+  -- a connection began in the machine's state, and its whole turns were made
+  pub record TurnedOn (old new : ConnectionAt J G) : Type 0 where
     pub moment : ℕ
     pub count : ℕ
-    pub turned : Turned told later carried after out now_out before seen (first_line m moment) new box since count
+    pub turned : Turned (record old { line = first_line old.line.machine moment }) new count
 
-  -- it began, and was given up
-  pub record GivenUpOn (why : Option ServeFault) (out now_out : Option (List ℕ)) (before seen : History) (m : State) (box since : Inbox J G) : Type 0 where
+  -- a connection began in the state m, and was given up
+  pub record GivenUpOn (why : Option ServeFault) (out out' : Option (List ℕ)) (seen seen' : History) (m : State) (box box' : Inbox J G) : Type 0 where
     pub moment : ℕ
-    pub given_up : GivenUp why out now_out before seen (first_line m moment) box since
+    pub given_up : GivenUp why out out' seen seen' (first_line m moment) box box'

@@ -1,6 +1,6 @@
 //! One connection: its turns, one after another, until it ends, is told to stop, or is given up.
 
-ghost use Rattle.std.specs.Prelude.{◌≡◌, ℕ, ◌<◌, ◌≤◌, ◌^◌, All, Ok, Some, None, IfOk, IfErr, OnOk};
+ghost use Rattle.std.specs.Prelude.{◌≡◌, ℕ, ◌<◌, ◌≤◌, ◌^◌, [], All, Ok, Some, None, IfOk, IfErr, OnOk};
 ghost use Rattle.jr_boxes.specs.Inbox.{faults_of};
 ghost use Rattle.gate_turn.specs.Places.{known};
 ghost use Rattle.gate_turn.specs.Calls.{IsFree};
@@ -17,6 +17,8 @@ ghost use Rattle.conn_serve.specs.Connections.{ClosesAs};
 ghost use Rattle.conn_serve.specs.Lines.{IsShort};
 ghost use Rattle.conn_serve.specs.Causes.{IsBlamed};
 ghost use Rattle.conn_serve.specs.Turned.{CutOff, Turned, GivenUp, TurnedOn, GivenUpOn, MayBegin};
+ghost use Rattle.conn_loop.specs.Live.{live_end};
+ghost use Rattle.conn_serve.specs.Moments.{connection_at, faults_at};
 
 use crate::answer::{ServeFault, close_of};
 use crate::news::Teller;
@@ -55,13 +57,13 @@ fn make_turn<L: Link, O: Journal, I: Journal, C: Clock, R: Wait>(
     ensures own { IsPassAt gate.now pass.new }
     ensures free { IsFree pass.new }
     ensures looks { Looks (known pass.old) (known pass.new) }
-    ensures whole { OnOk result (WasTurn (L.told link.old) (L.told link.new) (L.carried link.old) (L.carried link.new) (known pass.old).seen (known pass.new).seen (line_of conn.old) (line_of conn.new) inbox.old inbox.new (items_of news.new)) }
+    ensures whole { OnOk result (WasTurn (live_end (L.told link.old) (L.carried link.old) (known pass.old).seen (line_of conn.old) inbox.old []) (live_end (L.told link.new) (L.carried link.new) (known pass.new).seen (line_of conn.new) inbox.new (items_of news.new))) }
     ensures cut { IfErr result (CutOff (line_of conn.old) inbox.old inbox.new (items_of news.new)) }
     ensures short { All IsShort (items_of news.new) }
     ensures goes { result ≡ Ok None → GoesOn (line_of conn.new).machine }
     ensures closed { (close : Close) → result ≡ Ok (Some close) → ClosesAs close (line_of conn.new).machine.ending }
     ensures leaves { OnOk result (Leaves (line_of conn.new).machine (known pass.new) inbox.new) }
-    ensures blamed { IfErr result (IsBlamed 0 0 0 0 (known pass.old) (known pass.new) inbox.old inbox.new) }
+    ensures blamed { IfErr result (IsBlamed (faults_at 0 0 (known pass.old) inbox.old) (faults_at 0 0 (known pass.new) inbox.new)) }
     ensures of_turn { IfErr result IsOfTurn }
     ensures kind { SameKind inbox.old inbox.new }
     ensures never_falls { faults_of inbox.old ≤ faults_of inbox.new }
@@ -93,12 +95,12 @@ fn turn_once<L: Link, K: Sink, O: Journal, I: Journal, C: Clock, R: Wait>(
     ensures own { IsPassAt gate.now pass.new }
     ensures free { IsFree pass.new }
     ensures looks { Looks (known pass.old) (known pass.new) }
-    ensures turned { OnOk result (Turned (L.told link.old) (L.told link.new) (L.carried link.old) (L.carried link.new) (K.taken out.old) (K.taken out.new) (known pass.old).seen (known pass.new).seen (line_of conn.old) (line_of conn.new) inbox.old inbox.new 1) }
+    ensures turned { OnOk result (Turned (connection_at (L.told link.old) (L.carried link.old) (K.taken out.old) (known pass.old).seen (line_of conn.old) inbox.old) (connection_at (L.told link.new) (L.carried link.new) (K.taken out.new) (known pass.new).seen (line_of conn.new) inbox.new) 1) }
     ensures goes { result ≡ Ok None → GoesOn (line_of conn.new).machine }
     ensures closed { (close : Close) → result ≡ Ok (Some close) → ClosesAs close (line_of conn.new).machine.ending }
     ensures leaves { OnOk result (Leaves (line_of conn.new).machine (known pass.new) inbox.new) }
     ensures given_up { IfErr result (λ fault. GivenUp (Some fault) (K.taken out.old) (K.taken out.new) (known pass.old).seen (known pass.new).seen (line_of conn.old) inbox.old inbox.new) }
-    ensures blamed { IfErr result (IsBlamed (K.faults out.old) (K.faults out.new) 0 0 (known pass.old) (known pass.new) inbox.old inbox.new) }
+    ensures blamed { IfErr result (IsBlamed (faults_at (K.faults out.old) 0 (known pass.old) inbox.old) (faults_at (K.faults out.new) 0 (known pass.new) inbox.new)) }
     ensures of_turn { IfErr result IsOfTurn }
     ensures kind { SameKind inbox.old inbox.new }
     ensures never_falls { (faults_of inbox.old ≤ faults_of inbox.new) × (K.faults out.old ≤ K.faults out.new) }
@@ -134,12 +136,12 @@ pub(crate) fn one_connection<L: Link, K: Sink, O: Journal, I: Journal, C: Clock,
     ensures own { IsPassAt gate.now pass.new }
     ensures free { IsFree pass.new }
     ensures looks { Looks (known pass.old) (known pass.new) }
-    ensures turned { (close : Close) → result ≡ Ok (Some close) → TurnedOn (L.told link.old) (L.told link.new) (L.carried link.old) (L.carried link.new) (K.taken out.old) (K.taken out.new) (known pass.old).seen (known pass.new).seen (line_of conn.old).machine (line_of conn.new) inbox.old inbox.new }
+    ensures turned { (close : Close) → result ≡ Ok (Some close) → TurnedOn (connection_at (L.told link.old) (L.carried link.old) (K.taken out.old) (known pass.old).seen (line_of conn.old) inbox.old) (connection_at (L.told link.new) (L.carried link.new) (K.taken out.new) (known pass.new).seen (line_of conn.new) inbox.new) }
     ensures closed { (close : Close) → result ≡ Ok (Some close) → ClosesAs close (line_of conn.new).machine.ending }
     ensures leaves { (close : Close) → result ≡ Ok (Some close) → Leaves (line_of conn.new).machine (known pass.new) inbox.new }
     ensures stopped { result ≡ Ok None → GivenUpOn None (K.taken out.old) (K.taken out.new) (known pass.old).seen (known pass.new).seen (line_of conn.old).machine inbox.old inbox.new }
     ensures given_up { IfErr result (λ fault. GivenUpOn (Some fault) (K.taken out.old) (K.taken out.new) (known pass.old).seen (known pass.new).seen (line_of conn.old).machine inbox.old inbox.new) }
-    ensures blamed { IfErr result (IsBlamed (K.faults out.old) (K.faults out.new) 0 0 (known pass.old) (known pass.new) inbox.old inbox.new) }
+    ensures blamed { IfErr result (IsBlamed (faults_at (K.faults out.old) 0 (known pass.old) inbox.old) (faults_at (K.faults out.new) 0 (known pass.new) inbox.new)) }
     ensures of_connection { IfErr result IsOfConnection }
     ensures kind { SameKind inbox.old inbox.new }
     ensures never_falls { (faults_of inbox.old ≤ faults_of inbox.new) × (K.faults out.old ≤ K.faults out.new) }

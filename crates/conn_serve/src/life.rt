@@ -14,6 +14,7 @@ ghost use Rattle.conn_serve.specs.declared.answer.ServeFault.TheVariants as faul
 ghost use Rattle.conn_serve.specs.Causes.{IsBlamed};
 ghost use Rattle.conn_serve.specs.Turned.{MayBegin};
 ghost use Rattle.conn_serve.specs.Served.{IsRound, ServedLife, IsNext};
+ghost use Rattle.conn_serve.specs.Moments.{life_at, faults_at};
 
 use crate::answer::{LifeEnd, ServeFault};
 use crate::connection::one_connection;
@@ -87,9 +88,9 @@ fn serve_next<N: Dialer, K: Sink, O: Journal, I: Journal, C: Clock, R: Wait>(
     ensures free { IsFree pass.new }
     ensures looks { Looks (known pass.old) (known pass.new) }
     ensures lent { N.lent dialer.new ≡ false }
-    ensures round { IsRound number (N.told dialer.old) (N.told dialer.new) (K.taken out.old) (K.taken out.new) (known pass.old).seen (known pass.new).seen (line_of conn.old).machine (line_of conn.new).machine inbox.old inbox.new result }
+    ensures round { IsRound number (life_at (N.told dialer.old) (K.taken out.old) (known pass.old).seen inbox.old) (life_at (N.told dialer.new) (K.taken out.new) (known pass.new).seen inbox.new) (line_of conn.old).machine (line_of conn.new).machine result }
     ensures goes { result ≡ Ok None → MayBegin (line_of conn.new).machine (known pass.new) inbox.new }
-    ensures blamed { IfErr result (IsBlamed (K.faults out.old) (K.faults out.new) (N.faults dialer.old) (N.faults dialer.new) (known pass.old) (known pass.new) inbox.old inbox.new) }
+    ensures blamed { IfErr result (IsBlamed (faults_at (K.faults out.old) (N.faults dialer.old) (known pass.old) inbox.old) (faults_at (K.faults out.new) (N.faults dialer.new) (known pass.new) inbox.new)) }
     ensures kind { SameKind inbox.old inbox.new }
     ensures never_falls { (faults_of inbox.old ≤ faults_of inbox.new) × (K.faults out.old ≤ K.faults out.new) × (N.faults dialer.old ≤ N.faults dialer.new) }
     ensures told { C.told clock.new ≡ C.told clock.old }
@@ -142,8 +143,8 @@ pub fn serve_connections<N: Dialer, K: Sink, O: Journal, I: Journal, C: Clock, R
     ensures free { IsFree pass.new }
     ensures looks { Looks (known pass.old) (known pass.new) }
     ensures lent { N.lent dialer.new ≡ false }
-    ensures served { ServedLife (N.told dialer.old) (N.told dialer.new) (K.taken out.old) (K.taken out.new) (known pass.old).seen (known pass.new).seen (line_of conn.old).machine inbox.old inbox.new result }
-    ensures blamed { IfErr result (IsBlamed (K.faults out.old) (K.faults out.new) (N.faults dialer.old) (N.faults dialer.new) (known pass.old) (known pass.new) inbox.old inbox.new) }
+    ensures served { ServedLife (life_at (N.told dialer.old) (K.taken out.old) (known pass.old).seen inbox.old) (life_at (N.told dialer.new) (K.taken out.new) (known pass.new).seen inbox.new) (line_of conn.old).machine result }
+    ensures blamed { IfErr result (IsBlamed (faults_at (K.faults out.old) (N.faults dialer.old) (known pass.old) inbox.old) (faults_at (K.faults out.new) (N.faults dialer.new) (known pass.new) inbox.new)) }
     ensures kind { SameKind inbox.old inbox.new }
     ensures never_falls { (faults_of inbox.old ≤ faults_of inbox.new) × (K.faults out.old ≤ K.faults out.new) × (N.faults dialer.old ≤ N.faults dialer.new) }
     ensures told { C.told clock.new ≡ C.told clock.old }

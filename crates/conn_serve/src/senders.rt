@@ -101,7 +101,7 @@ fn submit_and_finish<O: Journal + Send, R: Threads + Wait + Sync>(
     }
 }
 
-/// The same, and sets `stop` where a refusal was met.
+/// Submits the plans and adds the Finish behind them, and sets `stop` where a refusal was met.
 pub(crate) fn submit_all<O: Journal + Send, R: Threads + Wait + Sync>(
     gate: &Gate<O>,
     senders: &mut [Sender<O>],

@@ -18,6 +18,7 @@ use Rattle.conn_steps.specs.Settling.{IsPast, Gains, Refuses}
 use Rattle.conn_steps.specs.Agreeing.{IsInTurn, KeepsOwn}
 use Rattle.conn_steps.proofs.Rooms.{gains_none, gains_on, refuses_on}
 use Rattle.conn_steps.specs.Taking.{AnsweredFrame, RefusedAct, TookFrame, RefusedFrame, TookFrames, CutFrames, refused_by}
+use Rattle.conn_steps.specs.Ends.{taking_end, answering_end}
 
 -- a line is its four parts
 pub line_is : (a b : Line) → a.machine ≡ b.machine → a.held ≡ b.held → a.place ≡ b.place → a.over ≡ b.over → a ≡ b
@@ -57,8 +58,8 @@ keeps_on a b c first second = record { config = second.config ∙ first.config; 
 module _ {J : Type 0} {G : Ghosts J} where
   -- a frame that was answered, once its bytes are dropped
   pub took : (now size : ℕ) (old new : Line) (f : Frame) (box after : Inbox J G) (news later : List NewsItem) → MayTake old.machine → BeginsWith old.held f size
-      → AnsweredFrame now old.machine new.machine f old.place box after news later → new.held ≡ drop size old.held → new.place ≡ old.place + size → new.over ≡ old.over
-      → TookFrame now old new box after news later
+      → AnsweredFrame now (answering_end old.machine box news) (answering_end new.machine after later) f old.place → new.held ≡ drop size old.held → new.place ≡ old.place + size → new.over ≡ old.over
+      → TookFrame now (taking_end old box news) (taking_end new after later)
   unfolding line_after adds tells
   took now size old new f box after news later may begins a held place over = record {
     frame = t;
@@ -73,8 +74,8 @@ module _ {J : Type 0} {G : Ghosts J} where
 
   -- a frame whose act was refused
   pub was_refused : (now size : ℕ) (old new : Line) (f : Frame) (box after : Inbox J G) (news later : List NewsItem) (fault : TurnFault) → MayTake old.machine → BeginsWith old.held f size
-      → RefusedAct now old.machine new.machine f old.place box after news later fault → new.held ≡ old.held → new.place ≡ old.place → new.over ≡ old.over
-      → RefusedFrame now old new box after news later fault
+      → RefusedAct now (answering_end old.machine box news) (answering_end new.machine after later) f old.place fault → new.held ≡ old.held → new.place ≡ old.place → new.over ≡ old.over
+      → RefusedFrame now (taking_end old box news) (taking_end new after later) fault
   unfolding adds
   was_refused now size old new f box after news later fault may begins a held place over = record {
     frame = record { at = old.place; frame = f; incoming = a.incoming; recorded = false };
@@ -87,7 +88,7 @@ module _ {J : Type 0} {G : Ghosts J} where
   }
 
   -- none was taken yet
-  pub took_none : (now : ℕ) (l : Line) (box : Inbox J G) (news : List NewsItem) → TookFrames now 0 l l box box news news
+  pub took_none : (now : ℕ) (l : Line) (box : Inbox J G) (news : List NewsItem) → TookFrames now 0 (taking_end l box news) (taking_end l box news)
   took_none now l box news = record {
     frames = [];
     many = refl;
@@ -98,8 +99,8 @@ module _ {J : Type 0} {G : Ghosts J} where
   }
 
   -- one more was taken
-  pub took_more : (now count : ℕ) (old mid new : Line) (box first second : Inbox J G) (news sooner later : List NewsItem) → TookFrames now count old mid box first news sooner
-      → TookFrame now mid new first second sooner later → TookFrames now (count + 1) old new box second news later
+  pub took_more : (now count : ℕ) (old mid new : Line) (box first second : Inbox J G) (news sooner later : List NewsItem) → TookFrames now count (taking_end old box news) (taking_end mid first sooner)
+      → TookFrame now (taking_end mid first sooner) (taking_end new second later) → TookFrames now (count + 1) (taking_end old box news) (taking_end new second later)
   took_more now count old mid new box first second news sooner later many one =
       let t = one.frame in
       let same : mid ≡ lines_after now old many.frames = many.line in
@@ -116,8 +117,8 @@ module _ {J : Type 0} {G : Ghosts J} where
       }
 
   -- the next one was refused
-  pub cut_behind : (now count : ℕ) (old mid new : Line) (box first second : Inbox J G) (news sooner later : List NewsItem) (fault : TurnFault) → TookFrames now count old mid box first news sooner
-      → count < 16 → RefusedFrame now mid new first second sooner later fault → CutFrames now old new box second news later fault
+  pub cut_behind : (now count : ℕ) (old mid new : Line) (box first second : Inbox J G) (news sooner later : List NewsItem) (fault : TurnFault) → TookFrames now count (taking_end old box news) (taking_end mid first sooner)
+      → count < 16 → RefusedFrame now (taking_end mid first sooner) (taking_end new second later) fault → CutFrames now (taking_end old box news) (taking_end new second later) fault
   cut_behind now count old mid new box first second news sooner later fault many few one =
       let t = one.frame in
       let same : mid ≡ lines_after now old many.frames = many.line in

@@ -1,3 +1,4 @@
+pub mod Ends
 pub mod Settling
 pub mod Agreeing
 pub mod Taking

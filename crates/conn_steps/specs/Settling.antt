@@ -54,7 +54,8 @@ bytes_of (r ∷ rs) = record_size (record_of r) + bytes_of rs
 -- each of some records, one behind another, has room behind a journal of so many bytes within this limit, or is exempt from it
 abbrev pub HaveRoom : (limit bytes : ℕ) → List InboxRecord → Type 0
 HaveRoom limit bytes [] = ⊤
-HaveRoom limit bytes (r ∷ rs) = (is_control (record_of r) ≡ false → bytes + record_size (record_of r) ≤ limit) × HaveRoom limit (bytes + record_size (record_of r)) rs
+HaveRoom limit bytes (r ∷ rs) = (is_control (record_of r) ≡ false → bytes + record_size (record_of r) ≤ limit)
+    × HaveRoom limit (bytes + record_size (record_of r)) rs
 
 module _ {J : Type 0} {G : Ghosts J} where
   -- what an inbox records of the facts that outlive a connection; of the outbox it records nothing
@@ -65,7 +66,7 @@ module _ {J : Type 0} {G : Ghosts J} where
   abbrev pub Takes : Inbox J G → Act → Order → List ℕ → Type 0
   Takes box act order message = CanTake (flow_of box) (limits_of box).entries (recorded_in box) (IsApplication (payload_at order message)) act
 
-  -- it is an inbox of the same flow and the same limits, and where it came to be broken a call of its disk failed
+  -- the new one is an inbox of the same flow and the same limits, and where it came to be broken a call of its disk failed
   pub record SameKind (old new : Inbox J G) : Type 0 where
     pub flow : flow_of new ≡ flow_of old
     pub limits : limits_of new ≡ limits_of old
@@ -86,17 +87,17 @@ module _ {J : Type 0} {G : Ghosts J} where
     pub room : HaveRoom (limits_of old).bytes (size_of old) (gained ++ refused)
 
   -- an act is settled: its records stand in the inbox, which records what is recorded after it, and what it tells was told
-  pub record Settled (old new : Inbox J G) (news later : List NewsItem) (act : Act) (records : List InboxRecord) (told : List NewsItem) : Type 0 where
-    pub gains : Gains old new records
-    pub recorded : recorded_in new ≡ recorded_after act (recorded_in old)
-    pub news_are : later ≡ news ++ told
+  pub record Settled (box box' : Inbox J G) (news news' : List NewsItem) (act : Act) (records : List InboxRecord) (told : List NewsItem) : Type 0 where
+    pub gains : Gains box box' records
+    pub recorded : recorded_in box' ≡ recorded_after act (recorded_in box)
+    pub news_are : news' ≡ news ++ told
 
-  -- it was refused: nothing was told. After a failed call of the disk a stop may leave its records; at Broken the inbox is broken,
+  -- the record of an act was refused: nothing was told. After a failed call of the disk a stop may leave its records; at Broken the inbox is broken,
   -- and at Full its journal has so many bytes, and no room for the one record that there is
-  pub record Refused (old new : Inbox J G) (news later : List NewsItem) (records : List InboxRecord) (fault : AppendFault) : Type 0 where
-    pub refuses : Refuses old new [] (refused_by fault records)
-    pub news_are : later ≡ news
-    pub risen : fault ≡ append.Fault → HasRisen (faults_of old) (faults_of new)
-    pub broken : fault ≡ append.Broken → is_broken new ≡ true
-    pub full : (bytes : ℕ) → fault ≡ append.Full bytes → bytes ≡ size_of new
-    pub past : (bytes : ℕ) → fault ≡ append.Full bytes → IsPast (limits_of new).bytes bytes records
+  pub record Refused (box box' : Inbox J G) (news news' : List NewsItem) (records : List InboxRecord) (fault : AppendFault) : Type 0 where
+    pub refuses : Refuses box box' [] (refused_by fault records)
+    pub news_are : news' ≡ news
+    pub risen : fault ≡ append.Fault → HasRisen (faults_of box) (faults_of box')
+    pub broken : fault ≡ append.Broken → is_broken box' ≡ true
+    pub full : (bytes : ℕ) → fault ≡ append.Full bytes → bytes ≡ size_of box'
+    pub past : (bytes : ℕ) → fault ≡ append.Full bytes → IsPast (limits_of box').bytes bytes records

@@ -10,16 +10,17 @@ use Rattle.jr_boxes.specs.Inbox.{faults_of, is_broken, size_of, count_of, limits
 use Rattle.sofh_frame.specs.Framing.{Frame}
 use Rattle.fixp_replies.specs.Acts.{is_record}
 use Rattle.fixp_replies.specs.Incoming.{Incoming, IsIncoming}
+use Rattle.fixp_replies.specs.Outcomes.{Outcome}
 use Rattle.fixp_replies.specs.Replies.{reply_of}
 use Rattle.fixp_machine.specs.Machine.{State, step, run, around}
 use Rattle.fixp_machine.specs.Machine as calls
-use Rattle.conn_turns.specs.declared.news.NewsItem.{NewsItem}
 use Rattle.conn_turns.specs.declared.answer.TurnFault.{TurnFault}
 use Rattle.conn_turns.specs.declared.answer.TurnFault.TheVariants as faults
 use Rattle.fixp_machine.specs.Accepting.{records_of}
 use Rattle.conn_turns.specs.News.{told_by}
-use Rattle.conn_turns.specs.Lines.{Line, TakenFrame, IsNext, IsTaken, AreTaken, reply_at, frame_calls, line_after, lines_after}
+use Rattle.conn_turns.specs.Lines.{TakenFrame, IsNext, IsTaken, AreTaken, reply_at, frame_calls, line_after, lines_after}
 use Rattle.conn_turns.specs.Frames.{adds, tells, added, told}
+use Rattle.conn_steps.specs.Ends.{AnsweringEnd, TakingEnd}
 use Rattle.conn_steps.specs.Settling.{IsPast, Gains, Refuses}
 
 -- which of some records may stand in what a stop leaves, where a turn answered this fault: after a failed call of the inbox's
@@ -39,67 +40,74 @@ fault_of count (append.Full bytes) = faults.Full count bytes
 fault_of count append.Memory = faults.Memory
 fault_of count append.Fault = faults.Inbox
 
+-- the machine's reply to what came at this place
+abbrev pub reply_to : ℕ → State → ℕ → Incoming → Outcome
+reply_to now m at incoming = reply_of (around m at now) m.facts incoming
+
 module _ {J : Type 0} {G : Ghosts J} where
   -- a frame was taken: its records stand in the inbox, and what it tells was told
-  pub record TookFrame (now : ℕ) (old new : Line) (box after : Inbox J G) (news later : List NewsItem) : Type 0 where
+  pub record TookFrame (now : ℕ) (old new : TakingEnd J G) : Type 0 where
     pub frame : TakenFrame
-    pub taken : IsTaken now old frame
-    pub line : new ≡ line_after now old frame
-    pub gains : Gains box after (adds now old frame)
-    pub news_are : later ≡ news ++ tells now old frame
+    pub taken : IsTaken now old.line frame
+    pub line : new.line ≡ line_after now old.line frame
+    pub gains : Gains old.box new.box (adds now old.line frame)
+    pub news_are : new.news ≡ old.news ++ tells now old.line frame
 
   -- the act of a frame was refused: nothing was told, and nothing but the machine knows of the frame. At Full the journal has no room
   -- for the act's record; and the act is a record, unless memory ran out
-  pub record RefusedFrame (now : ℕ) (old new : Line) (box after : Inbox J G) (news later : List NewsItem) (fault : TurnFault) : Type 0 where
+  pub record RefusedFrame (now : ℕ) (old new : TakingEnd J G) (fault : TurnFault) : Type 0 where
     pub frame : TakenFrame
-    pub next : IsNext old frame
-    pub line : new ≡ record old { machine = step old.machine (calls.frame frame.incoming frame.at now) }
-    pub refuses : Refuses box after [] (refused_by fault (adds now old frame))
-    pub past : (entries bytes : ℕ) → fault ≡ faults.Full entries bytes → IsPast (limits_of after).bytes bytes (adds now old frame)
-    pub recorded : (fault ≡ faults.Memory → ⊥) → is_record (reply_at now old frame).act ≡ true
-    pub news_are : later ≡ news
+    pub next : IsNext old.line frame
+    pub line : new.line ≡ record old.line { machine = step old.line.machine (calls.frame frame.incoming frame.at now) }
+    pub refuses : Refuses old.box new.box [] (refused_by fault (adds now old.line frame))
+    pub past : (entries bytes : ℕ) → fault ≡ faults.Full entries bytes → IsPast (limits_of new.box).bytes bytes (adds now old.line frame)
+    pub recorded : (fault ≡ faults.Memory → ⊥) → is_record (reply_at now old.line frame).act ≡ true
+    pub news_are : new.news ≡ old.news
 
   -- so many frames were taken, one after another
-  pub record TookFrames (now count : ℕ) (old new : Line) (box after : Inbox J G) (news later : List NewsItem) : Type 0 where
+  pub record TookFrames (now count : ℕ) (old new : TakingEnd J G) : Type 0 where
     pub frames : List TakenFrame
     pub many : length frames ≡ count
-    pub taken : AreTaken now old frames
-    pub line : new ≡ lines_after now old frames
-    pub gains : Gains box after (added now old frames)
-    pub news_are : later ≡ news ++ told now old frames
+    pub taken : AreTaken now old.line frames
+    pub line : new.line ≡ lines_after now old.line frames
+    pub gains : Gains old.box new.box (added now old.line frames)
+    pub news_are : new.news ≡ old.news ++ told now old.line frames
 
   -- frames were taken, and the act of the one behind them was refused: the machine was told of that frame alone
-  pub record CutFrames (now : ℕ) (old new : Line) (box after : Inbox J G) (news later : List NewsItem) (fault : TurnFault) : Type 0 where
+  pub record CutFrames (now : ℕ) (old new : TakingEnd J G) (fault : TurnFault) : Type 0 where
     pub frames : List TakenFrame
     pub few : length frames < 16
-    pub taken : AreTaken now old frames
+    pub taken : AreTaken now old.line frames
     pub refused : TakenFrame
-    pub next : IsNext (lines_after now old frames) refused
-    pub line : new ≡ record (lines_after now old frames) { machine = step (lines_after now old frames).machine (calls.frame refused.incoming refused.at now) }
-    pub refuses : Refuses box after (added now old frames) (refused_by fault (adds now (lines_after now old frames) refused))
-    pub past : (entries bytes : ℕ) → fault ≡ faults.Full entries bytes → IsPast (limits_of after).bytes bytes (adds now (lines_after now old frames) refused)
-    pub recorded : (fault ≡ faults.Memory → ⊥) → is_record (reply_at now (lines_after now old frames) refused).act ≡ true
-    pub news_are : later ≡ news ++ told now old frames
+    pub next : IsNext (lines_after now old.line frames) refused
+    pub line : new.line ≡ record (lines_after now old.line frames)
+        { machine = step (lines_after now old.line frames).machine (calls.frame refused.incoming refused.at now) }
+    pub refuses : Refuses old.box new.box (added now old.line frames) (refused_by fault (adds now (lines_after now old.line frames) refused))
+    pub past : (entries bytes : ℕ) → fault ≡ faults.Full entries bytes
+        → IsPast (limits_of new.box).bytes bytes (adds now (lines_after now old.line frames) refused)
+    pub recorded : (fault ≡ faults.Memory → ⊥) → is_record (reply_at now (lines_after now old.line frames) refused).act ≡ true
+    pub news_are : new.news ≡ old.news ++ told now old.line frames
 
   -- the frame at this place was answered: what becomes of the machine, the inbox and the news
-  pub record AnsweredFrame (now : ℕ) (old new : State) (frame : Frame) (at : ℕ) (box after : Inbox J G) (news later : List NewsItem) : Type 0 where
+  pub record AnsweredFrame (now : ℕ) (old new : AnsweringEnd J G) (frame : Frame) (at : ℕ) : Type 0 where
     pub incoming : Incoming
     pub is : IsIncoming frame.order frame.message incoming
     pub recorded : Bool
-    pub record_is : recorded ≡ is_record (reply_of (around old at now) old.facts incoming).act
-    pub machine : new ≡ run old (frame_calls now (record { at = at; frame = frame; incoming = incoming; recorded = recorded }))
-    pub gains : Gains box after (records_of (reply_of (around old at now) old.facts incoming).act incoming)
-    pub news_are : later ≡ news ++ told_by (reply_of (around old at now) old.facts incoming).act incoming
+    pub record_is : recorded ≡ is_record (reply_to now old.machine at incoming).act
+    pub machine : new.machine ≡ run old.machine (frame_calls now (record { at = at; frame = frame; incoming = incoming; recorded = recorded }))
+    pub gains : Gains old.box new.box (records_of (reply_to now old.machine at incoming).act incoming)
+    pub news_are : new.news ≡ old.news ++ told_by (reply_to now old.machine at incoming).act incoming
 
-  -- its act was refused: the machine was told of the frame alone
-  pub record RefusedAct (now : ℕ) (old new : State) (frame : Frame) (at : ℕ) (box after : Inbox J G) (news later : List NewsItem) (fault : TurnFault) : Type 0 where
+  -- the act of the frame at this place was refused: the machine was told of the frame alone
+  pub record RefusedAct (now : ℕ) (old new : AnsweringEnd J G) (frame : Frame) (at : ℕ) (fault : TurnFault) : Type 0 where
     pub incoming : Incoming
     pub is : IsIncoming frame.order frame.message incoming
-    pub machine : new ≡ step old (calls.frame incoming at now)
-    pub refuses : Refuses box after [] (refused_by fault (records_of (reply_of (around old at now) old.facts incoming).act incoming))
-    pub past : (entries bytes : ℕ) → fault ≡ faults.Full entries bytes → IsPast (limits_of after).bytes bytes (records_of (reply_of (around old at now) old.facts incoming).act incoming)
-    pub recorded : (fault ≡ faults.Memory → ⊥) → is_record (reply_of (around old at now) old.facts incoming).act ≡ true
-    pub news_are : later ≡ news
+    pub machine : new.machine ≡ step old.machine (calls.frame incoming at now)
+    pub refuses : Refuses old.box new.box [] (refused_by fault (records_of (reply_to now old.machine at incoming).act incoming))
+    pub past : (entries bytes : ℕ) → fault ≡ faults.Full entries bytes
+        → IsPast (limits_of new.box).bytes bytes (records_of (reply_to now old.machine at incoming).act incoming)
+    pub recorded : (fault ≡ faults.Memory → ⊥) → is_record (reply_to now old.machine at incoming).act ≡ true
+    pub news_are : new.news ≡ old.news
 
   -- a fault of the inbox, as a turn answers it: its count rose at Inbox, at Broken it is broken, and at Full it has so many
   -- messages and bytes

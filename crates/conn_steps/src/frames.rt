@@ -7,6 +7,7 @@ ghost use Rattle.conn_turns.specs.Lines.{MayTake};
 ghost use Rattle.conn_steps.specs.Settling.{SameKind, Refused};
 ghost use Rattle.conn_steps.specs.Agreeing.{IsInTurn, Agrees, KeepsOwn};
 ghost use Rattle.conn_steps.specs.Taking.{AnsweredFrame, RefusedAct, Blames, fault_of};
+ghost use Rattle.conn_steps.specs.Ends.{answering_end};
 
 use crate::records::settle;
 use conn_turns::{News, TurnFault};
@@ -51,8 +52,8 @@ pub fn answer_frame<J: Journal>(
     requires in_turn { IsInTurn end.old now 1 }
     requires time { now < 2 ^ 44 }
     requires agrees { Agrees end.old inbox.old }
-    ensures answered { OnOk result (AnsweredFrame now end.old end.new (record { order = order; message = message.now }) at inbox.old inbox.new (items_of news.old) (items_of news.new)) }
-    ensures refused { IfErr result (RefusedAct now end.old end.new (record { order = order; message = message.now }) at inbox.old inbox.new (items_of news.old) (items_of news.new)) }
+    ensures answered { OnOk result (AnsweredFrame now (answering_end end.old inbox.old (items_of news.old)) (answering_end end.new inbox.new (items_of news.new)) (record { order = order; message = message.now }) at) }
+    ensures refused { IfErr result (RefusedAct now (answering_end end.old inbox.old (items_of news.old)) (answering_end end.new inbox.new (items_of news.new)) (record { order = order; message = message.now }) at) }
     ensures in_turn { (frames : ℕ) → IsInTurn end.old now (frames + 1) → OnOk result (IsInTurn end.new now frames) }
     ensures agrees { OnOk result (Agrees end.new inbox.new) }
     ensures own { OnOk result (KeepsOwn end.old end.new) }

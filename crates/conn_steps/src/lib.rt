@@ -1,6 +1,6 @@
-//! The steps of a turn that do not know the connection: the record of a frame's act is made stable, a frame is answered, the
-//! outbox is served, and what is unsent is sent. Relies on `fixp_end` for the replies, on `jr_boxes` and `gate_senders` for
-//! the journals, and on `conn_turns` for what a turn is.
+//! The answer to one frame of a turn: the machine replies to it, the record of its act is made stable in the inbox, what it tells
+//! is told, and then its reply is written. It knows neither the connection nor the outbox. Relies on `fixp_end` for the replies,
+//! on `jr_boxes` for the inbox, and on `conn_turns` for what a turn is and tells.
 #![tactic(auto)]
 
 mod frames;

@@ -5,7 +5,7 @@ use Rattle.gw_links.specs.declared.link.Got.{Got}
 use Rattle.gw_links.specs.Links.{LinkTold, IsAnswer, count_of, gives_lesser}
 use Rattle.fixp_machine.specs.Machine.{State, run}
 use Rattle.conn_turns.specs.Lines.{Line, lines_after, AreTaken}
-use Rattle.conn_turns.specs.Frames.{IsDone, broken_at, is_link_over}
+use Rattle.conn_turns.specs.Frames.{IsDone, unframed_at, is_link_over}
 use Rattle.conn_turns.specs.Turns.{Work, first_calls, closing_calls, again_calls, outbox_calls, calls_of_frames, served_of, served_now, live_of, finish_of}
 
 -- the bytes that a framer holds at most
@@ -34,19 +34,19 @@ closed_at l w = run (lines_after w.now l w.frames).machine (closing_calls w)
 
 -- Frames were taken as far as they go, at most 16; the machine was told of what ends them, and of the outbox what was seen. What
 -- was seen of the outbox at each look begins with what was seen before it
-pub record Served (seen_before seen_after : History) (l behind : Line) (w : Work) : Type 0 where
+pub record Served (h h' : History) (l behind : Line) (w : Work) : Type 0 where
   pub frames : AreTaken w.now l w.frames
   pub few : length w.frames ≤ 16
   pub last : IsDone (length w.frames) (lines_after w.now l w.frames)
-  pub broken : w.broken ≡ broken_at (length w.frames) (lines_after w.now l w.frames)
+  pub broken : w.broken ≡ unframed_at (length w.frames) (lines_after w.now l w.frames)
   pub link_over : w.link_over ≡ is_link_over (lines_after w.now l w.frames)
   pub again : w.again ≡ served_of (served_now (closed_at l w)) w.at_again
   pub live : w.live ≡ live_of (run (closed_at l w) (again_calls w.now w.again)) w.at_live
   pub finish : w.finish ≡ finish_of (closed_at l w) w.at_finish
-  pub seen_again : BeginsHistory seen_before w.at_again
+  pub seen_again : BeginsHistory h w.at_again
   pub seen_live : BeginsHistory w.at_again w.at_live
   pub seen_finish : BeginsHistory w.at_live w.at_finish
-  pub seen : w.at_finish ≡ seen_after
+  pub seen : w.at_finish ≡ h'
   pub machine : behind.machine ≡ run l.machine (calls_of_frames w.now w.frames ++ (closing_calls w ++ outbox_calls w))
   pub held : behind.held ≡ (lines_after w.now l w.frames).held
   pub place : behind.place ≡ (lines_after w.now l w.frames).place

@@ -15,7 +15,7 @@ adds now l t = records_of (reply_at now l t).act t.incoming
 unfoldable pub tells : ℕ → Line → TakenFrame → List NewsItem
 tells now l t = told_by (reply_at now l t).act t.incoming
 
--- the same of frames, one after another
+-- what frames add, and what they tell, one after another
 abbrev pub added : ℕ → Line → List TakenFrame → List InboxRecord
 added now l [] = []
 added now l (t ∷ later) = adds now l t ++ added now (line_after now l t) later
@@ -47,12 +47,12 @@ IsDone count l =
 abbrev pub may_take : State → Bool
 may_take m = is_none m.ending && is_none m.facts.connection.serving
 
--- behind so many frames the machine is told of bytes that no frame begins with, at their place
-abbrev pub is_broken : ℕ → Line → Bool
-is_broken count l = nat_lt count 16 && may_take l.machine && is_bad (first_of l.held)
+-- behind so many frames bytes stand that no frame begins with, of which the machine is told, at their place
+abbrev pub is_unframed : ℕ → Line → Bool
+is_unframed count l = nat_lt count 16 && may_take l.machine && is_bad (first_of l.held)
 
-abbrev pub broken_at : ℕ → Line → Option ℕ
-broken_at count l = if is_broken count l then Some l.place else None
+abbrev pub unframed_at : ℕ → Line → Option ℕ
+unframed_at count l = if is_unframed count l then Some l.place else None
 
 -- the machine is told that the link has ended: it has, and no whole frame is left
 abbrev pub is_link_over : Line → Bool

@@ -31,5 +31,6 @@ FramesMakeCalls = (now : ℕ) (l : Line) (frames : List TakenFrame) → (lines_a
 -- unsent then was sent, the machine is what those calls make of it
 abbrev pub WorkMakesCalls : Type 0
 WorkMakesCalls = (before seen : History) (old l behind new : Line) (w : Work)
-    → l.machine ≡ run old.machine (first_calls w.now) → Served before seen l behind w → new ≡ record behind { machine = run behind.machine (sending_calls w.sent w.lost) }
+    → l.machine ≡ run old.machine (first_calls w.now) → Served before seen l behind w → new
+    ≡ record behind { machine = run behind.machine (sending_calls w.sent w.lost) }
     → new.machine ≡ run old.machine (calls_of (works w))

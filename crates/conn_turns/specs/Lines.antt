@@ -48,7 +48,7 @@ pub record IsNext (l : Line) (t : TakenFrame) : Type 0 where
   pub at : t.at ≡ l.place
   pub is : IsIncoming t.frame.order t.frame.message t.incoming
 
--- and its act is a record exactly where it was told to be done
+-- the frame is the next one, and its act is a record exactly where it was told to be done
 pub record IsTaken (now : ℕ) (l : Line) (t : TakenFrame) : Type 0 where
   pub next : IsNext l t
   pub recorded : t.recorded ≡ is_record (reply_at now l t).act
@@ -62,7 +62,7 @@ line_after now l t = record {
   over = l.over;
 }
 
--- the same of frames, one after another
+-- what the line is once frames were taken, one after another
 abbrev pub lines_after : ℕ → Line → List TakenFrame → Line
 lines_after now l [] = l
 lines_after now l (t ∷ later) = lines_after now (line_after now l t) later

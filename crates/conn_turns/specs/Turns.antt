@@ -7,7 +7,7 @@ use Rattle.fixp_shake.specs.Flows.{is_absent}
 use Rattle.fixp_shake.specs.Phases.{is_established}
 use Rattle.gw_links.specs.declared.link.Got.{Got}
 use Rattle.gw_links.specs.declared.link.Got.TheVariants as gots
-use Rattle.fixp_machine.specs.Machine.{State, Call, bad_frame, tick, turn_done, closed, link_end, live, again, taken, reserve, run}
+use Rattle.fixp_machine.specs.Machine.{State, Call, bad_frame, tick, turn_done, closed, link_end, live, again, taken, reserve}
 use Rattle.fixp_machine.specs.Machine as calls
 use Rattle.conn_turns.specs.Lines.{TakenFrame, frame_calls}
 
@@ -112,7 +112,7 @@ served_of (Some r) h = Some (payloads_from h r.from r.count)
 abbrev pub sends_live : State → Bool
 sends_live m = is_none m.ending && is_established m.facts.connection.phase && is_none m.facts.connection.serving && not (is_absent m.config.own_flow)
 
--- and these are sent: those behind the last that was sent, of the outbox as it was seen then, 16 at most
+-- the payloads that are sent live, where entries are: those behind the last that was sent, of the outbox as it was seen then, 16 at most
 abbrev pub live_of : State → History → Option (List (List ℕ))
 live_of m h = if sends_live m then Some (payloads_from h (m.facts.recorded.sent + 1) 16) else None
 

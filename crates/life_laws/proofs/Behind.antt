@@ -1,5 +1,5 @@
 -- Connections of a served life, one behind another.
-use Rattle.std.proofs.Common.{◌≡◌, ◌≤◌, ℕ, List, [], ◌∷◌, ◌++◌, length, Option, Some, None, refl, sym, ap, subst, ◌∙◌, append-nil, append_assoc, arith}
+use Rattle.std.proofs.Common.{◌≡◌, ◌≤◌, List, [], ◌∷◌, ◌++◌, length, Option, Some, None, refl, sym, ap, subst, ◌∙◌, append-nil, append_assoc, arith}
 use Rattle.std.specs.Prelude.{option_to_list, Result}
 use Rattle.std.specs.List.{flat_map}
 use Rattle.std.proofs.lemmas.List.{map-append}
@@ -9,7 +9,6 @@ use Rattle.session_model.specs.Journal.{Entry, History}
 use Rattle.session_model.specs.Inbox.{InboxRecord, next_number}
 use Rattle.session_model.proofs.Lists.{prefix_trans, prefix_equal, prefix_length}
 use Rattle.fixp_machine.specs.Machine.{State}
-use Rattle.gw_links.specs.Dialers.{DialerTold}
 use Rattle.jr_record.specs.declared.journal.Journal.{Ghosts}
 use Rattle.jr_boxes.specs.declared.inbox.Inbox.{Inbox}
 use Rattle.jr_boxes.specs.Inbox.{HoldsBox}
@@ -29,6 +28,7 @@ use Rattle.conn_serve.specs.Served.{WasGivenUp, ServedLife}
 use Rattle.life_laws.specs.Lives.{turned, all_of, LifeOpens, ServedIsTurned}
 use Rattle.conn_serve.proofs.Following.{were_are_turns}
 use Rattle.life_laws.proofs.Turned.{has_before, IsTurnedOne, connection_turned}
+use Rattle.conn_serve.specs.Moments.{LifeAt}
 
 -- what was seen before a connection, and before several, begins what was seen behind them
 seen_over : (before after : History) (m : State) (last : Line) (c : Connection) → IsConnection before after m last c → IsPrefix before.made after.made
@@ -139,19 +139,18 @@ module _ {J : Type 0} {G : Ghosts J} where
       record { awaits = sym may.agrees.next ∙ holds.noticed.next; enough = omega (arith, sent, seen); before = before }
 
   -- where the connections that ended have led
-  pub life_behind : (dialed later : Option DialerTold) (out now_out : Option (List ℕ)) (before seen : History) (m : State) (box since : Inbox J G) (result : Result LifeEnd ServeFault)
-      (h : List Entry) (i : List InboxRecord) (k : ServedLife dialed later out now_out before seen m box since result)
-      → Has h seen → m.facts.recorded.inbox_next ≡ next_number i → m.facts.recorded.sent ≤ length h → AreBehind h m k.mid i k.ended
-  life_behind dialed later out now_out before seen m box since result h i k has awaits enough =
-      all_behind h before k.behind m k.mid i k.ended awaits enough (has_before h k.behind seen has (seen_behind k.behind seen k.mid k.given_up k.gave_up)) k.were
+  pub life_behind : (old new : LifeAt J G) (m : State) (result : Result LifeEnd ServeFault) (h : List Entry) (i : List InboxRecord) (k : ServedLife old new m result)
+      → Has h new.seen → m.facts.recorded.inbox_next ≡ next_number i → m.facts.recorded.sent ≤ length h → AreBehind h m k.mid i k.ended
+  life_behind old new m result h i k has awaits enough =
+      all_behind h old.seen k.behind m k.mid i k.ended awaits enough (has_before h k.behind new.seen has (seen_behind k.behind new.seen k.mid k.given_up k.gave_up)) k.were
 
-  pub served_is_turned : (box since : Inbox J G) → ServedIsTurned box since
-  served_is_turned box since dialed later out now_out before seen m result h i k holds has awaits enough =
-      let b : AreBehind h m k.mid i k.ended = life_behind dialed later out now_out before seen m box since result h i k has awaits enough in
-      let all : AllTurned h m i (all_of k.ended k.given_up) = all_turned h k.behind seen m k.mid i k.ended k.given_up b has k.gave_up in
+  pub served_is_turned : (box : Inbox J G) → ServedIsTurned box
+  served_is_turned box old new m result h i k holds has awaits enough =
+      let b : AreBehind h m k.mid i k.ended = life_behind old new m result h i k has awaits enough in
+      let all : AllTurned h m i (all_of k.ended k.given_up) = all_turned h k.behind new.seen m k.mid i k.ended k.given_up b has k.gave_up in
       record {
         turns = all.turns;
         machine = b.machine;
         adds = all.adds;
-        holds = subst (λ (rs : List InboxRecord). HoldsBox since rs (refused_of_all (option_to_list k.given_up))) (sym all.adds) (k.refuses.holds i holds);
+        holds = subst (λ (rs : List InboxRecord). HoldsBox new.box rs (refused_of_all (option_to_list k.given_up))) (sym all.adds) (k.refuses.holds i holds);
       }

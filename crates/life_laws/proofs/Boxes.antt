@@ -24,7 +24,8 @@ use Rattle.gate_senders.proofs.Keeping.{front_is}
 use Rattle.conn_serve.specs.declared.answer.ServeFault.{ServeFault}
 use Rattle.conn_serve.specs.Opening.{opened_state}
 use Rattle.life_laws.specs.PlanLives.{SomePass, SeesMark, SeesFailure, MetFull, WasFull, BlamesInbox, ServedAt, LivedBoxes}
-use Rattle.life_laws.proofs.Plans.{plans_are_kept}
+use Rattle.life_laws.proofs.Planned.{plans_are_kept}
+use Rattle.conn_serve.specs.Moments.{beside}
 
 -- where a count, and one more once it is broken, shows a failure, the count rose
 risen_of : (old new : ℕ) (was now : Bool) → was ≡ false → HasFailed (old + (if was then 1 else 0)) (new + (if now then 1 else 0)) → HasRisen old new
@@ -34,7 +35,7 @@ risen_of old new false false sound f = omega (arith, f.disk)
 
 module _ {J : Type 0} {G : Ghosts J} {O : Type 0} {H : Ghosts O} (gate : Gate O H) (passes : Passes (Kept O H)) (plans : List (List (List ℕ))) (dialed later : Option DialerTold) (out now_out : Option (List ℕ)) (config : EndConfig)
     (outbox closed : Outbox O H) (box since : Inbox J G) (result : Result (Unit {0}) ServeFault) (o : OpensOn gate outbox) (sound : is_broken outbox ≡ false) (in_sound : inboxes.is_broken box ≡ false) (k : ClosedWith gate passes closed) (few : front_of closed < 2 ^ 40)
-    (s : ServedAt (opening_of gate) plans (known_at passes) dialed later out now_out (fresh config (opened_state (opening_of gate).history box) (2 ^ 24)) box since result) where
+    (s : ServedAt (opening_of gate) plans (known_at passes) (beside dialed out box) (beside later now_out since) (fresh config (opened_state (opening_of gate).history box) (2 ^ 24)) result) where
   within : (n : ℕ) → In (length plans + 1) n → In (known_at passes 1).made n
   within n h = record { from_one = h.from_one; up_to = omega (arith, h.up_to, s.made.made) }
 
@@ -79,7 +80,7 @@ module _ {J : Type 0} {G : Ghosts J} {O : Type 0} {H : Ghosts O} (gate : Gate O 
         full = subst (λ (a : Account). IsFullAt a.limits p.seen (next_entry p.seen p.number m.is.payload) entries bytes) (opened m.number m.inside) m.is.full;
       }
 
-  pub lived_boxes : LivedBoxes dialed later out now_out config plans outbox closed box since result
+  pub lived_boxes : LivedBoxes config plans (beside dialed out box) (beside later now_out since) outbox closed result
   lived_boxes = record {
     opening = (opening_of gate).history;
     closing = k.history;

@@ -3,7 +3,7 @@ pub mod Behind
 pub mod Waits
 pub mod Loops
 pub mod Opened
-pub mod Plans
+pub mod Planned
 pub mod Outboxes
 pub mod Senders
 pub mod Passes

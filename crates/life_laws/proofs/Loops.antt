@@ -59,22 +59,22 @@ waiting_life opening closing refused m mid i last cs c left o b x w =
     }
 
 module _ {J : Type 0} {G : Ghosts J} where
-  pub served_keeps : (box since : Inbox J G) → ServedKeeps box since
-  served_keeps box since dialed later out now_out before seen m result opening closing refused i k has o =
+  pub served_keeps : (box : Inbox J G) → ServedKeeps box
+  served_keeps box old new m result opening closing refused i k has o =
       by_given k.given_up k.gave_up
     where
       h : List Entry
       h = entries closing
 
       b : AreBehind h m k.mid i k.ended
-      b = life_behind dialed later out now_out before seen m box since result h i k has o.awaits o.enough
+      b = life_behind old new m result h i k has o.awaits o.enough
 
-      by_given : (given_up : Option Connection) → WasGivenUp k.behind seen k.mid given_up → LifeOfLoop opening closing refused m i (all_of k.ended given_up) (refused_of_all (option_to_list given_up))
-      by_given None g = whole_life opening closing refused m i (all_of k.ended None) [] o (all_turned h k.behind seen m k.mid i k.ended None b has g) refl
-      by_given (Some c) g = subst (λ (rs : List InboxRecord). LifeOfLoop opening closing refused m i (all_of k.ended (Some c)) rs) (sym (append-nil c.refused)) (by_waiting (waits_or_none h k.behind seen (state_after m i (turned k.ended)) k.mid (inbox_after m i (turned k.ended)) g.0 c g.1 x))
+      by_given : (given_up : Option Connection) → WasGivenUp k.behind new.seen k.mid given_up → LifeOfLoop opening closing refused m i (all_of k.ended given_up) (refused_of_all (option_to_list given_up))
+      by_given None g = whole_life opening closing refused m i (all_of k.ended None) [] o (all_turned h k.behind new.seen m k.mid i k.ended None b has g) refl
+      by_given (Some c) g = subst (λ (rs : List InboxRecord). LifeOfLoop opening closing refused m i (all_of k.ended (Some c)) rs) (sym (append-nil c.refused)) (by_waiting (waits_or_none h k.behind new.seen (state_after m i (turned k.ended)) k.mid (inbox_after m i (turned k.ended)) g.0 c g.1 x))
         where
           x : IsTurnedOne h (state_after m i (turned k.ended)) (inbox_after m i (turned k.ended)) g.0 c
-          x = given_turned h k.behind seen m k.mid i k.ended c b has g
+          x = given_turned h k.behind new.seen m k.mid i k.ended c b has g
 
           by_waiting : (c.refused ≡ []) ⊎ Waits (course_on (state_after m i (turned k.ended)) (inbox_after m i (turned k.ended)) c.leg) c.refused → LifeOfLoop opening closing refused m i (k.ended ++ c ∷ []) c.refused
           by_waiting (inl none) = whole_life opening closing refused m i (k.ended ++ c ∷ []) c.refused o (with_given h m k.mid i g.0 k.ended c b x) none

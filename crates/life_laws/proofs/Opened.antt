@@ -27,14 +27,14 @@ module _ {J : Type 0} {G : Ghosts J} where
     next = next;
   }
 
-  pub served_is_a_loop_life : (box since : Inbox J G) → ServedIsALoopLife box since
-  served_is_a_loop_life box since dialed later out now_out before seen opened config most result opening closing refused i k same begins has holds range payloads timely =
-      let m : State = fresh config (opened_state opened box) most in
+  pub served_is_a_loop_life : (box : Inbox J G) → ServedIsALoopLife box
+  served_is_a_loop_life box old new opened config most result opening closing refused i k same begins has holds range payloads timely =
+      let m : State = fresh config (opened_state opened old.box) most in
       let h : List Entry = entries closing in
       let earlier : IsPrefix opened.made h =
-      prefix_trans opened.made before.made h begins.made (prefix_trans before.made k.behind.made h (seen_over_all before k.behind m k.mid k.ended k.were)
-      (prefix_trans k.behind.made seen.made h (seen_behind k.behind seen k.mid k.given_up k.gave_up) has.begins)) in
-      let o : Opens (entries opening) h m i = subst (λ (es : List Entry). Opens es h m i) (sym same) (opened_opens box opened config most h i earlier holds) in
+      prefix_trans opened.made old.seen.made h begins.made (prefix_trans old.seen.made k.behind.made h (seen_over_all old.seen k.behind m k.mid k.ended k.were)
+      (prefix_trans k.behind.made new.seen.made h (seen_behind k.behind new.seen k.mid k.given_up k.gave_up) has.begins)) in
+      let o : Opens (entries opening) h m i = subst (λ (es : List Entry). Opens es h m i) (sym same) (opened_opens old.box opened config most h i earlier holds) in
       let l : LifeOfLoop opening closing refused m i (all_of k.ended k.given_up) (refused_of_all (option_to_list k.given_up)) =
-      served_keeps box since dialed later out now_out before seen m result opening closing refused i k has o in
+      served_keeps box old new m result opening closing refused i k has o in
       (l, life_may_turn opening closing refused m i (all_of k.ended k.given_up) (refused_of_all (option_to_list k.given_up)) l o range payloads timely)

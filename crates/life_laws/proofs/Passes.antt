@@ -38,6 +38,7 @@ use Rattle.conn_serve.specs.Opening.{ServedBy, IsUnrefused}
 use Rattle.life_laws.specs.Plans.{plan_in, MadeOf, IsAllMade, PlansMade}
 use Rattle.life_laws.specs.PlanLives.{SomePass, IsOfSender, SeesMark, SeesFailure, MetFull, BlamesInbox, FillsInbox, ServedAt}
 use Rattle.life_laws.proofs.Senders.{PartMade, AllFresh, SendersMade, senders_made, ran_part, ran_at}
+use Rattle.conn_serve.specs.Moments.{life_at, faults_at, serving_at, beside}
 
 -- an answer that is neither want of memory nor done is that of the connections, or a refusal
 pub answer_blames : (connections : Result LifeEnd ServeFault) (refused : Option ServeFault) (x : ServeFault) → (x ≡ faults.Memory → ⊥) → answer_of connections refused ≡ Err x → (connections ≡ Err x) ⊎ (refused ≡ Some x)
@@ -274,7 +275,7 @@ module _ {J : Type 0} {G : Ghosts J} (gate : Gate J G) (a : Account) (plans : Li
 
   -- what a served life is of the passes
   module _ {I : Type 0} {K : Ghosts I} (dialed later : Option DialerTold) (out now_out : Option (List ℕ)) (out_faults now_out_faults dial_faults now_dial_faults : ℕ) (m : State) (box since : Inbox I K) (result : Result (Unit {0}) ServeFault)
-      (s : ServedBy gate dialed later out now_out out_faults now_out_faults dial_faults now_dial_faults first now m box since counted after result) (marked : IsUnrefused result → 0 < length counted → SomeMarked after) (limits : limits_of since ≡ limits_of box) where
+      (s : ServedBy gate (serving_at dialed out out_faults dial_faults first box counted) (serving_at later now_out now_out_faults now_dial_faults now since after) m result) (marked : IsUnrefused result → 0 < length counted → SomeMarked after) (limits : limits_of since ≡ limits_of box) where
     all_made : SendersMade gate a plans after
     all_made = senders_made gate a plans seated counted fresh count after s.refused s.senders
 
@@ -283,7 +284,7 @@ module _ {J : Type 0} {G : Ghosts J} (gate : Gate J G) (a : Account) (plans : Li
 
     journal_at : result ≡ Err faults.Journal → BlamesInbox box since ⊎ SomePass (length plans + 1) SeesFailure (known_at new)
     journal_at e = ⊎_elim
-        (λ c. by_blame ((blamed_at (IsBlamed out_faults now_out_faults dial_faults now_dial_faults first now box since) s.connections faults.Journal s.blamed c).journal refl))
+        (λ c. by_blame ((blamed_at (IsBlamed (faults_at out_faults dial_faults first box) (faults_at now_out_faults now_dial_faults now since)) s.connections faults.Journal s.blamed c).journal refl))
         (λ r. inr (by_refusal faults.Journal (SomePass (length plans + 1) SeesFailure (known_at new)) r (λ h. refused_journal_shown s.refused h r)))
         (answer_blames s.connections s.refused faults.Journal (λ x. cc) (sym s.answer ∙ e))
       where
@@ -292,14 +293,14 @@ module _ {J : Type 0} {G : Ghosts J} (gate : Gate J G) (a : Account) (plans : Li
         by_blame (inr (inl broken)) = inl (inr broken)
         by_blame (inr (inr failed)) = inr (last_failed all_made failed)
 
-    life : ServedLife dialed later out now_out a.history (known_at new (length plans + 1)).seen m box since s.connections
-    life = subst (λ (p : Part). ServedLife dialed later out now_out a.history p.seen m box since s.connections) (sym (last_at all_made))
-        (subst (λ (h : History). ServedLife dialed later out now_out h now.seen m box since s.connections) (ap (λ (p : Part). p.seen) was.1) s.life)
+    life : ServedLife (life_at dialed out a.history box) (life_at later now_out (known_at new (length plans + 1)).seen since) m s.connections
+    life = subst (λ (p : Part). ServedLife (life_at dialed out a.history box) (life_at later now_out p.seen since) m s.connections) (sym (last_at all_made))
+        (subst (λ (h : History). ServedLife (life_at dialed out h box) (life_at later now_out now.seen since) m s.connections) (ap (λ (p : Part). p.seen) was.1) s.life)
 
     full_at : (entries bytes : ℕ) → result ≡ Err (faults.Full entries bytes) → FillsInbox since (wanted_of_all (option_to_list life.given_up)) entries bytes ⊎ SomePass (length plans + 1) (MetFull entries bytes) (known_at new)
     full_at entries bytes e = ⊎_elim
         (λ c.
-        let b = (blamed_at (IsBlamed out_faults now_out_faults dial_faults now_dial_faults first now box since) s.connections (faults.Full entries bytes) s.blamed c).full entries bytes refl in
+        let b = (blamed_at (IsBlamed (faults_at out_faults dial_faults first box) (faults_at now_out_faults now_dial_faults now since)) s.connections (faults.Full entries bytes) s.blamed c).full entries bytes refl in
         inl (record { entries_are = b.0; bytes_are = b.1; past = life.past entries bytes c }))
         (λ r. inr (by_refusal (faults.Full entries bytes) (SomePass (length plans + 1) (MetFull entries bytes) (known_at new)) r (λ h. refused_full_shown s.refused h entries bytes r)))
         (answer_blames s.connections s.refused (faults.Full entries bytes) (λ x. cc) (sym s.answer ∙ e))
@@ -311,7 +312,7 @@ module _ {J : Type 0} {G : Ghosts J} (gate : Gate J G) (a : Account) (plans : Li
         where_some None h = tt
         where_some (Some x) h = h x refl
 
-    pub served_at : ServedAt a plans (known_at new) dialed later out now_out m box since result
+    pub served_at : ServedAt a plans (known_at new) (beside dialed out box) (beside later now_out since) m result
     served_at = record {
       connections = s.connections;
       refused = s.refused;

@@ -13,7 +13,6 @@ use Rattle.fixp_machine.specs.Accepting.{model_flow}
 use Rattle.connection_laws.specs.Living.{Opens}
 use Rattle.connection_laws.specs.Ranges.{IsInRange}
 use Rattle.two_ends.specs.Meeting.{life_in}
-use Rattle.gw_links.specs.Dialers.{DialerTold}
 use Rattle.jr_record.specs.declared.journal.Journal.{Ghosts}
 use Rattle.jr_boxes.specs.declared.inbox.Inbox.{Inbox}
 use Rattle.jr_boxes.specs.Inbox.{HoldsBox, next_of}
@@ -26,6 +25,7 @@ use Rattle.two_ends.specs.Loops.{LoopLife, machine_life, IsRefusedOn, legs_in, I
 use Rattle.conn_serve.specs.declared.answer.ServeFault.{ServeFault}
 use Rattle.conn_serve.specs.declared.answer.LifeEnd.{LifeEnd}
 use Rattle.conn_serve.specs.Connections.{Connection, adds_of, refused_of_all}
+use Rattle.conn_serve.specs.Moments.{LifeAt}
 use Rattle.conn_serve.specs.Turned.{MayBegin}
 use Rattle.conn_serve.specs.Served.{ServedLife}
 use Rattle.conn_serve.specs.Opening.{opened_state}
@@ -34,7 +34,7 @@ use Rattle.conn_serve.specs.Opening.{opened_state}
 abbrev pub turned : List Connection → List TurnedLeg
 turned cs = map (λ (c : Connection). c.leg) cs
 
--- those that ended, and the one that was given up, if one was
+-- the connections that ended, and the one that was given up, if one was
 abbrev pub all_of : List Connection → Option Connection → List Connection
 all_of ended given_up = ended ++ option_to_list given_up
 
@@ -45,7 +45,8 @@ served_of l = (life_in (machine_life l)).served
 -- A life of the loop over these outboxes, which opened with the machine in the state m on the inbox i, and whose connections are
 -- these: each is turns over the closing outbox; a frame waits on the last one where its append was refused and may have left these
 -- records. It keeps on them what the session model asks of it
-pub record LifeOfLoop (opening closing refused : List OutboxRecord) (m : State) (i : List InboxRecord) (cs : List Connection) (left : List InboxRecord) : Type 0 where
+pub record LifeOfLoop (opening closing refused : List OutboxRecord) (m : State) (i : List InboxRecord) (cs : List Connection) (left : List InboxRecord)
+    : Type 0 where
   pub life : LoopLife
   pub outboxes : (life.opening_outbox ≡ opening) × (life.closing_outbox ≡ closing) × (life.refused_outbox ≡ refused)
   pub begins : (life.state ≡ m) × (life.inbox ≡ i)
@@ -55,11 +56,12 @@ pub record LifeOfLoop (opening closing refused : List OutboxRecord) (m : State) 
   pub inbox : ((served_of life).opening_inbox ≡ i) × ((served_of life).closing_inbox ≡ i ++ adds_of cs) × ((served_of life).refused_inbox ≡ left)
   pub keeps : KeepsConnections (model_flow m.config.own_flow) (model_flow m.config.peer_flow) (entries opening) (entries closing) (served_of life)
 
--- it may turn, where its numbers are in range, and what is beside it is as it has to be
+-- a life of the loop may turn, where its numbers are in range, and what is beside it is as it has to be
 abbrev pub LifeMayTurn : Type 0
 LifeMayTurn = (opening closing refused : List OutboxRecord) (m : State) (i : List InboxRecord) (cs : List Connection) (left : List InboxRecord)
     → (l : LifeOfLoop opening closing refused m i cs left)
-    → Opens (entries opening) (entries closing) m i → IsInRange m → AllByRecursion (λ (e : Entry). IsApplication e.payload) (entries closing) → AllByRecursion IsTimely (turned cs)
+    → Opens (entries opening) (entries closing) m i → IsInRange m → AllByRecursion (λ (e : Entry). IsApplication e.payload) (entries closing)
+    → AllByRecursion IsTimely (turned cs)
     → MayTurn m.config.own_flow m.config.peer_flow l.life
 
 module _ {J : Type 0} {G : Ghosts J} where
@@ -73,27 +75,27 @@ module _ {J : Type 0} {G : Ghosts J} where
 
   -- Over this outbox the connections are turns, one behind another, and those that ended have left the machine so. The inbox that is
   -- left holds what the laws compute behind them, which is what it opened on and what they add; a stop may leave what was refused
-  pub record IsTurned (h : List Entry) (m mid : State) (i : List InboxRecord) (ended : List Connection) (given_up : Option Connection) (since : Inbox J G) : Type 0 where
+  pub record IsTurned (h : List Entry) (m m' : State) (i : List InboxRecord) (ended : List Connection) (given_up : Option Connection) (box' : Inbox J G)
+      : Type 0 where
     pub turns : AllAreTurns h m i (turned (all_of ended given_up))
-    pub machine : state_after m i (turned ended) ≡ mid
+    pub machine : state_after m i (turned ended) ≡ m'
     pub adds : inbox_after m i (turned (all_of ended given_up)) ≡ i ++ adds_of (all_of ended given_up)
-    pub holds : HoldsBox since (inbox_after m i (turned (all_of ended given_up))) (refused_of_all (option_to_list given_up))
+    pub holds : HoldsBox box' (inbox_after m i (turned (all_of ended given_up))) (refused_of_all (option_to_list given_up))
 
-  -- what is ensured of a served life says so of its connections
-  abbrev pub ServedIsTurned : (box since : Inbox J G) → Type 0
-  ServedIsTurned box since =
-      (dialed later : Option DialerTold) (out now_out : Option (List ℕ)) (before seen : History) (m : State) (result : Result LifeEnd ServeFault) (h : List Entry) (i : List InboxRecord)
-      → (k : ServedLife dialed later out now_out before seen m box since result)
-      → HoldsBox box i [] → Has h seen → m.facts.recorded.inbox_next ≡ next_number i → m.facts.recorded.sent ≤ length h
-      → IsTurned h m k.mid i k.ended k.given_up since
+  -- what is ensured of a served life says so of its connections, whatever the inboxes of this kind
+  abbrev pub ServedIsTurned : Inbox J G → Type 0
+  ServedIsTurned box =
+      (old new : LifeAt J G) (m : State) (result : Result LifeEnd ServeFault) (h : List Entry) (i : List InboxRecord)
+      → (k : ServedLife old new m result)
+      → HoldsBox old.box i [] → Has h new.seen → m.facts.recorded.inbox_next ≡ next_number i → m.facts.recorded.sent ≤ length h
+      → IsTurned h m k.mid i k.ended k.given_up new.box
 
-  -- and it is a life of the loop that keeps on them what the session model asks of it
-  abbrev pub ServedKeeps : (box since : Inbox J G) → Type 0
-  ServedKeeps box since =
-      (dialed later : Option DialerTold) (out now_out : Option (List ℕ)) (before seen : History) (m : State) (result : Result LifeEnd ServeFault)
-      (opening closing refused : List OutboxRecord) (i : List InboxRecord)
-      → (k : ServedLife dialed later out now_out before seen m box since result)
-      → Has (entries closing) seen → Opens (entries opening) (entries closing) m i
+  -- a served life is a life of the loop that keeps on its connections what the session model asks of it
+  abbrev pub ServedKeeps : Inbox J G → Type 0
+  ServedKeeps box =
+      (old new : LifeAt J G) (m : State) (result : Result LifeEnd ServeFault) (opening closing refused : List OutboxRecord) (i : List InboxRecord)
+      → (k : ServedLife old new m result)
+      → Has (entries closing) new.seen → Opens (entries opening) (entries closing) m i
       → LifeOfLoop opening closing refused m i (all_of k.ended k.given_up) (refused_of_all (option_to_list k.given_up))
 
   -- a machine that is made of what the inbox has and the outbox had, as `serve` makes it, opens there
@@ -102,7 +104,7 @@ module _ {J : Type 0} {G : Ghosts J} where
       (opened : History) (config : EndConfig) (most : ℕ) (h : List Entry) (i : List InboxRecord)
       → IsPrefix opened.made h → HoldsBox box i [] → Opens opened.made h (fresh config (opened_state opened box) most) i
 
-  -- and is in range, where its configuration is one that `serve` takes, and it takes the number that the inbox awaits, or those before
+  -- a machine that is made so is in range, where its configuration is one that `serve` takes, and it takes the number that the inbox awaits, or those before
   abbrev pub OpenedInRange : Inbox J G → Type 0
   OpenedInRange box =
       (opened : History) (config : EndConfig) (most : ℕ)
@@ -112,13 +114,14 @@ module _ {J : Type 0} {G : Ghosts J} where
   -- So what `serve` ensures of a life is a life of the loop that may turn, where the machine is in range, the closing outbox has less than
   -- 2^40 entries, payloads of application messages, and begins with what its pass came to see, and what the links gave and the clock
   -- told is in range
-  abbrev pub ServedIsALoopLife : (box since : Inbox J G) → Type 0
-  ServedIsALoopLife box since =
-      (dialed later : Option DialerTold) (out now_out : Option (List ℕ)) (before seen opened : History) (config : EndConfig) (most : ℕ) (result : Result LifeEnd ServeFault)
+  abbrev pub ServedIsALoopLife : Inbox J G → Type 0
+  ServedIsALoopLife box =
+      (old new : LifeAt J G) (opened : History) (config : EndConfig) (most : ℕ) (result : Result LifeEnd ServeFault)
       (opening closing refused : List OutboxRecord) (i : List InboxRecord)
-      → (k : ServedLife dialed later out now_out before seen (fresh config (opened_state opened box) most) box since result)
-      → entries opening ≡ opened.made → BeginsHistory opened before → Has (entries closing) seen → HoldsBox box i []
-      → IsInRange (fresh config (opened_state opened box) most) → AllByRecursion (λ (e : Entry). IsApplication e.payload) (entries closing)
+      → (k : ServedLife old new (fresh config (opened_state opened old.box) most) result)
+      → entries opening ≡ opened.made → BeginsHistory opened old.seen → Has (entries closing) new.seen → HoldsBox old.box i []
+      → IsInRange (fresh config (opened_state opened old.box) most) → AllByRecursion (λ (e : Entry). IsApplication e.payload) (entries closing)
       → AllByRecursion IsTimely (turned (all_of k.ended k.given_up))
-      → (l : LifeOfLoop opening closing refused (fresh config (opened_state opened box) most) i (all_of k.ended k.given_up) (refused_of_all (option_to_list k.given_up)))
+      → (l : LifeOfLoop opening closing refused (fresh config (opened_state opened old.box) most) i (all_of k.ended k.given_up)
+      (refused_of_all (option_to_list k.given_up)))
       × MayTurn config.own_flow config.peer_flow l.life

@@ -16,5 +16,6 @@ PlansAreKept = (opening now : Account) (plans : List (List (List ℕ))) (known :
 -- a life over these outboxes, of which a stop leaves no more, keeps its outbox by these plans
 abbrev pub PlansKeepOutbox : Type 0
 PlansKeepOutbox = (plans : List (List (List ℕ))) (opening closing : History) (life : Life) → KeepsPlans plans opening closing → InOrder closing.made
-    → life.opening_outbox ≡ outbox_of opening → life.closing_outbox ≡ outbox_of closing → life.refused_outbox ≡ [] → IsPrefix life.served.opening_inbox life.served.closing_inbox
+    → life.opening_outbox ≡ outbox_of opening → life.closing_outbox ≡ outbox_of closing → life.refused_outbox ≡ []
+    → IsPrefix life.served.opening_inbox life.served.closing_inbox
     → KeepsOutbox (plan_in plans) life

@@ -5,7 +5,6 @@ use Rattle.session_model.specs.Journal.{Entry, History, BeginsHistory}
 use Rattle.session_model.specs.Inbox.{InboxRecord}
 use Rattle.fixp_shake.specs.declared.config.EndConfig.{EndConfig}
 use Rattle.fixp_machine.specs.Machine.{State, fresh}
-use Rattle.gw_links.specs.Dialers.{DialerTold}
 use Rattle.jr_record.specs.declared.journal.Journal.{Ghosts}
 use Rattle.jr_boxes.specs.declared.inbox.Inbox.{Inbox}
 use Rattle.jr_boxes.specs.Inbox as inboxes
@@ -20,6 +19,7 @@ use Rattle.conn_serve.specs.declared.answer.LifeEnd.{LifeEnd}
 use Rattle.conn_steps.specs.Settling.{IsPast}
 use Rattle.conn_serve.specs.Answers.{answer_of}
 use Rattle.conn_serve.specs.Connections.{wanted_of_all}
+use Rattle.conn_serve.specs.Moments.{Beside, with_seen}
 use Rattle.conn_serve.specs.Served.{ServedLife}
 use Rattle.conn_serve.specs.Opening.{opened_state, IsUnrefused}
 use Rattle.life_laws.specs.Plans.{PlansMade, KeepsPlans}
@@ -37,15 +37,15 @@ IsOfSender (faults.Full entries bytes) = ⊤
 IsOfSender faults.Memory = ⊤
 IsOfSender _ = ⊥
 
--- it has seen the mark
+-- a pass has seen the mark
 abbrev pub SeesMark : Part → Type 0
 SeesMark p = p.seen.finished ≡ true
 
--- it knows that a call of the device failed since the opening
+-- a pass knows that a call of the device failed since the opening
 abbrev pub SeesFailure : Part → Type 0
 SeesFailure p = HasFailed p.opening.faults p.faults
 
--- a message of its was refused, behind the opening history, at one that is at a limit
+-- a message of a pass was refused, behind the opening history, at one that is at a limit
 pub record MetFull (entries bytes : ℕ) (p : Part) : Type 0 where
   pub payload : List ℕ
   pub behind : BeginsHistory p.opening.history p.seen
@@ -61,32 +61,41 @@ pub record WasFull (limits : Limits) (opening closing : History) (entries bytes 
 
 module _ {J : Type 0} {G : Ghosts J} where
   -- a call of the disk of the inbox failed, or one had failed before
-  abbrev pub BlamesInbox : (box since : Inbox J G) → Type 0
-  BlamesInbox box since = HasRisen (inboxes.faults_of box) (inboxes.faults_of since) ⊎ (inboxes.is_broken box ≡ true)
+  abbrev pub BlamesInbox : (box box' : Inbox J G) → Type 0
+  BlamesInbox box box' = HasRisen (inboxes.faults_of box) (inboxes.faults_of box') ⊎ (inboxes.is_broken box ≡ true)
 
-  -- the inbox has so many messages, and so many bytes, and no room for the one record that was wanted
-  pub record FillsInbox (since : Inbox J G) (wanted : List InboxRecord) (entries bytes : ℕ) : Type 0 where
-    pub entries_are : entries ≡ inboxes.count_of since
-    pub bytes_are : bytes ≡ inboxes.size_of since
-    pub past : IsPast (inboxes.limits_of since).bytes bytes wanted
+  -- this inbox has so many messages, and so many bytes, and no room for the one record that was wanted
+  pub record FillsInbox (box : Inbox J G) (wanted : List InboxRecord) (entries bytes : ℕ) : Type 0 where
+    pub entries_are : entries ≡ inboxes.count_of box
+    pub bytes_are : bytes ≡ inboxes.size_of box
+    pub past : IsPast (inboxes.limits_of box).bytes bytes wanted
 
   -- The connections were served and the plans submitted beside each other; the passes are back, with that of the connection behind the
   -- senders'; and it answers what comes first of both
-  pub record ServedAt (opening : Account) (plans : List (List (List ℕ))) (known : ℕ → Part) (dialed later : Option DialerTold) (out now_out : Option (List ℕ)) (m : State) (box since : Inbox J G) (result : Result (Unit {0}) ServeFault) : Type 0 where
+  pub record ServedAt (opening : Account) (plans : List (List (List ℕ))) (known : ℕ → Part) (old new : Beside J G) (m : State)
+      (result : Result (Unit {0}) ServeFault) : Type 0 where
     pub connections : Result LifeEnd ServeFault
     pub refused : Option ServeFault
     pub made : PlansMade opening plans known
-    pub life : ServedLife dialed later out now_out opening.history (known (length plans + 1)).seen m box since connections
-    pub limits : inboxes.limits_of since ≡ inboxes.limits_of box
+    pub life : ServedLife (with_seen old opening.history) (with_seen new (known (length plans + 1)).seen) m connections
+    pub limits : inboxes.limits_of new.box ≡ inboxes.limits_of old.box
     pub answer : result ≡ answer_of connections refused
     pub refusal : IfSome refused IsOfSender
     pub marked : IsUnrefused result → 0 < length plans → SomePass (length plans + 1) SeesMark known
-    pub journal : result ≡ Err faults.Journal → BlamesInbox box since ⊎ SomePass (length plans + 1) SeesFailure known
-    pub full : (entries bytes : ℕ) → result ≡ Err (faults.Full entries bytes) → FillsInbox since (wanted_of_all (option_to_list life.given_up)) entries bytes ⊎ SomePass (length plans + 1) (MetFull entries bytes) known
+    pub journal : result ≡ Err faults.Journal → BlamesInbox old.box new.box ⊎ SomePass (length plans + 1) SeesFailure known
+    pub full : (entries bytes : ℕ) → result ≡ Err (faults.Full entries bytes)
+        → FillsInbox new.box (wanted_of_all (option_to_list life.given_up)) entries bytes ⊎ SomePass (length plans + 1) (MetFull entries bytes) known
 
 module _ {J : Type 0} {G : Ghosts J} {O : Type 0} {H : Ghosts O} where
-  -- The same, once the outbox is out of the gate again: it was opened on one history and closed on another, which keeps the plans
-  pub record LivedBoxes (dialed later : Option DialerTold) (out now_out : Option (List ℕ)) (config : EndConfig) (plans : List (List (List ℕ))) (outbox closed : Outbox O H) (box since : Inbox J G) (result : Result (Unit {0}) ServeFault) : Type 0 where
+  -- a journal is to blame, of the inbox or of the outbox: the count of its device's faults rose
+  abbrev pub BlamesBoxes : (box box' : Inbox J G) (outbox outbox' : Outbox O H) → Type 0
+  BlamesBoxes box box' outbox outbox' =
+      HasRisen (inboxes.faults_of box) (inboxes.faults_of box') ⊎ HasRisen (outboxes.faults_of outbox) (outboxes.faults_of outbox')
+
+  -- a life was served and its plans submitted, once the outbox is out of the gate again: that was opened on one history and closed on
+  -- another, which keeps the plans
+  pub record LivedBoxes (config : EndConfig) (plans : List (List (List ℕ))) (old new : Beside J G) (outbox outbox' : Outbox O H)
+      (result : Result (Unit {0}) ServeFault) : Type 0 where
     pub opening : History
     pub closing : History
     pub seen : History
@@ -94,16 +103,17 @@ module _ {J : Type 0} {G : Ghosts J} {O : Type 0} {H : Ghosts O} where
     pub refused : Option ServeFault
     pub few : length closing.made < 2 ^ 40
     pub opened : ∥ outboxes.HoldsBox outbox opening [] ∥₁
-    pub stands : ∥ outboxes.StandsFor closed closing ∥₁
-    pub holds : outboxes.is_broken closed ≡ false → ∥ outboxes.HoldsBox closed closing [] ∥₁
-    pub broken : outboxes.is_broken closed ≡ true → HasRisen (outboxes.faults_of outbox) (outboxes.faults_of closed)
+    pub stands : ∥ outboxes.StandsFor outbox' closing ∥₁
+    pub holds : outboxes.is_broken outbox' ≡ false → ∥ outboxes.HoldsBox outbox' closing [] ∥₁
+    pub broken : outboxes.is_broken outbox' ≡ true → HasRisen (outboxes.faults_of outbox) (outboxes.faults_of outbox')
     pub plans_kept : KeepsPlans plans opening closing
     pub begins : BeginsHistory seen closing
-    pub served : ServedLife dialed later out now_out opening seen (fresh config (opened_state opening box) (2 ^ 24)) box since connections
-    pub limits : inboxes.limits_of since ≡ inboxes.limits_of box
+    pub served : ServedLife (with_seen old opening) (with_seen new seen) (fresh config (opened_state opening old.box) (2 ^ 24)) connections
+    pub limits : inboxes.limits_of new.box ≡ inboxes.limits_of old.box
     pub answer : result ≡ answer_of connections refused
     pub refusal : IfSome refused IsOfSender
     pub marked : IsUnrefused result → 0 < length plans → closing.finished ≡ true
-    pub journal : result ≡ Err faults.Journal → HasRisen (inboxes.faults_of box) (inboxes.faults_of since) ⊎ HasRisen (outboxes.faults_of outbox) (outboxes.faults_of closed)
+    pub journal : result ≡ Err faults.Journal → BlamesBoxes old.box new.box outbox outbox'
     pub full : (entries bytes : ℕ) → result ≡ Err (faults.Full entries bytes)
-        → FillsInbox since (wanted_of_all (option_to_list served.given_up)) entries bytes ⊎ WasFull (record { entries = (outboxes.limits_of outbox).entries; bytes = (outboxes.limits_of outbox).bytes }) opening closing entries bytes
+        → FillsInbox new.box (wanted_of_all (option_to_list served.given_up)) entries bytes
+        ⊎ WasFull (record { entries = (outboxes.limits_of outbox).entries; bytes = (outboxes.limits_of outbox).bytes }) opening closing entries bytes

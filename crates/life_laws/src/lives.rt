@@ -10,17 +10,19 @@ pub fn life_opens<I: Journal>(inbox: &Inbox<I>)
     ensures law { LifeOpens inbox.now }
 {}
 
-/// The connections of a served life are turns, one behind another, and the inbox that is left holds what they add.
-pub fn served_is_turned<I: Journal>(inbox: &Inbox<I>, since: &Inbox<I>)
-    ensures law { ServedIsTurned inbox.now since.now }
+/// The connections of a served life are turns, one behind another, and the inbox that is left holds what they add, whatever the
+/// inboxes of this kind.
+pub fn served_is_turned<I: Journal>(inbox: &Inbox<I>)
+    ensures law { ServedIsTurned inbox.now }
 {}
 
-/// A served life is one of the loop that keeps on its connections what the session model asks of it.
-pub fn served_keeps<I: Journal>(inbox: &Inbox<I>, since: &Inbox<I>)
-    ensures law { ServedKeeps inbox.now since.now }
+/// A served life is one of the loop that keeps on its connections what the session model asks of it, whatever the inboxes of this
+/// kind.
+pub fn served_keeps<I: Journal>(inbox: &Inbox<I>)
+    ensures law { ServedKeeps inbox.now }
 {}
 
-/// Such a life may be one of two ends that run the loop, where its numbers are in range, its outbox has payloads of application
+/// A life of the loop may be one of two ends that run the loop, where its numbers are in range, its outbox has payloads of application
 /// messages, and its links and its clock are as they have to be.
 pub fn life_may_turn()
     ensures law { LifeMayTurn }
@@ -31,12 +33,12 @@ pub fn opened_opens<I: Journal>(inbox: &Inbox<I>)
     ensures law { OpenedOpens inbox.now }
 {}
 
-/// That machine is in range.
+/// The machine that `serve` makes of what the inbox has and the outbox had is in range.
 pub fn opened_in_range<I: Journal>(inbox: &Inbox<I>)
     ensures law { OpenedInRange inbox.now }
 {}
 
-/// What `serve` ensures of a life is a life of the loop that may be one of two ends that run it.
-pub fn served_is_a_loop_life<I: Journal>(inbox: &Inbox<I>, since: &Inbox<I>)
-    ensures law { ServedIsALoopLife inbox.now since.now }
+/// What `serve` ensures of a life is a life of the loop that may be one of two ends that run it, whatever the inboxes of this kind.
+pub fn served_is_a_loop_life<I: Journal>(inbox: &Inbox<I>)
+    ensures law { ServedIsALoopLife inbox.now }
 {}

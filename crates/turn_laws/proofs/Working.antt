@@ -8,7 +8,7 @@ use Rattle.sofh_frame.specs.Framing.{first_of}
 use Rattle.fixp_replies.specs.declared.act.Ending.{Ending}
 use Rattle.fixp_machine.specs.Machine.{State, Call, link_end, run}
 use Rattle.conn_turns.specs.Lines.{Line, TakenFrame, IsNext, lines_after}
-use Rattle.conn_turns.specs.Frames.{is_broken, broken_at, is_bad}
+use Rattle.conn_turns.specs.Frames.{is_unframed, unframed_at, is_bad}
 use Rattle.conn_turns.specs.Turns.{Work, Turn, only_sends, works, link_lost, cut_short, not_begun, first_calls, calls_of_frames, closing_calls, again_calls, live_calls, finish_calls, outbox_calls, sending_calls, calls_of, is_end}
 use Rattle.fixp_machine.specs.Machine as calls
 use Rattle.conn_turns.specs.Exact.{Served, closed_at}
@@ -21,15 +21,15 @@ use Rattle.turn_laws.proofs.Going.{Steady, Goes, nothing, is_open, may_append, a
 use Rattle.turn_laws.proofs.Outbox.{again_goes, live_goes}
 
 -- bytes that no frame begins with are told where the connection is open
-broken_open : (count : ℕ) (l : Line) (broken : Option ℕ) → broken ≡ broken_at count l → IfSome broken (λ (_ : ℕ). l.machine.ending ≡ None)
-broken_open count l broken is = subst (λ (o : Option ℕ). IfSome o (λ (_ : ℕ). l.machine.ending ≡ None)) (sym is) (by_test (is_broken count l) refl)
+broken_open : (count : ℕ) (l : Line) (broken : Option ℕ) → broken ≡ unframed_at count l → IfSome broken (λ (_ : ℕ). l.machine.ending ≡ None)
+broken_open count l broken is = subst (λ (o : Option ℕ). IfSome o (λ (_ : ℕ). l.machine.ending ≡ None)) (sym is) (by_test (is_unframed count l) refl)
   where
     by_ending : (e : Option Ending) (few b : Bool) → l.machine.ending ≡ e → (few && (is_none e && is_none l.machine.facts.connection.serving) && b) ≡ true → l.machine.ending ≡ None
     by_ending None few b k t = k
     by_ending (Some x) true b k t = absurd (true≢false (sym t))
     by_ending (Some x) false b k t = absurd (true≢false (sym t))
 
-    by_test : (b : Bool) → is_broken count l ≡ b → IfSome (if b then Some l.place else None) (λ (_ : ℕ). l.machine.ending ≡ None)
+    by_test : (b : Bool) → is_unframed count l ≡ b → IfSome (if b then Some l.place else None) (λ (_ : ℕ). l.machine.ending ≡ None)
     by_test false e = tt
     by_test true e = by_ending l.machine.ending (nat_lt count 16) (is_bad (first_of l.held)) refl e
 

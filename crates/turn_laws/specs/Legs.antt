@@ -36,7 +36,7 @@ calls_on t = flat_map calls_of (all_turns t)
 abbrev pub first_line : State → ℕ → Line
 first_line s now = record { machine = connected s now; held = []; place = 0; over = false }
 
--- it is so, over an outbox that begins with all that was seen
+-- such a connection is made of these turns, over an outbox that begins with all that was seen
 pub record AreTurnsOf (h : List Entry) (s : State) (t : TurnedLeg) : Type 0 where
   pub before : History
   pub after : History
@@ -53,7 +53,7 @@ sent_in (link_lost now) = []
 sent_in (cut_short now received frames refused) = []
 sent_in not_begun = []
 
--- and those that it gave
+-- the bytes that the link gave in a turn
 abbrev pub given_in : Turn → List ℕ
 given_in (only_sends now sent lost) = []
 given_in (works w) = w.received
@@ -88,7 +88,7 @@ leg_of s inbox t = record {
   drained = is_drained (course_on s inbox t) (sent_on t);
 }
 
--- such a connection may run, where the end awaits the inbox's next number and has sent no more than the outbox has
+-- a connection that is a list of turns may run, where the end awaits the inbox's next number and has sent no more than the outbox has
 abbrev pub TurnsRun : Type 0
 TurnsRun = (h : List Entry) (s : State) (inbox : List InboxRecord) (t : TurnedLeg)
     → s.facts.recorded.inbox_next ≡ next_number inbox → s.facts.recorded.sent ≤ length h → AreTurnsOf h s t

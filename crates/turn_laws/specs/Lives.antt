@@ -31,7 +31,8 @@ state_after s inbox legs = state_behind s inbox (legs_of s inbox legs)
 abbrev pub inbox_after : State → List InboxRecord → List TurnedLeg → List InboxRecord
 inbox_after s inbox legs = inbox_behind s inbox (legs_of s inbox legs)
 
--- and so where on a last one a frame waits for its act, the append of whose records failed
+-- a life whose connections are lists of turns keeps them also where on a last one a frame waits for its act, the append of whose
+-- records failed
 abbrev pub TurnsRefused : Type 0
 TurnsRefused = (opened h : List Entry) (s : State) (inbox : List InboxRecord) (legs : List TurnedLeg) (last : TurnedLeg) (w : Waiting)
     → Opens opened h s inbox → AllAreTurns h s inbox legs → AreTurnsOf h (state_after s inbox legs) last

@@ -29,7 +29,7 @@ abbrev pub TurnMayStand : Type 0
 TurnMayStand = (h : List Entry) (before after : History) (old new : Line) (t : Turn) (c : Course)
     → StandsAt h c old → Has h after → IsTurn before after old new t → TurnStands h c new t
 
--- and each call of one that was cut short
+-- each call of a turn that was cut short may come where it came
 abbrev pub CutMayStand : Type 0
 CutMayStand = (h : List Entry) (old : Line) (t : Turn) (c : Course) → StandsAt h c old → IsCut old t → AllMayStand h c (calls_of t)
 
@@ -38,7 +38,7 @@ abbrev pub TurnAdds : Type 0
 TurnAdds = (h : List Entry) (before after : History) (old new : Line) (t : Turn) (c : Course)
     → StandsAt h c old → IsTurn before after old new t → (course_after c (calls_of t)).added ≡ c.added ++ adds_in old t
 
--- and over one that was cut short, without the frame whose act was refused, what those before it add
+-- what a connection adds to the inbox over a turn that was cut short, without the frame whose act was refused, is what the frames before that one add
 abbrev pub CutAdds : Type 0
 CutAdds = (h : List Entry) (old : Line) (now : ℕ) (received : List ℕ) (frames : List TakenFrame) (c : Course)
     → StandsAt h c old → (k : IsCutShort now received frames None old)

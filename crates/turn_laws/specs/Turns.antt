@@ -29,7 +29,8 @@ pub record Works (before after : History) (old new : Line) (w : Work) : Type 0 w
 abbrev pub IsTurn : (before after : History) (old new : Line) → Turn → Type 0
 IsTurn before after old new (only_sends now sent lost) = Sends sent lost (line_ticked old now) new × (after ≡ before)
 IsTurn before after old new (works w) = Works before after old new w
-IsTurn before after old new (link_lost now) = (new ≡ record (line_ticked old now) { machine = run (line_ticked old now).machine (link_end ∷ []) }) × (after ≡ before)
+IsTurn before after old new (link_lost now) = (new ≡ record (line_ticked old now) { machine = run (line_ticked old now).machine (link_end ∷ []) })
+    × (after ≡ before)
 IsTurn before after old new (cut_short now received frames refused) = ⊥
 IsTurn before after old new not_begun = ⊥
 

@@ -18,7 +18,7 @@ pub fn turns_serve()
     ensures law { TurnsServe }
 {}
 
-/// So does one on whose last connection the append of a record failed.
+/// A life whose connections are lists of turns keeps this also where on the last connection the append of a record failed.
 pub fn turns_refused()
     ensures law { TurnsRefused }
 {}

@@ -1,8 +1,9 @@
-use Rattle.std.proofs.Common.{sym, ◌∙◌}
+use Rattle.std.proofs.Common.{[], refl, sym, ◌∙◌}
 use Rattle.std.proofs.lemmas.Result.{on_ok_weaker}
 use Rattle.conn_turns.specs.declared.answer.TurnFault.{TurnFault}
 use Rattle.gate_turn.specs.Places.{known}
 use Rattle.conn_loop.specs.Conn.{line_of}
+use Rattle.conn_loop.specs.Live.{live_end}
 use Rattle.turn_laws.proofs.Repacking.{turn_is_one, cut_is_one}
 use Rattle.conn_serve.proofs.Making.{whole_at, err_at, on_cut, on_both, goes_made, closed_made, of_turn_made, blamed_made}
 use Rattle.conn_serve.proofs.Turning.{was_short, cut_is_short}
@@ -10,7 +11,7 @@ use Rattle.conn_serve.proofs.connection.make_turn.Goals as goal
 
 pub returns-clause-whole : goal.returns-clause-whole
 returns-clause-whole g c =
-    let one = turn_is_one c.args.inbox.now c.turn.new.inbox _ _ _ _ _ _ _ _ (line_of c.args.conn.now) (line_of c.turn.new.self) c.turn.result _ in
+    let one = turn_is_one c.args.inbox.now _ _ (live_end _ _ _ (line_of c.args.conn.now) c.args.inbox.now []) (live_end _ _ _ (line_of c.turn.new.self) c.turn.new.inbox _) c.turn.result in
     whole_at _ c.turn.result c.close_of.result c.close_of.ensures (on_ok_weaker c.turn.result one c.turn.ensures.did) (λ e. one (c.turn.ensures.lost e))
 
 pub returns-clause-cut : goal.returns-clause-cut
@@ -21,7 +22,7 @@ returns-clause-cut g c =
 pub returns-clause-short : goal.returns-clause-short
 returns-clause-short g c =
     on_both _ _ _ c.close_of.result (returns-clause-whole g c) (returns-clause-cut g c)
-    (was_short _ _ _ _ _ _ (line_of c.args.conn.now) (line_of c.turn.new.self) c.args.inbox.now c.turn.new.inbox _)
+    (was_short (live_end _ _ _ (line_of c.args.conn.now) c.args.inbox.now []) (live_end _ _ _ (line_of c.turn.new.self) c.turn.new.inbox _) refl)
     (cut_is_short (line_of c.args.conn.now) c.args.inbox.now c.turn.new.inbox _)
 
 pub returns-clause-goes : goal.returns-clause-goes

@@ -7,6 +7,7 @@ use Rattle.conn_loop.specs.Conn.{line_of}
 use Rattle.conn_loop.proofs.Working.{seen_same, looks_self, looks_on}
 use Rattle.conn_serve.specs.declared.answer.ServeFault.TheVariants as faults
 use Rattle.conn_serve.specs.Answers.{IsOfTurn}
+use Rattle.conn_serve.specs.Moments.{connection_at, faults_at}
 use Rattle.conn_serve.proofs.Making.{blamed_since}
 use Rattle.conn_serve.proofs.Turning.{turned_none, turned_on, turned_place, given_whole, given_on, agrees_recorded, given_first, turned_first}
 use Rattle.conn_serve.proofs.connection.one_connection.Goals as goal
@@ -35,13 +36,13 @@ loop-init g c =
 pub returns-then-load-clause-stopped : goal.returns-then-load-clause-stopped
 returns-then-load-clause-stopped g c = λ e.
     given_first _ _ _ _ _ (line_of c.args.conn.now) (line_of c.begin.new.self) _ c.args.inbox.now c.loop.inbox c.begin.ensures.begun
-    (given_whole _ _ _ _ _ _ _ _ _ (line_of c.begin.new.self) (line_of c.loop.conn) c.args.inbox.now c.loop.inbox _ c.loop.invariant.turned (λ x. cc) (λ x. cc) (λ n k x. cc))
+    (given_whole _ (connection_at _ _ _ _ (line_of c.begin.new.self) c.args.inbox.now) (connection_at _ _ _ _ (line_of c.loop.conn) c.loop.inbox) _ c.loop.invariant.turned (λ x. cc) (λ x. cc) (λ n k x. cc))
 
 pub turn_once-requires-clause-place : goal.turn_once-requires-clause-place
 turn_once-requires-clause-place g c =
     omega (
       arith,
-      turned_place _ _ _ _ _ _ _ _ (line_of c.begin.new.self) (line_of c.loop.conn) c.args.inbox.now c.loop.inbox _ c.loop.invariant.turned,
+      turned_place (connection_at _ _ _ _ (line_of c.begin.new.self) c.args.inbox.now) (connection_at _ _ _ _ (line_of c.loop.conn) c.loop.inbox) _ c.loop.invariant.turned,
       ap (λ (l : Line). l.place) c.begin.ensures.begun,
       c.loop-test.true,
     )
@@ -52,19 +53,19 @@ returns-in-Err-clause-looks g c = looks_on _ _ _ c.loop.invariant.looks c.turn_o
 pub returns-in-Err-clause-blamed : goal.returns-in-Err-clause-blamed
 returns-in-Err-clause-blamed g c =
     let was = c.loop.invariant in
-    blamed_since _ _ _ 0 0 0 (known c.args.pass.now) (known c.loop.pass) (known c.turn_once.new.pass) c.args.inbox.now c.loop.inbox c.turn_once.new.inbox c.in-Err.fault
+    blamed_since (faults_at _ 0 (known c.args.pass.now) c.args.inbox.now) (faults_at _ 0 (known c.loop.pass) c.loop.inbox) (faults_at _ 0 (known c.turn_once.new.pass) c.turn_once.new.inbox) c.in-Err.fault
     was.out (omega arith) was.looks.faults was.inbox c.turn_once.ensures.never_falls.0 was.kind c.in-Err.ensures.blamed
 
 pub returns-in-Err-clause-given_up : goal.returns-in-Err-clause-given_up
 returns-in-Err-clause-given_up g c =
     given_first _ _ _ _ _ (line_of c.args.conn.now) (line_of c.begin.new.self) _ c.args.inbox.now c.turn_once.new.inbox c.begin.ensures.begun
-    (given_on _ _ _ _ _ _ _ _ _ _ _ (line_of c.begin.new.self) (line_of c.loop.conn) c.args.inbox.now c.loop.inbox c.turn_once.new.inbox _ c.loop.invariant.turned c.in-Err.ensures.given_up
+    (given_on _ (connection_at _ _ _ _ (line_of c.begin.new.self) c.args.inbox.now) (connection_at _ _ _ _ (line_of c.loop.conn) c.loop.inbox) _ _ c.turn_once.new.inbox _ c.loop.invariant.turned c.in-Err.ensures.given_up
     (λ e. let same : c.in-Err.fault ≡ faults.Turns = cc in subst IsOfTurn same c.in-Err.ensures.of_turn))
 
 pub returns-in-Ok-Some-clause-turned : goal.returns-in-Ok-Some-clause-turned
 returns-in-Ok-Some-clause-turned g c = λ close e.
-    turned_first _ _ _ _ _ _ _ _ (line_of c.args.conn.now) (line_of c.begin.new.self) (line_of c.turn_once.new.conn) _ c.args.inbox.now c.turn_once.new.inbox _ c.begin.ensures.begun
-    (turned_on _ _ _ _ _ _ _ _ _ _ _ _ (line_of c.begin.new.self) (line_of c.loop.conn) (line_of c.turn_once.new.conn) c.args.inbox.now c.loop.inbox c.turn_once.new.inbox _ 1 c.loop.invariant.turned c.in-Ok-Some.ensures.turned)
+    turned_first (connection_at _ _ _ _ (line_of c.args.conn.now) c.args.inbox.now) (connection_at _ _ _ _ (line_of c.turn_once.new.conn) c.turn_once.new.inbox) (line_of c.begin.new.self) _ _ c.begin.ensures.begun
+    (turned_on (connection_at _ _ _ _ (line_of c.begin.new.self) c.args.inbox.now) (connection_at _ _ _ _ (line_of c.loop.conn) c.loop.inbox) (connection_at _ _ _ _ (line_of c.turn_once.new.conn) c.turn_once.new.inbox) _ 1 c.loop.invariant.turned c.in-Ok-Some.ensures.turned)
 
 pub returns-in-Ok-Some-clause-looks : goal.returns-in-Ok-Some-clause-looks
 returns-in-Ok-Some-clause-looks g c = looks_on _ _ _ c.loop.invariant.looks c.turn_once.ensures.looks
@@ -78,7 +79,7 @@ loop-preserved g c =
       own = one.own;
       free = one.free;
       looks = looks_on _ _ _ was.looks one.looks;
-      turned = turned_on _ _ _ _ _ _ _ _ _ _ _ _ (line_of c.begin.new.self) (line_of c.loop.conn) (line_of c.turn_once.new.conn) c.args.inbox.now c.loop.inbox c.turn_once.new.inbox _ 1 was.turned c.in-Ok-None.ensures.turned;
+      turned = turned_on (connection_at _ _ _ _ (line_of c.begin.new.self) c.args.inbox.now) (connection_at _ _ _ _ (line_of c.loop.conn) c.loop.inbox) (connection_at _ _ _ _ (line_of c.turn_once.new.conn) c.turn_once.new.inbox) _ 1 was.turned c.in-Ok-None.ensures.turned;
       goes = c.in-Ok-None.ensures.goes (cc);
       seen = left.seen;
       agrees = left.agrees;
@@ -92,5 +93,5 @@ loop-preserved g c =
 pub returns-clause-given_up : goal.returns-clause-given_up
 returns-clause-given_up g c =
     given_first _ _ _ _ _ (line_of c.args.conn.now) (line_of c.begin.new.self) _ c.args.inbox.now c.loop.inbox c.begin.ensures.begun
-    (given_whole _ _ _ _ _ _ _ _ _ (line_of c.begin.new.self) (line_of c.loop.conn) c.args.inbox.now c.loop.inbox _ c.loop.invariant.turned
+    (given_whole _ (connection_at _ _ _ _ (line_of c.begin.new.self) c.args.inbox.now) (connection_at _ _ _ _ (line_of c.loop.conn) c.loop.inbox) _ c.loop.invariant.turned
     (λ e. (omega (arith, c.loop-test.false, c.loop.auto.counter-end), c.loop.invariant.goes.unended)) (λ x. cc) (λ n k x. cc))

@@ -7,6 +7,7 @@ use Rattle.conn_steps.specs.Settling.{SameKind}
 use Rattle.conn_steps.specs.Agreeing.{Agrees}
 use Rattle.conn_loop.specs.Conn.{line_of, GoesOn, HasSeen, Looks}
 use Rattle.conn_serve.specs.Turned.{Turned}
+use Rattle.conn_serve.specs.Moments.{connection_at}
 use Rattle.conn_serve.proofs.connection.one_connection.Given as goal
 
 abbrev pub invariant-loop : goal.invariant-loop
@@ -14,8 +15,7 @@ invariant-loop g l = record {
   own : IsPassAt l.gate l.pass;
   free : IsFree l.pass;
   looks : Looks (known l.fn.pass) (known l.pass);
-  turned : Turned (g.L.Link.told l.fn.link) (g.L.Link.told l.link) (g.L.Link.carried l.fn.link) (g.L.Link.carried l.link) (g.K.Sink.taken l.fn.out) (g.K.Sink.taken l.out) (known l.fn.pass).seen (known l.pass).seen
-      (line_of l.initial.conn) (line_of l.conn) l.fn.inbox l.inbox l.counter;
+  turned : Turned (connection_at (g.L.Link.told l.fn.link) (g.L.Link.carried l.fn.link) (g.K.Sink.taken l.fn.out) (known l.fn.pass).seen (line_of l.initial.conn) l.fn.inbox) (connection_at (g.L.Link.told l.link) (g.L.Link.carried l.link) (g.K.Sink.taken l.out) (known l.pass).seen (line_of l.conn) l.inbox) l.counter;
   goes : GoesOn (line_of l.conn).machine;
   seen : HasSeen (line_of l.conn).machine (known l.pass);
   agrees : Agrees (line_of l.conn).machine l.inbox;

@@ -1,24 +1,25 @@
 use Rattle.std.proofs.lemmas.Result.{on_ok_weaker}
 use Rattle.conn_loop.specs.Conn.{line_of}
+use Rattle.conn_serve.specs.Moments.{connection_at}
 use Rattle.conn_serve.proofs.Turning.{turned_once, given_told, given_answer}
 use Rattle.conn_serve.proofs.connection.turn_once.Goals as goal
 
 pub returns-then-is_ok-clause-given_up : goal.returns-then-is_ok-clause-given_up
 returns-then-is_ok-clause-given_up g c =
     let made = c.make_turn-answer.ensures in
-    given_told c.make_turn-answer.result c.in-Err.fault _ _ _ _ _ _ _ _ _ (line_of c.args.conn.now) (line_of c.make_turn-answer.new.conn) c.args.inbox.now c.make_turn-answer.new.inbox _ c.requires.goes.unended made.looks.seen made.whole made.cut
+    given_told c.make_turn-answer.result c.in-Err.fault _ (connection_at _ _ _ _ (line_of c.args.conn.now) c.args.inbox.now) (connection_at _ _ _ _ (line_of c.make_turn-answer.new.conn) c.make_turn-answer.new.inbox) _ c.requires.goes.unended made.looks.seen made.whole made.cut
     c.in-Err.ensures.front c.in-Err.ensures.cause
 
 pub returns-else-is_ok-clause-given_up : goal.returns-else-is_ok-clause-given_up
 returns-else-is_ok-clause-given_up g c =
     let made = c.make_turn-answer.ensures in
-    given_told c.make_turn-answer.result c.in-Err.fault _ _ _ _ _ _ _ _ _ (line_of c.args.conn.now) (line_of c.make_turn-answer.new.conn) c.args.inbox.now c.make_turn-answer.new.inbox _ c.requires.goes.unended made.looks.seen made.whole made.cut
+    given_told c.make_turn-answer.result c.in-Err.fault _ (connection_at _ _ _ _ (line_of c.args.conn.now) c.args.inbox.now) (connection_at _ _ _ _ (line_of c.make_turn-answer.new.conn) c.make_turn-answer.new.inbox) _ c.requires.goes.unended made.looks.seen made.whole made.cut
     c.in-Err.ensures.front c.in-Err.ensures.cause
 
 pub returns-clause-turned : goal.returns-clause-turned
 returns-clause-turned g c =
     on_ok_weaker c.make_turn-answer.result
-    (λ was. turned_once _ _ _ _ _ _ _ _ (line_of c.args.conn.now) (line_of c.make_turn-answer.new.conn) c.args.inbox.now c.make_turn-answer.new.inbox _ c.requires.goes.unended was c.in_default.ensures.told)
+    (λ was. turned_once (connection_at _ _ _ _ (line_of c.args.conn.now) c.args.inbox.now) (connection_at _ _ _ _ (line_of c.make_turn-answer.new.conn) c.make_turn-answer.new.inbox) _ c.requires.goes.unended was c.in_default.ensures.told)
     c.make_turn-answer.ensures.whole
 
 pub returns-clause-given_up : goal.returns-clause-given_up

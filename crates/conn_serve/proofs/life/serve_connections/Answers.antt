@@ -5,6 +5,7 @@ use Rattle.conn_loop.proofs.Working.{looks_self, looks_on}
 use Rattle.conn_serve.specs.Served.{IsRound}
 use Rattle.conn_serve.proofs.Making.{blamed_since}
 use Rattle.conn_serve.proofs.Living.{lived_none, lived_more, over_stopped, over_ok, over_err}
+use Rattle.conn_serve.specs.Moments.{life_at, faults_at}
 use Rattle.conn_serve.proofs.life.serve_connections.Goals as goal
 
 pub loop-number-init : goal.loop-number-init
@@ -23,14 +24,14 @@ loop-number-init g c = record {
 }
 
 pub returns-then-load-clause-served : goal.returns-then-load-clause-served
-returns-then-load-clause-served g c = over_stopped _ _ _ _ _ _ _ _ _ c.args.inbox.now c.loop-number.inbox c.loop-number.invariant.lived
+returns-then-load-clause-served g c = over_stopped _ (life_at _ _ _ c.args.inbox.now) (life_at _ _ _ c.loop-number.inbox) _ _ c.loop-number.invariant.lived
 
 pub returns-in-Some-clause-looks : goal.returns-in-Some-clause-looks
 returns-in-Some-clause-looks g c = looks_on _ _ _ c.loop-number.invariant.looks c.serve_next-answer.ensures.looks
 
 pub returns-in-Some-clause-served : goal.returns-in-Some-clause-served
 returns-in-Some-clause-served g c =
-    over_ok c.in-Some.end _ _ _ _ _ _ _ _ _ _ _ _ _ c.args.inbox.now c.loop-number.inbox c.serve_next-answer.new.inbox c.loop-number.invariant.lived (subst (IsRound _ _ _ _ _ _ _ _ _ c.loop-number.inbox c.serve_next-answer.new.inbox) (c.in-Ok.is ∙ ap Ok c.in-Some.is) c.serve_next-answer.ensures.round)
+    over_ok c.in-Some.end _ (life_at _ _ _ c.args.inbox.now) (life_at _ _ _ c.loop-number.inbox) (life_at _ _ _ c.serve_next-answer.new.inbox) _ _ _ c.loop-number.invariant.lived (subst (IsRound _ (life_at _ _ _ c.loop-number.inbox) (life_at _ _ _ c.serve_next-answer.new.inbox) _ _) (c.in-Ok.is ∙ ap Ok c.in-Some.is) c.serve_next-answer.ensures.round)
 
 pub returns-in-Err-clause-looks : goal.returns-in-Err-clause-looks
 returns-in-Err-clause-looks g c = looks_on _ _ _ c.loop-number.invariant.looks c.serve_next-answer.ensures.looks
@@ -38,12 +39,12 @@ returns-in-Err-clause-looks g c = looks_on _ _ _ c.loop-number.invariant.looks c
 pub returns-in-Err-clause-blamed : goal.returns-in-Err-clause-blamed
 returns-in-Err-clause-blamed g c =
     let was = c.loop-number.invariant in
-    blamed_since _ _ _ _ _ _ (known c.args.pass.now) (known c.loop-number.pass) (known c.serve_next-answer.new.pass) c.args.inbox.now c.loop-number.inbox c.serve_next-answer.new.inbox c.in-Err.fault
+    blamed_since (faults_at _ _ (known c.args.pass.now) c.args.inbox.now) (faults_at _ _ (known c.loop-number.pass) c.loop-number.inbox) (faults_at _ _ (known c.serve_next-answer.new.pass) c.serve_next-answer.new.inbox) c.in-Err.fault
     was.out was.dialer was.looks.faults was.inbox c.serve_next-answer.ensures.never_falls.0 was.kind c.in-Err.ensures.blamed
 
 pub returns-in-Err-clause-served : goal.returns-in-Err-clause-served
 returns-in-Err-clause-served g c =
-    over_err c.in-Err.fault _ _ _ _ _ _ _ _ _ _ _ _ _ c.args.inbox.now c.loop-number.inbox c.serve_next-answer.new.inbox c.loop-number.invariant.lived c.in-Err.ensures.round
+    over_err c.in-Err.fault _ (life_at _ _ _ c.args.inbox.now) (life_at _ _ _ c.loop-number.inbox) (life_at _ _ _ c.serve_next-answer.new.inbox) _ _ _ c.loop-number.invariant.lived c.in-Err.ensures.round
 
 pub loop-number-preserved : goal.loop-number-preserved
 loop-number-preserved g c =
@@ -55,7 +56,7 @@ loop-number-preserved g c =
       looks = looks_on _ _ _ was.looks one.looks;
       may = one.goes (c.in-Ok.is ∙ ap Ok c.in_default.is);
       lent = one.lent;
-      lived = lived_more _ _ _ _ _ _ _ _ _ _ _ _ _ c.args.inbox.now c.loop-number.inbox c.serve_next-answer.new.inbox was.lived (subst (IsRound _ _ _ _ _ _ _ _ _ c.loop-number.inbox c.serve_next-answer.new.inbox) (c.in-Ok.is ∙ ap Ok c.in_default.is) one.round);
+      lived = lived_more _ (life_at _ _ _ c.args.inbox.now) (life_at _ _ _ c.loop-number.inbox) (life_at _ _ _ c.serve_next-answer.new.inbox) _ _ _ was.lived (subst (IsRound _ (life_at _ _ _ c.loop-number.inbox) (life_at _ _ _ c.serve_next-answer.new.inbox) _ _) (c.in-Ok.is ∙ ap Ok c.in_default.is) one.round);
       kind = kind_on c.args.inbox.now c.loop-number.inbox c.serve_next-answer.new.inbox was.inbox one.never_falls.0 was.kind one.kind;
       inbox = omega (arith, was.inbox, one.never_falls.0);
       out = omega (arith, was.out, one.never_falls.1);

@@ -6,6 +6,7 @@ use Rattle.gate_turn.specs.Calls.{IsFree}
 use Rattle.gate_senders.specs.Gate.{IsPassAt}
 use Rattle.conn_steps.specs.Settling.{SameKind}
 use Rattle.conn_loop.specs.Conn.{line_of, Looks}
+use Rattle.conn_serve.specs.Moments.{life_at}
 use Rattle.conn_serve.specs.Turned.{MayBegin}
 use Rattle.conn_serve.proofs.Living.{LivedTo}
 use Rattle.conn_serve.proofs.life.serve_connections.Given as goal
@@ -17,7 +18,8 @@ invariant-loop-number g l = record {
   looks : Looks (known l.fn.pass) (known l.pass);
   may : MayBegin (line_of l.conn).machine (known l.pass) l.inbox;
   lent : g.N.Dialer.lent l.dialer ≡ false;
-  lived : LivedTo l.number (g.N.Dialer.told l.fn.dialer) (g.N.Dialer.told l.dialer) (g.K.Sink.taken l.fn.out) (g.K.Sink.taken l.out) (known l.fn.pass).seen (known l.pass).seen (line_of l.fn.conn).machine (line_of l.conn).machine l.fn.inbox l.inbox;
+  lived : LivedTo l.number (life_at (g.N.Dialer.told l.fn.dialer) (g.K.Sink.taken l.fn.out) (known l.fn.pass).seen l.fn.inbox)
+      (life_at (g.N.Dialer.told l.dialer) (g.K.Sink.taken l.out) (known l.pass).seen l.inbox) (line_of l.fn.conn).machine (line_of l.conn).machine;
   kind : SameKind l.fn.inbox l.inbox;
   inbox : faults_of l.fn.inbox ≤ faults_of l.inbox;
   out : g.K.Sink.faults l.fn.out ≤ g.K.Sink.faults l.out;

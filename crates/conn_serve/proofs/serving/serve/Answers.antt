@@ -3,6 +3,7 @@ use Rattle.gate_turn.specs.Places.{known}
 use Rattle.gate_senders.specs.Gate.{opening_of}
 use Rattle.conn_turns.specs.Lines.{Line}
 use Rattle.conn_serve.specs.declared.answer.ServeFault.TheVariants as faults
+use Rattle.conn_serve.specs.Moments.{faults_at, serving_at}
 use Rattle.conn_serve.proofs.Living.{nothing_served}
 use Rattle.conn_serve.proofs.Opening.{may_open, blamed_none, served_at}
 use Rattle.conn_serve.proofs.Marking.{marked_by, seated_by}
@@ -13,7 +14,7 @@ returns-in_default-clause-served g c = record {
   connections = Err faults.Memory;
   refused = None;
   life = nothing_served _ _ _ _ c.args.inbox.now;
-  blamed = blamed_none _ _ _ _ _ _ c.args.inbox.now c.args.inbox.now;
+  blamed = blamed_none (faults_at _ _ _ c.args.inbox.now) (faults_at _ _ _ c.args.inbox.now);
   senders = inr (refl, refl, refl);
   answer = refl;
 }
@@ -25,12 +26,12 @@ serve_beside-requires-clause-may g c κs within =
 
 pub returns-clause-served : goal.returns-clause-served
 returns-clause-served g c =
-    served_at c.args.gate.now _ _ _ _ _ _ _ _ _ _ _ _ c.args.inbox.now c.serve_beside.new.inbox _ _ _ (ap (λ (l : Line). l.machine) c.in-Ok.ensures) c.serve_beside.ensures.served
+    served_at c.args.gate.now (serving_at _ _ _ _ _ c.args.inbox.now _) (serving_at _ _ _ _ _ c.serve_beside.new.inbox _) _ _ _ (ap (λ (l : Line). l.machine) c.in-Ok.ensures) c.serve_beside.ensures.served
 
 pub returns-clause-marked : goal.returns-clause-marked
 returns-clause-marked g c = λ u many.
-    marked_by c.args.gate.now _ _ _ _ _ _ _ _ _ _ _ c.args.inbox.now c.serve_beside.new.inbox _ _ _ c.serve_beside.ensures.served u many
+    marked_by c.args.gate.now (serving_at _ _ _ _ _ c.args.inbox.now _) (serving_at _ _ _ _ _ c.serve_beside.new.inbox _) _ _ c.serve_beside.ensures.served u many
 
 pub returns-clause-seated : goal.returns-clause-seated
 returns-clause-seated g c = λ made h.
-    seated_by c.args.gate.now _ _ _ _ _ _ _ _ _ _ _ c.args.inbox.now c.serve_beside.new.inbox _ _ _ c.serve_beside.ensures.served made h
+    seated_by c.args.gate.now (serving_at _ _ _ _ _ c.args.inbox.now _) (serving_at _ _ _ _ _ c.serve_beside.new.inbox _) _ _ c.serve_beside.ensures.served made h

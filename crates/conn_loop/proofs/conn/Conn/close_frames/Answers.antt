@@ -1,7 +1,7 @@
 use Rattle.std.proofs.Common.{◌≡◌, ◌∷◌, [], ◌++◌, Bool, sym, ap, ◌∙◌}
 use Rattle.fixp_machine.specs.Machine.{State, turn_done, run}
 use Rattle.conn_turns.specs.Lines.{Line}
-use Rattle.conn_turns.specs.Frames.{broken_at, is_link_over}
+use Rattle.conn_turns.specs.Frames.{unframed_at, is_link_over}
 use Rattle.conn_turns.specs.Turns.{bad_calls, end_calls}
 use Rattle.conn_turns.proofs.Taking.{run_append}
 use Rattle.conn_steps.proofs.Following.{line_is}
@@ -13,7 +13,7 @@ pub returns-clause-closed : goal.returns-clause-closed
 returns-clause-closed c =
     let m = c.args.self.now.end in
     let now = c.args.now in
-    let bad = bad_calls now (broken_at c.args.taken (line_of c.args.self.now)) in
+    let bad = bad_calls now (unframed_at c.args.taken (line_of c.args.self.now)) in
     let over = end_calls (is_link_over (line_of c.args.self.now)) in
     let told = c.tell_bad.ensures.told in
     let ended = c.tell_end.ensures.told in

@@ -3,6 +3,7 @@ use Rattle.fixp_machine.specs.Machine.{State, link_end, run}
 use Rattle.gate_turn.specs.Places.{known}
 use Rattle.conn_turns.specs.Lines.{Line}
 use Rattle.conn_loop.specs.Conn.{line_of, KeepsAll}
+use Rattle.conn_loop.specs.Live.{live_end}
 use Rattle.conn_loop.specs.Moving.{IsLossOf}
 use Rattle.conn_loop.proofs.Exchanging.{did_work, cut_turn, on_ok_any, loss_cut, loss_ends, loss_answer, loss_goes, goes_after, leaves_of}
 use Rattle.conn_loop.proofs.conn.Conn.exchange.Goals as goal
@@ -45,12 +46,12 @@ returns-in-Err-clause-cut g c = λ _.
 pub returns-clause-did : goal.returns-clause-did
 returns-clause-did g c =
     on_ok_any _ c.send.result
-    (inl (did_work c.args.now _ _ _ _ _ _ _ _ _ (line_of c.args.self.now) (line_of c.receive.new.self) (line_of c.work.new.self) (line_of c.send.new.self) c.send.result _ c.args.inbox.now c.work.new.inbox _ _
+    (inl (did_work c.args.now _ (live_end _ _ _ (line_of c.args.self.now) c.args.inbox.now _) (live_end _ _ _ (line_of c.send.new.self) c.work.new.inbox _) _ _ (line_of c.receive.new.self) (line_of c.work.new.self) c.send.result _
     c.in-Ok.ensures.received c.in_default-work.ensures.served c.send.ensures.sent))
 
 pub returns-clause-lost : goal.returns-clause-lost
 returns-clause-lost g c = λ _.
-    inl (did_work c.args.now _ _ _ _ _ _ _ _ _ (line_of c.args.self.now) (line_of c.receive.new.self) (line_of c.work.new.self) (line_of c.send.new.self) c.send.result _ c.args.inbox.now c.work.new.inbox _ _
+    inl (did_work c.args.now _ (live_end _ _ _ (line_of c.args.self.now) c.args.inbox.now _) (live_end _ _ _ (line_of c.send.new.self) c.work.new.inbox _) _ _ (line_of c.receive.new.self) (line_of c.work.new.self) c.send.result _
     c.in-Ok.ensures.received c.in_default-work.ensures.served c.send.ensures.sent)
 
 pub returns-clause-cut : goal.returns-clause-cut

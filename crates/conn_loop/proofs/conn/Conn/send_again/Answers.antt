@@ -6,57 +6,49 @@ use Rattle.fixp_msgs.specs.declared.numbering.Range.{Range}
 use Rattle.fixp_shake.specs.declared.config.EndConfig.{EndConfig}
 use Rattle.fixp_replies.specs.declared.facts.EndState.{EndState}
 use Rattle.fixp_end.specs.Sending.{AreFrom, payloads_of}
-use Rattle.fixp_machine.specs.Machine.{State, payload_frames, sent_again, run}
+use Rattle.fixp_end.proofs.Frames.{frames_fit}
+use Rattle.fixp_machine.specs.Machine.{State, sent_again, run}
 use Rattle.gate_turn.specs.Places.{known}
 use Rattle.conn_turns.specs.Turns.{again_calls, served_of}
 use Rattle.conn_steps.proofs.Following.{line_is}
-use Rattle.conn_loop.proofs.Entries.{payloads_fetched, numbers_fetched, length_fetched, length_payloads}
+use Rattle.conn_loop.proofs.Entries.{sized, payloads_fetched, numbers_fetched, length_fetched, length_payloads}
 use Rattle.conn_loop.proofs.Machine.{again_is, served_some, seen_on, rest_none}
 use Rattle.conn_loop.proofs.conn.Conn.send_again.Goals as goal
-
-pub frames_size-requires : goal.frames_size-requires
-frames_size-requires g c =
-    let h = (known c.fetch.new.pass).seen in
-    let e = c.as_slice.ensures.value ∙ c.in-Ok.ensures.given in
-    omega (arith, ap (λ (es : List Numbered). length es) e, length_fetched h c.in-Some.range.from c.in-Some.range.count, c.in-Some.ensures.sent.few)
 
 pub send_again-requires-clause-front : goal.send_again-requires-clause-front
 send_again-requires-clause-front g c =
     let h = (known c.fetch.new.pass).seen in
-    let e = c.as_slice-in-Ok.ensures.value ∙ c.in-Ok.ensures.given in
+    let e = c.as_slice.ensures.value ∙ c.in-Ok.ensures.given in
     let serving = sym c.serving.ensures.value ∙ c.in-Some.is in
-    subst (λ (o : Option Range). IfSome o (λ r. AreFrom r.from c.as_slice-in-Ok.result.now)) (sym serving)
+    subst (λ (o : Option Range). IfSome o (λ r. AreFrom r.from c.as_slice.result.now)) (sym serving)
     (subst (λ (es : List Numbered). AreFrom c.in-Some.range.from es) (sym e) (numbers_fetched h c.in-Some.range.from c.in-Some.range.count))
 
 pub send_again-requires-clause-within : goal.send_again-requires-clause-within
 send_again-requires-clause-within g c =
     let h = (known c.fetch.new.pass).seen in
-    let e = c.as_slice-in-Ok.ensures.value ∙ c.in-Ok.ensures.given in
+    let e = c.as_slice.ensures.value ∙ c.in-Ok.ensures.given in
     let serving = sym c.serving.ensures.value ∙ c.in-Some.is in
-    subst (λ (o : Option Range). IfSome o (λ r. length c.as_slice-in-Ok.result.now ≤ r.count)) (sym serving)
+    subst (λ (o : Option Range). IfSome o (λ r. length c.as_slice.result.now ≤ r.count)) (sym serving)
     (omega (arith, ap (λ (es : List Numbered). length es) e, length_fetched h c.in-Some.range.from c.in-Some.range.count))
 
 pub send_again-requires-clause-ranged : goal.send_again-requires-clause-ranged
 send_again-requires-clause-ranged g c =
     let h = (known c.fetch.new.pass).seen in
-    let e = c.as_slice-in-Ok.ensures.value ∙ c.in-Ok.ensures.given in
+    let e = c.as_slice.ensures.value ∙ c.in-Ok.ensures.given in
     let serving = sym c.serving.ensures.value ∙ c.in-Some.is in
-    subst (λ (o : Option Range). IfSome o (λ r. r.from + length c.as_slice-in-Ok.result.now < 18446744073709551616)) (sym serving)
+    subst (λ (o : Option Range). IfSome o (λ r. r.from + length c.as_slice.result.now < 18446744073709551616)) (sym serving)
     (omega (arith, ap (λ (es : List Numbered). length es) e, length_fetched h c.in-Some.range.from c.in-Some.range.count, c.in-Some.ensures.sent.last, c.requires.serve.sent))
 
 pub send_again-requires-clause-output : goal.send_again-requires-clause-output
 send_again-requires-clause-output g c =
     let h = (known c.fetch.new.pass).seen in
     let e = c.as_slice.ensures.value ∙ c.in-Ok.ensures.given in
-    let same = c.as_slice-in-Ok.ensures.value ∙ sym c.as_slice.ensures.value in
     omega (
       arith,
       ap (λ (es : List Numbered). length es) e,
-      ap (λ (es : List Numbered). length (payload_frames (payloads_of es))) same,
       length_fetched h c.in-Some.range.from c.in-Some.range.count,
       c.in-Some.ensures.sent.few,
-      c.frames_size.ensures.exact,
-      c.frames_size.ensures.small,
+      frames_fit c.as_slice.result.now (sized c.as_slice.ensures.value c.in-Ok.ensures.sizes),
       c.requires.serve.little,
     )
 
@@ -66,7 +58,7 @@ returns-in-Ok-clause-again g c =
     let h = (known c.fetch.new.pass).seen in
     let from = c.in-Some.range.from in
     let count = c.in-Some.range.count in
-    let e = c.as_slice-in-Ok.ensures.value ∙ c.in-Ok.ensures.given in
+    let e = c.as_slice.ensures.value ∙ c.in-Ok.ensures.given in
     let serving = sym c.serving.ensures.value ∙ c.in-Some.is in
     let goes : is_some m.ending ≡ false = cc in
     line_is _ _
@@ -80,10 +72,9 @@ returns-in-Ok-clause-serve g c =
     let n = c.send_again.new.self in
     let h = (known c.fetch.new.pass).seen in
     let e = c.as_slice.ensures.value ∙ c.in-Ok.ensures.given in
-    let same = c.as_slice-in-Ok.ensures.value ∙ sym c.as_slice.ensures.value in
     let serving = sym c.serving.ensures.value ∙ c.in-Some.is in
-    let exact : n ≡ sent_again m c.in-Some.range (payloads_of c.as_slice-in-Ok.result.now) c.args.now
-    = subst (λ (o : Option Range). IfSome o (λ r. n ≡ sent_again m r (payloads_of c.as_slice-in-Ok.result.now) c.args.now)) serving c.send_again.ensures.again in
+    let exact : n ≡ sent_again m c.in-Some.range (payloads_of c.as_slice.result.now) c.args.now
+    = subst (λ (o : Option Range). IfSome o (λ r. n ≡ sent_again m r (payloads_of c.as_slice.result.now) c.args.now)) serving c.send_again.ensures.again in
     let stays = c.send_again.ensures.stays in
     let recorded = c.send_again.ensures.recorded in
     let sent = ap (λ (r : EndState). r.sent) recorded in
@@ -95,11 +86,9 @@ returns-in-Ok-clause-serve g c =
       little = omega (
         arith,
         ap (λ (es : List Numbered). length es) e,
-        ap (λ (es : List Numbered). length (payload_frames (payloads_of es))) same,
         length_fetched h c.in-Some.range.from c.in-Some.range.count,
         c.in-Some.ensures.sent.few,
-        c.frames_size.ensures.exact,
-        c.frames_size.ensures.small,
+        frames_fit c.as_slice.result.now (sized c.as_slice.ensures.value c.in-Ok.ensures.sizes),
         c.requires.serve.little,
         c.send_again.ensures.small,
       );
@@ -113,15 +102,15 @@ returns-in-Ok-clause-unserved g c = λ _.
     let m = c.args.self.now.end in
     let n = c.send_again.new.self in
     let h = (known c.fetch.new.pass).seen in
-    let e = c.as_slice-in-Ok.ensures.value ∙ c.in-Ok.ensures.given in
+    let e = c.as_slice.ensures.value ∙ c.in-Ok.ensures.given in
     let serving = sym c.serving.ensures.value ∙ c.in-Some.is in
-    let exact : n ≡ sent_again m c.in-Some.range (payloads_of c.as_slice-in-Ok.result.now) c.args.now
-    = subst (λ (o : Option Range). IfSome o (λ r. n ≡ sent_again m r (payloads_of c.as_slice-in-Ok.result.now) c.args.now)) serving c.send_again.ensures.again in
+    let exact : n ≡ sent_again m c.in-Some.range (payloads_of c.as_slice.result.now) c.args.now
+    = subst (λ (o : Option Range). IfSome o (λ r. n ≡ sent_again m r (payloads_of c.as_slice.result.now) c.args.now)) serving c.send_again.ensures.again in
     ap (λ (s : State). s.facts.connection.serving) exact
-    ∙ rest_none c.in-Some.range (length (payloads_of c.as_slice-in-Ok.result.now))
+    ∙ rest_none c.in-Some.range (length (payloads_of c.as_slice.result.now))
     (omega (
       arith,
-      length_payloads c.as_slice-in-Ok.result.now,
+      length_payloads c.as_slice.result.now,
       ap (λ (es : List Numbered). length es) e,
       length_fetched h c.in-Some.range.from c.in-Some.range.count,
       c.in-Some.ensures.sent.first,

@@ -2,11 +2,12 @@ use Rattle.std.proofs.Common.{◌≡◌, ◌+◌, ℕ, Bool, List, length, Optio
 use Rattle.session_model.specs.Inbox.{Numbered}
 use Rattle.session_model.proofs.Lists.{prefix_length}
 use Rattle.fixp_end.specs.Sending.{AreFrom, payloads_of}
-use Rattle.fixp_machine.specs.Machine.{State, payload_frames, sent_live, run}
+use Rattle.fixp_end.proofs.Frames.{frames_fit}
+use Rattle.fixp_machine.specs.Machine.{State, sent_live, run}
 use Rattle.gate_turn.specs.Places.{known}
 use Rattle.conn_turns.specs.Turns.{live_calls, payloads_from, sends_live}
 use Rattle.conn_steps.proofs.Following.{line_is}
-use Rattle.conn_loop.proofs.Entries.{payloads_fetched, numbers_fetched, length_fetched, length_payloads, few_last}
+use Rattle.conn_loop.proofs.Entries.{sized, payloads_fetched, numbers_fetched, length_fetched, length_payloads, few_last}
 use Rattle.conn_loop.proofs.Machine.{seen_on}
 use Rattle.conn_loop.proofs.conn.Conn.send_live.Goals as goal
 
@@ -14,19 +15,30 @@ pub send_live-requires-clause-last : goal.send_live-requires-clause-last
 send_live-requires-clause-last g c =
     let h = (known c.fetch.new.pass).seen in
     let from = c.sent.result + 1 in
-    let e = c.as_slice-in-Ok.ensures.value ∙ c.in-Ok.ensures.given in
-    let same = c.as_slice-in-Ok-2.ensures.value ∙ sym c.as_slice-in-Ok.ensures.value in
+    let e = c.as_slice.ensures.value ∙ c.in-Ok.ensures.given in
+    let same = c.as_slice-in-Ok.ensures.value ∙ sym c.as_slice.ensures.value in
     let last = c.last_number.ensures.last from (subst (λ (es : List Numbered). AreFrom from es) (sym e) (numbers_fetched h from 16)) in
-    let few = few_last c.sent.result (length c.as_slice-in-Ok.result.now) c.last_number.result (omega (arith, c.sent.ensures, c.requires.serve.sent)) c.last_number.ensures.few last in
+    let few = few_last c.sent.result (length c.as_slice.result.now) c.last_number.result (omega (arith, c.sent.ensures, c.requires.serve.sent)) c.last_number.ensures.few last in
     omega (arith, few, c.sent.ensures, ap (λ (es : List Numbered). length es) same)
+
+pub send_live-requires-clause-output : goal.send_live-requires-clause-output
+send_live-requires-clause-output g c =
+    let e = c.as_slice-in-Ok.ensures.value ∙ c.in-Ok.ensures.given in
+    omega (
+      arith,
+      ap (λ (es : List Numbered). length es) e,
+      length_fetched (known c.fetch.new.pass).seen (c.sent.result + 1) 16,
+      frames_fit c.as_slice-in-Ok.result.now (sized c.as_slice-in-Ok.ensures.value c.in-Ok.ensures.sizes),
+      c.requires.serve.little,
+    )
 
 pub returns-in-Ok-clause-live : goal.returns-in-Ok-clause-live
 returns-in-Ok-clause-live g c =
     let m = c.args.self.now.end in
     let h = (known c.fetch.new.pass).seen in
-    let e = c.as_slice-in-Ok-2.ensures.value ∙ c.in-Ok.ensures.given in
+    let e = c.as_slice-in-Ok.ensures.value ∙ c.in-Ok.ensures.given in
     let sends : sends_live m ≡ true = cc in
-    let pays : payloads_of c.as_slice-in-Ok-2.result.now ≡ payloads_from h (m.facts.recorded.sent + 1) 16
+    let pays : payloads_of c.as_slice-in-Ok.result.now ≡ payloads_from h (m.facts.recorded.sent + 1) 16
     = ap payloads_of e ∙ (payloads_fetched h (c.sent.result + 1) 16 ∙ ap (λ (n : ℕ). payloads_from h (n + 1) 16) c.sent.ensures) in
     let found : Option (List (List ℕ)) = Some (payloads_from h (m.facts.recorded.sent + 1) 16) in
     line_is _ _
@@ -39,17 +51,16 @@ returns-in-Ok-clause-serve g c =
     let m = c.args.self.now.end in
     let n = c.send_live.new.self in
     let h = (known c.fetch.new.pass).seen in
-    let e = c.as_slice-in-Ok-2.ensures.value ∙ c.in-Ok.ensures.given in
-    let first = c.as_slice.ensures.value ∙ c.in-Ok.ensures.given in
+    let e = c.as_slice-in-Ok.ensures.value ∙ c.in-Ok.ensures.given in
     let live = c.send_live.ensures.live in
     let many = length_fetched h (c.sent.result + 1) 16 in
-    let pays = length_payloads c.as_slice-in-Ok-2.result.now in
+    let pays = length_payloads c.as_slice-in-Ok.result.now in
     let sent = ap (λ (s : State). s.facts.recorded.sent) live in
     let from = c.sent.result + 1 in
-    let given = c.as_slice-in-Ok.ensures.value ∙ c.in-Ok.ensures.given in
-    let again = c.as_slice-in-Ok-2.ensures.value ∙ sym c.as_slice-in-Ok.ensures.value in
+    let given = c.as_slice.ensures.value ∙ c.in-Ok.ensures.given in
+    let again = c.as_slice-in-Ok.ensures.value ∙ sym c.as_slice.ensures.value in
     let last = c.last_number.ensures.last from (subst (λ (es : List Numbered). AreFrom from es) (sym given) (numbers_fetched h from 16)) in
-    let few = few_last c.sent.result (length c.as_slice-in-Ok.result.now) c.last_number.result (omega (arith, c.sent.ensures, c.requires.serve.sent)) c.last_number.ensures.few last in
+    let few = few_last c.sent.result (length c.as_slice.result.now) c.last_number.result (omega (arith, c.sent.ensures, c.requires.serve.sent)) c.last_number.ensures.few last in
     record {
       begun = ap (λ (s : State). s.begun) live ∙ c.requires.serve.begun;
       done = ap (λ (s : State). s.pending) live ∙ c.requires.serve.done;
@@ -57,11 +68,9 @@ returns-in-Ok-clause-serve g c =
       credentials = omega (arith, ap (λ (s : State). length s.config.credentials) live, c.requires.serve.credentials);
       little = omega (
         arith,
-        ap (λ (es : List Numbered). length es) first,
-        ap (λ (es : List Numbered). length (payload_frames (payloads_of es))) (e ∙ sym first),
+        ap (λ (es : List Numbered). length es) e,
         many,
-        c.frames_size.ensures.exact,
-        c.frames_size.ensures.small,
+        frames_fit c.as_slice-in-Ok.result.now (sized c.as_slice-in-Ok.ensures.value c.in-Ok.ensures.sizes),
         c.requires.serve.little,
         c.send_live.ensures.small,
       );

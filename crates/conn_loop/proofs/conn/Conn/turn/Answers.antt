@@ -1,10 +1,11 @@
-use Rattle.std.proofs.Common.{length, refl, ap, arith}
+use Rattle.std.proofs.Common.{[], length, refl, ap, arith}
 use Rattle.std.proofs.lemmas.Result.{on_ok_weaker}
 use Rattle.fixp_shake.specs.declared.config.EndConfig.{EndConfig}
 use Rattle.fixp_replies.specs.declared.facts.Facts.{Facts}
 use Rattle.gate_turn.specs.Places.{known}
 use Rattle.conn_turns.specs.declared.answer.TurnFault.TheVariants as faults
 use Rattle.conn_loop.specs.Conn.{line_of}
+use Rattle.conn_loop.specs.Live.{live_end}
 use Rattle.conn_loop.proofs.Working.{seen_same}
 use Rattle.conn_loop.proofs.Exchanging.{on_ok_any, loss_cut, loss_ends, loss_answer, loss_goes, goes_still, agrees_same, leaves_of, only_sent, did_more, cut_as, cut_none}
 use Rattle.conn_loop.proofs.conn.Conn.turn.Goals as goal
@@ -15,13 +16,13 @@ returns-in_default-clause-cut g c = λ _. cut_none _ _ c.args.inbox.now _ faults
 pub returns-then-not-works-clause-did : goal.returns-then-not-works-clause-did
 returns-then-not-works-clause-did g c =
     on_ok_any _ c.send.result
-    (only_sent c.moment-now.result _ _ _ _ _ _ _ (line_of c.args.self.now) (line_of c.start.new.self) (line_of c.send.new.self) c.send.result c.args.inbox.now _ c.moment-now.ensures.now c.in-Ok.ensures.ticked
-    (c.in-Ok.ensures.why (cc)) c.send.ensures.sent c.clear.ensures)
+    (only_sent c.moment-now.result _ _ (live_end _ _ _ (line_of c.args.self.now) c.args.inbox.now []) (live_end _ _ _ (line_of c.send.new.self) c.args.inbox.now _) (line_of c.start.new.self) c.send.result c.moment-now.ensures.now c.in-Ok.ensures.ticked
+    (c.in-Ok.ensures.why (cc)) c.send.ensures.sent refl c.clear.ensures refl)
 
 pub returns-then-not-works-clause-lost : goal.returns-then-not-works-clause-lost
 returns-then-not-works-clause-lost g c = λ _.
-    only_sent c.moment-now.result _ _ _ _ _ _ _ (line_of c.args.self.now) (line_of c.start.new.self) (line_of c.send.new.self) c.send.result c.args.inbox.now _ c.moment-now.ensures.now c.in-Ok.ensures.ticked
-    (c.in-Ok.ensures.why (cc)) c.send.ensures.sent c.clear.ensures
+    only_sent c.moment-now.result _ _ (live_end _ _ _ (line_of c.args.self.now) c.args.inbox.now []) (live_end _ _ _ (line_of c.send.new.self) c.args.inbox.now _) (line_of c.start.new.self) c.send.result c.moment-now.ensures.now c.in-Ok.ensures.ticked
+    (c.in-Ok.ensures.why (cc)) c.send.ensures.sent refl c.clear.ensures refl
 
 pub returns-then-not-works-clause-cut : goal.returns-then-not-works-clause-cut
 returns-then-not-works-clause-cut g c = loss_cut c.start.new.self.end c.send.new.self.end c.send.result _ c.send.ensures.answer
@@ -32,13 +33,13 @@ returns-then-not-works-clause-answer g c = loss_answer c.start.new.self.end c.se
 pub returns-clause-did : goal.returns-clause-did
 returns-clause-did g c =
     on_ok_weaker c.exchange.result
-    (did_more c.moment-now.result _ _ _ _ _ _ _ _ (line_of c.args.self.now) (line_of c.start.new.self) (line_of c.exchange.new.self) c.exchange.result c.args.inbox.now c.exchange.new.inbox _ _ c.moment-now.ensures.now
+    (did_more c.moment-now.result _ _ (live_end _ _ _ (line_of c.args.self.now) c.args.inbox.now []) (live_end _ _ _ (line_of c.exchange.new.self) c.exchange.new.inbox _) (line_of c.start.new.self) _ c.exchange.result c.moment-now.ensures.now
     c.in-Ok.ensures.ticked (c.in-Ok.ensures.idle (cc)) (c.in-Ok.ensures.unended (cc)) c.clear.ensures)
     c.exchange.ensures.did
 
 pub returns-clause-lost : goal.returns-clause-lost
 returns-clause-lost g c = λ e.
-    did_more c.moment-now.result _ _ _ _ _ _ _ _ (line_of c.args.self.now) (line_of c.start.new.self) (line_of c.exchange.new.self) c.exchange.result c.args.inbox.now c.exchange.new.inbox _ _ c.moment-now.ensures.now
+    did_more c.moment-now.result _ _ (live_end _ _ _ (line_of c.args.self.now) c.args.inbox.now []) (live_end _ _ _ (line_of c.exchange.new.self) c.exchange.new.inbox _) (line_of c.start.new.self) _ c.exchange.result c.moment-now.ensures.now
     c.in-Ok.ensures.ticked (c.in-Ok.ensures.idle (cc)) (c.in-Ok.ensures.unended (cc)) c.clear.ensures (c.exchange.ensures.lost e)
 
 pub returns-clause-cut : goal.returns-clause-cut

@@ -1,0 +1,90 @@
+-- What a connection, a life and what is around them are at a moment (this project's profile).
+use Rattle.std.specs.Prelude.{ℕ, List, Option}
+use Rattle.session_model.specs.Journal.{History}
+use Rattle.gw_links.specs.Links.{LinkTold, Carried}
+use Rattle.gw_links.specs.Dialers.{DialerTold}
+use Rattle.jr_record.specs.declared.journal.Journal.{Ghosts}
+use Rattle.jr_boxes.specs.declared.inbox.Inbox.{Inbox}
+use Rattle.gate_turn.specs.Views.{Part}
+use Rattle.gate_plans.specs.declared.sender.Sender.{Sender}
+use Rattle.conn_turns.specs.Lines.{Line}
+
+-- a connection between its turns: what its link tells, and tells that it had carried; what OUT tells that it took; what its pass has
+-- seen of the outbox; its line; and the inbox
+pub record ConnectionAt (J : Type 0) (G : Ghosts J) : Type 0 where
+  pub told : Option LinkTold
+  pub carried : Option Carried
+  pub out : Option (List ℕ)
+  pub seen : History
+  pub line : Line
+  pub box : Inbox J G
+
+-- a life between its connections: what its dialer tells; what OUT tells that it took; what its pass has seen of the outbox; and the
+-- inbox
+pub record LifeAt (J : Type 0) (G : Ghosts J) : Type 0 where
+  pub dialed : Option DialerTold
+  pub out : Option (List ℕ)
+  pub seen : History
+  pub box : Inbox J G
+
+-- what a life changes beside its outbox: what its dialer tells, what OUT tells that it took, and the inbox
+pub record Beside (J : Type 0) (G : Ghosts J) : Type 0 where
+  pub dialed : Option DialerTold
+  pub out : Option (List ℕ)
+  pub box : Inbox J G
+
+-- what shows whether something failed: the counts of the faults of OUT and of the dialer, what the pass knows, and the inbox
+pub record FaultsAt (J : Type 0) (G : Ghosts J) : Type 0 where
+  pub out : ℕ
+  pub dialer : ℕ
+  pub pass : Part
+  pub box : Inbox J G
+
+-- a whole life with its senders: what its dialer tells, and what OUT tells that it took; the counts of the faults of both; what its
+-- pass knows; the inbox; and the senders
+pub record ServingAt (J : Type 0) (G : Ghosts J) (O : Type 0) (H : Ghosts O) : Type 0 where
+  pub dialed : Option DialerTold
+  pub out : Option (List ℕ)
+  pub out_faults : ℕ
+  pub dialer_faults : ℕ
+  pub pass : Part
+  pub box : Inbox J G
+  pub senders : List (Sender O H)
+
+module _ {J : Type 0} {G : Ghosts J} where
+  abbrev pub connection_at : Option LinkTold → Option Carried → (out : Option (List ℕ)) → History → Line → Inbox J G → ConnectionAt J G
+  connection_at told carried out seen line box = record { told = told; carried = carried; out = out; seen = seen; line = line; box = box }
+
+  abbrev pub life_at : Option DialerTold → (out : Option (List ℕ)) → History → Inbox J G → LifeAt J G
+  life_at dialed out seen box = record { dialed = dialed; out = out; seen = seen; box = box }
+
+  abbrev pub beside : Option DialerTold → (out : Option (List ℕ)) → Inbox J G → Beside J G
+  beside dialed out box = record { dialed = dialed; out = out; box = box }
+
+  abbrev pub faults_at : (out dialer : ℕ) → Part → Inbox J G → FaultsAt J G
+  faults_at out dialer pass box = record { out = out; dialer = dialer; pass = pass; box = box }
+
+  -- a life is this where its pass has seen so much of the outbox
+  abbrev pub with_seen : Beside J G → History → LifeAt J G
+  with_seen b seen = life_at b.dialed b.out seen b.box
+
+module _ {J : Type 0} {G : Ghosts J} {O : Type 0} {H : Ghosts O} where
+  abbrev pub serving_at : Option DialerTold → (out : Option (List ℕ)) → (out_faults dialer_faults : ℕ) → Part → Inbox J G → List (Sender O H)
+      → ServingAt J G O H
+  serving_at dialed out out_faults dialer_faults pass box senders = record {
+    dialed = dialed;
+    out = out;
+    out_faults = out_faults;
+    dialer_faults = dialer_faults;
+    pass = pass;
+    box = box;
+    senders = senders;
+  }
+
+  -- what its connections see of it
+  abbrev pub life_in : ServingAt J G O H → LifeAt J G
+  life_in s = life_at s.dialed s.out s.pass.seen s.box
+
+  -- what of it shows whether something failed
+  abbrev pub faults_in : ServingAt J G O H → FaultsAt J G
+  faults_in s = faults_at s.out_faults s.dialer_faults s.pass s.box
