@@ -35,7 +35,7 @@ pub fn answer<R: Wait, S: Source, K: Sink, D: Disk>(
     ensures cause { IsCaused (faults_of S.faults K.faults D.faults outside.old) (faults_of S.faults K.faults D.faults outside.new) result }
     ensures ends { IsOfStreams result }
 {
-    match read_config::<S, Settings>(alloc, &mut outside.config) {
+    match read_config::<S, Settings>(alloc, (), &mut outside.config) {
         Ok(settings) => converse(
             rt,
             alloc,

@@ -14,11 +14,11 @@ pub record Counts : Type 0 where
   pub out_disk : ℕ
   pub in_disk : ℕ
 
--- those of a conversation, which touches neither CONFIG nor a disk
+-- the counts of faults of a conversation, which touches neither CONFIG nor a disk
 abbrev pub conversation_counts : ℕ → ℕ → ℕ → Counts
 conversation_counts input wire out = record { config = 0; input = input; wire = wire; out = out; out_disk = 0; in_disk = 0 }
 
--- those of the disks, where nothing else is touched
+-- the counts of faults of the disks, where nothing else is touched
 abbrev pub disk_counts : ℕ → ℕ → Counts
 disk_counts out_disk in_disk = record { config = 0; input = 0; wire = 0; out = 0; out_disk = out_disk; in_disk = in_disk }
 

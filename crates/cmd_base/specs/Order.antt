@@ -56,4 +56,5 @@ pub record StopsAtConfig {S K D : Type 0} (faults : S → ℕ) (before after : O
 
 -- an input failed: CONFIG, and then nothing behind it was touched, or INPUT
 abbrev pub FailsInOrder : {S K D : Type 0} → (S → ℕ) → Outside S K D → Outside S K D → Type 0
-FailsInOrder faults before after = (HasRisen (faults before.config) (faults after.config) × KeepsBehindConfig before after) ⊎ HasRisen (faults before.input) (faults after.input)
+FailsInOrder faults before after = (HasRisen (faults before.config) (faults after.config) × KeepsBehindConfig before after)
+    ⊎ HasRisen (faults before.input) (faults after.input)

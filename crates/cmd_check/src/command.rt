@@ -28,7 +28,7 @@ pub fn check<S: Source, K: Sink, D: Disk>(alloc: Global, outside: &mut Outside<S
     ensures cause { IsCaused (faults_of S.faults K.faults D.faults outside.old) (faults_of S.faults K.faults D.faults outside.new) result }
     ensures ends { IsOfStreams result }
 {
-    match read_config::<S, Checked>(alloc, &mut outside.config) {
+    match read_config::<S, Checked>(alloc, (), &mut outside.config) {
         Ok(schema) => print_layout(alloc, &schema, &mut outside.out),
         Err(status) => status,
     }

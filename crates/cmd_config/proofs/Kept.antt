@@ -4,14 +4,14 @@ use Rattle.toml.specs.Data.{Data, get}
 use Rattle.fixp_msgs.specs.declared.flow.Flow.{Flow}
 use Rattle.toml_walk.specs.declared.fault.TomlFault.{TomlFault}
 use Rattle.toml_walk.specs.Reading.{Read, Reads, ◌>>=◌}
-use Rattle.cmd_config.specs.declared.configuration.Role.{Role}
+use Rattle.cmd_config.specs.declared.purpose.Purpose.{Purpose}
 use Rattle.cmd_config.specs.declared.configuration.Link.{Link}
 use Rattle.cmd_config.specs.declared.configuration.Trade.{Trade}
 use Rattle.cmd_config.specs.declared.configuration.Configuration.{Configuration}
 use Rattle.std.proofs.lemmas.Bool.{false≢true}
 use Rattle.toml_walk.specs.Keys.{required, get_or_default, deny_unknown_keys}
 use Rattle.toml_walk.specs.Values.{natural_of}
-use Rattle.cmd_config.specs.Settings.{session_of, flow_of, credentials_of, known_keys, ensure_in_range, allows_client, allows_server, allows_senders, allows_desks, desks_are_built, own_flow, is_none, is_accept, link_of, trade_of, configuration_of}
+use Rattle.cmd_config.specs.Settings.{session_of, flow_of, credentials_of, known_keys, ensure_in_range, allows_client, allows_server, allows_senders, allows_desks, desks_are_built, role_of, own_flow, is_none, is_accept, link_of, trade_of, configuration_of}
 use Rattle.cmd_config.specs.Laws.{KeepsRole, ConfigurationsKeepTheRole}
 
 -- a check that passed, and what stands behind it
@@ -25,38 +25,38 @@ abbrev link_end : List ℕ → ℕ → Flow → Flow → Read (List ℕ) → Rea
 link_end session keepalive client server credentials =
     credentials >>= λ bytes. Ok (record { session = session; keepalive = keepalive; client_flow = client; server_flow = server; credentials = bytes })
 
-abbrev link_from_server : Role → List ℕ → ℕ → Flow → Read Flow → Read (List ℕ) → Read Link
-link_from_server role session keepalive client server credentials =
-    server >>= λ flow. ensure_in_range (codes "server_flow") (allows_server role flow) >>= λ _. link_end session keepalive client flow credentials
+abbrev link_from_server : Purpose → List ℕ → ℕ → Flow → Read Flow → Read (List ℕ) → Read Link
+link_from_server purpose session keepalive client server credentials =
+    server >>= λ flow. ensure_in_range (codes "server_flow") (allows_server purpose flow) >>= λ _. link_end session keepalive client flow credentials
 
-abbrev LinkKept : Role → Link → Type 0
-LinkKept role link = (allows_client role link.client_flow ≡ true) × (allows_server role link.server_flow ≡ true)
+abbrev LinkKept : Purpose → Link → Type 0
+LinkKept purpose link = (allows_client purpose link.client_flow ≡ true) × (allows_server purpose link.server_flow ≡ true)
 
-end_kept : (role : Role) (session : List ℕ) (keepalive : ℕ) (client server : Flow) (credentials : Read (List ℕ)) (link : Link) → allows_client role client ≡ true → allows_server role server ≡ true → link_end session keepalive client server credentials ≡ Ok link → LinkKept role link
-end_kept role session keepalive client server (Ok bytes) link c s e =
+end_kept : (purpose : Purpose) (session : List ℕ) (keepalive : ℕ) (client server : Flow) (credentials : Read (List ℕ)) (link : Link) → allows_client purpose client ≡ true → allows_server purpose server ≡ true → link_end session keepalive client server credentials ≡ Ok link → LinkKept purpose link
+end_kept purpose session keepalive client server (Ok bytes) link c s e =
     let built : Link = record { session = session; keepalive = keepalive; client_flow = client; server_flow = server; credentials = bytes } in
     let same : built ≡ link = cc in
-    subst (LinkKept role) same (c, s)
-end_kept role session keepalive client server (Err fault) link c s e = absurd cc
+    subst (LinkKept purpose) same (c, s)
+end_kept purpose session keepalive client server (Err fault) link c s e = absurd cc
 
-server_kept : (role : Role) (session : List ℕ) (keepalive : ℕ) (client : Flow) (server : Read Flow) (credentials : Read (List ℕ)) (link : Link) → allows_client role client ≡ true → link_from_server role session keepalive client server credentials ≡ Ok link → LinkKept role link
-server_kept role session keepalive client (Ok flow) credentials link c e =
-    let two = met (codes "server_flow") (allows_server role flow) (link_end session keepalive client flow credentials) link e in
-    end_kept role session keepalive client flow credentials link c two.0 two.1
-server_kept role session keepalive client (Err fault) credentials link c e = absurd cc
+server_kept : (purpose : Purpose) (session : List ℕ) (keepalive : ℕ) (client : Flow) (server : Read Flow) (credentials : Read (List ℕ)) (link : Link) → allows_client purpose client ≡ true → link_from_server purpose session keepalive client server credentials ≡ Ok link → LinkKept purpose link
+server_kept purpose session keepalive client (Ok flow) credentials link c e =
+    let two = met (codes "server_flow") (allows_server purpose flow) (link_end session keepalive client flow credentials) link e in
+    end_kept purpose session keepalive client flow credentials link c two.0 two.1
+server_kept purpose session keepalive client (Err fault) credentials link c e = absurd cc
 
-link_by : (role : Role) (session : Read (List ℕ)) (keepalive : Read ℕ) (client server : Read Flow) (credentials : Read (List ℕ)) (link : Link)
-    → (session >>= λ id. keepalive >>= λ interval. client >>= λ flow. ensure_in_range (codes "client_flow") (allows_client role flow) >>= λ _. link_from_server role id interval flow server credentials) ≡ Ok link → LinkKept role link
-link_by role (Err fault) keepalive client server credentials link e = absurd cc
-link_by role (Ok id) (Err fault) client server credentials link e = absurd cc
-link_by role (Ok id) (Ok interval) (Err fault) server credentials link e = absurd cc
-link_by role (Ok id) (Ok interval) (Ok flow) server credentials link e =
-    let one = met (codes "client_flow") (allows_client role flow) (link_from_server role id interval flow server credentials) link e in
-    server_kept role id interval flow server credentials link one.0 one.1
+link_by : (purpose : Purpose) (session : Read (List ℕ)) (keepalive : Read ℕ) (client server : Read Flow) (credentials : Read (List ℕ)) (link : Link)
+    → (session >>= λ id. keepalive >>= λ interval. client >>= λ flow. ensure_in_range (codes "client_flow") (allows_client purpose flow) >>= λ _. link_from_server purpose id interval flow server credentials) ≡ Ok link → LinkKept purpose link
+link_by purpose (Err fault) keepalive client server credentials link e = absurd cc
+link_by purpose (Ok id) (Err fault) client server credentials link e = absurd cc
+link_by purpose (Ok id) (Ok interval) (Err fault) server credentials link e = absurd cc
+link_by purpose (Ok id) (Ok interval) (Ok flow) server credentials link e =
+    let one = met (codes "client_flow") (allows_client purpose flow) (link_from_server purpose id interval flow server credentials) link e in
+    server_kept purpose id interval flow server credentials link one.0 one.1
 
-link_kept : (role : Role) (keys : Data) (link : Link) → link_of role keys ≡ Ok link → LinkKept role link
-link_kept role keys link e =
-    link_by role (required (codes "session") session_of keys) (required (codes "keepalive") (natural_of 100 60000) keys) (required (codes "client_flow") flow_of keys) (required (codes "server_flow") flow_of keys) (get_or_default (codes "credentials") [] credentials_of keys) link e
+link_kept : (purpose : Purpose) (keys : Data) (link : Link) → link_of purpose keys ≡ Ok link → LinkKept purpose link
+link_kept purpose keys link e =
+    link_by purpose (required (codes "session") session_of keys) (required (codes "keepalive") (natural_of 100 60000) keys) (required (codes "client_flow") flow_of keys) (required (codes "server_flow") flow_of keys) (get_or_default (codes "credentials") [] credentials_of keys) link e
 
 -- ---- senders and desks
 
@@ -67,56 +67,56 @@ weaker false true true true d e = e
 weaker false true true false d e = absurd (false≢true e)
 weaker false true false c d e = e
 
-abbrev TradeKept : Role → Flow → Flow → Trade → Type 0
-TradeKept role client server trade = (allows_senders (own_flow role client server) trade.senders ≡ true) × (allows_desks role server false trade.desks ≡ true)
+abbrev TradeKept : Purpose → Flow → Flow → Trade → Type 0
+TradeKept purpose client server trade = (allows_senders (own_flow (role_of purpose) client server) trade.senders ≡ true) × (allows_desks purpose server false trade.desks ≡ true)
 
 abbrev trade_end : ℕ → ℕ → Read ℕ → Read ℕ → Read Trade
 trade_end senders desks version reference =
     version >>= λ order_version. reference >>= λ price. Ok (record { senders = senders; desks = desks; order_version = order_version; reference = price })
 
-trade_end_kept : (role : Role) (client server : Flow) (senders desks : ℕ) (version reference : Read ℕ) (trade : Trade) → allows_senders (own_flow role client server) senders ≡ true → allows_desks role server false desks ≡ true → trade_end senders desks version reference ≡ Ok trade → TradeKept role client server trade
-trade_end_kept role client server senders desks (Err fault) reference trade s d e = absurd cc
-trade_end_kept role client server senders desks (Ok number) (Err fault) trade s d e = absurd cc
-trade_end_kept role client server senders desks (Ok number) (Ok price) trade s d e =
+trade_end_kept : (purpose : Purpose) (client server : Flow) (senders desks : ℕ) (version reference : Read ℕ) (trade : Trade) → allows_senders (own_flow (role_of purpose) client server) senders ≡ true → allows_desks purpose server false desks ≡ true → trade_end senders desks version reference ≡ Ok trade → TradeKept purpose client server trade
+trade_end_kept purpose client server senders desks (Err fault) reference trade s d e = absurd cc
+trade_end_kept purpose client server senders desks (Ok number) (Err fault) trade s d e = absurd cc
+trade_end_kept purpose client server senders desks (Ok number) (Ok price) trade s d e =
     let built : Trade = record { senders = senders; desks = desks; order_version = number; reference = price } in
     let same : built ≡ trade = cc in
-    subst (TradeKept role client server) same (s, d)
+    subst (TradeKept purpose client server) same (s, d)
 
-trade_by : (role : Role) (client server : Flow) (has_senders_key : Bool) (senders desks version reference : Read ℕ) (trade : Trade)
-    → (senders >>= λ count. ensure_in_range (codes "senders") (allows_senders (own_flow role client server) count) >>= λ _. desks >>= λ more. ensure_in_range (codes "desks") (allows_desks role server has_senders_key more) >>= λ _. trade_end count more version reference) ≡ Ok trade → TradeKept role client server trade
-trade_by role client server has_senders_key (Err fault) desks version reference trade e = absurd cc
-trade_by role client server has_senders_key (Ok count) (Err fault) version reference trade e =
-    let one = met (codes "senders") (allows_senders (own_flow role client server) count) (Err fault) trade e in
+trade_by : (purpose : Purpose) (client server : Flow) (has_senders_key : Bool) (senders desks version reference : Read ℕ) (trade : Trade)
+    → (senders >>= λ count. ensure_in_range (codes "senders") (allows_senders (own_flow (role_of purpose) client server) count) >>= λ _. desks >>= λ more. ensure_in_range (codes "desks") (allows_desks purpose server has_senders_key more) >>= λ _. trade_end count more version reference) ≡ Ok trade → TradeKept purpose client server trade
+trade_by purpose client server has_senders_key (Err fault) desks version reference trade e = absurd cc
+trade_by purpose client server has_senders_key (Ok count) (Err fault) version reference trade e =
+    let one = met (codes "senders") (allows_senders (own_flow (role_of purpose) client server) count) (Err fault) trade e in
     absurd cc
-trade_by role client server has_senders_key (Ok count) (Ok more) version reference trade e =
-    let one = met (codes "senders") (allows_senders (own_flow role client server) count) (ensure_in_range (codes "desks") (allows_desks role server has_senders_key more) >>= λ _. trade_end count more version reference) trade e in
-    let two = met (codes "desks") (allows_desks role server has_senders_key more) (trade_end count more version reference) trade one.1 in
-    trade_end_kept role client server count more version reference trade one.0 (weaker (more == 0) desks_are_built (is_accept role) (not has_senders_key) (not (is_none server)) two.0) two.1
+trade_by purpose client server has_senders_key (Ok count) (Ok more) version reference trade e =
+    let one = met (codes "senders") (allows_senders (own_flow (role_of purpose) client server) count) (ensure_in_range (codes "desks") (allows_desks purpose server has_senders_key more) >>= λ _. trade_end count more version reference) trade e in
+    let two = met (codes "desks") (allows_desks purpose server has_senders_key more) (trade_end count more version reference) trade one.1 in
+    trade_end_kept purpose client server count more version reference trade one.0 (weaker (more == 0) desks_are_built (is_accept purpose) (not has_senders_key) (not (is_none server)) two.0) two.1
 
-trade_kept : (role : Role) (client server : Flow) (keys : Data) (trade : Trade) → trade_of role client server keys ≡ Ok trade → TradeKept role client server trade
-trade_kept role client server keys trade e =
-    trade_by role client server (is_some (get (codes "senders") keys)) (get_or_default (codes "senders") 1 (natural_of 0 16) keys) (get_or_default (codes "desks") 0 (natural_of 0 16) keys) (get_or_default (codes "order_version") 1 (natural_of 1 2) keys) (get_or_default (codes "reference") 1000000 (natural_of 1 (10 ^ 15)) keys) trade e
+trade_kept : (purpose : Purpose) (client server : Flow) (keys : Data) (trade : Trade) → trade_of purpose client server keys ≡ Ok trade → TradeKept purpose client server trade
+trade_kept purpose client server keys trade e =
+    trade_by purpose client server (is_some (get (codes "senders") keys)) (get_or_default (codes "senders") 1 (natural_of 0 16) keys) (get_or_default (codes "desks") 0 (natural_of 0 16) keys) (get_or_default (codes "order_version") 1 (natural_of 1 2) keys) (get_or_default (codes "reference") 1000000 (natural_of 1 (10 ^ 15)) keys) trade e
 
 -- ---- both
 
-trade_ok : (role : Role) (keys : Data) (link : Link) (trade : Read Trade) (last : Read (Unit {0})) (c : Configuration) → link_of role keys ≡ Ok link → trade ≡ trade_of role link.client_flow link.server_flow keys → (trade >>= λ t. last >>= λ _. Ok (record { link = link; trade = t })) ≡ Ok c → KeepsRole role c
-trade_ok role keys link (Err fault) last c l is e = absurd cc
-trade_ok role keys link (Ok trade) (Err fault) c l is e = absurd cc
-trade_ok role keys link (Ok trade) (Ok done) c l is e =
+trade_ok : (purpose : Purpose) (keys : Data) (link : Link) (trade : Read Trade) (last : Read (Unit {0})) (c : Configuration) → link_of purpose keys ≡ Ok link → trade ≡ trade_of purpose link.client_flow link.server_flow keys → (trade >>= λ t. last >>= λ _. Ok (record { link = link; trade = t })) ≡ Ok c → KeepsRole purpose c
+trade_ok purpose keys link (Err fault) last c l is e = absurd cc
+trade_ok purpose keys link (Ok trade) (Err fault) c l is e = absurd cc
+trade_ok purpose keys link (Ok trade) (Ok done) c l is e =
     let built : Configuration = record { link = link; trade = trade } in
     let same : built ≡ c = cc in
-    let one = link_kept role keys link l in
-    let two = trade_kept role link.client_flow link.server_flow keys trade (sym is) in
-    subst (KeepsRole role) same (record { client = one.0; server = one.1; senders = two.0; desks = two.1 })
+    let one = link_kept purpose keys link l in
+    let two = trade_kept purpose link.client_flow link.server_flow keys trade (sym is) in
+    subst (KeepsRole purpose) same (record { client = one.0; server = one.1; senders = two.0; desks = two.1 })
 
-both_ok : (role : Role) (keys : Data) (link : Read Link) (c : Configuration) → link_of role keys ≡ link → (link >>= λ l. trade_of role l.client_flow l.server_flow keys >>= λ t. deny_unknown_keys known_keys keys >>= λ _. Ok (record { link = l; trade = t })) ≡ Ok c → KeepsRole role c
-both_ok role keys (Err fault) c l e = absurd cc
-both_ok role keys (Ok link) c l e = trade_ok role keys link (trade_of role link.client_flow link.server_flow keys) (deny_unknown_keys known_keys keys) c l refl e
+both_ok : (purpose : Purpose) (keys : Data) (link : Read Link) (c : Configuration) → link_of purpose keys ≡ link → (link >>= λ l. trade_of purpose l.client_flow l.server_flow keys >>= λ t. deny_unknown_keys known_keys keys >>= λ _. Ok (record { link = l; trade = t })) ≡ Ok c → KeepsRole purpose c
+both_ok purpose keys (Err fault) c l e = absurd cc
+both_ok purpose keys (Ok link) c l e = trade_ok purpose keys link (trade_of purpose link.client_flow link.server_flow keys) (deny_unknown_keys known_keys keys) c l refl e
 
 pub configurations_keep_the_role : ConfigurationsKeepTheRole
-configurations_keep_the_role role keys c e = both_ok role keys (link_of role keys) c refl e
+configurations_keep_the_role purpose keys c e = both_ok purpose keys (link_of purpose keys) c refl e
 
 -- what is read of a table keeps it
-pub read_keeps_role : (role : Role) (keys : Data) (r : Result Configuration TomlFault) → Reads r (configuration_of role keys) → IfOk r (KeepsRole role)
-read_keeps_role role keys (Ok c) read = configurations_keep_the_role role keys c read
-read_keeps_role role keys (Err fault) read = tt
+pub read_keeps_role : (purpose : Purpose) (keys : Data) (r : Result Configuration TomlFault) → Reads r (configuration_of purpose keys) → IfOk r (KeepsRole purpose)
+read_keeps_role purpose keys (Ok c) read = configurations_keep_the_role purpose keys c read
+read_keeps_role purpose keys (Err fault) read = tt

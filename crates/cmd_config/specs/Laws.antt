@@ -8,20 +8,20 @@ use Rattle.toml.specs.Data.{Data, string, integer, float, boolean, datetime, arr
 use Rattle.toml.specs.Parse.{parse_document}
 use Rattle.toml_walk.specs.declared.fault.TomlFault.TheVariants.{UnknownKey}
 use Rattle.toml_walk.specs.Keys.{is_among, deny_unknown_keys}
-use Rattle.cmd_config.specs.declared.configuration.Role.{Role}
+use Rattle.cmd_config.specs.declared.purpose.Purpose.{Purpose}
 use Rattle.cmd_config.specs.declared.configuration.Configuration.{Configuration}
-use Rattle.cmd_config.specs.Settings.{allows_client, allows_server, allows_senders, allows_desks, own_flow, configuration_of}
+use Rattle.cmd_config.specs.Settings.{allows_client, allows_server, allows_senders, allows_desks, role_of, own_flow, configuration_of}
 
--- what a role asks of the flows, the senders and the desks, said of the values that were read
-pub record KeepsRole (role : Role) (c : Configuration) : Type 0 where
-  pub client : IsTrue (allows_client role c.link.client_flow)
-  pub server : IsTrue (allows_server role c.link.server_flow)
-  pub senders : IsTrue (allows_senders (own_flow role c.link.client_flow c.link.server_flow) c.trade.senders)
-  pub desks : IsTrue (allows_desks role c.link.server_flow false c.trade.desks)
+-- what the role that a configuration is for asks of the flows, the senders and the desks, said of the values that were read
+pub record KeepsRole (purpose : Purpose) (c : Configuration) : Type 0 where
+  pub client : IsTrue (allows_client purpose c.link.client_flow)
+  pub server : IsTrue (allows_server purpose c.link.server_flow)
+  pub senders : IsTrue (allows_senders (own_flow (role_of purpose) c.link.client_flow c.link.server_flow) c.trade.senders)
+  pub desks : IsTrue (allows_desks purpose c.link.server_flow false c.trade.desks)
 
--- Each configuration that a table gives for a role keeps what the role asks
+-- Each configuration that a table gives for a role, on live connections or over recorded bytes, keeps what the role asks
 abbrev pub ConfigurationsKeepTheRole : Type 0
-ConfigurationsKeepTheRole = (role : Role) (keys : Data) (c : Configuration) → configuration_of role keys ≡ Ok c → KeepsRole role c
+ConfigurationsKeepTheRole = (purpose : Purpose) (keys : Data) (c : Configuration) → configuration_of purpose keys ≡ Ok c → KeepsRole purpose c
 
 -- a key stands in a table
 abbrev pub HasKey : Members → List ℕ → Type 0

@@ -13,8 +13,10 @@ use Rattle.toml_walk.specs.Keys.{required, get_or_default, deny_unknown_keys}
 use Rattle.toml_walk.specs.Values.{text_of, natural_of, word_in, listed}
 use Rattle.schema_toml.specs.declared.fault.ConfigFault.{ConfigFault}
 use Rattle.schema_toml.specs.Faults.{limited, of_text}
-use Rattle.cmd_config.specs.declared.configuration.Role.{Role}
-use Rattle.cmd_config.specs.declared.configuration.Role.TheVariants.{Answer, Accept, Connect}
+use Rattle.fixp_shake.specs.declared.config.Role.{Role}
+use Rattle.fixp_shake.specs.declared.config.Role.TheVariants.{Initiator, Acceptor}
+use Rattle.cmd_config.specs.declared.purpose.Purpose.{Purpose}
+use Rattle.cmd_config.specs.declared.purpose.Purpose.TheVariants.{Recorded, Live}
 use Rattle.cmd_config.specs.declared.configuration.Link.{Link}
 use Rattle.cmd_config.specs.declared.configuration.Trade.{Trade}
 use Rattle.cmd_config.specs.declared.configuration.Configuration.{Configuration}
@@ -29,7 +31,8 @@ session_of d = text_of d >>= λ text. listed (parsed text)
 abbrev pub flow_of : Data → Read Flow
 flow_of d =
     text_of d >>= λ text.
-    listed (word_in ((codes "recoverable", flows.Recoverable) ∷ (codes "idempotent", flows.Idempotent) ∷ (codes "unsequenced", flows.Unsequenced) ∷ (codes "none", flows.None) ∷ []) text)
+    listed (word_in ((codes "recoverable", flows.Recoverable) ∷ (codes "idempotent", flows.Idempotent) ∷ (codes "unsequenced", flows.Unsequenced)
+    ∷ (codes "none", flows.None) ∷ []) text)
 
 -- at most 2,048 bytes, each as two hexadecimal digits
 abbrev pub short_bytes : {E : Type 0} → Result (List ℕ) E → Read (List ℕ)
@@ -39,7 +42,7 @@ short_bytes (Err error) = Err (Range [])
 abbrev pub credentials_of : Data → Read (List ℕ)
 credentials_of d = text_of d >>= λ text. short_bytes (decode_of text)
 
--- ---- what a role asks of several keys
+-- ---- what a configuration is for, and what that asks of several keys
 
 -- a condition that the value at a key breaks is out of range there
 abbrev pub ensure_in_range : List ℕ → Bool → Read (Unit {0})
@@ -58,88 +61,91 @@ is_none flows.Recoverable = false
 is_none flows.Idempotent = false
 is_none flows.Unsequenced = false
 
+-- `answer` is an acceptor over recorded bytes
+abbrev pub role_of : Purpose → Role
+role_of Recorded = Acceptor
+role_of (Live role) = role
+
 -- `answer` reads an unsequenced flow, and sends none
-abbrev pub allows_client : Role → Flow → Bool
-allows_client Answer client = is_unsequenced client
-allows_client Accept client = true
-allows_client Connect client = true
+abbrev pub allows_client : Purpose → Flow → Bool
+allows_client Recorded client = is_unsequenced client
+allows_client (Live role) client = true
 
-abbrev pub allows_server : Role → Flow → Bool
-allows_server Answer server = is_none server
-allows_server Accept server = true
-allows_server Connect server = true
+abbrev pub allows_server : Purpose → Flow → Bool
+allows_server Recorded server = is_none server
+allows_server (Live role) server = true
 
--- the flow that a role sends: `connect` is the client, the others are the server
+-- the flow that a role sends: the initiator is the client, and the acceptor the server
 abbrev pub own_flow : Role → Flow → Flow → Flow
-own_flow Connect client server = client
-own_flow Answer client server = server
-own_flow Accept client server = server
+own_flow Initiator client server = client
+own_flow Acceptor client server = server
 
 -- there are no senders exactly where the own flow is none
 abbrev pub allows_senders : Flow → ℕ → Bool
 allows_senders own senders = if is_none own then senders == 0 else not (senders == 0)
 
-abbrev pub is_accept : Role → Bool
-is_accept Accept = true
-is_accept Answer = false
-is_accept Connect = false
+-- `accept` is an acceptor on live connections
+abbrev pub is_accept : Purpose → Bool
+is_accept (Live Acceptor) = true
+is_accept (Live Initiator) = false
+is_accept Recorded = false
 
 -- the flow that a role receives
 abbrev pub peer_flow : Role → Flow → Flow → Flow
-peer_flow Connect client server = server
-peer_flow Answer client server = client
-peer_flow Accept client server = client
+peer_flow Initiator client server = server
+peer_flow Acceptor client server = client
 
 -- no command has desks yet, so that no configuration may ask for one
 abbrev pub desks_are_built : Bool
 desks_are_built = false
 
 -- once they are built, desks are for `accept` alone, where it sends and the key `senders` is absent
-abbrev pub allows_desks : Role → Flow → Bool → ℕ → Bool
-allows_desks role server has_senders_key desks = desks == 0 || (desks_are_built && (is_accept role && (not has_senders_key && not (is_none server))))
+abbrev pub allows_desks : Purpose → Flow → Bool → ℕ → Bool
+allows_desks purpose server has_senders_key desks = desks == 0 || (desks_are_built && (is_accept purpose && (not has_senders_key && not (is_none server))))
 
 -- ---- the keys
 
 -- {session, keepalive, client_flow, server_flow, credentials?, ..}
-abbrev pub link_of : Role → Data → Read Link
-link_of role keys =
+abbrev pub link_of : Purpose → Data → Read Link
+link_of purpose keys =
     required (codes "session") session_of keys >>= λ session.
     required (codes "keepalive") (natural_of 100 60000) keys >>= λ keepalive.
     required (codes "client_flow") flow_of keys >>= λ client.
-    ensure_in_range (codes "client_flow") (allows_client role client) >>= λ _.
+    ensure_in_range (codes "client_flow") (allows_client purpose client) >>= λ _.
     required (codes "server_flow") flow_of keys >>= λ server.
-    ensure_in_range (codes "server_flow") (allows_server role server) >>= λ _.
+    ensure_in_range (codes "server_flow") (allows_server purpose server) >>= λ _.
     get_or_default (codes "credentials") [] credentials_of keys >>= λ credentials.
     Ok (record { session = session; keepalive = keepalive; client_flow = client; server_flow = server; credentials = credentials })
 
 -- {.., senders?, desks?, order_version?, reference?}
-abbrev pub trade_of : Role → Flow → Flow → Data → Read Trade
-trade_of role client server keys =
+abbrev pub trade_of : Purpose → Flow → Flow → Data → Read Trade
+trade_of purpose client server keys =
     get_or_default (codes "senders") 1 (natural_of 0 16) keys >>= λ senders.
-    ensure_in_range (codes "senders") (allows_senders (own_flow role client server) senders) >>= λ _.
+    ensure_in_range (codes "senders") (allows_senders (own_flow (role_of purpose) client server) senders) >>= λ _.
     get_or_default (codes "desks") 0 (natural_of 0 16) keys >>= λ desks.
-    ensure_in_range (codes "desks") (allows_desks role server (is_some (get (codes "senders") keys)) desks) >>= λ _.
+    ensure_in_range (codes "desks") (allows_desks purpose server (is_some (get (codes "senders") keys)) desks) >>= λ _.
     get_or_default (codes "order_version") 1 (natural_of 1 2) keys >>= λ order_version.
     get_or_default (codes "reference") 1000000 (natural_of 1 (10 ^ 15)) keys >>= λ reference.
     Ok (record { senders = senders; desks = desks; order_version = order_version; reference = reference })
 
 abbrev pub known_keys : List (List ℕ)
-known_keys = codes "session" ∷ codes "keepalive" ∷ codes "client_flow" ∷ codes "server_flow" ∷ codes "credentials" ∷ codes "senders" ∷ codes "desks" ∷ codes "order_version" ∷ codes "reference" ∷ []
+known_keys = codes "session" ∷ codes "keepalive" ∷ codes "client_flow" ∷ codes "server_flow" ∷ codes "credentials" ∷ codes "senders" ∷ codes "desks"
+    ∷ codes "order_version" ∷ codes "reference" ∷ []
 
 -- all nine values
-abbrev pub configuration_of : Role → Data → Read Configuration
-configuration_of role keys =
-    link_of role keys >>= λ link.
-    trade_of role link.client_flow link.server_flow keys >>= λ trade.
+abbrev pub configuration_of : Purpose → Data → Read Configuration
+configuration_of purpose keys =
+    link_of purpose keys >>= λ link.
+    trade_of purpose link.client_flow link.server_flow keys >>= λ trade.
     deny_unknown_keys known_keys keys >>= λ _.
     Ok (record { link = link; trade = trade })
 
-abbrev pub configuration_of_document : Role → List ℕ → Read Configuration
-configuration_of_document role text = document_of text >>= configuration_of role
+abbrev pub configuration_of_document : Purpose → List ℕ → Read Configuration
+configuration_of_document purpose text = document_of text >>= configuration_of purpose
 
--- what a text configures for a role, or why it does not
-abbrev pub configuration_of_text : Role → List ℕ → Result Configuration ConfigFault
-configuration_of_text role = limited (λ text. of_text (configuration_of_document role text))
+-- what a text configures for a purpose, or why it does not
+abbrev pub configuration_of_text : Purpose → List ℕ → Result Configuration ConfigFault
+configuration_of_text purpose = limited (λ text. of_text (configuration_of_document purpose text))
 
 -- ---- what `answer` takes of it
 
@@ -147,7 +153,7 @@ abbrev pub settings_by : Configuration → Settings
 settings_by c = record { session = c.link.session; keepalive = c.link.keepalive; credentials = c.link.credentials }
 
 abbrev pub settings_of_document : List ℕ → Read Settings
-settings_of_document text = configuration_of_document Answer text >>= λ c. Ok (settings_by c)
+settings_of_document text = configuration_of_document Recorded text >>= λ c. Ok (settings_by c)
 
 -- what a text configures for `answer`, or why it does not
 abbrev pub settings_of_text : List ℕ → Result Settings ConfigFault
@@ -165,6 +171,11 @@ pub record IsTradeInRange (t : Trade) : Type 0 where
   pub desks : t.desks ≤ 16
   pub order_version : (1 ≤ t.order_version) × (t.order_version ≤ 2)
   pub reference : (1 ≤ t.reference) × (t.reference ≤ 10 ^ 15)
+
+-- all keys of a configuration
+pub record IsConfigurationInRange (c : Configuration) : Type 0 where
+  pub link : IsLinkInRange c.link
+  pub trade : IsTradeInRange c.trade
 
 -- settings that a configuration may give: the interval, and how long the credentials are
 pub record IsInRange (s : Settings) : Type 0 where

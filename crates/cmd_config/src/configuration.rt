@@ -1,4 +1,4 @@
-//! The configuration of a session for a role: nine keys, with what the role asks
+//! The configuration of a session for a purpose: nine keys, with what the purpose asks
 //! of several of them.
 
 ghost use Rattle.std.specs.Prelude.{◌≡◌, ◌<◌, ◌≤◌, codes, [], length, IfOk, Err};
@@ -7,9 +7,12 @@ ghost use Rattle.toml.specs.View.{view};
 ghost use Rattle.toml_walk.specs.Reading.{Reads};
 ghost use Rattle.schema_toml.specs.Faults.{Tells, text_limit};
 ghost use Rattle.cmd_config.specs.Laws.{KeepsRole};
-ghost use Rattle.cmd_config.specs.Settings.{IsLinkInRange, IsTradeInRange, allows_client, allows_desks, allows_senders, allows_server, configuration_of, configuration_of_document, configuration_of_text, credentials_of, ensure_in_range, is_none, is_unsequenced, link_of, own_flow, peer_flow, trade_of};
+ghost use Rattle.cmd_config.specs.Settings.{IsLinkInRange, IsTradeInRange, allows_desks, allows_senders, configuration_of, configuration_of_document, configuration_of_text, credentials_of, ensure_in_range, link_of, trade_of};
 
 use crate::limits::{DESKS, DESKS_ARE_BUILT, KEEPALIVE, ORDER_VERSION, REFERENCE, SENDERS};
+use crate::purpose::{
+    Purpose, allows_client, allows_server, is_accept, is_none, own_flow, role_of,
+};
 use crate::readers::{Credentials, Flows, Sessions};
 use fixp_msgs::Flow;
 use sbe_value::Bytes;
@@ -20,17 +23,6 @@ use toml_walk::{
     TomlFault, deny_unknown_keys, get_or_default, natural_at, natural_or, out_of_range,
     read_document, required,
 };
-
-/// What a configuration is for.
-#[derive(Clone, Copy, Debug, PartialEq, Eq)]
-pub enum Role {
-    /// The acceptor over recorded bytes.
-    Answer,
-    /// The acceptor on live connections.
-    Accept,
-    /// The initiator on live connections.
-    Connect,
-}
 
 /// What a configuration says of the session itself.
 #[derive(Debug, Drop)]
@@ -83,58 +75,6 @@ fn ensure_in_range(alloc: Global, key: &str, holds: bool) -> Result<(), TomlFaul
     }
 }
 
-fn is_unsequenced(flow: Flow) -> bool
-    ensures { result ≡ is_unsequenced flow }
-{
-    matches!(flow, Flow::Unsequenced)
-}
-
-fn is_none(flow: Flow) -> bool
-    ensures { result ≡ is_none flow }
-{
-    matches!(flow, Flow::None)
-}
-
-/// Whether a role may read this flow of the client.
-fn allows_client(role: Role, client: Flow) -> bool
-    ensures { result ≡ allows_client role client }
-{
-    match role {
-        Role::Answer => is_unsequenced(client),
-        Role::Accept | Role::Connect => true,
-    }
-}
-
-/// Whether a role may be with this flow of the server.
-fn allows_server(role: Role, server: Flow) -> bool
-    ensures { result ≡ allows_server role server }
-{
-    match role {
-        Role::Answer => is_none(server),
-        Role::Accept | Role::Connect => true,
-    }
-}
-
-/// The flow that a role sends.
-pub fn own_flow(role: Role, client: Flow, server: Flow) -> Flow
-    ensures { result ≡ own_flow role client server }
-{
-    match role {
-        Role::Connect => client,
-        Role::Answer | Role::Accept => server,
-    }
-}
-
-/// The flow that a role receives.
-pub fn peer_flow(role: Role, client: Flow, server: Flow) -> Flow
-    ensures { result ≡ peer_flow role client server }
-{
-    match role {
-        Role::Connect => server,
-        Role::Answer | Role::Accept => client,
-    }
-}
-
 /// Whether there may be so many senders of a flow.
 fn allows_senders(own: Flow, senders: u64) -> bool
     ensures { result ≡ allows_senders own senders }
@@ -146,12 +86,11 @@ fn allows_senders(own: Flow, senders: u64) -> bool
     }
 }
 
-/// Whether a role may have so many desks.
-fn allows_desks(role: Role, server: Flow, has_senders_key: bool, desks: u64) -> bool
-    ensures { result ≡ allows_desks role server has_senders_key desks }
+/// Whether there may be so many desks for a purpose.
+fn allows_desks(purpose: Purpose, server: Flow, has_senders_key: bool, desks: u64) -> bool
+    ensures { result ≡ allows_desks purpose server has_senders_key desks }
 {
-    desks == 0
-        || (DESKS_ARE_BUILT && matches!(role, Role::Accept) && !has_senders_key && !is_none(server))
+    desks == 0 || (DESKS_ARE_BUILT && is_accept(purpose) && !has_senders_key && !is_none(server))
 }
 
 /// The credentials, none where the key is absent.
@@ -164,8 +103,8 @@ fn read_credentials(alloc: Global, keys: &Value) -> Result<Bytes, TomlFault>
 }
 
 /// The keys of the session itself.
-fn read_link(alloc: Global, role: Role, keys: &Value) -> Result<Link, TomlFault>
-    ensures value { Reads result (link_of role (view keys.now)) }
+fn read_link(alloc: Global, purpose: Purpose, keys: &Value) -> Result<Link, TomlFault>
+    ensures value { Reads result (link_of purpose (view keys.now)) }
     ensures range { IfOk result IsLinkInRange }
 {
     let session = required::<Sessions>(alloc, (), keys, "session")?;
@@ -177,9 +116,9 @@ fn read_link(alloc: Global, role: Role, keys: &Value) -> Result<Link, TomlFault>
         KEEPALIVE.greatest,
     )?;
     let client = required::<Flows>(alloc, (), keys, "client_flow")?;
-    ensure_in_range(alloc, "client_flow", allows_client(role, client))?;
+    ensure_in_range(alloc, "client_flow", allows_client(purpose, client))?;
     let server = required::<Flows>(alloc, (), keys, "server_flow")?;
-    ensure_in_range(alloc, "server_flow", allows_server(role, server))?;
+    ensure_in_range(alloc, "server_flow", allows_server(purpose, server))?;
     let credentials = read_credentials(alloc, keys)?;
     Ok(Link {
         session,
@@ -193,23 +132,23 @@ fn read_link(alloc: Global, role: Role, keys: &Value) -> Result<Link, TomlFault>
 /// The keys of senders, desks and orders.
 fn read_trade(
     alloc: Global,
-    role: Role,
+    purpose: Purpose,
     client: Flow,
     server: Flow,
     keys: &Value,
 ) -> Result<Trade, TomlFault>
-    ensures value { Reads result (trade_of role client server (view keys.now)) }
+    ensures value { Reads result (trade_of purpose client server (view keys.now)) }
     ensures range { IfOk result IsTradeInRange }
 {
     let has_senders_key = keys.get("senders").is_some();
     let senders = natural_or(alloc, keys, "senders", SENDERS.least, SENDERS.greatest, 1)?;
-    let own = own_flow(role, client, server);
+    let own = own_flow(role_of(purpose), client, server);
     ensure_in_range(alloc, "senders", allows_senders(own, senders))?;
     let desks = natural_or(alloc, keys, "desks", DESKS.least, DESKS.greatest, 0)?;
     ensure_in_range(
         alloc,
         "desks",
-        allows_desks(role, server, has_senders_key, desks),
+        allows_desks(purpose, server, has_senders_key, desks),
     )?;
     let order_version = natural_or(
         alloc,
@@ -235,13 +174,13 @@ fn read_trade(
     })
 }
 
-fn read_table(alloc: Global, role: Role, keys: &Value) -> Result<Configuration, TomlFault>
-    ensures value { Reads result (configuration_of role (view keys.now)) }
+fn read_table(alloc: Global, purpose: Purpose, keys: &Value) -> Result<Configuration, TomlFault>
+    ensures value { Reads result (configuration_of purpose (view keys.now)) }
     ensures link { IfOk result (λ c. IsLinkInRange c.link) }
     ensures trade { IfOk result (λ c. IsTradeInRange c.trade) }
 {
-    let link = read_link(alloc, role, keys)?;
-    let trade = read_trade(alloc, role, link.client_flow, link.server_flow, keys)?;
+    let link = read_link(alloc, purpose, keys)?;
+    let trade = read_trade(alloc, purpose, link.client_flow, link.server_flow, keys)?;
     deny_unknown_keys(
         alloc,
         keys,
@@ -262,36 +201,36 @@ fn read_table(alloc: Global, role: Role, keys: &Value) -> Result<Configuration, 
 
 /// The configuration that a document is.
 #[tactic(auto, using(crate::proofs::Kept::read_keeps_role))]
-pub fn read_keys(alloc: Global, role: Role, text: &[u8]) -> Result<Configuration, TomlFault>
-    ensures value { Reads result (configuration_of_document role text.now) }
+pub fn read_keys(alloc: Global, purpose: Purpose, text: &[u8]) -> Result<Configuration, TomlFault>
+    ensures value { Reads result (configuration_of_document purpose text.now) }
     ensures link { IfOk result (λ c. IsLinkInRange c.link) }
     ensures trade { IfOk result (λ c. IsTradeInRange c.trade) }
-    ensures role { IfOk result (KeepsRole role) }
+    ensures role { IfOk result (KeepsRole purpose) }
 {
     let keys = read_document(alloc, text)?;
-    read_table(alloc, role, &keys)
+    read_table(alloc, purpose, &keys)
 }
 
-/// What a text configures for a role.
+/// What a text configures for a purpose.
 ///
 /// # Errors
 /// `TooLong` exactly where the text is longer than `TEXT_LIMIT`, and else the first fault in the order in which
 /// its keys are visited; a condition on several keys is out of range at the later of them.
 pub fn read_configuration(
     alloc: Global,
-    role: Role,
+    purpose: Purpose,
     text: &[u8],
 ) -> Result<Configuration, ConfigFault>
-    ensures exact { Tells result (configuration_of_text role text.now) }
+    ensures exact { Tells result (configuration_of_text purpose text.now) }
     ensures too_long { text_limit < length text.now → result ≡ Err ConfigFault.TooLong }
     ensures link { IfOk result (λ c. IsLinkInRange c.link) }
     ensures trade { IfOk result (λ c. IsTradeInRange c.trade) }
-    ensures role { IfOk result (KeepsRole role) }
+    ensures role { IfOk result (KeepsRole purpose) }
 {
     if text.len() > TEXT_LIMIT {
         return Err(ConfigFault::TooLong);
     }
-    match read_keys(alloc, role, text) {
+    match read_keys(alloc, purpose, text) {
         Ok(configuration) => Ok(configuration),
         Err(fault) => Err(ConfigFault::Toml(fault)),
     }

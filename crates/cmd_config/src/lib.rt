@@ -1,16 +1,17 @@
 //! The configuration of a session as a TOML text.
-//! It stands on the walk over keys, `uuid` and `hex`.
+//! It stands on the walk over keys, `uuid` and `hex`, and on the roles of `fixp_shake`.
 #![tactic(auto)]
 
 mod configuration;
 mod laws;
 mod limits;
+mod purpose;
 mod readers;
 mod settings;
 
-pub use configuration::{
-    Configuration, Link, Role, Trade, own_flow, peer_flow, read_configuration,
-};
+pub use configuration::{Configuration, Link, Trade, read_configuration};
+pub use fixp_shake::Role;
 pub use laws::{configurations_keep_the_role, unknown_key_is_least};
 pub use limits::{DESKS, FLOW_WORDS, KEEPALIVE, ORDER_VERSION, REFERENCE, Range, SENDERS};
+pub use purpose::{Purpose, own_flow, peer_flow, role_of};
 pub use settings::{Settings, read_settings};

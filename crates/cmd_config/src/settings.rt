@@ -6,7 +6,8 @@ ghost use Rattle.toml_walk.specs.Reading.{Reads};
 ghost use Rattle.schema_toml.specs.Faults.{Tells, text_limit};
 ghost use Rattle.cmd_config.specs.Settings.{IsInRange, settings_of_document, settings_of_text};
 
-use crate::configuration::{Configuration, Link, Role, read_keys};
+use crate::configuration::{Configuration, Link, read_keys};
+use crate::purpose::Purpose;
 use sbe_value::Bytes;
 use schema_toml::{ConfigFault, TEXT_LIMIT};
 use std::alloc::Global;
@@ -27,7 +28,7 @@ fn read_answer(alloc: Global, text: &[u8]) -> Result<Settings, TomlFault>
     ensures value { Reads result (settings_of_document text.now) }
     ensures range { IfOk result IsInRange }
 {
-    let Configuration { link, .. } = read_keys(alloc, Role::Answer, text)?;
+    let Configuration { link, .. } = read_keys(alloc, Purpose::Recorded, text)?;
     let Link {
         session,
         keepalive,

@@ -3,6 +3,8 @@ use Rattle.std.specs.Prelude.{◌≡◌, ◌⊎◌, ℕ, List, Option}
 use Rattle.std.specs.Option.{ForSome}
 use Rattle.std.specs.Io.KnownBytes.{Appends}
 use Rattle.gw_outside.specs.Faults.{HasRisen, TakesFront}
+use Rattle.gw_outside.specs.declared.streams.Sink.{Ghosts as SinkGhosts}
+use Rattle.gw_outside.specs.declared.disk.Disk.{Ghosts as DiskGhosts}
 use Rattle.jr_record.specs.declared.record.Record.{Record}
 use Rattle.jr_record.specs.Images.{IsJournal}
 use Rattle.jr_boxes.specs.declared.faults.Which.{Which}
@@ -28,20 +30,23 @@ GaveLines lines before after Memory = TakesFront before after lines
 GaveLines lines before after _ = ⊥
 
 -- both disks hold these records, each its box, and every content that a stop may leave of them afterwards does
-pub record HoldBoth {D : Type 0} (told : D → Option (List ℕ)) (may_leave : D → List ℕ → Type 0) (before after : Disks D) (outbox inbox : List Record) : Type 0 where
+pub record HoldBoth {D : Type 0} (told : D → Option (List ℕ)) (may_leave : D → List ℕ → Type 0) (before after : Disks D) (outbox inbox : List Record) : Type
+    0 where
   pub outbox_told : ForSome (told before.outbox) (IsBox Outbox outbox)
   pub inbox_told : ForSome (told before.inbox) (IsBox Inbox inbox)
   pub outbox_left : (image : List ℕ) → may_leave after.outbox image → IsJournal image outbox
   pub inbox_left : (image : List ℕ) → may_leave after.inbox image → IsJournal image inbox
 
 -- OUT gained all lines of the records that both disks hold, or a front of them
-pub record PrintsAll {D : Type 0} (told : D → Option (List ℕ)) (may_leave : D → List ℕ → Type 0) (before after : Disks D) (old new : Option (List ℕ)) : Type 0 where
+pub record PrintsAll {D : Type 0} (told : D → Option (List ℕ)) (may_leave : D → List ℕ → Type 0) (before after : Disks D) (old new : Option (List ℕ)) : Type
+    0 where
   pub outbox : List Record
   pub inbox : List Record
   pub hold : HoldBoth told may_leave before after outbox inbox
   pub gained : Appends old new (journal_lines outbox inbox)
 
-pub record PrintsFront {D : Type 0} (told : D → Option (List ℕ)) (may_leave : D → List ℕ → Type 0) (before after : Disks D) (old new : Option (List ℕ)) : Type 0 where
+pub record PrintsFront {D : Type 0} (told : D → Option (List ℕ)) (may_leave : D → List ℕ → Type 0) (before after : Disks D) (old new : Option (List ℕ))
+    : Type 0 where
   pub outbox : List Record
   pub inbox : List Record
   pub hold : HoldBoth told may_leave before after outbox inbox
@@ -64,13 +69,27 @@ pub record RefusesInbox {D K : Type 0} (told : D → Option (List ℕ)) (before 
   pub why : P
   pub out : new ≡ old
 
+-- what a disk holds and may leave at a stop, and how often it failed; and what OUT has taken
+pub record JournalDevices (K D : Type 0) : Type 1 where
+  pub told : D → Option (List ℕ)
+  pub may_leave : D → List ℕ → Type 0
+  pub faults : D → ℕ
+  pub taken : K → Option (List ℕ)
+
+-- as the contracts of the devices have it
+abbrev pub journal_devices : {K D : Type 0} → SinkGhosts K → DiskGhosts D → JournalDevices K D
+journal_devices sink disk = record { told = disk.told; may_leave = disk.may_leave; faults = disk.faults; taken = sink.taken }
+
 -- What a status says of the disks, and of what OUT took: the outbox is opened first
-abbrev pub Prints : {D K : Type 0} → (D → Option (List ℕ)) → (D → List ℕ → Type 0) → (D → ℕ) → (K → Option (List ℕ)) → Disks D → Disks D → K → K → Status → Type 0
-Prints told may_leave faults taken before after old new Done = PrintsAll told may_leave before after (taken old) (taken new)
-Prints told may_leave faults taken before after old new OutputFault = PrintsFront told may_leave before after (taken old) (taken new)
-Prints told may_leave faults taken before after old new Memory = (new ≡ old) ⊎ PrintsFront told may_leave before after (taken old) (taken new)
-Prints told may_leave faults taken before after old new (JournalBad Outbox cause) = RefusesOutbox before after old new (ForSome (told before.outbox) (IsNoBox Outbox cause))
-Prints told may_leave faults taken before after old new (JournalBad Inbox cause) = RefusesInbox told before old new (ForSome (told before.inbox) (IsNoBox Inbox cause))
-Prints told may_leave faults taken before after old new JournalFault =
-    RefusesOutbox before after old new (HasRisen (faults before.outbox) (faults after.outbox)) ⊎ RefusesInbox told before old new (HasRisen (faults before.inbox) (faults after.inbox))
-Prints told may_leave faults taken before after old new _ = ⊥
+abbrev pub Prints : {K D : Type 0} → JournalDevices K D → (before after : Disks D) → (old new : K) → Status → Type 0
+Prints devices before after old new Done = PrintsAll devices.told devices.may_leave before after (devices.taken old) (devices.taken new)
+Prints devices before after old new OutputFault = PrintsFront devices.told devices.may_leave before after (devices.taken old) (devices.taken new)
+Prints devices before after old new Memory =
+    (new ≡ old) ⊎ PrintsFront devices.told devices.may_leave before after (devices.taken old) (devices.taken new)
+Prints devices before after old new (JournalBad Outbox cause) = RefusesOutbox before after old new (ForSome (devices.told before.outbox) (IsNoBox Outbox cause))
+Prints devices before after old new (JournalBad Inbox cause) =
+    RefusesInbox devices.told before old new (ForSome (devices.told before.inbox) (IsNoBox Inbox cause))
+Prints devices before after old new JournalFault =
+    RefusesOutbox before after old new (HasRisen (devices.faults before.outbox) (devices.faults after.outbox))
+    ⊎ RefusesInbox devices.told before old new (HasRisen (devices.faults before.inbox) (devices.faults after.inbox))
+Prints devices before after old new _ = ⊥

@@ -7,7 +7,7 @@ ghost use Rattle.cmd_base.specs.Contents.{disks_of};
 ghost use Rattle.gw_outside.specs.Faults.{HasRisen};
 ghost use Rattle.jr_record.specs.Records.{IsRecord};
 ghost use Rattle.jr_text.specs.Lines.{journal_lines};
-ghost use Rattle.cmd_journal.specs.Prints.{GaveLines, Prints};
+ghost use Rattle.cmd_journal.specs.Prints.{GaveLines, Prints, journal_devices};
 
 use crate::boxes::open_box;
 use cmd_base::{Outside, Status, Which, begin};
@@ -43,7 +43,7 @@ fn print_journals<K: Sink, D: Disk>(
     out_disk: D,
     in_disk: D,
 ) -> (Status, D, D)
-    ensures prints { Prints D.told D.may_leave D.faults K.taken (record { outbox = out_disk; inbox = in_disk }) (record { outbox = result.1; inbox = result.2 }) out.old out.new result.0 }
+    ensures prints { Prints (journal_devices K.Sink D.Disk) (record { outbox = out_disk; inbox = in_disk }) (record { outbox = result.1; inbox = result.2 }) out.old out.new result.0 }
     ensures out_content { D.told result.1 ≡ D.told out_disk }
     ensures in_content { D.told result.2 ≡ D.told in_disk }
     ensures out_counted { D.faults out_disk ≤ D.faults result.1 }
@@ -68,7 +68,7 @@ pub fn journal<S: Source, K: Sink, D: Disk>(
     alloc: Global,
     outside: Outside<S, K, D>,
 ) -> (Status, Outside<S, K, D>)
-    ensures journal_output { Prints D.told D.may_leave D.faults K.taken (disks_of outside) (disks_of result.1) outside.out result.1.out result.0 }
+    ensures journal_output { Prints (journal_devices K.Sink D.Disk) (disks_of outside) (disks_of result.1) outside.out result.1.out result.0 }
     ensures journals_told { (D.told result.1.out_disk ≡ D.told outside.out_disk) × (D.told result.1.in_disk ≡ D.told outside.in_disk) }
     ensures untouched_by_journal { (result.1.config ≡ outside.config) × (result.1.input ≡ outside.input) × (result.1.wire ≡ outside.wire) }
     ensures none_fell { NoneFell (faults_of S.faults K.faults D.faults outside) (faults_of S.faults K.faults D.faults result.1) }

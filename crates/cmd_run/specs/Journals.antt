@@ -11,7 +11,7 @@ use Rattle.cmd_base.specs.declared.status.Status.TheVariants.{Done, JournalBad, 
 use Rattle.cmd_base.specs.Causes.{Counts, IsCaused}
 use Rattle.cmd_base.specs.Contents.{Disks}
 use Rattle.jr_text.specs.Lines.{journal_lines}
-use Rattle.cmd_journal.specs.Prints.{Prints}
+use Rattle.cmd_journal.specs.Prints.{JournalDevices, Prints}
 use Rattle.cmd_run.specs.Completeness.{NoneRose}
 
 -- a disk tells a content of which this is found: the records of its box, or why it is none
@@ -27,8 +27,9 @@ Finishes taken (Ok outbox) (Err cause) old new status = (status ≡ JournalBad I
 Finishes taken (Ok outbox) (Ok inbox) old new status = (status ≡ Done) × Appends (taken old) (taken new) (journal_lines outbox inbox)
 
 -- over two told disks it did that, or memory ran out
-abbrev pub JournalCompletes : {D K : Type 0} → (D → Option (List ℕ)) → (D → List ℕ → Type 0) → (D → ℕ) → (K → Option (List ℕ)) → Type 0
-JournalCompletes {D} {K} told may_leave faults taken = (before after : Disks D) (old new : K) (counts risen : Counts) (status : Status) (outbox inbox : Result (List Record) JournalCause)
-    → Tells told Outbox before.outbox outbox → Tells told Inbox before.inbox inbox
-    → Prints told may_leave faults taken before after old new status → IsCaused counts risen status → NoneRose counts risen
-    → (status ≡ Memory) ⊎ Finishes taken outbox inbox old new status
+abbrev pub JournalCompletes : {K D : Type 0} → JournalDevices K D → Type 0
+JournalCompletes {K} {D} devices = (before after : Disks D) (old new : K) (counts risen : Counts) (status : Status)
+    (outbox inbox : Result (List Record) JournalCause)
+    → Tells devices.told Outbox before.outbox outbox → Tells devices.told Inbox before.inbox inbox
+    → Prints devices before after old new status → IsCaused counts risen status → NoneRose counts risen
+    → (status ≡ Memory) ⊎ Finishes devices.taken outbox inbox old new status

@@ -12,6 +12,8 @@ bytes_of = map string_bytes
 -- INBOX` and `journal OUTBOX INBOX OUT`
 abbrev pub command_of : List (List ℕ) → Option Command
 command_of (command ∷ config ∷ input ∷ wire ∷ out ∷ []) = if bytes_eq command (codes "answer") then Some Answer else None
-command_of (command ∷ first ∷ second ∷ third ∷ []) = if bytes_eq command (codes "decode") then Some Decode else if bytes_eq command (codes "encode") then Some Encode else if bytes_eq command (codes "journal") then Some Journal else None
-command_of (command ∷ first ∷ second ∷ []) = if bytes_eq command (codes "check") then Some Check else if bytes_eq command (codes "format") then Some Format else None
+command_of (command ∷ first ∷ second ∷ third ∷ []) = if bytes_eq command (codes "decode") then Some Decode else if bytes_eq command (codes "encode")
+    then Some Encode else if bytes_eq command (codes "journal") then Some Journal else None
+command_of (command ∷ first ∷ second ∷ []) = if bytes_eq command (codes "check") then Some Check else if bytes_eq command (codes "format") then Some Format
+    else None
 command_of _ = None

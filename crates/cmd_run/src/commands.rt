@@ -17,7 +17,7 @@ ghost use Rattle.cmd_check.specs.Layouts.{GaveLayout};
 ghost use Rattle.cmd_decode.specs.Promise.{GaveText};
 ghost use Rattle.cmd_encode.specs.Promise.{GaveWire};
 ghost use Rattle.cmd_format.specs.Formats.{Formats, KeepsBehindHeader};
-ghost use Rattle.cmd_journal.specs.Prints.{Prints};
+ghost use Rattle.cmd_journal.specs.Prints.{Prints, journal_devices};
 ghost use Rattle.cmd_run.specs.Run.{IsRefused, JudgesBy};
 
 use crate::words::{Command, command_of};
@@ -67,7 +67,7 @@ pub fn run<R: Wait, S: Source, K: Sink, D: Disk>(
     ensures format_within { command_of (bytes_of words.now) ≡ Some commands.Format → KeepsBehindHeader D.may_leave outside.out_disk result.1.out_disk × KeepsBehindHeader D.may_leave outside.in_disk result.1.in_disk }
     ensures untouched_by_format { command_of (bytes_of words.now) ≡ Some commands.Format → KeepsStreams outside result.1 }
 
-    ensures journal_output { command_of (bytes_of words.now) ≡ Some commands.Journal → Prints D.told D.may_leave D.faults K.taken (disks_of outside) (disks_of result.1) outside.out result.1.out result.0 }
+    ensures journal_output { command_of (bytes_of words.now) ≡ Some commands.Journal → Prints (journal_devices K.Sink D.Disk) (disks_of outside) (disks_of result.1) outside.out result.1.out result.0 }
     ensures journals_told { command_of (bytes_of words.now) ≡ Some commands.Journal → (D.told result.1.out_disk ≡ D.told outside.out_disk) × (D.told result.1.in_disk ≡ D.told outside.in_disk) }
     ensures untouched_by_journal { command_of (bytes_of words.now) ≡ Some commands.Journal → (result.1.config ≡ outside.config) × (result.1.input ≡ outside.input) × (result.1.wire ≡ outside.wire) }
 

@@ -1,6 +1,7 @@
 //! Laws on what the clauses of `run` leave, facts about their definitions alone.
 
 ghost use Rattle.cmd_run.specs.Completeness.{AnswerCompletes, CheckCompletes, DecodeCompletes, EncodeCompletes, FormatCompletes};
+ghost use Rattle.cmd_journal.specs.Prints.{journal_devices};
 ghost use Rattle.cmd_run.specs.Journals.{JournalCompletes};
 
 use gw_outside::{Disk, Sink};
@@ -39,5 +40,5 @@ pub fn format_completes<D: Disk>()
 /// that is no journal of its box is refused with its cause, and where both are, all lines were printed and the status is done;
 /// or memory ran out. Of what a disk tells one of these is found at most.
 pub fn journal_completes<K: Sink, D: Disk>()
-    ensures { JournalCompletes D.told D.may_leave D.faults K.taken }
+    ensures { JournalCompletes (journal_devices K.Sink D.Disk) }
 {}

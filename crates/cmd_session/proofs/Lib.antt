@@ -3,3 +3,4 @@ mod Counting
 mod Opened
 mod Served
 mod Over
+mod Given

@@ -1,5 +1,5 @@
 -- One life over both journals, from what it was over their boxes.
-use Rattle.std.proofs.Common.{◌≡◌, ◌⊎◌, inl, inr, ⊎_elim, ℕ, ◌+◌, ◌-◌, ◌^◌, ◌≤◌, true, false, List, [], ◌++◌, length, Option, Result, sym, ap, subst, ◌∙◌, arith}
+use Rattle.std.proofs.Common.{◌≡◌, ◌⊎◌, inl, inr, ⊎_elim, ℕ, ◌^◌, ◌≤◌, true, false, List, [], ◌++◌, length, Option, Result, sym, ap, subst, ◌∙◌, arith}
 use Rattle.std.specs.Prelude.{option_to_list}
 use Rattle.std.specs.Option.{ForSome}
 use Rattle.std.proofs.Math.Logic.{∥∥₁_map, ∥∥₁_elim}
@@ -18,7 +18,6 @@ use Rattle.connection_laws.specs.Living.{Opens}
 use Rattle.turn_laws.specs.Standing.{Has}
 use Rattle.two_ends.specs.Meeting.{life_in}
 use Rattle.two_ends.specs.Loops.{machine_life}
-use Rattle.gw_links.specs.Dialers.{DialerTold}
 use Rattle.jr_record.specs.declared.journal.Journal.{Ghosts}
 use Rattle.jr_record.specs.declared.record.Record.{Record}
 use Rattle.jr_record.specs.declared.limits.Limits.{Limits as JournalLimits}
@@ -34,6 +33,7 @@ use Rattle.gate_turn.specs.Views.{Limits}
 use Rattle.conn_steps.specs.Settling.{IsPast, HaveRoom}
 use Rattle.conn_serve.specs.declared.answer.ServeFault.{ServeFault}
 use Rattle.conn_serve.specs.Connections.{adds_of, refused_of_all, wanted_of_all}
+use Rattle.conn_serve.specs.Moments.{life_at, beside}
 use Rattle.conn_serve.specs.Opening.{opened_state}
 use Rattle.life_laws.specs.Lives.{all_of, LifeOfLoop, served_of}
 use Rattle.life_laws.proofs.Loops.{served_keeps}
@@ -42,7 +42,9 @@ use Rattle.life_laws.specs.Plans.{plan_in}
 use Rattle.life_laws.specs.PlanLives.{LivedBoxes, WasFull, FillsInbox}
 use Rattle.life_laws.proofs.Outboxes.{entries-outbox_of, plans_keep_outbox}
 use Rattle.cmd_base.specs.declared.status.Status.{Status}
-use Rattle.cmd_session.specs.Lived.{LeavesImages, KeepsRecords, FullInbox, limits, OpensOutbox, OpensInbox, LivedOver, LivedOn, Lived}
+use Rattle.cmd_session.specs.Lived.{LeavesImages, KeepsRecords, FullInbox, limits, OpensOutbox, OpensInbox, LivedOver, LivedOn, Lived, over_boxes}
+use Rattle.cmd_session.specs.Outsides.{Sees, live_of}
+use Rattle.cmd_session.specs.declared.outside.SessionOutside.{SessionOutside}
 
 -- a disk's count rose where that of a box over it did
 pub risen_over : (disk now_disk old new : ℕ) → disk ≤ old → new ≡ now_disk → HasRisen old new → HasRisen disk now_disk
@@ -57,28 +59,28 @@ records_prop rs qs = List-set record_set rs qs
 order_prop : (es : List Entry) → IsProp (InOrder es)
 order_prop es = hlevel (ℕ_set, List-set)
 
-module _ {D J : Type 0} {H : Ghosts J} (outbox : Outbox J H) (told : D → Option (List ℕ)) (may_leave : D → List ℕ → Type 0) (disk : D → ℕ) (disk_at : J → D) (leaves_are : (j : J) (image : Option (List Record)) → Leaves (may_leave (disk_at j)) image → H.leaves j image)
+module _ {S K D N J : Type 0} {H : Ghosts J} (outbox : Outbox J H) (sees : Sees S K D N) (disk_at : J → D) (leaves_are : (j : J) (image : Option (List Record)) → Leaves (sees.may_leave (disk_at j)) image → H.leaves j image)
     (only : (j : J) (rs qs : List Record) → H.stands j rs → H.stands j qs → rs ≡ qs) (sizes : (j : J) (rs : List Record) → H.stands j rs → journal_size rs ≡ H.size j) where
   -- a box that changed nothing leaves what its disk held
-  pub outbox_kept : (before after : D) → OpensOutbox (told before) outbox → after ≡ disk_at (outboxes.journal_of outbox) → KeepsRecords told may_leave before after
+  pub outbox_kept : (before after : D) → OpensOutbox (sees.told before) outbox → after ≡ disk_at (outboxes.journal_of outbox) → KeepsRecords sees.told sees.may_leave before after
   outbox_kept before after o same = record {
     records = records_of_history o.history;
     held = o.told;
-    left = λ image left. o.holds.journal.images image (leaves_are (outboxes.journal_of outbox) image (subst (λ (d : D). Leaves (may_leave d) image) same left));
+    left = λ image left. o.holds.journal.images image (leaves_are (outboxes.journal_of outbox) image (subst (λ (d : D). Leaves (sees.may_leave d) image) same left));
   }
 
-  pub inbox_kept : (before after : D) (box : Inbox J H) → OpensInbox (told before) box → after ≡ disk_at (inboxes.journal_of box) → KeepsRecords told may_leave before after
+  pub inbox_kept : (before after : D) (box : Inbox J H) → OpensInbox (sees.told before) box → after ≡ disk_at (inboxes.journal_of box) → KeepsRecords sees.told sees.may_leave before after
   inbox_kept before after box o same = record {
     records = records_of_inbox o.inbox;
     held = o.told;
-    left = λ image left. o.holds.journal.images image (leaves_are (inboxes.journal_of box) image (subst (λ (d : D). Leaves (may_leave d) image) same left));
+    left = λ image left. o.holds.journal.images image (leaves_are (inboxes.journal_of box) image (subst (λ (d : D). Leaves (sees.may_leave d) image) same left));
   }
 
-  module _ (config : EndConfig) (plans : List (List (List ℕ))) (dialed later : Option DialerTold) (out now_out : Option (List ℕ)) (out_disk now_out_disk in_disk now_in_disk : D) (closed : Outbox J H) (box since : Inbox J H) (result : Result (Unit {0}) ServeFault)
-      (o : OpensOutbox (told out_disk) outbox) (i : OpensInbox (told in_disk) box) (limit : ((outboxes.limits_of outbox).entries ≡ 2 ^ 24) × ((outboxes.limits_of outbox).bytes ≡ 2 ^ 30))
-      (in_limit : (inboxes.limits_of box).bytes ≡ 2 ^ 30) (now_out_is : now_out_disk ≡ disk_at (outboxes.journal_of closed)) (now_in_is : now_in_disk ≡ disk_at (inboxes.journal_of since))
-      (out_least : disk out_disk ≤ outboxes.faults_of outbox) (in_least : disk in_disk ≤ inboxes.faults_of box) (out_count : disk now_out_disk ≡ outboxes.faults_of closed) (in_count : disk now_in_disk ≡ inboxes.faults_of since)
-      (l : LivedBoxes dialed later out now_out config plans outbox closed box since result) where
+  module _ {C : Type 0} (config : EndConfig) (plans : List (List (List ℕ))) (before after : SessionOutside S K D N C) (closed : Outbox J H) (box since : Inbox J H) (result : Result (Unit {0}) ServeFault)
+      (o : OpensOutbox (sees.told before.out_disk) outbox) (i : OpensInbox (sees.told before.in_disk) box) (limit : ((outboxes.limits_of outbox).entries ≡ 2 ^ 24) × ((outboxes.limits_of outbox).bytes ≡ 2 ^ 30))
+      (in_limit : (inboxes.limits_of box).bytes ≡ 2 ^ 30) (now_out_is : after.out_disk ≡ disk_at (outboxes.journal_of closed)) (now_in_is : after.in_disk ≡ disk_at (inboxes.journal_of since))
+      (out_least : sees.disk before.out_disk ≤ outboxes.faults_of outbox) (in_least : sees.disk before.in_disk ≤ inboxes.faults_of box) (out_count : sees.disk after.out_disk ≡ outboxes.faults_of closed) (in_count : sees.disk after.in_disk ≡ inboxes.faults_of since)
+      (l : LivedBoxes config plans (beside (sees.carried before.dialer) (sees.taken before.out) box) (beside (sees.carried after.dialer) (sees.taken after.out) since) outbox closed result) where
     abbrev machine : State
     machine = fresh config (opened_state l.opening box) (2 ^ 24)
 
@@ -98,7 +100,7 @@ module _ {D J : Type 0} {H : Ghosts J} (outbox : Outbox J H) (told : D → Optio
         (opened_opens box l.opening config (2 ^ 24) entries_then i.inbox (subst (λ (es : List Entry). IsPrefix l.opening.made es) (sym (entries-outbox_of l.closing)) l.plans_kept.begins.made) i.holds)
 
     life : LifeOfLoop (outbox_of l.opening) (outbox_of l.closing) [] machine i.inbox (all_of l.served.ended l.served.given_up) (refused_of_all (option_to_list l.served.given_up))
-    life = served_keeps box since dialed later out now_out l.opening l.seen machine l.connections (outbox_of l.opening) (outbox_of l.closing) [] i.inbox l.served has opens
+    life = served_keeps box (life_at (sees.carried before.dialer) (sees.taken before.out) l.opening box) (life_at (sees.carried after.dialer) (sees.taken after.out) l.seen since) machine l.connections (outbox_of l.opening) (outbox_of l.closing) [] i.inbox l.served has opens
 
     connections : KeepsConnections (model_flow config.own_flow) (model_flow config.peer_flow) (entries (life_in (machine_life life.life)).opening_outbox) (entries (life_in (machine_life life.life)).closing_outbox) (served_of life.life)
     connections = subst (λ (rs : List OutboxRecord). KeepsConnections (model_flow config.own_flow) (model_flow config.peer_flow) (entries rs) (entries life.life.closing_outbox) (served_of life.life)) (sym life.outboxes.0)
@@ -111,12 +113,12 @@ module _ {D J : Type 0} {H : Ghosts J} (outbox : Outbox J H) (told : D → Optio
     outbox_is_kept = plans_keep_outbox plans l.opening l.closing (life_in (machine_life life.life)) l.plans_kept order life.outboxes.0 life.outboxes.1 life.outboxes.2 (_, sym life.keeps.inbox_adds)
 
     -- what is left of both journals
-    images : outboxes.is_broken closed ≡ false → ∥ LeavesImages (may_leave now_out_disk) (records_of_history l.closing) [] ∥₁
-    images sound = ∥∥₁_map (l.holds sound) (λ h image left. h.journal.images image (leaves_are (outboxes.journal_of closed) image (subst (λ (d : D). Leaves (may_leave d) image) now_out_is left)))
+    images : outboxes.is_broken closed ≡ false → ∥ LeavesImages (sees.may_leave after.out_disk) (records_of_history l.closing) [] ∥₁
+    images sound = ∥∥₁_map (l.holds sound) (λ h image left. h.journal.images image (leaves_are (outboxes.journal_of closed) image (subst (λ (d : D). Leaves (sees.may_leave d) image) now_out_is left)))
 
-    out_left : (HasRisen (disk out_disk) (disk now_out_disk) → ⊥) → ∥ LeavesImages (may_leave now_out_disk) (records_of_history l.closing) [] ∥₁
+    out_left : (HasRisen (sees.disk before.out_disk) (sees.disk after.out_disk) → ⊥) → ∥ LeavesImages (sees.may_leave after.out_disk) (records_of_history l.closing) [] ∥₁
     out_left never = ⊎_elim
-        (λ (b : outboxes.is_broken closed ≡ true). absurd (never (risen_over (disk out_disk) (disk now_out_disk) (outboxes.faults_of outbox) (outboxes.faults_of closed) out_least (sym out_count) (l.broken b))))
+        (λ (b : outboxes.is_broken closed ≡ true). absurd (never (risen_over (sees.disk before.out_disk) (sees.disk after.out_disk) (outboxes.faults_of outbox) (outboxes.faults_of closed) out_least (sym out_count) (l.broken b))))
         images
         (cases_Bool (outboxes.is_broken closed))
 
@@ -149,7 +151,7 @@ module _ {D J : Type 0} {H : Ghosts J} (outbox : Outbox J H) (told : D → Optio
         ap (λ (n : ℕ). record { entries = n; bytes = (outboxes.limits_of outbox).bytes }) limit.0 ∙ ap (λ (n : ℕ). record { entries = 2 ^ 24; bytes = n }) limit.1 in
         inr (subst (λ (x : Limits). WasFull x l.opening l.closing entries bytes) same w)
 
-    pub lived_over : LivedOver told may_leave disk config plans dialed later out now_out out_disk now_out_disk in_disk now_in_disk box since result
+    pub lived_over : LivedOver sees config plans before after box since result
     lived_over = record {
       opening = l.opening;
       closing = l.closing;
@@ -157,7 +159,7 @@ module _ {D J : Type 0} {H : Ghosts J} (outbox : Outbox J H) (told : D → Optio
       seen = l.seen;
       connections = l.connections;
       refused = l.refused;
-      out_opened = subst (λ (rs : List Record). ForSome (told out_disk) (λ content. IsJournal content rs)) same_records o.told;
+      out_opened = subst (λ (rs : List Record). ForSome (sees.told before.out_disk) (λ content. IsJournal content rs)) same_records o.told;
       in_opened = i.told;
       holds = i.holds;
       served = l.served;
@@ -166,39 +168,39 @@ module _ {D J : Type 0} {H : Ghosts J} (outbox : Outbox J H) (told : D → Optio
       life = life;
       contract = record { connections = connections; outbox = outbox_is_kept };
       out_left = out_left;
-      in_left = λ image left. held.journal.images image (leaves_are (inboxes.journal_of since) image (subst (λ (d : D). Leaves (may_leave d) image) now_in_is left));
+      in_left = λ image left. held.journal.images image (leaves_are (inboxes.journal_of since) image (subst (λ (d : D). Leaves (sees.may_leave d) image) now_in_is left));
       room = room;
       marked = l.marked;
       journal = λ e. ⊎_elim
-          (λ risen. inr (risen_over (disk in_disk) (disk now_in_disk) (inboxes.faults_of box) (inboxes.faults_of since) in_least (sym in_count) risen))
-          (λ risen. inl (risen_over (disk out_disk) (disk now_out_disk) (outboxes.faults_of outbox) (outboxes.faults_of closed) out_least (sym out_count) risen))
+          (λ risen. inr (risen_over (sees.disk before.in_disk) (sees.disk after.in_disk) (inboxes.faults_of box) (inboxes.faults_of since) in_least (sym in_count) risen))
+          (λ risen. inl (risen_over (sees.disk before.out_disk) (sees.disk after.out_disk) (outboxes.faults_of outbox) (outboxes.faults_of closed) out_least (sym out_count) risen))
           (l.journal e);
       full = λ entries bytes e. full entries bytes (l.full entries bytes e);
     }
 
   -- what was lived over the boxes was lived over their disks
-  pub lived_disks : {S K N : Type 0} (left : S → Option (List ℕ)) (taken : K → Option (List ℕ)) (carried : N → Option DialerTold) (sink : K → ℕ) (dials : N → ℕ) (senders : ℕ) (config : EndConfig) (input : S) (out now_out : K) (out_disk now_out_disk in_disk now_in_disk : D) (dialer now_dialer : N)
-      (closed : Outbox J H) (box since : Inbox J H) (status : Status) (o : OpensOutbox (told out_disk) outbox) (i : OpensInbox (told in_disk) box) (limit : ((outboxes.limits_of outbox).entries ≡ 2 ^ 24) × ((outboxes.limits_of outbox).bytes ≡ 2 ^ 30))
-      (in_limit : (inboxes.limits_of box).bytes ≡ 2 ^ 30) (now_out_is : now_out_disk ≡ disk_at (outboxes.journal_of closed)) (now_in_is : now_in_disk ≡ disk_at (inboxes.journal_of since))
-      (out_least : disk out_disk ≤ outboxes.faults_of outbox) (in_least : disk in_disk ≤ inboxes.faults_of box) (out_count : disk now_out_disk ≡ outboxes.faults_of closed) (in_count : disk now_in_disk ≡ inboxes.faults_of since)
-      → LivedOn left taken carried sink dials senders config input out now_out dialer now_dialer outbox closed box since status
-      → Lived H left taken told may_leave carried sink disk dials senders config input out now_out out_disk now_out_disk in_disk now_in_disk dialer now_dialer status
-  lived_disks left taken carried sink dials senders config input out now_out out_disk now_out_disk in_disk now_in_disk dialer now_dialer closed box since status o i limit in_limit now_out_is now_in_is out_least in_least out_count in_count l = record {
+  pub lived_disks : {C : Type 0} (senders : ℕ) (config : EndConfig) (before after : SessionOutside S K D N C) (closed : Outbox J H) (box since : Inbox J H) (status : Status)
+      (o : OpensOutbox (sees.told before.out_disk) outbox) (i : OpensInbox (sees.told before.in_disk) box) (limit : ((outboxes.limits_of outbox).entries ≡ 2 ^ 24) × ((outboxes.limits_of outbox).bytes ≡ 2 ^ 30))
+      (in_limit : (inboxes.limits_of box).bytes ≡ 2 ^ 30) (now_out_is : after.out_disk ≡ disk_at (outboxes.journal_of closed)) (now_in_is : after.in_disk ≡ disk_at (inboxes.journal_of since))
+      (out_least : sees.disk before.out_disk ≤ outboxes.faults_of outbox) (in_least : sees.disk before.in_disk ≤ inboxes.faults_of box) (out_count : sees.disk after.out_disk ≡ outboxes.faults_of closed) (in_count : sees.disk after.in_disk ≡ inboxes.faults_of since)
+      → LivedOn sees senders config before.input (over_boxes (live_of before) outbox box) (over_boxes (live_of after) closed since) status
+      → Lived H sees senders config before after status
+  lived_disks senders config before after closed box since status o i limit in_limit now_out_is now_in_is out_least in_least out_count in_count l = record {
     plans = l.plans;
     life = l.life;
     lived = ⊎_elim
         (λ b. inl (record {
           cause = b.cause;
           dialer_is = b.dialer_is;
-          out_kept = outbox_kept out_disk now_out_disk o (now_out_is ∙ ap (λ (x : Outbox J H). disk_at (outboxes.journal_of x)) b.outbox_is);
-          in_kept = inbox_kept in_disk now_in_disk box i (now_in_is ∙ ap (λ (x : Inbox J H). disk_at (inboxes.journal_of x)) b.box_is);
+          out_kept = outbox_kept before.out_disk after.out_disk o (now_out_is ∙ ap (λ (x : Outbox J H). disk_at (outboxes.journal_of x)) b.outbox_is);
+          in_kept = inbox_kept before.in_disk after.in_disk box i (now_in_is ∙ ap (λ (x : Inbox J H). disk_at (inboxes.journal_of x)) b.box_is);
         }))
         (λ h. inr (record {
-          box = box;
-          since = since;
+          old = box;
+          new = since;
           result = h.result;
           status_is = h.status_is;
-          over = lived_over config l.plans (carried dialer) (carried now_dialer) (taken out) (taken now_out) out_disk now_out_disk in_disk now_in_disk closed box since h.result o i limit in_limit now_out_is now_in_is out_least in_least out_count in_count h.boxes;
+          over = lived_over config l.plans before after closed box since h.result o i limit in_limit now_out_is now_in_is out_least in_least out_count in_count h.boxes;
         }))
         l.lived;
   }

@@ -14,7 +14,6 @@ use Rattle.jr_boxes.specs.declared.inbox.Inbox.{Inbox}
 use Rattle.jr_boxes.specs.declared.outbox.Outbox.{Outbox}
 use Rattle.jr_boxes.specs.declared.faults.SubmitFault.{SubmitFault}
 use Rattle.jr_boxes.specs.declared.faults.SubmitFault.TheVariants as submit
-use Rattle.gate_turn.specs.Views.{Part}
 use Rattle.gate_turn.specs.Places.{known}
 use Rattle.gate_senders.specs.declared.gate.Gate.{Gate}
 use Rattle.gate_plans.specs.Runs.{IsReady}
@@ -29,11 +28,13 @@ use Rattle.conn_serve.specs.Senders.{refusal_of, IsRefusal, FinishedFirst, Submi
 use Rattle.conn_serve.specs.Causes.{Tells}
 use Rattle.conn_serve.specs.Lines.{lines_from}
 use Rattle.conn_serve.specs.Served.{lacks_lines, ServedLife}
+use Rattle.conn_serve.specs.Moments.{Beside, ServingAt, beside, with_seen}
 use Rattle.conn_serve.specs.Opening.{opened_state, ServedBy}
 use Rattle.life_laws.specs.PlanLives.{LivedBoxes}
 use Rattle.life_laws.proofs.Passes.{answer_blames, blamed_at}
 use Rattle.cmd_base.specs.declared.status.Status.{Status}
-use Rattle.cmd_session.specs.Lived.{HasLived}
+use Rattle.cmd_session.specs.Lived.{OverBoxes, over_boxes, HasLived}
+use Rattle.cmd_session.specs.declared.outside.Live.{Live}
 
 module _ {J : Type 0} {G : Ghosts J} (gate : Gate J G) (made : ℕ) where
   -- the Finish leaves them their passes
@@ -108,12 +109,12 @@ pub dial_caused : {J : Type 0} {G : Ghosts J} {Q : Type 0} (gate : Gate J G) (be
 dial_caused gate before after connections refused result P w blamed answer e =
     blamed_at P connections faults.Dial blamed (answer_is connections refused faults.Dial (λ x. cc) (not_refused gate before after refused faults.Dial never_dial (λ x. cc) (λ x. cc) w) (sym answer ∙ e))
 
--- the same of lists that are equal
-pub served_moved : {J : Type 0} {G : Ghosts J} {O : Type 0} {H : Ghosts O} {gate : Gate O H} {dialed later : Option DialerTold} {out now_out : Option (List ℕ)} {a b c d : ℕ} {p q : Part} {m : State} {box since : Inbox J G} {before after other behind : List (Sender O H)} {result : Result (Unit {0}) ServeFault}
-    → before ≡ other → after ≡ behind → ServedBy gate dialed later out now_out a b c d p q m box since before after result → ServedBy gate dialed later out now_out a b c d p q m box since other behind result
-served_moved {gate = gate} {dialed = dialed} {later = later} {out = out} {now_out = now_out} {a = a} {b = b} {c = c} {d = d} {p = p} {q = q} {m = m} {box = box} {since = since} {after = after} {other = other} {result = result} first second s =
-    subst (λ (ss : List (Sender _ _)). ServedBy gate dialed later out now_out a b c d p q m box since other ss result) second
-    (subst (λ (ss : List (Sender _ _)). ServedBy gate dialed later out now_out a b c d p q m box since ss after result) first s)
+-- what served senders, of lists that are equal
+pub served_moved : {J : Type 0} {G : Ghosts J} {O : Type 0} {H : Ghosts O} {gate : Gate O H} {old new : ServingAt J G O H} {m : State} {before after : List (Sender O H)} {result : Result (Unit {0}) ServeFault}
+    → ServedBy gate old new m result → old.senders ≡ before → new.senders ≡ after → ServedBy gate (record old { senders = before }) (record new { senders = after }) m result
+served_moved {gate = gate} {old = old} {new = new} {m = m} {before = before} {result = result} s first second =
+    subst (λ (ss : List (Sender _ _)). ServedBy gate (record old { senders = before }) (record new { senders = ss }) m result) second
+    (subst (λ (ss : List (Sender _ _)). ServedBy gate (record old { senders = ss }) new m result) first s)
 
 -- OUT that took nothing first took what it took behind that
 takes_earlier : (old mid new : Option (List ℕ)) (lines : List ℕ) → Appends old mid [] → Appends mid new lines → Appends old new lines
@@ -125,8 +126,9 @@ tells_earlier : (lacking : Bool) (old mid new : Option (List ℕ)) (lines : List
 tells_earlier false old mid new lines h t = takes_earlier old mid new lines h t
 tells_earlier true old mid new lines h t = record { count = t.count; within = t.within; appended = takes_earlier old mid new (take t.count lines) h t.appended }
 
-module _ {J : Type 0} {G : Ghosts J} {O : Type 0} {H : Ghosts O} (dialed later : Option DialerTold) (old out now_out : Option (List ℕ)) (config other : EndConfig) (plans : List (List (List ℕ))) (outbox closed : Outbox O H) (box since : Inbox J G) where
-  served_earlier : (before seen : History) (m : State) (result : Result LifeEnd ServeFault) → Appends old out [] → ServedLife dialed later out now_out before seen m box since result → ServedLife dialed later old now_out before seen m box since result
+module _ {J : Type 0} {G : Ghosts J} (taken : Option (List ℕ)) (old new : Beside J G) where
+  served_earlier : (before seen : History) (m : State) (result : Result LifeEnd ServeFault) → Appends taken old.out [] → ServedLife (with_seen old before) (with_seen new seen) m result
+      → ServedLife (with_seen (record old { out = taken }) before) (with_seen new seen) m result
   served_earlier before seen m result h s = record {
     ended = s.ended;
     given_up = s.given_up;
@@ -135,16 +137,17 @@ module _ {J : Type 0} {G : Ghosts J} {O : Type 0} {H : Ghosts O} (dialed later :
     were = s.were;
     gave_up = s.gave_up;
     refuses = s.refuses;
-    lines = tells_earlier (lacks_lines result) old out now_out (lines_from 1 (s.ended ++ option_to_list s.given_up)) h s.lines;
+    lines = tells_earlier (lacks_lines result) taken old.out new.out (lines_from 1 (s.ended ++ option_to_list s.given_up)) h s.lines;
     came = s.came;
     tells = s.tells;
     answer = s.answer;
     past = s.past;
   }
 
-  boxes_earlier : (result : Result (Unit {0}) ServeFault) → Appends old out [] → LivedBoxes dialed later out now_out config plans outbox closed box since result → LivedBoxes dialed later old now_out config plans outbox closed box since result
+  boxes_earlier : {O : Type 0} {H : Ghosts O} (config : EndConfig) (plans : List (List (List ℕ))) (outbox closed : Outbox O H) (result : Result (Unit {0}) ServeFault) → Appends taken old.out [] → LivedBoxes config plans old new outbox closed result
+      → LivedBoxes config plans (record old { out = taken }) new outbox closed result
   unfolding served_earlier
-  boxes_earlier result h l = record {
+  boxes_earlier config plans outbox closed result h l = record {
     opening = l.opening;
     closing = l.closing;
     seen = l.seen;
@@ -157,7 +160,7 @@ module _ {J : Type 0} {G : Ghosts J} {O : Type 0} {H : Ghosts O} (dialed later :
     broken = l.broken;
     plans_kept = l.plans_kept;
     begins = l.begins;
-    served = served_earlier l.opening l.seen (fresh config (opened_state l.opening box) (2 ^ 24)) l.connections h l.served;
+    served = served_earlier l.opening l.seen (fresh config (opened_state l.opening old.box) (2 ^ 24)) l.connections h l.served;
     limits = l.limits;
     answer = l.answer;
     refusal = l.refusal;
@@ -166,7 +169,12 @@ module _ {J : Type 0} {G : Ghosts J} {O : Type 0} {H : Ghosts O} (dialed later :
     full = l.full;
   }
 
-  -- what was lived behind a push of nothing, by an equal configuration
-  pub lived_from : (status : Status) → Appends old out [] → config ≡ other → HasLived dialed later out now_out config plans outbox closed box since status → HasLived dialed later old now_out other plans outbox closed box since status
-  lived_from status h same l = subst (λ (c : EndConfig). HasLived dialed later old now_out c plans outbox closed box since status) same
-      (record { result = l.result; status_is = l.status_is; boxes = boxes_earlier l.result h l.boxes })
+-- what was lived behind a push of nothing
+pub lived_from : {J : Type 0} {G : Ghosts J} {O : Type 0} {H : Ghosts O} {K N C : Type 0} (taken : K → Option (List ℕ)) (carried : N → Option DialerTold) (config : EndConfig) (plans : List (List (List ℕ)))
+    (old : Live K N C) (out : K) (outbox : Outbox O H) (box : Inbox J G) (after : OverBoxes K N C (Outbox O H) (Inbox J G)) (status : Status) → Appends (taken old.out) (taken out) []
+    → HasLived taken carried config plans (over_boxes (record { out = out; dialer = old.dialer; clock = old.clock }) outbox box) after status → HasLived taken carried config plans (over_boxes old outbox box) after status
+lived_from taken carried config plans old out outbox box after status h l = record {
+  result = l.result;
+  status_is = l.status_is;
+  boxes = boxes_earlier (taken old.out) (beside (carried old.dialer) (taken out) box) (beside (carried after.live.dialer) (taken after.live.out) after.inbox) config plans outbox after.outbox l.result h l.boxes;
+}

@@ -1,14 +1,11 @@
 -- What the journals of a session are opened as (this project's profile).
-use Rattle.std.specs.Prelude.{◌≡◌, ℕ, ◌≤◌, false, List, [], Option}
+use Rattle.std.specs.Prelude.{◌≡◌, ℕ, List, Option}
 use Rattle.std.specs.Option.{ForSome}
-use Rattle.gw_outside.specs.declared.disk.Disk.{Ghosts}
 use Rattle.session_model.specs.Journal.{History}
 use Rattle.session_model.specs.Inbox.{InboxRecord}
 use Rattle.fixp_msgs.specs.declared.flow.Flow.{Flow}
 use Rattle.jr_record.specs.declared.record.Record.{Record}
 use Rattle.jr_record.specs.Images.{IsJournal, IsDamaged, IsNotFormatted}
-use Rattle.jr_log.specs.Log.{disk_of}
-use Rattle.jr_log.specs.declared.log.LogJournal.{LogJournal}
 use Rattle.jr_boxes.specs.declared.faults.Which.{Which}
 use Rattle.jr_boxes.specs.declared.faults.Which.TheVariants.{Outbox, Inbox}
 use Rattle.jr_boxes.specs.declared.faults.JournalCause.{JournalCause}

@@ -1,13 +1,10 @@
 -- What a session reads before it begins (this project's profile).
 use Rattle.std.specs.Prelude.{◌≡◌, ℕ, ◌<◌, ◌≤◌, List, length, Option, Some, Result, Ok}
-use Rattle.std.specs.Option.{ForSome}
 use Rattle.fixp_msgs.specs.declared.flow.Flow.{Flow}
 use Rattle.fixp_shake.specs.declared.config.Role.{Role}
-use Rattle.fixp_shake.specs.declared.config.Role.TheVariants as roles
 use Rattle.fixp_shake.specs.declared.config.EndConfig.{EndConfig}
 use Rattle.schema_toml.specs.declared.fault.ConfigFault.{ConfigFault}
-use Rattle.cmd_config.specs.declared.configuration.Role as config_roles
-use Rattle.cmd_config.specs.declared.configuration.Role.TheVariants.{Accept, Connect}
+use Rattle.cmd_config.specs.declared.purpose.Purpose.TheVariants.{Live}
 use Rattle.cmd_config.specs.declared.configuration.Link.{Link}
 use Rattle.cmd_config.specs.declared.configuration.Configuration.{Configuration}
 use Rattle.cmd_config.specs.Settings.{configuration_of_text, own_flow, peer_flow}
@@ -17,14 +14,9 @@ use Rattle.cmd_base.specs.declared.status.Status.{Status}
 use Rattle.cmd_base.specs.declared.status.Status.TheVariants.{InputFault, Message, Memory}
 use Rattle.cmd_base.specs.declared.status.Bad.TheVariants.{Line, TooLong}
 
--- what the configuration of an end of this role is for
-abbrev pub config_role : Role → config_roles.Role
-config_role roles.Initiator = Connect
-config_role roles.Acceptor = Accept
-
 -- what a text configures for an end of this role, or why it does not
 abbrev pub configuration_at : Role → List ℕ → Result Configuration ConfigFault
-configuration_at role = configuration_of_text (config_role role)
+configuration_at role = configuration_of_text (Live role)
 
 -- CONFIG, where it tells its content, spells this configuration for an end of this role
 abbrev pub IsConfigured : Role → Option (List ℕ) → Configuration → Type 0
@@ -32,14 +24,14 @@ IsConfigured role told c = (text : List ℕ) → told ≡ Some text → configur
 
 -- the flow that an end of this role receives
 abbrev pub flow_received : Role → Link → Flow
-flow_received role link = peer_flow (config_role role) link.client_flow link.server_flow
+flow_received role link = peer_flow role link.client_flow link.server_flow
 
 -- an end of this role, as its configuration has it
 abbrev pub end_of : Role → Link → EndConfig
 end_of role link = record {
   role = role;
   session = link.session;
-  own_flow = own_flow (config_role role) link.client_flow link.server_flow;
+  own_flow = own_flow role link.client_flow link.server_flow;
   peer_flow = flow_received role link;
   keepalive = link.keepalive;
   credentials = link.credentials;

@@ -29,12 +29,16 @@ use Rattle.conn_serve.specs.declared.answer.ServeFault.TheVariants as faults
 use Rattle.conn_serve.specs.declared.answer.LifeEnd.{LifeEnd}
 use Rattle.conn_serve.specs.Answers.{answer_of}
 use Rattle.conn_serve.specs.Connections.{adds_of, refused_of_all, wanted_of_all}
+use Rattle.conn_serve.specs.Moments.{life_at, beside}
 use Rattle.conn_serve.specs.Served.{ServedLife}
 use Rattle.conn_serve.specs.Opening.{opened_state, IsUnrefused}
 use Rattle.life_laws.specs.Lives.{all_of, LifeOfLoop}
 use Rattle.life_laws.specs.Plans.{plan_in}
 use Rattle.life_laws.specs.PlanLives.{IsOfSender, LivedBoxes, WasFull}
 use Rattle.cmd_session.specs.Inputs.{ArePlanned}
+use Rattle.cmd_session.specs.Outsides.{Sees, live_of}
+use Rattle.cmd_session.specs.declared.outside.Live.{Live}
+use Rattle.cmd_session.specs.declared.outside.SessionOutside.{SessionOutside}
 
 -- the status of a life that was served so
 abbrev pub status_of : Result (Unit {0}) ServeFault → Status
@@ -98,74 +102,100 @@ module _ {J : Type 0} {G : Ghosts J} where
   -- the contract of one end, by these plans. What is left are the records of the closing history and list, and in the inbox a beginning
   -- of those refused. Every record that the life added to its inbox had room, and so had the one whose append the disk failed. Why it
   -- answers so: the connections and the refusal say it (`IsLifeAnswer`, `answer_of`), and the counts
-  pub record LivedOver {D : Type 0} (told : D → Option (List ℕ)) (may_leave : D → List ℕ → Type 0) (disk : D → ℕ) (config : EndConfig) (plans : List (List (List ℕ))) (dialed later : Option DialerTold) (out now_out : Option (List ℕ)) (out_disk now_out_disk in_disk now_in_disk : D) (box since : Inbox J G) (result : Result (Unit {0}) ServeFault) : Type 0 where
+  pub record LivedOver {S K D N C : Type 0} (sees : Sees S K D N) (config : EndConfig) (plans : List (List (List ℕ)))
+      (before after : SessionOutside S K D N C) (old new : Inbox J G) (result : Result (Unit {0}) ServeFault) : Type 0 where
     pub opening : History
     pub closing : History
     pub inbox : List InboxRecord
     pub seen : History
     pub connections : Result LifeEnd ServeFault
     pub refused : Option ServeFault
-    pub out_opened : ForSome (told out_disk) (λ content. IsJournal content (records_of_history opening))
-    pub in_opened : ForSome (told in_disk) (λ content. IsJournal content (records_of_inbox inbox))
-    pub holds : inboxes.HoldsBox box inbox []
-    pub served : ServedLife dialed later out now_out opening seen (fresh config (opened_state opening box) (2 ^ 24)) box since connections
+    pub out_opened : ForSome (sees.told before.out_disk) (λ content. IsJournal content (records_of_history opening))
+    pub in_opened : ForSome (sees.told before.in_disk) (λ content. IsJournal content (records_of_inbox inbox))
+    pub holds : inboxes.HoldsBox old inbox []
+    pub served : ServedLife (life_at (sees.carried before.dialer) (sees.taken before.out) opening old)
+        (life_at (sees.carried after.dialer) (sees.taken after.out) seen new) (fresh config (opened_state opening old) (2 ^ 24)) connections
     pub answer : result ≡ answer_of connections refused
     pub refusal : IfSome refused IsOfSender
-    pub life : LifeOfLoop (outbox_of opening) (outbox_of closing) [] (fresh config (opened_state opening box) (2 ^ 24)) inbox (all_of served.ended served.given_up) (refused_of_all (option_to_list served.given_up))
+    pub life : LifeOfLoop (outbox_of opening) (outbox_of closing) [] (fresh config (opened_state opening old) (2 ^ 24)) inbox
+        (all_of served.ended served.given_up) (refused_of_all (option_to_list served.given_up))
     pub contract : KeepsContract (model_flow config.own_flow) (model_flow config.peer_flow) (plan_in plans) (life_in (machine_life life.life))
-    pub out_left : (HasRisen (disk out_disk) (disk now_out_disk) → ⊥) → ∥ LeavesImages (may_leave now_out_disk) (records_of_history closing) [] ∥₁
-    pub in_left : LeavesImages (may_leave now_in_disk) (records_of_inbox (inbox ++ adds_of (all_of served.ended served.given_up))) (records_of_inbox (refused_of_all (option_to_list served.given_up)))
-    pub room : HaveRoom (2 ^ 30) (journal_size (records_of_inbox inbox)) (adds_of (all_of served.ended served.given_up) ++ refused_of_all (option_to_list served.given_up))
+    pub out_left : (HasRisen (sees.disk before.out_disk) (sees.disk after.out_disk) → ⊥)
+        → ∥ LeavesImages (sees.may_leave after.out_disk) (records_of_history closing) [] ∥₁
+    pub in_left : LeavesImages (sees.may_leave after.in_disk) (records_of_inbox (inbox ++ adds_of (all_of served.ended served.given_up)))
+        (records_of_inbox (refused_of_all (option_to_list served.given_up)))
+    pub room : HaveRoom (2 ^ 30) (journal_size (records_of_inbox inbox))
+        (adds_of (all_of served.ended served.given_up) ++ refused_of_all (option_to_list served.given_up))
     pub marked : IsUnrefused result → 0 < length plans → closing.finished ≡ true
-    pub journal : result ≡ Err faults.Journal → HasRisen (disk out_disk) (disk now_out_disk) ⊎ HasRisen (disk in_disk) (disk now_in_disk)
-    pub full : (entries bytes : ℕ) → result ≡ Err (faults.Full entries bytes) → FullInbox (inbox ++ adds_of (all_of served.ended served.given_up)) (wanted_of_all (option_to_list served.given_up)) entries bytes ⊎ WasFull limits opening closing entries bytes
+    pub journal : result ≡ Err faults.Journal → HasRisen (sees.disk before.out_disk) (sees.disk after.out_disk)
+        ⊎ HasRisen (sees.disk before.in_disk) (sees.disk after.in_disk)
+    pub full : (entries bytes : ℕ) → result ≡ Err (faults.Full entries bytes)
+        → FullInbox (inbox ++ adds_of (all_of served.ended served.given_up)) (wanted_of_all (option_to_list served.given_up)) entries bytes
+        ⊎ WasFull limits opening closing entries bytes
 
 -- INPUT has these plans, and the status is one of a life, with its cause where it blames OUT or the dialer
-pub record IsPlannedLife {S K N : Type 0} (left : S → Option (List ℕ)) (sink : K → ℕ) (dials : N → ℕ) (senders : ℕ) (input : S) (out now_out : K) (dialer now_dialer : N) (plans : List (List (List ℕ))) (status : Status) : Type 0 where
-  pub planned : ArePlanned senders (left input) plans
+pub record IsPlannedLife {S K D N C : Type 0} (sees : Sees S K D N) (senders : ℕ) (plans : List (List (List ℕ))) (input : S) (before after : Live K N C)
+    (status : Status) : Type 0 where
+  pub planned : ArePlanned senders (sees.left input) plans
   pub of_life : IsOfLife status
-  pub output : status ≡ OutputFault → HasRisen (sink out) (sink now_out)
-  pub dial : status ≡ DialFault → HasRisen (dials dialer) (dials now_dialer)
+  pub output : status ≡ OutputFault → HasRisen (sees.sink before.out) (sees.sink after.out)
+  pub dial : status ≡ DialFault → HasRisen (sees.dials before.dialer) (sees.dials after.dialer)
 
--- no life began, for want of memory, or since OUT could not be begun: the dialer and the boxes are as they were
-pub record BeganNone {K N I O : Type 0} (sink : K → ℕ) (out now_out : K) (dialer now_dialer : N) (box since : I) (outbox closed : O) (status : Status) : Type 0 where
-  pub cause : (status ≡ Memory) ⊎ ((status ≡ OutputFault) × HasRisen (sink out) (sink now_out))
-  pub dialer_is : now_dialer ≡ dialer
-  pub box_is : since ≡ box
-  pub outbox_is : closed ≡ outbox
+-- why no life began: for want of memory, or since OUT could not be begun
+abbrev pub IsUnbegun : {K : Type 0} → (K → ℕ) → (old new : K) → Status → Type 0
+IsUnbegun sink old new status = (status ≡ Memory) ⊎ ((status ≡ OutputFault) × HasRisen (sink old) (sink new))
 
--- the same over disks: each leaves what it held
-pub record LeftAll {K D N : Type 0} (told : D → Option (List ℕ)) (may_leave : D → List ℕ → Type 0) (sink : K → ℕ) (out now_out : K) (dialer now_dialer : N) (out_disk now_out_disk in_disk now_in_disk : D) (status : Status) : Type 0 where
-  pub cause : (status ≡ Memory) ⊎ ((status ≡ OutputFault) × HasRisen (sink out) (sink now_out))
-  pub dialer_is : now_dialer ≡ dialer
-  pub out_kept : KeepsRecords told may_leave out_disk now_out_disk
-  pub in_kept : KeepsRecords told may_leave in_disk now_in_disk
+-- no life began: the dialer is as it was, and each disk leaves what it held
+pub record LeftAll {S K D N C : Type 0} (sees : Sees S K D N) (before after : SessionOutside S K D N C) (status : Status) : Type 0 where
+  pub cause : IsUnbegun sees.sink before.out after.out status
+  pub dialer_is : after.dialer ≡ before.dialer
+  pub out_kept : KeepsRecords sees.told sees.may_leave before.out_disk after.out_disk
+  pub in_kept : KeepsRecords sees.told sees.may_leave before.in_disk after.in_disk
+
+-- what a life over boxes is lived on: OUT, the dialer and the clock, and the boxes
+pub record OverBoxes (K N C O I : Type 0) : Type 0 where
+  pub live : Live K N C
+  pub outbox : O
+  pub inbox : I
+
+abbrev pub over_boxes : {K N C O I : Type 0} → Live K N C → O → I → OverBoxes K N C O I
+over_boxes live outbox inbox = record { live = live; outbox = outbox; inbox = inbox }
+
+-- no life began: the dialer and the boxes are as they were
+pub record BeganNone {K N C O I : Type 0} (sink : K → ℕ) (before after : OverBoxes K N C O I) (status : Status) : Type 0 where
+  pub cause : IsUnbegun sink before.live.out after.live.out status
+  pub dialer_is : after.live.dialer ≡ before.live.dialer
+  pub box_is : after.inbox ≡ before.inbox
+  pub outbox_is : after.outbox ≡ before.outbox
 
 module _ {J : Type 0} {G : Ghosts J} {O : Type 0} {H : Ghosts O} where
   -- it lived over the boxes, and the status is that of its answer
-  pub record HasLived (dialed later : Option DialerTold) (out now_out : Option (List ℕ)) (config : EndConfig) (plans : List (List (List ℕ))) (outbox closed : Outbox O H) (box since : Inbox J G) (status : Status) : Type 0 where
+  pub record HasLived {K N C : Type 0} (taken : K → Option (List ℕ)) (carried : N → Option DialerTold) (config : EndConfig) (plans : List (List (List ℕ)))
+      (before after : OverBoxes K N C (Outbox O H) (Inbox J G)) (status : Status) : Type 0 where
     pub result : Result (Unit {0}) ServeFault
     pub status_is : status ≡ status_of result
-    pub boxes : LivedBoxes dialed later out now_out config plans outbox closed box since result
+    pub boxes : LivedBoxes config plans (beside (carried before.live.dialer) (taken before.live.out) before.inbox)
+        (beside (carried after.live.dialer) (taken after.live.out) after.inbox) before.outbox after.outbox result
 
   -- INPUT has plans; OUT was begun; and no life began, or one was lived over the boxes
-  pub record LivedOn {S K N : Type 0} (left : S → Option (List ℕ)) (taken : K → Option (List ℕ)) (carried : N → Option DialerTold) (sink : K → ℕ) (dials : N → ℕ) (senders : ℕ) (config : EndConfig) (input : S) (out now_out : K) (dialer now_dialer : N) (outbox closed : Outbox O H) (box since : Inbox J G) (status : Status) : Type 0 where
+  pub record LivedOn {S K D N C : Type 0} (sees : Sees S K D N) (senders : ℕ) (config : EndConfig) (input : S)
+      (before after : OverBoxes K N C (Outbox O H) (Inbox J G)) (status : Status) : Type 0 where
     pub plans : List (List (List ℕ))
-    pub life : IsPlannedLife left sink dials senders input out now_out dialer now_dialer plans status
-    pub lived : BeganNone sink out now_out dialer now_dialer box since outbox closed status
-        ⊎ HasLived (carried dialer) (carried now_dialer) (taken out) (taken now_out) config plans outbox closed box since status
+    pub life : IsPlannedLife sees senders plans input before.live after.live status
+    pub lived : BeganNone sees.sink before after status ⊎ HasLived sees.taken sees.carried config plans before after status
 
 -- it lived over both disks, and the status is that of its answer
-pub record HasLivedOver {D J : Type 0} (G : Ghosts J) (told : D → Option (List ℕ)) (may_leave : D → List ℕ → Type 0) (disk : D → ℕ) (config : EndConfig) (plans : List (List (List ℕ))) (dialed later : Option DialerTold) (out now_out : Option (List ℕ)) (out_disk now_out_disk in_disk now_in_disk : D) (status : Status) : Type 0 where
-  pub box : Inbox J G
-  pub since : Inbox J G
+pub record HasLivedOver {S K D N C J : Type 0} (G : Ghosts J) (sees : Sees S K D N) (config : EndConfig) (plans : List (List (List ℕ)))
+    (before after : SessionOutside S K D N C) (status : Status) : Type 0 where
+  pub old : Inbox J G
+  pub new : Inbox J G
   pub result : Result (Unit {0}) ServeFault
   pub status_is : status ≡ status_of result
-  pub over : LivedOver told may_leave disk config plans dialed later out now_out out_disk now_out_disk in_disk now_in_disk box since result
+  pub over : LivedOver sees config plans before after old new result
 
 -- INPUT has plans; OUT was begun; and no life began, or one was lived over both disks
-pub record Lived {S K D N J : Type 0} (G : Ghosts J) (left : S → Option (List ℕ)) (taken : K → Option (List ℕ)) (told : D → Option (List ℕ)) (may_leave : D → List ℕ → Type 0) (carried : N → Option DialerTold) (sink : K → ℕ) (disk : D → ℕ) (dials : N → ℕ) (senders : ℕ) (config : EndConfig) (input : S) (out now_out : K) (out_disk now_out_disk in_disk now_in_disk : D) (dialer now_dialer : N) (status : Status) : Type 0 where
+pub record Lived {S K D N C J : Type 0} (G : Ghosts J) (sees : Sees S K D N) (senders : ℕ) (config : EndConfig) (before after : SessionOutside S K D N C)
+    (status : Status) : Type 0 where
   pub plans : List (List (List ℕ))
-  pub life : IsPlannedLife left sink dials senders input out now_out dialer now_dialer plans status
-  pub lived : LeftAll told may_leave sink out now_out dialer now_dialer out_disk now_out_disk in_disk now_in_disk status
-      ⊎ HasLivedOver G told may_leave disk config plans (carried dialer) (carried now_dialer) (taken out) (taken now_out) out_disk now_out_disk in_disk now_in_disk status
+  pub life : IsPlannedLife sees senders plans before.input (live_of before) (live_of after) status
+  pub lived : LeftAll sees before after status ⊎ HasLivedOver G sees config plans before after status

@@ -1,21 +1,63 @@
 -- What the devices of a session tell, how often they failed, and which of them a run left as they were (this project's profile).
-use Rattle.std.specs.Prelude.{◌≡◌, ℕ}
+use Rattle.std.specs.Prelude.{◌≡◌, ℕ, List, Option}
+use Rattle.gw_outside.specs.declared.streams.Source.{Ghosts as SourceGhosts}
+use Rattle.gw_outside.specs.declared.streams.Sink.{Ghosts as SinkGhosts}
+use Rattle.gw_outside.specs.declared.disk.Disk.{Ghosts as DiskGhosts}
+use Rattle.gw_links.specs.declared.dialer.Dialer.{Ghosts as DialerGhosts}
+use Rattle.gw_links.specs.Dialers.{DialerTold}
 use Rattle.cmd_base.specs.Causes.{SessionCounts}
+use Rattle.cmd_base.specs.Contents.{Disks}
+use Rattle.cmd_session.specs.declared.outside.Live.{Live}
 use Rattle.cmd_session.specs.declared.outside.SessionOutside.{SessionOutside}
 
--- the counts of faults
-abbrev pub counts_of : {S K D N C : Type 0} → (S → ℕ) → (K → ℕ) → (D → ℕ) → (N → ℕ) → SessionOutside S K D N C → SessionCounts
-counts_of source sink disk dialer outside = record {
-  config = source outside.config;
-  input = source outside.input;
-  out = sink outside.out;
-  out_disk = disk outside.out_disk;
-  in_disk = disk outside.in_disk;
-  dialer = dialer outside.dialer;
+-- What devices of these kinds tell of themselves: what a source has left, what a sink has taken, what a disk holds and may leave at a stop,
+-- and what the connections of a dialer carried; and how often each has failed
+pub record Sees (S K D N : Type 0) : Type 1 where
+  pub left : S → Option (List ℕ)
+  pub taken : K → Option (List ℕ)
+  pub told : D → Option (List ℕ)
+  pub may_leave : D → List ℕ → Type 0
+  pub carried : N → Option DialerTold
+  pub source : S → ℕ
+  pub sink : K → ℕ
+  pub disk : D → ℕ
+  pub dials : N → ℕ
+
+-- as the contracts of the devices have it
+abbrev pub sees : {S K D N L : Type 0} → SourceGhosts S → SinkGhosts K → DiskGhosts D → DialerGhosts N L → Sees S K D N
+sees source sink disk dialer = record {
+  left = source.left;
+  taken = sink.taken;
+  told = disk.told;
+  may_leave = disk.may_leave;
+  carried = dialer.told;
+  source = source.faults;
+  sink = sink.faults;
+  disk = disk.faults;
+  dials = dialer.faults;
 }
 
+-- the counts of faults
+abbrev pub counts_of : {S K D N C : Type 0} → Sees S K D N → SessionOutside S K D N C → SessionCounts
+counts_of seen outside = record {
+  config = seen.source outside.config;
+  input = seen.source outside.input;
+  out = seen.sink outside.out;
+  out_disk = seen.disk outside.out_disk;
+  in_disk = seen.disk outside.in_disk;
+  dialer = seen.dials outside.dialer;
+}
+
+-- what a life is lived on: OUT, the dialer and the clock
+abbrev pub live_of : {S K D N C : Type 0} → SessionOutside S K D N C → Live K N C
+live_of outside = record { out = outside.out; dialer = outside.dialer; clock = outside.clock }
+
+-- the disks of the two journals
+abbrev pub disks_of : {S K D N C : Type 0} → SessionOutside S K D N C → Disks D
+disks_of outside = record { outbox = outside.out_disk; inbox = outside.in_disk }
+
 -- OUT, the dialer and the clock are as they were
-pub record KeepsLive {S K D N C : Type 0} (before after : SessionOutside S K D N C) : Type 0 where
+pub record KeepsLive {K N C : Type 0} (before after : Live K N C) : Type 0 where
   pub out : after.out ≡ before.out
   pub dialer : after.dialer ≡ before.dialer
   pub clock : after.clock ≡ before.clock
@@ -23,7 +65,7 @@ pub record KeepsLive {S K D N C : Type 0} (before after : SessionOutside S K D N
 -- what comes behind the inbox is as it was
 pub record KeepsBehindInbox {S K D N C : Type 0} (before after : SessionOutside S K D N C) : Type 0 where
   pub input : after.input ≡ before.input
-  pub live : KeepsLive before after
+  pub live : KeepsLive (live_of before) (live_of after)
 
 -- what comes behind the outbox is as it was
 pub record KeepsBehindOutbox {S K D N C : Type 0} (before after : SessionOutside S K D N C) : Type 0 where

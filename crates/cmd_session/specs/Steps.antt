@@ -6,78 +6,78 @@ use Rattle.gw_outside.specs.Faults.{HasRisen}
 use Rattle.fixp_msgs.specs.declared.flow.Flow.{Flow}
 use Rattle.fixp_shake.specs.declared.config.Role.{Role}
 use Rattle.cmd_config.specs.declared.configuration.Configuration.{Configuration}
-use Rattle.gw_links.specs.Dialers.{DialerTold}
 use Rattle.jr_record.specs.declared.journal.Journal.{Ghosts}
 use Rattle.jr_boxes.specs.declared.faults.Which.TheVariants.{Outbox, Inbox}
+use Rattle.cmd_base.specs.Contents.{Disks}
 use Rattle.cmd_base.specs.Texts.{IsUnconfigured, Refuses}
 use Rattle.cmd_base.specs.declared.status.Status.{Status}
 use Rattle.cmd_base.specs.declared.status.Status.TheVariants.{InputFault, JournalFault}
 use Rattle.cmd_session.specs.Inputs.{IsConfigured, configuration_at, flow_received, end_of, RefusesInput}
 use Rattle.cmd_session.specs.Boxes.{IsBox, IsNotOpened}
 use Rattle.cmd_session.specs.Lived.{Lived}
-use Rattle.cmd_session.specs.Outsides.{KeepsBehindInbox, KeepsBehindOutbox, KeepsBehindConfig}
+use Rattle.cmd_session.specs.Outsides.{Sees, live_of, disks_of, KeepsLive, KeepsBehindInbox, KeepsBehindConfig}
+use Rattle.cmd_session.specs.declared.outside.Live.{Live}
 use Rattle.cmd_session.specs.declared.outside.SessionOutside.{SessionOutside}
 
 -- INPUT was refused, with its fault, or could not be read; OUT, the dialer and the clock are as they were
-pub record RefusedInput {S K N C : Type 0} (left : S → Option (List ℕ)) (source : S → ℕ) (senders : ℕ) (input now_input : S) (out now_out : K) (dialer now_dialer : N) (clock now_clock : C) (status : Status) : Type 0 where
-  pub refused : RefusesInput senders (left input) status
-  pub cause : status ≡ InputFault → HasRisen (source input) (source now_input)
-  pub out_is : now_out ≡ out
-  pub dialer_is : now_dialer ≡ dialer
-  pub clock_is : now_clock ≡ clock
+pub record RefusedInput {S K D N C : Type 0} (sees : Sees S K D N) (senders : ℕ) (old new : S) (before after : Live K N C) (status : Status) : Type 0 where
+  pub refused : RefusesInput senders (sees.left old) status
+  pub cause : status ≡ InputFault → HasRisen (sees.source old) (sees.source new)
+  pub live : KeepsLive before after
 
 -- the disk of the outbox holds none, or could not be opened; that of the inbox is as it was
-pub record RefusedOutbox {D : Type 0} (told : D → Option (List ℕ)) (disk : D → ℕ) (flow : Flow) (out_disk now_out_disk in_disk now_in_disk : D) (status : Status) : Type 0 where
-  pub refused : IsNotOpened Outbox flow (told out_disk) status
-  pub cause : status ≡ JournalFault → HasRisen (disk out_disk) (disk now_out_disk)
-  pub in_disk_is : now_in_disk ≡ in_disk
+pub record RefusedOutbox {D : Type 0} (told : D → Option (List ℕ)) (disk : D → ℕ) (flow : Flow) (before after : Disks D) (status : Status) : Type 0 where
+  pub refused : IsNotOpened Outbox flow (told before.outbox) status
+  pub cause : status ≡ JournalFault → HasRisen (disk before.outbox) (disk after.outbox)
+  pub inbox_is : after.inbox ≡ before.inbox
 
 -- the disk of the outbox holds one; that of the inbox holds none of the peer's flow, or could not be opened
-pub record RefusedInbox {D : Type 0} (told : D → Option (List ℕ)) (disk : D → ℕ) (flow : Flow) (out_disk in_disk now_in_disk : D) (status : Status) : Type 0 where
-  pub outbox : ForSome (told out_disk) (IsBox Outbox flow)
-  pub refused : IsNotOpened Inbox flow (told in_disk) status
-  pub cause : status ≡ JournalFault → HasRisen (disk in_disk) (disk now_in_disk)
+pub record RefusedInbox {D : Type 0} (told : D → Option (List ℕ)) (disk : D → ℕ) (flow : Flow) (before after : Disks D) (status : Status) : Type 0 where
+  pub outbox : ForSome (told before.outbox) (IsBox Outbox flow)
+  pub refused : IsNotOpened Inbox flow (told before.inbox) status
+  pub cause : status ≡ JournalFault → HasRisen (disk before.inbox) (disk after.inbox)
 
 -- both disks hold their boxes
-pub record HoldBoxes {D : Type 0} (told : D → Option (List ℕ)) (flow : Flow) (out_disk in_disk : D) : Type 0 where
-  pub outbox : ForSome (told out_disk) (IsBox Outbox flow)
-  pub inbox : ForSome (told in_disk) (IsBox Inbox flow)
+pub record HoldBoxes {D : Type 0} (told : D → Option (List ℕ)) (flow : Flow) (disks : Disks D) : Type 0 where
+  pub outbox : ForSome (told disks.outbox) (IsBox Outbox flow)
+  pub inbox : ForSome (told disks.inbox) (IsBox Inbox flow)
 
 -- how the boxes were not opened
-abbrev pub RefusedBoxes : {D : Type 0} → (D → Option (List ℕ)) → (D → ℕ) → Flow → (out_disk now_out_disk in_disk now_in_disk : D) → Status → Type 0
-RefusedBoxes told disk flow out_disk now_out_disk in_disk now_in_disk status =
-    RefusedOutbox told disk flow out_disk now_out_disk in_disk now_in_disk status ⊎ RefusedInbox told disk flow out_disk in_disk now_in_disk status
+abbrev pub RefusedBoxes : {D : Type 0} → (D → Option (List ℕ)) → (D → ℕ) → Flow → (before after : Disks D) → Status → Type 0
+RefusedBoxes told disk flow before after status = RefusedOutbox told disk flow before after status ⊎ RefusedInbox told disk flow before after status
 
 -- CONFIG was refused, with its fault, or could not be read; all behind it is as it was
-pub record StopsAtConfig {S K D N C : Type 0} (left : S → Option (List ℕ)) (source : S → ℕ) (role : Role) (before after : SessionOutside S K D N C) (status : Status) : Type 0 where
-  pub verdict : (text : List ℕ) → left before.config ≡ Some text → Refuses status (configuration_at role text)
+pub record StopsAtConfig {S K D N C : Type 0} (sees : Sees S K D N) (role : Role) (before after : SessionOutside S K D N C) (status : Status) : Type 0 where
+  pub verdict : (text : List ℕ) → sees.left before.config ≡ Some text → Refuses status (configuration_at role text)
   pub unconfigured : IsUnconfigured status
-  pub cause : status ≡ InputFault → HasRisen (source before.config) (source after.config)
+  pub cause : status ≡ InputFault → HasRisen (sees.source before.config) (sees.source after.config)
   pub kept : KeepsBehindConfig before after
 
 -- a box was not opened; INPUT and all behind it is as it was
-pub record StopsAtBoxes {S K D N C : Type 0} (told : D → Option (List ℕ)) (disk : D → ℕ) (role : Role) (c : Configuration) (before after : SessionOutside S K D N C) (status : Status) : Type 0 where
-  pub refused : RefusedBoxes told disk (flow_received role c.link) before.out_disk after.out_disk before.in_disk after.in_disk status
+pub record StopsAtBoxes {S K D N C : Type 0} (sees : Sees S K D N) (role : Role) (c : Configuration) (before after : SessionOutside S K D N C)
+    (status : Status) : Type 0 where
+  pub refused : RefusedBoxes sees.told sees.disk (flow_received role c.link) (disks_of before) (disks_of after) status
   pub kept : KeepsBehindInbox before after
 
 -- both boxes were opened, and then INPUT was refused, or the session lived
-pub record RunsOn {S K D N C J : Type 0} (G : Ghosts J) (left : S → Option (List ℕ)) (taken : K → Option (List ℕ)) (told : D → Option (List ℕ)) (may_leave : D → List ℕ → Type 0) (carried : N → Option DialerTold) (source : S → ℕ) (sink : K → ℕ) (disk : D → ℕ) (dials : N → ℕ) (role : Role) (c : Configuration) (before after : SessionOutside S K D N C) (status : Status) : Type 0 where
-  pub boxes : HoldBoxes told (flow_received role c.link) before.out_disk before.in_disk
-  pub ended : RefusedInput left source c.trade.senders before.input after.input before.out after.out before.dialer after.dialer before.clock after.clock status
-      ⊎ Lived G left taken told may_leave carried sink disk dials c.trade.senders (end_of role c.link) before.input before.out after.out before.out_disk after.out_disk before.in_disk after.in_disk before.dialer after.dialer status
+pub record RunsOn {S K D N C J : Type 0} (G : Ghosts J) (sees : Sees S K D N) (role : Role) (c : Configuration) (before after : SessionOutside S K D N C)
+    (status : Status) : Type 0 where
+  pub boxes : HoldBoxes sees.told (flow_received role c.link) (disks_of before)
+  pub ended : RefusedInput sees c.trade.senders before.input after.input (live_of before) (live_of after) status
+      ⊎ Lived G sees c.trade.senders (end_of role c.link) before after status
 
 -- where a run whose configuration is this ended
-abbrev pub EndsBehindConfig : {S K D N C J : Type 0} → Ghosts J → (S → Option (List ℕ)) → (K → Option (List ℕ)) → (D → Option (List ℕ)) → (D → List ℕ → Type 0) → (N → Option DialerTold) → (S → ℕ) → (K → ℕ) → (D → ℕ) → (N → ℕ) → Role → Configuration → (before after : SessionOutside S K D N C) → Status → Type 0
-EndsBehindConfig G left taken told may_leave carried source sink disk dials role c before after status =
-    StopsAtBoxes told disk role c before after status ⊎ RunsOn G left taken told may_leave carried source sink disk dials role c before after status
+abbrev pub EndsBehindConfig : {S K D N C J : Type 0} → Ghosts J → Sees S K D N → Role → Configuration → (before after : SessionOutside S K D N C) → Status
+    → Type 0
+EndsBehindConfig G sees role c before after status = StopsAtBoxes sees role c before after status ⊎ RunsOn G sees role c before after status
 
 -- CONFIG spells a configuration, and a run of it ended so
-pub record WasConfigured {S K D N C J : Type 0} (G : Ghosts J) (left : S → Option (List ℕ)) (taken : K → Option (List ℕ)) (told : D → Option (List ℕ)) (may_leave : D → List ℕ → Type 0) (carried : N → Option DialerTold) (source : S → ℕ) (sink : K → ℕ) (disk : D → ℕ) (dials : N → ℕ) (role : Role) (before after : SessionOutside S K D N C) (status : Status) : Type 0 where
+pub record WasConfigured {S K D N C J : Type 0} (G : Ghosts J) (sees : Sees S K D N) (role : Role) (before after : SessionOutside S K D N C)
+    (status : Status) : Type 0 where
   pub configuration : Configuration
-  pub spelled : IsConfigured role (left before.config) configuration
-  pub ended : EndsBehindConfig G left taken told may_leave carried source sink disk dials role configuration before after status
+  pub spelled : IsConfigured role (sees.left before.config) configuration
+  pub ended : EndsBehindConfig G sees role configuration before after status
 
 -- where a run ended
-abbrev pub Steps : {S K D N C J : Type 0} → Ghosts J → (S → Option (List ℕ)) → (K → Option (List ℕ)) → (D → Option (List ℕ)) → (D → List ℕ → Type 0) → (N → Option DialerTold) → (S → ℕ) → (K → ℕ) → (D → ℕ) → (N → ℕ) → Role → (before after : SessionOutside S K D N C) → Status → Type 0
-Steps G left taken told may_leave carried source sink disk dials role before after status =
-    StopsAtConfig left source role before after status ⊎ WasConfigured G left taken told may_leave carried source sink disk dials role before after status
+abbrev pub Steps : {S K D N C J : Type 0} → Ghosts J → Sees S K D N → Role → (before after : SessionOutside S K D N C) → Status → Type 0
+Steps G sees role before after status = StopsAtConfig sees role before after status ⊎ WasConfigured G sees role before after status

@@ -98,7 +98,8 @@ pub fn open_outbox<D: Disk>(alloc: Global, disk: D) -> Result<Outbox<LogJournal<
 /// Opens the inbox of a peer's flow on its disk.
 ///
 /// # Errors
-/// As those of `open_outbox`.
+/// The disk comes back with each: `JournalFault` where a call of it failed, `JournalBad` with the cause why its content is no
+/// inbox of this flow, and `Memory`.
 pub fn open_inbox<D: Disk>(
     alloc: Global,
     disk: D,

@@ -17,11 +17,13 @@ ghost use Rattle.conn_loop.specs.Conn.{Looks};
 ghost use Rattle.gate_plans.specs.Seats.{Seated};
 ghost use Rattle.conn_serve.specs.declared.answer.ServeFault.TheVariants as faults;
 ghost use Rattle.conn_serve.specs.Senders.{SomeMarked};
+ghost use Rattle.conn_serve.specs.Moments.{beside, serving_at};
 ghost use Rattle.conn_serve.specs.Opening.{opened_state, ServedBy, IsUnrefused};
 ghost use Rattle.life_laws.specs.PlanLives.{ServedAt};
-ghost use Rattle.cmd_session.specs.Lived.{status_of, IsOfLife, BeganNone, HasLived};
+ghost use Rattle.cmd_session.specs.Lived.{status_of, over_boxes, IsOfLife, BeganNone, HasLived};
 
 use crate::boxes::MOST;
+use crate::outside::Live;
 use cmd_base::Status;
 use conn_serve::{ServeFault, serve};
 use fixp_shake::EndConfig;
@@ -95,7 +97,7 @@ fn serve_beside<
     ensures own { IsPassAt gate.now pass.new }
     ensures free { IsFree pass.new }
     ensures looks { Looks (known pass.old) (known pass.new) }
-    ensures served { ServedBy gate.now (N.told dialer.old) (N.told dialer.new) (K.taken out.old) (K.taken out.new) (K.faults out.old) (K.faults out.new) (N.faults dialer.old) (N.faults dialer.new) (known pass.old) (known pass.new) (fresh config (opened_state (opening_of gate.now).history inbox.old) (2 ^ 24)) inbox.old inbox.new senders.old.items senders.new.items result }
+    ensures served { ServedBy gate.now (serving_at (N.told dialer.old) (K.taken out.old) (K.faults out.old) (N.faults dialer.old) (known pass.old) inbox.old senders.old.items) (serving_at (N.told dialer.new) (K.taken out.new) (K.faults out.new) (N.faults dialer.new) (known pass.new) inbox.new senders.new.items) (fresh config (opened_state (opening_of gate.now).history inbox.old) (2 ^ 24)) result }
     ensures marked { IsUnrefused result → 0 < vec_len senders.old → SomeMarked senders.new.items }
     ensures limits { inboxes.limits_of inbox.new ≡ inboxes.limits_of inbox.old }
     ensures output { result ≡ Err faults.Output → HasRisen (K.faults out.old) (K.faults out.new) }
@@ -154,7 +156,7 @@ fn serve_seated<
     requires greatest { config.keepalive ≤ 60000 }
     requires credentials { length config.credentials ≤ 2048 }
     ensures back { AllBackAt gate.now passes.new }
-    ensures served { ServedAt (opening_of gate.now) (map payloads_of plans.items) (known_at passes.new) (N.told dialer.old) (N.told dialer.new) (K.taken out.old) (K.taken out.new) (fresh config (opened_state (opening_of gate.now).history inbox.old) (2 ^ 24)) inbox.old inbox.new result }
+    ensures served { ServedAt (opening_of gate.now) (map payloads_of plans.items) (known_at passes.new) (beside (N.told dialer.old) (K.taken out.old) inbox.old) (beside (N.told dialer.new) (K.taken out.new) inbox.new) (fresh config (opened_state (opening_of gate.now).history inbox.old) (2 ^ 24)) result }
     ensures output { result ≡ Err faults.Output → HasRisen (K.faults out.old) (K.faults out.new) }
     ensures dial { result ≡ Err faults.Dial → HasRisen (N.faults dialer.old) (N.faults dialer.new) }
     ensures lent { N.lent dialer.new ≡ false }
@@ -216,9 +218,7 @@ pub fn live<K: Sink, D: Disk + Send, N: Dialer, C: Clock, R: Threads + Wait + Sy
     alloc: Global,
     config: EndConfig,
     plans: Vec<Plan>,
-    out: &mut K,
-    dialer: &mut N,
-    clock: &mut C,
+    devices: &mut Live<K, N, C>,
     outbox: Outbox<LogJournal<D>>,
     inbox: &mut Inbox<LogJournal<D>>,
 ) -> (Status, Outbox<LogJournal<D>>)
@@ -226,20 +226,20 @@ pub fn live<K: Sink, D: Disk + Send, N: Dialer, C: Clock, R: Threads + Wait + Sy
     requires in_sound { inboxes.is_broken inbox.old ≡ false }
     requires few_entries { outboxes.front_of outbox < 2 ^ 40 }
     requires few { vec_len plans ≤ 16 }
-    requires lent { N.lent dialer.old ≡ false }
+    requires lent { N.lent devices.old.dialer ≡ false }
     requires flow { inboxes.flow_of inbox.old ≡ config.peer_flow }
     requires limit { (inboxes.limits_of inbox.old).entries ≡ 2 ^ 24 }
     requires numbered { inboxes.flow_of inbox.old ≡ flows.Recoverable → inboxes.next_of inbox.old + 1 < 2 ^ 64 }
     requires least { 100 ≤ config.keepalive }
     requires greatest { config.keepalive ≤ 60000 }
     requires credentials { length config.credentials ≤ 2048 }
-    ensures lived { BeganNone K.faults out.old out.new dialer.old dialer.new inbox.old inbox.new outbox result.1 result.0
-        ⊎ HasLived (N.told dialer.old) (N.told dialer.new) (K.taken out.old) (K.taken out.new) config (map payloads_of plans.items) outbox result.1 inbox.old inbox.new result.0 }
+    ensures lived { BeganNone K.faults (over_boxes devices.old outbox inbox.old) (over_boxes devices.new result.1 inbox.new) result.0
+        ⊎ HasLived K.taken N.told config (map payloads_of plans.items) (over_boxes devices.old outbox inbox.old) (over_boxes devices.new result.1 inbox.new) result.0 }
     ensures of_life { IsOfLife result.0 }
-    ensures output { result.0 ≡ Status.OutputFault → HasRisen (K.faults out.old) (K.faults out.new) }
-    ensures dial { result.0 ≡ Status.DialFault → HasRisen (N.faults dialer.old) (N.faults dialer.new) }
-    ensures lent { N.lent dialer.new ≡ false }
-    ensures never_falls { (inboxes.faults_of inbox.old ≤ inboxes.faults_of inbox.new) × (K.faults out.old ≤ K.faults out.new) × (N.faults dialer.old ≤ N.faults dialer.new) }
+    ensures output { result.0 ≡ Status.OutputFault → HasRisen (K.faults devices.old.out) (K.faults devices.new.out) }
+    ensures dial { result.0 ≡ Status.DialFault → HasRisen (N.faults devices.old.dialer) (N.faults devices.new.dialer) }
+    ensures lent { N.lent devices.new.dialer ≡ false }
+    ensures never_falls { (inboxes.faults_of inbox.old ≤ inboxes.faults_of inbox.new) × (K.faults devices.old.out ≤ K.faults devices.new.out) × (N.faults devices.old.dialer ≤ N.faults devices.new.dialer) }
     ensures outbox_never_falls { outboxes.faults_of outbox ≤ outboxes.faults_of result.1 }
 {
     let Ok(seats) = Vec::with_capacity(alloc, plans.len()) else {
@@ -255,9 +255,9 @@ pub fn live<K: Sink, D: Disk + Send, N: Dialer, C: Clock, R: Threads + Wait + Sy
         config,
         plans,
         seats,
-        out,
-        dialer,
-        clock,
+        &mut devices.out,
+        &mut devices.dialer,
+        &mut devices.clock,
         &gate,
         &mut passes,
         inbox,

@@ -12,3 +12,10 @@ pub struct SessionOutside<S, K, D, N, C> {
     pub dialer: N,
     pub clock: C,
 }
+
+/// The devices that a life is lived on.
+pub struct Live<K, N, C> {
+    pub out: K,
+    pub dialer: N,
+    pub clock: C,
+}

@@ -3,7 +3,7 @@
 use crate::again::{place_of_frame, text_of_file};
 use crate::lines::{push_disk, push_input, push_journal, push_place, push_sink, push_source};
 use crate::report::Report;
-use cmd_config::Role;
+use cmd_config::Purpose;
 use cmd_run::{Bad, Command, Outside, Status, Which, command_of, run};
 use gw_outside::{Disk, Sink, Source};
 use gw_real::{
@@ -91,7 +91,7 @@ impl<'a> Run<'a> {
     /// What CONFIG is to the command.
     fn wanted(&self) -> Wanted {
         match self.command {
-            Command::Answer => Wanted::Session(Role::Answer),
+            Command::Answer => Wanted::Session(Purpose::Recorded),
             Command::Check
             | Command::Decode
             | Command::Encode

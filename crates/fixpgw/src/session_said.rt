@@ -3,7 +3,7 @@
 use crate::again::text_of_file;
 use crate::lines::{push_disk, push_input, push_journal, push_place, push_sink, push_source};
 use crate::sessions::{Devices, Session, named};
-use cmd_config::{Role, read_configuration};
+use cmd_config::{Purpose, Role, read_configuration};
 use cmd_run::{Bad, JournalCause, Status, Which};
 use gw_outside::Disk;
 use gw_real::{DiskReason, FileDisk, Kept, Named, Reason};
@@ -84,7 +84,7 @@ struct Plans {
 
 /// How many senders CONFIG, whose text this is, gives the session, if it is one's.
 fn senders_of(alloc: Global, role: Role, config: &[u8]) -> Option<u8> {
-    match read_configuration(alloc, role, config) {
+    match read_configuration(alloc, Purpose::Live(role), config) {
         Ok(configuration) => Some(configuration.trade.senders),
         Err(_) => None,
     }
@@ -189,7 +189,13 @@ fn push_config(
     text: &[u8],
 ) -> Result<(), AllocError> {
     push_place(line, session.config)?;
-    push_config_fault(alloc, line, Wanted::Session(session.role), fault, text)
+    push_config_fault(
+        alloc,
+        line,
+        Wanted::Session(Purpose::Live(session.role)),
+        fault,
+        text,
+    )
 }
 
 /// Adds which input could not be read.

@@ -5,9 +5,8 @@ ghost use Rattle.std.specs.Prelude.{◌≡◌, false};
 
 use crate::report::Report;
 use crate::session_said::{SaysWhy, line_of};
-use cmd_config::Role;
 use cmd_run::Status;
-use cmd_session::{Role as EndRole, SessionOutside, run_session};
+use cmd_session::{Role, SessionOutside, run_session};
 use gw_links::{Clock as LinkClock, Dialer};
 use gw_outside::{Disk, Sink, Source};
 use gw_real::{FileSink, FileSource, Named, STANDARD_OUTPUT};
@@ -45,8 +44,8 @@ pub struct Session<'a> {
 /// The role of a command, if it runs a session over connections.
 pub fn role_of(command: &str) -> Option<Role> {
     match command {
-        "accept" => Some(Role::Accept),
-        "connect" => Some(Role::Connect),
+        "accept" => Some(Role::Acceptor),
+        "connect" => Some(Role::Initiator),
         _ => None,
     }
 }
@@ -69,14 +68,6 @@ impl<'a> Session<'a> {
             inbox: named("INBOX", inbox.as_str()),
             out: named("OUT", out.as_str()),
         })
-    }
-
-    /// The role of this end.
-    fn end_role(&self) -> EndRole {
-        match self.role {
-            Role::Connect => EndRole::Initiator,
-            Role::Accept | Role::Answer => EndRole::Acceptor,
-        }
     }
 
     /// The files that OUT must not be the same as.
@@ -155,7 +146,7 @@ fn devices<'a, R: Files<File = File> + Print + AllocGlobal, D, N>(
 fn run_over<R: Threads + Wait + Sync, S: Source, K: Sink, D: Disk + Send, N: Dialer, C: LinkClock>(
     rt: &R,
     alloc: Global,
-    role: EndRole,
+    role: Role,
     outside: SessionOutside<S, K, D, N, C>,
 ) -> (Status, SessionOutside<S, K, D, N, C>)
     requires { N.lent outside.dialer ≡ false }
@@ -194,7 +185,7 @@ fn run_with<
     requires { N.lent dialer ≡ false }
 {
     let devices = devices(rt, session, files, dialer);
-    let (status, devices) = run_over(rt, rt.alloc(), session.end_role(), devices);
+    let (status, devices) = run_over(rt, rt.alloc(), session.role, devices);
     report_of(rt, session, status, devices)
 }
 
@@ -214,11 +205,11 @@ pub fn run_over_sockets<
 >(rt: &'a R, session: Session<'a>, files: SessionFiles<'a, D>) -> Report {
     let (alloc, most) = (rt.alloc(), u64::from(session.most));
     match session.role {
-        Role::Connect => {
+        Role::Initiator => {
             let dialer = ConnectDialer::new(rt, alloc, session.address, most);
             run_with(rt, session, files, dialer)
         }
-        Role::Accept | Role::Answer => {
+        Role::Acceptor => {
             let dialer = AcceptDialer::new(rt, alloc, session.address, most);
             run_with(rt, session, files, dialer)
         }

@@ -3,7 +3,6 @@ use Rattle.std.proofs.Common.{◌≡◌, ◌⊎◌, inl, inr, ⊎_elim, ℕ, ◌
 use Rattle.fixp_shake.specs.declared.config.Role.{Role}
 use Rattle.cmd_config.specs.declared.configuration.Configuration.{Configuration}
 use Rattle.plan_text.specs.Plans.{HasPlans}
-use Rattle.gw_links.specs.Dialers.{DialerTold}
 use Rattle.jr_record.specs.declared.journal.Journal.{Ghosts}
 use Rattle.jr_boxes.specs.declared.faults.Which.TheVariants.{Outbox, Inbox}
 use Rattle.cmd_base.specs.declared.status.Status.{Status}
@@ -12,7 +11,7 @@ use Rattle.conn_serve.specs.declared.answer.ServeFault.TheVariants as faults
 use Rattle.conn_serve.specs.Answers.{answer_of}
 use Rattle.cmd_session.specs.Inputs.{configuration_at, flow_received, end_of}
 use Rattle.cmd_session.specs.Lived.{status_of, IsPlannedLife, HasLivedOver, Lived}
-use Rattle.cmd_session.specs.Outsides.{counts_of}
+use Rattle.cmd_session.specs.Outsides.{Sees, live_of, counts_of}
 use Rattle.cmd_session.specs.Steps.{RefusedInput, StopsAtConfig, StopsAtBoxes, EndsBehindConfig, Steps}
 use Rattle.cmd_session.specs.declared.outside.SessionOutside.{SessionOutside}
 use Rattle.cmd_session.proofs.Reading.{many_plans}
@@ -24,30 +23,30 @@ use Rattle.run_laws.proofs.Ending.{BlamesNone, ends_as, behind_finish, unrefused
 as_many : (senders : ℕ) (text : List ℕ) (plans : List (List (List ℕ))) → HasPlans senders text plans → length plans ≡ senders
 as_many senders text plans h = ap length h.plans_are ∙ many_plans 1 senders h.gifts
 
-module _ {S K D N C J : Type 0} (G : Ghosts J) (left : S → Option (List ℕ)) (taken : K → Option (List ℕ)) (told : D → Option (List ℕ)) (may_leave : D → List ℕ → Type 0) (carried : N → Option DialerTold) (source : S → ℕ) (sink : K → ℕ) (disk : D → ℕ) (dials : N → ℕ)
-    (before after : SessionOutside S K D N C) (role : Role) (c : Configuration) (status : Status) (set_up : IsSetUp left told role c before) (none : NoneRose (counts_of source sink disk dials before) (counts_of source sink disk dials after)) where
+module _ {S K D N C J : Type 0} (G : Ghosts J) (sees : Sees S K D N)
+    (before after : SessionOutside S K D N C) (role : Role) (c : Configuration) (status : Status) (set_up : IsSetUp sees role c before) (none : NoneRose (counts_of sees before) (counts_of sees after)) where
   abbrev LeftEnds : Type 0
-  LeftEnds = WantsMemory before after status ⊎ Completed G left taken told may_leave carried disk role c before after status
+  LeftEnds = WantsMemory before after status ⊎ Completed G sees role c before after status
 
   wants_memory : status ≡ Memory → after.dialer ≡ before.dialer → LeftEnds
   wants_memory is same = inl (record { status_is = is; dialer_is = same })
 
-  at_config : StopsAtConfig left source role before after status → LeftEnds
+  at_config : StopsAtConfig sees role before after status → LeftEnds
   at_config s =
-      let t = some_of (left before.config) (λ text. configuration_at role text ≡ Ok c) set_up.config in
+      let t = some_of (sees.left before.config) (λ text. configuration_at role text ≡ Ok c) set_up.config in
       wants_memory (config_memory c (configuration_at role t.0) status t.2 (s.verdict t.0 t.1) (λ e. none.config (s.cause e))) s.kept.behind.behind.live.dialer
 
-  at_boxes : StopsAtBoxes told disk role c before after status → LeftEnds
+  at_boxes : StopsAtBoxes sees role c before after status → LeftEnds
   at_boxes s = ⊎_elim
-      (λ o. wants_memory (box_memory Outbox (flow_received role c.link) (told before.out_disk) status set_up.outbox o.refused (λ e. none.out_disk (o.cause e))) s.kept.live.dialer)
-      (λ i. wants_memory (box_memory Inbox (flow_received role c.link) (told before.in_disk) status set_up.inbox i.refused (λ e. none.in_disk (i.cause e))) s.kept.live.dialer)
+      (λ o. wants_memory (box_memory Outbox (flow_received role c.link) (sees.told before.out_disk) status set_up.outbox o.refused (λ e. none.out_disk (o.cause e))) s.kept.live.dialer)
+      (λ i. wants_memory (box_memory Inbox (flow_received role c.link) (sees.told before.in_disk) status set_up.inbox i.refused (λ e. none.in_disk (i.cause e))) s.kept.live.dialer)
       s.refused
 
-  at_input : RefusedInput left source c.trade.senders before.input after.input before.out after.out before.dialer after.dialer before.clock after.clock status → LeftEnds
-  at_input r = wants_memory (input_memory c.trade.senders (left before.input) status set_up.input r.refused (λ e. none.input (r.cause e))) r.dialer_is
+  at_input : RefusedInput sees c.trade.senders before.input after.input (live_of before) (live_of after) status → LeftEnds
+  at_input r = wants_memory (input_memory c.trade.senders (sees.left before.input) status set_up.input r.refused (λ e. none.input (r.cause e))) r.live.dialer
 
-  module _ (plans : List (List (List ℕ))) (life : IsPlannedLife left sink dials c.trade.senders before.input before.out after.out before.dialer after.dialer plans status)
-      (h : HasLivedOver G told may_leave disk (end_of role c.link) plans (carried before.dialer) (carried after.dialer) (taken before.out) (taken after.out) before.out_disk after.out_disk before.in_disk after.in_disk status) where
+  module _ (plans : List (List (List ℕ))) (life : IsPlannedLife sees c.trade.senders plans before.input (live_of before) (live_of after) status)
+      (h : HasLivedOver G sees (end_of role c.link) plans before after status) where
     blames_none : BlamesNone h.result
     blames_none faults.Output of e = none.out (life.output (h.status_is ∙ ap status_of e))
     blames_none faults.Journal of e = ⊎_elim none.out_disk none.in_disk (h.over.journal e)
@@ -60,46 +59,46 @@ module _ {S K D N C J : Type 0} (G : Ghosts J) (left : S → Option (List ℕ)) 
     status_is : status_of (answer_of h.over.connections h.over.refused) ≡ status
     status_is = sym (h.status_is ∙ ap status_of h.over.answer)
 
-    told_plans : (text : List ℕ) × (left before.input ≡ Some text) × TellsPlans c.trade.senders text
-    told_plans = some_of (left before.input) (TellsPlans c.trade.senders) set_up.input
+    told_plans : (text : List ℕ) × (sees.left before.input ≡ Some text) × TellsPlans c.trade.senders text
+    told_plans = some_of (sees.left before.input) (TellsPlans c.trade.senders) set_up.input
 
     has_plans : HasPlans c.trade.senders told_plans.0 plans
     has_plans = (life.planned told_plans.0 told_plans.1).1
 
-    completed : Completed G left taken told may_leave carried disk role c before after status
+    completed : Completed G sees role c before after status
     completed = record {
       plans = plans;
       planned = subst (λ (o : Option (List ℕ)). IsSomeAnd o (λ text. HasPlans c.trade.senders text plans)) (sym told_plans.1) has_plans;
       lived = h;
-      ends = subst (EndsAs h.over.served.behind h.over.seen h.over.served.mid (carried after.dialer) h.over.served.ended h.over.served.given_up) status_is
-          (ends_as h.over.served.behind h.over.seen h.over.served.mid (carried after.dialer) h.over.served.ended h.over.served.given_up h.over.connections h.over.refused h.over.refusal answer_blames_none h.over.served.answer);
+      ends = subst (EndsAs h.over.served.behind h.over.seen h.over.served.mid (sees.carried after.dialer) h.over.served.ended h.over.served.given_up) status_is
+          (ends_as h.over.served.behind h.over.seen h.over.served.mid (sees.carried after.dialer) h.over.served.ended h.over.served.given_up h.over.connections h.over.refused h.over.refusal answer_blames_none h.over.served.answer);
       finished = λ one. subst (IsBehindFinish h.over.refused) status_is
-          (behind_finish h.over.served.behind h.over.seen h.over.served.mid (carried after.dialer) h.over.served.ended h.over.served.given_up h.over.connections h.over.refused h.over.refusal answer_blames_none h.over.served.answer one);
+          (behind_finish h.over.served.behind h.over.seen h.over.served.mid (sees.carried after.dialer) h.over.served.ended h.over.served.given_up h.over.connections h.over.refused h.over.refusal answer_blames_none h.over.served.answer one);
       full = λ entries bytes e. full_is h.result entries bytes (sym h.status_is ∙ e);
       marked = λ of some. h.over.marked (unrefused h.result (subst (λ (s : Status). IsOfConnections s) h.status_is of))
           (subst (λ (n : ℕ). 0 < n) (sym (as_many c.trade.senders told_plans.0 plans has_plans)) some);
     }
 
-  at_life : Lived G left taken told may_leave carried sink disk dials c.trade.senders (end_of role c.link) before.input before.out after.out before.out_disk after.out_disk before.in_disk after.in_disk before.dialer after.dialer status → LeftEnds
+  at_life : Lived G sees c.trade.senders (end_of role c.link) before after status → LeftEnds
   at_life l = ⊎_elim
       (λ kept. ⊎_elim (λ is. wants_memory is kept.dialer_is) (λ failed. absurd (none.out failed.1)) kept.cause)
       (λ h. inr (completed l.plans l.life h))
       l.lived
 
-  behind_config : EndsBehindConfig G left taken told may_leave carried source sink disk dials role c before after status → LeftEnds
+  behind_config : EndsBehindConfig G sees role c before after status → LeftEnds
   behind_config e = ⊎_elim at_boxes (λ r. ⊎_elim at_input at_life r.ended) e
 
-  pub at_step : Steps G left taken told may_leave carried source sink disk dials role before after status → LeftEnds
+  pub at_step : Steps G sees role before after status → LeftEnds
   at_step s = ⊎_elim
       at_config
       (λ w.
-      let t = some_of (left before.config) (λ text. configuration_at role text ≡ Ok c) set_up.config in
+      let t = some_of (sees.left before.config) (λ text. configuration_at role text ≡ Ok c) set_up.config in
       let spelled = w.spelled t.0 t.1 in
       let given = t.2 in
       let same : w.configuration ≡ c = cc in
-      behind_config (subst (λ (d : Configuration). EndsBehindConfig G left taken told may_leave carried source sink disk dials role d before after status) same w.ended))
+      behind_config (subst (λ (d : Configuration). EndsBehindConfig G sees role d before after status) same w.ended))
       s
 
-pub run_completes : {S K D N C J : Type 0} (G : Ghosts J) (left : S → Option (List ℕ)) (taken : K → Option (List ℕ)) (told : D → Option (List ℕ)) (may_leave : D → List ℕ → Type 0) (carried : N → Option DialerTold) (source : S → ℕ) (sink : K → ℕ) (disk : D → ℕ) (dials : N → ℕ)
-    (before after : SessionOutside S K D N C) → RunCompletes G left taken told may_leave carried source sink disk dials before after
-run_completes G left taken told may_leave carried source sink disk dials before after role c status set_up none steps = at_step G left taken told may_leave carried source sink disk dials before after role c status set_up none steps
+pub run_completes : {S K D N C J : Type 0} (G : Ghosts J) (sees : Sees S K D N)
+    (before after : SessionOutside S K D N C) → RunCompletes G sees before after
+run_completes G sees before after role c status set_up none steps = at_step G sees before after role c status set_up none steps

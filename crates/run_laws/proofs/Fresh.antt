@@ -8,6 +8,7 @@ use Rattle.jr_boxes.specs.declared.faults.Which.TheVariants.{Outbox, Inbox}
 use Rattle.plan_text.specs.Plans.{payloads_of_senders}
 use Rattle.cmd_session.specs.Boxes.{IsBox}
 use Rattle.cmd_session.specs.Inputs.{flow_received}
+use Rattle.cmd_session.specs.Outsides.{Sees}
 use Rattle.cmd_session.specs.declared.outside.SessionOutside.{SessionOutside}
 use Rattle.run_laws.specs.Completeness.{TellsPlans, FreshIsSetUp}
 
@@ -36,10 +37,10 @@ empty_box Inbox flow content j = record {
 no_lines : (senders : ℕ) → TellsPlans senders []
 no_lines senders = record { short = omega arith; plans = payloads_of_senders 1 senders []; has = record { gifts = []; given = tt; plans_are = refl } }
 
-pub fresh_is_set_up : {S K D N C : Type 0} (left : S → Option (List ℕ)) (told : D → Option (List ℕ)) (before : SessionOutside S K D N C) → FreshIsSetUp left told before
-fresh_is_set_up left told before role c config outbox inbox input = record {
+pub fresh_is_set_up : {S K D N C : Type 0} (sees : Sees S K D N) (before : SessionOutside S K D N C) → FreshIsSetUp sees before
+fresh_is_set_up sees before role c config outbox inbox input = record {
   config = config;
-  outbox = of_told (told before.out_disk) (λ content. IsJournal content []) (IsBox Outbox (flow_received role c.link)) (empty_box Outbox (flow_received role c.link)) outbox;
-  inbox = of_told (told before.in_disk) (λ content. IsJournal content []) (IsBox Inbox (flow_received role c.link)) (empty_box Inbox (flow_received role c.link)) inbox;
+  outbox = of_told (sees.told before.out_disk) (λ content. IsJournal content []) (IsBox Outbox (flow_received role c.link)) (empty_box Outbox (flow_received role c.link)) outbox;
+  inbox = of_told (sees.told before.in_disk) (λ content. IsJournal content []) (IsBox Inbox (flow_received role c.link)) (empty_box Inbox (flow_received role c.link)) inbox;
   input = subst (λ (o : Option (List ℕ)). IsSomeAnd o (TellsPlans c.trade.senders)) (sym input) (no_lines c.trade.senders);
 }

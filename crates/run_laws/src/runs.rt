@@ -1,5 +1,6 @@
 //! Runs over told devices that are in order.
 
+ghost use Rattle.cmd_session.specs.Outsides.{sees};
 ghost use Rattle.run_laws.specs.Completeness.{FreshIsSetUp, RunCompletes};
 
 use cmd_session::SessionOutside;
@@ -14,12 +15,12 @@ pub fn run_completes<S: Source, K: Sink, D: Disk, N: Dialer, C: Clock>(
     before: &SessionOutside<S, K, D, N, C>,
     after: &SessionOutside<S, K, D, N, C>,
 )
-    ensures law { RunCompletes ⟦<LogJournal<D> as Journal>⟧ S.left K.taken D.told D.may_leave N.told S.faults K.faults D.faults N.faults before.now after.now }
+    ensures law { RunCompletes ⟦<LogJournal<D> as Journal>⟧ (sees S.Source K.Sink D.Disk N.Dialer) before.now after.now }
 {}
 
 /// Journals without records and an INPUT without bytes are in order, with any CONFIG that spells a configuration.
 pub fn fresh_is_set_up<S: Source, K: Sink, D: Disk, N: Dialer, C: Clock>(
     before: &SessionOutside<S, K, D, N, C>,
 )
-    ensures law { FreshIsSetUp S.left D.told before.now }
+    ensures law { FreshIsSetUp (sees S.Source K.Sink D.Disk N.Dialer) before.now }
 {}

@@ -1,6 +1,8 @@
 //! What the value at a key has to be.
 
-use cmd_config::{DESKS, FLOW_WORDS, KEEPALIVE, ORDER_VERSION, REFERENCE, Range, Role, SENDERS};
+use cmd_config::{
+    DESKS, FLOW_WORDS, KEEPALIVE, ORDER_VERSION, Purpose, REFERENCE, Range, Role, SENDERS,
+};
 use std::alloc::AllocError;
 use toml::Value;
 
@@ -171,10 +173,10 @@ const fn always(by: &'static str, value: &'static str, default: &'static str) ->
 fn asked_of_senders(role: Role, by: &'static str, found: Option<&Value>) -> Asked {
     let is_zero = matches!(found, Some(Value::Integer(0)));
     let condition = match (role, is_zero) {
-        (Role::Connect, true) => " where client_flow is not \"none\"",
-        (Role::Connect, false) => " where client_flow is \"none\"",
-        (_, true) => " where server_flow is not \"none\"",
-        (_, false) => " where server_flow is \"none\"",
+        (Role::Initiator, true) => " where client_flow is not \"none\"",
+        (Role::Initiator, false) => " where client_flow is \"none\"",
+        (Role::Acceptor, true) => " where server_flow is not \"none\"",
+        (Role::Acceptor, false) => " where server_flow is \"none\"",
     };
     Asked {
         by,
@@ -204,12 +206,12 @@ fn asked_by_live(role: Role, by: &'static str, key: &str, found: Option<&Value>)
     }
 }
 
-/// What the command of a role asks of a key on top, at which this is found.
-pub fn asked_by(role: Role, key: &str, found: Option<&Value>) -> Option<Asked> {
-    match role {
-        Role::Answer => asked_by_answer(key),
-        Role::Accept => asked_by_live(role, "accept", key, found),
-        Role::Connect => asked_by_live(role, "connect", key, found),
+/// What a command asks of a key on top, at which this is found.
+pub fn asked_by(purpose: Purpose, key: &str, found: Option<&Value>) -> Option<Asked> {
+    match purpose {
+        Purpose::Recorded => asked_by_answer(key),
+        Purpose::Live(Role::Acceptor) => asked_by_live(Role::Acceptor, "accept", key, found),
+        Purpose::Live(Role::Initiator) => asked_by_live(Role::Initiator, "connect", key, found),
     }
 }
 

@@ -4,7 +4,7 @@ use crate::admitted::{Admitted, Asked, asked_by, in_schema, in_settings};
 use crate::escape::push_path;
 use crate::schema::schema_fault;
 use crate::value::{found_at, last_key, push_value};
-use cmd_config::Role;
+use cmd_config::Purpose;
 use sbe_schema::SchemaFault;
 use sbe_value::Path;
 use schema_toml::{ConfigFault, TEXT_LIMIT};
@@ -15,8 +15,8 @@ use toml_walk::TomlFault;
 /// What a command reads CONFIG as.
 #[derive(Clone, Copy, Debug)]
 pub enum Wanted {
-    /// The configuration of a session, for this role.
-    Session(Role),
+    /// The configuration of a session, for this purpose.
+    Session(Purpose),
     /// A schema.
     Schema,
 }
@@ -50,7 +50,7 @@ fn push_wrong_kind(
 /// What a command asks of a key on top, at which this is found.
 fn asked_at(wanted: Wanted, key: &str, found: Option<&Value>) -> Option<Asked> {
     match wanted {
-        Wanted::Session(role) => asked_by(role, key, found),
+        Wanted::Session(purpose) => asked_by(purpose, key, found),
         Wanted::Schema => None,
     }
 }

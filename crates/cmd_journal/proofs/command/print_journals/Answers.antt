@@ -1,10 +1,11 @@
 use Rattle.std.proofs.Common.{subst}
+use Rattle.cmd_journal.specs.Prints.{journal_devices}
 use Rattle.cmd_journal.proofs.Printed.{printed}
 use Rattle.cmd_journal.proofs.command.print_journals.Goals as goal
 
 pub returns-clause-prints : goal.returns-clause-prints
 returns-clause-prints g c =
-    printed g.D.Disk.told g.D.Disk.may_leave g.D.Disk.faults g.K.Sink.taken _ _ _ _ c.print_records-status.result c.in-Ok.outbox.records.items c.in-Ok-open_box.inbox.records.items
+    printed (journal_devices g.K.Sink g.D.Disk) _ _ _ _ c.print_records-status.result c.in-Ok.outbox.records.items c.in-Ok-open_box.inbox.records.items
     (record {
       outbox_told = c.in-Ok.ensures.holds;
       inbox_told = c.in-Ok-open_box.ensures.holds;

@@ -25,16 +25,16 @@ returns-clause-ended g c =
       life = record {
         planned = subst (λ n. ArePlanned n (g.S.Source.left c.args.input.now) (map payloads_of c.in-Ok.plans.items)) c.from.ensures c.in-Ok.ensures.planned;
         of_life = c.live.ensures.of_life;
-        output = λ e. subst (λ n. HasRisen n (g.K.Sink.faults c.live.new.out)) as_before (c.live.ensures.output e);
+        output = λ e. subst (λ n. HasRisen n (g.K.Sink.faults c.live.new.devices.out)) as_before (c.live.ensures.output e);
         dial = c.live.ensures.dial;
       };
       lived = ⊎_elim
           (λ b. inl (record {
-            cause = ⊎_elim (λ m. inl m) (λ f. inr (f.0, subst (λ n. HasRisen n (g.K.Sink.faults c.live.new.out)) as_before f.1)) b.cause;
+            cause = ⊎_elim (λ m. inl m) (λ f. inr (f.0, subst (λ n. HasRisen n (g.K.Sink.faults c.live.new.devices.out)) as_before f.1)) b.cause;
             dialer_is = b.dialer_is;
             box_is = b.box_is;
             outbox_is = b.outbox_is;
           }))
-          (λ h. inr (lived_from _ _ _ _ _ _ _ _ _ _ _ _ _ c.in-Ok-begin.ensures.nothing c.end_config-config.ensures h))
+          (λ h. inr (lived_from g.K.Sink.taken g.N.Dialer.told _ _ c.args.devices.now _ _ _ _ _ c.in-Ok-begin.ensures.nothing h))
           c.live.ensures.lived;
     })

@@ -1,25 +1,35 @@
-use Rattle.std.proofs.Common.{inl, inr, ⊎_elim, sym, ◌∙◌, ap, subst}
-use Rattle.fixp_msgs.specs.declared.flow.Flow.{Flow}
+use Rattle.std.proofs.Common.{inl, inr, ⊎_elim, refl, sym, ◌∙◌, ap, subst}
+use Rattle.fixp_shake.specs.declared.config.EndConfig.{EndConfig}
 use Rattle.jr_record.specs.Images.{journal_size}
 use Rattle.jr_log.specs.declared.log.LogJournal.{LogJournal}
 use Rattle.jr_log.specs.Log.{disk_of}
 use Rattle.cmd_session.specs.Inputs.{end_of}
+use Rattle.cmd_session.specs.Outsides.{sees, disks_of}
 use Rattle.cmd_session.specs.Steps.{HoldBoxes}
+use Rattle.cmd_session.proofs.Given.{given_back, refused_by, lived_by}
 use Rattle.cmd_session.proofs.Over.{lived_disks}
+use Rattle.cmd_session.proofs.command.run_over_disks.Goals.{in-Ok, in-Err}
 use Rattle.cmd_session.proofs.command.run_over_disks.Goals as goal
 
 pub returns-clause-ended : goal.returns-clause-ended
-returns-clause-ended g c =
-    let boxes = c.in-Ok in
-    let run = c.run_over_boxes-status in
-    let out = c.close_outbox in
-    let inbox = c.close_inbox in
-    inr (record {
-      boxes = subst (λ (flow : Flow). HoldBoxes g.D.Disk.told flow c.args.outside.out_disk c.args.outside.in_disk) c.flow_received-flow.ensures boxes.ensures.told;
-      ended = ⊎_elim
-          (λ refused. inl refused)
-          (λ l. inr (lived_disks boxes.boxes.0 g.D.Disk.told g.D.Disk.may_leave g.D.Disk.faults (disk_of {G = g.D.Disk}) (λ j image h. h) (λ j rs qs a b. sym a ∙ b) (λ (j : LogJournal _ g.D.Disk) rs a. sym (ap journal_size a) ∙ j.sized)
-          g.S.Source.left g.K.Sink.taken g.N.Dialer.told g.K.Sink.faults g.N.Dialer.faults _ (end_of c.args.role c.args.configuration.link) _ _ _ _ _ _ _ _ _ run.result.1 boxes.boxes.1 _ run.result.0
-          boxes.ensures.opened.0 boxes.ensures.opened.1 boxes.ensures.out_limit boxes.ensures.limit.1 out.ensures.disk inbox.ensures.disk boxes.ensures.never_falls.0 boxes.ensures.never_falls.1 out.ensures.faults inbox.ensures.faults l))
-          run.ensures.ended;
-    })
+returns-clause-ended g c = λ first.
+    let told = sees g.S.Source g.K.Sink g.D.Disk g.N.Dialer in
+    let before = record c.args.outside { config = first } in
+    let end = c.end_config-end.ensures in
+    elim c.match-open_boxes.branch [
+      | in-Ok w ↦ given_back _ told c.args.role c.args.configuration before c.args.outside.config _ _ _ _ _ _ w.input-is w.devices-is w.status-is (inr (record {
+        boxes = subst (λ (e : EndConfig). HoldBoxes g.D.Disk.told e.peer_flow (disks_of c.args.outside)) end w.in-Ok.ensures.told;
+        ended = ⊎_elim
+            (λ refused. inl refused)
+            (λ l. inr (lived_disks w.in-Ok.boxes.0 told (disk_of {G = g.D.Disk}) (λ j image h. h) (λ j rs qs a b. sym a ∙ b) (λ (j : LogJournal _ g.D.Disk) rs a. sym (ap journal_size a) ∙ j.sized)
+            c.args.configuration.trade.senders (end_of c.args.role c.args.configuration.link) before _ w.run_over_boxes-status.result.1 w.in-Ok.boxes.1 w.run_over_boxes-status.new.inbox w.run_over_boxes-status.result.0
+            w.in-Ok.ensures.opened.0 w.in-Ok.ensures.opened.1 w.in-Ok.ensures.out_limit w.in-Ok.ensures.limit.1 w.close_outbox.ensures.disk w.close_inbox.ensures.disk
+            w.in-Ok.ensures.never_falls.0 w.in-Ok.ensures.never_falls.1 w.close_outbox.ensures.faults w.close_inbox.ensures.faults
+            (lived_by told _ _ _ _ _ _ _ end l)))
+            w.run_over_boxes-status.ensures.ended;
+      }))
+      | in-Err w ↦ given_back _ told c.args.role c.args.configuration before c.args.outside.config _ _ _ _ _ _ w.input-is w.devices-is w.status-is (inl (record {
+        refused = refused_by g.D.Disk.told g.D.Disk.faults c.end_config-end.result (end_of c.args.role c.args.configuration.link) _ _ _ end w.in-Err.ensures.refused;
+        kept = record { input = refl; live = record { out = refl; dialer = refl; clock = refl } };
+      }))
+    ]

@@ -34,7 +34,7 @@ returns-clause-served g c =
     let new = c.serve.new.senders in
     let s = c.serve.ensures.served in
     let long : length new ≡ many = served_long c.args.gate.now (many + 1) old new s.refused s.senders ∙ ap length c.as_mut_slice.ensures.value ∙ sym c.args.senders.now.ok.0 in
-    served_moved c.as_mut_slice.ensures.value (sym (front_of many new (drop (length new) c.args.senders.now.items) long)) s
+    served_moved s c.as_mut_slice.ensures.value (sym (front_of many new (drop (length new) c.args.senders.now.items) long))
 
 pub returns-clause-marked : goal.returns-clause-marked
 returns-clause-marked g c = λ u some.

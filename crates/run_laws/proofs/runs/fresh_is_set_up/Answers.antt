@@ -1,5 +1,6 @@
 use Rattle.run_laws.proofs.Fresh.{fresh_is_set_up}
+use Rattle.cmd_session.specs.Outsides.{sees}
 use Rattle.run_laws.proofs.runs.fresh_is_set_up.Goals as goal
 
 pub returns : goal.returns
-returns g c = record { law = fresh_is_set_up _ _ c.args.before.now }
+returns g c = record { law = fresh_is_set_up (sees g.S.Source g.K.Sink g.D.Disk g.N.Dialer) c.args.before.now }
