@@ -1,5 +1,5 @@
-//! Cases of decoding and encoding: reads `codec.txt`, and prints what decoding and a view say of bytes, and what encoding makes
-//! of messages. What it has to print stands in `stdout`, worked out by hand from the format.
+//! Cases of decoding and encoding: reads `codec.txt`, and prints what decoding and a view say of bytes, what encoding makes of
+//! messages, and what texts are read as. What it has to print stands in `stdout`, worked out by hand from the format.
 //!
 //! A line that begins with `#` is a heading. `schema: FILE` is the schema of the lines behind it.
 
@@ -7,6 +7,7 @@ mod decoding;
 mod encoding;
 mod messages;
 mod printed;
+mod texts;
 
 use sbe_layout::Plan;
 use schema_load::load;
@@ -49,8 +50,7 @@ fn add_case(
         "message" => decoding::add_message(alloc, plan, rest, told),
         "cuts" => decoding::add_cuts(alloc, plan, rest, told),
         "write" => encoding::add_written(alloc, plan, rest, told),
-        // the words of a message have braces, bytes have none
-        "repeat" if rest.contains("{") => encoding::add_repeated(alloc, plan, rest, told),
+        "text" => texts::add_read(alloc, plan, rest, told),
         "repeat" => decoding::add_repeated(alloc, plan, rest, told),
         _ => Ok(()),
     }

@@ -1,4 +1,4 @@
-//! Cases of values, schemas, texts of messages, bytes of messages, versions of a schema, and session messages. Each section reads
+//! Cases of values, schemas, bytes and texts of messages, versions of a schema, and session messages. Each section reads
 //! its cases, a line each, and prints what they show; a word on the command line names one section. What the program has to print
 //! stands in `stdout`, worked out by hand.
 #![tactic(auto)]
@@ -7,7 +7,6 @@ mod codec;
 mod messages;
 mod schemas;
 mod skew;
-mod texts;
 mod values;
 
 use cases_words::{asked, begins};
@@ -20,9 +19,6 @@ fn main(rt: HostRuntime) -> io::Result<()> {
     }
     if begins(&rt, &asked, "schemas")? {
         schemas::print(&rt)?;
-    }
-    if begins(&rt, &asked, "texts")? {
-        texts::print(&rt)?;
     }
     if begins(&rt, &asked, "codec")? {
         codec::print(&rt)?;

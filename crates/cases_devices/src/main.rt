@@ -2,7 +2,6 @@
 //! names one section. What the program has to print stands in `stdout`, worked out by hand.
 #![tactic(auto)]
 
-mod boxes;
 mod devices;
 mod journals;
 mod links;
@@ -19,10 +18,10 @@ fn main(rt: HostRuntime) -> io::Result<()> {
         links::print(&rt)?;
     }
     if begins(&rt, &asked, "journals")? {
-        journals::print(&rt)?;
+        journals::print(&rt, "journals.txt")?;
     }
     if begins(&rt, &asked, "boxes")? {
-        boxes::print(&rt)?;
+        journals::print(&rt, "boxes.txt")?;
     }
     Ok(())
 }

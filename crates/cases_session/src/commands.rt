@@ -1,5 +1,6 @@
 //! Cases of `run` over devices in memory: what files cannot be made to do, and every way to cut an input in pieces. Reads
-//! `commands.txt`, and prints how each run ended. What it has to print stands in `stdout`, worked out by hand.
+//! `commands.txt`, and prints how each run ended. What it has to print stands in `stdout`, worked out by hand. What the commands make
+//! of their inputs is shown by the built program, in `tried/`.
 
 mod cases;
 mod devices;

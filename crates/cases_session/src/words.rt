@@ -1,10 +1,9 @@
-//! Cases of what live commands read and print: the words that name a connection, the configurations of an acceptor and an
-//! initiator, the plans of a text, and the lines about a session. Reads the cases of `words.txt`, and prints what each case
-//! shows. What it has to print stands in `stdout`, worked out by hand.
+//! Cases of what live commands read and print: the values of the words that name a connection and of the configurations of an
+//! acceptor and an initiator, and the lines about a session. Reads the cases of `words.txt`, and prints what each case shows. What it
+//! has to print stands in `stdout`, worked out by hand. What else is taken and refused is shown by the built program, in `tried/`.
 
 mod configurations;
 mod lines;
-mod plans;
 mod words;
 
 use std::alloc::{AllocError, Global};
@@ -16,11 +15,9 @@ fn line_of(alloc: Global, line: &str) -> Result<String, AllocError> {
     match line.split_once(": ") {
         Some(("address", word)) => words::address_line(alloc, word),
         Some(("count", word)) => words::count_line(alloc, word),
-        Some(("accept", text)) => configurations::accept_line(alloc, text),
-        Some(("connect", text)) => configurations::connect_line(alloc, text),
-        Some(("plans", words)) => plans::plans_line(alloc, words),
-        Some(("message", size)) => plans::message_line(alloc, size),
-        Some(("lines", words)) => plans::lines_line(alloc, words),
+        Some((command @ ("accept" | "connect" | "answer"), text)) => {
+            configurations::role_line(alloc, command, text)
+        }
         Some(("deliver", words)) => lines::deliver_line(alloc, words),
         Some(("notapplied", words)) => lines::not_applied_line(alloc, words),
         Some(("connection", words)) => lines::connection_line(alloc, words),

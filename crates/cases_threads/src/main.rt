@@ -4,6 +4,7 @@
 #![tactic(auto)]
 
 mod bench;
+mod made;
 mod sender_at_gate;
 mod senders_at_once;
 mod serve_beside;

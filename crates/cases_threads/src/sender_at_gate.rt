@@ -1,39 +1,26 @@
 //! A sender submits messages through a gate while the connection fetches them, each in a thread. Then the mark is added, and
 //! the program prints what the outbox has. It shows that the gate's contracts are enough for a caller, and runs them.
 
-ghost use Rattle.std.specs.Prelude.{◌≡◌, ◌≢◌, ℕ, false, None, Some, IfSome};
-ghost use Rattle.jr_boxes.specs.Outbox.{is_broken};
+ghost use Rattle.std.specs.Prelude.{◌≡◌, ◌≢◌, ℕ, None, Some};
 ghost use Rattle.gate_turn.specs.Places.{known};
 ghost use Rattle.gate_turn.specs.Listed.{pass_at};
 ghost use Rattle.gate_turn.specs.Calls.{IsFree};
 ghost use Rattle.gate_senders.specs.Gate.{senders_of, IsPassAt, IsSenderAt, HasBackAt, MadeAt};
 
+use crate::made::{Log, WIDE, formatted, opened};
 use fixp_msgs::is_application;
 use gate_senders::{Gate, Kept};
 use gate_turn::{Pass, Passes};
-use gw_fakes::MemDisk;
 use jr_boxes::Outbox;
-use jr_log::{LogJournal, format};
-use jr_record::Limits;
-use std::alloc::Global;
 use std::sync::Wait;
 use std::thread::Threads;
 use std::{io, thread};
-
-/// A journal on a disk in memory.
-type Log = LogJournal<MemDisk>;
 
 /// How many messages are submitted, and how often the connection fetches.
 const MANY: u64 = 200;
 
 /// The room of the disk, in bytes.
 const ROOM: usize = 8192;
-
-/// More than is submitted.
-const WIDE: Limits = Limits {
-    entries: 1000,
-    bytes: 100_000,
-};
 
 /// An application message of 8 bytes behind its encoding type.
 const MESSAGE: [u8; 10] = [0xEB, 0x50, 0, 0, 7, 0, 0x64, 0, 1, 0];
@@ -133,29 +120,13 @@ fn at_once<R: Threads + Wait + Sync>(
     gate.close(passes)
 }
 
-/// An outbox on a disk with these limits; None where it is refused.
-fn opened(alloc: Global, disk: MemDisk, limits: Limits) -> Option<Outbox<Log>>
-    ensures sound { IfSome result (λ box. is_broken box ≡ false) }
-{
-    let Ok(journal) = LogJournal::open(alloc, disk, limits) else {
-        return None;
-    };
-    Outbox::open(alloc, journal, limits).ok()
-}
-
-/// An outbox on a formatted disk in memory; None where it is not to be had.
-fn fresh(alloc: Global) -> Option<Outbox<Log>>
-    ensures sound { IfSome result (λ box. is_broken box ≡ false) }
-{
-    let mut disk = MemDisk::without_faults(alloc, ROOM).ok()?;
-    format(&mut disk).ok()?;
-    opened(alloc, disk, WIDE)
-}
-
 /// Prints what the section shows.
 pub fn print<R: Print + Threads + Wait + Sync + AllocGlobal>(rt: &R) -> io::Result<()> {
     let alloc = rt.alloc();
-    let Some(outbox) = fresh(alloc) else {
+    let Some(disk) = formatted(alloc, ROOM) else {
+        return println!(rt; "no disk");
+    };
+    let Some(outbox) = opened(alloc, disk, WIDE) else {
         return println!(rt; "no outbox");
     };
     let Ok((gate, passes)) = Gate::new(alloc, outbox, 1) else {

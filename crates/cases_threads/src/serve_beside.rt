@@ -6,14 +6,14 @@ mod meeting;
 
 ghost use Rattle.std.specs.Prelude.{◌≡◌, false};
 
+use crate::made::formatted;
 use cmd_base::Status;
 use cmd_session::{Role, SessionOutside, run_session};
 use devices::{MetDialer, MetDisk};
-use gw_fakes::{MemDisk, MemSink, MemSource};
+use gw_fakes::{MemSink, MemSource};
 use gw_link_fakes::{MemClock, MemDialer};
 use gw_links::{Clock, Dialer};
 use gw_outside::{Bytes, Disk, Sink, Source};
-use jr_log::format;
 use meeting::Meeting;
 use std::alloc::Global;
 use std::io;
@@ -38,13 +38,6 @@ const PLAN: &[u8] = b"1 eb500000080064000100\n";
 fn source(alloc: Global, bytes: &[u8]) -> Option<MemSource> {
     let bytes = Bytes::from_slice(alloc, bytes).ok()?;
     Some(MemSource::without_faults(alloc, bytes, ROOM))
-}
-
-/// A new journal on a disk.
-fn formatted(alloc: Global) -> Option<MemDisk> {
-    let mut disk = MemDisk::without_faults(alloc, ROOM).ok()?;
-    format(&mut disk).ok()?;
-    Some(disk)
 }
 
 /// The status of a life over these devices.
@@ -77,8 +70,8 @@ fn live<R: Threads + Wait + Sync>(rt: &R, alloc: Global, meeting: &Meeting) -> O
         config: source(alloc, CONFIG)?,
         input: source(alloc, PLAN)?,
         out: MemSink::without_faults(alloc, ROOM).ok()?,
-        out_disk: MetDisk::new(formatted(alloc)?, Some(meeting)),
-        in_disk: MetDisk::new(formatted(alloc)?, None),
+        out_disk: MetDisk::new(formatted(alloc, ROOM)?, Some(meeting)),
+        in_disk: MetDisk::new(formatted(alloc, ROOM)?, None),
         dialer: MetDialer::new(MemDialer::without_faults(alloc, Vec::new(alloc)), meeting),
         clock: MemClock::new(0),
     };

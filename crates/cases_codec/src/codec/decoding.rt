@@ -1,4 +1,4 @@
-//! What decoding makes of messages.
+//! What decoding makes of messages: the template, or the fault. What stands in them is printed by `decode`, in `tried/decode.cases`.
 //!
 //! `message: HEX` is one message, without its framing header: two lines tell what decoding says and what a view says.
 //! `cuts: HEX` are all proper prefixes of a message: a line for each run of lengths of which the same is said. `repeat: COUNT |

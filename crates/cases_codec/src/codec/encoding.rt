@@ -1,41 +1,14 @@
-//! What encoding makes of messages.
+//! What encoding makes of messages that are not of their schema's shape, so that no text spells them. What it makes of others is
+//! shown by `encode`, in `tried/encode.cases`.
 //!
-//! `write: MESSAGE` is one message: a line tells its fault, and what stands behind the byte `aa` after it was written. `repeat:
-//! COUNT | WORDS | WORDS | WORDS` is the message of the first words, the second so many times, and the third.
+//! `write: MESSAGE` is one message: a line tells its fault, and what stands behind the byte `aa` after it was written.
 
 use crate::codec::messages::message_of;
-use cases_words::{digits, number};
+use cases_words::digits;
 use sbe_encode::{EncodeError, EncodeFault, encode};
 use sbe_layout::Plan;
 use sbe_value::{Bytes, Message, Path, text_of_path};
 use std::alloc::{AllocError, Global};
-
-/// The words before, a part so many times, and the words behind it.
-fn repeated(alloc: Global, count: u64, rest: &str) -> Result<String, AllocError> {
-    let (before, rest) = rest.split_once(" | ").unwrap_or((rest, ""));
-    let (part, behind) = rest.split_once(" | ").unwrap_or((rest, ""));
-    let mut words = String::new(alloc);
-    words.push_str(before)?;
-    for _ in 0..count {
-        words.push_str(" ")?;
-        words.push_str(part)?;
-    }
-    words.push_str(" ")?;
-    words.push_str(behind)?;
-    Ok(words)
-}
-
-/// Adds what encoding makes of a message with some words repeated.
-pub fn add_repeated(
-    alloc: Global,
-    plan: &Plan,
-    rest: &str,
-    line: &mut String,
-) -> Result<(), AllocError> {
-    let (count, rest) = rest.split_once(" | ").unwrap_or((rest, ""));
-    let words = repeated(alloc, number(count), rest)?;
-    add_written(alloc, plan, words.as_str(), line)
-}
 
 /// Adds what encoding makes of a message.
 pub fn add_written(
@@ -81,12 +54,8 @@ fn add_path(alloc: Global, kind: &str, path: &Path, line: &mut String) -> Result
     write!(line, "{kind} '{text}'")
 }
 
-/// Adds the bytes, or how many they are, and ends the line.
+/// Adds the bytes, and ends the line.
 fn add_bytes(alloc: Global, bytes: &[u8], line: &mut String) -> Result<(), AllocError> {
-    if bytes.len() > 99 {
-        let length = bytes.len();
-        return write!(line, ": {length} bytes\n");
-    }
     let digits = digits(alloc, bytes)?;
     write!(line, ": {digits}\n")
 }

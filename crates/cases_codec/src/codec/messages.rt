@@ -1,11 +1,10 @@
 //! A message that is written as words: its template, and `{ ITEMS GROUPS DATA }`.
 //!
-//! An item is its number, `null`, `absent`, `text:HEX` or `raw:HEX`; a group is its entries between `(` and `)`, or
-//! `(absent)`; a datum is `data:HEX`, `data:absent`, or `fill:COUNT` for so many zeros.
+//! An item is its number, `null`, `text:HEX` or `raw:HEX`; a group is its entries between `(` and `)`; a datum is `data:HEX`.
 
 use cases_words::{bytes, halves, number};
 use sbe_value::{Block, Blocks, Bytes, Datum, Datums, Group, Groups, Item, Items, Message};
-use std::alloc::{AllocError, Global};
+use std::alloc::Global;
 use std::mem;
 
 /// What is read of a block, and of the entries of the group that is open in it.
@@ -93,32 +92,20 @@ fn add_word(alloc: Global, open: &mut Open, word: &str) -> bool {
             let group = Group::Entries(Blocks::from(entries));
             open.groups.push(group).is_ok()
         }
-        "(absent)" => open.groups.push(Group::Absent).is_ok(),
-        "data:absent" => open.vars.push(Datum::Absent).is_ok(),
         _ => add_value(alloc, open, word),
     }
 }
 
-/// Reads an item, or a datum that is there.
+/// Reads an item or a datum.
 fn add_value(alloc: Global, open: &mut Open, word: &str) -> bool {
     let (kind, digits) = word.split_once(":").unwrap_or((word, ""));
-    let Ok(content) = content(alloc, kind, digits) else {
+    let Ok(content) = bytes(alloc, digits) else {
         return false;
     };
     match kind {
-        "data" | "fill" => open.vars.push(Datum::Present(content)).is_ok(),
-        _ => open.items.push(item(kind, content)).is_ok(),
+        "data" => open.vars.push(Datum::Present(Bytes::from(content))).is_ok(),
+        _ => open.items.push(item(kind, Bytes::from(content))).is_ok(),
     }
-}
-
-/// The bytes of an item or a datum.
-fn content(alloc: Global, kind: &str, digits: &str) -> Result<Bytes, AllocError> {
-    if kind != "fill" {
-        return Ok(Bytes::from(bytes(alloc, digits)?));
-    }
-    let mut zeros = Vec::new(alloc);
-    zeros.resize(number(digits) as usize, 0)?;
-    Ok(Bytes::from(zeros))
 }
 
 /// The item of a kind with these bytes, where it has any.
@@ -127,7 +114,6 @@ fn item(kind: &str, content: Bytes) -> Item {
         "text" => Item::Text(content),
         "raw" => Item::Raw(content),
         "null" => Item::Null,
-        "absent" => Item::Absent,
         _ => Item::Num(kind.parse::<i128>().unwrap_or(0)),
     }
 }

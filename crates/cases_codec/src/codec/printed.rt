@@ -1,16 +1,12 @@
-//! A message, the fields of a view, and a fault, as a line of text.
+//! What decoding says, the fields of a view, and a fault, as a line of text.
 //!
-//! A block is `{ITEMS GROUPS DATA}`; an item is its number, `null`, `absent`, `text:HEX` or `raw:HEX`; a group is its
-//! entries in parentheses, or `(absent)`; a datum is `data:HEX` or `data:absent`.
+//! A field is its number, `null`, `absent` or `bytes:HEX`.
 
 use cases_words::digits;
 use sbe_decode::{DecodeError, DecodeFault, FieldView, MessageView, decode, view};
 use sbe_layout::Plan;
-use sbe_value::{Block, Datum, Group, Item, Message};
+use sbe_value::Message;
 use std::alloc::{AllocError, Global};
-
-/// A checked schema has at most so many groups in one another.
-const DEEPEST: u8 = 4;
 
 /// The message of some bytes, or its fault; none where memory runs out.
 pub fn decoded(alloc: Global, plan: &Plan, bytes: &[u8]) -> Option<Result<Message, DecodeFault>> {
@@ -21,7 +17,7 @@ pub fn decoded(alloc: Global, plan: &Plan, bytes: &[u8]) -> Option<Result<Messag
     }
 }
 
-/// Adds what decoding says of a message.
+/// Adds what decoding says of a message: its template, or its fault.
 pub fn add_decoded(
     alloc: Global,
     plan: &Plan,
@@ -29,16 +25,13 @@ pub fn add_decoded(
     line: &mut String,
 ) -> Result<(), AllocError> {
     match decoded(alloc, plan, bytes) {
-        Some(Ok(message)) => add_message(alloc, &message, line),
+        Some(Ok(message)) => {
+            let template = message.template;
+            write!(line, "message {template}")
+        }
         Some(Err(fault)) => add_fault(fault, line),
         None => line.push_str("Memory"),
     }
-}
-
-fn add_message(alloc: Global, message: &Message, line: &mut String) -> Result<(), AllocError> {
-    let template = message.template;
-    write!(line, "{template} ")?;
-    add_block(alloc, &message.root, DEEPEST, line)
 }
 
 /// Adds what a view says of it: its template and its fields.
@@ -88,59 +81,4 @@ pub fn add_fault(fault: DecodeFault, line: &mut String) -> Result<(), AllocError
 fn add_bytes(alloc: Global, word: &str, bytes: &[u8], line: &mut String) -> Result<(), AllocError> {
     line.push_str(word)?;
     line.push_str(digits(alloc, bytes)?.as_str())
-}
-
-fn add_item(alloc: Global, item: &Item, line: &mut String) -> Result<(), AllocError> {
-    match item {
-        Item::Num(n) => write!(line, "{n}"),
-        Item::Null => line.push_str("null"),
-        Item::Absent => line.push_str("absent"),
-        Item::Text(text) => add_bytes(alloc, "text:", text.as_slice(), line),
-        Item::Raw(bytes) => add_bytes(alloc, "raw:", bytes.as_slice(), line),
-    }
-}
-
-fn add_datum(alloc: Global, datum: &Datum, line: &mut String) -> Result<(), AllocError> {
-    match datum {
-        Datum::Absent => line.push_str("data:absent"),
-        Datum::Present(bytes) => add_bytes(alloc, "data:", bytes.as_slice(), line),
-    }
-}
-
-/// Adds a blank behind other words of a block.
-fn add_blank(line: &mut String) -> Result<(), AllocError> {
-    line.push_str(if line.ends_with("{") { "" } else { " " })
-}
-
-#[cycle(printing)]
-fn add_block(alloc: Global, block: &Block, depth: u8, line: &mut String) -> Result<(), AllocError> {
-    line.push_str("{")?;
-    for item in block.items.as_slice() {
-        add_blank(line)?;
-        add_item(alloc, item, line)?;
-    }
-    for group in block.groups.as_slice() {
-        add_group(alloc, group, depth, line)?;
-    }
-    for datum in block.vars.as_slice() {
-        add_blank(line)?;
-        add_datum(alloc, datum, line)?;
-    }
-    line.push_str("}")
-}
-
-#[cycle(printing)]
-fn add_group(alloc: Global, group: &Group, depth: u8, line: &mut String) -> Result<(), AllocError> {
-    add_blank(line)?;
-    line.push_str("(")?;
-    match group {
-        Group::Entries(blocks) if depth > 0 => {
-            for block in blocks.as_slice() {
-                add_block(alloc, block, depth - 1, line)?;
-            }
-        }
-        Group::Entries(_) => line.push_str("deeper")?,
-        Group::Absent => line.push_str("absent")?,
-    }
-    line.push_str(")")
 }

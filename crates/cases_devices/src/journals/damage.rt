@@ -1,11 +1,21 @@
 //! Journals that are cut off or changed, against a second and plain reading of the format.
 
-use crate::journals::made::{Found, PAYLOAD, ROOM, WIDE, formatted, look};
+use crate::journals::disks::{ROOM, WIDE};
 use gw_fakes::MemDisk;
-use gw_outside::{Bytes, Disk};
+use gw_outside::Disk;
 use jr_log::LogJournal;
-use jr_record::{Journal, Record};
+use jr_record::{Journal, OpenFault};
 use std::alloc::{AllocError, Global};
+
+/// What opening a disk finds.
+#[derive(Clone, Copy, Debug, PartialEq, Eq)]
+enum Found {
+    /// A journal of so many records.
+    Records(u64),
+    NotFormatted,
+    Damaged(u64),
+    Failed,
+}
 
 /// The header of a journal.
 const HEADER: [u8; 16] = [
@@ -69,28 +79,12 @@ fn awaited(bytes: &[u8]) -> Found {
     Found::Failed
 }
 
-/// The bytes of a journal of three records of different kinds; none where a call is refused.
-fn three(alloc: Global) -> Result<Option<Vec<u8>>, AllocError> {
-    let Some(disk) = formatted(alloc)? else {
-        return Ok(None);
-    };
-    let Ok(mut journal) = LogJournal::open(alloc, disk, WIDE) else {
-        return Ok(None);
-    };
-    let apply = Record::Apply {
-        number: 3,
-        payload: Bytes::from_slice(alloc, &PAYLOAD)?,
-    };
-    let skip = Record::Skip { from: 1, count: 2 };
-    let all = journal.append(skip).is_ok()
-        && journal.append(apply).is_ok()
-        && journal.append(Record::Negotiated).is_ok();
-    let disk = journal.close();
-    Ok(if all {
-        Some(disk.content().to_vec(alloc)?)
-    } else {
-        None
-    })
+const fn found_of(fault: OpenFault) -> Found {
+    match fault {
+        OpenFault::NotFormatted => Found::NotFormatted,
+        OpenFault::Damaged { at } => Found::Damaged(at),
+        OpenFault::Memory | OpenFault::Fault => Found::Failed,
+    }
 }
 
 /// What opening a disk of these bytes finds.
@@ -99,7 +93,10 @@ fn opened(alloc: Global, bytes: &[u8]) -> Result<Found, AllocError> {
     if disk.write_at(0, bytes).is_err() {
         return Ok(Found::Failed);
     }
-    Ok(look(alloc, disk).0)
+    Ok(match LogJournal::open(alloc, disk, WIDE) {
+        Ok(journal) => Found::Records(journal.len()),
+        Err((_disk, fault)) => found_of(fault),
+    })
 }
 
 /// How many of some bytes are found as they are to be.
@@ -110,6 +107,14 @@ struct Tally {
 }
 
 impl Tally {
+    /// That of no bytes.
+    const fn new() -> Tally {
+        Tally {
+            tried: 0,
+            awaited: 0,
+        }
+    }
+
     fn count(&mut self, alloc: Global, bytes: &[u8]) -> Result<(), AllocError> {
         self.tried = self.tried.saturating_add(1);
         if opened(alloc, bytes)? == awaited(bytes) {
@@ -117,44 +122,31 @@ impl Tally {
         }
         Ok(())
     }
-}
 
-/// A journal of three records, cut off behind each of its bytes.
-pub fn cut(alloc: Global) -> Result<String, AllocError> {
-    let Some(whole) = three(alloc)? else {
-        return format!(in alloc; "no journal of three records");
-    };
-    let mut tally = Tally {
-        tried: 0,
-        awaited: 0,
-    };
-    for end in 0..=whole.len() {
-        tally.count(alloc, whole.as_slice().split_at(end).0)?;
+    fn add(&self, told: &mut String) -> Result<(), AllocError> {
+        let (awaited, tried) = (self.awaited, self.tried);
+        write!(told, " -> {awaited} of {tried} as the format says")
     }
-    format!(in alloc;
-        "cut off: {} of {} as the format says",
-        tally.awaited, tally.tried
-    )
 }
 
-/// A journal of three records, with each of its bytes changed in turn in three ways.
-pub fn changed(alloc: Global) -> Result<String, AllocError> {
-    let Some(whole) = three(alloc)? else {
-        return format!(in alloc; "no journal of three records");
-    };
-    let mut tally = Tally {
-        tried: 0,
-        awaited: 0,
-    };
+/// A journal that is cut off behind each of its bytes, and in front of the first.
+pub fn cut(alloc: Global, whole: &[u8], told: &mut String) -> Result<(), AllocError> {
+    let mut tally = Tally::new();
+    for end in 0..=whole.len() {
+        tally.count(alloc, whole.split_at(end).0)?;
+    }
+    tally.add(told)
+}
+
+/// A journal with each of its bytes changed in turn in three ways.
+pub fn changed(alloc: Global, whole: &[u8], told: &mut String) -> Result<(), AllocError> {
+    let mut tally = Tally::new();
     for at in 0..whole.len() {
         for mask in [0x01, 0x10, 0xFF] {
-            let mut bytes = whole.as_slice().to_vec(alloc)?;
+            let mut bytes = whole.to_vec(alloc)?;
             bytes[at] ^= mask;
             tally.count(alloc, bytes.as_slice())?;
         }
     }
-    format!(in alloc;
-        "changed: {} of {} as the format says",
-        tally.awaited, tally.tried
-    )
+    tally.add(told)
 }

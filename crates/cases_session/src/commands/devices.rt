@@ -50,11 +50,6 @@ pub struct Outcome {
 }
 
 impl Outcome {
-    /// The status.
-    pub fn status(&self) -> &Status {
-        &self.status
-    }
-
     /// The number of the status.
     pub fn code(&self) -> u8 {
         self.status.code()

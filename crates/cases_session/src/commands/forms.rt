@@ -15,7 +15,7 @@ pub struct Form {
 }
 
 /// `answer` of the recorded client.
-pub const ANSWER: Form = Form {
+const ANSWER: Form = Form {
     words: "answer C I W O",
     config: "answer.toml",
     input: "client.hex",
@@ -24,7 +24,7 @@ pub const ANSWER: Form = Form {
 };
 
 /// `check` of a schema.
-pub const CHECK: Form = Form {
+const CHECK: Form = Form {
     words: "check C O",
     config: "schema.toml",
     input: "",
@@ -33,7 +33,7 @@ pub const CHECK: Form = Form {
 };
 
 /// `decode` of the orders.
-pub const DECODE: Form = Form {
+const DECODE: Form = Form {
     words: "decode C I O",
     config: "orders.toml",
     input: "orders.hex",
@@ -41,8 +41,17 @@ pub const DECODE: Form = Form {
     out: "orders.txt",
 };
 
+/// `decode` of the orders and the beginning of a frame.
+const CUT: Form = Form {
+    words: "decode C I O",
+    config: "orders.toml",
+    input: "cut.hex",
+    wire: "",
+    out: "orders.txt",
+};
+
 /// `encode` of the orders.
-pub const ENCODE: Form = Form {
+const ENCODE: Form = Form {
     words: "encode C I W",
     config: "orders.toml",
     input: "orders.txt",
@@ -55,19 +64,9 @@ pub fn form_of(name: &str) -> Form {
     match name {
         "check" => CHECK,
         "decode" => DECODE,
+        "cut" => CUT,
         "encode" => ENCODE,
         _ => ANSWER,
-    }
-}
-
-/// The file of the schema of a name.
-pub fn schema_file(name: &str) -> &'static str {
-    match name {
-        "orders" => "orders.toml",
-        "older" => "orders-v1.toml",
-        "mix" => "mix.toml",
-        "trade" => "trade.toml",
-        _ => "",
     }
 }
 
@@ -78,24 +77,6 @@ impl Form {
             words: self.words,
             config: bytes_named(texts, self.config),
             input: bytes_named(texts, self.input),
-        }
-    }
-
-    /// A run by the command's CONFIG over this INPUT.
-    pub fn case_over<'a>(self, texts: &'a [Text], input: &'a [u8]) -> Case<'a> {
-        Case {
-            words: self.words,
-            config: bytes_named(texts, self.config),
-            input,
-        }
-    }
-
-    /// A run by the schema of a name over this INPUT.
-    pub fn case_by<'a>(self, texts: &'a [Text], schema: &str, input: &'a [u8]) -> Case<'a> {
-        Case {
-            words: self.words,
-            config: bytes_named(texts, schema_file(schema)),
-            input,
         }
     }
 

@@ -6,7 +6,7 @@ use std::fs::{self, Files};
 use std::io;
 
 /// The files that runs are over, and those of what they have to give.
-const FILES: [&str; 12] = [
+const FILES: [&str; 10] = [
     "answer.toml",
     "client.hex",
     "wire.hex",
@@ -14,10 +14,8 @@ const FILES: [&str; 12] = [
     "schema.toml",
     "layout.txt",
     "orders.toml",
-    "orders-v1.toml",
-    "mix.toml",
-    "trade.toml",
     "orders.hex",
+    "cut.hex",
     "orders.txt",
 ];
 

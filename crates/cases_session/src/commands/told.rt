@@ -1,9 +1,7 @@
 //! What is told of a run's outputs.
 
 use crate::commands::devices::Outcome;
-use cases_words::digits;
-use sofh_frame::{FirstFrame, next};
-use std::alloc::{AllocError, Global};
+use std::alloc::AllocError;
 
 /// All that WIRE and OUT are to gain.
 #[derive(Clone, Copy)]
@@ -34,42 +32,4 @@ pub fn push_told(line: &mut String, outcome: &Outcome, whole: Whole<'_>) -> Resu
     push_gained(line, outcome.wire(), whole.wire)?;
     line.push_str(", OUT ")?;
     push_gained(line, outcome.out(), whole.out)
-}
-
-/// Adds bytes in hexadecimal.
-pub fn push_digits(alloc: Global, line: &mut String, bytes: &[u8]) -> Result<(), AllocError> {
-    let spelled = digits(alloc, bytes)?;
-    line.push_str(spelled.as_str())
-}
-
-/// The first frame of some bytes, and what stands behind it.
-fn first_frame(bytes: &[u8]) -> Option<(&[u8], &[u8])> {
-    match next(bytes) {
-        FirstFrame::Frame { size, .. } => bytes.split_at_checked(size),
-        _ => None,
-    }
-}
-
-/// Adds the frames of some bytes in hexadecimal, a blank before each.
-pub fn push_frames(alloc: Global, line: &mut String, bytes: &[u8]) -> Result<(), AllocError> {
-    let mut rest = bytes;
-    for _ in 0..bytes.len() {
-        let Some((frame, behind)) = first_frame(rest) else {
-            break;
-        };
-        line.push_str(" ")?;
-        push_digits(alloc, line, frame)?;
-        rest = behind;
-    }
-    Ok(())
-}
-
-/// Adds the lines of a text, each between a blank and ` ;`.
-pub fn push_lines(line: &mut String, text: &[u8]) -> Result<(), AllocError> {
-    for part in std::str::from_utf8(text).unwrap_or("").lines() {
-        line.push_str(" ")?;
-        line.push_str(part)?;
-        line.push_str(" ;")?;
-    }
-    Ok(())
 }

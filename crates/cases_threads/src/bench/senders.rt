@@ -4,19 +4,15 @@
 ghost use Rattle.std.specs.Prelude.{◌≡◌, ◌≤◌, ◌^◌, false, vec_len, IfSome};
 ghost use Rattle.jr_boxes.specs.Outbox.{is_broken};
 
+use crate::made::{Log, formatted, opened};
 use gate_plans::{OpenDoor, Plan, run_seated, seat, unseat};
 use gate_senders::Gate;
-use gw_fakes::MemDisk;
 use gw_outside::{Bytes, Payloads};
 use jr_boxes::Outbox;
-use jr_log::{LogJournal, format};
 use jr_record::Limits;
 use std::alloc::Global;
 use std::sync::Wait;
 use std::thread::Threads;
-
-/// A journal on a disk in memory.
-type Log = LogJournal<MemDisk>;
 
 /// The bytes of an application message with its encoding type.
 const PAYLOAD: usize = 62;
@@ -64,11 +60,8 @@ fn fresh(alloc: Global, entries: u64) -> Option<Outbox<Log>>
     ensures sound { IfSome result (λ box. is_broken box ≡ false) }
 {
     let bytes = 64 + entries * ENTRY;
-    let mut disk = MemDisk::without_faults(alloc, bytes as usize).ok()?;
-    format(&mut disk).ok()?;
-    let limits = Limits { entries, bytes };
-    let journal = LogJournal::open(alloc, disk, limits).ok()?;
-    Outbox::open(alloc, journal, limits).ok()
+    let disk = formatted(alloc, bytes as usize)?;
+    opened(alloc, disk, Limits { entries, bytes })
 }
 
 /// Makes the plans of so many senders, 16 at most, with so many messages each, and an outbox. Where they are to run, they submit

@@ -2,23 +2,19 @@
 ghost use Rattle.std.specs.Prelude.{◌≡◌, ◌≤◌, false, vec_len, IfSome};
 ghost use Rattle.jr_boxes.specs.Outbox.{is_broken};
 
-use crate::senders_at_once::runs::Log;
+use crate::made::{Log, WIDE, formatted, opened};
 use gate_plans::Plan;
-use gw_fakes::{MemDisk, Pick};
+use gw_fakes::Pick;
 use gw_outside::{Bytes, Payloads};
 use jr_boxes::Outbox;
-use jr_log::{LogJournal, format};
 use jr_record::Limits;
 use std::alloc::{AllocError, Global};
 
 /// The room of each disk, in bytes.
 const ROOM: usize = 16_384;
 
-/// More than any case but those of limits submits.
-pub const WIDE: Limits = Limits {
-    entries: 1000,
-    bytes: 100_000,
-};
+/// The most device calls that an opening is looked for at.
+const MOST: u64 = 64;
 
 /// An application message of 8 bytes behind its encoding type: its template is the sender, its version its place in the plan.
 const fn message(sender: u8, place: u8) -> [u8; 10] {
@@ -46,34 +42,35 @@ fn plan(alloc: Global, sender: u8, length: u8) -> Option<Plan> {
 }
 
 /// The plans of these lengths: sender 1's is the first one here, and the last one of the list.
-fn plans(alloc: Global, lengths: &[u8]) -> Option<Vec<Plan>> {
+fn plans(alloc: Global, lengths: &str) -> Option<Vec<Plan>> {
     let mut list = Vec::new(alloc);
-    let mut sender = u8::try_from(lengths.len()).unwrap_or(0);
-    for length in lengths.iter().rev() {
-        list.push(plan(alloc, sender, *length)?).ok()?;
-        sender = sender.saturating_sub(1);
+    let mut sender = 0u8;
+    for length in lengths.split(" ") {
+        sender = sender.saturating_add(1);
+        list.push(plan(alloc, sender, length.parse::<u8>().unwrap_or(0))?)
+            .ok()?;
     }
+    list.reverse();
     Some(list)
 }
 
-/// An outbox on a disk with these limits; None where it is refused.
-fn opened(alloc: Global, disk: MemDisk, limits: Limits) -> Option<Outbox<Log>>
+/// An empty outbox on a disk that lets so many calls pass behind its formatting; None where it is refused.
+fn fused(alloc: Global, limits: Limits, calls: u64) -> Option<Outbox<Log>>
     ensures sound { IfSome result (λ box. is_broken box ≡ false) }
 {
-    let journal = LogJournal::open(alloc, disk, limits).ok()?;
-    Outbox::open(alloc, journal, limits).ok()
+    let mut disk = formatted(alloc, ROOM)?;
+    disk.fuse(calls);
+    opened(alloc, disk, limits)
 }
 
-/// An empty outbox on a disk that fails after so many calls behind its formatting, if at all; None where it is refused.
-fn fresh(alloc: Global, limits: Limits, fuse: Option<u64>) -> Option<Outbox<Log>>
-    ensures sound { IfSome result (λ box. is_broken box ≡ false) }
-{
-    let mut disk = MemDisk::without_faults(alloc, ROOM).ok()?;
-    format(&mut disk).ok()?;
-    if let Some(calls) = fuse {
-        disk.fuse(calls);
+/// How many calls of a disk the opening of an empty outbox makes.
+fn opening_calls(alloc: Global) -> u64 {
+    for calls in 0..MOST {
+        if fused(alloc, WIDE, calls).is_some() {
+            return calls;
+        }
     }
-    opened(alloc, disk, limits)
+    MOST
 }
 
 /// The outbox opened again after a stop that leaves this of its disk; None where it is refused.
@@ -81,12 +78,13 @@ pub fn reopened(alloc: Global, outbox: Outbox<Log>, pick: Pick) -> Option<Outbox
     opened(alloc, outbox.into_journal().close().stop(pick), WIDE)
 }
 
-/// An outbox with these limits on a disk with this fuse, and plans of these lengths.
+/// An outbox with these limits on a disk that lets so many calls pass behind those of its opening, and how many messages the plan of
+/// each sender has, in words.
 #[derive(Clone, Copy)]
 pub struct Case<'a> {
     pub limits: Limits,
-    pub fuse: Option<u64>,
-    pub lengths: &'a [u8],
+    pub fuse: u64,
+    pub lengths: &'a str,
 }
 
 /// An outbox, and the plans of those that are to submit to it.
@@ -105,7 +103,8 @@ pub fn ready(alloc: Global, case: Case<'_>) -> Option<Setting>
     if plans.len() > 4 {
         return None;
     }
-    let outbox = fresh(alloc, case.limits, case.fuse)?;
+    let calls = opening_calls(alloc).saturating_add(case.fuse);
+    let outbox = fused(alloc, case.limits, calls)?;
     Some(Setting { outbox, plans })
 }
 

@@ -1,7 +1,9 @@
 //! The cases.
-use crate::senders_at_once::boxes::{Case, Setting, WIDE, in_order, ready, reopened};
+use crate::made::{Log, WIDE};
+use crate::senders_at_once::boxes::{Case, Setting, in_order, ready, reopened};
 use crate::senders_at_once::doors::{Closing, Meeting};
-use crate::senders_at_once::runs::{Log, Ran, run, run_finished};
+use crate::senders_at_once::runs::{Ran, run, run_finished};
+use cases_words::{halves, number};
 use gate_plans::{Door, OpenDoor};
 use gw_fakes::Pick;
 use jr_boxes::{CloseFault, Outbox, SubmitFault};
@@ -10,12 +12,75 @@ use std::alloc::{AllocError, Global};
 use std::sync::Wait;
 use std::thread::Threads;
 
-/// A case whose outbox has room, on a disk that does not fail.
-const fn wide<'a>(lengths: &'a [u8]) -> Case<'a> {
+/// What is shown of a run.
+#[derive(Clone, Copy)]
+enum Shown {
+    /// What became of each sender.
+    Each,
+    /// How many messages were told of in all.
+    Sum,
+    /// What a stop leaves.
+    Left(Pick),
+}
+
+/// What a case of this kind shows, of which `pick` says what a stop leaves.
+fn shown_of(kind: &str, pick: &str) -> Shown {
+    match (kind, pick) {
+        ("each", _) => Shown::Each,
+        ("within", _) => Shown::Sum,
+        (_, "old") => Shown::Left(Pick::Old),
+        (_, "kept") => Shown::Left(Pick::Kept),
+        _ => Shown::Left(Pick::Noise),
+    }
+}
+
+/// What a case of this kind with these numbers begins with.
+fn case_of<'a>(kind: &str, first: u64, second: u64, lengths: &'a str) -> Case<'a> {
+    let limits = Limits {
+        entries: first.min(1 << 24),
+        bytes: second.min(1 << 30),
+    };
     Case {
-        limits: WIDE,
-        fuse: None,
+        limits: if kind == "within" { limits } else { WIDE },
+        fuse: if kind == "fuse" { first } else { u64::MAX },
         lengths,
+    }
+}
+
+/// Adds what a case of this kind shows: `each` tells of each sender, `within ENTRIES BYTES` of a limit, `fuse CALLS PICK` of a disk that
+/// fails behind so many calls and is then stopped, `meet` and `finish` of doors at which threads wait for one another.
+pub fn add_case<R: Threads + Wait + Sync>(
+    alloc: Global,
+    kind: &str,
+    lengths: &str,
+    rt: &R,
+    line: &mut String,
+) -> Result<(), AllocError> {
+    let (kind, words) = halves(kind);
+    let (first, second) = halves(words);
+    let case = case_of(kind, number(first), number(second), lengths);
+    match kind {
+        "meet" => meeting(alloc, case, rt, line),
+        "finish" => finishing(alloc, case, rt, line),
+        _ => open(alloc, case, shown_of(kind, second), rt, line),
+    }
+}
+
+/// Senders at a gate where nobody waits.
+fn open<R: Threads + Wait + Sync>(
+    alloc: Global,
+    case: Case<'_>,
+    shown: Shown,
+    rt: &R,
+    line: &mut String,
+) -> Result<(), AllocError> {
+    let Some(mut ran) = run_case(alloc, case, &OpenDoor, rt) else {
+        return line.push_str("no outbox");
+    };
+    match shown {
+        Shown::Each => add_each(&mut ran, line),
+        Shown::Sum => add_sum(&mut ran, line),
+        Shown::Left(pick) => add_left(alloc, ran, pick, line),
     }
 }
 
@@ -40,13 +105,14 @@ fn all_done(done: &[u64; 4]) -> u64 {
 }
 
 /// Two senders, the first of which waits for the second.
-pub fn meeting<R: Threads + Wait + Sync>(
+fn meeting<R: Threads + Wait + Sync>(
     alloc: Global,
+    case: Case<'_>,
     rt: &R,
     line: &mut String,
 ) -> Result<(), AllocError> {
     let door = Meeting::new();
-    match run_case(alloc, wide(&[3, 5]), &door, rt) {
+    match run_case(alloc, case, &door, rt) {
         Some(ran) => add_meeting(door.met(), &ran, line),
         None => line.push_str("no outbox"),
     }
@@ -60,20 +126,8 @@ fn add_meeting(met: bool, ran: &Ran, line: &mut String) -> Result<(), AllocError
     )
 }
 
-/// Plans of different lengths.
-pub fn plain<R: Threads + Wait + Sync>(
-    alloc: Global,
-    lengths: &[u8],
-    rt: &R,
-    line: &mut String,
-) -> Result<(), AllocError> {
-    match run_case(alloc, wide(lengths), &OpenDoor, rt) {
-        Some(mut ran) => add_plain(&mut ran, line),
-        None => line.push_str("no outbox"),
-    }
-}
-
-fn add_plain(ran: &mut Ran, line: &mut String) -> Result<(), AllocError> {
+/// Adds what became of each sender.
+fn add_each(ran: &mut Ran, line: &mut String) -> Result<(), AllocError> {
     let (answer, done, refused) = (ran.answer, ran.done, ran.refused);
     write!(line, "{answer:?}, done {done:?}, refused {refused:?}, ")?;
     add_entries(&mut ran.outbox, line)
@@ -90,25 +144,8 @@ fn add_entries(outbox: &mut Outbox<Log>, line: &mut String) -> Result<(), AllocE
     )
 }
 
-/// Two senders at an outbox that their messages fill.
-pub fn limits<R: Threads + Wait + Sync>(
-    alloc: Global,
-    limits: Limits,
-    rt: &R,
-    line: &mut String,
-) -> Result<(), AllocError> {
-    let case = Case {
-        limits,
-        fuse: None,
-        lengths: &[20, 20],
-    };
-    match run_case(alloc, case, &OpenDoor, rt) {
-        Some(mut ran) => add_limits(&mut ran, line),
-        None => line.push_str("no outbox"),
-    }
-}
-
-fn add_limits(ran: &mut Ran, line: &mut String) -> Result<(), AllocError> {
+/// Adds what became of all senders, of which it depends on the threads who was told of how many messages.
+fn add_sum(ran: &mut Ran, line: &mut String) -> Result<(), AllocError> {
     let (answer, done, front) = (ran.answer, all_done(&ran.done), ran.outbox.front());
     let ordered = in_order(&mut ran.outbox);
     write!(
@@ -117,13 +154,14 @@ fn add_limits(ran: &mut Ran, line: &mut String) -> Result<(), AllocError> {
     )
 }
 
-/// Runs two senders and adds the Finish meanwhile; None where a call is refused.
+/// Runs senders and adds the Finish meanwhile; None where a call is refused.
 fn run_closing<R: Threads + Wait + Sync>(
     alloc: Global,
+    case: Case<'_>,
     door: &Closing,
     rt: &R,
 ) -> Option<(Ran, Result<(), CloseFault>)> {
-    let Setting { outbox, plans } = ready(alloc, wide(&[100, 200]))?;
+    let Setting { outbox, plans } = ready(alloc, case)?;
     if plans.is_empty() {
         return None;
     }
@@ -132,13 +170,14 @@ fn run_closing<R: Threads + Wait + Sync>(
 
 /// Two senders, and the Finish, which is added while they submit: not before sender 1 calls for its message 11, and before its
 /// message 40. What was told of stands in the outbox as it is opened again, and its Finish is last.
-pub fn finishing<R: Threads + Wait + Sync>(
+fn finishing<R: Threads + Wait + Sync>(
     alloc: Global,
+    case: Case<'_>,
     rt: &R,
     line: &mut String,
 ) -> Result<(), AllocError> {
     let door = Closing::new(11, 40);
-    match run_closing(alloc, &door, rt) {
+    match run_closing(alloc, case, &door, rt) {
         Some((ran, finished)) => {
             write!(line, "finish {finished:?}, ")?;
             add_finished(alloc, ran, line)
@@ -198,28 +237,9 @@ fn add_standing(
     )
 }
 
-/// Two senders of two messages each, where the disk fails after so many calls: how many messages were told of, how many refusals
-/// were of the failing call and of the broken outbox, and how many entries there are after a stop that leaves this. False where
-/// the outbox is not opened before the disk fails.
-pub fn failing<R: Threads + Wait + Sync>(
-    alloc: Global,
-    fuse: u64,
-    pick: Pick,
-    rt: &R,
-    line: &mut String,
-) -> Result<bool, AllocError> {
-    let case = Case {
-        limits: WIDE,
-        fuse: Some(fuse),
-        lengths: &[2, 2],
-    };
-    match run_case(alloc, case, &OpenDoor, rt) {
-        Some(ran) => add_failed(alloc, ran, pick, line),
-        None => Ok(false),
-    }
-}
-
-fn add_failed(alloc: Global, ran: Ran, pick: Pick, line: &mut String) -> Result<bool, AllocError> {
+/// Adds how many messages were told of, how many refusals were of the failing call and for another reason than it and the broken
+/// outbox, and how many entries there are after a stop that leaves this.
+fn add_left(alloc: Global, ran: Ran, pick: Pick, line: &mut String) -> Result<(), AllocError> {
     let Ran {
         answer: _,
         done,
@@ -229,11 +249,10 @@ fn add_failed(alloc: Global, ran: Ran, pick: Pick, line: &mut String) -> Result<
     match reopened(alloc, outbox, pick) {
         Some(mut outbox) => {
             add_refused(&done, &refused, line)?;
-            add_kept(&done, &mut outbox, line)?;
+            add_kept(&done, &mut outbox, line)
         }
-        None => line.push_str("not opened again")?,
+        None => line.push_str("not opened again"),
     }
-    Ok(true)
 }
 
 /// How many senders were refused for the failing call, and how many for another reason than it and the broken outbox.

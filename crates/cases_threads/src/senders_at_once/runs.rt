@@ -6,20 +6,16 @@ ghost use Rattle.gate_turn.specs.Calls.{IsFree};
 ghost use Rattle.gate_senders.specs.Gate.{IsPassAt};
 ghost use Rattle.gate_plans.specs.Seats.{Seated};
 
+use crate::made::Log;
 use crate::senders_at_once::doors::Closing;
 use gate_plans::{Door, Plan, Sender, give_last, run_seated, seat, take_last, unseat};
 use gate_senders::{Gate, Kept};
 use gate_turn::Pass;
-use gw_fakes::MemDisk;
 use jr_boxes::{CloseFault, Outbox, SubmitFault};
-use jr_log::LogJournal;
 use std::alloc::Global;
 use std::sync::Wait;
 use std::thread;
 use std::thread::Threads;
-
-/// A journal on a disk in memory.
-pub type Log = LogJournal<MemDisk>;
 
 /// What became of a run.
 #[derive(Drop)]

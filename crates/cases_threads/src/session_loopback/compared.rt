@@ -1,23 +1,6 @@
 //! What two journals hold of one another.
 
-use gw_fakes::MemDisk;
-use jr_log::LogJournal;
-use jr_record::{Limits, Record};
-use std::alloc::Global;
-
-/// The limits of a session.
-const LIMITS: Limits = Limits {
-    entries: 1 << 24,
-    bytes: 1 << 30,
-};
-
-/// A journal on a disk in memory.
-pub type Log = LogJournal<MemDisk>;
-
-/// The journal on a disk; none where there is none.
-pub fn journal(alloc: Global, disk: MemDisk) -> Option<Log> {
-    LogJournal::open(alloc, disk, LIMITS).ok()
-}
+use jr_record::Record;
 
 /// How many messages of an outbox an inbox has applied, where it applied them in order from the first on, each as it was sent,
 /// and jumped over none.

@@ -2,14 +2,13 @@
 
 ghost use Rattle.std.specs.Prelude.{◌≡◌, false};
 
-use crate::session_loopback::compared::{Log, journal};
+use cases_made::{Disks, Log, fresh_disks, journal};
 use cmd_base::Status;
 use cmd_session::{Role, SessionOutside, run_session};
 use gw_fakes::{MemDisk, MemSink, MemSource};
 use gw_links::{Clock as LinkClock, Dialer};
 use gw_outside::{Bytes, Disk, Sink, Source};
 use gw_sockets::{AcceptDialer, ConnectDialer, MachineClock};
-use jr_log::format;
 use std::alloc::{AllocError, Global};
 use std::net::{Net, TcpListener, TcpStream};
 use std::sync::Wait;
@@ -42,13 +41,6 @@ pub struct Ended {
     pub status: u8,
     pub outbox: Log,
     pub inbox: Log,
-}
-
-/// The disks of an end's journals.
-#[derive(Drop)]
-struct Disks {
-    outbox: MemDisk,
-    inbox: MemDisk,
 }
 
 /// The streams of an end.
@@ -104,21 +96,6 @@ fn source(alloc: Global, bytes: Vec<u8>) -> MemSource {
     MemSource::without_faults(alloc, Bytes::from(bytes), PIECE)
 }
 
-/// A new journal on a disk.
-fn formatted(alloc: Global) -> Option<MemDisk> {
-    let mut disk = MemDisk::without_faults(alloc, ROOM).ok()?;
-    format(&mut disk).ok()?;
-    Some(disk)
-}
-
-/// New journals on two disks.
-fn fresh_disks(alloc: Global) -> Option<Disks> {
-    Some(Disks {
-        outbox: formatted(alloc)?,
-        inbox: formatted(alloc)?,
-    })
-}
-
 /// The streams of an end that begins.
 fn fresh_streams(alloc: Global) -> Option<Streams> {
     let config = config(alloc)?;
@@ -130,7 +107,7 @@ fn fresh_streams(alloc: Global) -> Option<Streams> {
 /// The devices of an end that begins.
 fn fresh_devices(alloc: Global) -> Option<Devices> {
     let streams = fresh_streams(alloc)?;
-    let disks = fresh_disks(alloc)?;
+    let disks = fresh_disks(alloc, ROOM)?;
     Some(Devices { streams, disks })
 }
 

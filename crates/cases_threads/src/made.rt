@@ -1,0 +1,34 @@
+//! Journals and outboxes on disks in memory, as the sections begin with them.
+
+ghost use Rattle.std.specs.Prelude.{◌≡◌, false, IfSome};
+ghost use Rattle.jr_boxes.specs.Outbox.{is_broken};
+
+use gw_fakes::MemDisk;
+use jr_boxes::Outbox;
+use jr_log::{LogJournal, format};
+use jr_record::Limits;
+use std::alloc::Global;
+
+/// A journal on a disk in memory.
+pub type Log = LogJournal<MemDisk>;
+
+/// More than any case submits but those that give their own limits.
+pub const WIDE: Limits = Limits {
+    entries: 1000,
+    bytes: 100_000,
+};
+
+/// A formatted disk of so many bytes; None where it is not to be had.
+pub fn formatted(alloc: Global, room: usize) -> Option<MemDisk> {
+    let mut disk = MemDisk::without_faults(alloc, room).ok()?;
+    format(&mut disk).ok()?;
+    Some(disk)
+}
+
+/// The outbox on a disk, with these limits; None where it is refused.
+pub fn opened(alloc: Global, disk: MemDisk, limits: Limits) -> Option<Outbox<Log>>
+    ensures sound { IfSome result (λ box. is_broken box ≡ false) }
+{
+    let journal = LogJournal::open(alloc, disk, limits).ok()?;
+    Outbox::open(alloc, journal, limits).ok()
+}
