@@ -1,6 +1,6 @@
 //! The work of two ends over their turns, by hand and with no proof: a sender's messages are appended to an outbox, framed, moved over
 //! a link in memory, taken out of their frames and appended to an inbox, with the journals' two writes and two syncs a record, on
-//! disks in memory. What `cases_threads turns` does is compared with this. It is no part of the product. Usage: turns COUNT SIZE
+//! disks in memory. What `cases_threads bench turns` does is compared with this. It is no part of the product. Usage: turns COUNT SIZE
 mod memory_disk;
 
 use memory_disk::Disk;
