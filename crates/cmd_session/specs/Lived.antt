@@ -98,59 +98,62 @@ module _ {J : Type 0} {G : Ghosts J} where
     pub told : ForSome content (λ bytes. IsJournal bytes (records_of_inbox inbox))
     pub holds : inboxes.HoldsBox box inbox []
 
-  -- One life over both journals. They held a history and a list; what serves its connections is a machine that is made of both; and it keeps
-  -- the contract of one end, by these plans. What is left are the records of the closing history and list, and in the inbox a beginning
-  -- of those refused. Every record that the life added to its inbox had room, and so had the one whose append the disk failed. Why it
-  -- answers so: the connections and the refusal say it (`IsLifeAnswer`, `answer_of`), and the counts
-  pub record LivedOver {S K D N C : Type 0} (sees : Sees S K D N) (config : EndConfig) (plans : List (List (List ℕ)))
-      (before after : SessionOutside S K D N C) (old new : Inbox J G) (result : Result (Unit {0}) ServeFault) : Type 0 where
-    pub opening : History
-    pub closing : History
-    pub inbox : List InboxRecord
-    pub seen : History
-    pub connections : Result LifeEnd ServeFault
-    pub refused : Option ServeFault
-    pub out_opened : ForSome (sees.told before.out_disk) (λ content. IsJournal content (records_of_history opening))
-    pub in_opened : ForSome (sees.told before.in_disk) (λ content. IsJournal content (records_of_inbox inbox))
-    pub holds : inboxes.HoldsBox old inbox []
-    pub served : ServedLife (life_at (sees.carried before.dialer) (sees.taken before.out) opening old)
-        (life_at (sees.carried after.dialer) (sees.taken after.out) seen new) (fresh config (opened_state opening old) (2 ^ 24)) connections
-    pub answer : result ≡ answer_of connections refused
-    pub refusal : IfSome refused IsOfSender
-    pub life : LifeOfLoop (outbox_of opening) (outbox_of closing) [] (fresh config (opened_state opening old) (2 ^ 24)) inbox
-        (all_of served.ended served.given_up) (refused_of_all (option_to_list served.given_up))
-    pub contract : KeepsContract (model_flow config.own_flow) (model_flow config.peer_flow) (plan_in plans) (life_in (machine_life life.life))
-    pub out_left : (HasRisen (sees.disk before.out_disk) (sees.disk after.out_disk) → ⊥)
-        → ∥ LeavesImages (sees.may_leave after.out_disk) (records_of_history closing) [] ∥₁
-    pub in_left : LeavesImages (sees.may_leave after.in_disk) (records_of_inbox (inbox ++ adds_of (all_of served.ended served.given_up)))
-        (records_of_inbox (refused_of_all (option_to_list served.given_up)))
-    pub room : HaveRoom (2 ^ 30) (journal_size (records_of_inbox inbox))
-        (adds_of (all_of served.ended served.given_up) ++ refused_of_all (option_to_list served.given_up))
-    pub marked : IsUnrefused result → 0 < length plans → closing.finished ≡ true
-    pub journal : result ≡ Err faults.Journal → HasRisen (sees.disk before.out_disk) (sees.disk after.out_disk)
-        ⊎ HasRisen (sees.disk before.in_disk) (sees.disk after.in_disk)
-    pub full : (entries bytes : ℕ) → result ≡ Err (faults.Full entries bytes)
-        → FullInbox (inbox ++ adds_of (all_of served.ended served.given_up)) (wanted_of_all (option_to_list served.given_up)) entries bytes
-        ⊎ WasFull limits opening closing entries bytes
+  module _ {S K D N C : Type 0} where
+    -- One life over both journals. They held a history and a list; what serves its connections is a machine that is made of both; and it keeps
+    -- the contract of one end, by these plans. What is left are the records of the closing history and list, and in the inbox a beginning
+    -- of those refused. Every record that the life added to its inbox had room, and so had the one whose append the disk failed. Why it
+    -- answers so: the connections and the refusal say it (`IsLifeAnswer`, `answer_of`), and the counts
+    pub record LivedOver (sees : Sees S K D N) (config : EndConfig) (plans : List (List (List ℕ)))
+        (before after : SessionOutside S K D N C) (old new : Inbox J G) (result : Result (Unit {0}) ServeFault) : Type 0 where
+      pub opening : History
+      pub closing : History
+      pub inbox : List InboxRecord
+      pub seen : History
+      pub connections : Result LifeEnd ServeFault
+      pub refused : Option ServeFault
+      pub out_opened : ForSome (sees.told before.out_disk) (λ content. IsJournal content (records_of_history opening))
+      pub in_opened : ForSome (sees.told before.in_disk) (λ content. IsJournal content (records_of_inbox inbox))
+      pub holds : inboxes.HoldsBox old inbox []
+      pub served : ServedLife (life_at (sees.carried before.dialer) (sees.taken before.out) opening old)
+          (life_at (sees.carried after.dialer) (sees.taken after.out) seen new) (fresh config (opened_state opening old) (2 ^ 24)) connections
+      pub answer : result ≡ answer_of connections refused
+      pub refusal : IfSome refused IsOfSender
+      pub life : LifeOfLoop (outbox_of opening) (outbox_of closing) [] (fresh config (opened_state opening old) (2 ^ 24)) inbox
+          (all_of served.ended served.given_up) (refused_of_all (option_to_list served.given_up))
+      pub contract : KeepsContract (model_flow config.own_flow) (model_flow config.peer_flow) (plan_in plans) (life_in (machine_life life.life))
+      pub out_left : (HasRisen (sees.disk before.out_disk) (sees.disk after.out_disk) → ⊥)
+          → ∥ LeavesImages (sees.may_leave after.out_disk) (records_of_history closing) [] ∥₁
+      pub in_left : LeavesImages (sees.may_leave after.in_disk) (records_of_inbox (inbox ++ adds_of (all_of served.ended served.given_up)))
+          (records_of_inbox (refused_of_all (option_to_list served.given_up)))
+      pub room : HaveRoom (2 ^ 30) (journal_size (records_of_inbox inbox))
+          (adds_of (all_of served.ended served.given_up) ++ refused_of_all (option_to_list served.given_up))
+      pub marked : IsUnrefused result → 0 < length plans → closing.finished ≡ true
+      pub journal : result ≡ Err faults.Journal → HasRisen (sees.disk before.out_disk) (sees.disk after.out_disk)
+          ⊎ HasRisen (sees.disk before.in_disk) (sees.disk after.in_disk)
+      pub full : (entries bytes : ℕ) → result ≡ Err (faults.Full entries bytes)
+          → FullInbox (inbox ++ adds_of (all_of served.ended served.given_up)) (wanted_of_all (option_to_list served.given_up)) entries bytes
+          ⊎ WasFull limits opening closing entries bytes
 
--- INPUT has these plans, and the status is one of a life, with its cause where it blames OUT or the dialer
-pub record IsPlannedLife {S K D N C : Type 0} (sees : Sees S K D N) (senders : ℕ) (plans : List (List (List ℕ))) (input : S) (before after : Live K N C)
-    (status : Status) : Type 0 where
-  pub planned : ArePlanned senders (sees.left input) plans
-  pub of_life : IsOfLife status
-  pub output : status ≡ OutputFault → HasRisen (sees.sink before.out) (sees.sink after.out)
-  pub dial : status ≡ DialFault → HasRisen (sees.dials before.dialer) (sees.dials after.dialer)
+module _ {S K D N C : Type 0} where
+  -- INPUT has these plans, and the status is one of a life, with its cause where it blames OUT or the dialer
+  pub record IsPlannedLife (sees : Sees S K D N) (senders : ℕ) (plans : List (List (List ℕ))) (input : S) (before after : Live K N C)
+      (status : Status) : Type 0 where
+    pub planned : ArePlanned senders (sees.left input) plans
+    pub of_life : IsOfLife status
+    pub output : status ≡ OutputFault → HasRisen (sees.sink before.out) (sees.sink after.out)
+    pub dial : status ≡ DialFault → HasRisen (sees.dials before.dialer) (sees.dials after.dialer)
 
 -- why no life began: for want of memory, or since OUT could not be begun
 abbrev pub IsUnbegun : {K : Type 0} → (K → ℕ) → (old new : K) → Status → Type 0
 IsUnbegun sink old new status = (status ≡ Memory) ⊎ ((status ≡ OutputFault) × HasRisen (sink old) (sink new))
 
--- no life began: the dialer is as it was, and each disk leaves what it held
-pub record LeftAll {S K D N C : Type 0} (sees : Sees S K D N) (before after : SessionOutside S K D N C) (status : Status) : Type 0 where
-  pub cause : IsUnbegun sees.sink before.out after.out status
-  pub dialer_is : after.dialer ≡ before.dialer
-  pub out_kept : KeepsRecords sees.told sees.may_leave before.out_disk after.out_disk
-  pub in_kept : KeepsRecords sees.told sees.may_leave before.in_disk after.in_disk
+module _ {S K D N C : Type 0} where
+  -- no life began: the dialer is as it was, and each disk leaves what it held
+  pub record LeftAll (sees : Sees S K D N) (before after : SessionOutside S K D N C) (status : Status) : Type 0 where
+    pub cause : IsUnbegun sees.sink before.out after.out status
+    pub dialer_is : after.dialer ≡ before.dialer
+    pub out_kept : KeepsRecords sees.told sees.may_leave before.out_disk after.out_disk
+    pub in_kept : KeepsRecords sees.told sees.may_leave before.in_disk after.in_disk
 
 -- what a life over boxes is lived on: OUT, the dialer and the clock, and the boxes
 pub record OverBoxes (K N C O I : Type 0) : Type 0 where
@@ -161,41 +164,45 @@ pub record OverBoxes (K N C O I : Type 0) : Type 0 where
 abbrev pub over_boxes : {K N C O I : Type 0} → Live K N C → O → I → OverBoxes K N C O I
 over_boxes live outbox inbox = record { live = live; outbox = outbox; inbox = inbox }
 
--- no life began: the dialer and the boxes are as they were
-pub record BeganNone {K N C O I : Type 0} (sink : K → ℕ) (before after : OverBoxes K N C O I) (status : Status) : Type 0 where
-  pub cause : IsUnbegun sink before.live.out after.live.out status
-  pub dialer_is : after.live.dialer ≡ before.live.dialer
-  pub box_is : after.inbox ≡ before.inbox
-  pub outbox_is : after.outbox ≡ before.outbox
+module _ {K N C O I : Type 0} where
+  -- no life began: the dialer and the boxes are as they were
+  pub record BeganNone (sink : K → ℕ) (before after : OverBoxes K N C O I) (status : Status) : Type 0 where
+    pub cause : IsUnbegun sink before.live.out after.live.out status
+    pub dialer_is : after.live.dialer ≡ before.live.dialer
+    pub box_is : after.inbox ≡ before.inbox
+    pub outbox_is : after.outbox ≡ before.outbox
 
 module _ {J : Type 0} {G : Ghosts J} {O : Type 0} {H : Ghosts O} where
-  -- it lived over the boxes, and the status is that of its answer
-  pub record HasLived {K N C : Type 0} (taken : K → Option (List ℕ)) (carried : N → Option DialerTold) (config : EndConfig) (plans : List (List (List ℕ)))
-      (before after : OverBoxes K N C (Outbox O H) (Inbox J G)) (status : Status) : Type 0 where
+  module _ {K N C : Type 0} where
+    -- it lived over the boxes, and the status is that of its answer
+    pub record HasLived (taken : K → Option (List ℕ)) (carried : N → Option DialerTold) (config : EndConfig) (plans : List (List (List ℕ)))
+        (before after : OverBoxes K N C (Outbox O H) (Inbox J G)) (status : Status) : Type 0 where
+      pub result : Result (Unit {0}) ServeFault
+      pub status_is : status ≡ status_of result
+      pub boxes : LivedBoxes config plans (beside (carried before.live.dialer) (taken before.live.out) before.inbox)
+          (beside (carried after.live.dialer) (taken after.live.out) after.inbox) before.outbox after.outbox result
+
+  module _ {S K D N C : Type 0} where
+    -- INPUT has plans; OUT was begun; and no life began, or one was lived over the boxes
+    pub record LivedOn (sees : Sees S K D N) (senders : ℕ) (config : EndConfig) (input : S)
+        (before after : OverBoxes K N C (Outbox O H) (Inbox J G)) (status : Status) : Type 0 where
+      pub plans : List (List (List ℕ))
+      pub life : IsPlannedLife sees senders plans input before.live after.live status
+      pub lived : BeganNone sees.sink before after status ⊎ HasLived sees.taken sees.carried config plans before after status
+
+module _ {S K D N C J : Type 0} where
+  -- it lived over both disks, and the status is that of its answer
+  pub record HasLivedOver (G : Ghosts J) (sees : Sees S K D N) (config : EndConfig) (plans : List (List (List ℕ)))
+      (before after : SessionOutside S K D N C) (status : Status) : Type 0 where
+    pub old : Inbox J G
+    pub new : Inbox J G
     pub result : Result (Unit {0}) ServeFault
     pub status_is : status ≡ status_of result
-    pub boxes : LivedBoxes config plans (beside (carried before.live.dialer) (taken before.live.out) before.inbox)
-        (beside (carried after.live.dialer) (taken after.live.out) after.inbox) before.outbox after.outbox result
+    pub over : LivedOver sees config plans before after old new result
 
-  -- INPUT has plans; OUT was begun; and no life began, or one was lived over the boxes
-  pub record LivedOn {S K D N C : Type 0} (sees : Sees S K D N) (senders : ℕ) (config : EndConfig) (input : S)
-      (before after : OverBoxes K N C (Outbox O H) (Inbox J G)) (status : Status) : Type 0 where
+  -- INPUT has plans; OUT was begun; and no life began, or one was lived over both disks
+  pub record Lived (G : Ghosts J) (sees : Sees S K D N) (senders : ℕ) (config : EndConfig) (before after : SessionOutside S K D N C)
+      (status : Status) : Type 0 where
     pub plans : List (List (List ℕ))
-    pub life : IsPlannedLife sees senders plans input before.live after.live status
-    pub lived : BeganNone sees.sink before after status ⊎ HasLived sees.taken sees.carried config plans before after status
-
--- it lived over both disks, and the status is that of its answer
-pub record HasLivedOver {S K D N C J : Type 0} (G : Ghosts J) (sees : Sees S K D N) (config : EndConfig) (plans : List (List (List ℕ)))
-    (before after : SessionOutside S K D N C) (status : Status) : Type 0 where
-  pub old : Inbox J G
-  pub new : Inbox J G
-  pub result : Result (Unit {0}) ServeFault
-  pub status_is : status ≡ status_of result
-  pub over : LivedOver sees config plans before after old new result
-
--- INPUT has plans; OUT was begun; and no life began, or one was lived over both disks
-pub record Lived {S K D N C J : Type 0} (G : Ghosts J) (sees : Sees S K D N) (senders : ℕ) (config : EndConfig) (before after : SessionOutside S K D N C)
-    (status : Status) : Type 0 where
-  pub plans : List (List (List ℕ))
-  pub life : IsPlannedLife sees senders plans before.input (live_of before) (live_of after) status
-  pub lived : LeftAll sees before after status ⊎ HasLivedOver G sees config plans before after status
+    pub life : IsPlannedLife sees senders plans before.input (live_of before) (live_of after) status
+    pub lived : LeftAll sees before after status ⊎ HasLivedOver G sees config plans before after status

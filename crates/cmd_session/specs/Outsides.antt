@@ -23,38 +23,40 @@ pub record Sees (S K D N : Type 0) : Type 1 where
   pub disk : D → ℕ
   pub dials : N → ℕ
 
--- as the contracts of the devices have it
-abbrev pub sees : {S K D N L : Type 0} → SourceGhosts S → SinkGhosts K → DiskGhosts D → DialerGhosts N L → Sees S K D N
-sees source sink disk dialer = record {
-  left = source.left;
-  taken = sink.taken;
-  told = disk.told;
-  may_leave = disk.may_leave;
-  carried = dialer.told;
-  source = source.faults;
-  sink = sink.faults;
-  disk = disk.faults;
-  dials = dialer.faults;
-}
+module _ {S K D N L : Type 0} where
+  -- as the contracts of the devices have it
+  abbrev pub sees : SourceGhosts S → SinkGhosts K → DiskGhosts D → DialerGhosts N L → Sees S K D N
+  sees source sink disk dialer = record {
+    left = source.left;
+    taken = sink.taken;
+    told = disk.told;
+    may_leave = disk.may_leave;
+    carried = dialer.told;
+    source = source.faults;
+    sink = sink.faults;
+    disk = disk.faults;
+    dials = dialer.faults;
+  }
 
--- the counts of faults
-abbrev pub counts_of : {S K D N C : Type 0} → Sees S K D N → SessionOutside S K D N C → SessionCounts
-counts_of seen outside = record {
-  config = seen.source outside.config;
-  input = seen.source outside.input;
-  out = seen.sink outside.out;
-  out_disk = seen.disk outside.out_disk;
-  in_disk = seen.disk outside.in_disk;
-  dialer = seen.dials outside.dialer;
-}
+module _ {S K D N C : Type 0} where
+  -- the counts of faults
+  abbrev pub counts_of : Sees S K D N → SessionOutside S K D N C → SessionCounts
+  counts_of seen outside = record {
+    config = seen.source outside.config;
+    input = seen.source outside.input;
+    out = seen.sink outside.out;
+    out_disk = seen.disk outside.out_disk;
+    in_disk = seen.disk outside.in_disk;
+    dialer = seen.dials outside.dialer;
+  }
 
--- what a life is lived on: OUT, the dialer and the clock
-abbrev pub live_of : {S K D N C : Type 0} → SessionOutside S K D N C → Live K N C
-live_of outside = record { out = outside.out; dialer = outside.dialer; clock = outside.clock }
+  -- what a life is lived on: OUT, the dialer and the clock
+  abbrev pub live_of : SessionOutside S K D N C → Live K N C
+  live_of outside = record { out = outside.out; dialer = outside.dialer; clock = outside.clock }
 
--- the disks of the two journals
-abbrev pub disks_of : {S K D N C : Type 0} → SessionOutside S K D N C → Disks D
-disks_of outside = record { outbox = outside.out_disk; inbox = outside.in_disk }
+  -- the disks of the two journals
+  abbrev pub disks_of : SessionOutside S K D N C → Disks D
+  disks_of outside = record { outbox = outside.out_disk; inbox = outside.in_disk }
 
 -- OUT, the dialer and the clock are as they were
 pub record KeepsLive {K N C : Type 0} (before after : Live K N C) : Type 0 where
@@ -62,17 +64,18 @@ pub record KeepsLive {K N C : Type 0} (before after : Live K N C) : Type 0 where
   pub dialer : after.dialer ≡ before.dialer
   pub clock : after.clock ≡ before.clock
 
--- what comes behind the inbox is as it was
-pub record KeepsBehindInbox {S K D N C : Type 0} (before after : SessionOutside S K D N C) : Type 0 where
-  pub input : after.input ≡ before.input
-  pub live : KeepsLive (live_of before) (live_of after)
+module _ {S K D N C : Type 0} where
+  -- what comes behind the inbox is as it was
+  pub record KeepsBehindInbox (before after : SessionOutside S K D N C) : Type 0 where
+    pub input : after.input ≡ before.input
+    pub live : KeepsLive (live_of before) (live_of after)
 
--- what comes behind the outbox is as it was
-pub record KeepsBehindOutbox {S K D N C : Type 0} (before after : SessionOutside S K D N C) : Type 0 where
-  pub in_disk : after.in_disk ≡ before.in_disk
-  pub behind : KeepsBehindInbox before after
+  -- what comes behind the outbox is as it was
+  pub record KeepsBehindOutbox (before after : SessionOutside S K D N C) : Type 0 where
+    pub in_disk : after.in_disk ≡ before.in_disk
+    pub behind : KeepsBehindInbox before after
 
--- what comes behind CONFIG is as it was
-pub record KeepsBehindConfig {S K D N C : Type 0} (before after : SessionOutside S K D N C) : Type 0 where
-  pub out_disk : after.out_disk ≡ before.out_disk
-  pub behind : KeepsBehindOutbox before after
+  -- what comes behind CONFIG is as it was
+  pub record KeepsBehindConfig (before after : SessionOutside S K D N C) : Type 0 where
+    pub out_disk : after.out_disk ≡ before.out_disk
+    pub behind : KeepsBehindOutbox before after

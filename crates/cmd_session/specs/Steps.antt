@@ -19,11 +19,12 @@ use Rattle.cmd_session.specs.Outsides.{Sees, live_of, disks_of, KeepsLive, Keeps
 use Rattle.cmd_session.specs.declared.outside.Live.{Live}
 use Rattle.cmd_session.specs.declared.outside.SessionOutside.{SessionOutside}
 
--- INPUT was refused, with its fault, or could not be read; OUT, the dialer and the clock are as they were
-pub record RefusedInput {S K D N C : Type 0} (sees : Sees S K D N) (senders : ℕ) (old new : S) (before after : Live K N C) (status : Status) : Type 0 where
-  pub refused : RefusesInput senders (sees.left old) status
-  pub cause : status ≡ InputFault → HasRisen (sees.source old) (sees.source new)
-  pub live : KeepsLive before after
+module _ {S K D N C : Type 0} where
+  -- INPUT was refused, with its fault, or could not be read; OUT, the dialer and the clock are as they were
+  pub record RefusedInput (sees : Sees S K D N) (senders : ℕ) (old new : S) (before after : Live K N C) (status : Status) : Type 0 where
+    pub refused : RefusesInput senders (sees.left old) status
+    pub cause : status ≡ InputFault → HasRisen (sees.source old) (sees.source new)
+    pub live : KeepsLive before after
 
 -- the disk of the outbox holds none, or could not be opened; that of the inbox is as it was
 pub record RefusedOutbox {D : Type 0} (told : D → Option (List ℕ)) (disk : D → ℕ) (flow : Flow) (before after : Disks D) (status : Status) : Type 0 where
@@ -46,38 +47,39 @@ pub record HoldBoxes {D : Type 0} (told : D → Option (List ℕ)) (flow : Flow)
 abbrev pub RefusedBoxes : {D : Type 0} → (D → Option (List ℕ)) → (D → ℕ) → Flow → (before after : Disks D) → Status → Type 0
 RefusedBoxes told disk flow before after status = RefusedOutbox told disk flow before after status ⊎ RefusedInbox told disk flow before after status
 
--- CONFIG was refused, with its fault, or could not be read; all behind it is as it was
-pub record StopsAtConfig {S K D N C : Type 0} (sees : Sees S K D N) (role : Role) (before after : SessionOutside S K D N C) (status : Status) : Type 0 where
-  pub verdict : (text : List ℕ) → sees.left before.config ≡ Some text → Refuses status (configuration_at role text)
-  pub unconfigured : IsUnconfigured status
-  pub cause : status ≡ InputFault → HasRisen (sees.source before.config) (sees.source after.config)
-  pub kept : KeepsBehindConfig before after
+module _ {S K D N C : Type 0} where
+  -- CONFIG was refused, with its fault, or could not be read; all behind it is as it was
+  pub record StopsAtConfig (sees : Sees S K D N) (role : Role) (before after : SessionOutside S K D N C) (status : Status) : Type 0 where
+    pub verdict : (text : List ℕ) → sees.left before.config ≡ Some text → Refuses status (configuration_at role text)
+    pub unconfigured : IsUnconfigured status
+    pub cause : status ≡ InputFault → HasRisen (sees.source before.config) (sees.source after.config)
+    pub kept : KeepsBehindConfig before after
 
--- a box was not opened; INPUT and all behind it is as it was
-pub record StopsAtBoxes {S K D N C : Type 0} (sees : Sees S K D N) (role : Role) (c : Configuration) (before after : SessionOutside S K D N C)
-    (status : Status) : Type 0 where
-  pub refused : RefusedBoxes sees.told sees.disk (flow_received role c.link) (disks_of before) (disks_of after) status
-  pub kept : KeepsBehindInbox before after
+  -- a box was not opened; INPUT and all behind it is as it was
+  pub record StopsAtBoxes (sees : Sees S K D N) (role : Role) (c : Configuration) (before after : SessionOutside S K D N C)
+      (status : Status) : Type 0 where
+    pub refused : RefusedBoxes sees.told sees.disk (flow_received role c.link) (disks_of before) (disks_of after) status
+    pub kept : KeepsBehindInbox before after
 
--- both boxes were opened, and then INPUT was refused, or the session lived
-pub record RunsOn {S K D N C J : Type 0} (G : Ghosts J) (sees : Sees S K D N) (role : Role) (c : Configuration) (before after : SessionOutside S K D N C)
-    (status : Status) : Type 0 where
-  pub boxes : HoldBoxes sees.told (flow_received role c.link) (disks_of before)
-  pub ended : RefusedInput sees c.trade.senders before.input after.input (live_of before) (live_of after) status
-      ⊎ Lived G sees c.trade.senders (end_of role c.link) before after status
+module _ {S K D N C J : Type 0} where
+  -- both boxes were opened, and then INPUT was refused, or the session lived
+  pub record RunsOn (G : Ghosts J) (sees : Sees S K D N) (role : Role) (c : Configuration) (before after : SessionOutside S K D N C)
+      (status : Status) : Type 0 where
+    pub boxes : HoldBoxes sees.told (flow_received role c.link) (disks_of before)
+    pub ended : RefusedInput sees c.trade.senders before.input after.input (live_of before) (live_of after) status
+        ⊎ Lived G sees c.trade.senders (end_of role c.link) before after status
 
--- where a run whose configuration is this ended
-abbrev pub EndsBehindConfig : {S K D N C J : Type 0} → Ghosts J → Sees S K D N → Role → Configuration → (before after : SessionOutside S K D N C) → Status
-    → Type 0
-EndsBehindConfig G sees role c before after status = StopsAtBoxes sees role c before after status ⊎ RunsOn G sees role c before after status
+  -- where a run whose configuration is this ended
+  abbrev pub EndsBehindConfig : Ghosts J → Sees S K D N → Role → Configuration → (before after : SessionOutside S K D N C) → Status → Type 0
+  EndsBehindConfig G sees role c before after status = StopsAtBoxes sees role c before after status ⊎ RunsOn G sees role c before after status
 
--- CONFIG spells a configuration, and a run of it ended so
-pub record WasConfigured {S K D N C J : Type 0} (G : Ghosts J) (sees : Sees S K D N) (role : Role) (before after : SessionOutside S K D N C)
-    (status : Status) : Type 0 where
-  pub configuration : Configuration
-  pub spelled : IsConfigured role (sees.left before.config) configuration
-  pub ended : EndsBehindConfig G sees role configuration before after status
+  -- CONFIG spells a configuration, and a run of it ended so
+  pub record WasConfigured (G : Ghosts J) (sees : Sees S K D N) (role : Role) (before after : SessionOutside S K D N C)
+      (status : Status) : Type 0 where
+    pub configuration : Configuration
+    pub spelled : IsConfigured role (sees.left before.config) configuration
+    pub ended : EndsBehindConfig G sees role configuration before after status
 
--- where a run ended
-abbrev pub Steps : {S K D N C J : Type 0} → Ghosts J → Sees S K D N → Role → (before after : SessionOutside S K D N C) → Status → Type 0
-Steps G sees role before after status = StopsAtConfig sees role before after status ⊎ WasConfigured G sees role before after status
+  -- where a run ended
+  abbrev pub Steps : Ghosts J → Sees S K D N → Role → (before after : SessionOutside S K D N C) → Status → Type 0
+  Steps G sees role before after status = StopsAtConfig sees role before after status ⊎ WasConfigured G sees role before after status
