@@ -2,25 +2,18 @@
 //! the command run over them, prints its status and exits with it. What is between is the crate `cmd_run`.
 #![tactic(auto)]
 
-mod again;
-mod files;
-mod lines;
-mod report;
 mod session_said;
 mod sessions;
-mod usage;
 
+use cmd_files::{Report, Session, VERSION, asked, finish, run_over_files, usage_fault};
 use cmd_run::{Status, command_of};
-use files::run_over_files;
 use gw_real::{FileDisk, Opening};
-use report::{Report, finish};
-use sessions::{Session, SessionFiles, run_over_sockets};
+use sessions::{SessionFiles, run_over_sockets};
 use std::fs::File;
 use std::io;
 use std::process::ExitCode;
 use std::rt::{Env, Files};
 use std::sync::Wait;
-use usage::{VERSION, asked, usage_fault};
 
 /// The words behind the program's name.
 fn words_of<R: Env + AllocGlobal>(rt: &R) -> io::Result<Vec<String>> {

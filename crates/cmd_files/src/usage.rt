@@ -1,7 +1,7 @@
 //! What the commands are, for people.
 
 use crate::report::Report;
-use crate::sessions::role_of;
+use crate::session::role_of;
 use cmd_run::Status;
 use say_config::quoted;
 use std::alloc::{AllocError, Global};
