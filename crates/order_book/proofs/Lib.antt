@@ -1,0 +1,11 @@
+mod Lookups
+mod Best
+mod Walk
+mod Queue
+mod Changes
+mod Finding
+mod Going
+mod Uncrossed
+mod Totals
+mod Maps
+mod Entering

@@ -1,0 +1,6 @@
+pub mod Computed
+pub mod Shares
+pub mod Ranged
+pub mod Written
+pub mod Padded
+pub mod Whole

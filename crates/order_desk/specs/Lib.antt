@@ -1,0 +1,5 @@
+pub mod Schema
+pub mod Orders
+pub mod Reports
+pub mod Plans
+pub mod Laws
