@@ -1,0 +1,4 @@
+mod Fronts
+pub mod Sizes
+pub mod Spelling
+pub mod Verdicts

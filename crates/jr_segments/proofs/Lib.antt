@@ -1,0 +1,11 @@
+mod Adds
+mod Answering
+mod Appends
+mod Fetching
+mod Fitting
+mod Headers
+mod Joining
+mod Pushing
+mod Scans
+mod Spanning
+mod Writes

@@ -1,0 +1,169 @@
+-- Where a record stands, by the places that are kept.
+use Rattle.std.proofs.Common.{◌≡◌, ◌⊎◌, inl, inr, ℕ, zero, suc, ◌+◌, ◌-◌, ◌<◌, ◌≤◌, ◌^◌, min, List, [], ◌∷◌, ◌++◌, Option, Some, length, get_or, take, drop, slice_get, refl, sym, ◌∙◌, ap, subst, arith, append_assoc, length-append}
+use Rattle.std.proofs.lemmas.List.{get_or_at, drop_at, take_at, append-nil}
+use Rattle.std.specs.List.{AllByRecursion}
+use Rattle.jr_record.specs.declared.record.Record.{Record}
+use Rattle.jr_record.specs.Images.{gated}
+use Rattle.jr_dated.specs.Dated.{Dated, IsDated, undated, spelled}
+use Rattle.jr_dated.specs.Images.{header, IsJournal, record_size, sizes}
+use Rattle.jr_dated.proofs.Spelling.{one, length-spelled}
+use Rattle.jr_segments.specs.Fronts.{gated-append, undated-append, places_from-append, sizes-append, length-places_from, length-undated, length-gated}
+use Rattle.jr_segments.specs.Resting.{Keeps, places_from}
+use Rattle.std.specs.Option.{ForSome}
+use Rattle.jr_segments.specs.Reading.{Spans, IsNext, IsThere}
+
+-- the record at an index, and those before it and behind it
+record Here (h : List Dated) (i : ℕ) : Type 0 where
+  pub before : List Dated
+  pub here : Dated
+  pub after : List Dated
+  pub split : h ≡ before ++ here ∷ after
+  pub index : length before ≡ i
+
+here_at : (h : List Dated) (i : ℕ) → i < length h → Here h i
+here_at [] i within = absurd (omega arith)
+here_at (d ∷ h) zero within = record { before = []; here = d; after = h; split = refl; index = refl }
+here_at (d ∷ h) (suc i) within =
+    let rest = here_at h i (omega arith) in
+    record { before = d ∷ rest.before; here = rest.here; after = rest.after; split = ap (λ (ds : List Dated). d ∷ ds) rest.split; index = ap suc rest.index }
+
+-- the places, and the sizes, of records around one
+module _ (before after : List Dated) (here : Dated) where
+  parts : undated (before ++ here ∷ after) ≡ undated before ++ here.what ∷ undated after
+  parts = undated-append before (here ∷ after)
+
+  places_around : places_from 16 (undated (before ++ here ∷ after)) ≡ places_from 16 (undated before) ++ (16 + sizes (undated before)) ∷ places_from (16 + sizes (undated before) + record_size here.what) (undated after)
+  places_around = ap (λ (rs : List Record). places_from 16 rs) parts ∙ places_from-append 16 (undated before) (here.what ∷ undated after)
+
+  sizes_around : sizes (undated (before ++ here ∷ after)) ≡ sizes (undated before) + (record_size here.what + sizes (undated after))
+  sizes_around = ap sizes parts ∙ sizes-append (undated before) (here.what ∷ undated after)
+
+  first_place : length (places_from 16 (undated before)) ≡ length before
+  first_place = length-places_from 16 (undated before) ∙ length-undated before
+
+module _ (places : List ℕ) (size moment i : ℕ) (within : i < length places) (h : List Dated) (keeps : Keeps places size moment h) where
+  here_is : Here h i
+  here_is = here_at h i (omega (arith, within, ap length keeps.places_are, length-places_from 16 (undated h), length-undated h))
+
+  places_are : places ≡ places_from 16 (undated here_is.before) ++ (16 + sizes (undated here_is.before)) ∷ places_from (16 + sizes (undated here_is.before) + record_size here_is.here.what) (undated here_is.after)
+  places_are = keeps.places_are ∙ ap (λ (ds : List Dated). places_from 16 (undated ds)) here_is.split ∙ places_around here_is.before here_is.after here_is.here
+
+  sized : 17 + (sizes (undated here_is.before) + (record_size here_is.here.what + sizes (undated here_is.after))) ≡ size
+  sized = omega (arith, keeps.sized, ap (λ (ds : List Dated). sizes (undated ds)) here_is.split, sizes_around here_is.before here_is.after here_is.here)
+
+  place_at : get_or places i 0 ≡ 16 + sizes (undated here_is.before)
+  place_at =
+      let start = places_from 16 (undated here_is.before) in
+      ap (λ (ns : List ℕ). get_or ns i 0) places_are
+      ∙ get_or_at start (16 + sizes (undated here_is.before)) _ 0 i (first_place here_is.before here_is.after here_is.here ∙ here_is.index)
+
+  next_at : (after : List Dated) → here_is.after ≡ after → (next : ℕ) → ((i + 1 < length places) × (next ≡ get_or places (i + 1) 0)) ⊎ ((length places ≤ i + 1) × (next ≡ size - 1))
+      → next ≡ 16 + sizes (undated here_is.before) + record_size here_is.here.what
+  next_at [] none next (inl more) =
+      absurd (omega (arith, more.0, ap length places_are, length-append (places_from 16 (undated here_is.before)) ((16 + sizes (undated here_is.before)) ∷ places_from (16 + sizes (undated here_is.before) + record_size here_is.here.what) (undated here_is.after)), first_place here_is.before here_is.after here_is.here, here_is.index, length-places_from (16 + sizes (undated here_is.before) + record_size here_is.here.what) (undated here_is.after), ap (λ (ds : List Dated). length (undated ds)) none))
+  next_at [] none next (inr last) = omega (arith, last.1, sized, ap (λ (ds : List Dated). sizes (undated ds)) none)
+  next_at (d ∷ after) some next (inr last) =
+      absurd (omega (arith, last.0, ap length places_are, length-append (places_from 16 (undated here_is.before)) ((16 + sizes (undated here_is.before)) ∷ places_from (16 + sizes (undated here_is.before) + record_size here_is.here.what) (undated here_is.after)), first_place here_is.before here_is.after here_is.here, here_is.index, length-places_from (16 + sizes (undated here_is.before) + record_size here_is.here.what) (undated here_is.after), ap (λ (ds : List Dated). length (undated ds)) some))
+  next_at (d ∷ after) some next (inl more) =
+      let start = places_from 16 (undated here_is.before) in
+      let at = 16 + sizes (undated here_is.before) in
+      let behind = places_from (at + record_size here_is.here.what + record_size d.what) (undated after) in
+      let whole : places ≡ (start ++ at ∷ []) ++ (at + record_size here_is.here.what) ∷ behind =
+      places_are ∙ ap (λ (ds : List Dated). start ++ at ∷ places_from (at + record_size here_is.here.what) (undated ds)) some
+      ∙ sym (append_assoc start (at ∷ []) ((at + record_size here_is.here.what) ∷ behind)) in
+      let count : length (start ++ at ∷ []) ≡ i + 1 = omega (arith, length-append start (at ∷ []), first_place here_is.before here_is.after here_is.here, here_is.index) in
+      more.1 ∙ ap (λ (ns : List ℕ). get_or ns (i + 1) 0) whole ∙ get_or_at (start ++ at ∷ []) (at + record_size here_is.here.what) behind 0 (i + 1) count
+
+  -- a record stands between its gate and the next place
+  pub spans_at : (at count next : ℕ) → at ≡ min (get_or places i 0 + 1) (2 ^ 64 - 1) → IsNext places size i next → count ≡ min (next - at) size → size ≤ 2 ^ 41 → Spans h i at count
+  spans_at at count next at_is next_is count_is small =
+      let ends : next ≡ 16 + sizes (undated here_is.before) + record_size here_is.here.what = next_at here_is.after refl next next_is in
+      let begins : at ≡ 17 + sizes (undated here_is.before) = omega (arith, at_is, place_at, sized, small) in
+      record {
+        before = here_is.before;
+        here = here_is.here;
+        after = here_is.after;
+        split = here_is.split;
+        index = here_is.index;
+        place = begins;
+        bytes = omega (arith, ends, begins, count_is, sized);
+      }
+
+-- what holds of each of some records, one of them replaced
+all_here : (P : Dated → Type 0) (before after : List Dated) (here : Dated) → AllByRecursion P (before ++ here ∷ after) → P here
+all_here P [] after here all = all.0
+all_here P (d ∷ before) after here all = all_here P before after here all.1
+
+all_replaced : (P : Dated → Type 0) (before after : List Dated) (here e : Dated) → P e → AllByRecursion P (before ++ here ∷ after) → AllByRecursion P (before ++ e ∷ after)
+all_replaced P [] after here e holds all = (holds, all.1)
+all_replaced P (d ∷ before) after here e holds all = (all.0, all_replaced P before after here e holds all.1)
+
+get_here : (before after : List Dated) (e : Dated) (i : ℕ) → length before ≡ i → slice_get (before ++ e ∷ after) i ≡ Some e
+get_here [] after e zero is = refl
+get_here [] after e (suc i) is = absurd (omega arith)
+get_here (d ∷ before) after e zero is = absurd (omega arith)
+get_here (d ∷ before) after e (suc i) is = get_here before after e i (omega arith)
+
+module _ (told : Option (List ℕ)) (places : List ℕ) (size moment i at count : ℕ) (h : List Dated) (keeps : Keeps places size moment h) (spans : Spans h i at count) where
+  around : AllByRecursion IsDated (spans.before ++ spans.here ∷ spans.after)
+  around = subst (AllByRecursion IsDated) spans.split keeps.legal
+
+  early_around : AllByRecursion (λ (d : Dated). d.moment ≤ moment) (spans.before ++ spans.here ∷ spans.after)
+  early_around = subst (AllByRecursion (λ (d : Dated). d.moment ≤ moment)) spans.split keeps.latest
+
+  bytes_here : length (spelled spans.here) ≡ count
+  bytes_here = omega (arith, length-spelled spans.here, spans.bytes)
+
+  -- what a journal with these records has there
+  content_at : (content : List ℕ) → IsJournal content h → take count (drop at content) ≡ spelled spans.here
+  content_at content holds =
+      let front = header ++ gated spelled spans.before in
+      let rest = gated spelled spans.after ++ holds.closed ∷ holds.behind in
+      let records : gated spelled h ≡ gated spelled spans.before ++ (1 ∷ (spelled spans.here ++ gated spelled spans.after)) = ap (λ (ds : List Dated). gated spelled ds) spans.split ∙ gated-append spelled spans.before (spans.here ∷ spans.after) in
+      let whole : content ≡ (front ++ 1 ∷ []) ++ (spelled spans.here ++ rest) =
+      holds.whole
+      ∙ ap (λ (xs : List ℕ). header ++ xs ++ holds.closed ∷ holds.behind) records
+      ∙ ap (λ (xs : List ℕ). xs ++ holds.closed ∷ holds.behind) (sym (append_assoc header (gated spelled spans.before) (1 ∷ (spelled spans.here ++ gated spelled spans.after))))
+      ∙ append_assoc front (1 ∷ (spelled spans.here ++ gated spelled spans.after)) (holds.closed ∷ holds.behind)
+      ∙ ap (λ (xs : List ℕ). front ++ (1 ∷ xs)) (append_assoc (spelled spans.here) (gated spelled spans.after) (holds.closed ∷ holds.behind))
+      ∙ sym (append_assoc front (1 ∷ []) (spelled spans.here ++ rest)) in
+      let place : length (front ++ 1 ∷ []) ≡ at = omega (arith, length-append front (1 ∷ []), length-append header (gated spelled spans.before), length-gated spans.before, spans.place) in
+      ap (λ (xs : List ℕ). take count (drop at xs)) whole
+      ∙ ap (λ (xs : List ℕ). take count xs) (drop_at (front ++ 1 ∷ []) (spelled spans.here ++ rest) at place)
+      ∙ take_at (spelled spans.here) rest count bytes_here
+
+  -- where nothing stands there, nothing is told
+  pub never_changed : (content : List ℕ) → IsJournal content h → (IsThere at count moment spans.here content → ⊥) → ⊥
+  never_changed content holds none = none (record {
+    legal = all_here IsDated spans.before spans.after spans.here around;
+    early = all_here (λ (d : Dated). d.moment ≤ moment) spans.before spans.after spans.here early_around;
+    bytes = bytes_here;
+    spells = content_at content holds;
+  })
+
+  module _ (e : Dated) (legal : IsDated e) (early : e.moment ≤ moment) (bytes : length (spelled e) ≡ count) where
+    same_size : record_size e.what ≡ record_size spans.here.what
+    same_size = omega (arith, length-spelled e, bytes, spans.bytes)
+
+    -- these records are kept as well
+    pub keeps_instead : Keeps places size moment (spans.before ++ e ∷ spans.after)
+    keeps_instead = record {
+      legal = all_replaced IsDated spans.before spans.after spans.here e legal around;
+      places_are =
+          keeps.places_are ∙ ap (λ (ds : List Dated). places_from 16 (undated ds)) spans.split ∙ places_around spans.before spans.after spans.here
+          ∙ ap (λ (n : ℕ). places_from 16 (undated spans.before) ++ (16 + sizes (undated spans.before)) ∷ places_from (16 + sizes (undated spans.before) + n) (undated spans.after)) (sym same_size)
+          ∙ sym (places_around spans.before spans.after e);
+      sized = omega (arith, sizes_around spans.before spans.after e, sizes_around spans.before spans.after spans.here, ap (λ (ds : List Dated). sizes (undated ds)) spans.split, same_size, keeps.sized);
+      latest = all_replaced (λ (d : Dated). d.moment ≤ moment) spans.before spans.after spans.here e early early_around;
+    }
+
+    -- where the content is told, they are the same
+    pub told_instead : ForSome told (IsThere at count moment e) → ForSome told (λ content. IsJournal content h) → ForSome told (λ content. IsJournal content (spans.before ++ e ∷ spans.after))
+    told_instead there holds content is =
+        let found = there content is in
+        let same : e ≡ spans.here = (one e spans.here [] [] legal (all_here IsDated spans.before spans.after spans.here around)
+        (append-nil (spelled e) ∙ sym found.spells ∙ content_at content (holds content is) ∙ sym (append-nil (spelled spans.here)))).0 in
+        subst (λ (ds : List Dated). IsJournal content ds) (spans.split ∙ ap (λ (d : Dated). spans.before ++ d ∷ spans.after) (sym same)) (holds content is)
+
+    pub get_instead : slice_get (spans.before ++ e ∷ spans.after) i ≡ Some e
+    get_instead = get_here spans.before spans.after e i spans.index

@@ -1,0 +1,26 @@
+-- What every journal that keeps the places of its records promises, from what it keeps.
+use Rattle.std.specs.Prelude.{◌≡◌, ℕ, ◌+◌, ◌*◌, ◌<◌, ◌≤◌, ◌^◌, List, [], Option, Some, None, length, true, is_some}
+use Rattle.std.proofs.Common.{arith, refl, sym, ap, ◌∙◌}
+use Rattle.std.proofs.Math.Logic.{∥∥₁_map}
+use Rattle.std.proofs.lemmas.Bool.{false≢true}
+use Rattle.std.specs.Option.{ForSome}
+use Rattle.gw_outside.specs.declared.disk.Disk.{Ghosts}
+use Rattle.session_model.specs.Lives.{IsImage}
+use Rattle.jr_dated.specs.Dated.{Dated, undated}
+use Rattle.jr_dated.specs.Images.{IsJournal, journal_size}
+use Rattle.jr_dated.specs.Journals.{Holds}
+use Rattle.jr_dated.proofs.Verdicts.{at_most_one_verdict}
+use Rattle.jr_segments.specs.Resting.{Keeps, places_from}
+use Rattle.jr_segments.specs.Fronts.{length-places_from, length-undated}
+
+-- as many records as places, and its size
+pub counted_by : (places : List ℕ) (size moment : ℕ) (h : List Dated) → Keeps places size moment h → (length h ≡ length places) × (journal_size (undated h) ≡ size)
+counted_by places size moment h keeps = (sym (ap length keeps.places_are ∙ length-places_from 16 (undated h) ∙ length-undated h), keeps.sized)
+
+pub few_by : (count size : ℕ) → 2 * count + 17 ≤ size → size ≤ 2 ^ 41 → count < 2 ^ 40
+few_by count size counted small = omega arith
+
+-- one list, where a content is told
+pub one_by : (told : Option (List ℕ)) (h k : List Dated) → is_some told ≡ true → ForSome told (λ content. IsJournal content h) → ForSome told (λ content. IsJournal content k) → h ≡ k
+one_by None h k some is_h is_k = absurd (false≢true some)
+one_by (Some content) h k some is_h is_k = at_most_one_verdict.one_list content h k (is_h content refl) (is_k content refl)

@@ -1,0 +1,18 @@
+//! A journal with moments on one disk, of which only the places of the records are kept in memory: they stand in segments, so
+//! that one record more copies none, and a record is read from the disk when it is wanted. Many records may be added behind
+//! one commit. Relies on `jr_dated` for the records' bytes and on `gw_outside` for what a stop may leave of a disk.
+#![tactic(auto)]
+
+mod adding;
+mod behind;
+mod faults;
+mod formatting;
+mod index;
+mod journal;
+mod reading;
+mod scan;
+mod segment;
+mod segments;
+
+pub use formatting::format;
+pub use journal::SegJournal;
