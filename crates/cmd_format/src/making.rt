@@ -28,6 +28,7 @@ pub fn format_journals<D: Disk>(out_disk: &mut D, in_disk: &mut D) -> Status
     ensures formats { Formats D.told D.may_leave D.faults (record { outbox = out_disk.old; inbox = in_disk.old }) (record { outbox = out_disk.new; inbox = in_disk.new }) result }
     ensures out_within { KeepsBehindHeader D.may_leave out_disk.old out_disk.new }
     ensures in_within { KeepsBehindHeader D.may_leave in_disk.old in_disk.new }
+    ensures quiet { result ≡ Status.Done → (D.faults out_disk.new ≡ D.faults out_disk.old) × (D.faults in_disk.new ≡ D.faults in_disk.old) }
     ensures none_fell { NoneFell (disk_counts (D.faults out_disk.old) (D.faults in_disk.old)) (disk_counts (D.faults out_disk.new) (D.faults in_disk.new)) }
     ensures cause { IsCaused (disk_counts (D.faults out_disk.old) (D.faults in_disk.old)) (disk_counts (D.faults out_disk.new) (D.faults in_disk.new)) result }
 {

@@ -63,6 +63,7 @@ impl<J: Journal> Inbox<J> {
         ensures size { IfOk result (λ box. size_of box ≡ J.size journal) }
         ensures limits { IfOk result (λ box. limits_of box ≡ limits) }
         ensures flow { IfOk result (λ box. flow_of box ≡ flow) }
+        ensures quiet { IfOk result (λ box. faults_of box ≡ J.faults journal) }
         ensures never_falls { IfOk result (λ box. J.faults journal ≤ faults_of box) }
         ensures wrong { IfErr result (λ e. (at : ℕ) → e.1 ≡ box_fault.Wrong at → (records : List Record) → J.stands journal records → IsWrongAt flow records at) }
         ensures cause { IfErr result (λ e. e.1 ≡ box_fault.Fault → HasRisen (J.faults journal) (J.faults e.0)) }
@@ -106,6 +107,7 @@ impl<J: Journal> Inbox<J> {
         ensures fault { IsErrOf result append.Fault → (i : List InboxRecord) → HoldsBox self.old i [] → HoldsBox self.new i (apply (record { number = number; payload = payload }) ∷ []) }
         ensures breaks { IsErrOf result append.Fault → is_broken self.new ≡ true }
 
+        ensures quiet { OnOk result (faults_of self.new ≡ faults_of self.old) }
         ensures never_falls { faults_of self.old ≤ faults_of self.new }
         ensures same { (limits_of self.new ≡ limits_of self.old) × (flow_of self.new ≡ flow_of self.old) }
     {
@@ -150,6 +152,7 @@ impl<J: Journal> Inbox<J> {
         ensures fault { IsErrOf result append.Fault → (i : List InboxRecord) → HoldsBox self.old i [] → HoldsBox self.new i (skip (record { first = from; count = count }) ∷ []) }
         ensures breaks { IsErrOf result append.Fault → is_broken self.new ≡ true }
 
+        ensures quiet { OnOk result (faults_of self.new ≡ faults_of self.old) }
         ensures never_falls { faults_of self.old ≤ faults_of self.new }
         ensures same { (limits_of self.new ≡ limits_of self.old) × (flow_of self.new ≡ flow_of self.old) }
     {
@@ -176,6 +179,7 @@ impl<J: Journal> Inbox<J> {
         ensures fault { IsErrOf result append.Fault → (i : List InboxRecord) → HoldsBox self.old i [] → HoldsBox self.new i (negotiated ∷ []) }
         ensures breaks { IsErrOf result append.Fault → is_broken self.new ≡ true }
 
+        ensures quiet { OnOk result (faults_of self.new ≡ faults_of self.old) }
         ensures never_falls { faults_of self.old ≤ faults_of self.new }
         ensures same { (limits_of self.new ≡ limits_of self.old) × (flow_of self.new ≡ flow_of self.old) }
     {
@@ -202,6 +206,7 @@ impl<J: Journal> Inbox<J> {
         ensures fault { IsErrOf result append.Fault → (i : List InboxRecord) → HoldsBox self.old i [] → HoldsBox self.new i (peer_finished last ∷ []) }
         ensures breaks { IsErrOf result append.Fault → is_broken self.new ≡ true }
 
+        ensures quiet { OnOk result (faults_of self.new ≡ faults_of self.old) }
         ensures never_falls { faults_of self.old ≤ faults_of self.new }
         ensures same { (limits_of self.new ≡ limits_of self.old) × (flow_of self.new ≡ flow_of self.old) }
     {
@@ -226,6 +231,7 @@ impl<J: Journal> Inbox<J> {
         ensures breaks { is_broken self.new ≡ is_broken_after_read result }
 
         ensures content { SameContent self.old self.new }
+        ensures quiet { OnOk result (faults_of self.new ≡ faults_of self.old) }
         ensures never_falls { faults_of self.old ≤ faults_of self.new }
         ensures same { (limits_of self.new ≡ limits_of self.old) × (flow_of self.new ≡ flow_of self.old) }
     {
@@ -276,9 +282,10 @@ impl<J: Journal> Inbox<J> {
         self.flow
     }
 
-    /// Whether a call of its disk has failed since the opening of its journal.
+    /// Whether a call of its disk has failed since the opening of its journal. While none has, it holds a list.
     pub fn broken(&self) -> bool
         ensures value { result ≡ is_broken self.now }
+        ensures held { result ≡ false → ∥ ((i : List InboxRecord) × HoldsBox self.now i []) ∥₁ }
     {
         self.journal.broken()
     }
@@ -317,6 +324,7 @@ fn note_records<J: Journal>(alloc: Global, journal: &mut J, flow: Flow) -> Resul
     ensures unchanged { SameJournal J.stands J.leaves journal.old journal.new }
     ensures size { J.size journal.new ≡ J.size journal.old }
     ensures limits { J.limits journal.new ≡ J.limits journal.old }
+    ensures quiet { OnOk result (J.faults journal.new ≡ J.faults journal.old) }
     ensures never_falls { J.faults journal.old ≤ J.faults journal.new }
 {
     let mut notes = Notes::new(alloc);

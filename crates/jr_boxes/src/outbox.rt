@@ -57,6 +57,7 @@ impl<J: Journal> Outbox<J> {
         ensures sound { IfOk result (λ box. is_broken box ≡ false) }
         ensures size { IfOk result (λ box. size_of box ≡ J.size journal) }
         ensures limits { IfOk result (λ box. limits_of box ≡ limits) }
+        ensures quiet { IfOk result (λ box. faults_of box ≡ J.faults journal) }
         ensures never_falls { IfOk result (λ box. J.faults journal ≤ faults_of box) }
         ensures wrong { IfErr result (λ e. (at : ℕ) → e.1 ≡ box_fault.Wrong at → (records : List Record) → J.stands journal records → IsWrongAt records at) }
         ensures cause { IfErr result (λ e. e.1 ≡ box_fault.Fault → HasRisen (J.faults journal) (J.faults e.0)) }
@@ -102,6 +103,7 @@ impl<J: Journal> Outbox<J> {
             → HoldsBox self.new h (entry (record { sender = sender; own_number = mine_of self.old sender + 1; payload = payload.now }) ∷ []) }
         ensures breaks { IsErrOf result submit.Fault → is_broken self.new ≡ true }
 
+        ensures quiet { OnOk result (faults_of self.new ≡ faults_of self.old) }
         ensures never_falls { faults_of self.old ≤ faults_of self.new }
         ensures limits { limits_of self.new ≡ limits_of self.old }
     {
@@ -150,6 +152,7 @@ impl<J: Journal> Outbox<J> {
         ensures fault { IsErrOf result closing.Fault → (h : History) → HoldsBox self.old h [] → HoldsBox self.new h (finish ∷ []) }
         ensures breaks { IsErrOf result closing.Fault → is_broken self.new ≡ true }
 
+        ensures quiet { OnOk result (faults_of self.new ≡ faults_of self.old) }
         ensures never_falls { faults_of self.old ≤ faults_of self.new }
         ensures limits { limits_of self.new ≡ limits_of self.old }
     {
@@ -186,6 +189,7 @@ impl<J: Journal> Outbox<J> {
         ensures breaks { is_broken self.new ≡ is_broken_after_read result }
 
         ensures content { SameContent self.old self.new }
+        ensures quiet { OnOk result (faults_of self.new ≡ faults_of self.old) }
         ensures never_falls { faults_of self.old ≤ faults_of self.new }
         ensures limits { limits_of self.new ≡ limits_of self.old }
     {
@@ -263,6 +267,7 @@ fn count_records<J: Journal>(journal: &mut J) -> Result<Tally, BoxFault>
     ensures unchanged { SameJournal J.stands J.leaves journal.old journal.new }
     ensures size { J.size journal.new ≡ J.size journal.old }
     ensures limits { J.limits journal.new ≡ J.limits journal.old }
+    ensures quiet { OnOk result (J.faults journal.new ≡ J.faults journal.old) }
     ensures never_falls { J.faults journal.old ≤ J.faults journal.new }
 {
     let mut tally = Tally::new();

@@ -24,6 +24,7 @@ pub fn format<D: Disk>(disk: &mut D) -> Result<(), FormatFault>
     ensures already_images { IsErrOf result Already → LeavesSame (D.may_leave disk.old) (D.may_leave disk.new) }
     ensures cause { IsErrOf result Fault → HasRisen (D.faults disk.old) (D.faults disk.new) }
     ensures images { Follows (Torn 0 17) (D.may_leave disk.old) (D.may_leave disk.new) }
+    ensures quiet { OnOk result (D.faults disk.new ≡ D.faults disk.old) }
     ensures never_falls { D.faults disk.old ≤ D.faults disk.new }
 {
     if begins_with_magic(disk)? {

@@ -55,6 +55,7 @@ impl<D: Disk> LogJournal<D> {
         ensures limits { IfOk result (λ j. limits_of j ≡ limits) }
         ensures not_broken { IfOk result (λ j. broken_of j ≡ false) }
         ensures content { IfOk result (λ j. D.told (disk_of j) ≡ D.told disk) }
+        ensures quiet { IfOk result (λ j. D.faults (disk_of j) ≡ D.faults disk) }
         ensures never_falls { IfOk result (λ j. D.faults disk ≤ D.faults (disk_of j)) }
         ensures refused { IfErr result (λ e. ForSome (D.told disk) (Refuses e.1)) }
         ensures cause { IfErr result (λ e. e.1 ≡ Fault → HasRisen (D.faults disk) (D.faults e.0)) }
@@ -113,6 +114,7 @@ impl<D: Disk> LogJournal<D> {
         ensures cause { OnFailure result (HasRisen (D.faults self.old.disk) (D.faults self.new.disk)) }
         ensures images { OnFailure result ((image : List ℕ) → D.may_leave self.new.disk image → IsJournal image self.old.records.items ⊎ IsJournal image (self.old.records.items ++ batch.items)) }
         ensures limits { self.new.limits ≡ self.old.limits }
+        ensures quiet { OnOk result (D.faults self.new.disk ≡ D.faults self.old.disk) }
         ensures never_falls { D.faults self.old.disk ≤ D.faults self.new.disk }
     {
         let mut batch = batch;

@@ -107,6 +107,7 @@ pub fn read_journal<D: Disk>(alloc: Global, disk: &mut D) -> Result<Found, OpenF
     ensures content { D.told disk.new ≡ D.told disk.old }
     ensures settled { OnOk result (IsAllLeft (D.told disk.old) (D.may_leave disk.new)) }
     ensures images { (image : List ℕ) → D.may_leave disk.new image → D.may_leave disk.old image }
+    ensures quiet { OnOk result (D.faults disk.new ≡ D.faults disk.old) }
     ensures never_falls { D.faults disk.old ≤ D.faults disk.new }
 {
     disk.sync()?;
@@ -125,6 +126,7 @@ fn read_pieces<D: Disk>(alloc: Global, disk: &mut D, piece: &mut [u8]) -> Result
     ensures cause { IfErr result (λ fault. fault ≡ Fault → HasRisen (D.faults disk.old) (D.faults disk.new)) }
     ensures content { D.told disk.new ≡ D.told disk.old }
     ensures images { LeavesSame (D.may_leave disk.old) (D.may_leave disk.new) }
+    ensures quiet { OnOk result (D.faults disk.new ≡ D.faults disk.old) }
     ensures never_falls { D.faults disk.old ≤ D.faults disk.new }
 {
     let read = disk.read_at(0, piece)?;
@@ -173,6 +175,7 @@ fn scan<D: Disk>(
     ensures cause { IfErr result (λ fault. fault ≡ Fault → HasRisen (D.faults disk.old) (D.faults disk.new)) }
     ensures content { D.told disk.new ≡ D.told disk.old }
     ensures images { LeavesSame (D.may_leave disk.old) (D.may_leave disk.new) }
+    ensures quiet { OnOk result (D.faults disk.new ≡ D.faults disk.old) }
     ensures never_falls { D.faults disk.old ≤ D.faults disk.new }
 {
     let mut held = held;

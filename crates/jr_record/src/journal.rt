@@ -1,6 +1,6 @@
 //! What every journal is to the layers above: a list of records that each stop leaves whole.
 
-ghost use Rattle.std.specs.Prelude.{◌≡◌, ◌↔◌, ℕ, ◌+◌, ◌<◌, ◌≤◌, ◌^◌, Bool, true, false, List, [], ◌∷◌, ◌++◌, length, slice_get, Option, Some, Err, IfOk, OnOk, OnErr, IsErrOf};
+ghost use Rattle.std.specs.Prelude.{◌≡◌, ◌↔◌, ◌⊎◌, ℕ, ◌+◌, ◌<◌, ◌≤◌, ◌^◌, Bool, true, false, List, [], ◌∷◌, ◌++◌, length, slice_get, Option, Some, Err, IfOk, OnOk, OnErr, IsErrOf};
 ghost use Rattle.std.specs.List.{AllByRecursion};
 ghost use Rattle.gw_outside.specs.Faults.{HasRisen};
 ghost use Rattle.jr_record.specs.Records.{IsRecord};
@@ -15,7 +15,9 @@ use crate::faults::{AppendFault, FetchFault};
 use crate::limits::Limits;
 use crate::record::Record;
 
-/// A journal: a list of records on a disk. What an append acknowledged stands in every image that a stop may leave.
+/// A journal: a list of records on a disk. What an append acknowledged stands in every image that a stop may leave. An
+/// answer of `Ok` says that no call of the disk failed in this call: a failed sync that is tried again and then succeeds
+/// may have lost what it was to keep.
 pub trait Journal {
     /// Its records are these. Where its disk tells no content it may stand for several lists.
     ghost stands: { Self → List Record → Type 0 };
@@ -29,7 +31,7 @@ pub trait Journal {
     /// How large it may grow.
     ghost limits: { Self → Limits };
 
-    /// Whether a call of its disk has failed since its opening.
+    /// Whether a call of its disk has failed since its opening. It becomes so only in a call in which the count rises.
     ghost is_broken: { Self → Bool };
 
     /// How many records it has.
@@ -59,6 +61,8 @@ pub trait Journal {
         ensures fault { OnFault result ((h : List Record) → Holds stands leaves self.old h [] → Holds stands leaves self.new h (r ∷ [])) }
         ensures breaks { is_broken self.new ≡ is_broken_after result }
 
+        ensures quiet { OnOk result (faults self.new ≡ faults self.old) }
+        ensures blamed { is_broken self.new ≡ true → (is_broken self.old ≡ true) ⊎ HasRisen (faults self.old) (faults self.new) }
         ensures never_falls { faults self.old ≤ faults self.new }
         ensures limits { limits self.new ≡ limits self.old };
 
@@ -75,6 +79,8 @@ pub trait Journal {
         ensures broken { (result ≡ Err fetch.Broken) ↔ (is_broken self.old ≡ true) }
         ensures cause { IsErrOf result fetch.Fault → HasRisen (faults self.old) (faults self.new) }
         ensures breaks { is_broken self.new ≡ is_broken_after_read result }
+        ensures quiet { OnOk result (faults self.new ≡ faults self.old) }
+        ensures blamed { is_broken self.new ≡ true → (is_broken self.old ≡ true) ⊎ HasRisen (faults self.old) (faults self.new) }
 
         ensures unchanged { Unchanged stands leaves self.old self.new }
         ensures sizes { (count self.new ≡ count self.old) × (size self.new ≡ size self.old) }

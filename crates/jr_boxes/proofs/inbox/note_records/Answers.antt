@@ -12,7 +12,7 @@ loop-at-init g c = record {
   count = sym c.len-count.ensures.value;
   size = refl;
   limits = refl;
-  faults = omega arith;
+  faults = refl;
   noted = λ records stands. nothing_noted c.args.flow c.new-notes.result c.new-notes.ensures.notices;
   within = λ k here. absurd (omega (arith, here, ap length c.new-notes.ensures.notices.places));
 }
@@ -42,7 +42,7 @@ loop-at-preserved g c = record {
   count = c.in_ok-r.ensures.sizes.0 ∙ c.loop-at.invariant.count;
   size = c.in_ok-r.ensures.sizes.1 ∙ c.loop-at.invariant.size;
   limits = c.in_ok-r.ensures.limits ∙ c.loop-at.invariant.limits;
-  faults = omega (arith, c.loop-at.invariant.faults, c.in_ok-r.ensures.never_falls);
+  faults = c.in_ok-r.ensures.quiet ∙ c.loop-at.invariant.faults;
   noted = λ records stands. noted_on c.args.flow records c.loop-at.at c.loop-at.notes c.note.new.self c.in_ok-r.r
       (c.in_ok-r.ensures.found records ((c.loop-at.invariant.same.records records).0 stands))
       (c.loop-at.invariant.noted records stands)

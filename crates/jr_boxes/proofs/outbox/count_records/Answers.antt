@@ -29,7 +29,7 @@ loop-at-preserved g c = record {
   count = c.in_ok-record.ensures.sizes.0 ∙ c.loop-at.invariant.count;
   size = c.in_ok-record.ensures.sizes.1 ∙ c.loop-at.invariant.size;
   limits = c.in_ok-record.ensures.limits ∙ c.loop-at.invariant.limits;
-  faults = omega (arith, c.loop-at.invariant.faults, c.in_ok-record.ensures.never_falls);
+  faults = c.in_ok-record.ensures.quiet ∙ c.loop-at.invariant.faults;
   counted = λ records stands. counted_on records c.loop-at.at c.loop-at.tally c.take.new.self c.in_ok-record.record
       (c.in_ok-record.ensures.found records ((c.loop-at.invariant.same.records records).0 stands))
       (c.loop-at.invariant.counted records stands)

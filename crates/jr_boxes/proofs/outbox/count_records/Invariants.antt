@@ -1,4 +1,4 @@
-use Rattle.std.proofs.Common.{◌≡◌, ◌≤◌, false, List, take}
+use Rattle.std.proofs.Common.{◌≡◌, false, List, take}
 use Rattle.jr_record.specs.Journals.{Unchanged as SameJournal}
 use Rattle.jr_record.specs.declared.record.Record.{Record}
 use Rattle.jr_boxes.specs.Tallies.{Counted, IsWithin}
@@ -11,7 +11,7 @@ invariant-loop-at g l = record {
   count : g.J.Journal.count l.journal ≡ l.count;
   size : g.J.Journal.size l.journal ≡ g.J.Journal.size l.fn.journal;
   limits : g.J.Journal.limits l.journal ≡ g.J.Journal.limits l.fn.journal;
-  faults : g.J.Journal.faults l.fn.journal ≤ g.J.Journal.faults l.journal;
+  faults : g.J.Journal.faults l.journal ≡ g.J.Journal.faults l.fn.journal;
   counted : (records : List Record) → g.J.Journal.stands l.fn.journal records → Counted (take l.at records) l.tally;
   within : IsWithin l.tally l.at;
 }

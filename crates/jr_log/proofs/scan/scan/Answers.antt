@@ -45,7 +45,7 @@ pieces-preserved-then-count-eq-PIECE g c =
         λ left. (c.pieces.invariant.images content).0 ((c.read_at.ensures.images content).0 left),
         λ left. (c.read_at.ensures.images content).1 ((c.pieces.invariant.images content).1 left),
       );
-      faults = omega (arith, c.pieces.invariant.faults, c.read_at.ensures.cause.never_falls);
+      faults = c.in_ok-count.ensures.cause.risen ∙ c.pieces.invariant.faults;
       piece = piece;
     }
 
@@ -75,6 +75,6 @@ pieces-preserved g c =
         λ left. (c.pieces.invariant.images content).0 ((c.read_at.ensures.images content).0 left),
         λ left. (c.read_at.ensures.images content).1 ((c.pieces.invariant.images content).1 left),
       );
-      faults = omega (arith, c.pieces.invariant.faults, c.read_at.ensures.cause.never_falls);
+      faults = c.in_ok-count.ensures.cause.risen ∙ c.pieces.invariant.faults;
       piece = piece;
     }

@@ -1,4 +1,4 @@
-use Rattle.std.proofs.Common.{◌≡◌, ◌+◌, ◌-◌, ◌^◌, ◌≤◌, if◌then◌else◌, length}
+use Rattle.std.proofs.Common.{◌≡◌, ◌+◌, ◌-◌, ◌^◌, if◌then◌else◌, length}
 use Rattle.gw_outside.specs.Disk.{LeavesSame}
 use Rattle.jr_log.specs.Opening.{IsRead}
 use Rattle.jr_log.proofs.scan.scan.Given as goal
@@ -8,7 +8,7 @@ invariant-pieces g l = record {
   read : IsRead (g.D.Disk.told l.disk) l.records.items l.held.items l.at l.more;
   told : g.D.Disk.told l.disk ≡ g.D.Disk.told l.fn.disk;
   images : LeavesSame (g.D.Disk.may_leave l.fn.disk) (g.D.Disk.may_leave l.disk);
-  faults : g.D.Disk.faults l.fn.disk ≤ g.D.Disk.faults l.disk;
+  faults : g.D.Disk.faults l.disk ≡ g.D.Disk.faults l.fn.disk;
   piece : length l.piece ≡ 65536;
 }
 
