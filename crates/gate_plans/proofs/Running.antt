@@ -101,6 +101,7 @@ module _ {J : Type 0} {G : Ghosts J} (gate : Gate J G) where
         turns = omega (arith, ap refusals unrefused);
         whole = λ _. whole;
         refused = λ f e. absurd (none-some f (sym unrefused ∙ e));
+        unlost = λ _. refl;
       }
 
   -- the next message was refused
@@ -119,6 +120,7 @@ module _ {J : Type 0} {G : Ghosts J} (gate : Gate J G) where
         turns = omega (arith, nothing, r.turn.turns, ap refusals r.refused);
         whole = λ e. absurd (none-some r.fault (sym e ∙ r.refused));
         refused = λ f e. subst (λ (g : SubmitFault). WasRefused s t g) (same_Some r.fault f (sym r.refused ∙ e)) r.was;
+        unlost = λ never. r.unlost (λ e. never (r.refused ∙ ap Some e));
       }
 
   -- the next message was accepted, and what came behind it
@@ -147,7 +149,8 @@ module _ {J : Type 0} {G : Ghosts J} (gate : Gate J G) where
         sent = subst (λ (xs : List (List ℕ)). Sent p z xs (a.number ∷ r.numbers)) parts (sent_on p q z a.payload a.number _ r.numbers a.turn a.submitted r.pass r.sent);
         turns = omega (arith, r.turns, fewer, a.turn.turns);
         whole = λ e. omega (arith, r.whole e, long);
-        refused = λ f e. let w = r.refused f e in record { payload = w.payload; next = w.next; shown = shown_before p q z w.payload f first.faults w.shown };
+        refused = λ f e. let w = r.refused f e in record { payload = w.payload; next = w.next; shown = shown_before p q z w.payload f first.faults w.shown; lost = w.lost };
+        unlost = λ never. r.unlost never ∙ a.lost;
       }
 
   -- a run forgets what was refused before
@@ -163,16 +166,18 @@ module _ {J : Type 0} {G : Ghosts J} (gate : Gate J G) where
     sent = r.sent;
     turns = r.turns;
     whole = r.whole;
-    refused = λ f e. let w = r.refused f e in record { payload = w.payload; next = w.next; shown = w.shown };
+    refused = λ f e. let w = r.refused f e in record { payload = w.payload; next = w.next; shown = w.shown; lost = w.lost };
+    unlost = r.unlost;
   }
 
   -- what it has was counted
   pub counts : (s t : Sender J G) → IsReady gate s → IsPassAt gate t.pass → IsFree t.pass → plan_of t ≡ plan_of s → TakesTurn (known s.pass) (known t.pass) → (known t.pass).mine ≡ (known s.pass).mine
-      → (known t.pass).ended ≡ (known s.pass).ended → t.done ≡ length (known t.pass).mine → Counted gate s t
-  counts s t ready own free plan turn mine ended done = record {
+      → (known t.pass).ended ≡ (known s.pass).ended → (known t.pass).lost ≡ (known s.pass).lost → t.done ≡ length (known t.pass).mine → Counted gate s t
+  counts s t ready own free plan turn mine ended lost done = record {
     ready = record { own = record { own = own; sender = omega (arith, ready.own.sender, turn.number) }; free = free };
     plan = plan;
     pass = goes_turn (known s.pass) (known t.pass) turn ended;
     mine = mine;
+    lost = lost;
     done = done;
   }

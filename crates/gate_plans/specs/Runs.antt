@@ -2,13 +2,14 @@
 use Rattle.std.specs.Prelude.{◌≡◌, ◌⊎◌, ℕ, ◌+◌, ◌-◌, ◌<◌, ◌≤◌, List, All, Contains, length, take, drop, slice_get, slice_index_or, Some, None, Result, Ok, Err}
 use Rattle.jr_record.specs.declared.journal.Journal.{Ghosts}
 use Rattle.jr_boxes.specs.declared.faults.SubmitFault.{SubmitFault}
+use Rattle.jr_boxes.specs.declared.faults.SubmitFault.TheVariants as submit
 use Rattle.gate_turn.specs.Places.{known}
 use Rattle.gate_turn.specs.Calls.{IsFree}
 use Rattle.gate_senders.specs.Gate.{IsSenderAt}
 use Rattle.gate_senders.specs.Shown.{TakesTurn, Submitted}
 use Rattle.gate_senders.specs.declared.gate.Gate.{Gate}
 use Rattle.plan_values.specs.Plans.{payloads_of}
-use Rattle.gate_plans.specs.Sent.{GoesOn, Sent, IsShown, refusals}
+use Rattle.gate_plans.specs.Sent.{GoesOn, Sent, IsShown, HasLost, refusals}
 use Rattle.gate_plans.specs.declared.sender.Sender.{Sender}
 
 module _ {J : Type 0} {G : Ghosts J} where
@@ -26,9 +27,10 @@ module _ {J : Type 0} {G : Ghosts J} where
     pub payload : List ℕ
     pub next : slice_get (plan_of t) t.done ≡ Some payload
     pub shown : IsShown (known s.pass) (known t.pass) payload f
+    pub lost : f ≡ submit.Fault → HasLost (known t.pass) payload
 
   -- It submitted its plan from `done` on. The messages accepted are those of the plan from the old `done` to the new one; it took
-  -- a turn for each of them and for a refusal; and it stopped at the plan's end or at a refusal
+  -- a turn for each of them and for a refusal; it stopped at the plan's end or at a refusal; and it lost nothing but at a failed call
   pub record Ran (gate : Gate J G) (s t : Sender J G) : Type 0 where
     pub ready : IsReady gate t
     pub plan : plan_of t ≡ plan_of s
@@ -41,6 +43,7 @@ module _ {J : Type 0} {G : Ghosts J} where
     pub turns : (known t.pass).turns ≡ (known s.pass).turns + (t.done - s.done) + refusals t.refused
     pub whole : t.refused ≡ None → length (plan_of s) ≤ t.done
     pub refused : (f : SubmitFault) → t.refused ≡ Some f → WasRefused s t f
+    pub unlost : (t.refused ≡ Some submit.Fault → ⊥) → (known t.pass).lost ≡ (known s.pass).lost
 
   -- the messages that the outbox has of it were counted as done, and nothing else changed
   pub record Counted (gate : Gate J G) (s t : Sender J G) : Type 0 where
@@ -48,6 +51,7 @@ module _ {J : Type 0} {G : Ghosts J} where
     pub plan : plan_of t ≡ plan_of s
     pub pass : GoesOn (known s.pass) (known t.pass)
     pub mine : (known t.pass).mine ≡ (known s.pass).mine
+    pub lost : (known t.pass).lost ≡ (known s.pass).lost
     pub done : t.done ≡ length (known t.pass).mine
 
   -- each sender was counted so, in its place
@@ -65,6 +69,7 @@ module _ {J : Type 0} {G : Ghosts J} where
     pub next : slice_get (plan_of s) s.done ≡ Some payload
     pub turn : TakesTurn (known s.pass) (known t.pass)
     pub ended : (known t.pass).ended ≡ (known s.pass).ended
+    pub lost : (known t.pass).lost ≡ (known s.pass).lost
     pub number : ℕ
     pub submitted : Submitted (known s.pass) (known t.pass) payload number
 
@@ -77,6 +82,7 @@ module _ {J : Type 0} {G : Ghosts J} where
     pub ended : (known t.pass).ended ≡ (known s.pass).ended
     pub mine : (known t.pass).mine ≡ (known s.pass).mine
     pub fault : SubmitFault
+    pub unlost : (fault ≡ submit.Fault → ⊥) → (known t.pass).lost ≡ (known s.pass).lost
     pub refused : t.refused ≡ Some fault
     pub was : WasRefused s t fault
 

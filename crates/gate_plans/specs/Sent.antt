@@ -1,10 +1,11 @@
 -- What a sender's pass knows once messages of its plan were submitted: p before, q behind them.
-use Rattle.std.specs.Prelude.{⊤, ◌≡◌, ℕ, ◌+◌, ◌-◌, ◌<◌, ◌≤◌, true, List, [], ◌∷◌, ◌++◌, length, slice_get, Option, Some, None}
-use Rattle.session_model.specs.Journal.{Entry, BeginsHistory}
+use Rattle.std.specs.Prelude.{⊤, ◌≡◌, ◌≢◌, ℕ, ◌+◌, ◌-◌, ◌<◌, ◌≤◌, true, List, [], ◌∷◌, ◌++◌, length, slice_get, Option, Some, None}
+use Rattle.session_model.specs.Journal.{Entry, OutboxRecord, entry, BeginsHistory}
 use Rattle.jr_boxes.specs.declared.faults.SubmitFault.{SubmitFault}
 use Rattle.jr_boxes.specs.declared.faults.SubmitFault.TheVariants as submit
 use Rattle.gate_turn.specs.Views.{HasFailed, Part}
 use Rattle.gate_senders.specs.Kept.{next_entry, IsFullAt}
+use Rattle.gate_senders.specs.Shown.{entry_after}
 
 -- the entries that a sender makes of these payloads, behind so many of its own
 abbrev pub entries_behind : ℕ → ℕ → List (List ℕ) → List Entry
@@ -42,6 +43,13 @@ pub record IsShown (p q : Part) (payload : List ℕ) (fault : SubmitFault) : Typ
   pub full : (entries bytes : ℕ) → fault ≡ submit.Full entries bytes → IsFullAt q.opening.limits q.seen (next_entry q.seen q.number payload) entries bytes
   pub failed : fault ≡ submit.Fault → HasFailed p.faults q.faults
   pub broken : fault ≡ submit.Broken → HasFailed q.opening.faults q.faults
+
+-- the entry that the pass makes next was refused with a failed call, so a stop may leave it behind the history, which the mark does
+-- not end; and nothing is taken any more
+pub record HasLost (q : Part) (payload : List ℕ) : Type 0 where
+  pub lost : q.lost ≡ entry (entry_after q payload) ∷ []
+  pub broken : q.broken ≡ true
+  pub unmarked : q.seen.finished ≢ true
 
 -- how many refusals it met
 abbrev pub refusals : Option SubmitFault → ℕ

@@ -62,4 +62,5 @@ stays a b d first back second = record {
   limits = second.limits ∙ first.limits;
   faults = omega (arith, first.faults, second.faults);
   broken = λ now was. failed_before a.faults b.faults d.faults first.faults (second.broken now (λ e. was (back e)));
+  stays = λ was. let x = first.stays was in let y = second.stays x.0 in (y.0, y.1 ∙ x.1);
 }

@@ -1,5 +1,5 @@
 -- An outbox after a call on it still stands for the history told of it.
-use Rattle.std.proofs.Common.{◌≡◌, ◌⊎◌, inl, inr, ⊎_elim, ℕ, Bool, true, false, ◌<◌, cond, arith, ne_eqb, List, [], ◌∷◌, length, refl, sym, ap, ◌∙◌}
+use Rattle.std.proofs.Common.{◌≡◌, ◌⊎◌, inl, inr, ⊎_elim, ℕ, Bool, true, false, ◌<◌, cond, arith, ne_eqb, List, [], ◌∷◌, length, refl, sym, ap, ◌∙◌, subst}
 use Rattle.std.proofs.Math.Logic.{∥∥₁_map, ∥∥₁_elim}
 use Rattle.std.proofs.Math.Bool.{Bool-set}
 use native.Mathlib.Nat.{ℕ_set}
@@ -24,46 +24,61 @@ none_of (e ∷ es) n far all =
     ap (λ (b : Bool). cond b (e ∷ entries_of es n) (entries_of es n)) (ne_eqb e.sender n (λ same. omega (arith, same, all.0.1, far))) ∙ none_of es n far all.1
 
 module _ {J : Type 0} {G : Ghosts J} where
-  -- it stands for the history, and while it is not broken every image of it holds just that
-  pub record Keeps (box : Outbox J G) (h : History) : Type 0 where
-    pub stands : ∥ StandsFor box h ∥₁
-    pub holds : is_broken box ≡ false → ∥ HoldsBox box h [] ∥₁
+  -- every image of it holds the history, and a beginning of what was refused, which is nothing while it is not broken
+  pub record Keeps (box : Outbox J G) (h : History) (refused : List OutboxRecord) : Type 0 where
+    pub holds : ∥ HoldsBox box h refused ∥₁
+    pub whole : is_broken box ≡ false → refused ≡ []
 
   pub stands_of : (box : Outbox J G) (h : History) (refused : List OutboxRecord) → HoldsBox box h refused → StandsFor box h
   stands_of box h refused held = record { journal = held.journal.stands_for; outbox = held.outbox; tallied = held.tallied }
 
-  pub holds_same : (old new : Outbox J G) → SameContent old new → (h : History) → HoldsBox old h [] → HoldsBox new h []
-  holds_same old new same h held =
-      let s = (same.stands h).0 (stands_of old h [] held) in
+  pub keeps_stands : (box : Outbox J G) (h : History) (refused : List OutboxRecord) → ∥ HoldsBox box h refused ∥₁ → ∥ StandsFor box h ∥₁
+  keeps_stands box h refused held = ∥∥₁_map held (stands_of box h refused)
+
+  pub holds_same : (old new : Outbox J G) → SameContent old new → (h : History) (refused : List OutboxRecord) → HoldsBox old h refused → HoldsBox new h refused
+  holds_same old new same h refused held =
+      let s = (same.stands h).0 (stands_of old h refused held) in
       record {
         journal = record { stands_for = s.journal; images = λ image left. held.journal.images image ((same.images image).1 left) };
         outbox = s.outbox;
         tallied = s.tallied;
       }
 
-  pub keeps_unchanged : (old new : Outbox J G) (h : History) → Unchanged old new → Keeps old h → Keeps new h
-  keeps_unchanged old new h same k = record {
-    stands = ∥∥₁_map k.stands (λ s. (same.content.stands h).0 s);
-    holds = λ sound. ∥∥₁_map (k.holds (sym same.broken ∙ sound)) (λ held. holds_same old new same.content h held);
+  pub keeps_unchanged : (old new : Outbox J G) (h : History) (refused : List OutboxRecord) → Unchanged old new → Keeps old h refused → Keeps new h refused
+  keeps_unchanged old new h refused same k = record {
+    holds = ∥∥₁_map k.holds (holds_same old new same.content h refused);
+    whole = λ sound. k.whole (sym same.broken ∙ sound);
   }
 
-  pub keeps_failed : (old new : Outbox J G) (h : History) (refused : List OutboxRecord) → is_broken old ≡ false → is_broken new ≡ true → (HoldsBox old h [] → HoldsBox new h refused)
-      → Keeps old h → Keeps new h
-  keeps_failed old new h refused was now to k = record {
-    stands = ∥∥₁_map (k.holds was) (λ held. stands_of new h refused (to held));
-    holds = λ sound. absurd (false≢true (sym sound ∙ now));
+  -- while it is not broken it holds just the history
+  holds_whole : (box : Outbox J G) (h : History) (refused : List OutboxRecord) → is_broken box ≡ false → Keeps box h refused → ∥ HoldsBox box h [] ∥₁
+  holds_whole box h refused sound k = subst (λ (rs : List OutboxRecord). ∥ HoldsBox box h rs ∥₁) (k.whole sound) k.holds
+
+  pub keeps_failed : (old new : Outbox J G) (h : History) (was refused : List OutboxRecord) → is_broken old ≡ false → is_broken new ≡ true → (HoldsBox old h [] → HoldsBox new h refused)
+      → Keeps old h was → Keeps new h refused
+  keeps_failed old new h was refused sound now to k = record {
+    holds = ∥∥₁_map (holds_whole old h was sound k) to;
+    whole = λ still. absurd (false≢true (sym still ∙ now));
   }
 
-  pub keeps_on : (old new : Outbox J G) (h next : History) → is_broken old ≡ false → (HoldsBox old h [] → HoldsBox new next []) → Keeps old h → Keeps new next
-  keeps_on old new h next was to k =
-      let held = ∥∥₁_map (k.holds was) to in
-      record { stands = ∥∥₁_map held (λ x. stands_of new next [] x); holds = λ _. held }
+  pub keeps_on : (old new : Outbox J G) (h next : History) (refused : List OutboxRecord) → is_broken old ≡ false → (HoldsBox old h [] → HoldsBox new next [])
+      → Keeps old h refused → Keeps new next refused
+  keeps_on old new h next refused sound to k = record {
+    holds = subst (λ (rs : List OutboxRecord). ∥ HoldsBox new next rs ∥₁) (sym (k.whole sound)) (∥∥₁_map (holds_whole old h refused sound k) to);
+    whole = λ _. k.whole sound;
+  }
+
+  -- the same, by another name
+  pub keeps_as : (box : Outbox J G) (h k : History) (refused told : List OutboxRecord) → k ≡ h → told ≡ refused → Keeps box h refused → Keeps box k told
+  keeps_as box h k refused told is same keeps =
+      subst (λ (x : History). Keeps box x told) (sym is) (subst (λ (rs : List OutboxRecord). Keeps box h rs) (sym same) keeps)
 
   -- a read changes neither the history nor what a stop may leave, and breaks what it does not find sound
-  pub keeps_read : (old new : Outbox J G) (h : History) → SameContent old new → (is_broken new ≡ false → is_broken old ≡ false) → Keeps old h → Keeps new h
-  keeps_read old new h same back k = record {
-    stands = ∥∥₁_map k.stands (λ s. (same.stands h).0 s);
-    holds = λ sound. ∥∥₁_map (k.holds (back sound)) (λ held. holds_same old new same h held);
+  pub keeps_read : (old new : Outbox J G) (h : History) (refused : List OutboxRecord) → SameContent old new → (is_broken new ≡ false → is_broken old ≡ false)
+      → Keeps old h refused → Keeps new h refused
+  keeps_read old new h refused same back k = record {
+    holds = ∥∥₁_map k.holds (holds_same old new same h refused);
+    whole = λ sound. k.whole (back sound);
   }
 
   -- what it counts is so of each history for which it stands

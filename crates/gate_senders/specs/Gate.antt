@@ -1,9 +1,9 @@
 -- What a gate was made with, which passes are its own, and what comes out of it once they are back.
-use Rattle.std.specs.Prelude.{◌≡◌, ℕ, ◌≤◌, false, []}
-use Rattle.session_model.specs.Journal.{History}
+use Rattle.std.specs.Prelude.{◌≡◌, ℕ, ◌≤◌, false, List, []}
+use Rattle.session_model.specs.Journal.{History, OutboxRecord}
 use Rattle.jr_record.specs.declared.journal.Journal.{Ghosts}
 use Rattle.jr_boxes.specs.declared.outbox.Outbox.{Outbox}
-use Rattle.jr_boxes.specs.Outbox.{StandsFor, HoldsBox, is_broken}
+use Rattle.jr_boxes.specs.Outbox.{HoldsBox, is_broken}
 use Rattle.gate_turn.specs.Views.{Account}
 use Rattle.gate_turn.specs.Places.{known}
 use Rattle.gate_turn.specs.Listed.{known_at}
@@ -36,7 +36,7 @@ module _ {J : Type 0} {G : Ghosts J} where
 
   -- it was made round this outbox, which holds the opening history
   pub record OpensOn (gate : Gate J G) (box : Outbox J G) : Type 0 where
-    pub told : opening_of gate ≡ account box (opening_of gate).history
+    pub told : opening_of gate ≡ account box (opening_of gate).history []
     pub holds : ∥ HoldsBox box (opening_of gate).history [] ∥₁
 
   -- these are the passes that it was made with, so many
@@ -51,9 +51,11 @@ module _ {J : Type 0} {G : Ghosts J} where
   abbrev pub AllBackAt : Gate J G → Passes (Kept J G) → Type 0
   AllBackAt gate passes = AllBack gate.lock passes
 
-  -- the outbox that comes out stands for a history that fits what each pass knows
+  -- the outbox that comes out holds a history that fits what each pass knows: a stop leaves it, with a beginning of what was refused
+  -- behind it, and nothing was refused unless it is broken
   pub record ClosedWith (gate : Gate J G) (passes : Passes (Kept J G)) (box : Outbox J G) : Type 0 where
     pub history : History
-    pub stands : ∥ StandsFor box history ∥₁
-    pub holds : is_broken box ≡ false → ∥ HoldsBox box history [] ∥₁
-    pub closed : Closed (known_at passes) (known_at passes 1).made (opening_of gate) (account box history)
+    pub refused : List OutboxRecord
+    pub holds : ∥ HoldsBox box history refused ∥₁
+    pub whole : is_broken box ≡ false → refused ≡ []
+    pub closed : Closed (known_at passes) (known_at passes 1).made (opening_of gate) (account box history refused)

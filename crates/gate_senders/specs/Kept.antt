@@ -1,6 +1,6 @@
 -- What an outbox under a turn lock says of itself, and what a call on it leaves of that. Gates are this project's profile.
 use Rattle.std.specs.Prelude.{◌≡◌, ◌≢◌, ◌⊎◌, ℕ, ◌+◌, ◌-◌, ◌<◌, ◌≤◌, true, List, [], ◌∷◌, length, take, drop, if◌then◌else◌}
-use Rattle.session_model.specs.Journal.{Entry, History, entries_of}
+use Rattle.session_model.specs.Journal.{Entry, History, OutboxRecord, entries_of}
 use Rattle.session_model.specs.Inbox.{Numbered}
 use Rattle.jr_record.specs.declared.journal.Journal.{Ghosts}
 use Rattle.jr_record.specs.declared.record.Record.TheVariants as kinds
@@ -9,31 +9,34 @@ use Rattle.jr_boxes.specs.declared.outbox.Outbox.{Outbox}
 use Rattle.jr_boxes.specs.Outboxes.{records_of_history}
 use Rattle.jr_boxes.specs.Outbox.{limits_of, faults_of, is_broken}
 use Rattle.gate_turn.specs.Views.{Account, HasFailed, Limits}
+use Rattle.gate_turn.specs.Rule.{StaysBroken}
 
 module _ {J : Type 0} {G : Ghosts J} where
   -- how often it failed: the count of its disk, which stands still at its greatest number, and one more once it is broken
   abbrev pub failures : Outbox J G → ℕ
   failures box = faults_of box + (if is_broken box then 1 else 0)
 
-  -- what it says of itself where this history is told of it
-  abbrev pub account : Outbox J G → History → Account
-  account box h = record {
+  -- what it says of itself where this history is told of it, and these records as refused
+  abbrev pub account : Outbox J G → History → List OutboxRecord → Account
+  account box h refused = record {
     history = h;
     faults = failures box;
     limits = record { entries = (limits_of box).entries; bytes = (limits_of box).bytes };
     broken = is_broken box;
+    refused = refused;
   }
 
 -- the entry that a sender adds next behind a history: the next one of its own numbers
 abbrev pub next_entry : History → ℕ → List ℕ → Entry
 next_entry h sender payload = record { sender = sender; own_number = length (entries_of h.made sender) + 1; payload = payload }
 
--- nothing of the limits changes, the count of failures does not fall, and what is broken now was so before, or a call of its disk
--- has failed since
+-- nothing of the limits changes, the count of failures does not fall, what is broken now was so before, or a call of its disk has
+-- failed since, and what is broken stays so, with what was refused
 pub record StaysSound (before after : Account) : Type 0 where
   pub limits : after.limits ≡ before.limits
   pub faults : before.faults ≤ after.faults
   pub broken : after.broken ≡ true → before.broken ≢ true → HasFailed before.faults after.faults
+  pub stays : StaysBroken before.broken before.refused after.broken after.refused
 
 -- The entry is refused at this history: it has so many entries, the journal that holds them takes so many bytes, and the record
 -- of the entry is past one of the two limits

@@ -10,6 +10,6 @@ module _ {J : Type 0} {G : Ghosts J} where
   abbrev pub outbox_of : Kept J G → Outbox J G
   outbox_of k = k.outbox.value
 
-  -- it stands for the history told of it
+  -- it holds the history told of it, and a stop may leave a beginning of what is told as refused behind it
   abbrev pub told_by : Kept J G → Account
-  told_by k = account k.outbox.value k.told.history
+  told_by k = account k.outbox.value k.told.history k.told.refused

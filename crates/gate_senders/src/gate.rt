@@ -1,5 +1,6 @@
 //! The gate: senders submit messages at once, each by its pass, and the connection fetches what is stable.
-ghost use Rattle.std.specs.Prelude.{◌≡◌, ◌≢◌, ℕ, ◌+◌, ◌<◌, ◌≤◌, ◌^◌, true, false, length, Err, IfOk, IfErr, IfSome, IfNone, OnOk, IsErrOf, All};
+ghost use Rattle.std.specs.Prelude.{◌≡◌, ◌≢◌, ℕ, ◌+◌, ◌<◌, ◌≤◌, ◌^◌, true, false, [], ◌∷◌, length, Err, IfOk, IfErr, IfSome, IfNone, OnOk, IsErrOf, All};
+ghost use Rattle.session_model.specs.Journal.{entry, finish};
 ghost use Rattle.fixp_msgs.specs.Payload.{IsApplication};
 ghost use Rattle.jr_record.specs.Records.{IsPayload};
 ghost use Rattle.jr_boxes.specs.Outbox.{is_broken};
@@ -11,7 +12,7 @@ ghost use Rattle.gate_turn.specs.Places.{known};
 ghost use Rattle.gate_turn.specs.Calls.{IsFree, HasTurn, opened_with};
 ghost use Rattle.gate_senders.specs.Kept.{next_entry, messages, IsFullAt};
 ghost use Rattle.gate_senders.specs.Told.{told_by};
-ghost use Rattle.gate_senders.specs.Shown.{TakesTurn, Submitted, Finished};
+ghost use Rattle.gate_senders.specs.Shown.{TakesTurn, Submitted, Finished, entry_after};
 
 use crate::kept::Kept;
 use gate_turn::{Held, Logged, Pass, Passes, TurnLock};
@@ -105,6 +106,10 @@ impl<J: Journal> Gate<J> {
             → IsFullAt (known pass.new).opening.limits (known pass.new).seen (next_entry (known pass.new).seen (known pass.new).number payload.now) entries bytes }
         ensures fault { IsErrOf result submit.Fault → HasFailed (known pass.old).faults (known pass.new).faults }
         ensures broken { result ≡ Err submit.Broken → HasFailed (known pass.new).opening.faults (known pass.new).faults }
+        ensures refuses { (known pass.old).broken ≡ true → result ≡ Err submit.Broken }
+        ensures lost { IsErrOf result submit.Fault → ((known pass.new).lost ≡ entry (entry_after (known pass.old) payload.now) ∷ []) × ((known pass.new).broken ≡ true) }
+        ensures unlost { (result ≡ Err submit.Fault → ⊥) → (known pass.new).lost ≡ (known pass.old).lost }
+        ensures unmarked { IsErrOf result submit.Fault → (known pass.new).seen.finished ≢ true }
     {
         let Held { mut value } = self.lock.enter(pass, rt);
         let answer = value.add(pass.number(), payload);
@@ -130,6 +135,10 @@ impl<J: Journal> Gate<J> {
         ensures closed { result ≡ Err closing.Closed → (known pass.new).seen.finished ≡ true }
         ensures fault { IsErrOf result closing.Fault → HasFailed (known pass.old).faults (known pass.new).faults }
         ensures broken { result ≡ Err closing.Broken → HasFailed (known pass.new).opening.faults (known pass.new).faults }
+        ensures refuses { (known pass.old).broken ≡ true → result ≡ Err closing.Broken }
+        ensures lost { IsErrOf result closing.Fault → ((known pass.new).lost ≡ finish ∷ []) × ((known pass.new).broken ≡ true) }
+        ensures unlost { (result ≡ Err closing.Fault → ⊥) → (known pass.new).lost ≡ (known pass.old).lost }
+        ensures unmarked { IsErrOf result closing.Fault → (known pass.new).seen.finished ≢ true }
     {
         let Held { mut value } = self.lock.enter(pass, rt);
         let answer = value.finish();
@@ -159,10 +168,11 @@ impl<J: Journal> Gate<J> {
         ensures given { IfOk result (λ list. list.items ≡ messages (known pass.new).seen from most) }
         ensures sizes { IfOk result (λ list. All (λ m. IsPayload m.payload) list.items) }
         ensures same { ((known pass.new).mine ≡ (known pass.old).mine) × ((known pass.new).ended ≡ (known pass.old).ended) }
+        ensures unlost { (known pass.new).lost ≡ (known pass.old).lost }
         ensures fault { IsErrOf result fetching.Fault → HasFailed (known pass.old).faults (known pass.new).faults }
         ensures broken { result ≡ Err fetching.Broken → HasFailed (known pass.new).opening.faults (known pass.new).faults }
     {
-        let Held { mut value } = self.lock.enter(pass, rt);
+        let Held { mut value } = self.lock.enter_next(pass, rt);
         let answer = value.fetch(self.alloc, from, most);
         self.lock.leave(pass, Held { value });
         answer
@@ -178,8 +188,9 @@ impl<J: Journal> Gate<J> {
         ensures some { IfSome result (λ n. ((known pass.new).seen.finished ≡ true) × (length (known pass.new).seen.made ≡ n)) }
         ensures none { IfNone result ((known pass.new).seen.finished ≢ true) }
         ensures same { ((known pass.new).mine ≡ (known pass.old).mine) × ((known pass.new).ended ≡ (known pass.old).ended) }
+        ensures unlost { (known pass.new).lost ≡ (known pass.old).lost }
     {
-        let Held { value } = self.lock.enter(pass, rt);
+        let Held { value } = self.lock.enter_next(pass, rt);
         let answer = if value.marked() {
             Some(value.length())
         } else {
@@ -198,6 +209,7 @@ impl<J: Journal> Gate<J> {
         ensures turn { TakesTurn (known pass.old) (known pass.new) }
         ensures exact { result ≡ length (known pass.new).mine }
         ensures same { ((known pass.new).mine ≡ (known pass.old).mine) × ((known pass.new).ended ≡ (known pass.old).ended) }
+        ensures unlost { (known pass.new).lost ≡ (known pass.old).lost }
     {
         let Held { value } = self.lock.enter(pass, rt);
         let count = value.count_of_pass(pass.number());

@@ -1,9 +1,9 @@
-//! An outbox under the turn lock, with the history that is told of it.
+//! An outbox under the turn lock, with the history that is told of it and the records whose adding failed.
 ghost use Rattle.std.specs.Prelude.{◌≡◌, ◌≢◌, ◌↔◌, ℕ, ◌+◌, ◌-◌, ◌<◌, ◌≤◌, ◌^◌, true, false, [], ◌∷◌, length, slice_get, Some, Err, IfOk, IfErr, OnOk, IsErrOf, IsTrue, All};
-ghost use Rattle.session_model.specs.Journal.{History, entries_of, payloads};
+ghost use Rattle.session_model.specs.Journal.{History, entries_of, entry, finish, payloads};
 ghost use Rattle.fixp_msgs.specs.Payload.{IsApplication};
 ghost use Rattle.jr_record.specs.Records.{IsPayload, IsSender};
-ghost use Rattle.jr_boxes.specs.Outbox.{StandsFor, HoldsBox, is_broken};
+ghost use Rattle.jr_boxes.specs.Outbox.{HoldsBox, is_broken};
 ghost use Rattle.jr_boxes.specs.Outboxes.{with_entry, with_mark};
 ghost use Rattle.jr_boxes.specs.declared.faults.SubmitFault.TheVariants as submit;
 ghost use Rattle.jr_boxes.specs.declared.faults.CloseFault.TheVariants as closing;
@@ -17,13 +17,14 @@ use jr_boxes::{CloseFault, Outbox, Stable, SubmitFault};
 use jr_record::{FetchFault, Journal};
 use std::alloc::Global;
 
-/// An outbox, with the history that is told of it: one for which it stands. The history takes no memory.
+/// An outbox, with the history that is told of it, and the records whose adding failed: every stop leaves that history, and
+/// behind it a beginning of those. They take no memory.
 pub struct Kept<J: Journal> {
     /// It stays where it is while the value goes from hand to hand.
     pub(crate) outbox: Box<Outbox<J>>,
     told: Told,
-    ghost stands: { ∥ StandsFor outbox.value told.history ∥₁ },
-    ghost holds: { is_broken outbox.value ≡ false → ∥ HoldsBox outbox.value told.history [] ∥₁ },
+    ghost holds: { ∥ HoldsBox outbox.value told.history told.refused ∥₁ },
+    ghost whole: { is_broken outbox.value ≡ false → told.refused ≡ [] },
 }
 
 impl<J: Journal> Logged for Kept<J> {
@@ -40,14 +41,14 @@ impl<J: Journal> Logged for Kept<J> {
     }
 }
 
-/// The histories that an outbox holds may be told of it.
+/// The histories that an outbox holds may be told of it, where it refused nothing.
 struct Holding;
 
 impl<J: Journal> Says<Outbox<J>> for Holding {
-    ghost says = { λ box h. HoldsBox box h [] };
+    ghost says = { λ box h refused. HoldsBox box h [] × (refused ≡ []) };
 }
 
-/// A history, and an entry behind it.
+/// What is told, and the entry that comes next.
 #[derive(Clone, Copy)]
 struct Next<'a> {
     told: &'a Told,
@@ -56,15 +57,32 @@ struct Next<'a> {
     payload: &'a [u8],
 }
 
-impl Says<Next<'_>> for Next<'_> {
-    ghost says = { λ n h. h ≡ with_entry n.told.now.history (record { sender = n.sender; own_number = n.own_number; payload = n.payload.now }) };
+/// The entry stands behind the history.
+struct Entered;
+
+impl Says<Next<'_>> for Entered {
+    ghost says = { λ n h refused. (h ≡ with_entry n.told.now.history (record { sender = n.sender; own_number = n.own_number; payload = n.payload.now })) × (refused ≡ n.told.now.refused) };
 }
 
-/// A history, and the mark behind it.
+/// The entry was refused: a stop may leave it.
+struct Refused;
+
+impl Says<Next<'_>> for Refused {
+    ghost says = { λ n h refused. (h ≡ n.told.now.history) × (refused ≡ entry (record { sender = n.sender; own_number = n.own_number; payload = n.payload.now }) ∷ []) };
+}
+
+/// The mark stands behind the history.
 struct Finished;
 
 impl Says<Told> for Finished {
-    ghost says = { λ t h. h ≡ with_mark t.history };
+    ghost says = { λ t h refused. (h ≡ with_mark t.history) × (refused ≡ t.refused) };
+}
+
+/// The mark was refused: a stop may leave it.
+struct Unfinished;
+
+impl Says<Told> for Unfinished {
+    ghost says = { λ t h refused. (h ≡ t.history) × (refused ≡ finish ∷ []) };
 }
 
 impl<J: Journal> Kept<J> {
@@ -77,6 +95,7 @@ impl<J: Journal> Kept<J> {
     pub(crate) fn of(alloc: Global, outbox: Outbox<J>) -> Result<Kept<J>, Outbox<J>>
         requires sound { is_broken outbox ≡ false }
         ensures outbox { IfOk result (λ kept. outbox_of kept ≡ outbox) }
+        ensures clean { IfOk result (λ kept. (told_by kept).refused ≡ []) }
         ensures refused { IfErr result (λ box. box ≡ outbox) }
     {
         // An outbox that is not broken holds a history.
@@ -117,7 +136,7 @@ impl<J: Journal> Kept<J> {
         ensures size { IfOk result (λ s. IsPayload s.payload) }
         ensures payload { IfOk result (λ s. slice_get (payloads (told_by self.old).history.made) (number - 1) ≡ Some s.payload) }
         ensures whole { OnOk result ((told_by self.new).broken ≢ true) }
-        ensures same { (told_by self.new).history ≡ (told_by self.old).history }
+        ensures same { ((told_by self.new).history ≡ (told_by self.old).history) × ((told_by self.new).refused ≡ (told_by self.old).refused) }
         ensures sound { StaysSound (told_by self.old) (told_by self.new) }
         ensures fault { IsErrOf result fetching.Fault → HasFailed (told_by self.old).faults (told_by self.new).faults }
         ensures broken { result ≡ Err fetching.Broken → (told_by self.old).broken ≡ true }
@@ -135,7 +154,7 @@ impl<J: Journal> Kept<J> {
         requires least { 1 ≤ from }
         ensures given { IfOk result (λ list. list.items ≡ messages (told_by self.old).history from most) }
         ensures sizes { IfOk result (λ list. All (λ m. IsPayload m.payload) list.items) }
-        ensures same { (told_by self.new).history ≡ (told_by self.old).history }
+        ensures same { ((told_by self.new).history ≡ (told_by self.old).history) × ((told_by self.new).refused ≡ (told_by self.old).refused) }
         ensures sound { StaysSound (told_by self.old) (told_by self.new) }
         ensures fault { IsErrOf result fetching.Fault → HasFailed (told_by self.old).faults (told_by self.new).faults }
         ensures broken { result ≡ Err fetching.Broken → (told_by self.old).broken ≡ true }
@@ -172,18 +191,29 @@ impl<J: Journal> Kept<J> {
         ensures full { (entries bytes : ℕ) → result ≡ Err (submit.Full entries bytes) → IsFullAt (told_by self.old).limits (told_by self.old).history (next_entry (told_by self.old).history sender payload.now) entries bytes }
         ensures fault { IsErrOf result submit.Fault → HasFailed (told_by self.old).faults (told_by self.new).faults }
         ensures broken { result ≡ Err submit.Broken → (told_by self.old).broken ≡ true }
+        ensures stuck { (told_by self.old).broken ≡ true → result ≡ Err submit.Broken }
+        ensures kept { (result ≡ Err submit.Fault → ⊥) → (told_by self.new).refused ≡ (told_by self.old).refused }
+        ensures lost { IsErrOf result submit.Fault
+            → ((told_by self.old).refused ≡ []) × ((told_by self.new).refused ≡ entry (next_entry (told_by self.old).history sender payload.now) ∷ []) × ((told_by self.new).broken ≡ true) }
+        ensures unmarked { IsErrOf result submit.Fault → (told_by self.old).history.finished ≢ true }
     {
         let own_number = self.count_of(sender) + 1;
-        let told = Told::of::<Next, Next>(&Next {
+        let next = Next {
             told: &self.told,
             sender,
             own_number,
             payload,
-        });
+        };
+        let entered = Told::of::<Next, Entered>(&next);
+        let refused = Told::of::<Next, Refused>(&next);
         match self.outbox.accept(sender, payload) {
             Ok(number) => {
-                self.told = told;
+                self.told = entered;
                 Ok(number)
+            }
+            Err(SubmitFault::Fault) => {
+                self.told = refused;
+                Err(SubmitFault::Fault)
             }
             Err(fault) => Err(fault),
         }
@@ -198,12 +228,21 @@ impl<J: Journal> Kept<J> {
         ensures closed { result ≡ Err closing.Closed → (told_by self.old).history.finished ≡ true }
         ensures fault { IsErrOf result closing.Fault → HasFailed (told_by self.old).faults (told_by self.new).faults }
         ensures broken { result ≡ Err closing.Broken → (told_by self.old).broken ≡ true }
+        ensures stuck { (told_by self.old).broken ≡ true → result ≡ Err closing.Broken }
+        ensures kept { (result ≡ Err closing.Fault → ⊥) → (told_by self.new).refused ≡ (told_by self.old).refused }
+        ensures lost { IsErrOf result closing.Fault → ((told_by self.old).refused ≡ []) × ((told_by self.new).refused ≡ finish ∷ []) × ((told_by self.new).broken ≡ true) }
+        ensures unmarked { IsErrOf result closing.Fault → (told_by self.old).history.finished ≢ true }
     {
-        let told = Told::of::<Told, Finished>(&self.told);
+        let finished = Told::of::<Told, Finished>(&self.told);
+        let unfinished = Told::of::<Told, Unfinished>(&self.told);
         match self.outbox.close() {
             Ok(()) => {
-                self.told = told;
+                self.told = finished;
                 Ok(())
+            }
+            Err(CloseFault::Fault) => {
+                self.told = unfinished;
+                Err(CloseFault::Fault)
             }
             Err(fault) => Err(fault),
         }

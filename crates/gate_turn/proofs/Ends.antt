@@ -1,5 +1,5 @@
 -- The rule where the lock is made, where passes are made and joined, and where the lock is closed.
-use Rattle.std.proofs.Common.{◌≡◌, ◌≢◌, ◌⊎◌, ℕ, zero, suc, ◌+◌, ◌<◌, ◌≤◌, eqb, cond, eq-eqb, ne_eqb, true, false, true≢false, List, [], ◌∷◌, ◌++◌, length, set, Option, Some, None, inl, inr, ⊎_elim, refl, sym, ap, ◌∙◌, subst, arith, le_refl, add-one, append-nil}
+use Rattle.std.proofs.Common.{◌≡◌, ◌≢◌, ◌⊎◌, ℕ, zero, suc, ◌+◌, ◌<◌, ◌≤◌, eqb, cond, eq-eqb, ne_eqb, Bool, true, false, true≢false, List, [], ◌∷◌, ◌++◌, length, set, Option, Some, None, inl, inr, ⊎_elim, refl, sym, ap, ◌∙◌, subst, arith, le_refl, add-one, append-nil}
 use Rattle.std.proofs.lemmas.Option.{none-some}
 use Rattle.std.specs.List.{AllByRecursion}
 use mathlib.Core.Logic.{dite}
@@ -8,29 +8,31 @@ use native.Mathlib.Decide.{ℕ_discrete}
 use lib.ListN.{get_elem?}
 use Rattle.atomic_table.specs.Table.{State, Splits, Joins, opening}
 use Rattle.atomic_table.proofs.Lists.{at_set, set_here, set_else, at_longer, at_last}
-use Rattle.session_model.specs.Journal.{Entry, History, entries_of}
+use Rattle.session_model.specs.Journal.{Entry, History, OutboxRecord, entries_of}
 use Rattle.session_model.proofs.Lists.{all_weaker}
 use Rattle.gate_turn.specs.Views.{Account, Part, View, part_of, new_part, with_one_more, one_more}
-use Rattle.gate_turn.specs.Rule.{In, waiting, tickets, Seated, Queued, Fits, Grown, Home, Out, Turns}
+use Rattle.gate_turn.specs.Rule.{In, waiting, tickets, Seated, Queued, Fits, Grown, Author, Home, Out, Turns}
 use Rattle.gate_turn.proofs.Puts.{put, put_here, put_else, put_each, within, only_part, tickets_alike, seated_put}
 use Rattle.gate_turn.proofs.Histories.{begins_self, none_beyond, entries_of-append}
 use Rattle.gate_turn.proofs.Layers.{refits, turn_put}
 use Rattle.gate_turn.specs.Steps.{Closed, split_left, split_right}
-use Rattle.gate_turn.proofs.Moves.{mine, fits_mine, grown_same, same_ticket, found_in}
+use Rattle.gate_turn.proofs.Moves.{mine, fits_mine, grown_same, author_same, same_ticket, found_in}
 
 one_of : (n : ℕ) → In 1 n → n ≡ 1
 one_of n h = omega (arith, h.from_one, h.up_to)
 
 -- a lock with its first pass alone
-pub begins : {T : Type 0} (tells : T → Account) (value : T) (stored : ℕ) → stored ≡ length (tells value).history.made → (tells value).broken ≢ true
+pub begins : {T : Type 0} (tells : T → Account) (value : T) (stored : ℕ) → stored ≡ length (tells value).history.made → (tells value).broken ≢ true → (tells value).refused ≡ []
     → Turns tells (tells value) (opening (0 ∷ 0 ∷ stored ∷ 0 ∷ []) (Some value ∷ []) (new_part 1 1 (tells value) ∷ []))
-begins tells value stored count whole = let a = tells value in record {
+begins tells value stored count whole clean = let a = tells value in record {
   part = λ _. new_part 1 1 a;
   seat = λ _. 0;
   place = λ _. 0;
   made = 1;
   log = a.history;
   top = a.faults;
+  shut = a.broken;
+  gone = a.refused;
   next = 0;
   now = 0;
   asleep = 0;
@@ -64,6 +66,8 @@ begins tells value stored count whole = let a = tells value in record {
     ended = λ e. absurd (true≢false (sym e));
     faults_from = le_refl a.faults;
     faults = le_refl a.faults;
+    shut_on = λ e. (e, refl);
+    lost = inl refl;
   };
   grown = record {
     begins = begins_self a.history;
@@ -73,11 +77,14 @@ begins tells value stored count whole = let a = tells value in record {
     marked = λ e. inl e;
     once = λ m n h k e f. absurd (true≢false (sym e));
   };
+  author = inl clean;
   turn = inl (record {
     value = value;
     home = refl;
     history = refl;
     faults = refl;
+    broken = refl;
+    refused = refl;
     sound = record { limits = refl; faults = le_refl a.faults; broken = λ e. absurd (whole e) };
     free = λ n h. refl;
   });
@@ -169,7 +176,8 @@ module _ {T : Type 0} (tells : T → Account) (opened : Account) where
       older k ne h = record { from_one = h.from_one; up_to = omega (arith, h.up_to) }
 
   -- one more pass, which has not done anything: the rest of the rule
-  module _ (part : ℕ → Part) (made : ℕ) (log : History) (top now : ℕ) (new : Part) (homes : List (mathlib.Core.Option.Option (Option T))) where
+  module _ (part : ℕ → Part) (made : ℕ) (log : History) (top : ℕ) (shut : Bool) (gone : List OutboxRecord) (now : ℕ) (new : Part)
+      (homes : List (mathlib.Core.Option.Option (Option T))) where
     older : (k : ℕ) → k ≢ made + 1 → In (made + 1) k → In made k
     older k ne h = record { from_one = h.from_one; up_to = omega (arith, h.up_to) }
 
@@ -193,13 +201,19 @@ module _ {T : Type 0} (tells : T → Account) (opened : Account) where
           (λ l nl hl f. g.once j l (older j nj hj) (older l nl hl) e f) k i) m h;
     }
 
-    turn_split : new.held ≡ None → Home tells part opened made log top homes ⊎ Out tells part made log top now homes
-        → Home tells (put part (made + 1) new) opened (made + 1) log top homes ⊎ Out tells (put part (made + 1) new) (made + 1) log top now homes
+    author_split : Author part made gone → Author (put part (made + 1) new) (made + 1) gone
+    author_split = ⊎_elim (λ e. inl e)
+        (λ (a : (n : ℕ) × In made n × ((part n).lost ≡ gone)). inr (a.0, younger a.0 a.1, ap (λ (x : Part). x.lost) (put_else part (made + 1) new a.0 (not_new a.0 a.1)) ∙ a.2))
+
+    turn_split : new.held ≡ None → Home tells part opened made log top shut gone homes ⊎ Out tells part made log top shut gone now homes
+        → Home tells (put part (made + 1) new) opened (made + 1) log top shut gone homes ⊎ Out tells (put part (made + 1) new) (made + 1) log top shut gone now homes
     turn_split idle (inl h) = inl (record {
       value = h.value;
       home = h.home;
       history = h.history;
       faults = h.faults;
+      broken = h.broken;
+      refused = h.refused;
       sound = h.sound;
       free = λ n. put_each part (made + 1) new (λ k x. In (made + 1) k → x.held ≡ None) (λ _. idle) (λ k ne i. h.free k (older k ne i)) n;
     })
@@ -209,12 +223,15 @@ module _ {T : Type 0} (tells : T → Account) (opened : Account) where
       held = ap (λ (x : Part). x.held) same ∙ o.held;
       ticket = ap (λ (x : Part). x.ticket) same ∙ o.ticket;
       faults = ap (λ (x : Part). x.faults) same ∙ o.faults;
+      broken = ap (λ (x : Part). x.broken) same ∙ o.broken;
+      refused = ap (λ (x : Part). x.refused) same ∙ o.refused;
       home = o.home;
       alone = λ n. put_each part (made + 1) new (λ k x. In (made + 1) k → k ≢ o.holder → x.held ≡ None) (λ _ _. idle) (λ k ne i apart. o.alone k (older k ne i) apart) n;
     })
 
-  fits_new : (log : History) (top made : ℕ) (part : ℕ → Part) (p : Part) → p.made ≡ made → Fits opened log top p.number p → Grown part opened made log → Fits opened log top (made + 1) (one_more p)
-  fits_new log top made part p count f g = record {
+  fits_new : (log : History) (top : ℕ) (shut : Bool) (gone : List OutboxRecord) (made : ℕ) (part : ℕ → Part) (p : Part) → p.made ≡ made → Fits opened log top shut gone p.number p
+      → Grown part opened made log → Fits opened log top shut gone (made + 1) (one_more p)
+  fits_new log top shut gone made part p count f g = record {
     number = ap (λ k. k + 1) count;
     opened = f.opened;
     seen = f.seen;
@@ -229,6 +246,8 @@ module _ {T : Type 0} (tells : T → Account) (opened : Account) where
     ended = λ e. absurd (true≢false (sym e));
     faults_from = f.faults_from;
     faults = f.faults;
+    shut_on = f.shut_on;
+    lost = inl refl;
   }
 
   pub splits : (id : ℕ) (v : View) → v ≡ part_of v ∷ [] → (part_of v).number ≡ 1 → (part_of v).made < 18 → Splits (Turns tells opened) id v (split_left v) (split_right v)
@@ -253,6 +272,8 @@ module _ {T : Type 0} (tells : T → Account) (opened : Account) where
         made = r.made + 1;
         log = r.log;
         top = r.top;
+        shut = r.shut;
+        gone = r.gone;
         next = r.next;
         now = r.now;
         asleep = r.asleep;
@@ -262,14 +283,16 @@ module _ {T : Type 0} (tells : T → Account) (opened : Account) where
         first = ap (λ (x : Part). x.made) (put_else part1 (r.made + 1) new 1 (λ e. omega arith) ∙ put_here r.part p.number q 1 (sym number)) ∙ ap (λ k. k + 1) count;
         seated = seated_split part1 r.seat r.place r.made views1 new (seated_put r.part r.seat r.place r.made s.views id p q r.seated at refl (λ k h. (r.each k h).number)) (ap (λ k. k + 1) count);
         queued = queued_split part1 r.made r.next r.now new refl (same_ticket tells opened s r id p q at refl);
-        each = λ n. put_each part1 (r.made + 1) new (λ k x. In (r.made + 1) k → Fits opened r.log r.top k x)
-            (λ _. fits_new r.log r.top r.made part1 p count f grown1)
-            (λ k ne h. put_each r.part p.number q (λ j x. In r.made j → Fits opened r.log r.top j x)
-            (λ _. refits opened r.log r.top p.number p q f refl refl refl refl refl (le_refl p.looked) f.looked (le_refl p.faults) f.faults)
-            (λ j _ i. r.each j i) k (older part1 r.made r.log r.top r.now new s.homes k ne h)) n;
-        grown = grown_split part1 r.made r.log r.top r.now new s.homes refl grown1;
-        turn = turn_split part1 r.made r.log r.top r.now new s.homes refl
-            (turn_put tells r.part opened r.made r.log r.top r.now p.number s.homes q (ap (λ (x : Part). x.held) (sym is)) (ap (λ (x : Part). x.faults) (sym is)) (λ _. ap (λ (x : Part). x.ticket) (sym is)) r.turn);
+        each = λ n. put_each part1 (r.made + 1) new (λ k x. In (r.made + 1) k → Fits opened r.log r.top r.shut r.gone k x)
+            (λ _. fits_new r.log r.top r.shut r.gone r.made part1 p count f grown1)
+            (λ k ne h. put_each r.part p.number q (λ j x. In r.made j → Fits opened r.log r.top r.shut r.gone j x)
+            (λ _. refits opened r.log r.top r.shut r.gone p.number p q f refl refl refl refl refl refl refl refl (le_refl p.looked) f.looked (le_refl p.faults) f.faults)
+            (λ j _ i. r.each j i) k (older part1 r.made r.log r.top r.shut r.gone r.now new s.homes k ne h)) n;
+        grown = grown_split part1 r.made r.log r.top r.shut r.gone r.now new s.homes refl grown1;
+        author = author_split part1 r.made r.log r.top r.shut r.gone r.now new s.homes (author_same tells opened s r id p q at refl);
+        turn = turn_split part1 r.made r.log r.top r.shut r.gone r.now new s.homes refl
+            (turn_put tells r.part opened r.made r.log r.top r.shut r.gone r.now p.number s.homes q (ap (λ (x : Part). x.held) (sym is)) (ap (λ (x : Part). x.faults) (sym is))
+            (ap (λ (x : Part). x.broken) (sym is)) (ap (λ (x : Part). x.refused) (sym is)) (λ _. ap (λ (x : Part). x.ticket) (sym is)) r.turn);
       }
 
   -- where the parts of the seat `other` stand once they are joined behind those of the seat `id`, which are so many
@@ -359,6 +382,8 @@ module _ {T : Type 0} (tells : T → Account) (opened : Account) where
         made = r.made;
         log = r.log;
         top = r.top;
+        shut = r.shut;
+        gone = r.gone;
         next = r.next;
         now = r.now;
         asleep = r.asleep;
@@ -370,6 +395,7 @@ module _ {T : Type 0} (tells : T → Account) (opened : Account) where
         queued = r.queued;
         each = r.each;
         grown = r.grown;
+        author = r.author;
         turn = r.turn;
       }
 
@@ -389,14 +415,14 @@ module _ {T : Type 0} (tells : T → Account) (opened : Account) where
     same_back : (n : ℕ) → In made n → In r.made n
     same_back n h = subst (λ m. In m n) (sym all_made) h
 
-    pub all_home : Home tells r.part opened r.made r.log r.top s.homes
+    pub all_home : Home tells r.part opened r.made r.log r.top r.shut r.gone s.homes
     all_home = ⊎_elim (λ h. h)
-        (λ (o : Out tells r.part r.made r.log r.top r.now s.homes).
+        (λ (o : Out tells r.part r.made r.log r.top r.shut r.gone r.now s.homes).
         let i = same_in o.holder o.inside in
         absurd (none-some r.log (sym (free o.holder i) ∙ (ap (λ (p : Part). p.held) (sym (part_is o.holder i)) ∙ o.held)))) r.turn
 
-    fits : (n : ℕ) → In made n → Fits opened r.log r.top n (known n)
-    fits n i = subst (Fits opened r.log r.top n) (part_is n i) (r.each n (same_back n i))
+    fits : (n : ℕ) → In made n → Fits opened r.log r.top r.shut r.gone n (known n)
+    fits n i = subst (Fits opened r.log r.top r.shut r.gone n) (part_is n i) (r.each n (same_back n i))
 
     pub closes : Closed known made opened (tells all_home.value)
     closes = let h = all_home in let g = r.grown in
@@ -411,4 +437,6 @@ module _ {T : Type 0} (tells : T → Account) (opened : Account) where
           marked = λ e. ⊎_elim (λ a. inl a) (λ a. let i = same_in a.0 a.1 in inr (a.0, i, ap (λ (p : Part). p.ended) (sym (part_is a.0 i)) ∙ a.2))
               (g.marked (ap (λ (l : History). l.finished) log ∙ e));
           once = λ m n i j e f. g.once m n (same_back m i) (same_back n j) (ap (λ (p : Part). p.ended) (part_is m i) ∙ e) (ap (λ (p : Part). p.ended) (part_is n j) ∙ f);
+          lost = ⊎_elim (λ e. inl (h.refused ∙ e))
+              (λ a. let i = same_in a.0 a.1 in inr (a.0, i, ap (λ (p : Part). p.lost) (sym (part_is a.0 i)) ∙ (a.2 ∙ sym h.refused))) r.author;
         }

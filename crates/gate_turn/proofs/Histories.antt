@@ -6,7 +6,7 @@ use Rattle.session_model.specs.Journal.{Entry, History, BeginsHistory, entries_o
 use Rattle.session_model.proofs.Lists.{prefix_self, prefix_trans, prefix_equal, prefix_length, drop_length}
 use Rattle.gate_turn.specs.Views.{marks_newly}
 use Rattle.gate_turn.specs.Rule.{In}
-use Rattle.gate_turn.specs.Steps.{Adds, adds_nothing, adds_entry, adds_mark}
+use Rattle.gate_turn.specs.Steps.{Adds, adds_nothing, adds_entries, adds_mark}
 
 pub begins_self : (h : History) → BeginsHistory h h
 begins_self h = record { made = prefix_self h.made; alone = λ _. refl }
@@ -73,12 +73,12 @@ goes_nowhere n was now e =
 
 pub goes : (n : ℕ) (was now : History) → Adds n was now → Goes n was now
 goes n was now (adds_nothing e) = goes_nowhere n was now e
-goes n was now (adds_entry a) = record {
-  begins = record { made = (a.entry ∷ [], sym a.behind); alone = λ f. absurd (a.open_before f) };
-  added = a.entry ∷ [];
+goes n was now (adds_entries a) = record {
+  begins = record { made = (a.entries, sym a.behind); alone = λ f. absurd (a.open_before f) };
+  added = a.entries;
   behind = a.behind;
-  dropped = ap (drop (length was.made)) a.behind ∙ drop_length was.made (a.entry ∷ []);
-  own = (a.author, tt);
+  dropped = ap (drop (length was.made)) a.behind ∙ drop_length was.made a.entries;
+  own = a.authors;
   stays = λ f. absurd (a.open_before f);
 }
 goes n was now (adds_mark a) =

@@ -7,13 +7,13 @@ use native.Mathlib.Decide.{ℕ_discrete}
 use lib.ListN.{get_elem?}
 use Rattle.atomic_table.specs.Table.{State, step, keeps, takes, gives, put_back, rest, stepped, Allows}
 use Rattle.atomic_table.proofs.Lists.{set_again, one_turn}
-use Rattle.session_model.specs.Journal.{History, BeginsHistory, entries_of}
+use Rattle.session_model.specs.Journal.{History, OutboxRecord, BeginsHistory, entries_of}
 use Rattle.gate_turn.specs.Views.{Account, Part, View, marks_newly, part_of, drawn, got, counted, gave, looked_at}
-use Rattle.gate_turn.specs.Rule.{In, Stands, Queued, Fits, Grown, Sound, Home, Out, Turns}
+use Rattle.gate_turn.specs.Rule.{In, Stands, Queued, StaysBroken, Fits, Grown, Author, Sound, Home, Out, Turns}
 use Rattle.gate_turn.specs.Steps.{Found, Returns, Mine, Drew, Noted, LookedAt, Gets, Served, Published, GaveOn}
-use Rattle.gate_turn.proofs.Puts.{put, seated_put, tickets_few, queued_same, queued_draws, queued_leaves, put_each}
+use Rattle.gate_turn.proofs.Puts.{put, put_here, seated_put, tickets_few, queued_same, queued_draws, queued_leaves, put_each}
 use Rattle.gate_turn.proofs.Histories.{begins_self, Goes, goes, goes_nowhere}
-use Rattle.gate_turn.proofs.Layers.{refits, fits_others, fits_counted, grown_put, turn_put, holder_is, turn_begins, turn_goes_on, turn_ends}
+use Rattle.gate_turn.proofs.Layers.{Shuts, shuts_same, refits, fits_others, fits_counted, AllOrNone, leaves_refused, author_put, grown_put, turn_put, holder_is, turn_begins, turn_goes_on, turn_ends}
 
 counts_on : (n : ℕ) → (n % 2 ^ 64 + 1) % 2 ^ 64 ≡ (n + 1) % 2 ^ 64
 counts_on n = omega arith
@@ -29,8 +29,8 @@ module _ {T : Type 0} (tells : T → Account) (opening : Account) where
   pub mine : (s : St) (r : Rule s) (id : ℕ) (p : Part) → get_elem? s.views id ≡ some (p ∷ []) → Stands r.part r.seat r.place r.made id 0 p
   mine s r id p at = r.seated.here id 0 (p ∷ []) p at refl
 
-  pub fits_mine : (s : St) (r : Rule s) (id : ℕ) (p : Part) → get_elem? s.views id ≡ some (p ∷ []) → Fits opening r.log r.top p.number p
-  fits_mine s r id p at = let m = mine s r id p at in subst (Fits opening r.log r.top p.number) m.is (r.each p.number m.inside)
+  pub fits_mine : (s : St) (r : Rule s) (id : ℕ) (p : Part) → get_elem? s.views id ≡ some (p ∷ []) → Fits opening r.log r.top r.shut r.gone p.number p
+  fits_mine s r id p at = let m = mine s r id p at in subst (Fits opening r.log r.top r.shut r.gone p.number) m.is (r.each p.number m.inside)
 
   abbrev after : St → List ℕ → List (mathlib.Core.Option.Option (Option T)) → ℕ → Part → St
   after s words homes id q = record { words = words; homes = homes; views = set s.views id (q ∷ []) }
@@ -39,6 +39,8 @@ module _ {T : Type 0} (tells : T → Account) (opening : Account) where
   record Move (s : St) (r : Rule s) (p q : Part) (words : List ℕ) (homes : List (mathlib.Core.Option.Option (Option T))) : Type 0 where
     log : History
     top : ℕ
+    shut : Bool
+    gone : List OutboxRecord
     next : ℕ
     now : ℕ
     words_are : words ≡ (next % 2 ^ 64) ∷ (now % 2 ^ 64) ∷ length log.made ∷ r.asleep ∷ []
@@ -46,10 +48,12 @@ module _ {T : Type 0} (tells : T → Account) (opening : Account) where
     made_is : q.made ≡ p.made
     goes_on : Goes p.number r.log log
     higher : r.top ≤ top
+    shuts : Shuts r.shut r.gone shut gone
     queued : Queued (put r.part p.number q) r.made next now
-    fits : Fits opening log top p.number q
+    fits : Fits opening log top shut gone p.number q
     grown : Grown (put r.part p.number q) opening r.made log
-    turn : Home tells (put r.part p.number q) opening r.made log top homes ⊎ Out tells (put r.part p.number q) r.made log top now homes
+    author : Author (put r.part p.number q) r.made gone
+    turn : Home tells (put r.part p.number q) opening r.made log top shut gone homes ⊎ Out tells (put r.part p.number q) r.made log top shut gone now homes
 
   moved : (s : St) (r : Rule s) (id : ℕ) (p q : Part) (words : List ℕ) (homes : List (mathlib.Core.Option.Option (Option T)))
       → get_elem? s.views id ≡ some (p ∷ []) → Move s r p q words homes → Rule (after s words homes id q)
@@ -60,6 +64,8 @@ module _ {T : Type 0} (tells : T → Account) (opening : Account) where
     made = r.made;
     log = m.log;
     top = m.top;
+    shut = m.shut;
+    gone = m.gone;
     next = m.next;
     now = m.now;
     asleep = r.asleep;
@@ -70,9 +76,10 @@ module _ {T : Type 0} (tells : T → Account) (opening : Account) where
         (λ e. m.made_is ∙ (ap (λ (x : Part). x.made) (sym sits.is) ∙ (ap (λ k. (r.part k).made) e ∙ r.first))) (λ k _ e. ap (λ j. (r.part j).made) e ∙ r.first) 1 refl;
     seated = seated_put r.part r.seat r.place r.made s.views id p q r.seated at m.number (λ k h. (r.each k h).number);
     queued = m.queued;
-    each = λ k. put_each r.part p.number q (λ j x. In r.made j → Fits opening m.log m.top j x) (λ _. m.fits)
-        (λ j ne h. fits_others opening r.log m.log r.top m.top j p.number (r.part j) m.goes_on m.higher ne (r.each j h)) k;
+    each = λ k. put_each r.part p.number q (λ j x. In r.made j → Fits opening m.log m.top m.shut m.gone j x) (λ _. m.fits)
+        (λ j ne h. fits_others opening r.log m.log r.top m.top r.shut m.shut r.gone m.gone j p.number (r.part j) m.goes_on m.higher m.shuts ne (r.each j h)) k;
     grown = m.grown;
+    author = m.author;
     turn = m.turn;
   }
 
@@ -86,6 +93,10 @@ module _ {T : Type 0} (tells : T → Account) (opening : Account) where
       never true f = refl
       never false true = refl
       never false false = refl
+
+  -- what was refused is whose it was, where the pass keeps what it lost
+  pub author_same : (s : St) (r : Rule s) (id : ℕ) (p q : Part) → get_elem? s.views id ≡ some (p ∷ []) → q.lost ≡ p.lost → Author (put r.part p.number q) r.made r.gone
+  author_same s r id p q at same = let sits = mine s r id p at in author_put r.part r.made p.number r.gone q (same ∙ ap (λ (x : Part). x.lost) (sym sits.is)) r.author
 
   pub same_ticket : (s : St) (r : Rule s) (id : ℕ) (p q : Part) → get_elem? s.views id ≡ some (p ∷ []) → q.ticket ≡ p.ticket → Queued (put r.part p.number q) r.made r.next r.now
   same_ticket s r id p q at same = let sits = mine s r id p at in queued_same r.part p.number q r.made r.next r.now (same ∙ ap (λ (x : Part). x.ticket) (sym sits.is)) r.queued
@@ -106,6 +117,8 @@ module _ {T : Type 0} (tells : T → Account) (opening : Account) where
         moved s r id p q (set s.words 0 ((get_or s.words 0 0 + 1) % 2 ^ 64)) s.homes at (record {
           log = r.log;
           top = r.top;
+          shut = r.shut;
+          gone = r.gone;
           next = r.next + 1;
           now = r.now;
           words_are = ap (λ ws. set ws 0 ((get_or ws 0 0 + 1) % 2 ^ 64)) r.words ∙ ap (λ k. k ∷ (r.now % 2 ^ 64) ∷ length r.log.made ∷ r.asleep ∷ []) (counts_on r.next);
@@ -113,10 +126,13 @@ module _ {T : Type 0} (tells : T → Account) (opening : Account) where
           made_is = refl;
           goes_on = goes_nowhere p.number r.log r.log refl;
           higher = le_refl r.top;
+          shuts = shuts_same r.shut r.gone;
           queued = queued_draws r.part p.number q r.made r.next r.now sits.inside (ap (λ (x : Part). x.ticket) is ∙ no_ticket) refl r.queued;
-          fits = refits opening r.log r.top p.number p q f refl refl refl refl refl (le_refl p.looked) f.looked (le_refl p.faults) f.faults;
+          fits = refits opening r.log r.top r.shut r.gone p.number p q f refl refl refl refl refl refl refl refl (le_refl p.looked) f.looked (le_refl p.faults) f.faults;
           grown = grown_same s r id p q at refl;
-          turn = turn_put tells r.part opening r.made r.log r.top r.now p.number s.homes q (ap (λ (x : Part). x.held) (sym is)) (ap (λ (x : Part). x.faults) (sym is))
+          author = author_same s r id p q at refl;
+          turn = turn_put tells r.part opening r.made r.log r.top r.shut r.gone r.now p.number s.homes q (ap (λ (x : Part). x.held) (sym is)) (ap (λ (x : Part). x.faults) (sym is))
+              (ap (λ (x : Part). x.broken) (sym is)) (ap (λ (x : Part). x.refused) (sym is))
               (λ e. absurd (none-some r.log (sym no_turn ∙ (ap (λ (x : Part). x.held) (sym is) ∙ e)))) r.turn;
         }),
         (r.next, found, refl, refl),
@@ -131,9 +147,9 @@ module _ {T : Type 0} (tells : T → Account) (opening : Account) where
   }) r
 
   -- a pass that has no turn, and whose ticket is served: the value is at home
-  at_home : (s : St) (r : Rule s) (n : ℕ) → In r.made n → (r.part n).held ≡ None → (r.part n).ticket ≡ Some r.now → Home tells r.part opening r.made r.log r.top s.homes
+  at_home : (s : St) (r : Rule s) (n : ℕ) → In r.made n → (r.part n).held ≡ None → (r.part n).ticket ≡ Some r.now → Home tells r.part opening r.made r.log r.top r.shut r.gone s.homes
   at_home s r n i held ticket = ⊎_elim (λ h. h)
-      (λ (o : Out tells r.part r.made r.log r.top r.now s.homes).
+      (λ (o : Out tells r.part r.made r.log r.top r.shut r.gone r.now s.homes).
       let e : n ≡ o.holder = r.queued.apart n o.holder r.now i o.inside ticket o.ticket in
       absurd (none-some r.log (sym held ∙ (ap (λ k. (r.part k).held) e ∙ o.held)))) r.turn
 
@@ -143,7 +159,7 @@ module _ {T : Type 0} (tells : T → Account) (opening : Account) where
       one_turn r.now t (2 ^ 64) w.0 (omega (arith, r.queued.count, tickets_few r.part r.made, r.few, w.1)) same
 
   -- what a part that fits finds in the value at home
-  pub found_in : (s : St) (r : Rule s) (n : ℕ) (p : Part) → Fits opening r.log r.top n p → (h : Home tells r.part opening r.made r.log r.top s.homes) → Found p (tells h.value)
+  pub found_in : (s : St) (r : Rule s) (n : ℕ) (p : Part) → Fits opening r.log r.top r.shut r.gone n p → (h : Home tells r.part opening r.made r.log r.top r.shut r.gone s.homes) → Found p (tells h.value)
   found_in s r n p f h =
       let log : r.log ≡ (tells h.value).history = sym h.history in
       record {
@@ -153,13 +169,15 @@ module _ {T : Type 0} (tells : T → Account) (opening : Account) where
         ended = λ e. ap (λ (l : History). l.finished) (sym log) ∙ f.ended e;
         faults = subst (λ k. p.faults ≤ k) (sym h.faults) f.faults;
         begins = subst (λ (o : Account). BeginsHistory o.history (tells h.value).history) (sym f.opened) (subst (BeginsHistory opening.history) log r.grown.begins);
+        shut_on = λ e. let x = f.shut_on e in (h.broken ∙ x.0, h.refused ∙ x.1);
+        lost = ⊎_elim (λ a. inl a) (λ b. inr (b ∙ sym h.refused)) f.lost;
         sound = subst (λ o. Sound o (tells h.value)) (sym f.opened) h.sound;
       }
 
   -- the ticket of the pass is served: it has the turn
   gets : (slots id : ℕ) (me : Mine T) (t : ℕ) (s : St) (r : Rule s) → me.0 ≡ part_of me.0 ∷ [] → me.1 ≡ [] → (part_of me.0).ticket ≡ Some t → (part_of me.0).held ≡ None
       → get_elem? s.views id ≡ some me.0 → get_or s.words 1 0 ≡ t % 2 ^ 64
-      → (h : Home tells r.part opening r.made r.log r.top s.homes)
+      → (h : Home tells r.part opening r.made r.log r.top r.shut r.gone s.homes)
       × Rule (stepped s 1 (get_or s.words 1 0) id me.1 (got (tells h.value) (part_of me.0) ∷ []) (takes 0 (Some h.value)))
       × Gets tells me (got (tells h.value) (part_of me.0) ∷ [], (0, Some h.value) ∷ me.1)
   gets slots id me t s r one no_slot ticket no_turn there served =
@@ -178,6 +196,8 @@ module _ {T : Type 0} (tells : T → Account) (opening : Account) where
         moved s r id p q (set s.words 1 (get_or s.words 1 0)) (set s.homes 0 none) at (record {
           log = r.log;
           top = r.top;
+          shut = r.shut;
+          gone = r.gone;
           next = r.next;
           now = r.now;
           words_are = ap (λ ws. set ws 1 (get_or ws 1 0)) r.words;
@@ -185,6 +205,7 @@ module _ {T : Type 0} (tells : T → Account) (opening : Account) where
           made_is = refl;
           goes_on = goes_nowhere p.number r.log r.log refl;
           higher = le_refl r.top;
+          shuts = shuts_same r.shut r.gone;
           queued = same_ticket s r id p q at refl;
           fits = record {
             number = refl;
@@ -196,10 +217,13 @@ module _ {T : Type 0} (tells : T → Account) (opening : Account) where
             ended = f.ended;
             faults_from = h.sound.faults;
             faults = let e = h.faults in omega arith;
+            shut_on = λ e. (sym h.broken ∙ e, sym h.refused);
+            lost = f.lost;
           };
           grown = grown_same s r id p q at refl;
-          turn = inr (turn_begins tells r.part opening r.made r.log r.top r.now p.number s.homes (set s.homes 0 none) q sits.inside
-              (ap Some h.history) mine_is h.faults (ap (λ hs. set hs 0 none) h.home) h);
+          author = author_same s r id p q at refl;
+          turn = inr (turn_begins tells r.part opening r.made r.log r.top r.shut r.gone r.now p.number s.homes (set s.homes 0 none) q sits.inside
+              (ap Some h.history) mine_is h.faults h.broken h.refused (ap (λ hs. set hs 0 none) h.home) h);
         }),
         record { value = h.value; found = found_in s r p.number p f h; view = refl; slot = ap (λ c. (0, Some h.value) ∷ c) no_slot },
       )
@@ -231,13 +255,13 @@ module _ {T : Type 0} (tells : T → Account) (opening : Account) where
 
   -- who has the turn holds the history that it had in hand last
   abbrev Holding : (s : St) → Rule s → Part → Type 0
-  Holding s r p = (o : Out tells r.part r.made r.log r.top r.now s.homes) × (p.number ≡ o.holder)
+  Holding s r p = (o : Out tells r.part r.made r.log r.top r.shut r.gone r.now s.homes) × (p.number ≡ o.holder)
 
   holding : (s : St) (r : Rule s) (id : ℕ) (p : Part) (h : History) → get_elem? s.views id ≡ some (p ∷ []) → p.held ≡ Some h → Holding s r p × (r.log ≡ h)
   holding s r id p h at held =
       let sits = mine s r id p at in
       let held' : (r.part p.number).held ≡ Some h = ap (λ (x : Part). x.held) sits.is ∙ held in
-      let o = holder_is tells r.part opening r.made r.log h r.top r.now p.number s.homes sits.inside held' r.turn in
+      let o = holder_is tells r.part opening r.made r.log h r.top r.shut r.gone r.now p.number s.homes sits.inside held' r.turn in
       (o, same_Some r.log h (sym o.0.held ∙ (ap (λ k. (r.part k).held) (sym o.1) ∙ held')))
 
   pub publishes : (slots id : ℕ) (me : Mine T) (value : T) (stored : ℕ) → me.0 ≡ part_of me.0 ∷ [] → me.1 ≡ (0, Some value) ∷ [] → (part_of me.0).held ≡ Some (part_of me.0).seen
@@ -260,6 +284,8 @@ module _ {T : Type 0} (tells : T → Account) (opening : Account) where
         moved s r id p q (set s.words 2 stored) s.homes at (record {
           log = now;
           top = r.top;
+          shut = r.shut;
+          gone = r.gone;
           next = r.next;
           now = r.now;
           words_are = ap (λ ws. set ws 2 stored) r.words ∙ ap (λ k. (r.next % 2 ^ 64) ∷ (r.now % 2 ^ 64) ∷ k ∷ r.asleep ∷ []) count;
@@ -267,19 +293,23 @@ module _ {T : Type 0} (tells : T → Account) (opening : Account) where
           made_is = refl;
           goes_on = on;
           higher = le_refl r.top;
+          shuts = shuts_same r.shut r.gone;
           queued = same_ticket s r id p q at refl;
-          fits = fits_counted opening now r.top p.number p g (subst (λ l. Fits opening l r.top p.number p) o.1 f);
+          fits = fits_counted opening now r.top r.shut r.gone p.number p g (subst (λ l. Fits opening l r.top r.shut r.gone p.number p) o.1 f);
           grown = grown_put r.part opening r.made p.number r.log now q r.grown sits.inside on (λ k h. (r.each k h).ended)
               (ap (λ l. p.ended || marks_newly l now) (sym o.1) ∙ ap (λ (x : Part). x.ended || marks_newly r.log now) (sym is));
-          turn = inr (turn_goes_on tells r.part r.made r.log now r.top r.now p.number s.homes q o.0.0 o.0.1 refl (ap (λ (x : Part). x.ticket) (sym is)) (ap (λ (x : Part). x.faults) (sym is)));
+          author = author_same s r id p q at refl;
+          turn = inr (turn_goes_on tells r.part r.made r.log now r.top r.shut r.gone r.now p.number s.homes q o.0.0 o.0.1 refl (ap (λ (x : Part). x.ticket) (sym is))
+              (ap (λ (x : Part). x.faults) (sym is)) (ap (λ (x : Part). x.broken) (sym is)) (ap (λ (x : Part). x.refused) (sym is)));
         }),
         λ other e. (ap (λ x. counted (tells x).history p ∷ []) (one_slot value other (sym slot ∙ e)), refl),
       )
 
   pub gives_on : (slots id : ℕ) (me : Mine T) (value : T) → me.0 ≡ part_of me.0 ∷ [] → me.1 ≡ (0, Some value) ∷ [] → (part_of me.0).held ≡ Some (tells value).history
-      → (part_of me.0).faults ≤ (tells value).faults → Sound (part_of me.0).opening (tells value)
+      → (part_of me.0).faults ≤ (tells value).faults → AllOrNone (part_of me.0).refused (tells value).refused
+      → StaysBroken (part_of me.0).broken (part_of me.0).refused (tells value).broken (tells value).refused → Sound (part_of me.0).opening (tells value)
       → Allows Rule slots id me 1 (λ n. (n + 1) % 2 ^ 64) (λ found w. GaveOn tells (step slots 1 1 0 none) me found w)
-  gives_on slots id me value one slot held faults sound s r _ there _ =
+  gives_on slots id me value one slot held faults refuses stays sound s r _ there _ =
       let p : Part = part_of me.0 in
       let a : Account = tells value in
       let at : get_elem? s.views id ≡ some (p ∷ []) = there ∙ ap some one in
@@ -289,6 +319,9 @@ module _ {T : Type 0} (tells : T → Account) (opening : Account) where
       let q : Part = gave a p in
       let f = fits_mine s r id p at in
       let top : p.faults ≡ r.top = ap (λ (x : Part). x.faults) (sym is) ∙ (ap (λ k. (r.part k).faults) o.0.1 ∙ o.0.0.faults) in
+      let shut : p.broken ≡ r.shut = ap (λ (x : Part). x.broken) (sym is) ∙ (ap (λ k. (r.part k).broken) o.0.1 ∙ o.0.0.broken) in
+      let gone : p.refused ≡ r.gone = ap (λ (x : Part). x.refused) (sym is) ∙ (ap (λ k. (r.part k).refused) o.0.1 ∙ o.0.0.refused) in
+      let left = leaves_refused p.lost p.refused a.refused (⊎_elim (λ e. inl e) (λ e. inr (e ∙ sym gone)) f.lost) refuses in
       let served : (r.part p.number).ticket ≡ Some r.now = ap (λ k. (r.part k).ticket) o.0.1 ∙ o.0.0.ticket in (
         q ∷ [],
         gives,
@@ -296,6 +329,8 @@ module _ {T : Type 0} (tells : T → Account) (opening : Account) where
         moved s r id p q (set s.words 1 ((get_or s.words 1 0 + 1) % 2 ^ 64)) (put_back s.homes me.1) at (record {
           log = r.log;
           top = a.faults;
+          shut = a.broken;
+          gone = a.refused;
           next = r.next;
           now = r.now + 1;
           words_are = ap (λ ws. set ws 1 ((get_or ws 1 0 + 1) % 2 ^ 64)) r.words ∙ ap (λ k. (r.next % 2 ^ 64) ∷ k ∷ length r.log.made ∷ r.asleep ∷ []) (counts_on r.now);
@@ -303,8 +338,9 @@ module _ {T : Type 0} (tells : T → Account) (opening : Account) where
           made_is = refl;
           goes_on = goes_nowhere p.number r.log r.log refl;
           higher = omega arith;
+          shuts = record { stays = λ e. let x = stays (shut ∙ e) in (x.0, x.1 ∙ gone); kept = ⊎_elim (λ e. inl (e ∙ gone)) (λ e. inr (sym gone ∙ e)) refuses };
           queued = queued_leaves r.part p.number q r.made r.next r.now sits.inside served refl r.queued;
-          fits = refits opening r.log a.faults p.number p q (record {
+          fits = record {
             number = f.number;
             opened = f.opened;
             seen = f.seen;
@@ -312,11 +348,15 @@ module _ {T : Type 0} (tells : T → Account) (opening : Account) where
             looked = f.looked;
             mine = f.mine;
             ended = f.ended;
-            faults_from = f.faults_from;
-            faults = faults;
-          }) refl refl refl refl refl (le_refl p.looked) f.looked faults (le_refl a.faults);
+            faults_from = omega (arith, f.faults_from);
+            faults = le_refl a.faults;
+            shut_on = λ e. (e, refl);
+            lost = ⊎_elim (λ x. ⊎_elim (λ e. inl (x.1 ∙ e)) (λ e. inr (x.1 ∙ (e ∙ sym (x.0 ∙ gone)))) f.lost) (λ x. inr x.1) left;
+          };
           grown = grown_same s r id p q at refl;
-          turn = inl (turn_ends tells r.part opening r.made r.log r.top r.now p.number s.homes (put_back s.homes me.1) q value o.0.0 o.0.1 refl
+          author = ⊎_elim (λ x. subst (Author (put r.part p.number q) r.made) (sym (x.0 ∙ gone)) (author_same s r id p q at x.1))
+              (λ x. inr (p.number, sits.inside, ap (λ (y : Part). y.lost) (put_here r.part p.number q p.number refl) ∙ x.1)) left;
+          turn = inl (turn_ends tells r.part opening r.made r.log r.top r.shut r.gone r.now p.number s.homes (put_back s.homes me.1) q value o.0.0 o.0.1 refl
               (ap (put_back s.homes) slot ∙ ap (λ hs. set hs 0 (some (Some value))) o.0.0.home) (sym o.1) (subst (λ x. Sound x a) f.opened sound));
         }),
         λ other e. (ap (λ x. gave (tells x) p ∷ []) (one_slot value other (sym slot ∙ e)), ap (λ c. rest c) slot),
@@ -340,6 +380,8 @@ module _ {T : Type 0} (tells : T → Account) (opening : Account) where
         made = r.made;
         log = r.log;
         top = r.top;
+        shut = r.shut;
+        gone = r.gone;
         next = r.next;
         now = r.now;
         asleep = stored;
@@ -351,6 +393,7 @@ module _ {T : Type 0} (tells : T → Account) (opening : Account) where
         queued = r.queued;
         each = r.each;
         grown = r.grown;
+        author = r.author;
         turn = r.turn;
       }
 
@@ -372,6 +415,8 @@ module _ {T : Type 0} (tells : T → Account) (opening : Account) where
         moved s r id p q (set s.words 2 found) s.homes at (record {
           log = r.log;
           top = r.top;
+          shut = r.shut;
+          gone = r.gone;
           next = r.next;
           now = r.now;
           words_are = ap (λ ws. set ws 2 (get_or ws 2 0)) r.words;
@@ -379,10 +424,13 @@ module _ {T : Type 0} (tells : T → Account) (opening : Account) where
           made_is = refl;
           goes_on = goes_nowhere p.number r.log r.log refl;
           higher = le_refl r.top;
+          shuts = shuts_same r.shut r.gone;
           queued = same_ticket s r id p q at refl;
-          fits = refits opening r.log r.top p.number p q f refl refl refl refl refl more (omega arith) (le_refl p.faults) f.faults;
+          fits = refits opening r.log r.top r.shut r.gone p.number p q f refl refl refl refl refl refl refl refl more (omega arith) (le_refl p.faults) f.faults;
           grown = grown_same s r id p q at refl;
-          turn = turn_put tells r.part opening r.made r.log r.top r.now p.number s.homes q (ap (λ (x : Part). x.held) (sym is)) (ap (λ (x : Part). x.faults) (sym is))
+          author = author_same s r id p q at refl;
+          turn = turn_put tells r.part opening r.made r.log r.top r.shut r.gone r.now p.number s.homes q (ap (λ (x : Part). x.held) (sym is)) (ap (λ (x : Part). x.faults) (sym is))
+              (ap (λ (x : Part). x.broken) (sym is)) (ap (λ (x : Part). x.refused) (sym is))
               (λ _. ap (λ (x : Part). x.ticket) (sym is)) r.turn;
         }),
         (more, refl, refl),

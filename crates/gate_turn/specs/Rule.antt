@@ -1,12 +1,12 @@
 -- The rule of the turn lock: what holds of its words, of the value where it is at home, and of all views, between any two steps.
 -- The words are the next ticket and the ticket that is served, both modulo 2^64, the number of entries, and whether somebody may
 -- sleep, of which the rule says nothing. The slot has the value.
-use Rattle.std.specs.Prelude.{◌≡◌, ◌≢◌, ◌⊎◌, ℕ, zero, suc, ◌+◌, ◌%◌, ◌^◌, ◌<◌, ◌≤◌, true, List, [], ◌∷◌, ◌++◌, length, Option, Some, None}
+use Rattle.std.specs.Prelude.{◌≡◌, ◌≢◌, ◌⊎◌, ℕ, zero, suc, ◌+◌, ◌%◌, ◌^◌, ◌<◌, ◌≤◌, Bool, true, List, [], ◌∷◌, ◌++◌, length, Option, Some, None}
 use Rattle.std.specs.List.{AllByRecursion}
 use mathlib.Core.Option.{none, some}
 use lib.ListN.{get_elem?}
 use Rattle.atomic_table.specs.Table.{State}
-use Rattle.session_model.specs.Journal.{Entry, History, BeginsHistory, entries_of}
+use Rattle.session_model.specs.Journal.{Entry, History, OutboxRecord, BeginsHistory, entries_of}
 use Rattle.gate_turn.specs.Views.{Account, HasFailed, Part, View}
 
 -- n is the number of a pass, where so many were made
@@ -43,8 +43,13 @@ pub record Queued (part : ℕ → Part) (made next now : ℕ) : Type 0 where
   pub taken : (t : ℕ) → now ≤ t → t < next → (n : ℕ) × In made n × ((part n).ticket ≡ Some t)
   pub apart : (m n t : ℕ) → In made m → In made n → (part m).ticket ≡ Some t → (part n).ticket ≡ Some t → m ≡ n
 
--- what the pass of number n knows fits the history, and the count of faults of the value that was at home last
-pub record Fits (opening : Account) (log : History) (top n : ℕ) (p : Part) : Type 0 where
+-- what is broken stays so, and nothing more is refused then
+abbrev pub StaysBroken : Bool → List OutboxRecord → Bool → List OutboxRecord → Type 0
+StaysBroken was before now after = was ≡ true → (now ≡ true) × (after ≡ before)
+
+-- What the pass of number n knows fits the history, and the count of faults of the value that was at home last, whether it was
+-- broken, and what it had refused
+pub record Fits (opening : Account) (log : History) (top : ℕ) (shut : Bool) (gone : List OutboxRecord) (n : ℕ) (p : Part) : Type 0 where
   pub number : p.number ≡ n
   pub opened : p.opening ≡ opening
   pub seen : BeginsHistory p.seen log
@@ -54,6 +59,8 @@ pub record Fits (opening : Account) (log : History) (top n : ℕ) (p : Part) : T
   pub ended : p.ended ≡ true → log.finished ≡ true
   pub faults_from : opening.faults ≤ p.faults
   pub faults : p.faults ≤ top
+  pub shut_on : StaysBroken p.broken p.refused shut gone
+  pub lost : (p.lost ≡ []) ⊎ (p.lost ≡ gone)
 
 -- the history begins with the opening one; each entry behind that is a pass's; and it has the mark only where the opening one
 -- has it or a pass added it, which one pass at most did
@@ -65,6 +72,10 @@ pub record Grown (part : ℕ → Part) (opening : Account) (made : ℕ) (log : H
   pub marked : log.finished ≡ true → (opening.history.finished ≡ true) ⊎ ((n : ℕ) × In made n × ((part n).ended ≡ true))
   pub once : (m n : ℕ) → In made m → In made n → (part m).ended ≡ true → (part n).ended ≡ true → m ≡ n
 
+-- what was refused is what one of the passes was to add
+abbrev pub Author : (ℕ → Part) → ℕ → List OutboxRecord → Type 0
+Author part made gone = (gone ≡ []) ⊎ ((n : ℕ) × In made n × ((part n).lost ≡ gone))
+
 -- a value that may be at home: it has the opening's limits, a count of faults not below the opening's, and is broken only
 -- where a call of its device failed since the opening
 pub record Sound (opening now : Account) : Type 0 where
@@ -74,27 +85,32 @@ pub record Sound (opening now : Account) : Type 0 where
 
 module _ {T : Type 0} (tells : T → Account) where
   -- no pass has the turn, and the value is at home
-  pub record Home (part : ℕ → Part) (opening : Account) (made : ℕ) (log : History) (top : ℕ)
+  pub record Home (part : ℕ → Part) (opening : Account) (made : ℕ) (log : History) (top : ℕ) (shut : Bool) (gone : List OutboxRecord)
       (homes : List (mathlib.Core.Option.Option (Option T))) : Type 0 where
     pub value : T
     pub home : homes ≡ some (Some value) ∷ []
     pub history : (tells value).history ≡ log
     pub faults : (tells value).faults ≡ top
+    pub broken : (tells value).broken ≡ shut
+    pub refused : (tells value).refused ≡ gone
     pub sound : Sound opening (tells value)
     pub free : (n : ℕ) → In made n → (part n).held ≡ None
 
   -- one pass has the turn, by the ticket that is served, and the value is out with it
-  pub record Out (part : ℕ → Part) (made : ℕ) (log : History) (top now : ℕ) (homes : List (mathlib.Core.Option.Option (Option T))) : Type 0 where
+  pub record Out (part : ℕ → Part) (made : ℕ) (log : History) (top : ℕ) (shut : Bool) (gone : List OutboxRecord) (now : ℕ)
+      (homes : List (mathlib.Core.Option.Option (Option T))) : Type 0 where
     pub holder : ℕ
     pub inside : In made holder
     pub held : (part holder).held ≡ Some log
     pub ticket : (part holder).ticket ≡ Some now
     pub faults : (part holder).faults ≡ top
+    pub broken : (part holder).broken ≡ shut
+    pub refused : (part holder).refused ≡ gone
     pub home : homes ≡ none ∷ []
     pub alone : (n : ℕ) → In made n → n ≢ holder → (part n).held ≡ None
 
   -- The rule. `next` and `now` count the tickets drawn and served. `log` is the history held, or that of the value at home;
-  -- `top` the holder's count of faults, or that of the value at home
+  -- `top`, `shut`, `gone` what the holder, or the value at home, says of faults, of being broken, and of what was refused
   pub record Turns (opening : Account) (s : State (Option T) View) : Type 0 where
     pub part : ℕ → Part
     pub seat : ℕ → ℕ
@@ -102,6 +118,8 @@ module _ {T : Type 0} (tells : T → Account) where
     pub made : ℕ
     pub log : History
     pub top : ℕ
+    pub shut : Bool
+    pub gone : List OutboxRecord
     pub next : ℕ
     pub now : ℕ
     pub asleep : ℕ
@@ -111,6 +129,7 @@ module _ {T : Type 0} (tells : T → Account) where
     pub first : (part 1).made ≡ made
     pub seated : Seated part seat place made s.views
     pub queued : Queued part made next now
-    pub each : (n : ℕ) → In made n → Fits opening log top n (part n)
+    pub each : (n : ℕ) → In made n → Fits opening log top shut gone n (part n)
     pub grown : Grown part opening made log
-    pub turn : Home part opening made log top s.homes ⊎ Out part made log top now s.homes
+    pub author : Author part made gone
+    pub turn : Home part opening made log top shut gone s.homes ⊎ Out part made log top shut gone now s.homes

@@ -45,7 +45,7 @@ impl<T: Logged> TurnLock<T> {
     ghost use Rattle.gate_turn.specs.Listed.{known_at};
     ghost use Rattle.gate_turn.specs.Calls.{IsFree, HasTurn, IsPassOf, opened_with, MadeWith, AllBack};
 
-    /// Makes a lock round a value that is not broken, with 1 to 18 passes.
+    /// Makes a lock round a value that is not broken and has refused nothing, with 1 to 18 passes.
     ///
     /// # Errors
     ///
@@ -53,6 +53,7 @@ impl<T: Logged> TurnLock<T> {
     pub fn new(alloc: Global, value: T, passes: u16) -> Result<(TurnLock<T>, Passes<T>), T>
         requires count { (1 ≤ passes) × (passes ≤ 18) }
         requires whole { (T.tells value).broken ≢ true }
+        requires clean { (T.tells value).refused ≡ [] }
         ensures opened { IfOk result (λ r. opened_with r.0 ≡ value) }
         ensures made { IfOk result (λ r. MadeWith r.0 r.1 passes (T.tells value)) }
         ensures refused { IfErr result (λ v. v ≡ value) }
@@ -70,11 +71,26 @@ impl<T: Logged> TurnLock<T> {
         ensures turn { HasTurn pass.new }
         ensures entered { Entered (known pass.old) (known pass.new) (T.tells result.value) }
     {
+        self.approach(&mut pass.seat, rt);
         let value = self.wait_turn(&mut pass.seat, rt);
         Held { value }
     }
 
-    /// Publishes what the holder added to the value, at most one entry of the pass's number or the mark, and gives the turn on.
+    /// As `enter`, but the pass draws its ticket at once: who has none by then comes behind it. It is for one caller among
+    /// many, whose wait is then that for those with a ticket, few as they are.
+    pub fn enter_next<R: Wait>(&self, pass: &mut Pass<T>, rt: &R) -> Held<T>
+        requires own { IsPassOf self.now pass.old }
+        requires free { IsFree pass.old }
+        ensures own { IsPassOf self.now pass.new }
+        ensures turn { HasTurn pass.new }
+        ensures entered { Entered (known pass.old) (known pass.new) (T.tells result.value) }
+    {
+        let value = self.wait_turn(&mut pass.seat, rt);
+        Held { value }
+    }
+
+    /// Publishes what the holder added to the value, entries of the pass's number or the mark, and gives the turn on. Where its
+    /// device failed on them, it may have refused them.
     pub fn leave(&self, pass: &mut Pass<T>, held: Held<T>)
         requires own { IsPassOf self.now pass.old }
         requires turn { HasTurn pass.old }

@@ -3,7 +3,8 @@ ghost use Rattle.std.specs.Prelude.{◌≡◌, ◌^◌, ◌<◌, ◌↔◌, true
 ghost use Rattle.gate_turn.specs.Views.{Account};
 
 /// A value that stands for a history: entries, behind which the mark that nothing more comes may stand.
-/// It also says, in proofs alone, how often its device failed, what its limits are, and whether it takes nothing any more.
+/// It also says, in proofs alone, how often its device failed, what its limits are, whether it takes nothing any more, and the
+/// records whose adding failed.
 pub trait Logged {
     ghost use Rattle.gate_turn.specs.Views.{Account};
 

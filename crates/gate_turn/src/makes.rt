@@ -21,6 +21,7 @@ impl<T: Logged> TurnLock<T> {
     /// The lock with its first pass alone.
     pub(crate) fn open(alloc: Global, value: T) -> Result<(TurnLock<T>, Seat<Option<T>, View>), T>
         requires whole { (T.tells value).broken ≢ true }
+        requires clean { (T.tells value).refused ≡ [] }
         ensures opened { IfOk result (λ r. opened_with r.0 ≡ value) }
         ensures seat { IfOk result (λ r. (r.1.table_id ≡ r.0.table.shared.table_id) × (r.1.me ≡ (new_part 1 1 (T.tells value) ∷ [], []))) }
         ensures refused { IfErr result (λ v. v ≡ value) }

@@ -19,7 +19,7 @@ impl<T: Logged> TurnLock<T> {
     ghost use Rattle.gate_turn.specs.Views.{part_of, left};
     ghost use Rattle.gate_turn.specs.Steps.{Entered, Returns};
 
-    /// Waits until nobody has the turn, draws a ticket, waits until it is served, and takes the value out of the slot.
+    /// Draws a ticket, waits until it is served, and takes the value out of the slot.
     pub(crate) fn wait_turn<R: Wait>(&self, seat: &mut Seat<Option<T>, View>, rt: &R) -> T
         requires own { seat.old.table_id ≡ self.now.table.shared.table_id }
         requires one { seat.old.me.0 ≡ part_of seat.old.me.0 ∷ [] }
@@ -31,7 +31,6 @@ impl<T: Logged> TurnLock<T> {
         ensures one { seat.new.me.0 ≡ part_of seat.new.me.0 ∷ [] }
         ensures entered { Entered (part_of seat.old.me.0) (part_of seat.new.me.0) (T.tells result) }
     {
-        self.approach(seat, rt);
         let ticket = self.table.shared.fetch_add::<Draws>(seat, TICKET, 1);
         for _ in rt.forever() {
             let serving = self.table.shared.load::<Waits>(seat, SERVING);
@@ -43,9 +42,9 @@ impl<T: Logged> TurnLock<T> {
         unreachable!()
     }
 
-    /// Waits until nobody waits with a ticket or has the turn, as it looks. No ticket is drawn until then, so that whoever
-    /// runs goes first, and a turn need not wait for a thread that sleeps.
-    fn approach<R: Wait>(&self, seat: &mut Seat<Option<T>, View>, rt: &R)
+    /// Waits until nobody waits with a ticket or has the turn, as it looks. Who draws no ticket until then lets whoever runs go
+    /// first, so that a turn need not wait for a thread that sleeps.
+    pub(crate) fn approach<R: Wait>(&self, seat: &mut Seat<Option<T>, View>, rt: &R)
         requires own { seat.old.table_id ≡ self.now.table.shared.table_id }
         ensures own { seat.new.table_id ≡ seat.old.table_id }
         ensures me { seat.new.me ≡ seat.old.me }

@@ -8,11 +8,12 @@ use Rattle.turns_at_once.specs.declared.book.Book.{Book}
 abbrev pub entry_of : ℕ → Entry
 entry_of sender = record { sender = sender; own_number = 0; payload = [] }
 
--- an entry for each writer, no mark, and no device that fails
+-- an entry for each writer, no mark, no device that fails, and nothing refused
 abbrev pub told_by : Book → Account
 told_by b = record {
   history = record { made = map entry_of b.writers.items; finished = false };
   faults = 0;
   limits = record { entries = 2 ^ 40; bytes = 0 };
   broken = false;
+  refused = [];
 }

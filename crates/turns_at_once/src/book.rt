@@ -6,8 +6,7 @@ use std::alloc::Global;
 
 /// A value that takes entries.
 pub trait Writes: Logged {
-    ghost use Rattle.gate_turn.specs.Steps.{AddsEntry};
-    ghost use Rattle.turns_at_once.specs.Writing.{StaysSound};
+    ghost use Rattle.turns_at_once.specs.Writing.{AddsEntry, StaysSound};
 
     /// Adds one entry of the sender, or says that it could not.
     fn write(&mut self, sender: u16) -> bool
@@ -50,6 +49,7 @@ impl Book {
     /// An empty book.
     pub fn new(alloc: Global) -> Book
         ensures whole { (told_by result).broken ≢ true }
+        ensures clean { (told_by result).refused ≡ [] }
     {
         Book {
             writers: Vec::new(alloc),

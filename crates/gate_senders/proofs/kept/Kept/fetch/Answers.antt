@@ -16,13 +16,13 @@ loop-number-preserved g c =
     let made = c.args.self.now.told.history.made in
     let k = at.number - from in
     let there : slice_get (payloads made) (at.number - 1) ≡ Some c.in_ok-entry.entry.payload =
-    sym (ap (λ (h : History). slice_get (payloads h.made) (at.number - 1)) at.invariant.same) ∙ c.in_ok-entry.ensures.payload in
+    sym (ap (λ (h : History). slice_get (payloads h.made) (at.number - 1)) at.invariant.same.0) ∙ c.in_ok-entry.ensures.payload in
     let more : numbered_from from (take (suc k) (drop (from - 1) made)) ≡ numbered_from from (take k (drop (from - 1) made)) ++ c.in_ok-entry.entry ∷ [] =
     message_on from k (drop (from - 1) made) c.in_ok-entry.entry (omega (arith, c.in_ok-entry.ensures.number, at.auto.number))
     (in_rest (from - 1) k (at.number - 1) made c.in_ok-entry.entry.payload (omega (arith, c.requires.least, at.auto.number)) there) in
     let next : suc k ≡ at.number + 1 - from = omega (arith, at.auto.number) in
     record {
-      same = c.stable.ensures.same ∙ at.invariant.same;
+      same = (c.stable.ensures.same.0 ∙ at.invariant.same.0, c.stable.ensures.same.1 ∙ at.invariant.same.1);
       given = c.in-Ok.ensures.items ∙ ap (λ (ms : List Numbered). ms ++ c.in_ok-entry.entry ∷ []) at.invariant.given ∙ sym more
           ∙ ap (λ j. numbered_from from (take j (drop (from - 1) made))) next;
       sizes = subst (All (λ (m : Numbered). IsPayload m.payload)) (sym c.in-Ok.ensures.items)

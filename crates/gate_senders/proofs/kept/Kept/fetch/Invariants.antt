@@ -8,7 +8,7 @@ use Rattle.gate_senders.proofs.kept.Kept.fetch.Given as goal
 
 abbrev pub invariant-loop-number : goal.invariant-loop-number
 invariant-loop-number g l = record {
-  same : (told_by l.self).history ≡ (told_by l.fn.self).history;
+  same : ((told_by l.self).history ≡ (told_by l.fn.self).history) × ((told_by l.self).refused ≡ (told_by l.fn.self).refused);
   given : l.list.items ≡ numbered_from l.from (take (l.number - l.from) (drop (l.from - 1) (told_by l.fn.self).history.made));
   sizes : All (λ (m : Numbered). IsPayload m.payload) l.list.items;
   sound : StaysSound (told_by l.fn.self) (told_by l.self);

@@ -1,7 +1,7 @@
--- `of` makes a value of no bytes, whose history is one that the argument allows.
-use Rattle.std.proofs.Common.{[], ◌∷◌, refl}
+-- `of` makes a value of no bytes, whose history and refused records are some that the argument allows.
+use Rattle.std.proofs.Common.{List, [], ◌∷◌, refl}
 use Rattle.std.proofs.Math.Logic.{∥∥₁_elim}
-use Rattle.session_model.specs.Journal.{History}
+use Rattle.session_model.specs.Journal.{History, OutboxRecord}
 use mir.Syntax.{a_type, dcons, dnil, named}
 use mir.Val.{Val, vptr, vstruct, vcons, vnil}
 use mir.MapTy.{inst_fn}
@@ -43,13 +43,13 @@ of_spec 𝓤 𝓛 𝓜 𝓡 wired T Y L LY g d _ =
     (λ κs. (shr_vals, tt)) (λ κs. (shr_Tells (named 0) κs.0 R, tt)) (λ κs qs bounds a gh are.
     let p : Val = vptr a.0.ref_ptr.0 a.0.ref_ptr.1 in
     let y : (walk_of 𝓛 En hs c).Ghost = ((κs, qs, bounds, a, (p ∷ [], tt)), gh) in let Post : Val → SProp 𝓤 = (walk_of 𝓛 En hs c).post y in
-    let Found : Type 0 = (h : History) × g.says a.0.now h in
+    let Found : Type 0 = (h : History) × (refused : List OutboxRecord) × g.says a.0.now h refused in
     qed 𝓛 ((raw (alive 𝓛 En.signature κs qs) ⊛ ‵ (owns (types_at En.signature.params κs) a y.0.4)) ∷ raw (fact 𝓤 (κs.1.0 ⊑ T.lives)) ∷ raw (fact 𝓤 (κs.1.1.0 ⊑ Y.lives)) ∷ raw (fact 𝓤 ∥ Found ∥₁) ∷ []) ∵ split ! $ move ! (4 ∷ []) $
     heard ! _ (λ there. keep ! (0 ∷ []) $
     use0 𝓛 (some (λ (_ : Found). ‵ ftrue)) (record { apply = λ m e. ∥∥₁_elim there squash₁ (λ f. ∣ (f, e) ∣₁) }) $ pick ! (λ found. drop ! $
-    let r : Told.the_row.Denot = record { marker = record {}; history = found.0 } in let F : Fml = Told.the_row.own_val r (token ∷ []) in
+    let r : Told.the_row.Denot = record { marker = record {}; history = found.0; refused = found.1 } in let F : Fml = Told.the_row.own_val r (token ∷ []) in
     enter ! 𝓣.C 𝓣.Λ fn (p ∷ []) Post $ alloc_all ! (λ l. pass_all ! refl ((tt, tt), tt) $
     sets ! (agg ! (no_more !)) refl (tt, tt) $ sets ! (agg ! (and_then ! (get ! refl) (no_more !))) refl (tt, (tt, tt)) $
-    use0 𝓛 (raw (fact 𝓤 (g.says a.0.now found.0))) (fact_i 𝓤 (g.says a.0.now found.0) (emp 𝓤) found.1) $
+    use0 𝓛 (raw (fact 𝓤 (g.says a.0.now found.0 found.1))) (fact_i 𝓤 (g.says a.0.now found.0 found.1) (emp 𝓤) found.2) $
     use0 𝓛 (‵ F) (makes_shadow 𝓛 F ((λ vss. (tt, ((λ uss. (tt, tt)), tt))), tt) (((vstruct vnil ∷ [], tt), (refl, ((tt, (refl, tt)), tt))), tt)) $ nothing ! $ nothing ! $ fjoin ! $
     returns ! (look_at ! 0 refl) $ free_all ! refl $ keep ! (3 ∷ 0 ∷ 1 ∷ 2 ∷ []) $ by ! (leaves 𝓛 En hs c y token r (tt, tt) (tt, tt))))))

@@ -1,9 +1,10 @@
 use Rattle.std.proofs.Common.{rules, ◌≡◌, ◌≤◌, [], ◌∷◌, Some, sym, ap, ◌∙◌, subst}
 use Rattle.atomic_table.specs.Table.{rest}
 use Rattle.gate_turn.specs.Views.{View, Account, part_of, counted, gave}
-use Rattle.gate_turn.specs.Rule.{Sound}
+use Rattle.gate_turn.specs.Rule.{StaysBroken, Sound}
 use Rattle.gate_turn.specs.Steps.{Returns}
 use Rattle.gate_turn.proofs.Puts.{one_view}
+use Rattle.gate_turn.proofs.Layers.{AllOrNone, refuses_all}
 use Rattle.gate_turn.proofs.Moves.{publishes, gives_on}
 use Rattle.gate_turn.proofs.lock.TurnLock.give_on.Goals as goal
 
@@ -35,6 +36,8 @@ fetch_add-served-requires g c =
           (stored.1 ∙ slot)
           (ap (λ (v : View). (part_of v).held) view)
           (subst (λ (v : View). (part_of v).faults ≤ a.faults) (sym view) c.requires.returns.faults)
+          (subst (λ (v : View). AllOrNone (part_of v).refused a.refused) (sym view) (refuses_all _ a c.requires.returns.refuses))
+          (subst (λ (v : View). StaysBroken (part_of v).broken (part_of v).refused a.broken a.refused) (sym view) c.requires.returns.stays)
           (subst (λ (v : View). Sound (part_of v).opening a) (sym view) c.requires.returns.sound),
     )
 

@@ -10,4 +10,4 @@ new-requires g c =
     let tells = g.T.Logged.tells in
     subst (λ (z : g.row.T.Denot × List (Option g.row.T.Denot)). Turns tells (tells z.0) (opening {V = View} (0 ∷ 0 ∷ c.length-count.result ∷ 0 ∷ []) z.1 (new_part 1 1 (tells z.0) ∷ [])))
     (λ i. (sym c.of-key.ensures i, sym c.in_ok-slots.ensures.made i))
-    (begins tells c.args.value c.length-count.result c.length-count.ensures.exact c.requires.whole)
+    (begins tells c.args.value c.length-count.result c.length-count.ensures.exact c.requires.whole c.requires.clean)

@@ -1,17 +1,11 @@
-use Rattle.std.proofs.Common.{rules, ◌≡◌, [], ◌∷◌, None, sym, ap, ◌∙◌, subst}
+use Rattle.std.proofs.Common.{rules, ap, ◌∙◌}
 use Rattle.gate_turn.specs.Views.{View, part_of}
 use Rattle.gate_turn.proofs.Puts.{one_view}
 use Rattle.gate_turn.proofs.Moves.{draws, serves}
 use Rattle.gate_turn.proofs.lock.TurnLock.wait_turn.Goals as goal
 
 pub fetch_add-ticket-requires : goal.fetch_add-ticket-requires
-fetch_add-ticket-requires g c =
-    let view = sym (ap (λ m. m.0) c.approach.ensures.me) in (
-      c.approach.ensures.own ∙ c.requires.own,
-      search rules,
-      draws g.T.Logged.tells _ _ _ _ (subst (λ (v : View). v ≡ part_of v ∷ []) view c.requires.one) (subst (λ (v : View). (part_of v).ticket ≡ None) view c.requires.ticket)
-          (subst (λ (v : View). (part_of v).held ≡ None) view c.requires.held),
-    )
+fetch_add-ticket-requires g c = (c.requires.own, search rules, draws g.T.Logged.tells _ _ _ _ c.requires.one c.requires.ticket c.requires.held)
 
 pub load-serving-requires : goal.load-serving-requires
 load-serving-requires g c = let i = c.loop.invariant in (
