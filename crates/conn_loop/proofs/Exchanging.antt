@@ -1,6 +1,6 @@
 -- A turn's receive, work and sending, put together.
 use Rattle.std.proofs.Common.{◌≡◌, inl, inr, ◌<◌, ℕ, Bool, true, List, [], ◌++◌, ◌≤◌, length, Option, Some, None, Result, Ok, Err, refl, sym, ap, subst, ◌∙◌, arith, append-nil}
-use Rattle.std.specs.Prelude.{◌||◌, IsSome, ◌⊎◌, ◌≢◌, OnOk, IfOk, IfErr}
+use Rattle.std.specs.Prelude.{IsSome, ◌⊎◌, ◌≢◌, OnOk, IfOk, IfErr}
 use Rattle.gw_links.specs.Links.{LinkTold, Carried, Moved}
 use Rattle.gw_links.specs.declared.link.Got.{Got}
 use Rattle.gw_links.proofs.Moving.{moved_more}
@@ -15,10 +15,9 @@ use Rattle.conn_turns.specs.declared.answer.TurnEnd.{TurnEnd}
 use Rattle.conn_turns.specs.declared.answer.TurnEnd.TheVariants as ends
 use Rattle.conn_turns.specs.Lines.{Line}
 use Rattle.conn_turns.specs.Frames.{added, told}
-use Rattle.conn_turns.specs.Turns.{Work, is_end}
+use Rattle.conn_turns.specs.Turns.{Work}
 use Rattle.conn_turns.specs.Exact.{Served, line_ticked}
 use Rattle.conn_steps.specs.Settling.{Gains}
-use Rattle.conn_steps.proofs.Rooms.{gains_none, refuses_none}
 use Rattle.fixp_shake.specs.declared.config.EndConfig.{EndConfig}
 use Rattle.fixp_replies.specs.declared.facts.Facts.{Facts}
 use Rattle.gate_turn.specs.Views.{Part}
@@ -27,7 +26,7 @@ use Rattle.conn_steps.specs.Agreeing.{Agrees}
 use Rattle.conn_loop.specs.Conn.{answer_of, GoesOn, HasSeen, KeepsAll, MayServe}
 use Rattle.conn_loop.specs.Moving.{ReceivedOnce, SentOnce, IsLossOf}
 use Rattle.conn_loop.proofs.Working.{seen_same}
-use Rattle.conn_loop.specs.Turned.{received_by, ServedFrames, CutShort, DidWork, CutTurn, Exchanged, DidTurn, Leaves}
+use Rattle.conn_loop.specs.Turned.{received_by, ServedFrames, DidWork, Exchanged, CutWork, DidTurn, CutTurn, Leaves}
 use Rattle.conn_steps.specs.Ends.{taking_end}
 use Rattle.conn_loop.specs.Live.{LiveEnd}
 
@@ -100,6 +99,7 @@ module _ {J : Type 0} {G : Ghosts J} where
       record {
         work = w;
         at = y.at;
+        bytes = x.bytes;
         received = x.found;
         behind = mid;
         served = record {
@@ -132,14 +132,6 @@ module _ {J : Type 0} {G : Ghosts J} where
             (moved_more old.told told_between new.told old.carried carried_between new.carried x.received [] [] z.sent x.moved z.moved);
       }
 
-  pub cut_turn : (now : ℕ) (eager : Bool) (told_before told_between : Option LinkTold) (carried carried_between : Option Carried) (l r : Line) (got : Option Got) (box since : Inbox J G) (news newer : List NewsItem) (fault : TurnFault)
-      → ReceivedOnce eager told_before told_between carried carried_between l r got → CutShort now r box since news newer fault → CutTurn now l box since news newer fault
-  cut_turn now eager told_before told_between carried carried_between l r got box since news newer fault x y = record {
-    received = x.received;
-    over = l.over || is_end got;
-    cut = subst (λ (k : Line). CutShort now k box since news newer fault) x.line y;
-  }
-
   -- the inbox agrees with a machine that knows the same
   pub agrees_same : (m n : State) (box : Inbox J G) → n.config ≡ m.config → n.most ≡ m.most → n.facts ≡ m.facts → Agrees m box → Agrees n box
   agrees_same m n box config most facts a = record {
@@ -151,23 +143,10 @@ module _ {J : Type 0} {G : Ghosts J} where
   }
 
   -- a turn that had no memory to begin did nothing
-  pub cut_none : (now : ℕ) (l : Line) (box : Inbox J G) (newer : List NewsItem) (fault : TurnFault) → newer ≡ [] → fault ≡ faults.Memory → CutTurn now l box box [] newer fault
-  cut_none now l box newer fault none memory = record {
-    received = [];
-    over = l.over;
-    cut = record {
-      frames = [];
-      few = omega arith;
-      taken = tt;
-      refused = None;
-      next = tt;
-      refuses = refuses_none box box [] (gains_none box box refl);
-      past = λ entries bytes e. cc;
-      recorded = tt;
-      of_inbox = tt;
-      news_are = none;
-    };
-  }
+  pub cut_none : (now : ℕ) (eager : Bool) (old new : LiveEnd J G) → new.told ≡ old.told → new.carried ≡ old.carried → new.seen ≡ old.seen → new.line ≡ old.line → new.box ≡ old.box → new.news ≡ old.news
+      → CutTurn now eager old new faults.Memory
+  cut_none now eager old new told carried seen line box news =
+      inl (refl, λ i. record { told = told i; carried = carried i; seen = seen i; line = line i; box = box i; news = news i })
 
   pub only_sent : (now n : ℕ) (eager : Bool) (old new : LiveEnd J G) (l : Line) (result : Result TurnEnd TurnFault) → now ≡ n → l ≡ line_ticked old.line now
       → (old.line.machine.unsent ≢ []) ⊎ IsSome l.machine.ending → SentOnce old.told new.told old.carried new.carried l new.line result
@@ -193,12 +172,17 @@ module _ {J : Type 0} {G : Ghosts J} where
         (subst (λ (ns : List NewsItem). Exchanged now eager (record old { line = l; news = ns }) new result) none x));
   })
 
-  pub cut_as : (now n : ℕ) (old l : Line) (box since : Inbox J G) (news newer : List NewsItem) (r : Result TurnEnd TurnFault) → now ≡ n → l ≡ line_ticked old now → news ≡ []
-      → IfErr r (λ fault. (fault ≡ faults.Link → ⊥) → CutTurn now l box since news newer fault) → IfErr r (λ fault. (fault ≡ faults.Link → ⊥) → CutTurn n (line_ticked old n) box since [] newer fault)
-  cut_as now n old l box since news newer (Ok end) is ticks none h = tt
-  cut_as now n old l box since news newer (Err fault) is ticks none h = λ other.
-      subst (λ (k : ℕ). CutTurn k (line_ticked old k) box since [] newer fault) is
-      (subst (λ (y : Line). CutTurn now y box since [] newer fault) ticks (subst (λ (ns : List NewsItem). CutTurn now l box since ns newer fault) none (h other)))
+  pub cut_as : (now n : ℕ) (eager : Bool) (old new : LiveEnd J G) (l : Line) (news : List NewsItem) (r : Result TurnEnd TurnFault) → now ≡ n → l ≡ line_ticked old.line now
+      → old.line.machine.unsent ≡ [] → l.machine.ending ≡ None → news ≡ old.news
+      → IfErr r (λ fault. (fault ≡ faults.Link → ⊥) → CutWork now eager (record old { line = l; news = news }) new fault) → IfErr r (λ fault. (fault ≡ faults.Link → ⊥) → CutTurn n eager old new fault)
+  cut_as now n eager old new l news (Ok end) is ticks idle goes none h = tt
+  cut_as now n eager old new l news (Err fault) is ticks idle goes none h = λ other. inr (record {
+    idle = idle;
+    unended = subst (λ (k : ℕ). (line_ticked old.line k).machine.ending ≡ None) is (subst (λ (y : Line). y.machine.ending ≡ None) ticks goes);
+    work = subst (λ (k : ℕ). CutWork k eager (record old { line = line_ticked old.line k }) new fault) is
+        (subst (λ (y : Line). CutWork now eager (record old { line = y }) new fault) ticks
+        (subst (λ (ns : List NewsItem). CutWork now eager (record old { line = l; news = ns }) new fault) none (h other)));
+  })
 
   -- what a machine keeps over the sending, or the loss, of its link
   pub leaves_of : (now : ℕ) (m n : State) (p : Part) (box : Inbox J G) → m.begun ≡ true → m.moment ≤ now → now < 17592186044416 → m.facts.recorded.sent < 1099511627776 → length m.config.credentials ≤ 2048

@@ -26,7 +26,7 @@ abbrev ends_at : ℕ → ℕ → Line → List Call
 ends_at now count l = bad_calls now (unframed_at count l) ++ (end_calls (is_link_over l) ++ turn_done now ∷ [])
 
 pub looks_self : (p : Part) → Looks p p
-looks_self p = record { seen = begins_self p.seen; faults = omega arith; number = refl; made = refl; opening = refl; mine = refl; ended = refl }
+looks_self p = record { seen = begins_self p.seen; faults = omega arith; number = refl; made = refl; opening = refl; mine = refl; ended = refl; lost = refl }
 
 pub looks_on : (p q r : Part) → Looks p q → Looks q r → Looks p r
 looks_on p q r a b = record {
@@ -37,6 +37,7 @@ looks_on p q r a b = record {
   opening = b.opening ∙ a.opening;
   mine = b.mine ∙ a.mine;
   ended = b.ended ∙ a.ended;
+  lost = b.lost ∙ a.lost;
 }
 
 -- a pass that has seen enough of one machine has of another that was sent as much, and was told the same finish

@@ -77,7 +77,7 @@ pub record SameInbox (old new : State) : Type 0 where
   pub untold : new.untold ≡ old.untold
   pub ending : new.ending ≡ old.ending
 
--- the new one is the same pass, which made nothing: what it has seen begins with what it had seen, and its count of faults did not fall
+-- the new one is the same pass, which made and lost nothing: what it has seen begins with what it had seen, and its count of faults did not fall
 pub record Looks (p q : Part) : Type 0 where
   pub seen : BeginsHistory p.seen q.seen
   pub faults : p.faults ≤ q.faults
@@ -86,6 +86,7 @@ pub record Looks (p q : Part) : Type 0 where
   pub opening : q.opening ≡ p.opening
   pub mine : q.mine ≡ p.mine
   pub ended : q.ended ≡ p.ended
+  pub lost : q.lost ≡ p.lost
 
 -- what a turn that did not fail answers of a machine
 abbrev pub answer_of : Option Ending → TurnEnd

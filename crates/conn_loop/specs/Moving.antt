@@ -1,6 +1,7 @@
 -- What a turn receives and sends over its link (this project's profile).
 use Rattle.std.specs.Prelude.{◌≡◌, ℕ, ◌+◌, ◌<◌, ◌||◌, Bool, false, List, [], ◌++◌, length, Option, Some, None, IfSome, Result, Ok, Err, true}
 use mathlib.Core.List.{IsPrefix}
+use Rattle.sofh_frame.specs.Framing.{IsBytes}
 use Rattle.gw_links.specs.declared.link.Got.{Got}
 use Rattle.gw_links.specs.Links.{LinkTold, Carried, Moved}
 use Rattle.fixp_replies.specs.declared.act.Ending.TheVariants as endings
@@ -13,9 +14,10 @@ use Rattle.conn_turns.specs.Turns.{is_end, sending_calls}
 use Rattle.conn_turns.specs.Exact.{Received, most_held}
 use Rattle.conn_loop.specs.Conn.{answer_of}
 
--- what was received stands behind what was held, and it is known whether the link has given its end
+-- bytes that were received stand behind what was held, and it is known whether the link has given its end
 pub record ReceivedOnce (eager : Bool) (told told' : Option LinkTold) (carried carried' : Option Carried) (old new : Line) (got : Option Got) : Type 0 where
   pub received : List ℕ
+  pub bytes : IsBytes received
   pub line : new ≡ record old { held = old.held ++ received; over = old.over || is_end got }
   pub found : (room : ℕ) → room + length old.held ≡ most_held → Received eager told room received got
   pub moved : Moved told told' carried carried' received []

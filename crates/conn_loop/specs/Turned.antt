@@ -1,6 +1,8 @@
 -- What a turn did, and what it leaves (this project's profile).
 use Rattle.std.specs.Prelude.{◌≡◌, ◌≢◌, ◌⊎◌, ℕ, ◌+◌, ◌<◌, ◌≤◌, ◌||◌, Bool, false, List, [], ◌∷◌, ◌++◌, length, Option, Some, None, IsSome, IfSome, ◌^◌, true, Result, Ok}
 use mathlib.Core.List.{IsPrefix}
+use Rattle.sofh_frame.specs.Framing.{IsBytes}
+use Rattle.gw_links.specs.declared.link.Got.{Got}
 use Rattle.gw_links.specs.Links.{Moved}
 use Rattle.session_model.specs.Inbox.{InboxRecord}
 use Rattle.session_model.specs.Journal.{History}
@@ -24,7 +26,7 @@ use Rattle.gate_turn.specs.Views.{Part}
 use Rattle.conn_steps.specs.Agreeing.{Agrees}
 use Rattle.conn_loop.specs.Conn.{HasSeen, answer_of}
 use Rattle.conn_loop.specs.Live.{LiveEnd}
-use Rattle.conn_loop.specs.Moving.{SentOnce, IsLossOf}
+use Rattle.conn_loop.specs.Moving.{ReceivedOnce, SentOnce, IsLossOf}
 
 -- what a stop may leave of what the act of a frame would have added that was refused, if one was
 abbrev pub refused_of : TurnFault → ℕ → Line → Option TakenFrame → List InboxRecord
@@ -74,6 +76,7 @@ module _ {J : Type 0} {G : Ghosts J} where
   pub record DidWork (now : ℕ) (eager : Bool) (old new : LiveEnd J G) (result : Result TurnEnd TurnFault) : Type 0 where
     pub work : Work
     pub at : work.now ≡ now
+    pub bytes : IsBytes work.received
     pub received : (room : ℕ) → room + length old.line.held ≡ most_held → Received eager old.told room work.received work.got
     pub behind : Line
     pub served : Served old.seen new.seen (received_by old.line work) behind work
@@ -100,11 +103,12 @@ module _ {J : Type 0} {G : Ghosts J} where
   abbrev pub Exchanged : (now : ℕ) (eager : Bool) (old new : LiveEnd J G) (result : Result TurnEnd TurnFault) → Type 0
   Exchanged now eager old new result = DidWork now eager old new result ⊎ LostLink old new result
 
-  -- a turn was cut short once bytes were received
-  pub record CutTurn (now : ℕ) (l : Line) (box box' : Inbox J G) (news news' : List NewsItem) (fault : TurnFault) : Type 0 where
-    pub received : List ℕ
-    pub over : Bool
-    pub cut : CutShort now (received_on l received over) box box' news news' fault
+  -- behind its tick a turn received once, and then it was cut short behind frames; it sent nothing
+  pub record CutWork (now : ℕ) (eager : Bool) (old new : LiveEnd J G) (fault : TurnFault) : Type 0 where
+    pub got : Option Got
+    pub line : Line
+    pub receives : ReceivedOnce eager old.told new.told old.carried new.carried old.line line got
+    pub cut : CutShort now line old.box new.box old.news new.news fault
 
   -- A turn only sent: something was unsent at its start, or its tick ended the connection. The inbox, the pass and the news are as
   -- they were, and it answers as what it sent says
@@ -124,6 +128,20 @@ module _ {J : Type 0} {G : Ghosts J} where
   -- what a turn did that was not cut short: it only sent, or it did more
   abbrev pub DidTurn : (now : ℕ) (eager : Bool) (old new : LiveEnd J G) (result : Result TurnEnd TurnFault) → Type 0
   DidTurn now eager old new result = OnlySent now old new result ⊎ DidMore now eager old new result
+
+  -- a turn had no memory to begin, and all is as it was
+  abbrev pub NotBegun : (old new : LiveEnd J G) → TurnFault → Type 0
+  NotBegun old new fault = (fault ≡ faults.Memory) × (new ≡ old)
+
+  -- a turn was cut short in its work: nothing was unsent, and its tick left the connection open
+  pub record CutMore (now : ℕ) (eager : Bool) (old new : LiveEnd J G) (fault : TurnFault) : Type 0 where
+    pub idle : old.line.machine.unsent ≡ []
+    pub unended : (run old.line.machine (first_calls now)).ending ≡ None
+    pub work : CutWork now eager (record old { line = line_ticked old.line now }) new fault
+
+  -- what a turn did that was cut short: it had not begun, or its work was cut short
+  abbrev pub CutTurn : (now : ℕ) (eager : Bool) (old new : LiveEnd J G) → TurnFault → Type 0
+  CutTurn now eager old new fault = NotBegun old new fault ⊎ CutMore now eager old new fault
 
   -- what a turn that did not give the connection up leaves, also where the connection has ended: the next one may begin, and the
   -- inbox and the pass go on to agree with the machine

@@ -45,6 +45,8 @@ impl Conn {
         requires over { (line_of self.old).machine.begun ≡ true → IsSome (line_of self.old).machine.ending }
         requires time { (line_of self.old).machine.moment < 2 ^ 44 }
         ensures begun { line_of self.new ≡ line_begun (line_of self.old) (max (C.last clock.new) (line_of self.old).machine.moment) }
+        ensures limit { max (C.last clock.new) (line_of self.old).machine.moment < 2 ^ 44 }
+        ensures never_falls { C.last clock.old ≤ C.last clock.new }
         ensures goes { length (line_of self.old).machine.config.credentials ≤ 2048 → (line_of self.old).machine.facts.recorded.sent < 2 ^ 40 → GoesOn (line_of self.new).machine }
         ensures recorded { (line_of self.new).machine.facts.recorded ≡ (line_of self.old).machine.facts.recorded }
         ensures config { (line_of self.new).machine.config ≡ (line_of self.old).machine.config }
@@ -86,6 +88,7 @@ impl Conn {
         requires { (line_of self.now).machine.moment < 2 ^ 44 }
         ensures now { result ≡ max (C.last clock.new) (line_of self.now).machine.moment }
         ensures limit { result < 2 ^ 44 }
+        ensures never_falls { C.last clock.old ≤ C.last clock.new }
         ensures told { C.told clock.new ≡ C.told clock.old }
     {
         clock.now().max(self.end.moment())

@@ -11,11 +11,10 @@ ghost use Rattle.gate_senders.specs.Gate.{IsPassAt};
 ghost use Rattle.conn_turns.specs.News.{items_of};
 ghost use Rattle.conn_turns.specs.declared.answer.TurnFault.TheVariants as faults;
 ghost use Rattle.conn_turns.specs.declared.answer.TurnEnd.TheVariants as ends;
-ghost use Rattle.conn_turns.specs.Exact.{line_ticked};
 ghost use Rattle.conn_steps.specs.Settling.{SameKind};
 ghost use Rattle.conn_steps.specs.Agreeing.{IsInTurn, Agrees};
 ghost use Rattle.conn_loop.specs.Conn.{GoesOn, HasSeen, Looks};
-ghost use Rattle.conn_loop.specs.Turned.{Exchanged, CutTurn, DidTurn, Leaves};
+ghost use Rattle.conn_loop.specs.Turned.{Exchanged, CutWork, DidTurn, CutTurn, Leaves};
 ghost use Rattle.conn_loop.specs.Live.{live_end};
 
 use crate::conn::Conn;
@@ -55,7 +54,7 @@ impl Conn {
         ensures looks { Looks (known pass.old) (known pass.new) }
         ensures did { OnOk result (Exchanged now L.eager (live_end (L.told link.old) (L.carried link.old) (known pass.old).seen (line_of self.old) inbox.old (items_of news.old)) (live_end (L.told link.new) (L.carried link.new) (known pass.new).seen (line_of self.new) inbox.new (items_of news.new)) result) }
         ensures lost { result ≡ Err faults.Link → Exchanged now L.eager (live_end (L.told link.old) (L.carried link.old) (known pass.old).seen (line_of self.old) inbox.old (items_of news.old)) (live_end (L.told link.new) (L.carried link.new) (known pass.new).seen (line_of self.new) inbox.new (items_of news.new)) result }
-        ensures cut { IfErr result (λ fault. (fault ≡ faults.Link → ⊥) → CutTurn now (line_of self.old) inbox.old inbox.new (items_of news.old) (items_of news.new) fault) }
+        ensures cut { IfErr result (λ fault. (fault ≡ faults.Link → ⊥) → CutWork now L.eager (live_end (L.told link.old) (L.carried link.old) (known pass.old).seen (line_of self.old) inbox.old (items_of news.old)) (live_end (L.told link.new) (L.carried link.new) (known pass.new).seen (line_of self.new) inbox.new (items_of news.new)) fault) }
         ensures answer { IfOk result (λ end. end ≡ answer_of (line_of self.new).machine.ending) }
         ensures goes { result ≡ Ok ends.Go → GoesOn (line_of self.new).machine }
         ensures leaves { OnOk result (Leaves (line_of self.new).machine (known pass.new) inbox.new) }
@@ -109,7 +108,8 @@ impl Conn {
         ensures looks { Looks (known pass.old) (known pass.new) }
         ensures did { OnOk result (DidTurn (max (C.last clock.new) (line_of self.old).machine.moment) L.eager (live_end (L.told link.old) (L.carried link.old) (known pass.old).seen (line_of self.old) inbox.old []) (live_end (L.told link.new) (L.carried link.new) (known pass.new).seen (line_of self.new) inbox.new (items_of news.new)) result) }
         ensures lost { result ≡ Err faults.Link → DidTurn (max (C.last clock.new) (line_of self.old).machine.moment) L.eager (live_end (L.told link.old) (L.carried link.old) (known pass.old).seen (line_of self.old) inbox.old []) (live_end (L.told link.new) (L.carried link.new) (known pass.new).seen (line_of self.new) inbox.new (items_of news.new)) result }
-        ensures cut { IfErr result (λ fault. (fault ≡ faults.Link → ⊥) → CutTurn (max (C.last clock.new) (line_of self.old).machine.moment) (line_ticked (line_of self.old) (max (C.last clock.new) (line_of self.old).machine.moment)) inbox.old inbox.new [] (items_of news.new) fault) }
+        ensures cut { IfErr result (λ fault. (fault ≡ faults.Link → ⊥) → CutTurn (max (C.last clock.new) (line_of self.old).machine.moment) L.eager (live_end (L.told link.old) (L.carried link.old) (known pass.old).seen (line_of self.old) inbox.old []) (live_end (L.told link.new) (L.carried link.new) (known pass.new).seen (line_of self.new) inbox.new (items_of news.new)) fault) }
+        ensures limit { max (C.last clock.new) (line_of self.old).machine.moment < 2 ^ 44 }
         ensures answer { IfOk result (λ end. end ≡ answer_of (line_of self.new).machine.ending) }
         ensures goes { result ≡ Ok ends.Go → GoesOn (line_of self.new).machine }
         ensures leaves { OnOk result (Leaves (line_of self.new).machine (known pass.new) inbox.new) }
@@ -124,6 +124,7 @@ impl Conn {
         ensures never_falls { (faults_of inbox.old ≤ faults_of inbox.new) × (L.faults link.old ≤ L.faults link.new) }
         ensures stays { L.place link.new ≡ L.place link.old }
         ensures clock { C.told clock.new ≡ C.told clock.old }
+        ensures ticks { C.last clock.old ≤ C.last clock.new }
     {
         news.clear();
         let now = self.moment(clock);

@@ -1,20 +1,23 @@
 -- Connections of a life one behind another, and how it ends.
-use Rattle.std.proofs.Common.{◌≡◌, ◌⊎◌, inl, inr, ℕ, ◌+◌, ◌-◌, ◌<◌, Bool, true, false, All, List, [], ◌∷◌, ◌++◌, length, Option, Some, None, Result, Ok, Err, refl, sym, ap, subst, ◌∙◌, arith, append-nil, append_assoc, length-append}
+use Rattle.std.proofs.Common.{◌≡◌, ◌⊎◌, inl, inr, ℕ, ◌+◌, ◌-◌, ◌<◌, ◌≤◌, Bool, true, false, All, List, [], ◌∷◌, ◌++◌, length, Option, Some, None, Result, Ok, Err, refl, sym, ap, subst, ◌∙◌, arith, append-nil, append_assoc, length-append}
 use Rattle.std.specs.Prelude.{IsSome, IfSome, IsTrue, is_some}
-use Rattle.std.specs.List.{flat_map}
+use Rattle.std.specs.List.{AllByRecursion, flat_map}
 use Rattle.std.specs.Option.{option_map}
 use Rattle.std.specs.Io.KnownBytes.{Appends}
 use Rattle.std.proofs.KnownBytes.{Appends-nil, Appends-trans}
 use Rattle.std.proofs.lemmas.Bool.{false≢true}
 use Rattle.std.proofs.lemmas.Option.{none-some}
-use Rattle.std.proofs.lemmas.List.Elements.{All-append, All-cons, All-nil}
+use Rattle.std.proofs.lemmas.List.Elements.{All-append, All-cons, All-nil, All-head, All-tail}
 use Rattle.session_model.specs.Journal.{History}
 use Rattle.session_model.specs.Inbox.{InboxRecord}
+use Rattle.session_model.proofs.Lists.{all_append}
 use Rattle.fixp_replies.specs.declared.act.Ending.{Ending}
 use Rattle.fixp_replies.specs.declared.act.Ending.TheVariants as endings
 use Rattle.fixp_machine.specs.Machine.{State, phase_of}
-use Rattle.gw_links.specs.Links.{LinkTold, Carried, HasCarried, CarriedNothing, carry}
+use Rattle.gw_links.specs.Links.{Carried, HasCarried, CarriedNothing, carry}
 use Rattle.gw_links.specs.Dialers.{DialerTold, returned}
+use Rattle.gw_links.specs.declared.link.Link.{Ghosts as LinkGhosts}
+use Rattle.gw_outside.specs.Faults.{HasRisen}
 use Rattle.jr_record.specs.declared.journal.Journal.{Ghosts}
 use Rattle.jr_boxes.specs.declared.inbox.Inbox.{Inbox}
 use Rattle.jr_boxes.specs.Inbox.{limits_of}
@@ -27,18 +30,19 @@ use Rattle.conn_turns.specs.Lines.{Line}
 use Rattle.conn_steps.specs.Settling.{IsPast, Gains, Refuses}
 use Rattle.conn_steps.proofs.Rooms.{gains_none, gains_on, refuses_on, refuses_none}
 use Rattle.conn_loop.specs.Turned.{Leaves}
-use Rattle.turn_laws.specs.Legs.{TurnedLeg, given_in, sent_in, given_on, sent_on}
+use Rattle.turn_laws.specs.Legs.{TurnedLeg, first_line, given_in, sent_in, given_on, sent_on, IsTimelyTurn, IsTimely}
+use Rattle.turn_laws.specs.Made.{TurnAt}
 use Rattle.conn_serve.specs.declared.answer.ServeFault.{ServeFault}
 use Rattle.conn_serve.specs.declared.answer.ServeFault.TheVariants as faults
 use Rattle.conn_serve.specs.declared.answer.LifeEnd.{LifeEnd}
 use Rattle.conn_serve.specs.declared.answer.LifeEnd.TheVariants as ends
 use Rattle.conn_serve.specs.Answers.{end_behind, IsOfConnection}
-use Rattle.conn_serve.specs.Connections.{Connection, HasEnded, AllEnded, ClosesAs, Follows, IsFollowed, adds_of}
+use Rattle.conn_serve.specs.Connections.{LinkSeen, IsOver, ByClock, Connection, turned, HasEnded, AllEnded, ClosesAs, Follows, IsFollowed, AreFollowed, adds_of}
 use Rattle.conn_serve.specs.Lines.{news_lines, close_line, lines_from}
-use Rattle.conn_serve.specs.Causes.{lacks_at, Tells}
+use Rattle.conn_serve.specs.Causes.{lacks_at, Tells, TellsUntil, TellsNews, AreLate, TellsAll}
 use Rattle.conn_serve.specs.Turned.{TurnedOn, GivenUpOn, MayBegin}
-use Rattle.conn_serve.specs.Served.{AllCame, carried_by, IsTold, IsNext, IsNextLink, IsLifeAnswer, lacks_lines, ServedLife, Lived, EndedOne, GaveOneUp, MadeNone, IsRound}
-use Rattle.conn_serve.proofs.Turning.{tells_on, tells_all}
+use Rattle.conn_serve.specs.Served.{AllCame, carried_by, IsTold, IsNext, IsNextLink, IsLifeAnswer, lacks_lines, IsOverBy, ServedLife, ServedOver, Lived, EndedOne, GaveOneUp, MadeNone, IsRound}
+use Rattle.conn_serve.proofs.Turning.{lines_on, tells_all, no_more}
 use Rattle.conn_serve.specs.Moments.{LifeAt, connection_at, life_at}
 
 -- ---- links that come back
@@ -99,15 +103,94 @@ pub adds_append : (cs : List Connection) (x : Connection) → adds_of (cs ++ x �
 adds_append [] x = append-nil x.adds
 adds_append (c ∷ cs) x = ap (λ (l : List InboxRecord). c.adds ++ l) (adds_append cs x) ∙ sym (append_assoc c.adds (adds_of cs) x.adds)
 
+-- each of some connections is timely, and so is one behind them
+timely_append : (cs : List Connection) (x : Connection) → AllByRecursion IsTimely (turned cs) → IsTimely x.leg → AllByRecursion IsTimely (turned (cs ++ x ∷ []))
+timely_append [] x all here = (here, tt)
+timely_append (c ∷ cs) x all here = (all.0, timely_append cs x all.1 here)
+
+-- each was followed: so was each but the last, also with one behind them
+followed_before : (cs : List Connection) (x : Connection) → All IsFollowed cs → AreFollowed (cs ++ x ∷ [])
+followed_before [] x all = tt
+followed_before (c ∷ []) x all = (All-head IsFollowed c [] all, tt)
+followed_before (c ∷ d ∷ cs) x all = (All-head IsFollowed c (d ∷ cs) all, followed_before (d ∷ cs) x (All-tail IsFollowed c (d ∷ cs) all))
+
+followed_all : (cs : List Connection) → All IsFollowed cs → AreFollowed cs
+followed_all [] all = tt
+followed_all (c ∷ []) all = tt
+followed_all (c ∷ d ∷ cs) all = (All-head IsFollowed c (d ∷ cs) all, followed_all (d ∷ cs) (All-tail IsFollowed c (d ∷ cs) all))
+
+-- clocks of connections, with one more behind them, and of a later moment
+clock_on : (a b c : ℕ) (cs : List Connection) (x : Connection) → ByClock a b cs → b ≤ x.link.first.clock → x.link.end.clock ≤ c → ByClock a c (cs ++ x ∷ [])
+clock_on a b c [] x by first end = (omega (arith, by, first), end)
+clock_on a b c (d ∷ cs) x by first end = (by.0, clock_on d.link.end.clock b c cs x by.1 first end)
+
+clock_later : (a b c : ℕ) (cs : List Connection) → ByClock a b cs → b ≤ c → ByClock a c cs
+clock_later a b c [] by later = omega (arith, by, later)
+clock_later a b c (d ∷ cs) by later = (by.0, clock_later d.link.end.clock b c cs by.1 later)
+
+-- a link of a dialer, as it was before and behind a connection
+over_these : {L : Type 0} (G' : LinkGhosts L) (first last : L) (before seen : History) (p q : ℕ) (l new : Line) → IsOver G' (record {
+  eager = G'.eager;
+  first = record { told = G'.told first; carried = G'.carried first; seen = before; clock = p; line = l };
+  end = record { told = G'.told last; carried = G'.carried last; seen = seen; clock = q; line = new };
+  faults_before = G'.faults first;
+  faults_behind = G'.faults last;
+})
+over_these G' first last before seen p q l new = record {
+  before = first;
+  behind = last;
+  eager = refl;
+  told_before = refl;
+  told_behind = refl;
+  carried_before = refl;
+  carried_behind = refl;
+  failed_before = refl;
+  failed_behind = refl;
+}
+
 some_ending : (close : Close) (o : Option Ending) → ClosesAs close o → IsSome o
 some_ending (closes.Ended e) o is = subst (λ (x : Option Ending). IsSome x) (sym is) refl
 some_ending closes.LinkFault o is = subst (λ (x : Option Ending). IsSome x) (sym is) refl
 
-lines_so : (lacking : Bool) (n : ℕ) (out mid_out now_out : Option (List ℕ)) (cs : List Connection) (x : Connection) → n ≡ 1 + length cs → Appends out mid_out (lines_from 1 cs)
-    → Tells lacking mid_out now_out (news_lines x.news ++ close_line n x.close) → Tells lacking out now_out (lines_from 1 (cs ++ x ∷ []))
-lines_so lacking n out mid_out now_out cs x number first later =
-    subst (Tells lacking out now_out) (sym (lines_append 1 cs x))
-    (tells_on lacking out mid_out now_out (lines_from 1 cs) _ first (subst (λ (k : ℕ). Tells lacking mid_out now_out (news_lines x.news ++ close_line k x.close)) number later))
+-- the lines of a connection behind others, of which the late ones are its last
+lines_so : (lacking : Bool) (n : ℕ) (out mid_out now_out : Option (List ℕ)) (cs : List Connection) (x : Connection) (earlier late : List ℕ) → n ≡ 1 + length cs → Appends out mid_out (lines_from 1 cs)
+    → news_lines x.news ++ close_line n x.close ≡ earlier ++ late → AreLate late → TellsUntil lacking mid_out now_out earlier late → TellsAll lacking out now_out (lines_from 1 (cs ++ x ∷ []))
+lines_so lacking n out mid_out now_out cs x earlier late number first are few t = record {
+  earlier = lines_from 1 cs ++ earlier;
+  late = late;
+  are = lines_append 1 cs x ∙ (ap (λ (k : ℕ). lines_from 1 cs ++ (news_lines x.news ++ close_line k x.close)) (sym number)
+      ∙ (ap (λ (ls : List ℕ). lines_from 1 cs ++ ls) are ∙ sym (append_assoc (lines_from 1 cs) earlier late)));
+  few = few;
+  told = record { between = t.between; first = Appends-trans out mid_out t.between (lines_from 1 cs) earlier first t.first; last = t.last };
+}
+
+-- where it ended, the late one is that of its end
+lines_ended : (lacking : Bool) (n : ℕ) (out mid_out now_out : Option (List ℕ)) (cs : List Connection) (x : Connection) → n ≡ 1 + length cs → Appends out mid_out (lines_from 1 cs)
+    → TellsUntil lacking mid_out now_out (news_lines x.news) (close_line n x.close) → TellsAll lacking out now_out (lines_from 1 (cs ++ x ∷ []))
+lines_ended lacking n out mid_out now_out cs x number first t =
+    lines_so lacking n out mid_out now_out cs x (news_lines x.news) (close_line n x.close) number first refl (inr (n, x.close, refl)) t
+
+-- where it was given up, they are those of its last news
+lines_given : (lacking : Bool) (n : ℕ) (out mid_out now_out : Option (List ℕ)) (cs : List Connection) (x : Connection) → n ≡ 1 + length cs → Appends out mid_out (lines_from 1 cs) → x.close ≡ None
+    → TellsNews lacking mid_out now_out x.news → TellsAll lacking out now_out (lines_from 1 (cs ++ x ∷ []))
+lines_given lacking n out mid_out now_out cs x number first unclosed t =
+    lines_so lacking n out mid_out now_out cs x (news_lines t.earlier) (news_lines t.late) number first
+    (ap (λ (o : Option Close). news_lines x.news ++ close_line n o) unclosed ∙ (append-nil (news_lines x.news) ∙ (ap news_lines t.are ∙ lines_on t.earlier t.late))) (inl (t.late, t.few, refl)) t.lines
+
+-- where none may be lacking, all of them are there
+lines_whole : (out now_out : Option (List ℕ)) (lines : List ℕ) → TellsAll false out now_out lines → Appends out now_out lines
+lines_whole out now_out lines t =
+    subst (Appends out now_out) (sym t.are) (Appends-trans out t.told.between now_out t.earlier t.late t.told.first t.told.last)
+
+-- and where none is late
+lines_all : (lacking : Bool) (out now_out : Option (List ℕ)) (lines : List ℕ) → Appends out now_out lines → TellsAll lacking out now_out lines
+lines_all lacking out now_out lines whole = record {
+  earlier = lines;
+  late = [];
+  are = sym (append-nil lines);
+  few = inl ([], omega arith, refl);
+  told = record { between = now_out; first = whole; last = tells_all lacking now_out now_out [] (Appends-nil now_out) };
+}
 
 came_with : (a b c : Option DialerTold) (cs : List Connection) (x : Connection) → AllCame a b (carried_by cs) → AllCame b c (x.carried ∷ []) → AllCame a c (carried_by (cs ++ x ∷ []))
 came_with a b c cs x first later = subst (AllCame a c) (sym (carried_append cs x)) (came_on a b c (carried_by cs) (x.carried ∷ []) first later)
@@ -124,35 +207,53 @@ never_full before after m later ended result entries bytes answer e =
     let given = subst (IsLifeAnswer before after m later ended None) e answer in
     none-some given.1 given.2
 
+-- that its link failed, of a connection that answered that it came to its end so
+pub lost_at : (P : Type 0) (close : Close) (r : Result (Option Close) ServeFault) → r ≡ Ok (Some close) → (r ≡ Ok (Some closes.LinkFault) → P) → close ≡ closes.LinkFault → P
+lost_at P close r is lost e = lost (is ∙ ap (λ (x : Close). Ok (Some x)) e)
+
 module _ {J : Type 0} {G : Ghosts J} where
   pub may_begin : (close : Close) (m : State) (p : Part) (box : Inbox J G) → ClosesAs close m.ending → Leaves m p box → MayBegin m p box
   may_begin close m p box closed l = record { over = λ _. some_ending close m.ending closed; time = l.time; sent = l.sent; credentials = l.credentials; seen = l.seen; agrees = l.agrees }
 
   -- ---- one connection
 
-  pub ended_one : {L : Type 0} (carried_of : L → Option Carried) (first last : L) (told later_told : Option LinkTold) (n : ℕ) (lacking : Bool) (dialed between later : Option DialerTold) (out mid_out now_out : Option (List ℕ)) (before seen : History) (l new : Line) (box since : Inbox J G) (close : Close)
-      → IsNextLink carried_of first dialed between → TurnedOn (connection_at told (carried_of first) out before l box) (connection_at later_told (carried_of last) mid_out seen new since)
-      → later ≡ option_map (returned (carried_of last)) between → ClosesAs close new.machine.ending → Tells lacking mid_out now_out (connection_line n close)
-      → EndedOne n lacking (life_at dialed out before box) (life_at later now_out seen since) l.machine new.machine close
-  ended_one carried_of first last told later_told n lacking dialed between later out mid_out now_out before seen l new box since close next on back closed lines =
+  pub ended_one : {L : Type 0} (G' : LinkGhosts L) (first last : L) (n : ℕ) (lacking : Bool) (dialed between later : Option DialerTold) (out mid_out now_out : Option (List ℕ)) (before seen : History) (clock ticked : ℕ) (l new : Line) (box since : Inbox J G) (close : Close)
+      → IsNextLink G'.carried first dialed between → TurnedOn G'.eager (connection_at (G'.told first) (G'.carried first) out before clock l box) (connection_at (G'.told last) (G'.carried last) mid_out seen ticked new since)
+      → later ≡ option_map (returned (G'.carried last)) between → ClosesAs close new.machine.ending → (close ≡ closes.LinkFault → HasRisen (G'.faults first) (G'.faults last)) → Tells lacking mid_out now_out (connection_line n close)
+      → EndedOne (IsOverBy G' clock ticked) n lacking (life_at dialed out before box) (life_at later now_out seen since) l.machine new.machine close
+  ended_one G' first last n lacking dialed between later out mid_out now_out before seen clock ticked l new box since close next on back closed lost lines =
       let t = on.turned in
       let leg : TurnedLeg = record { moment = on.moment; turns = t.turns; cut = None } in
       let given : given_on leg ≡ flat_map given_in t.turns = ap (flat_map given_in) (append-nil t.turns) in
       let sent : sent_on leg ≡ flat_map sent_in t.turns = ap (flat_map sent_in) (append-nil t.turns) in
+      let began : TurnAt = record { told = G'.told first; carried = G'.carried first; seen = before; clock = on.clock; line = first_line l.machine on.moment } in
+      let behind : TurnAt = record { told = G'.told last; carried = G'.carried last; seen = seen; clock = ticked; line = new } in
       record {
-        connection = record { leg = leg; news = t.news; adds = t.adds; refused = []; wanted = []; close = Some close; carried = carried_of last };
+        connection = record {
+          link = record { eager = G'.eager; first = began; end = behind; faults_before = G'.faults first; faults_behind = G'.faults last };
+          leg = leg;
+          news = t.news;
+          adds = t.adds;
+          refused = [];
+          wanted = [];
+          close = Some close;
+          carried = G'.carried last;
+        };
+        link = (over_these G' first last before seen on.clock ticked (first_line l.machine on.moment) new, on.began.later, omega arith);
         closed = refl;
         ended = record {
           last = new;
           is = record {
-            seen = seen;
+            began = record { seen_is = refl; line = refl; time = on.began.is };
+            behind = behind;
+            line = refl;
             told = t.news;
             added = t.adds;
             turns = t.were;
             grows = begins_self seen;
             cut_told = [];
             cut_added = [];
-            cut = (refl, refl, refl, refl);
+            cut = (refl, refl, refl, refl, no_more behind);
             news = sym (append-nil t.news);
             adds = sym (append-nil t.adds);
           };
@@ -161,26 +262,42 @@ module _ {J : Type 0} {G : Ghosts J} where
           close = close;
           closed = refl;
           ending = closed;
-          carried = subst (λ (g : List ℕ). HasCarried (carried_of last) g (sent_on leg)) (sym given)
-              (subst (HasCarried (carried_of last) (flat_map given_in t.turns)) (sym sent) (carried_all (carried_of first) (carried_of last) _ _ next.fresh t.moved.carries));
+          lost = lost;
+          carried = subst (λ (g : List ℕ). HasCarried (G'.carried last) g (sent_on leg)) (sym given)
+              (subst (HasCarried (G'.carried last) (flat_map given_in t.turns)) (sym sent) (carried_all (G'.carried first) (G'.carried last) _ _ next.fresh t.moved.carries));
         };
+        timely = record { begins = on.began.time; turns = subst (AllByRecursion IsTimelyTurn) (sym (append-nil t.turns)) t.timely };
         gains = t.gains;
-        lines = tells_on lacking out mid_out now_out (news_lines t.news) (connection_line n close) t.lines lines;
-        came = came_so dialed between later (carried_of last) next.told next.left back;
-        tells = λ told. still_tells (carried_of first) (carried_of last) _ _ t.moved.carries (next.tells told);
+        lines = record { between = mid_out; first = t.lines; last = lines };
+        came = came_so dialed between later (G'.carried last) next.told next.left back;
+        tells = λ told. still_tells (G'.carried first) (G'.carried last) _ _ t.moved.carries (next.tells told);
       }
 
-  pub gave_one : {L : Type 0} (carried_of : L → Option Carried) (first : L) (last : Option Carried) (why : Option ServeFault) (dialed between later : Option DialerTold) (out now_out : Option (List ℕ)) (before seen : History) (m : State) (box since : Inbox J G)
-      → IsNextLink carried_of first dialed between → GivenUpOn why out now_out before seen m box since → later ≡ option_map (returned last) between
-      → GaveOneUp why (life_at dialed out before box) (life_at later now_out seen since) m
-  gave_one carried_of first last why dialed between later out now_out before seen m box since next on back =
+  pub gave_one : {L : Type 0} (G' : LinkGhosts L) (first last : L) (why : Option ServeFault) (dialed between later : Option DialerTold) (out now_out : Option (List ℕ)) (before seen : History) (clock ticked : ℕ) (l new : Line) (box since : Inbox J G)
+      → IsNextLink G'.carried first dialed between → GivenUpOn G'.eager why (connection_at (G'.told first) (G'.carried first) out before clock l box) (connection_at (G'.told last) (G'.carried last) now_out seen ticked new since)
+      → later ≡ option_map (returned (G'.carried last)) between → GaveOneUp (IsOverBy G' clock ticked) why (life_at dialed out before box) (life_at later now_out seen since) l.machine
+  gave_one G' first last why dialed between later out now_out before seen clock ticked l new box since next on back =
       let g = on.given_up in
+      let began : TurnAt = record { told = G'.told first; carried = G'.carried first; seen = before; clock = on.clock; line = first_line l.machine on.moment } in
+      let behind : TurnAt = record { told = G'.told last; carried = G'.carried last; seen = seen; clock = ticked; line = new } in
       record {
-        connection = record { leg = record { moment = on.moment; turns = g.turns; cut = g.cut }; news = g.news ++ g.cut_told; adds = g.adds ++ g.cut_added; refused = g.refused; wanted = g.wanted; close = None; carried = last };
+        connection = record {
+          link = record { eager = G'.eager; first = began; end = behind; faults_before = G'.faults first; faults_behind = G'.faults last };
+          leg = record { moment = on.moment; turns = g.turns; cut = g.cut };
+          news = g.news ++ g.cut_told;
+          adds = g.adds ++ g.cut_added;
+          refused = g.refused;
+          wanted = g.wanted;
+          close = None;
+          carried = G'.carried last;
+        };
+        link = (over_these G' first last before seen on.clock ticked (first_line l.machine on.moment) new, on.began.later, omega arith);
         unclosed = refl;
-        last = g.last;
+        last = g.behind.line;
         is = record {
-          seen = g.behind;
+          began = record { seen_is = refl; line = refl; time = on.began.is };
+          behind = g.behind;
+          line = refl;
           told = g.news;
           added = g.adds;
           turns = g.were;
@@ -191,9 +308,12 @@ module _ {J : Type 0} {G : Ghosts J} where
           news = refl;
           adds = refl;
         };
+        timely = record { begins = on.began.time; turns = g.timely };
+        carried = carried_all (G'.carried first) (G'.carried last) _ _ next.fresh g.moved.carries;
         refuses = g.refuses;
         lines = g.lines;
-        came = came_so dialed between later last next.told next.left back;
+        came = came_so dialed between later (G'.carried last) next.told next.left back;
+        tells = λ told. still_tells (G'.carried first) (G'.carried last) _ _ g.moved.carries (next.tells told);
         spent = g.spent;
         cut_short = g.cut_short;
         past = g.past;
@@ -201,33 +321,33 @@ module _ {J : Type 0} {G : Ghosts J} where
 
   -- ---- a round
 
-  pub round_lacking : (n : ℕ) (old new : LifeAt J G) (m m' : State) (close : Close) (fault : ServeFault) (H : Type 0)
-      → ((fault ≡ faults.Output) × H) ⊎ (fault ≡ faults.Memory) → EndedOne n true old new m m' close
-      → IsRound n old new m m' (Err fault)
-  round_lacking n old new m m' close fault H (inl a) e =
-      subst (λ (f : ServeFault). IsRound n old new m m' (Err f)) (sym a.0) (inl (close, e))
-  round_lacking n old new m m' close fault H (inr b) e =
-      subst (λ (f : ServeFault). IsRound n old new m m' (Err f)) (sym b) (inl (close, e))
+  pub round_lacking : (over : LinkSeen → Type 0) (n : ℕ) (old new : LifeAt J G) (m m' : State) (close : Close) (fault : ServeFault) (H : Type 0)
+      → ((fault ≡ faults.Output) × H) ⊎ (fault ≡ faults.Memory) → EndedOne over n true old new m m' close
+      → IsRound over n old new m m' (Err fault)
+  round_lacking over n old new m m' close fault H (inl a) e =
+      subst (λ (f : ServeFault). IsRound over n old new m m' (Err f)) (sym a.0) (inl (close, e))
+  round_lacking over n old new m m' close fault H (inr b) e =
+      subst (λ (f : ServeFault). IsRound over n old new m m' (Err f)) (sym b) (inl (close, e))
 
-  pub round_ended : (n : ℕ) (old new : LifeAt J G) (m m' : State) (close : Close)
-      → EndedOne n false old new m m' close → IsRound n old new m m' (end_behind close)
-  round_ended n old new m m' (closes.Ended endings.Finished) e = e
-  round_ended n old new m m' (closes.Ended (endings.PeerTerminated code)) e = (closes.Ended (endings.PeerTerminated code), tt, e)
-  round_ended n old new m m' (closes.Ended endings.LinkEnded) e = (closes.Ended endings.LinkEnded, tt, e)
-  round_ended n old new m m' (closes.Ended (endings.Rejected template code)) e = e
-  round_ended n old new m m' (closes.Ended (endings.Violation violation)) e = (closes.Ended (endings.Violation violation), tt, e)
-  round_ended n old new m m' closes.LinkFault e = (closes.LinkFault, tt, e)
+  pub round_ended : (over : LinkSeen → Type 0) (n : ℕ) (old new : LifeAt J G) (m m' : State) (close : Close)
+      → EndedOne over n false old new m m' close → IsRound over n old new m m' (end_behind close)
+  round_ended over n old new m m' (closes.Ended endings.Finished) e = e
+  round_ended over n old new m m' (closes.Ended (endings.PeerTerminated code)) e = (closes.Ended (endings.PeerTerminated code), tt, e)
+  round_ended over n old new m m' (closes.Ended endings.LinkEnded) e = (closes.Ended endings.LinkEnded, tt, e)
+  round_ended over n old new m m' (closes.Ended (endings.Rejected template code)) e = e
+  round_ended over n old new m m' (closes.Ended (endings.Violation violation)) e = (closes.Ended (endings.Violation violation), tt, e)
+  round_ended over n old new m m' closes.LinkFault e = (closes.LinkFault, tt, e)
 
-  pub round_given : (n : ℕ) (old new : LifeAt J G) (m m' : State) (fault : ServeFault)
-      → IsOfConnection fault → GaveOneUp (Some fault) old new m → IsRound n old new m m' (Err fault)
-  round_given n old new m m' faults.Output is g = inr g
-  round_given n old new m m' faults.Journal is g = g
-  round_given n old new m m' faults.Dial is g = absurd is
-  round_given n old new m m' (faults.Unfinished phase) is g = absurd is
-  round_given n old new m m' (faults.Rejected template code) is g = absurd is
-  round_given n old new m m' (faults.Full entries bytes) is g = g
-  round_given n old new m m' faults.Turns is g = g
-  round_given n old new m m' faults.Memory is g = inr g
+  pub round_given : (over : LinkSeen → Type 0) (n : ℕ) (old new : LifeAt J G) (m m' : State) (fault : ServeFault)
+      → IsOfConnection fault → GaveOneUp over (Some fault) old new m → IsRound over n old new m m' (Err fault)
+  round_given over n old new m m' faults.Output is g = inr g
+  round_given over n old new m m' faults.Journal is g = g
+  round_given over n old new m m' faults.Dial is g = absurd is
+  round_given over n old new m m' (faults.Unfinished phase) is g = absurd is
+  round_given over n old new m m' (faults.Rejected template code) is g = absurd is
+  round_given over n old new m m' (faults.Full entries bytes) is g = g
+  round_given over n old new m m' faults.Turns is g = g
+  round_given over n old new m m' faults.Memory is g = inr g
 
   made_none : (dialed later : Option DialerTold) (out : Option (List ℕ)) (seen : History) (m : State) (box : Inbox J G) → later ≡ dialed → MadeNone (life_at dialed out seen box) (life_at later out seen box) m m
   made_none dialed later out seen m box same = record {
@@ -238,49 +358,57 @@ module _ {J : Type 0} {G : Ghosts J} where
     same_box = gains_none box box refl;
   }
 
-  pub round_none : {L : Type 0} (carried_of : L → Option Carried) (n : ℕ) (dialed later : Option DialerTold) (out : Option (List ℕ)) (seen : History) (m : State) (box : Inbox J G) (fault : ServeFault)
-      → IsNext carried_of dialed later (Err fault) → ((phase : _) → fault ≡ faults.Unfinished phase → phase ≡ phase_of m) → IsRound n (life_at dialed out seen box) (life_at later out seen box) m m (Err fault)
-  round_none carried_of n dialed later out seen m box faults.Output next phase_is = absurd next
-  round_none carried_of n dialed later out seen m box faults.Journal next phase_is = absurd next
-  round_none carried_of n dialed later out seen m box faults.Dial next phase_is = made_none dialed later out seen m box next
-  round_none carried_of n dialed later out seen m box (faults.Unfinished phase) next phase_is = (made_none dialed later out seen m box next.0, phase_is phase refl, next.1)
-  round_none carried_of n dialed later out seen m box (faults.Rejected template code) next phase_is = absurd next
-  round_none carried_of n dialed later out seen m box (faults.Full entries bytes) next phase_is = absurd next
-  round_none carried_of n dialed later out seen m box faults.Turns next phase_is = absurd next
-  round_none carried_of n dialed later out seen m box faults.Memory next phase_is = absurd next
+  pub round_none : {L : Type 0} (carried_of : L → Option Carried) (over : LinkSeen → Type 0) (n : ℕ) (dialed later : Option DialerTold) (out : Option (List ℕ)) (seen : History) (m : State) (box : Inbox J G) (fault : ServeFault)
+      → IsNext carried_of dialed later (Err fault) → ((phase : _) → fault ≡ faults.Unfinished phase → phase ≡ phase_of m) → IsRound over n (life_at dialed out seen box) (life_at later out seen box) m m (Err fault)
+  round_none carried_of over n dialed later out seen m box faults.Output next phase_is = absurd next
+  round_none carried_of over n dialed later out seen m box faults.Journal next phase_is = absurd next
+  round_none carried_of over n dialed later out seen m box faults.Dial next phase_is = made_none dialed later out seen m box next
+  round_none carried_of over n dialed later out seen m box (faults.Unfinished phase) next phase_is = (made_none dialed later out seen m box next.0, phase_is phase refl, next.1)
+  round_none carried_of over n dialed later out seen m box (faults.Rejected template code) next phase_is = absurd next
+  round_none carried_of over n dialed later out seen m box (faults.Full entries bytes) next phase_is = absurd next
+  round_none carried_of over n dialed later out seen m box faults.Turns next phase_is = absurd next
+  round_none carried_of over n dialed later out seen m box faults.Memory next phase_is = absurd next
 
   -- ---- a life so far: the connection of the number n is next
 
-  pub record LivedTo (n : ℕ) (old new : LifeAt J G) (m m' : State) : Type 0 where
+  pub record LivedTo {L : Type 0} (G' : LinkGhosts L) (before behind n : ℕ) (old new : LifeAt J G) (m m' : State) : Type 0 where
     pub ended : List Connection
+    pub links : AllByRecursion (λ (c : Connection). IsOver G' c.link) ended
+    pub clock : ByClock before behind ended
     pub number : n ≡ 1 + length ended
     pub lived : Lived old new m m' ended
 
-  pub lived_none : (dialed : Option DialerTold) (out : Option (List ℕ)) (seen : History) (m : State) (box : Inbox J G) → LivedTo 1 (life_at dialed out seen box) (life_at dialed out seen box) m m
-  lived_none dialed out seen m box = record {
+  pub lived_none : {L : Type 0} (G' : LinkGhosts L) (clock : ℕ) (dialed : Option DialerTold) (out : Option (List ℕ)) (seen : History) (m : State) (box : Inbox J G)
+      → LivedTo G' clock clock 1 (life_at dialed out seen box) (life_at dialed out seen box) m m
+  lived_none G' clock dialed out seen m box = record {
     ended = [];
+    links = tt;
+    clock = omega arith;
     number = refl;
-    lived = record { were = (refl, refl); gains = gains_none box box refl; lines = Appends-nil out; came = came_none dialed; tells = λ told. All-nil IsTold; followed = All-nil IsFollowed };
+    lived = record { were = (refl, refl); gains = gains_none box box refl; lines = Appends-nil out; came = came_none dialed; tells = λ told. All-nil IsTold; timely = tt; followed = All-nil IsFollowed };
   }
 
   gains_with : (a b c : Inbox J G) (cs : List Connection) (x : Connection) → Gains a b (adds_of cs) → Gains b c x.adds → Gains a c (adds_of (cs ++ x ∷ []))
   gains_with a b c cs x first later = subst (Gains a c) (sym (adds_append cs x)) (gains_on a b c (adds_of cs) x.adds first later)
 
-  pub lived_more : (n : ℕ) (old mid new : LifeAt J G) (m m' m'' : State)
-      → LivedTo n old mid m m' → IsRound n mid new m' m'' (Ok None)
-      → LivedTo (n + 1) old new m m''
-  lived_more n old mid new m m' m'' l r =
+  pub lived_more : {L : Type 0} (G' : LinkGhosts L) (p q t n : ℕ) (old mid new : LifeAt J G) (m m' m'' : State)
+      → LivedTo G' p q n old mid m m' → IsRound (IsOverBy G' q t) n mid new m' m'' (Ok None)
+      → LivedTo G' p t (n + 1) old new m m''
+  lived_more G' p q t n old mid new m m' m'' l r =
       let (close, follows, e) = r in
       let x = e.connection in
       record {
         ended = l.ended ++ x ∷ [];
+        links = all_append (λ (c : Connection). IsOver G' c.link) l.ended (x ∷ []) l.links (e.link.0, tt);
+        clock = clock_on p q t l.ended x l.clock e.link.1 e.link.2;
         number = omega (arith, l.number, length-append l.ended (x ∷ []));
         lived = record {
           were = ended_on old.seen mid.seen new.seen m m' m'' l.ended x l.lived.were e.ended;
           gains = gains_with old.box mid.box new.box l.ended x l.lived.gains e.gains;
-          lines = lines_so false n old.out mid.out new.out l.ended x l.number l.lived.lines e.lines;
+          lines = lines_whole old.out new.out (lines_from 1 (l.ended ++ x ∷ [])) (lines_ended false n old.out mid.out new.out l.ended x l.number l.lived.lines e.lines);
           came = came_with old.dialed mid.dialed new.dialed l.ended x l.lived.came e.came;
           tells = told_with old.dialed mid.dialed new.dialed l.ended x l.lived.came l.lived.tells e.tells;
+          timely = timely_append l.ended x l.lived.timely e.timely;
           followed = All-append IsFollowed l.ended (x ∷ []) l.lived.followed (All-cons IsFollowed x [] (subst (λ (o : Option Close). IfSome o Follows) (sym e.closed) follows) (All-nil IsFollowed));
         };
       }
@@ -288,119 +416,138 @@ module _ {J : Type 0} {G : Ghosts J} where
   -- ---- and how it ends
 
   -- behind a last connection that ended
-  over_ended : (result : Result LifeEnd ServeFault) (n : ℕ) (old mid new : LifeAt J G) (m m' m'' : State) (close : Close)
-      → (l : LivedTo n old mid m m') → (e : EndedOne n (lacks_lines result) mid new m' m'' close)
-      → IsLifeAnswer new.seen new.seen m'' new.dialed (l.ended ++ e.connection ∷ []) None result → ServedLife old new m result
-  over_ended result n old mid new m m' m'' close l e answer =
+  over_ended : {L : Type 0} (G' : LinkGhosts L) (p q t : ℕ) (result : Result LifeEnd ServeFault) (n : ℕ) (old mid new : LifeAt J G) (m m' m'' : State) (close : Close)
+      → (l : LivedTo G' p q n old mid m m') → (e : EndedOne (IsOverBy G' q t) n (lacks_lines result) mid new m' m'' close)
+      → IsLifeAnswer new.seen new.seen m'' new.dialed (l.ended ++ e.connection ∷ []) None result → ServedOver G' p t old new m result
+  over_ended G' p q t result n old mid new m m' m'' close l e answer =
       let x = e.connection in
       let cs : List Connection = l.ended ++ x ∷ [] in
-      record {
+      let life : ServedLife old new m result = record {
         ended = cs;
         given_up = None;
         behind = new.seen;
         mid = m'';
         were = ended_on old.seen mid.seen new.seen m m' m'' l.ended x l.lived.were e.ended;
         gave_up = refl;
+        followed = subst AreFollowed (sym (append-nil cs)) (followed_before l.ended x l.lived.followed);
+        timely = subst (λ (ds : List Connection). AllByRecursion IsTimely (turned ds)) (sym (append-nil cs)) (timely_append l.ended x l.lived.timely e.timely);
         refuses = refuses_none old.box new.box (adds_of (cs ++ []))
             (subst (λ (ds : List Connection). Gains old.box new.box (adds_of ds)) (sym (append-nil cs)) (gains_with old.box mid.box new.box l.ended x l.lived.gains e.gains));
-        lines = subst (λ (ds : List Connection). Tells (lacks_lines result) old.out new.out (lines_from 1 ds)) (sym (append-nil cs)) (lines_so (lacks_lines result) n old.out mid.out new.out l.ended x l.number l.lived.lines e.lines);
+        lines = subst (λ (ds : List Connection). TellsAll (lacks_lines result) old.out new.out (lines_from 1 ds)) (sym (append-nil cs)) (lines_ended (lacks_lines result) n old.out mid.out new.out l.ended x l.number l.lived.lines e.lines);
         came = subst (λ (ds : List Connection). AllCame old.dialed new.dialed (carried_by ds)) (sym (append-nil cs)) (came_with old.dialed mid.dialed new.dialed l.ended x l.lived.came e.came);
-        tells = told_with old.dialed mid.dialed new.dialed l.ended x l.lived.came l.lived.tells e.tells;
+        tells = λ t. subst (All IsTold) (sym (append-nil cs)) (told_with old.dialed mid.dialed new.dialed l.ended x l.lived.came l.lived.tells e.tells t);
         answer = answer;
         past = λ entries bytes is. absurd (never_full new.seen new.seen m'' new.dialed cs result entries bytes answer is);
+      } in
+      record {
+        life = life;
+        links = subst (AllByRecursion (λ (c : Connection). IsOver G' c.link)) (sym (append-nil cs)) (all_append (λ (c : Connection). IsOver G' c.link) l.ended (x ∷ []) l.links (e.link.0, tt));
+        clock = subst (ByClock p t) (sym (append-nil cs)) (clock_on p q t l.ended x l.clock e.link.1 e.link.2);
       }
 
   -- behind a connection that was given up
-  over_given : (result : Result LifeEnd ServeFault) (why : Option ServeFault) (n : ℕ) (old mid new : LifeAt J G) (m m' : State)
-      → (l : LivedTo n old mid m m') → (g : GaveOneUp why mid new m') → lacks_at why ≡ lacks_lines result
+  over_given : {L : Type 0} (G' : LinkGhosts L) (p q t : ℕ) (result : Result LifeEnd ServeFault) (why : Option ServeFault) (n : ℕ) (old mid new : LifeAt J G) (m m' : State)
+      → (l : LivedTo G' p q n old mid m m') → (g : GaveOneUp (IsOverBy G' q t) why mid new m') → lacks_at why ≡ lacks_lines result
       → ((entries bytes : ℕ) → result ≡ Err (faults.Full entries bytes) → why ≡ Some (faults.Full entries bytes))
-      → IsLifeAnswer mid.seen new.seen m' new.dialed l.ended (Some g.connection) result → ServedLife old new m result
-  over_given result why n old mid new m m' l g lacking full answer =
+      → IsLifeAnswer mid.seen new.seen m' new.dialed l.ended (Some g.connection) result → ServedOver G' p t old new m result
+  over_given G' p q t result why n old mid new m m' l g lacking full answer =
       let x = g.connection in
-      let told : Tells (lacks_at why) mid.out new.out (news_lines x.news ++ close_line n x.close) = subst (λ (o : Option Close). Tells (lacks_at why) mid.out new.out (news_lines x.news ++ close_line n o)) (sym g.unclosed)
-      (subst (Tells (lacks_at why) mid.out new.out) (sym (append-nil (news_lines x.news))) g.lines) in
-      record {
+      let life : ServedLife old new m result = record {
         ended = l.ended;
         given_up = Some x;
         behind = mid.seen;
         mid = m';
         were = l.lived.were;
-        gave_up = (g.last, g.is, g.unclosed);
+        gave_up = (g.last, g.is, g.unclosed, g.carried);
+        followed = followed_before l.ended x l.lived.followed;
+        timely = timely_append l.ended x l.lived.timely g.timely;
         refuses = subst (λ (rs : List InboxRecord). Refuses old.box new.box rs (x.refused ++ [])) (sym (adds_append l.ended x))
             (subst (Refuses old.box new.box (adds_of l.ended ++ x.adds)) (sym (append-nil x.refused)) (refuses_on old.box mid.box new.box (adds_of l.ended) x.adds x.refused l.lived.gains g.refuses));
-        lines = lines_so (lacks_lines result) n old.out mid.out new.out l.ended x l.number l.lived.lines (subst (λ (b : Bool). Tells b mid.out new.out (news_lines x.news ++ close_line n x.close)) lacking told);
+        lines = subst (λ (b : Bool). TellsAll b old.out new.out (lines_from 1 (l.ended ++ x ∷ []))) lacking (lines_given (lacks_at why) n old.out mid.out new.out l.ended x l.number l.lived.lines g.unclosed g.lines);
         came = came_with old.dialed mid.dialed new.dialed l.ended x l.lived.came g.came;
-        tells = l.lived.tells;
+        tells = told_with old.dialed mid.dialed new.dialed l.ended x l.lived.came l.lived.tells g.tells;
         answer = answer;
         past = λ entries bytes e. subst (IsPast (limits_of new.box).bytes bytes) (sym (append-nil x.wanted)) (g.past entries bytes (full entries bytes e));
+      } in
+      record {
+        life = life;
+        links = all_append (λ (c : Connection). IsOver G' c.link) l.ended (x ∷ []) l.links (g.link.0, tt);
+        clock = clock_on p q t l.ended x l.clock g.link.1 g.link.2;
       }
 
   -- behind those that ended, with no further one
-  over_none : (result : Result LifeEnd ServeFault) (n : ℕ) (old mid new : LifeAt J G) (m m' m'' : State)
-      → (l : LivedTo n old mid m m') → MadeNone mid new m' m''
-      → IsLifeAnswer mid.seen new.seen m' new.dialed l.ended None result → ServedLife old new m result
-  over_none result n old mid new m m' m'' l none answer =
+  over_none : {L : Type 0} (G' : LinkGhosts L) (p q t : ℕ) (result : Result LifeEnd ServeFault) (n : ℕ) (old mid new : LifeAt J G) (m m' m'' : State)
+      → (l : LivedTo G' p q n old mid m m') → MadeNone mid new m' m'' → q ≤ t
+      → IsLifeAnswer mid.seen new.seen m' new.dialed l.ended None result → ServedOver G' p t old new m result
+  over_none G' p q t result n old mid new m m' m'' l none later answer =
       let cs = l.ended in
-      record {
+      let life : ServedLife old new m result = record {
         ended = cs;
         given_up = None;
         behind = mid.seen;
         mid = m';
         were = l.lived.were;
         gave_up = none.same_seen;
+        followed = subst AreFollowed (sym (append-nil cs)) (followed_all cs l.lived.followed);
+        timely = subst (λ (ds : List Connection). AllByRecursion IsTimely (turned ds)) (sym (append-nil cs)) l.lived.timely;
         refuses = refuses_none old.box new.box (adds_of (cs ++ [])) (subst (λ (ds : List Connection). Gains old.box new.box (adds_of ds)) (sym (append-nil cs))
             (subst (Gains old.box new.box) (append-nil (adds_of cs)) (gains_on old.box mid.box new.box (adds_of cs) [] l.lived.gains none.same_box)));
-        lines = subst (λ (ds : List Connection). Tells (lacks_lines result) old.out new.out (lines_from 1 ds)) (sym (append-nil cs))
-            (tells_all (lacks_lines result) old.out new.out (lines_from 1 cs) (subst (Appends old.out new.out) (append-nil (lines_from 1 cs)) (Appends-trans old.out mid.out new.out (lines_from 1 cs) [] l.lived.lines none.same_out)));
+        lines = subst (λ (ds : List Connection). TellsAll (lacks_lines result) old.out new.out (lines_from 1 ds)) (sym (append-nil cs))
+            (lines_all (lacks_lines result) old.out new.out (lines_from 1 cs) (subst (Appends old.out new.out) (append-nil (lines_from 1 cs)) (Appends-trans old.out mid.out new.out (lines_from 1 cs) [] l.lived.lines none.same_out)));
         came = subst (λ (ds : List Connection). AllCame old.dialed new.dialed (carried_by ds)) (sym (append-nil cs)) (subst (AllCame old.dialed new.dialed) (append-nil (carried_by cs)) (came_on old.dialed mid.dialed new.dialed (carried_by cs) [] l.lived.came none.same_dialer));
-        tells = l.lived.tells;
+        tells = λ t. subst (All IsTold) (sym (append-nil cs)) (l.lived.tells t);
         answer = answer;
         past = λ entries bytes e. absurd (never_full mid.seen new.seen m' new.dialed cs result entries bytes answer e);
+      } in
+      record {
+        life = life;
+        links = subst (AllByRecursion (λ (c : Connection). IsOver G' c.link)) (sym (append-nil cs)) l.links;
+        clock = subst (ByClock p t) (sym (append-nil cs)) (clock_later p q t cs l.clock later);
       }
 
-  pub over_stopped : (n : ℕ) (old new : LifeAt J G) (m m' : State)
-      → LivedTo n old new m m' → ServedLife old new m (Ok ends.Stopped)
-  over_stopped n old new m m' l =
-      over_none (Ok ends.Stopped) n old new new m m' m' l (made_none new.dialed new.dialed new.out new.seen m' new.box refl) l.lived.followed
+  pub over_stopped : {L : Type 0} (G' : LinkGhosts L) (p q n : ℕ) (old new : LifeAt J G) (m m' : State)
+      → LivedTo G' p q n old new m m' → ServedOver G' p q old new m (Ok ends.Stopped)
+  over_stopped G' p q n old new m m' l =
+      over_none G' p q q (Ok ends.Stopped) n old new new m m' m' l (made_none new.dialed new.dialed new.out new.seen m' new.box refl) (omega arith) l.lived.followed
 
-  pub over_ok : (end : LifeEnd) (n : ℕ) (old mid new : LifeAt J G) (m m' m'' : State)
-      → LivedTo n old mid m m' → IsRound n mid new m' m'' (Ok (Some end))
-      → ServedLife old new m (Ok end)
-  over_ok ends.Finished n old mid new m m' m'' l r =
-      over_ended (Ok ends.Finished) n old mid new m m' m'' (closes.Ended endings.Finished) l r
+  pub over_ok : {L : Type 0} (G' : LinkGhosts L) (p q t : ℕ) (end : LifeEnd) (n : ℕ) (old mid new : LifeAt J G) (m m' m'' : State)
+      → LivedTo G' p q n old mid m m' → IsRound (IsOverBy G' q t) n mid new m' m'' (Ok (Some end))
+      → ServedOver G' p t old new m (Ok end)
+  over_ok G' p q t ends.Finished n old mid new m m' m'' l r =
+      over_ended G' p q t (Ok ends.Finished) n old mid new m m' m'' (closes.Ended endings.Finished) l r
       (refl, record { earlier = l.ended; last = r.connection; are = refl; closed = r.closed; followed = l.lived.followed })
-  over_ok ends.Stopped n old mid new m m' m'' l r =
-      over_given (Ok ends.Stopped) None n old mid new m m' l r refl (λ entries bytes e. cc) l.lived.followed
+  over_ok G' p q t ends.Stopped n old mid new m m' m'' l r =
+      over_given G' p q t (Ok ends.Stopped) None n old mid new m m' l r refl (λ entries bytes e. cc) l.lived.followed
 
-  pub over_err : (fault : ServeFault) (n : ℕ) (old mid new : LifeAt J G) (m m' m'' : State)
-      → LivedTo n old mid m m' → IsRound n mid new m' m'' (Err fault)
-      → ServedLife old new m (Err fault)
-  over_err faults.Output n old mid new m m' m'' l (inl e) =
-      over_ended (Err faults.Output) n old mid new m m' m'' e.0 l e.1 tt
-  over_err faults.Output n old mid new m m' m'' l (inr g) =
-      over_given (Err faults.Output) (Some faults.Output) n old mid new m m' l g refl (λ entries bytes e. cc) tt
-  over_err faults.Journal n old mid new m m' m'' l r =
-      over_given (Err faults.Journal) (Some faults.Journal) n old mid new m m' l r refl (λ entries bytes e. cc) (l.lived.followed, r.connection, refl, r.cut_short.0 refl)
-  over_err faults.Dial n old mid new m m' m'' l r =
-      over_none (Err faults.Dial) n old mid new m m' m'' l r (l.lived.followed, refl)
-  over_err (faults.Unfinished phase) n old mid new m m' m'' l r =
-      over_none (Err (faults.Unfinished phase)) n old mid new m m' m'' l r.0 (l.lived.followed, refl, r.1, r.2)
-  over_err (faults.Rejected template code) n old mid new m m' m'' l r =
-      over_ended (Err (faults.Rejected template code)) n old mid new m m' m'' (closes.Ended (endings.Rejected template code)) l r
+  pub over_err : {L : Type 0} (G' : LinkGhosts L) (p q t : ℕ) (fault : ServeFault) (n : ℕ) (old mid new : LifeAt J G) (m m' m'' : State)
+      → LivedTo G' p q n old mid m m' → IsRound (IsOverBy G' q t) n mid new m' m'' (Err fault) → q ≤ t
+      → ServedOver G' p t old new m (Err fault)
+  over_err G' p q t faults.Output n old mid new m m' m'' l (inl e) later =
+      over_ended G' p q t (Err faults.Output) n old mid new m m' m'' e.0 l e.1 tt
+  over_err G' p q t faults.Output n old mid new m m' m'' l (inr g) later =
+      over_given G' p q t (Err faults.Output) (Some faults.Output) n old mid new m m' l g refl (λ entries bytes e. cc) tt
+  over_err G' p q t faults.Journal n old mid new m m' m'' l r later =
+      over_given G' p q t (Err faults.Journal) (Some faults.Journal) n old mid new m m' l r refl (λ entries bytes e. cc) (l.lived.followed, r.connection, refl, r.cut_short.0 refl)
+  over_err G' p q t faults.Dial n old mid new m m' m'' l r later =
+      over_none G' p q t (Err faults.Dial) n old mid new m m' m'' l r later (l.lived.followed, refl)
+  over_err G' p q t (faults.Unfinished phase) n old mid new m m' m'' l r later =
+      over_none G' p q t (Err (faults.Unfinished phase)) n old mid new m m' m'' l r.0 later (l.lived.followed, refl, r.1, r.2)
+  over_err G' p q t (faults.Rejected template code) n old mid new m m' m'' l r later =
+      over_ended G' p q t (Err (faults.Rejected template code)) n old mid new m m' m'' (closes.Ended (endings.Rejected template code)) l r
       (refl, record { earlier = l.ended; last = r.connection; are = refl; closed = r.closed; followed = l.lived.followed })
-  over_err (faults.Full entries bytes) n old mid new m m' m'' l r =
-      over_given (Err (faults.Full entries bytes)) (Some (faults.Full entries bytes)) n old mid new m m' l r refl (λ n m e. cc)
+  over_err G' p q t (faults.Full entries bytes) n old mid new m m' m'' l r later =
+      over_given G' p q t (Err (faults.Full entries bytes)) (Some (faults.Full entries bytes)) n old mid new m m' l r refl (λ n m e. cc)
       (l.lived.followed, r.connection, refl, r.cut_short.1 entries bytes refl)
-  over_err faults.Turns n old mid new m m' m'' l r =
-      over_given (Err faults.Turns) (Some faults.Turns) n old mid new m m' l r refl (λ entries bytes e. cc)
+  over_err G' p q t faults.Turns n old mid new m m' m'' l r later =
+      over_given G' p q t (Err faults.Turns) (Some faults.Turns) n old mid new m m' l r refl (λ entries bytes e. cc)
       (l.lived.followed, r.connection, refl, record { last = r.last; is = r.is; spent = r.spent refl })
-  over_err faults.Memory n old mid new m m' m'' l (inl e) =
-      over_ended (Err faults.Memory) n old mid new m m' m'' e.0 l e.1 tt
-  over_err faults.Memory n old mid new m m' m'' l (inr g) =
-      over_given (Err faults.Memory) (Some faults.Memory) n old mid new m m' l g refl (λ entries bytes e. cc) tt
+  over_err G' p q t faults.Memory n old mid new m m' m'' l (inl e) later =
+      over_ended G' p q t (Err faults.Memory) n old mid new m m' m'' e.0 l e.1 tt
+  over_err G' p q t faults.Memory n old mid new m m' m'' l (inr g) later =
+      over_given G' p q t (Err faults.Memory) (Some faults.Memory) n old mid new m m' l g refl (λ entries bytes e. cc) tt
 
   -- where there was no memory to begin, none was served
-  pub nothing_served : (dialed : Option DialerTold) (out : Option (List ℕ)) (seen : History) (m : State) (box : Inbox J G) → ServedLife (life_at dialed out seen box) (life_at dialed out seen box) m (Err faults.Memory)
-  nothing_served dialed out seen m box =
+  pub nothing_served : {L : Type 0} (G' : LinkGhosts L) (clock : ℕ) (dialed : Option DialerTold) (out : Option (List ℕ)) (seen : History) (m : State) (box : Inbox J G) → ServedOver G' clock clock (life_at dialed out seen box) (life_at dialed out seen box) m (Err faults.Memory)
+  nothing_served G' clock dialed out seen m box =
       let l : LifeAt J G = life_at dialed out seen box in
-      over_none (Err faults.Memory) 1 l l l m m m (lived_none dialed out seen m box) (made_none dialed dialed out seen m box refl) tt
+      over_none G' clock clock clock (Err faults.Memory) 1 l l l m m m (lived_none G' clock dialed out seen m box) (made_none dialed dialed out seen m box refl) (omega arith) tt

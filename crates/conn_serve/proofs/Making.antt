@@ -68,6 +68,17 @@ goes_made P (Err turn_faults.Broken) goes e = cc
 goes_made P (Err (turn_faults.Full entries bytes)) goes e = cc
 goes_made P (Err turn_faults.Memory) goes e = cc
 
+-- a connection is closed for its link's fault where its turn answered so alone
+pub lost_made : (P : Type 0) (r : Result TurnEnd TurnFault) → (r ≡ Err turn_faults.Link → P) → close_of r ≡ Ok (Some closes.LinkFault) → P
+lost_made P (Ok turn_ends.Go) lost e = cc
+lost_made P (Ok (turn_ends.Ended x)) lost e = cc
+lost_made P (Err turn_faults.Link) lost e = lost refl
+lost_made P (Err turn_faults.Inbox) lost e = cc
+lost_made P (Err turn_faults.Outbox) lost e = cc
+lost_made P (Err turn_faults.Broken) lost e = cc
+lost_made P (Err (turn_faults.Full entries bytes)) lost e = cc
+lost_made P (Err turn_faults.Memory) lost e = cc
+
 ended_as : (x : Ending) (o : Option Ending) → turn_ends.Ended x ≡ answer_of o → o ≡ Some x
 ended_as x None e = cc
 ended_as x (Some y) e = cc

@@ -6,6 +6,7 @@ use Rattle.session_model.specs.Journal.{History, BeginsHistory}
 use Rattle.session_model.proofs.Lists.{prefix_length}
 use Rattle.fixp_shake.specs.declared.config.EndConfig.{EndConfig}
 use Rattle.fixp_machine.specs.Machine.{State, fresh}
+use Rattle.gw_links.specs.declared.link.Link.{Ghosts as LinkGhosts}
 use Rattle.jr_record.specs.declared.journal.Journal.{Ghosts}
 use Rattle.jr_boxes.specs.declared.inbox.Inbox.{Inbox}
 use Rattle.jr_boxes.specs.Inbox.{flow_of, limits_of}
@@ -15,7 +16,7 @@ use Rattle.conn_serve.specs.declared.answer.ServeFault.{ServeFault}
 use Rattle.conn_serve.specs.declared.answer.ServeFault.TheVariants as faults
 use Rattle.conn_serve.specs.Causes.{IsBlamed}
 use Rattle.conn_serve.specs.Turned.{MayBegin}
-use Rattle.conn_serve.specs.Opening.{opened_state, ServedBy}
+use Rattle.conn_serve.specs.Opening.{opened_state, ServedBy, ServedThrough}
 use Rattle.conn_serve.specs.Moments.{FaultsAt, ServingAt}
 
 mark : (h s : History) → BeginsHistory h s → (b : Bool) → h.finished ≡ b → IfSome (if b then Some (length h.made) else None) (λ n. (s.finished ≡ true) × (length s.made ≡ n))
@@ -38,5 +39,18 @@ module _ {J : Type 0} {G : Ghosts J} where
   blamed_none old new = record { output = λ e. cc; journal = λ e. cc; dial = λ e. cc; full = λ entries bytes e. cc }
 
 module _ {J : Type 0} {G : Ghosts J} {O : Type 0} {H : Ghosts O} where
-  pub served_at : (gate : Gate O H) (old new : ServingAt J G O H) (m n : State) (result : Result (Unit {0}) ServeFault) → m ≡ n → ServedBy gate old new m result → ServedBy gate old new n result
-  served_at gate old new m n result is served = subst (λ (s : State). ServedBy gate old new s result) is served
+  pub served_at : {L : Type 0} (links : LinkGhosts L) (before behind : ℕ) (gate : Gate O H) (old new : ServingAt J G O H) (m n : State) (result : Result (Unit {0}) ServeFault) → m ≡ n
+      → ServedThrough links before behind gate old new m result → ServedThrough links before behind gate old new n result
+  served_at links before behind gate old new m n result is served = subst (λ (s : State). ServedThrough links before behind gate old new s result) is served
+
+  -- so the life was served, whatever its links and its clock
+  pub served_by : {L : Type 0} (links : LinkGhosts L) (before behind : ℕ) (gate : Gate O H) (old new : ServingAt J G O H) (m : State) (result : Result (Unit {0}) ServeFault)
+      → ServedThrough links before behind gate old new m result → ServedBy gate old new m result
+  served_by links before behind gate old new m result s = record {
+    connections = s.connections;
+    refused = s.refused;
+    life = s.life.life;
+    blamed = s.blamed;
+    senders = s.senders;
+    answer = s.answer;
+  }

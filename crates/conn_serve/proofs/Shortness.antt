@@ -14,7 +14,7 @@ use Rattle.conn_turns.specs.News.{told_by}
 use Rattle.conn_turns.specs.Lines.{Line, TakenFrame, IsTaken, AreTaken, reply_at, line_after}
 use Rattle.conn_turns.specs.Frames.{tells, told}
 use Rattle.conn_turns.specs.Turns.{Turn, only_sends, works, link_lost, cut_short, not_begun}
-use Rattle.turn_laws.specs.Turns.{IsTurn, tells_in}
+use Rattle.turn_laws.specs.Turns.{line_received, IsTurn, tells_in}
 use Rattle.conn_serve.specs.Lines.{IsShort}
 
 two_bytes : (n : ℕ) → length (to_be_bytes w16 n) ≡ 2
@@ -50,3 +50,29 @@ turn_short before after old new (works w) is = told_short w.now _ w.frames is.se
 turn_short before after old new (link_lost now) is = All-nil IsShort
 turn_short before after old new (cut_short now received frames refused) is = absurd is
 turn_short before after old new not_begun is = absurd is
+
+-- ---- each frame tells at most once
+
+act_few : (a : Act) (i : Incoming) → length (told_by a i) ≤ 1
+act_few acts.Nothing i = omega arith
+act_few (acts.Apply number) i = omega arith
+act_few (acts.Skip from count) i = omega arith
+act_few acts.Negotiated i = omega arith
+act_few (acts.PeerFinished last) i = omega arith
+act_few (acts.Told from count) i = omega arith
+act_few acts.Ended i = omega arith
+
+frame_few : (now : ℕ) (l : Line) (t : TakenFrame) → length (tells now l t) ≤ 1
+unfolding tells
+frame_few now l t = act_few (reply_at now l t).act t.incoming
+
+pub told_few : (now : ℕ) (l : Line) (frames : List TakenFrame) → length (told now l frames) ≤ length frames
+told_few now l [] = omega arith
+told_few now l (t ∷ later) = omega (arith, frame_few now l t, told_few now (line_after now l t) later, length-append (tells now l t) (told now (line_after now l t) later))
+
+pub turn_few : (before after : History) (old new : Line) (t : Turn) → IsTurn before after old new t → length (tells_in old t) ≤ 16
+turn_few before after old new (only_sends now sent lost) is = omega arith
+turn_few before after old new (works w) is = omega (arith, told_few w.now (line_received old w.now w.received w.got) w.frames, is.served.few)
+turn_few before after old new (link_lost now) is = omega arith
+turn_few before after old new (cut_short now received frames refused) is = absurd is
+turn_few before after old new not_begun is = absurd is

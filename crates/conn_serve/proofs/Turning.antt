@@ -1,14 +1,16 @@
 -- Turns of a connection one behind another, and where it is given up.
-use Rattle.std.proofs.Common.{◌≡◌, ◌⊎◌, inl, inr, ℕ, ◌+◌, ◌*◌, ◌≤◌, true, false, List, [], ◌∷◌, ◌++◌, length, Option, Some, None, Result, Ok, Err, refl, sym, ap, subst, ◌∙◌, arith, append-nil, append_assoc, length-append}
-use Rattle.std.specs.Prelude.{All, take, OnOk, IfErr}
-use Rattle.std.specs.List.{flat_map}
+use Rattle.std.proofs.Common.{◌≡◌, ◌⊎◌, inl, inr, ℕ, ◌+◌, ◌*◌, ◌≤◌, Bool, true, false, List, [], ◌∷◌, ◌++◌, length, Option, Some, None, Result, Ok, Err, refl, sym, ap, subst, ◌∙◌, arith, append-nil, append_assoc, length-append}
+use Rattle.std.specs.Prelude.{All, OnOk, IfErr, option_to_list}
+use Rattle.std.specs.List.{AllByRecursion, flat_map}
 use Rattle.std.specs.Io.KnownBytes.{Appends}
 use Rattle.std.proofs.KnownBytes.{Appends-nil, Appends-trans}
-use Rattle.std.proofs.Math.Seq.{take-append-add, take-length}
+use Rattle.std.proofs.Math.Seq.{take-length}
 use Rattle.std.proofs.lemmas.Grind.{flat_map-append}
+use Rattle.std.proofs.lemmas.List.Elements.{All-nil}
 use Rattle.gw_outside.specs.Faults.{TakesFront}
 use Rattle.session_model.specs.Journal.{History, BeginsHistory}
 use Rattle.session_model.specs.Inbox.{InboxRecord}
+use Rattle.session_model.proofs.Lists.{all_append}
 use Rattle.gw_links.specs.Links.{LinkTold, Carried, Moved}
 use Rattle.gw_links.proofs.Moving.{moved_none, moved_more}
 use Rattle.jr_record.specs.declared.journal.Journal.{Ghosts}
@@ -16,6 +18,7 @@ use Rattle.jr_boxes.specs.declared.inbox.Inbox.{Inbox}
 use Rattle.gate_turn.proofs.Histories.{begins_self}
 use Rattle.conn_turns.specs.declared.news.NewsItem.{NewsItem}
 use Rattle.conn_turns.specs.Lines.{Line, TakenFrame, AreTaken, size_of, line_after, lines_after}
+use Rattle.conn_turns.specs.Frames.{told}
 use Rattle.conn_turns.specs.declared.answer.TurnFault.{TurnFault}
 use Rattle.conn_turns.specs.declared.answer.TurnFault.TheVariants as turn_faults
 use Rattle.conn_turns.specs.Turns.{Turn, only_sends, works, link_lost, cut_short, not_begun}
@@ -26,42 +29,55 @@ use Rattle.conn_steps.specs.Settling.{Gains, Refuses}
 use Rattle.conn_steps.specs.Agreeing.{Agrees}
 use Rattle.conn_steps.proofs.Rooms.{gains_none, gains_on, refuses_on, refuses_none}
 use Rattle.conn_loop.specs.Conn.{line_begun}
-use Rattle.turn_laws.specs.Turns.{IsTurn, adds_in, tells_in}
-use Rattle.turn_laws.specs.Legs.{given_in, sent_in}
-use Rattle.turn_laws.specs.Turned.{WasTurn}
+use Rattle.conn_loop.specs.Turned.{NotBegun}
+use Rattle.turn_laws.specs.Turns.{line_received, IsTurn, adds_in, tells_in}
+use Rattle.turn_laws.specs.Legs.{given_in, sent_in, IsTimelyTurn}
+use Rattle.turn_laws.specs.Made.{TurnAt, MadeTurn}
+use Rattle.turn_laws.specs.Turned.{WasTurn, WasCut}
 use Rattle.conn_serve.specs.declared.answer.ServeFault.{ServeFault}
 use Rattle.conn_serve.specs.declared.answer.ServeFault.TheVariants as faults
 use Rattle.conn_serve.specs.Lines.{news_line, news_lines, IsShort}
-use Rattle.conn_serve.specs.Connections.{WereTurns}
+use Rattle.conn_serve.specs.Connections.{WereTurns, MadeNoMore, CutAt}
 use Rattle.conn_serve.specs.Causes.{lacks, lacks_at, Tells}
-use Rattle.conn_serve.specs.Turned.{Turned, CutOff, GivenUp, TurnedOn, GivenUpOn}
+use Rattle.conn_serve.specs.Turned.{Turned, CutOff, GivenUp, Begins, TurnedOn, GivenUpOn}
 use Rattle.conn_serve.specs.Answers.{close_of, IsOfTurn}
-use Rattle.conn_serve.proofs.Shortness.{turn_short, told_short}
+use Rattle.conn_serve.proofs.Shortness.{turn_short, told_short, told_few, turn_few}
 use Rattle.conn_loop.specs.Live.{LiveEnd, live_end}
-use Rattle.conn_serve.specs.Moments.{ConnectionAt, connection_at}
+use Rattle.conn_serve.specs.Moments.{ConnectionAt, connection_at, turn_in}
 
 -- ---- lists of turns
 
-pub turns_on : (a b c : History) (l m n : Line) (ts us : List Turn) (news more : List NewsItem) (adds rest : List InboxRecord)
-    → WereTurns a b l m ts news adds → WereTurns b c m n us more rest → WereTurns a c l n (ts ++ us) (news ++ more) (adds ++ rest)
-turns_on a b c l m n [] us news more adds rest first later =
-    let P : Line → History → List NewsItem → List InboxRecord → Type 0 = λ x h ns rs. WereTurns h c x n us (ns ++ more) (rs ++ rest) in
-    subst (λ (x : Line). P x a news adds) first.0 (subst (λ (h : History). P m h news adds) first.1 (subst (λ (ns : List NewsItem). P m b ns adds) (sym first.2) (subst (λ (rs : List InboxRecord). P m b [] rs) (sym first.3) later)))
-turns_on a b c l m n (t ∷ ts) us news more adds rest first later =
-    let (unended, mid, between, is, told, added, news_are, adds_are, behind) = first in (
+pub turns_on : (eager : Bool) (a b c : TurnAt) (ts us : List Turn) (news more : List NewsItem) (adds rest : List InboxRecord)
+    → WereTurns eager a b ts news adds → WereTurns eager b c us more rest → WereTurns eager a c (ts ++ us) (news ++ more) (adds ++ rest)
+turns_on eager a b c [] us news more adds rest first later =
+    let P : TurnAt → List NewsItem → List InboxRecord → Type 0 = λ x ns rs. WereTurns eager x c us (ns ++ more) (rs ++ rest) in
+    subst (λ (x : TurnAt). P x news adds) first.0 (subst (λ (ns : List NewsItem). P b ns adds) (sym first.1) (subst (λ (rs : List InboxRecord). P b [] rs) (sym first.2) later))
+turns_on eager a b c (t ∷ ts) us news more adds rest first later =
+    let (unended, mid, made, told, added, news_are, adds_are, behind) = first in (
       unended,
       mid,
-      between,
-      is,
+      made,
       told ++ more,
       added ++ rest,
-      ap (λ (ns : List NewsItem). ns ++ more) news_are ∙ append_assoc (tells_in l t) told more,
-      ap (λ (rs : List InboxRecord). rs ++ rest) adds_are ∙ append_assoc (adds_in l t) added rest,
-      turns_on between b c mid m n ts us told more added rest behind later,
+      ap (λ (ns : List NewsItem). ns ++ more) news_are ∙ append_assoc (tells_in a.line t) told more,
+      ap (λ (rs : List InboxRecord). rs ++ rest) adds_are ∙ append_assoc (adds_in a.line t) added rest,
+      turns_on eager mid b c ts us told more added rest behind later,
     )
 
-pub one_turn : (a b : History) (l m : Line) (t : Turn) → l.machine.ending ≡ None → IsTurn a b l m t → WereTurns a b l m (t ∷ []) (tells_in l t) (adds_in l t)
-one_turn a b l m t unended is = (unended, m, b, is, [], [], sym (append-nil (tells_in l t)), sym (append-nil (adds_in l t)), (refl, refl, refl, refl))
+pub one_turn : (eager : Bool) (a b : TurnAt) (t : Turn) → a.line.machine.ending ≡ None → MadeTurn eager a b t → WereTurns eager a b (t ∷ []) (tells_in a.line t) (adds_in a.line t)
+one_turn eager a b t unended made = (unended, b, made, [], [], sym (append-nil (tells_in a.line t)), sym (append-nil (adds_in a.line t)), (refl, refl, refl))
+
+-- ---- what links moved
+
+moved_turns : (a b c : Option LinkTold) (p q r : Option Carried) (first later : List Turn) → Moved a b p q (flat_map given_in first) (flat_map sent_in first)
+    → Moved b c q r (flat_map given_in later) (flat_map sent_in later) → Moved a c p r (flat_map given_in (first ++ later)) (flat_map sent_in (first ++ later))
+moved_turns a b c p q r first later x y =
+    subst (λ (g : List ℕ). Moved a c p r g (flat_map sent_in (first ++ later))) (sym (flat_map-append given_in first later))
+    (subst (Moved a c p r (flat_map given_in first ++ flat_map given_in later)) (sym (flat_map-append sent_in first later)) (moved_more a b c p q r _ _ _ _ x y))
+
+moved_once : (a b : Option LinkTold) (p q : Option Carried) (t : Turn) → Moved a b p q (given_in t) (sent_in t) → Moved a b p q (flat_map given_in (t ∷ [])) (flat_map sent_in (t ∷ []))
+moved_once a b p q t x =
+    subst (λ (g : List ℕ). Moved a b p q g (flat_map sent_in (t ∷ []))) (sym (append-nil (given_in t))) (subst (Moved a b p q (given_in t)) (sym (append-nil (sent_in t))) x)
 
 -- ---- the place
 
@@ -81,11 +97,11 @@ turn_place a b l m (link_lost now) is = omega (arith, ap (λ (x : Line). x.place
 turn_place a b l m (cut_short now received frames refused) is = absurd is
 turn_place a b l m not_begun is = absurd is
 
-pub turns_place : (a b : History) (l m : Line) (ts : List Turn) (news : List NewsItem) (adds : List InboxRecord) → WereTurns a b l m ts news adds → m.place ≤ l.place + length ts * 262240
-turns_place a b l m [] news adds were = omega (arith, ap (λ (x : Line). x.place) were.0)
-turns_place a b l m (t ∷ ts) news adds were =
-    let (unended, mid, between, is, told, added, news_are, adds_are, behind) = were in
-    omega (arith, turn_place a between l mid t is, turns_place between b mid m ts told added behind)
+pub turns_place : (eager : Bool) (a b : TurnAt) (ts : List Turn) (news : List NewsItem) (adds : List InboxRecord) → WereTurns eager a b ts news adds → b.line.place ≤ a.line.place + length ts * 262240
+turns_place eager a b [] news adds were = omega (arith, ap (λ (x : TurnAt). x.line.place) were.0)
+turns_place eager a b (t ∷ ts) news adds were =
+    let (unended, mid, made, told, added, news_are, adds_are, behind) = were in
+    omega (arith, turn_place a.seen mid.seen a.line mid.line t made.is, turns_place eager mid b ts told added behind)
 
 -- ---- lines
 
@@ -95,17 +111,6 @@ lines_on (item ∷ later) more = ap (λ (ls : List ℕ). news_line item ++ ls) (
 
 pub all_is_front : (old new : Option (List ℕ)) (bytes : List ℕ) → Appends old new bytes → TakesFront old new bytes
 all_is_front old new bytes appended = record { count = length bytes; within = omega arith; appended = subst (Appends old new) (sym (take-length bytes)) appended }
-
-pub front_on : (old mid new : Option (List ℕ)) (first later : List ℕ) → Appends old mid first → TakesFront mid new later → TakesFront old new (first ++ later)
-front_on old mid new first later whole front = record {
-  count = length first + front.count;
-  within = omega (arith, front.within, length-append first later);
-  appended = subst (Appends old new) (sym (take-append-add first later front.count)) (Appends-trans old mid new first (take front.count later) whole front.appended);
-}
-
-pub tells_on : (lacking : _) (old mid new : Option (List ℕ)) (first later : List ℕ) → Appends old mid first → Tells lacking mid new later → Tells lacking old new (first ++ later)
-tells_on false old mid new first later whole tells = Appends-trans old mid new first later whole tells
-tells_on true old mid new first later whole tells = front_on old mid new first later whole tells
 
 pub tells_all : (lacking : _) (old new : Option (List ℕ)) (lines : List ℕ) → Appends old new lines → Tells lacking old new lines
 tells_all false old new lines whole = whole
@@ -123,6 +128,10 @@ lacking_spent : (fault : ServeFault) (H : Type 0) → ((fault ≡ faults.Output)
 lacking_spent fault H (inl a) e = let f = a.0 in cc
 lacking_spent fault H (inr b) e = cc
 
+lacking_journal : (fault : ServeFault) (H : Type 0) → ((fault ≡ faults.Output) × H) ⊎ (fault ≡ faults.Memory) → fault ≡ faults.Journal → ⊥
+lacking_journal fault H (inl a) e = let f = a.0 in cc
+lacking_journal fault H (inr b) e = cc
+
 lacking_full : (fault : ServeFault) (H : Type 0) (entries bytes : ℕ) → ((fault ≡ faults.Output) × H) ⊎ (fault ≡ faults.Memory) → fault ≡ faults.Full entries bytes → ⊥
 lacking_full fault H entries bytes (inl a) e = let f = a.0 in cc
 lacking_full fault H entries bytes (inr b) e = cc
@@ -136,77 +145,110 @@ full_turn turn_faults.Broken entries bytes e = cc
 full_turn (turn_faults.Full n m) entries bytes e = cc
 full_turn turn_faults.Memory entries bytes e = cc
 
+-- no turn was made
+pub no_more : (a : TurnAt) → MadeNoMore a a
+no_more a = record { moved = moved_none a.told a.carried; clock = omega arith }
+
+-- what a turn that was cut short leaves of the line is not said
+cut_dropped : (eager : Bool) (a b : TurnAt) (l : Line) (cut : Option Turn) (news : List NewsItem) (adds refused wanted : List InboxRecord) → CutAt eager a b cut news adds refused wanted
+    → CutAt eager a (record b { line = l }) cut news adds refused wanted
+cut_dropped eager a b l None news adds refused wanted k = (k.0, k.1, k.2, k.3, record { moved = k.4.moved; clock = k.4.clock })
+cut_dropped eager a b l (Some t) news adds refused wanted k = record {
+  now = k.now;
+  received = k.received;
+  frames = k.frames;
+  next = k.next;
+  fault = k.fault;
+  is = k.is;
+  made = record { cut = k.made.cut; more = k.made.more; found = k.made.found; moved = k.made.moved; moment = k.made.moment; clock = k.made.clock };
+  news_are = k.news_are;
+  adds_are = k.adds_are;
+  refused_are = k.refused_are;
+  wanted_are = k.wanted_are;
+}
+
+-- one that wants memory is at no limit, and blames no journal
+memory_turn : (fault : TurnFault) (why : ServeFault) → fault ≡ turn_faults.Memory → close_of (Err fault) ≡ Err why → why ≡ faults.Memory
+memory_turn fault why memory is = let same : close_of (Err turn_faults.Memory) ≡ Err why = subst (λ (f : TurnFault). close_of (Err f) ≡ Err why) memory is in cc
+
 module _ {J : Type 0} {G : Ghosts J} where
   -- ---- what a turn told is short
 
-  pub was_short : (old new : LiveEnd J G) → old.news ≡ [] → WasTurn old new → All IsShort new.news
-  was_short old new none was =
-      subst (All IsShort) (sym (was.news_are ∙ ap (λ (ns : List NewsItem). ns ++ tells_in old.line was.turn) none)) (turn_short old.seen new.seen old.line new.line was.turn was.is)
+  pub was_short : (eager : Bool) (before after : ℕ) (old new : LiveEnd J G) → old.news ≡ [] → WasTurn eager before after old new → All IsShort new.news
+  was_short eager before after old new none was =
+      subst (All IsShort) (sym (was.news_are ∙ ap (λ (ns : List NewsItem). ns ++ tells_in old.line was.turn) none)) (turn_short old.seen new.seen old.line new.line was.turn was.made.is)
 
-  pub cut_is_short : (old : Line) (box since : Inbox J G) (news : List NewsItem) (why : ServeFault) → CutOff old box since news why → All IsShort news
-  cut_is_short old box since news why c = subst (All IsShort) (sym c.cut.news_are) (told_short c.now _ c.cut.frames c.cut.cut.taken)
+  pub cut_is_short : (eager : Bool) (before after : ℕ) (old new : LiveEnd J G) (why : ServeFault) → old.news ≡ [] → CutOff eager before after old new why → All IsShort new.news
+  cut_is_short eager before after old new why none c = by_kind c.cut
+    where
+      by_kind : NotBegun old new c.fault ⊎ WasCut eager before after old new c.fault → All IsShort new.news
+      by_kind (inl n) = subst (All IsShort) (sym (ap (λ (e : LiveEnd J G). e.news) n.1 ∙ none)) (All-nil IsShort)
+      by_kind (inr k) =
+          let l : Line = line_received old.line k.now k.received k.made.cut.got in
+          subst (All IsShort) (sym (k.news_are ∙ ap (λ (ns : List NewsItem). ns ++ told k.now l k.frames) none)) (told_short k.now l k.frames k.made.cut.taken)
 
   -- ---- turns
 
-  pub turned_none : (told : Option LinkTold) (carried : Option Carried) (out : Option (List ℕ)) (seen : History) (l : Line) (box : Inbox J G) → Turned (connection_at told carried out seen l box) (connection_at told carried out seen l box) 0
-  turned_none told carried out seen l box = record {
+  -- a connection between its turns, as its next turn finds it, and as it leaves it with these news
+  abbrev end_at : ConnectionAt J G → List NewsItem → LiveEnd J G
+  end_at c news = live_end c.told c.carried c.seen c.line c.box news
+
+  pub turned_none : (eager : Bool) (told : Option LinkTold) (carried : Option Carried) (out : Option (List ℕ)) (seen : History) (clock : ℕ) (l : Line) (box : Inbox J G)
+      → Turned eager (connection_at told carried out seen clock l box) (connection_at told carried out seen clock l box) 0
+  turned_none eager told carried out seen clock l box = record {
     turns = [];
     news = [];
     adds = [];
     many = refl;
-    were = (refl, refl, refl, refl);
+    were = (refl, refl, refl);
+    timely = tt;
     gains = gains_none box box refl;
     moved = moved_none told carried;
     lines = Appends-nil out;
   }
 
-  pub turned_once : (old new : ConnectionAt J G) (news : List NewsItem)
-      → old.line.machine.ending ≡ None → WasTurn (live_end old.told old.carried old.seen old.line old.box []) (live_end new.told new.carried new.seen new.line new.box news) → Appends old.out new.out (news_lines news)
-      → Turned old new 1
-  turned_once old new news unended was lines = record {
+  pub turned_once : (eager : Bool) (old new : ConnectionAt J G) (news : List NewsItem)
+      → old.line.machine.ending ≡ None → WasTurn eager old.clock new.clock (end_at old []) (end_at new news) → Appends old.out new.out (news_lines news)
+      → Turned eager old new 1
+  turned_once eager old new news unended was lines = record {
     turns = was.turn ∷ [];
     news = tells_in old.line was.turn;
     adds = adds_in old.line was.turn;
     many = refl;
-    were = one_turn old.seen new.seen old.line new.line was.turn unended was.is;
+    were = one_turn eager (turn_in old) (turn_in new) was.turn unended was.made;
+    timely = (was.timely, tt);
     gains = was.gains;
-    moved = subst (λ (g : List ℕ). Moved old.told new.told old.carried new.carried g (flat_map sent_in (was.turn ∷ []))) (sym (append-nil (given_in was.turn)))
-        (subst (Moved old.told new.told old.carried new.carried (given_in was.turn)) (sym (append-nil (sent_in was.turn))) was.moved);
+    moved = moved_once old.told new.told old.carried new.carried was.turn was.made.moved;
     lines = subst (λ (ns : List NewsItem). Appends old.out new.out (news_lines ns)) was.news_are lines;
   }
 
-  pub turned_on : (old mid new : ConnectionAt J G) (n k : ℕ)
-      → Turned old mid n → Turned mid new k
-      → Turned old new (n + k)
-  turned_on old mid new n k x y = record {
+  pub turned_on : (eager : Bool) (old mid new : ConnectionAt J G) (n k : ℕ) → Turned eager old mid n → Turned eager mid new k → Turned eager old new (n + k)
+  turned_on eager old mid new n k x y = record {
     turns = x.turns ++ y.turns;
     news = x.news ++ y.news;
     adds = x.adds ++ y.adds;
     many = omega (arith, x.many, y.many, length-append x.turns y.turns);
-    were = turns_on old.seen mid.seen new.seen old.line mid.line new.line x.turns y.turns x.news y.news x.adds y.adds x.were y.were;
+    were = turns_on eager (turn_in old) (turn_in mid) (turn_in new) x.turns y.turns x.news y.news x.adds y.adds x.were y.were;
+    timely = all_append IsTimelyTurn x.turns y.turns x.timely y.timely;
     gains = gains_on old.box mid.box new.box x.adds y.adds x.gains y.gains;
-    moved = subst (λ (g : List ℕ). Moved old.told new.told old.carried new.carried g (flat_map sent_in (x.turns ++ y.turns))) (sym (flat_map-append given_in x.turns y.turns))
-        (subst (Moved old.told new.told old.carried new.carried (flat_map given_in x.turns ++ flat_map given_in y.turns)) (sym (flat_map-append sent_in x.turns y.turns))
-        (moved_more old.told mid.told new.told old.carried mid.carried new.carried _ _ _ _ x.moved y.moved));
+    moved = moved_turns old.told mid.told new.told old.carried mid.carried new.carried x.turns y.turns x.moved y.moved;
     lines = subst (Appends old.out new.out) (sym (lines_on x.news y.news)) (Appends-trans old.out mid.out new.out (news_lines x.news) (news_lines y.news) x.lines y.lines);
   }
 
-  pub turned_place : (old new : ConnectionAt J G) (n : ℕ)
-      → Turned old new n → new.line.place ≤ old.line.place + n * 262240
-  turned_place old new n t =
+  pub turned_place : (eager : Bool) (old new : ConnectionAt J G) (n : ℕ) → Turned eager old new n → new.line.place ≤ old.line.place + n * 262240
+  turned_place eager old new n t =
       let many = t.many in
-      subst (λ (k : ℕ). new.line.place ≤ old.line.place + k * 262240) many (turns_place old.seen new.seen old.line new.line t.turns t.news t.adds t.were)
+      subst (λ (k : ℕ). new.line.place ≤ old.line.place + k * 262240) many (turns_place eager (turn_in old) (turn_in new) t.turns t.news t.adds t.were)
 
   -- ---- where it is given up
 
   -- behind whole turns, with no turn cut short
-  pub given_whole : (why : Option ServeFault) (old new : ConnectionAt J G) (n : ℕ)
-      → Turned old new n
+  pub given_whole : (eager : Bool) (why : Option ServeFault) (old new : ConnectionAt J G) (n : ℕ)
+      → Turned eager old new n
       → (why ≡ Some faults.Turns → (n ≡ 1099511627776) × (new.line.machine.ending ≡ None)) → (why ≡ Some faults.Journal → ⊥) → ((entries bytes : ℕ) → why ≡ Some (faults.Full entries bytes) → ⊥)
-      → GivenUp why old.out new.out old.seen new.seen old.line old.box new.box
-  given_whole why old new n t turns no_journal no_full = record {
-    last = new.line;
-    behind = new.seen;
+      → GivenUp eager why old new
+  given_whole eager why old new n t turns no_journal no_full = record {
+    behind = turn_in new;
     turns = t.turns;
     news = t.news;
     adds = t.adds;
@@ -217,35 +259,74 @@ module _ {J : Type 0} {G : Ghosts J} where
     cut_added = [];
     refused = [];
     wanted = [];
-    is_cut = (refl, refl, refl, refl);
+    is_cut = (refl, refl, refl, refl, no_more (turn_in new));
+    timely = subst (AllByRecursion IsTimelyTurn) (sym (append-nil t.turns)) t.timely;
+    moved = subst (λ (ts : List Turn). Moved old.told new.told old.carried new.carried (flat_map given_in ts) (flat_map sent_in ts)) (sym (append-nil t.turns)) t.moved;
     refuses = refuses_none old.box new.box (t.adds ++ []) (subst (Gains old.box new.box) (sym (append-nil t.adds)) t.gains);
-    lines = tells_all (lacks_at why) old.out new.out _ (subst (λ (ns : List NewsItem). Appends old.out new.out (news_lines ns)) (sym (append-nil t.news)) t.lines);
+    lines = record {
+      earlier = t.news;
+      late = [];
+      are = refl;
+      few = omega arith;
+      lines = record { between = new.out; first = t.lines; last = tells_all (lacks_at why) new.out new.out [] (Appends-nil new.out) };
+    };
     spent = λ e. record { many = t.many ∙ (turns e).0; unended = (turns e).1; whole = refl };
     cut_short = (λ e. absurd (no_journal e), λ entries bytes e. absurd (no_full entries bytes e));
     past = λ entries bytes e. absurd (no_full entries bytes e);
   }
 
+  -- whatever is left of its line
+  pub given_dropped : (eager : Bool) (why : Option ServeFault) (old new : ConnectionAt J G) (l : Line) → GivenUp eager why old new → GivenUp eager why old (record new { line = l })
+  given_dropped eager why old new l g = record {
+    behind = g.behind;
+    turns = g.turns;
+    news = g.news;
+    adds = g.adds;
+    were = g.were;
+    grows = g.grows;
+    cut = g.cut;
+    cut_told = g.cut_told;
+    cut_added = g.cut_added;
+    refused = g.refused;
+    wanted = g.wanted;
+    is_cut = cut_dropped eager g.behind (turn_in new) l g.cut g.cut_told g.cut_added g.refused g.wanted g.is_cut;
+    timely = g.timely;
+    moved = g.moved;
+    refuses = g.refuses;
+    lines = g.lines;
+    spent = g.spent;
+    cut_short = g.cut_short;
+    past = g.past;
+  }
+
   -- at a whole turn whose lines are lacking
-  pub given_lacking : (fault : ServeFault) (old new : ConnectionAt J G) (news : List NewsItem)
-      → old.line.machine.ending ≡ None → WasTurn (live_end old.told old.carried old.seen old.line old.box []) (live_end new.told new.carried new.seen new.line new.box news) → Tells (lacks fault) old.out new.out (news_lines news)
+  pub given_lacking : (eager : Bool) (fault : ServeFault) (old new : ConnectionAt J G) (news : List NewsItem)
+      → old.line.machine.ending ≡ None → WasTurn eager old.clock new.clock (end_at old []) (end_at new news) → Tells (lacks fault) old.out new.out (news_lines news)
       → (fault ≡ faults.Output) ⊎ (fault ≡ faults.Memory)
-      → GivenUp (Some fault) old.out new.out old.seen new.seen old.line old.box new.box
-  given_lacking fault old new news unended was lines which = record {
-    last = new.line;
-    behind = new.seen;
+      → GivenUp eager (Some fault) old new
+  given_lacking eager fault old new news unended was lines which = record {
+    behind = turn_in new;
     turns = was.turn ∷ [];
     news = tells_in old.line was.turn;
     adds = adds_in old.line was.turn;
-    were = one_turn old.seen new.seen old.line new.line was.turn unended was.is;
+    were = one_turn eager (turn_in old) (turn_in new) was.turn unended was.made;
     grows = begins_self new.seen;
     cut = None;
     cut_told = [];
     cut_added = [];
     refused = [];
     wanted = [];
-    is_cut = (refl, refl, refl, refl);
+    is_cut = (refl, refl, refl, refl, no_more (turn_in new));
+    timely = (was.timely, tt);
+    moved = moved_once old.told new.told old.carried new.carried was.turn was.made.moved;
     refuses = refuses_none old.box new.box (adds_in old.line was.turn ++ []) (subst (Gains old.box new.box) (sym (append-nil (adds_in old.line was.turn))) was.gains);
-    lines = subst (λ (ns : List NewsItem). Tells (lacks fault) old.out new.out (news_lines ns)) (was.news_are ∙ sym (append-nil (tells_in old.line was.turn))) lines;
+    lines = record {
+      earlier = [];
+      late = tells_in old.line was.turn;
+      are = append-nil (tells_in old.line was.turn);
+      few = turn_few old.seen new.seen old.line new.line was.turn was.made.is;
+      lines = record { between = old.out; first = Appends-nil old.out; last = subst (λ (ns : List NewsItem). Tells (lacks fault) old.out new.out (news_lines ns)) was.news_are lines };
+    };
     spent = λ e. by_kind which (inl (cc));
     cut_short = (λ e. by_kind which (inr (inl (cc))), λ entries bytes e. by_kind which (inr (inr (entries, bytes, cc))));
     past = λ entries bytes e. by_kind which (inr (inr (entries, bytes, cc)));
@@ -259,42 +340,101 @@ module _ {J : Type 0} {G : Ghosts J} where
       by_kind (inr a) (inr (inl b)) = cc
       by_kind (inr a) (inr (inr b)) = let e = b.2 in cc
 
-  -- at a turn that was cut short
-  pub given_cut : (fault why : ServeFault) (out now_out : Option (List ℕ)) (before seen : History) (old : Line) (box since : Inbox J G) (news : List NewsItem)
-      → BeginsHistory before seen → CutOff old box since news why → Tells (lacks fault) out now_out (news_lines news) → (fault ≡ faults.Turns → ⊥)
-      → ((entries bytes : ℕ) → fault ≡ faults.Full entries bytes → why ≡ faults.Full entries bytes) → GivenUp (Some fault) out now_out before seen old box since
-  given_cut fault why out now_out before seen old box since news grows c lines no_turns full = record {
-    last = old;
-    behind = before;
+  -- at a turn that had not begun
+  given_unbegun : (eager : Bool) (fault why : ServeFault) (turn_fault : TurnFault) (old new : ConnectionAt J G) (news : List NewsItem)
+      → BeginsHistory old.seen new.seen → old.clock ≤ new.clock → NotBegun (end_at old []) (end_at new news) turn_fault → close_of (Err turn_fault) ≡ Err why → Tells (lacks fault) old.out new.out (news_lines news)
+      → (fault ≡ faults.Turns → ⊥) → (fault ≡ faults.Journal → why ≡ faults.Journal) → ((entries bytes : ℕ) → fault ≡ faults.Full entries bytes → why ≡ faults.Full entries bytes) → GivenUp eager (Some fault) old new
+  given_unbegun eager fault why turn_fault old new news grows ticks n is lines no_turns journal full = record {
+    behind = turn_in old;
     turns = [];
     news = [];
     adds = [];
-    were = (refl, refl, refl, refl);
+    were = (refl, refl, refl);
     grows = grows;
-    cut = Some (cut_short c.now c.cut.received c.cut.frames c.cut.refused);
+    cut = None;
+    cut_told = [];
+    cut_added = [];
+    refused = [];
+    wanted = [];
+    is_cut = (refl, refl, refl, refl, record { moved = still; clock = ticks });
+    timely = tt;
+    moved = still;
+    refuses = subst (λ (e : LiveEnd J G). Refuses old.box e.box [] []) (sym n.1) (refuses_none old.box old.box [] (gains_none old.box old.box refl));
+    lines = record {
+      earlier = [];
+      late = [];
+      are = refl;
+      few = omega arith;
+      lines = record { between = old.out; first = Appends-nil old.out; last = subst (λ (ns : List NewsItem). Tells (lacks fault) old.out new.out (news_lines ns)) (ap (λ (e : LiveEnd J G). e.news) n.1) lines };
+    };
+    spent = λ e. absurd (no_turns (cc));
+    cut_short = (λ e. absurd (no_journal (cc)), λ entries bytes e. absurd (no_full entries bytes (cc)));
+    past = λ entries bytes e. absurd (no_full entries bytes (cc));
+  }
+    where
+      still : Moved old.told new.told old.carried new.carried [] []
+      still = subst (λ (e : LiveEnd J G). Moved old.told e.told old.carried e.carried [] []) (sym n.1) (moved_none old.told old.carried)
+
+      memory : why ≡ faults.Memory
+      memory = memory_turn turn_fault why n.0 is
+
+      no_journal : fault ≡ faults.Journal → ⊥
+      no_journal e = let same = journal e in let m = memory in cc
+
+      no_full : (entries bytes : ℕ) → fault ≡ faults.Full entries bytes → ⊥
+      no_full entries bytes e = let same = full entries bytes e in let m = memory in cc
+
+  -- at a turn that was cut short
+  given_cut : (eager : Bool) (fault why : ServeFault) (turn_fault : TurnFault) (old new : ConnectionAt J G) (news : List NewsItem)
+      → BeginsHistory old.seen new.seen → WasCut eager old.clock new.clock (end_at old []) (end_at new news) turn_fault → close_of (Err turn_fault) ≡ Err why → Tells (lacks fault) old.out new.out (news_lines news)
+      → (fault ≡ faults.Turns → ⊥) → ((entries bytes : ℕ) → fault ≡ faults.Full entries bytes → why ≡ faults.Full entries bytes) → GivenUp eager (Some fault) old new
+  given_cut eager fault why turn_fault old new news grows k is lines no_turns full = record {
+    behind = turn_in old;
+    turns = [];
+    news = [];
+    adds = [];
+    were = (refl, refl, refl);
+    grows = grows;
+    cut = Some (cut_short k.now k.received k.frames k.refused);
     cut_told = news;
     cut_added = _;
     refused = _;
     wanted = _;
-    is_cut = record { now = c.now; received = c.cut.received; frames = c.cut.frames; next = c.cut.refused; fault = c.fault; is = refl; cut = c.cut.cut; news_are = c.cut.news_are; adds_are = refl; refused_are = refl; wanted_are = refl };
-    refuses = c.cut.refuses;
-    lines = lines;
+    is_cut = record { now = k.now; received = k.received; frames = k.frames; next = k.refused; fault = turn_fault; is = refl; made = k.made; news_are = k.news_are; adds_are = refl; refused_are = refl; wanted_are = refl };
+    timely = (k.timely, tt);
+    moved = moved_once old.told new.told old.carried new.carried (cut_short k.now k.received k.frames k.refused) k.made.moved;
+    refuses = k.refuses;
+    lines = record {
+      earlier = [];
+      late = news;
+      are = refl;
+      few = omega (arith, ap length k.news_are, told_few k.now (line_received old.line k.now k.received k.made.cut.got) k.frames, k.few);
+      lines = record { between = old.out; first = Appends-nil old.out; last = lines };
+    };
     spent = λ e. absurd (no_turns (cc));
     cut_short = (λ e. refl, λ entries bytes e. refl);
-    past = λ entries bytes e. c.cut.past entries bytes (full_turn c.fault entries bytes (c.is ∙ ap (λ (f : ServeFault). Err f) (full entries bytes (cc))));
+    past = λ entries bytes e. k.past entries bytes (full_turn turn_fault entries bytes (is ∙ ap (λ (f : ServeFault). Err f) (full entries bytes (cc))));
   }
 
+  -- at either
+  given_off : (eager : Bool) (fault why : ServeFault) (old new : ConnectionAt J G) (news : List NewsItem)
+      → BeginsHistory old.seen new.seen → old.clock ≤ new.clock → CutOff eager old.clock new.clock (end_at old []) (end_at new news) why → Tells (lacks fault) old.out new.out (news_lines news)
+      → (fault ≡ faults.Turns → ⊥) → (fault ≡ faults.Journal → why ≡ faults.Journal) → ((entries bytes : ℕ) → fault ≡ faults.Full entries bytes → why ≡ faults.Full entries bytes) → GivenUp eager (Some fault) old new
+  given_off eager fault why old new news grows ticks c lines no_turns journal full = by_kind c.cut
+    where
+      by_kind : NotBegun (end_at old []) (end_at new news) c.fault ⊎ WasCut eager old.clock new.clock (end_at old []) (end_at new news) c.fault → GivenUp eager (Some fault) old new
+      by_kind (inl n) = given_unbegun eager fault why c.fault old new news grows ticks n c.is lines no_turns journal full
+      by_kind (inr k) = given_cut eager fault why c.fault old new news grows k c.is lines no_turns full
+
   -- behind further turns
-  pub given_on : (why : Option ServeFault) (old mid : ConnectionAt J G) (now_out : Option (List ℕ)) (seen : History) (since : Inbox J G) (n : ℕ)
-      → Turned old mid n → GivenUp why mid.out now_out mid.seen seen mid.line mid.box since → (why ≡ Some faults.Turns → ⊥)
-      → GivenUp why old.out now_out old.seen seen old.line old.box since
-  given_on why old mid now_out seen since n x y no_turns = record {
-    last = y.last;
+  pub given_on : (eager : Bool) (why : Option ServeFault) (old mid new : ConnectionAt J G) (n : ℕ)
+      → Turned eager old mid n → GivenUp eager why mid new → (why ≡ Some faults.Turns → ⊥) → GivenUp eager why old new
+  given_on eager why old mid new n x y no_turns = record {
     behind = y.behind;
     turns = x.turns ++ y.turns;
     news = x.news ++ y.news;
     adds = x.adds ++ y.adds;
-    were = turns_on old.seen mid.seen y.behind old.line mid.line y.last x.turns y.turns x.news y.news x.adds y.adds x.were y.were;
+    were = turns_on eager (turn_in old) (turn_in mid) y.behind x.turns y.turns x.news y.news x.adds y.adds x.were y.were;
     grows = y.grows;
     cut = y.cut;
     cut_told = y.cut_told;
@@ -302,31 +442,45 @@ module _ {J : Type 0} {G : Ghosts J} where
     refused = y.refused;
     wanted = y.wanted;
     is_cut = y.is_cut;
-    refuses = subst (λ (rs : List InboxRecord). Refuses old.box since rs y.refused) (sym (append_assoc x.adds y.adds y.cut_added))
-        (refuses_on old.box mid.box since x.adds (y.adds ++ y.cut_added) y.refused x.gains y.refuses);
-    lines = subst (Tells (lacks_at why) old.out now_out) (sym (ap news_lines (append_assoc x.news y.news y.cut_told) ∙ lines_on x.news (y.news ++ y.cut_told)))
-        (tells_on (lacks_at why) old.out mid.out now_out (news_lines x.news) (news_lines (y.news ++ y.cut_told)) x.lines y.lines);
+    timely = subst (AllByRecursion IsTimelyTurn) (sym (append_assoc x.turns y.turns (option_to_list y.cut))) (all_append IsTimelyTurn x.turns (y.turns ++ option_to_list y.cut) x.timely y.timely);
+    moved = subst (λ (ts : List Turn). Moved old.told new.told old.carried new.carried (flat_map given_in ts) (flat_map sent_in ts)) (sym (append_assoc x.turns y.turns (option_to_list y.cut)))
+        (moved_turns old.told mid.told new.told old.carried mid.carried new.carried x.turns (y.turns ++ option_to_list y.cut) x.moved y.moved);
+    refuses = subst (λ (rs : List InboxRecord). Refuses old.box new.box rs y.refused) (sym (append_assoc x.adds y.adds y.cut_added))
+        (refuses_on old.box mid.box new.box x.adds (y.adds ++ y.cut_added) y.refused x.gains y.refuses);
+    lines = record {
+      earlier = x.news ++ y.lines.earlier;
+      late = y.lines.late;
+      are = append_assoc x.news y.news y.cut_told ∙ (ap (λ (ns : List NewsItem). x.news ++ ns) y.lines.are ∙ sym (append_assoc x.news y.lines.earlier y.lines.late));
+      few = y.lines.few;
+      lines = record {
+        between = y.lines.lines.between;
+        first = subst (Appends old.out y.lines.lines.between) (sym (lines_on x.news y.lines.earlier))
+            (Appends-trans old.out mid.out y.lines.lines.between (news_lines x.news) (news_lines y.lines.earlier) x.lines y.lines.lines.first);
+        last = y.lines.lines.last;
+      };
+    };
     spent = λ e. absurd (no_turns e);
     cut_short = y.cut_short;
     past = y.past;
   }
 
   -- a turn whose lines are lacking, whole or cut short
-  pub given_told : {A : Type 0} (r : Result A ServeFault) (fault : ServeFault) (H : Type 0) (old new : ConnectionAt J G) (news : List NewsItem)
-      → old.line.machine.ending ≡ None → BeginsHistory old.seen new.seen → OnOk r (WasTurn (live_end old.told old.carried old.seen old.line old.box []) (live_end new.told new.carried new.seen new.line new.box news)) → IfErr r (CutOff old.line old.box new.box news)
-      → TakesFront old.out new.out (news_lines news) → ((fault ≡ faults.Output) × H) ⊎ (fault ≡ faults.Memory) → GivenUp (Some fault) old.out new.out old.seen new.seen old.line old.box new.box
-  given_told (Ok a) fault H old new news unended grows whole cut front cause =
-      given_lacking fault old new news unended whole (lacking_tells fault H old.out new.out (news_lines news) cause front) (which_lacks fault H cause)
-  given_told (Err e) fault H old new news unended grows whole cut front cause =
-      given_cut fault e old.out new.out old.seen new.seen old.line old.box new.box news grows cut (lacking_tells fault H old.out new.out (news_lines news) cause front) (lacking_spent fault H cause) (λ entries bytes is. absurd (lacking_full fault H entries bytes cause is))
+  pub given_told : {A : Type 0} (r : Result A ServeFault) (fault : ServeFault) (H : Type 0) (eager : Bool) (old new : ConnectionAt J G) (news : List NewsItem)
+      → old.line.machine.ending ≡ None → BeginsHistory old.seen new.seen → old.clock ≤ new.clock → OnOk r (WasTurn eager old.clock new.clock (end_at old []) (end_at new news)) → IfErr r (CutOff eager old.clock new.clock (end_at old []) (end_at new news))
+      → TakesFront old.out new.out (news_lines news) → ((fault ≡ faults.Output) × H) ⊎ (fault ≡ faults.Memory) → GivenUp eager (Some fault) old new
+  given_told (Ok a) fault H eager old new news unended grows ticks whole cut front cause =
+      given_lacking eager fault old new news unended whole (lacking_tells fault H old.out new.out (news_lines news) cause front) (which_lacks fault H cause)
+  given_told (Err e) fault H eager old new news unended grows ticks whole cut front cause =
+      given_off eager fault e old new news grows ticks cut (lacking_tells fault H old.out new.out (news_lines news) cause front) (lacking_spent fault H cause) (λ is. absurd (lacking_journal fault H cause is))
+      (λ entries bytes is. absurd (lacking_full fault H entries bytes cause is))
 
   -- and one that was cut short, and whose lines were told
-  pub given_answer : {A : Type 0} (r : Result A ServeFault) (out now_out : Option (List ℕ)) (before seen : History) (old : Line) (box since : Inbox J G) (news : List NewsItem)
-      → BeginsHistory before seen → IfErr r (CutOff old box since news) → IfErr r IsOfTurn → Appends out now_out (news_lines news)
-      → IfErr r (λ fault. GivenUp (Some fault) out now_out before seen old box since)
-  given_answer (Ok a) out now_out before seen old box since news grows cut is lines = tt
-  given_answer (Err fault) out now_out before seen old box since news grows cut is lines =
-      given_cut fault fault out now_out before seen old box since news grows cut (tells_all (lacks fault) out now_out (news_lines news) lines) (λ e. subst IsOfTurn e is) (λ entries bytes e. e)
+  pub given_answer : {A : Type 0} (r : Result A ServeFault) (eager : Bool) (old new : ConnectionAt J G) (news : List NewsItem)
+      → BeginsHistory old.seen new.seen → old.clock ≤ new.clock → IfErr r (CutOff eager old.clock new.clock (end_at old []) (end_at new news)) → IfErr r IsOfTurn → Appends old.out new.out (news_lines news)
+      → IfErr r (λ fault. GivenUp eager (Some fault) old new)
+  given_answer (Ok a) eager old new news grows ticks cut is lines = tt
+  given_answer (Err fault) eager old new news grows ticks cut is lines =
+      given_off eager fault fault old new news grows ticks cut (tells_all (lacks fault) old.out new.out (news_lines news) lines) (λ e. subst IsOfTurn e is) (λ e. e) (λ entries bytes e. e)
 
   -- ---- where it begins
 
@@ -339,9 +493,12 @@ module _ {J : Type 0} {G : Ghosts J} where
     peer_last = a.peer_last ∙ sym (ap (λ (r : EndState). r.peer_last) recorded);
   }
 
-  pub given_first : (why : Option ServeFault) (out now_out : Option (List ℕ)) (before seen : History) (l start : Line) (now : ℕ) (box since : Inbox J G) → start ≡ line_begun l now
-      → GivenUp why out now_out before seen start box since → GivenUpOn why out now_out before seen l.machine box since
-  given_first why out now_out before seen l start now box since is g = record { moment = now; given_up = subst (λ (x : Line). GivenUp why out now_out before seen x box since) is g }
+  pub given_first : (eager : Bool) (why : Option ServeFault) (old new : ConnectionAt J G) (start : Line) (now clock : ℕ) → start ≡ line_begun old.line now → Begins old now clock
+      → GivenUp eager why (record old { clock = clock; line = start }) new → GivenUpOn eager why old new
+  given_first eager why old new start now clock is began g =
+      record { moment = now; clock = clock; began = began; given_up = subst (λ (x : Line). GivenUp eager why (record old { clock = clock; line = x }) new) is g }
 
-  pub turned_first : (old new : ConnectionAt J G) (start : Line) (now n : ℕ) → start ≡ line_begun old.line now → Turned (record old { line = start }) new n → TurnedOn old new
-  turned_first old new start now n is t = record { moment = now; count = n; turned = subst (λ (x : Line). Turned (record old { line = x }) new n) is t }
+  pub turned_first : (eager : Bool) (old new : ConnectionAt J G) (start : Line) (now clock n : ℕ) → start ≡ line_begun old.line now → Begins old now clock
+      → Turned eager (record old { clock = clock; line = start }) new n → TurnedOn eager old new
+  turned_first eager old new start now clock n is began t =
+      record { moment = now; clock = clock; began = began; count = n; turned = subst (λ (x : Line). Turned eager (record old { clock = clock; line = x }) new n) is t }

@@ -1,13 +1,16 @@
 -- What a fault of a life is caused by (this project's profile).
-use Rattle.std.specs.Prelude.{◌≡◌, ◌⊎◌, ℕ, Bool, true, false, List, Option, Some, None}
+use Rattle.std.specs.Prelude.{◌≡◌, ◌⊎◌, ℕ, ◌≤◌, Bool, true, false, List, ◌++◌, length, Option, Some, None}
 use Rattle.std.specs.Io.KnownBytes.{Appends}
 use Rattle.gw_outside.specs.Faults.{HasRisen, TakesFront}
 use Rattle.jr_record.specs.declared.journal.Journal.{Ghosts}
 use Rattle.jr_boxes.specs.declared.inbox.Inbox.{Inbox}
 use Rattle.jr_boxes.specs.Inbox.{faults_of, is_broken, size_of, count_of}
 use Rattle.gate_turn.specs.Views.{HasFailed, Part}
+use Rattle.conn_lines.specs.declared.close.Close.{Close}
+use Rattle.conn_turns.specs.declared.news.NewsItem.{NewsItem}
 use Rattle.conn_serve.specs.declared.answer.ServeFault.{ServeFault}
 use Rattle.conn_serve.specs.declared.answer.ServeFault.TheVariants as faults
+use Rattle.conn_serve.specs.Lines.{news_lines, close_line}
 use Rattle.conn_serve.specs.Moments.{FaultsAt}
 
 -- behind these faults lines may be lacking on OUT
@@ -29,6 +32,33 @@ lacks_at (Some fault) = lacks fault
 abbrev pub Tells : Bool → Option (List ℕ) → Option (List ℕ) → List ℕ → Type 0
 Tells false old new lines = Appends old new lines
 Tells true old new lines = TakesFront old new lines
+
+-- OUT took all of the earlier lines, and of the late ones all; or, where some may be lacking, a front of them
+pub record TellsUntil (lacking : Bool) (old new : Option (List ℕ)) (earlier late : List ℕ) : Type 0 where
+  pub between : Option (List ℕ)
+  pub first : Appends old between earlier
+  pub last : Tells lacking between new late
+
+-- so it took the lines of these news, of which the late ones are at most 16
+pub record TellsNews (lacking : Bool) (old new : Option (List ℕ)) (news : List NewsItem) : Type 0 where
+  pub earlier : List NewsItem
+  pub late : List NewsItem
+  pub are : news ≡ earlier ++ late
+  pub few : length late ≤ 16
+  pub lines : TellsUntil lacking old new (news_lines earlier) (news_lines late)
+
+-- the lines of at most 16 news, or that of the end of a connection
+abbrev pub AreLate : List ℕ → Type 0
+AreLate lines = ((news : List NewsItem) × (length news ≤ 16) × (lines ≡ news_lines news))
+    ⊎ ((n : ℕ) × (close : Option Close) × (lines ≡ close_line n close))
+
+-- so it took these lines, of which the late ones are those of at most 16 news, or that of the end of a connection
+pub record TellsAll (lacking : Bool) (old new : Option (List ℕ)) (lines : List ℕ) : Type 0 where
+  pub earlier : List ℕ
+  pub late : List ℕ
+  pub are : lines ≡ earlier ++ late
+  pub few : AreLate late
+  pub told : TellsUntil lacking old new earlier late
 
 module _ {J : Type 0} {G : Ghosts J} where
   -- a journal is to blame: the inbox's count rose, or it was broken before, or a call of the outbox's disk failed, as the count that the

@@ -1,14 +1,16 @@
 -- Connections of a life, one behind another: what they did, told, recorded and carried, and how they came to their end (this
 -- project's profile).
-use Rattle.std.specs.Prelude.{◌≡◌, ℕ, ◌-◌, List, [], ◌∷◌, ◌++◌, map, length, Option, Some, None, IfSome}
+use Rattle.std.specs.Prelude.{◌≡◌, ℕ, ◌-◌, ◌≤◌, max, Bool, List, [], ◌∷◌, ◌++◌, map, length, Option, Some, None, IfSome, option_to_list}
 use Rattle.std.specs.List.{flat_map}
 use Rattle.session_model.specs.Journal.{History, BeginsHistory}
 use Rattle.session_model.specs.Inbox.{InboxRecord}
 use Rattle.fixp_replies.specs.declared.act.Ending.{Ending}
 use Rattle.fixp_replies.specs.declared.act.Ending.TheVariants as endings
 use Rattle.fixp_machine.specs.Machine.{State}
-use Rattle.gw_links.specs.Links.{Carried, HasCarried}
+use Rattle.gw_outside.specs.Faults.{HasRisen}
+use Rattle.gw_links.specs.Links.{Carried, Moved, HasCarried}
 use Rattle.gw_links.specs.Dialers.{DialerTold}
+use Rattle.gw_links.specs.declared.link.Link.{Ghosts as LinkGhosts}
 use Rattle.conn_lines.specs.declared.close.Close.{Close}
 use Rattle.conn_lines.specs.declared.close.Close.TheVariants as closes
 use Rattle.conn_turns.specs.declared.news.NewsItem.{NewsItem}
@@ -17,13 +19,24 @@ use Rattle.conn_turns.specs.Lines.{Line, TakenFrame, lines_after}
 use Rattle.conn_turns.specs.Frames.{added, told}
 use Rattle.conn_turns.specs.Turns.{Turn, cut_short}
 use Rattle.conn_loop.specs.Turned.{refused_of, wanted_of}
-use Rattle.turn_laws.specs.Turns.{line_received, IsTurn, IsCutShort, adds_in, tells_in}
+use Rattle.turn_laws.specs.Turns.{line_received, adds_in, tells_in}
+use Rattle.turn_laws.specs.Made.{TurnAt, MadeTurn, MadeCut}
 use Rattle.turn_laws.specs.Legs.{TurnedLeg, first_line, given_on, sent_on}
 
--- A connection: its turns; what they told, in order; the records that the inbox gained; those of a frame whose append failed, which
+-- What is known of the link of a connection, and of its clock: whether its receives give all that fits; what its first turn found, and
+-- what its last left; and how often its calls had failed before and behind them
+pub record LinkSeen : Type 0 where
+  pub eager : Bool
+  pub first : TurnAt
+  pub end : TurnAt
+  pub faults_before : ℕ
+  pub faults_behind : ℕ
+
+-- A connection: its link; its turns; what they told, in order; the records that the inbox gained; those of a frame whose append failed, which
 -- a stop may leave; what the act of the frame that was refused would have added, if one was; how it came to its end, None where it was
 -- given up; and what its link tells that it had carried
 pub record Connection : Type 0 where
+  pub link : LinkSeen
   pub leg : TurnedLeg
   pub news : List NewsItem
   pub adds : List InboxRecord
@@ -32,45 +45,66 @@ pub record Connection : Type 0 where
   pub close : Option Close
   pub carried : Option Carried
 
--- whole turns, one behind another (`AreTurns`), with what they told and the records that the inbox gained
-abbrev pub WereTurns : (before after : History) (old new : Line) → List Turn → List NewsItem → List InboxRecord → Type 0
-WereTurns before after old new [] news adds = (new ≡ old) × (after ≡ before) × (news ≡ []) × (adds ≡ [])
-WereTurns before after old new (t ∷ later) news adds =
-    (old.machine.ending ≡ None) × (mid : Line) × (between : History) × IsTurn before between old mid t
-    × (more : List NewsItem) × (rest : List InboxRecord) × (news ≡ tells_in old t ++ more) × (adds ≡ adds_in old t ++ rest)
-    × WereTurns between after mid new later more rest
+-- connections, by their turns
+abbrev pub turned : List Connection → List TurnedLeg
+turned cs = map (λ (c : Connection). c.leg) cs
 
--- a turn of this line was cut short by a fault: what it told, the records that the inbox gained, those that a stop may leave, and what
--- the act of the frame that was refused would have added
-pub record WasCutAt (last : Line) (t : Turn) (news : List NewsItem) (adds refused wanted : List InboxRecord) : Type 0 where
+-- the connections that ended, and the one that was given up, if one was
+abbrev pub all_of : List Connection → Option Connection → List Connection
+all_of ended given_up = ended ++ option_to_list given_up
+
+-- whole turns, one behind another, each from where the one before left all, with what they told and the records that the inbox gained
+abbrev pub WereTurns : (eager : Bool) (old new : TurnAt) → List Turn → List NewsItem → List InboxRecord → Type 0
+WereTurns eager old new [] news adds = (new ≡ old) × (news ≡ []) × (adds ≡ [])
+WereTurns eager old new (t ∷ later) news adds =
+    (old.line.machine.ending ≡ None) × (mid : TurnAt) × MadeTurn eager old mid t
+    × (more : List NewsItem) × (rest : List InboxRecord) × (news ≡ tells_in old.line t ++ more) × (adds ≡ adds_in old.line t ++ rest)
+    × WereTurns eager mid new later more rest
+
+-- a turn was cut short by a fault: what it told, the records that the inbox gained, those that a stop may leave, and what the act of the
+-- frame that was refused would have added
+pub record WasCutAt (eager : Bool) (old new : TurnAt) (t : Turn) (news : List NewsItem) (adds refused wanted : List InboxRecord) : Type 0 where
   pub now : ℕ
   pub received : List ℕ
   pub frames : List TakenFrame
   pub next : Option TakenFrame
   pub fault : TurnFault
   pub is : t ≡ cut_short now received frames next
-  pub cut : IsCutShort now received frames next last
-  pub news_are : news ≡ told now (line_received last now received cut.over) frames
-  pub adds_are : adds ≡ added now (line_received last now received cut.over) frames
-  pub refused_are : refused ≡ refused_of fault now (lines_after now (line_received last now received cut.over) frames) next
-  pub wanted_are : wanted ≡ wanted_of now (lines_after now (line_received last now received cut.over) frames) next
+  pub made : MadeCut eager old new now received frames next
+  pub news_are : news ≡ told now (line_received old.line now received made.cut.got) frames
+  pub adds_are : adds ≡ added now (line_received old.line now received made.cut.got) frames
+  pub refused_are : refused ≡ refused_of fault now (lines_after now (line_received old.line now received made.cut.got) frames) next
+  pub wanted_are : wanted ≡ wanted_of now (lines_after now (line_received old.line now received made.cut.got) frames) next
 
--- a turn of this line was cut short, if one was; where none was, nothing was told, gained, refused or wanted
-abbrev pub CutAt : Line → Option Turn → List NewsItem → (adds refused wanted : List InboxRecord) → Type 0
-CutAt last None news adds refused wanted = (news ≡ []) × (adds ≡ []) × (refused ≡ []) × (wanted ≡ [])
-CutAt last (Some t) news adds refused wanted = WasCutAt last t news adds refused wanted
+-- no turn was cut short: the link moved nothing more, and the clock did not fall
+pub record MadeNoMore (old new : TurnAt) : Type 0 where
+  pub moved : Moved old.told new.told old.carried new.carried [] []
+  pub clock : old.clock ≤ new.clock
+
+-- a turn was cut short, if one was; where none was, nothing more was told, gained, refused, wanted or moved
+abbrev pub CutAt : (eager : Bool) (old new : TurnAt) → Option Turn → List NewsItem → (adds refused wanted : List InboxRecord) → Type 0
+CutAt eager old new None news adds refused wanted = (news ≡ []) × (adds ≡ []) × (refused ≡ []) × (wanted ≡ []) × MadeNoMore old new
+CutAt eager old new (Some t) news adds refused wanted = WasCutAt eager old new t news adds refused wanted
+
+-- a connection began at its moment in the state m, by a pass that had seen so much of the outbox
+pub record BeganAt (seen : History) (m : State) (moment : ℕ) (first : TurnAt) : Type 0 where
+  pub seen_is : first.seen ≡ seen
+  pub line : first.line ≡ first_line m moment
+  pub time : moment ≡ max first.clock m.moment
 
 -- A connection began at its moment in the state m; its whole turns led to the line `last`, and behind them one was cut short, if one was. What
 -- was seen of the outbox begins with what was seen behind the whole turns
 pub record IsConnection (before after : History) (m : State) (last : Line) (c : Connection) : Type 0 where
-  pub seen : History
+  pub began : BeganAt before m c.leg.moment c.link.first
+  pub behind : TurnAt
+  pub line : behind.line ≡ last
   pub told : List NewsItem
   pub added : List InboxRecord
-  pub turns : WereTurns before seen (first_line m c.leg.moment) last c.leg.turns told added
-  pub grows : BeginsHistory seen after
+  pub turns : WereTurns c.link.eager c.link.first behind c.leg.turns told added
+  pub grows : BeginsHistory behind.seen after
   pub cut_told : List NewsItem
   pub cut_added : List InboxRecord
-  pub cut : CutAt last c.leg.cut cut_told cut_added c.refused c.wanted
+  pub cut : CutAt c.link.eager behind c.link.end c.leg.cut cut_told cut_added c.refused c.wanted
   pub news : c.news ≡ told ++ cut_told
   pub adds : c.adds ≡ added ++ cut_added
 
@@ -89,6 +123,7 @@ pub record HasEnded (before after : History) (m new : State) (c : Connection) : 
   pub close : Close
   pub closed : c.close ≡ Some close
   pub ending : ClosesAs close new.ending
+  pub lost : close ≡ closes.LinkFault → HasRisen c.link.faults_before c.link.faults_behind
   pub carried : HasCarried c.carried (given_on c.leg) (sent_on c.leg)
 
 -- connections that ended, one behind another, from the state m on
@@ -111,6 +146,12 @@ Follows closes.LinkFault = Unit {0}
 abbrev pub IsFollowed : Connection → Type 0
 IsFollowed c = IfSome c.close Follows
 
+-- each of some connections but the last was followed by the next
+abbrev pub AreFollowed : List Connection → Type 0
+AreFollowed [] = Unit {0}
+AreFollowed (c ∷ []) = Unit {0}
+AreFollowed (c ∷ d ∷ later) = IsFollowed c × AreFollowed (d ∷ later)
+
 -- what the inbox gained over connections, what a stop may leave beside it, and what those frames would have added that were refused
 abbrev pub adds_of : List Connection → List InboxRecord
 adds_of = flat_map (λ (c : Connection). c.adds)
@@ -124,3 +165,20 @@ wanted_of_all = flat_map (λ (c : Connection). c.wanted)
 -- what a dialer tells once their links came back, each in its place
 abbrev pub came_back : List Connection → DialerTold → DialerTold
 came_back cs t = record { left = t.left - length cs; back = t.back ++ map (λ (c : Connection). c.carried) cs }
+
+-- the link of a connection was this one of a dialer, as the contracts of its links have it
+pub record IsOver {L : Type 0} (G : LinkGhosts L) (s : LinkSeen) : Type 0 where
+  pub before : L
+  pub behind : L
+  pub eager : s.eager ≡ G.eager
+  pub told_before : s.first.told ≡ G.told before
+  pub told_behind : s.end.told ≡ G.told behind
+  pub carried_before : s.first.carried ≡ G.carried before
+  pub carried_behind : s.end.carried ≡ G.carried behind
+  pub failed_before : s.faults_before ≡ G.faults before
+  pub failed_behind : s.faults_behind ≡ G.faults behind
+
+-- connections, one behind another, between what their clock gave last before and behind them
+abbrev pub ByClock : (before behind : ℕ) → List Connection → Type 0
+ByClock before behind [] = before ≤ behind
+ByClock before behind (c ∷ later) = (before ≤ c.link.first.clock) × ByClock c.link.end.clock behind later

@@ -8,14 +8,16 @@ use Rattle.jr_boxes.specs.declared.inbox.Inbox.{Inbox}
 use Rattle.gate_turn.specs.Views.{Part}
 use Rattle.gate_plans.specs.declared.sender.Sender.{Sender}
 use Rattle.conn_turns.specs.Lines.{Line}
+use Rattle.turn_laws.specs.Made.{TurnAt}
 
 -- a connection between its turns: what its link tells, and tells that it had carried; what OUT tells that it took; what its pass has
--- seen of the outbox; its line; and the inbox
+-- seen of the outbox; what its clock gave last; its line; and the inbox
 pub record ConnectionAt (J : Type 0) (G : Ghosts J) : Type 0 where
   pub told : Option LinkTold
   pub carried : Option Carried
   pub out : Option (List ℕ)
   pub seen : History
+  pub clock : ℕ
   pub line : Line
   pub box : Inbox J G
 
@@ -52,8 +54,20 @@ pub record ServingAt (J : Type 0) (G : Ghosts J) (O : Type 0) (H : Ghosts O) : T
   pub senders : List (Sender O H)
 
 module _ {J : Type 0} {G : Ghosts J} where
-  abbrev pub connection_at : Option LinkTold → Option Carried → (out : Option (List ℕ)) → History → Line → Inbox J G → ConnectionAt J G
-  connection_at told carried out seen line box = record { told = told; carried = carried; out = out; seen = seen; line = line; box = box }
+  abbrev pub connection_at : Option LinkTold → Option Carried → (out : Option (List ℕ)) → History → (clock : ℕ) → Line → Inbox J G → ConnectionAt J G
+  connection_at told carried out seen clock line box = record {
+    told = told;
+    carried = carried;
+    out = out;
+    seen = seen;
+    clock = clock;
+    line = line;
+    box = box;
+  }
+
+  -- what its turn finds, or leaves
+  abbrev pub turn_in : ConnectionAt J G → TurnAt
+  turn_in c = record { told = c.told; carried = c.carried; seen = c.seen; clock = c.clock; line = c.line }
 
   abbrev pub life_at : Option DialerTold → (out : Option (List ℕ)) → History → Inbox J G → LifeAt J G
   life_at dialed out seen box = record { dialed = dialed; out = out; seen = seen; box = box }

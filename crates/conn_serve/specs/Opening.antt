@@ -1,5 +1,5 @@
 -- A whole life: where it opens, and what it did (this project's profile).
-use Rattle.std.specs.Prelude.{⊤, ◌≡◌, ◌⊎◌, if◌then◌else◌, length, Option, Some, None, Result, Ok, Err, IfErr, IsTrue}
+use Rattle.std.specs.Prelude.{⊤, ℕ, ◌≡◌, ◌⊎◌, if◌then◌else◌, length, Option, Some, None, Result, Ok, Err, IfErr, IsTrue}
 use Rattle.session_model.specs.Journal.{History}
 use Rattle.fixp_replies.specs.declared.facts.EndState.{EndState}
 use Rattle.fixp_machine.specs.Machine.{State}
@@ -11,9 +11,10 @@ use Rattle.conn_serve.specs.declared.answer.ServeFault.{ServeFault}
 use Rattle.conn_serve.specs.declared.answer.ServeFault.TheVariants as faults
 use Rattle.conn_serve.specs.declared.answer.LifeEnd.{LifeEnd}
 use Rattle.conn_serve.specs.Answers.{answer_of, yields}
+use Rattle.gw_links.specs.declared.link.Link.{Ghosts as LinkGhosts}
 use Rattle.conn_serve.specs.Causes.{IsBlamed}
 use Rattle.conn_serve.specs.Moments.{ServingAt, life_in, faults_in}
-use Rattle.conn_serve.specs.Served.{ServedLife}
+use Rattle.conn_serve.specs.Served.{ServedLife, ServedOver}
 use Rattle.conn_serve.specs.Senders.{SubmittedAll}
 
 -- no refusal of a sender or of the Finish is answered, and nothing failed
@@ -33,13 +34,23 @@ module _ {J : Type 0} {G : Ghosts J} where
   }
 
 module _ {J : Type 0} {G : Ghosts J} {O : Type 0} {H : Ghosts O} where
-  -- The connections were served and the senders submitted, beside each other, and it answers what comes first of both. Where there was
+  -- The connections were served so and the senders submitted, beside each other, and it answers what comes first of both. Where there was
   -- no memory to begin, the senders are as they were
-  pub record ServedBy (gate : Gate O H) (old new : ServingAt J G O H) (m : State) (result : Result (Unit {0}) ServeFault) : Type 0 where
+  pub record ServedSo (Life : Result LifeEnd ServeFault → Type 0) (gate : Gate O H) (old new : ServingAt J G O H) (result : Result (Unit {0}) ServeFault)
+      : Type 0 where
     pub connections : Result LifeEnd ServeFault
     pub refused : Option ServeFault
-    pub life : ServedLife (life_in old) (life_in new) m connections
+    pub life : Life connections
     pub blamed : IfErr connections (IsBlamed (faults_in old) (faults_in new))
     pub senders : SubmittedAll gate old.senders new.senders refused
         ⊎ ((new.senders ≡ old.senders) × (refused ≡ None) × (connections ≡ Err faults.Memory))
     pub answer : result ≡ answer_of connections refused
+
+  abbrev pub ServedBy : Gate O H → (old new : ServingAt J G O H) → State → Result (Unit {0}) ServeFault → Type 0
+  ServedBy gate old new m result = ServedSo (λ connections. ServedLife (life_in old) (life_in new) m connections) gate old new result
+
+  -- so it was over links of the dialer, by a clock that gave these moments last before and behind
+  abbrev pub ServedThrough : {L : Type 0} → LinkGhosts L → (before behind : ℕ) → Gate O H → (old new : ServingAt J G O H) → State
+      → Result (Unit {0}) ServeFault → Type 0
+  ServedThrough links before behind gate old new m result =
+      ServedSo (λ connections. ServedOver links before behind (life_in old) (life_in new) m connections) gate old new result

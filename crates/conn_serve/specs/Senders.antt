@@ -1,5 +1,6 @@
 -- What a life makes of its senders, and of the Finish behind them (this project's profile).
-use Rattle.std.specs.Prelude.{◌≡◌, ◌⊎◌, ℕ, ◌<◌, true, All, Contains, List, length, slice_index_or, Option, Some, None}
+use Rattle.std.specs.Prelude.{◌≡◌, ◌≢◌, ◌⊎◌, ℕ, ◌<◌, true, All, Contains, List, [], ◌∷◌, length, slice_index_or, Option, Some, None}
+use Rattle.session_model.specs.Journal.{finish}
 use Rattle.jr_record.specs.declared.journal.Journal.{Ghosts}
 use Rattle.jr_boxes.specs.declared.faults.SubmitFault.{SubmitFault}
 use Rattle.gate_turn.specs.Views.{HasFailed, Part}
@@ -12,11 +13,21 @@ use Rattle.conn_serve.specs.declared.answer.ServeFault.{ServeFault}
 use Rattle.conn_serve.specs.declared.answer.ServeFault.TheVariants as faults
 use Rattle.conn_serve.specs.Answers.{submit_fault}
 
--- The Finish was added, or refused so: the pass took one turn and made nothing. Where it was not refused, or only since the outbox is
+-- the mark was refused with a failed call, so a stop may leave it behind the history, which had none; a journal is to blame, and nothing
+-- is taken any more
+pub record LosesMark (p q : Part) (refused : Option ServeFault) : Type 0 where
+  pub lost : q.lost ≡ finish ∷ []
+  pub broken : q.broken ≡ true
+  pub unmarked : q.seen.finished ≢ true
+  pub unended : q.ended ≡ p.ended
+  pub blamed : refused ≡ Some faults.Journal
+
+-- The Finish was added, or refused so: the pass took one turn and made nothing, and it lost nothing but the mark. Where it was not refused, or only since the outbox is
 -- closed, the pass has seen the mark; a journal is to blame only where a call of its disk failed, in this turn or since its opening
 pub record Finishes (p q : Part) (refused : Option ServeFault) : Type 0 where
   pub turn : TakesTurn p q
   pub mine : q.mine ≡ p.mine
+  pub lost : (q.lost ≡ p.lost) ⊎ LosesMark p q refused
   pub marked : refused ≡ None → q.seen.finished ≡ true
   pub journal : refused ≡ Some faults.Journal → HasFailed p.faults q.faults ⊎ HasFailed q.opening.faults q.faults
   pub few : (fault : ServeFault) → refused ≡ Some fault → (fault ≡ faults.Journal) ⊎ (fault ≡ faults.Memory)

@@ -1,27 +1,34 @@
 -- What a life of connections did (this project's profile).
-use Rattle.std.specs.Prelude.{⊤, ◌≡◌, ◌⊎◌, ℕ, ◌+◌, ◌-◌, ◌<◌, Bool, true, false, All, List, [], ◌∷◌, ◌++◌, map, length, Option, Some, None, IsSome, IfSome, IsTrue, is_some, option_to_list, Result, Ok, Err}
+use Rattle.std.specs.Prelude.{⊤, ◌≡◌, ◌⊎◌, ℕ, ◌+◌, ◌-◌, ◌<◌, ◌≤◌, Bool, true, false, All, List, [], ◌∷◌, ◌++◌, map, length, Option, Some, None, IsSome, IfSome, IsTrue, is_some, option_to_list, Result, Ok, Err}
+use Rattle.std.specs.List.{AllByRecursion}
 use Rattle.std.specs.Io.KnownBytes.{Appends}
 use Rattle.session_model.specs.Journal.{History}
 use Rattle.fixp_replies.specs.declared.act.Ending.TheVariants as endings
 use Rattle.fixp_machine.specs.Machine.{State, phase_of}
 use Rattle.std.specs.Option.{option_map}
-use Rattle.gw_links.specs.Links.{Carried, CarriedNothing}
+use Rattle.gw_links.specs.Links.{Carried, CarriedNothing, HasCarried}
 use Rattle.gw_links.specs.Dialers.{DialerTold}
+use Rattle.gw_links.specs.declared.link.Link.{Ghosts as LinkGhosts}
 use Rattle.jr_record.specs.declared.journal.Journal.{Ghosts}
 use Rattle.jr_boxes.specs.Inbox.{limits_of}
 use Rattle.conn_lines.specs.declared.close.Close.{Close}
 use Rattle.conn_lines.specs.declared.close.Close.TheVariants as closes
 use Rattle.conn_turns.specs.Lines.{Line}
 use Rattle.conn_steps.specs.Settling.{IsPast, Gains, Refuses}
+use Rattle.turn_laws.specs.Legs.{given_on, sent_on, IsTimely}
 use Rattle.conn_serve.specs.declared.answer.ServeFault.{ServeFault}
 use Rattle.conn_serve.specs.declared.answer.ServeFault.TheVariants as faults
 use Rattle.conn_serve.specs.declared.answer.LifeEnd.{LifeEnd}
 use Rattle.conn_serve.specs.declared.answer.LifeEnd.TheVariants as ends
-use Rattle.conn_serve.specs.Connections.{Connection, IsConnection, HasEnded, AllEnded, Follows, IsFollowed, adds_of, refused_of_all, wanted_of_all}
+use Rattle.conn_serve.specs.Connections.{LinkSeen, IsOver, ByClock, Connection, turned, all_of, IsConnection, HasEnded, AllEnded, Follows, IsFollowed, AreFollowed, adds_of, refused_of_all, wanted_of_all}
 use Rattle.conn_serve.specs.Lines.{news_lines, close_line, lines_from}
-use Rattle.conn_serve.specs.Causes.{lacks, lacks_at, Tells}
+use Rattle.conn_serve.specs.Causes.{lacks, lacks_at, TellsUntil, TellsNews, TellsAll}
 use Rattle.conn_serve.specs.Moments.{LifeAt}
 use Rattle.conn_serve.specs.Turned.{IsSpent}
+
+-- a link of a dialer, between what its clock gave last before and behind a connection
+abbrev pub IsOverBy : {L : Type 0} → LinkGhosts L → (before behind : ℕ) → LinkSeen → Type 0
+IsOverBy G before behind s = IsOver G s × (before ≤ s.first.clock) × (s.end.clock ≤ behind)
 
 -- links came back to a dialer that tells it, which had carried this, each of one of the connections that were left
 pub record Came (old new : DialerTold) (more : List (Option Carried)) : Type 0 where
@@ -69,10 +76,11 @@ pub record EndsWith (close : Close) (ended : List Connection) : Type 0 where
   pub closed : last.close ≡ Some close
   pub followed : All IsFollowed earlier
 
--- the connection behind those that ended was given up, if one was
+-- the connection behind those that ended was given up, if one was: its link carried exactly the bytes that were given and sent in its turns
 abbrev pub WasGivenUp : (before after : History) (m : State) → Option Connection → Type 0
 WasGivenUp before after m None = after ≡ before
 WasGivenUp before after m (Some c) = (last : Line) × IsConnection before after m last c × (c.close ≡ None)
+    × HasCarried c.carried (given_on c.leg) (sent_on c.leg)
 
 -- a connection was given up after all its turns
 pub record SpentConnection (before after : History) (m : State) (c : Connection) : Type 0 where
@@ -102,8 +110,8 @@ lacks_lines (Ok a) = false
 lacks_lines (Err fault) = lacks fault
 
 module _ {J : Type 0} {G : Ghosts J} where
-  -- Connections ended, one behind another, each but the last followed by the next, and a last one was given up, if one was. The inbox
-  -- gained what they add; OUT took their lines, numbered from 1; and their links came back. At Full the inbox's journal has no room for
+  -- Connections ended, one behind another, and a last one was given up, if one was; each but the last was followed by the next, and all were
+  -- in time. The inbox gained what they add; OUT took their lines, numbered from 1; and their links came back. At Full the inbox's journal has no room for
   -- the record of the frame that was refused on the last one
   pub record ServedLife (old new : LifeAt J G) (m : State) (result : Result LifeEnd ServeFault) : Type 0 where
     pub ended : List Connection
@@ -112,13 +120,22 @@ module _ {J : Type 0} {G : Ghosts J} where
     pub mid : State
     pub were : AllEnded old.seen behind m mid ended
     pub gave_up : WasGivenUp behind new.seen mid given_up
-    pub refuses : Refuses old.box new.box (adds_of (ended ++ option_to_list given_up)) (refused_of_all (option_to_list given_up))
-    pub lines : Tells (lacks_lines result) old.out new.out (lines_from 1 (ended ++ option_to_list given_up))
-    pub came : AllCame old.dialed new.dialed (carried_by (ended ++ option_to_list given_up))
-    pub tells : IsTrue (is_some old.dialed) → All IsTold ended
+    pub followed : AreFollowed (all_of ended given_up)
+    pub timely : AllByRecursion IsTimely (turned (all_of ended given_up))
+    pub refuses : Refuses old.box new.box (adds_of (all_of ended given_up)) (refused_of_all (option_to_list given_up))
+    pub lines : TellsAll (lacks_lines result) old.out new.out (lines_from 1 (all_of ended given_up))
+    pub came : AllCame old.dialed new.dialed (carried_by (all_of ended given_up))
+    pub tells : IsTrue (is_some old.dialed) → All IsTold (all_of ended given_up)
     pub answer : IsLifeAnswer behind new.seen mid new.dialed ended given_up result
     pub past : (entries bytes : ℕ) → result ≡ Err (faults.Full entries bytes)
         → IsPast (limits_of new.box).bytes bytes (wanted_of_all (option_to_list given_up))
+
+  -- so it was over links of a dialer, one behind another, by a clock that gave these moments last before and behind them
+  pub record ServedOver {L : Type 0} (G' : LinkGhosts L) (before behind : ℕ) (old new : LifeAt J G) (m : State) (result : Result LifeEnd ServeFault)
+      : Type 0 where
+    pub life : ServedLife old new m result
+    pub links : AllByRecursion (λ (c : Connection). IsOver G' c.link) (all_of life.ended life.given_up)
+    pub clock : ByClock before behind (all_of life.ended life.given_up)
 
   -- connections that ended so far, each followed by the next
   pub record Lived (old new : LifeAt J G) (m m' : State) (ended : List Connection) : Type 0 where
@@ -127,27 +144,34 @@ module _ {J : Type 0} {G : Ghosts J} where
     pub lines : Appends old.out new.out (lines_from 1 ended)
     pub came : AllCame old.dialed new.dialed (carried_by ended)
     pub tells : IsTrue (is_some old.dialed) → All IsTold ended
+    pub timely : AllByRecursion IsTimely (turned ended)
     pub followed : All IsFollowed ended
 
-  -- the connection of the number n ended so
-  pub record EndedOne (n : ℕ) (lacking : Bool) (old new : LifeAt J G) (m m' : State) (close : Close) : Type 0 where
+  -- the connection of the number n ended so, over a link of which this is known
+  pub record EndedOne (over : LinkSeen → Type 0) (n : ℕ) (lacking : Bool) (old new : LifeAt J G) (m m' : State) (close : Close) : Type 0 where
     pub connection : Connection
+    pub link : over connection.link
     pub closed : connection.close ≡ Some close
     pub ended : HasEnded old.seen new.seen m m' connection
+    pub timely : IsTimely connection.leg
     pub gains : Gains old.box new.box connection.adds
-    pub lines : Tells lacking old.out new.out (news_lines connection.news ++ close_line n connection.close)
+    pub lines : TellsUntil lacking old.out new.out (news_lines connection.news) (close_line n connection.close)
     pub came : AllCame old.dialed new.dialed (connection.carried ∷ [])
     pub tells : IsTrue (is_some old.dialed) → IsTold connection
 
-  -- a connection was given up
-  pub record GaveOneUp (why : Option ServeFault) (old new : LifeAt J G) (m : State) : Type 0 where
+  -- a connection was given up: its link carried exactly the bytes that were given and sent in its turns
+  pub record GaveOneUp (over : LinkSeen → Type 0) (why : Option ServeFault) (old new : LifeAt J G) (m : State) : Type 0 where
     pub connection : Connection
+    pub link : over connection.link
     pub unclosed : connection.close ≡ None
     pub last : Line
     pub is : IsConnection old.seen new.seen m last connection
+    pub timely : IsTimely connection.leg
+    pub carried : HasCarried connection.carried (given_on connection.leg) (sent_on connection.leg)
     pub refuses : Refuses old.box new.box connection.adds connection.refused
-    pub lines : Tells (lacks_at why) old.out new.out (news_lines connection.news)
+    pub lines : TellsNews (lacks_at why) old.out new.out connection.news
     pub came : AllCame old.dialed new.dialed (connection.carried ∷ [])
+    pub tells : IsTrue (is_some old.dialed) → IsTold connection
     pub spent : why ≡ Some faults.Turns → IsSpent last connection.leg.turns connection.leg.cut
     pub cut_short : (why ≡ Some faults.Journal → IsSome connection.leg.cut)
         × ((entries bytes : ℕ) → why ≡ Some (faults.Full entries bytes) → IsSome connection.leg.cut)
@@ -162,15 +186,15 @@ module _ {J : Type 0} {G : Ghosts J} where
     pub same_box : Gains old.box new.box []
 
   -- One round of a life, for the connection of the number n, as it answers: None where the next one follows
-  abbrev pub IsRound : (n : ℕ) (old new : LifeAt J G) (m m' : State) → Result (Option LifeEnd) ServeFault → Type 0
-  IsRound n old new m m' (Ok None) = (close : Close) × Follows close × EndedOne n false old new m m' close
-  IsRound n old new m m' (Ok (Some ends.Finished)) = EndedOne n false old new m m' (closes.Ended endings.Finished)
-  IsRound n old new m m' (Ok (Some ends.Stopped)) = GaveOneUp None old new m
-  IsRound n old new m m' (Err faults.Output) = ((close : Close) × EndedOne n true old new m m' close) ⊎ GaveOneUp (Some faults.Output) old new m
-  IsRound n old new m m' (Err faults.Journal) = GaveOneUp (Some faults.Journal) old new m
-  IsRound n old new m m' (Err faults.Dial) = MadeNone old new m m'
-  IsRound n old new m m' (Err (faults.Unfinished phase)) = MadeNone old new m m' × (phase ≡ phase_of m) × IfSome new.dialed (λ t. t.left ≡ 0)
-  IsRound n old new m m' (Err (faults.Rejected template code)) = EndedOne n false old new m m' (closes.Ended (endings.Rejected template code))
-  IsRound n old new m m' (Err (faults.Full entries bytes)) = GaveOneUp (Some (faults.Full entries bytes)) old new m
-  IsRound n old new m m' (Err faults.Turns) = GaveOneUp (Some faults.Turns) old new m
-  IsRound n old new m m' (Err faults.Memory) = ((close : Close) × EndedOne n true old new m m' close) ⊎ GaveOneUp (Some faults.Memory) old new m
+  abbrev pub IsRound : (over : LinkSeen → Type 0) (n : ℕ) (old new : LifeAt J G) (m m' : State) → Result (Option LifeEnd) ServeFault → Type 0
+  IsRound over n old new m m' (Ok None) = (close : Close) × Follows close × EndedOne over n false old new m m' close
+  IsRound over n old new m m' (Ok (Some ends.Finished)) = EndedOne over n false old new m m' (closes.Ended endings.Finished)
+  IsRound over n old new m m' (Ok (Some ends.Stopped)) = GaveOneUp over None old new m
+  IsRound over n old new m m' (Err faults.Output) = ((close : Close) × EndedOne over n true old new m m' close) ⊎ GaveOneUp over (Some faults.Output) old new m
+  IsRound over n old new m m' (Err faults.Journal) = GaveOneUp over (Some faults.Journal) old new m
+  IsRound over n old new m m' (Err faults.Dial) = MadeNone old new m m'
+  IsRound over n old new m m' (Err (faults.Unfinished phase)) = MadeNone old new m m' × (phase ≡ phase_of m) × IfSome new.dialed (λ t. t.left ≡ 0)
+  IsRound over n old new m m' (Err (faults.Rejected template code)) = EndedOne over n false old new m m' (closes.Ended (endings.Rejected template code))
+  IsRound over n old new m m' (Err (faults.Full entries bytes)) = GaveOneUp over (Some (faults.Full entries bytes)) old new m
+  IsRound over n old new m m' (Err faults.Turns) = GaveOneUp over (Some faults.Turns) old new m
+  IsRound over n old new m m' (Err faults.Memory) = ((close : Close) × EndedOne over n true old new m m' close) ⊎ GaveOneUp over (Some faults.Memory) old new m

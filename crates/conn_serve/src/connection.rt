@@ -6,7 +6,9 @@ ghost use Rattle.gate_turn.specs.Places.{known};
 ghost use Rattle.gate_turn.specs.Calls.{IsFree};
 ghost use Rattle.gate_senders.specs.Gate.{IsPassAt};
 ghost use Rattle.conn_turns.specs.News.{items_of};
+ghost use Rattle.gw_outside.specs.Faults.{HasRisen};
 ghost use Rattle.conn_lines.specs.declared.close.Close.{Close};
+ghost use Rattle.conn_lines.specs.declared.close.Close.TheVariants as closes;
 ghost use Rattle.conn_steps.specs.Settling.{SameKind};
 ghost use Rattle.conn_steps.specs.Agreeing.{Agrees};
 ghost use Rattle.conn_loop.specs.Conn.{line_of, GoesOn, HasSeen, Looks};
@@ -57,8 +59,8 @@ fn make_turn<L: Link, O: Journal, I: Journal, C: Clock, R: Wait>(
     ensures own { IsPassAt gate.now pass.new }
     ensures free { IsFree pass.new }
     ensures looks { Looks (known pass.old) (known pass.new) }
-    ensures whole { OnOk result (WasTurn (live_end (L.told link.old) (L.carried link.old) (known pass.old).seen (line_of conn.old) inbox.old []) (live_end (L.told link.new) (L.carried link.new) (known pass.new).seen (line_of conn.new) inbox.new (items_of news.new))) }
-    ensures cut { IfErr result (CutOff (line_of conn.old) inbox.old inbox.new (items_of news.new)) }
+    ensures whole { OnOk result (WasTurn L.eager (C.last clock.old) (C.last clock.new) (live_end (L.told link.old) (L.carried link.old) (known pass.old).seen (line_of conn.old) inbox.old []) (live_end (L.told link.new) (L.carried link.new) (known pass.new).seen (line_of conn.new) inbox.new (items_of news.new))) }
+    ensures cut { IfErr result (CutOff L.eager (C.last clock.old) (C.last clock.new) (live_end (L.told link.old) (L.carried link.old) (known pass.old).seen (line_of conn.old) inbox.old []) (live_end (L.told link.new) (L.carried link.new) (known pass.new).seen (line_of conn.new) inbox.new (items_of news.new))) }
     ensures short { All IsShort (items_of news.new) }
     ensures goes { result ≡ Ok None → GoesOn (line_of conn.new).machine }
     ensures closed { (close : Close) → result ≡ Ok (Some close) → ClosesAs close (line_of conn.new).machine.ending }
@@ -69,6 +71,9 @@ fn make_turn<L: Link, O: Journal, I: Journal, C: Clock, R: Wait>(
     ensures never_falls { faults_of inbox.old ≤ faults_of inbox.new }
     ensures stays { L.place link.new ≡ L.place link.old }
     ensures told { C.told clock.new ≡ C.told clock.old }
+    ensures ticks { C.last clock.old ≤ C.last clock.new }
+    ensures lost { result ≡ Ok (Some closes.LinkFault) → HasRisen (L.faults link.old) (L.faults link.new) }
+    ensures failed { L.faults link.old ≤ L.faults link.new }
 {
     close_of(conn.turn(link, gate, pass, inbox, clock, news, rt))
 }
@@ -95,17 +100,20 @@ fn turn_once<L: Link, K: Sink, O: Journal, I: Journal, C: Clock, R: Wait>(
     ensures own { IsPassAt gate.now pass.new }
     ensures free { IsFree pass.new }
     ensures looks { Looks (known pass.old) (known pass.new) }
-    ensures turned { OnOk result (Turned (connection_at (L.told link.old) (L.carried link.old) (K.taken out.old) (known pass.old).seen (line_of conn.old) inbox.old) (connection_at (L.told link.new) (L.carried link.new) (K.taken out.new) (known pass.new).seen (line_of conn.new) inbox.new) 1) }
+    ensures turned { OnOk result (Turned L.eager (connection_at (L.told link.old) (L.carried link.old) (K.taken out.old) (known pass.old).seen (C.last clock.old) (line_of conn.old) inbox.old) (connection_at (L.told link.new) (L.carried link.new) (K.taken out.new) (known pass.new).seen (C.last clock.new) (line_of conn.new) inbox.new) 1) }
     ensures goes { result ≡ Ok None → GoesOn (line_of conn.new).machine }
     ensures closed { (close : Close) → result ≡ Ok (Some close) → ClosesAs close (line_of conn.new).machine.ending }
     ensures leaves { OnOk result (Leaves (line_of conn.new).machine (known pass.new) inbox.new) }
-    ensures given_up { IfErr result (λ fault. GivenUp (Some fault) (K.taken out.old) (K.taken out.new) (known pass.old).seen (known pass.new).seen (line_of conn.old) inbox.old inbox.new) }
+    ensures given_up { IfErr result (λ fault. GivenUp L.eager (Some fault) (connection_at (L.told link.old) (L.carried link.old) (K.taken out.old) (known pass.old).seen (C.last clock.old) (line_of conn.old) inbox.old) (connection_at (L.told link.new) (L.carried link.new) (K.taken out.new) (known pass.new).seen (C.last clock.new) (line_of conn.new) inbox.new)) }
     ensures blamed { IfErr result (IsBlamed (faults_at (K.faults out.old) 0 (known pass.old) inbox.old) (faults_at (K.faults out.new) 0 (known pass.new) inbox.new)) }
     ensures of_turn { IfErr result IsOfTurn }
     ensures kind { SameKind inbox.old inbox.new }
     ensures never_falls { (faults_of inbox.old ≤ faults_of inbox.new) × (K.faults out.old ≤ K.faults out.new) }
     ensures stays { L.place link.new ≡ L.place link.old }
     ensures told { C.told clock.new ≡ C.told clock.old }
+    ensures ticks { C.last clock.old ≤ C.last clock.new }
+    ensures lost { result ≡ Ok (Some closes.LinkFault) → HasRisen (L.faults link.old) (L.faults link.new) }
+    ensures failed { L.faults link.old ≤ L.faults link.new }
 {
     let answer = make_turn(conn, link, gate, pass, inbox, clock, &mut teller.news, rt);
     if let Err(fault) = teller.tell_news(out) {
@@ -136,17 +144,20 @@ pub(crate) fn one_connection<L: Link, K: Sink, O: Journal, I: Journal, C: Clock,
     ensures own { IsPassAt gate.now pass.new }
     ensures free { IsFree pass.new }
     ensures looks { Looks (known pass.old) (known pass.new) }
-    ensures turned { (close : Close) → result ≡ Ok (Some close) → TurnedOn (connection_at (L.told link.old) (L.carried link.old) (K.taken out.old) (known pass.old).seen (line_of conn.old) inbox.old) (connection_at (L.told link.new) (L.carried link.new) (K.taken out.new) (known pass.new).seen (line_of conn.new) inbox.new) }
+    ensures turned { (close : Close) → result ≡ Ok (Some close) → TurnedOn L.eager (connection_at (L.told link.old) (L.carried link.old) (K.taken out.old) (known pass.old).seen (C.last clock.old) (line_of conn.old) inbox.old) (connection_at (L.told link.new) (L.carried link.new) (K.taken out.new) (known pass.new).seen (C.last clock.new) (line_of conn.new) inbox.new) }
     ensures closed { (close : Close) → result ≡ Ok (Some close) → ClosesAs close (line_of conn.new).machine.ending }
     ensures leaves { (close : Close) → result ≡ Ok (Some close) → Leaves (line_of conn.new).machine (known pass.new) inbox.new }
-    ensures stopped { result ≡ Ok None → GivenUpOn None (K.taken out.old) (K.taken out.new) (known pass.old).seen (known pass.new).seen (line_of conn.old).machine inbox.old inbox.new }
-    ensures given_up { IfErr result (λ fault. GivenUpOn (Some fault) (K.taken out.old) (K.taken out.new) (known pass.old).seen (known pass.new).seen (line_of conn.old).machine inbox.old inbox.new) }
+    ensures stopped { result ≡ Ok None → GivenUpOn L.eager None (connection_at (L.told link.old) (L.carried link.old) (K.taken out.old) (known pass.old).seen (C.last clock.old) (line_of conn.old) inbox.old) (connection_at (L.told link.new) (L.carried link.new) (K.taken out.new) (known pass.new).seen (C.last clock.new) (line_of conn.new) inbox.new) }
+    ensures given_up { IfErr result (λ fault. GivenUpOn L.eager (Some fault) (connection_at (L.told link.old) (L.carried link.old) (K.taken out.old) (known pass.old).seen (C.last clock.old) (line_of conn.old) inbox.old) (connection_at (L.told link.new) (L.carried link.new) (K.taken out.new) (known pass.new).seen (C.last clock.new) (line_of conn.new) inbox.new)) }
     ensures blamed { IfErr result (IsBlamed (faults_at (K.faults out.old) 0 (known pass.old) inbox.old) (faults_at (K.faults out.new) 0 (known pass.new) inbox.new)) }
     ensures of_connection { IfErr result IsOfConnection }
     ensures kind { SameKind inbox.old inbox.new }
     ensures never_falls { (faults_of inbox.old ≤ faults_of inbox.new) × (K.faults out.old ≤ K.faults out.new) }
     ensures stays { L.place link.new ≡ L.place link.old }
     ensures told { C.told clock.new ≡ C.told clock.old }
+    ensures ticks { C.last clock.old ≤ C.last clock.new }
+    ensures lost { result ≡ Ok (Some closes.LinkFault) → HasRisen (L.faults link.old) (L.faults link.new) }
+    ensures failed { L.faults link.old ≤ L.faults link.new }
 {
     conn.begin(clock);
     for _ in 0..TURNS {

@@ -13,7 +13,7 @@ ghost use Rattle.conn_serve.specs.Answers.{end_behind};
 ghost use Rattle.conn_serve.specs.declared.answer.ServeFault.TheVariants as faults;
 ghost use Rattle.conn_serve.specs.Causes.{IsBlamed};
 ghost use Rattle.conn_serve.specs.Turned.{MayBegin};
-ghost use Rattle.conn_serve.specs.Served.{IsRound, ServedLife, IsNext};
+ghost use Rattle.conn_serve.specs.Served.{IsOverBy, IsRound, ServedOver, IsNext};
 ghost use Rattle.conn_serve.specs.Moments.{life_at, faults_at};
 
 use crate::answer::{LifeEnd, ServeFault};
@@ -88,12 +88,13 @@ fn serve_next<N: Dialer, K: Sink, O: Journal, I: Journal, C: Clock, R: Wait>(
     ensures free { IsFree pass.new }
     ensures looks { Looks (known pass.old) (known pass.new) }
     ensures lent { N.lent dialer.new ≡ false }
-    ensures round { IsRound number (life_at (N.told dialer.old) (K.taken out.old) (known pass.old).seen inbox.old) (life_at (N.told dialer.new) (K.taken out.new) (known pass.new).seen inbox.new) (line_of conn.old).machine (line_of conn.new).machine result }
+    ensures round { IsRound (IsOverBy N.Link.Link (C.last clock.old) (C.last clock.new)) number (life_at (N.told dialer.old) (K.taken out.old) (known pass.old).seen inbox.old) (life_at (N.told dialer.new) (K.taken out.new) (known pass.new).seen inbox.new) (line_of conn.old).machine (line_of conn.new).machine result }
     ensures goes { result ≡ Ok None → MayBegin (line_of conn.new).machine (known pass.new) inbox.new }
     ensures blamed { IfErr result (IsBlamed (faults_at (K.faults out.old) (N.faults dialer.old) (known pass.old) inbox.old) (faults_at (K.faults out.new) (N.faults dialer.new) (known pass.new) inbox.new)) }
     ensures kind { SameKind inbox.old inbox.new }
     ensures never_falls { (faults_of inbox.old ≤ faults_of inbox.new) × (K.faults out.old ≤ K.faults out.new) × (N.faults dialer.old ≤ N.faults dialer.new) }
     ensures told { C.told clock.new ≡ C.told clock.old }
+    ensures ticks { C.last clock.old ≤ C.last clock.new }
 {
     let mut link = match next_link(dialer, conn) {
         Ok(link) => link,
@@ -143,11 +144,12 @@ pub fn serve_connections<N: Dialer, K: Sink, O: Journal, I: Journal, C: Clock, R
     ensures free { IsFree pass.new }
     ensures looks { Looks (known pass.old) (known pass.new) }
     ensures lent { N.lent dialer.new ≡ false }
-    ensures served { ServedLife (life_at (N.told dialer.old) (K.taken out.old) (known pass.old).seen inbox.old) (life_at (N.told dialer.new) (K.taken out.new) (known pass.new).seen inbox.new) (line_of conn.old).machine result }
+    ensures served { ServedOver N.Link.Link (C.last clock.old) (C.last clock.new) (life_at (N.told dialer.old) (K.taken out.old) (known pass.old).seen inbox.old) (life_at (N.told dialer.new) (K.taken out.new) (known pass.new).seen inbox.new) (line_of conn.old).machine result }
     ensures blamed { IfErr result (IsBlamed (faults_at (K.faults out.old) (N.faults dialer.old) (known pass.old) inbox.old) (faults_at (K.faults out.new) (N.faults dialer.new) (known pass.new) inbox.new)) }
     ensures kind { SameKind inbox.old inbox.new }
     ensures never_falls { (faults_of inbox.old ≤ faults_of inbox.new) × (K.faults out.old ≤ K.faults out.new) × (N.faults dialer.old ≤ N.faults dialer.new) }
     ensures told { C.told clock.new ≡ C.told clock.old }
+    ensures ticks { C.last clock.old ≤ C.last clock.new }
 {
     let mut teller = Teller::new(alloc);
     for number in 1..u64::MAX {

@@ -14,7 +14,7 @@ ghost use Rattle.conn_steps.specs.Settling.{SameKind};
 ghost use Rattle.conn_loop.specs.Conn.{line_of, new_line, Looks};
 ghost use Rattle.conn_serve.specs.Turned.{MayBegin};
 ghost use Rattle.conn_serve.specs.Senders.{SomeMarked};
-ghost use Rattle.conn_serve.specs.Opening.{opened_state, ServedBy, IsUnrefused};
+ghost use Rattle.conn_serve.specs.Opening.{opened_state, ServedBy, ServedThrough, IsUnrefused};
 ghost use Rattle.conn_serve.specs.Moments.{serving_at};
 
 use crate::answer::{LifeEnd, ServeFault, answer_of};
@@ -97,7 +97,7 @@ fn serve_beside<
     ensures ready { All (λ s. IsReady gate.now s) senders.new }
     ensures looks { Looks (known pass.old) (known pass.new) }
     ensures lent { N.lent dialer.new ≡ false }
-    ensures served { ServedBy gate.now (serving_at (N.told dialer.old) (K.taken out.old) (K.faults out.old) (N.faults dialer.old) (known pass.old) inbox.old senders.old) (serving_at (N.told dialer.new) (K.taken out.new) (K.faults out.new) (N.faults dialer.new) (known pass.new) inbox.new senders.new) (line_of conn.old).machine result }
+    ensures served { ServedThrough N.Link.Link (C.last clock.old) (C.last clock.new) gate.now (serving_at (N.told dialer.old) (K.taken out.old) (K.faults out.old) (N.faults dialer.old) (known pass.old) inbox.old senders.old) (serving_at (N.told dialer.new) (K.taken out.new) (K.faults out.new) (N.faults dialer.new) (known pass.new) inbox.new senders.new) (line_of conn.old).machine result }
     ensures kind { SameKind inbox.old inbox.new }
     ensures never_falls { (faults_of inbox.old ≤ faults_of inbox.new) × (K.faults out.old ≤ K.faults out.new) × (N.faults dialer.old ≤ N.faults dialer.new) }
     ensures told { C.told clock.new ≡ C.told clock.old }
@@ -158,6 +158,7 @@ pub fn serve<N: Dialer, K: Sink, O: Journal + Send, I: Journal, C: Clock, R: Thr
     ensures looks { Looks (known pass.old) (known pass.new) }
     ensures lent { N.lent dialer.new ≡ false }
     ensures served { ServedBy gate.now (serving_at (N.told dialer.old) (K.taken out.old) (K.faults out.old) (N.faults dialer.old) (known pass.old) inbox.old senders.old) (serving_at (N.told dialer.new) (K.taken out.new) (K.faults out.new) (N.faults dialer.new) (known pass.new) inbox.new senders.new) (fresh config (opened_state (opening_of gate.now).history inbox.old) most) result }
+    ensures through { ServedThrough N.Link.Link (C.last clock.old) (C.last clock.new) gate.now (serving_at (N.told dialer.old) (K.taken out.old) (K.faults out.old) (N.faults dialer.old) (known pass.old) inbox.old senders.old) (serving_at (N.told dialer.new) (K.taken out.new) (K.faults out.new) (N.faults dialer.new) (known pass.new) inbox.new senders.new) (fresh config (opened_state (opening_of gate.now).history inbox.old) most) result }
     ensures seated { (made : ℕ) → Seated gate.now senders.old made → Seated gate.now senders.new made }
     ensures marked { IsUnrefused result → 0 < length senders.old → SomeMarked senders.new }
     ensures kind { SameKind inbox.old inbox.new }

@@ -1,6 +1,6 @@
 -- What a connection adds to the inbox over a turn is what the frames of the turn add.
 use Rattle.std.proofs.Common.{◌≡◌, ℕ, ◌-◌, Bool, true, false, if◌then◌else◌, List, [], ◌∷◌, ◌++◌, Option, Some, refl, sym, ap, subst, ◌∙◌, append-nil, append_assoc}
-use Rattle.std.specs.Prelude.{⊤, ◌||◌}
+use Rattle.std.specs.Prelude.{⊤}
 use Rattle.std.specs.List.{AllByRecursion}
 use Rattle.session_model.specs.Journal.{Entry}
 use Rattle.session_model.specs.Inbox.{InboxRecord}
@@ -12,7 +12,7 @@ use Rattle.fixp_machine.specs.Machine.{State, Call, begin, frame, bad_frame, did
 use Rattle.fixp_machine.specs.Accepting.{records_of}
 use Rattle.conn_turns.specs.Lines.{Line, TakenFrame, reply_at, frame_calls, line_after, AreTaken}
 use Rattle.conn_turns.specs.Frames.{adds, added}
-use Rattle.conn_turns.specs.Turns.{Work, only_sends, works, link_lost, cut_short, not_begun, first_calls, calls_of_frames, closing_calls, outbox_calls, sending_calls, is_end}
+use Rattle.conn_turns.specs.Turns.{Work, only_sends, works, link_lost, cut_short, not_begun, first_calls, calls_of_frames, closing_calls, outbox_calls, sending_calls}
 use Rattle.connection_laws.specs.Courses.{Waiting, Course, counting, called, next_done, next_course, course_after}
 use Rattle.connection_laws.proofs.Continuing.{state_is_run}
 use Rattle.turn_laws.specs.Turns.{line_received}
@@ -133,10 +133,10 @@ turn_adds h before after old new (works w) c s k =
     let rest : List Call = closing_calls w ++ (outbox_calls w ++ sending_calls w.sent w.lost) in
     ap (λ (e : Course). e.added) (after_append d frames rest)
     ∙ (add_nothing (course_after d frames) rest (behind_frames w)
-    ∙ first_frames h old (line_received old w.now w.received (old.over || is_end w.got)) w.now w.frames c (steady_at h c old s) refl k.served.frames)
+    ∙ first_frames h old (line_received old w.now w.received w.got) w.now w.frames c (steady_at h c old s) refl k.served.frames)
 turn_adds h before after old new (link_lost now) c s k = add_nothing c (first_calls now ++ link_end ∷ []) (tt, (tt, (tt, tt))) ∙ sym (append-nil c.added)
 turn_adds h before after old new (cut_short now received frames refused) c s k = absurd k
 turn_adds h before after old new not_begun c s k = absurd k
 
 pub cut_adds : CutAdds
-cut_adds h old now received frames c s k = first_frames h old (line_received old now received k.over) now frames c (steady_at h c old s) refl k.taken
+cut_adds h old now received frames c s k = first_frames h old (line_received old now received k.got) now frames c (steady_at h c old s) refl k.taken

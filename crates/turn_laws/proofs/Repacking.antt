@@ -1,22 +1,28 @@
 -- The parts of a turn, as the loop has them, are those of the laws.
-use Rattle.std.proofs.Common.{◌≡◌, inl, inr, ℕ, ◌++◌, sym, subst, ◌∙◌, append-nil}
-use Rattle.std.specs.Prelude.{◌||◌}
+use Rattle.std.proofs.Common.{◌≡◌, inl, inr, ℕ, ◌<◌, ◌≤◌, max, Bool, List, ◌++◌, refl, sym, ap, subst, ◌∙◌, append-nil}
+use Rattle.std.proofs.lemmas.List.Elements.{All-nil}
 use Rattle.session_model.specs.Journal.{History}
 use Rattle.jr_record.specs.declared.journal.Journal.{Ghosts}
 use Rattle.jr_boxes.specs.declared.inbox.Inbox.{Inbox}
+use Rattle.connection_laws.specs.Ranges.{IsInTime}
+use Rattle.conn_turns.specs.declared.answer.TurnFault.{TurnFault}
 use Rattle.conn_turns.specs.Lines.{Line}
 use Rattle.conn_turns.specs.Frames.{added, told}
 use Rattle.conn_steps.specs.Settling.{Gains}
 use Rattle.conn_steps.proofs.Rooms.{gains_none}
-use Rattle.conn_turns.specs.Turns.{Work, only_sends, works, link_lost, is_end}
+use Rattle.fixp_machine.specs.Machine.{State, Call, run}
+use Rattle.conn_turns.specs.Turns.{Work, only_sends, works, link_lost, first_calls, calls_of_frames, closing_calls, outbox_calls}
+use Rattle.conn_turns.proofs.Taking.{run_append}
 use Rattle.conn_turns.specs.Exact.{Served, line_ticked}
-use Rattle.conn_loop.specs.Turned.{Exchanged}
+use Rattle.conn_loop.specs.Live.{LiveEnd}
+use Rattle.conn_loop.specs.Turned.{CutShort, CutMore, Exchanged}
 use Rattle.turn_laws.specs.Turns.{Sends, Works, line_received}
-use Rattle.turn_laws.specs.Turned.{WasTurn, TurnIsOne, CutIsOne}
+use Rattle.turn_laws.specs.Made.{turn_at, calls_unsent, DoesMore, SendsAll}
+use Rattle.turn_laws.specs.Turned.{WasTurn, WasCut, TurnIsOne, CutIsOne}
 
 -- the line as the frames of a work are taken of it
 abbrev line_worked : Line → ℕ → Work → Line
-line_worked old now w = line_received old now w.received (old.over || is_end w.got)
+line_worked old now w = line_received old now w.received w.got
 
 -- a work's moment is the turn's
 work_is_one : (now : ℕ) (before seen : History) (old new behind : Line) (w : Work) → w.now ≡ now → Served before seen (line_worked old now w) behind w
@@ -27,42 +33,92 @@ work_is_one now before seen old new behind w at served sends = record {
   sends = sends;
 }
 
+-- the state behind a work's calls before it sends
+work_unsent : (now : ℕ) (before seen : History) (old behind : Line) (w : Work) → w.now ≡ now → Served before seen (line_worked old now w) behind w → behind.machine ≡ run old.machine (calls_unsent (works w))
+work_unsent now before seen old behind w at served =
+    let rest : List Call = calls_of_frames w.now w.frames ++ (closing_calls w ++ outbox_calls w) in
+    served.machine ∙ (sym (run_append old.machine (first_calls now) rest) ∙ ap (λ (n : ℕ). run old.machine (first_calls n ++ rest)) (sym at))
+
 module _ {J : Type 0} {G : Ghosts J} where
   pub turn_is_one : (box : Inbox J G) → TurnIsOne box
-  turn_is_one box now eager old new result (inl x) = record {
-    turn = only_sends now x.sent.sent x.sent.lost;
-    is = (record { front = x.sent.front; line = x.sent.line }, x.same_seen);
-    gains = gains_none old.box new.box x.same_box;
-    news_are = x.same_news ∙ sym (append-nil old.news);
-    moved = x.sent.moved;
-  }
-  turn_is_one box now eager old new result (inr x) = by_kind x.exchanged
+  turn_is_one box eager before after old new result time clock (inl x) =
+      let now : ℕ = max after old.line.machine.moment in
+      record {
+        turn = only_sends now x.sent.sent x.sent.lost;
+        made = record {
+          result = result;
+          is = (record { front = x.sent.front; line = x.sent.line }, x.same_seen);
+          does = (x.why, record { whole = x.sent.whole; full = x.sent.full; answer = x.sent.answer; kept = x.sent.kept });
+          moved = x.sent.moved;
+          moment = refl;
+          clock = clock;
+        };
+        timely = record { bytes = All-nil (λ (b : ℕ). b < 256); time = time };
+        gains = gains_none old.box new.box x.same_box;
+        news_are = x.same_news ∙ sym (append-nil old.news);
+      }
+  turn_is_one box eager before after old new result time clock (inr x) = by_kind x.exchanged
     where
-      by_kind : Exchanged now eager (record old { line = line_ticked old.line now }) new result → WasTurn old new
+      now : ℕ
+      now = max after old.line.machine.moment
+
+      by_kind : Exchanged now eager (record old { line = line_ticked old.line now }) new result → WasTurn eager before after old new
       by_kind (inl w) = record {
         turn = works w.work;
-        is = work_is_one now old.seen new.seen old.line new.line w.behind w.work w.at w.served (record { front = w.front; line = w.line });
+        made = record {
+          result = result;
+          is = work_is_one now old.seen new.seen old.line new.line w.behind w.work w.at w.served (record { front = w.front; line = w.line });
+          does = (
+            subst (λ (n : ℕ). DoesMore old.line n) (sym w.at) (x.idle, x.unended),
+            w.received,
+            subst (λ (m : State). SendsAll m (turn_at new after) w.work.sent w.work.lost result) (work_unsent now old.seen new.seen old.line w.behind w.work w.at w.served)
+                (record { whole = w.whole; full = w.full; answer = w.answer; kept = w.kept }),
+          );
+          moved = w.moved;
+          moment = w.at;
+          clock = clock;
+        };
+        timely = record { bytes = w.bytes; time = subst IsInTime (sym w.at) time };
         gains = subst (λ (n : ℕ). Gains old.box new.box (added n (line_worked old.line n w.work) w.work.frames)) (sym w.at) w.gains;
         news_are = subst (λ (n : ℕ). new.news ≡ old.news ++ told n (line_worked old.line n w.work) w.work.frames) (sym w.at) w.news_are;
-        moved = w.moved;
       }
       by_kind (inr l) = record {
         turn = link_lost now;
-        is = (l.line, l.same_seen);
+        made = record { result = result; is = (l.line, l.same_seen); does = ((x.idle, x.unended), l.answer); moved = l.moved; moment = refl; clock = clock };
+        timely = record { bytes = All-nil (λ (b : ℕ). b < 256); time = time };
         gains = gains_none old.box new.box l.same_box;
         news_are = l.same_news ∙ sym (append-nil old.news);
-        moved = l.moved;
       }
 
-  pub cut_is_one : (box box' : Inbox J G) → CutIsOne box box'
-  cut_is_one box box' now old news' fault k = record {
-    received = k.received;
-    frames = k.cut.frames;
-    refused = k.cut.refused;
-    cut = record { over = k.over; taken = k.cut.taken; next = k.cut.next };
-    refuses = k.cut.refuses;
-    past = k.cut.past;
-    recorded = k.cut.recorded;
-    of_inbox = k.cut.of_inbox;
-    news_are = k.cut.news_are;
-  }
+  cut_more_is_one : (eager : Bool) (before after : ℕ) (old new : LiveEnd J G) (fault : TurnFault) → IsInTime (max after old.line.machine.moment) → before ≤ after → CutMore (max after old.line.machine.moment) eager old new fault
+      → WasCut eager before after old new fault
+  cut_more_is_one eager before after old new fault time clock k =
+      let now : ℕ = max after old.line.machine.moment in
+      let r = k.work.receives in
+      let cut : CutShort now (line_received old.line now r.received k.work.got) old.box new.box old.news new.news fault =
+      subst (λ (l : Line). CutShort now l old.box new.box old.news new.news fault) r.line k.work.cut in
+      record {
+        now = now;
+        received = r.received;
+        frames = cut.frames;
+        refused = cut.refused;
+        few = cut.few;
+        made = record {
+          cut = record { got = k.work.got; taken = cut.taken; next = cut.next };
+          more = (k.idle, k.unended);
+          found = r.found;
+          moved = r.moved;
+          moment = refl;
+          clock = clock;
+        };
+        timely = record { bytes = r.bytes; time = time };
+        refuses = cut.refuses;
+        past = cut.past;
+        recorded = cut.recorded;
+        of_inbox = cut.of_inbox;
+        news_are = cut.news_are;
+      }
+
+  pub cut_is_one : (box : Inbox J G) → CutIsOne box
+  cut_is_one box eager before after old new fault time clock (inl none) = inl none
+  cut_is_one box eager before after old new fault time clock (inr k) = inr (cut_more_is_one eager before after old new fault time clock k)

@@ -125,7 +125,7 @@ pub refused_waits : RefusedWaits
 refused_waits h old c now received frames t s k records = waits
   where
     l : Line
-    l = line_received old now received k.over
+    l = line_received old now received k.got
 
     e : Course
     e = course_after c (first_calls now ++ calls_of_frames now frames)

@@ -1,6 +1,6 @@
 -- Each call of a turn may come where it came.
 use Rattle.std.proofs.Common.{◌≡◌, ℕ, Bool, true, false, ◌&&◌, if◌then◌else◌, List, [], ◌∷◌, ◌++◌, length, Option, Some, None, refl, sym, ap, subst, ◌∙◌, true≢false}
-use Rattle.std.specs.Prelude.{IfSome, is_none, nat_lt, ◌||◌}
+use Rattle.std.specs.Prelude.{IfSome, is_none, nat_lt}
 use mathlib.Core.List.{IsPrefix}
 use Rattle.session_model.specs.Journal.{Entry, History}
 use Rattle.session_model.proofs.Lists.{prefix_trans}
@@ -9,7 +9,7 @@ use Rattle.fixp_replies.specs.declared.act.Ending.{Ending}
 use Rattle.fixp_machine.specs.Machine.{State, Call, link_end, run}
 use Rattle.conn_turns.specs.Lines.{Line, TakenFrame, IsNext, lines_after}
 use Rattle.conn_turns.specs.Frames.{is_unframed, unframed_at, is_bad}
-use Rattle.conn_turns.specs.Turns.{Work, Turn, only_sends, works, link_lost, cut_short, not_begun, first_calls, calls_of_frames, closing_calls, again_calls, live_calls, finish_calls, outbox_calls, sending_calls, calls_of, is_end}
+use Rattle.conn_turns.specs.Turns.{Work, Turn, only_sends, works, link_lost, cut_short, not_begun, first_calls, calls_of_frames, closing_calls, again_calls, live_calls, finish_calls, outbox_calls, sending_calls, calls_of}
 use Rattle.fixp_machine.specs.Machine as calls
 use Rattle.conn_turns.specs.Exact.{Served, closed_at}
 use Rattle.conn_turns.proofs.Taking.{run_append, frames_make_calls, work_makes_calls}
@@ -81,7 +81,7 @@ turn_goes h before after old new (only_sends now sent lost) c s has k =
 turn_goes h before after old new (works w) c s has k =
     let x : Goes h c old.machine (first_calls w.now) = first_go h c old.machine w.now s in
     and_then h c old.machine (first_calls w.now) (calls_of_frames w.now w.frames ++ (closing_calls w ++ (outbox_calls w ++ sending_calls w.sent w.lost))) x
-    (work_goes h (course_after c (first_calls w.now)) before after (line_received old w.now w.received (old.over || is_end w.got)) k.behind w x.after has k.served k.sends.front)
+    (work_goes h (course_after c (first_calls w.now)) before after (line_received old w.now w.received w.got) k.behind w x.after has k.served k.sends.front)
 turn_goes h before after old new (link_lost now) c s has k =
     let x : Goes h c old.machine (first_calls now) = first_go h c old.machine now s in
     and_then h c old.machine (first_calls now) (link_end ∷ []) x (link_goes h (course_after c (first_calls now)) (run old.machine (first_calls now)) x.after)
@@ -91,7 +91,7 @@ turn_goes h before after old new not_begun c s has k = absurd k
 -- the machine behind a turn is what its calls make of it
 pub turn_makes_calls : (before after : History) (old new : Line) (t : Turn) → IsTurn before after old new t → new.machine ≡ run old.machine (calls_of t)
 turn_makes_calls before after old new (only_sends now sent lost) k = ap (λ (l : Line). l.machine) k.0.line ∙ sym (run_append old.machine (first_calls now) (sending_calls sent lost))
-turn_makes_calls before after old new (works w) k = work_makes_calls before after old (line_received old w.now w.received (old.over || is_end w.got)) k.behind new w refl k.served k.sends.line
+turn_makes_calls before after old new (works w) k = work_makes_calls before after old (line_received old w.now w.received w.got) k.behind new w refl k.served k.sends.line
 turn_makes_calls before after old new (link_lost now) k = ap (λ (l : Line). l.machine) k.0 ∙ sym (run_append old.machine (first_calls now) (link_end ∷ []))
 turn_makes_calls before after old new (cut_short now received frames refused) k = absurd k
 turn_makes_calls before after old new not_begun k = absurd k
@@ -119,7 +119,7 @@ cut_may_stand h old (link_lost now) c s k = absurd k
 cut_may_stand h old (cut_short now received frames refused) c s k = by_refused refused k.next
   where
     l : Line
-    l = line_received old now received k.over
+    l = line_received old now received k.got
 
     first : List Call
     first = first_calls now

@@ -1,7 +1,8 @@
 -- A connection that is a list of turns, as one of a life of the machine.
 use Rattle.std.specs.Prelude.{◌≡◌, ℕ, ◌-◌, ◌≤◌, ◌&&◌, Bool, true, false, not, nat_lt, is_none, if◌then◌else◌, List, [], ◌∷◌, ◌++◌, length, Option, Some, None, IfSome, option_to_list}
-use Rattle.std.specs.List.{flat_map}
+use Rattle.std.specs.List.{AllByRecursion, flat_map}
 use mathlib.Core.List.{IsPrefix}
+use Rattle.sofh_frame.specs.Framing.{IsBytes}
 use Rattle.session_model.specs.Journal.{Entry, History}
 use Rattle.session_model.specs.Inbox.{InboxRecord, next_number}
 use Rattle.fixp_replies.specs.Acts.{is_record}
@@ -11,6 +12,7 @@ use Rattle.conn_turns.specs.Turns.{Turn, only_sends, works, link_lost, cut_short
 use Rattle.connection_laws.specs.Writing.{Piece, bytes_of_piece, bytes_written}
 use Rattle.connection_laws.specs.Courses.{Course, beginning, course_after}
 use Rattle.connection_laws.specs.Living.{Leg, MayRun}
+use Rattle.connection_laws.specs.Ranges.{IsInTime}
 use Rattle.turn_laws.specs.Turns.{line_received, IsTurn, IsCutShort, IsCut}
 use Rattle.turn_laws.specs.Standing.{StandsAt, Has}
 
@@ -61,6 +63,24 @@ given_in (link_lost now) = []
 given_in (cut_short now received frames refused) = received
 given_in not_begun = []
 
+-- the moment of a turn
+abbrev pub moment_of : Turn → ℕ
+moment_of (only_sends now sent lost) = now
+moment_of (works w) = w.now
+moment_of (link_lost now) = now
+moment_of (cut_short now received frames refused) = now
+moment_of not_begun = 0
+
+-- what the link gave in a turn are bytes, and its moment is below 2^44
+pub record IsTimelyTurn (t : Turn) : Type 0 where
+  pub bytes : IsBytes (given_in t)
+  pub time : IsInTime (moment_of t)
+
+-- so it is of each turn of a connection, which began at such a moment
+pub record IsTimely (t : TurnedLeg) : Type 0 where
+  pub begins : IsInTime t.moment
+  pub turns : AllByRecursion IsTimelyTurn (all_turns t)
+
 abbrev pub given_on : TurnedLeg → List ℕ
 given_on t = flat_map given_in (all_turns t)
 
@@ -98,7 +118,7 @@ TurnsRun = (h : List Entry) (s : State) (inbox : List InboxRecord) (t : TurnedLe
 abbrev pub RefusedWaits : Type 0
 RefusedWaits = (h : List Entry) (old : Line) (c : Course) (now : ℕ) (received : List ℕ) (frames : List TakenFrame) (t : TakenFrame)
     → StandsAt h c old → (k : IsCutShort now received frames (Some t) old)
-    → is_record (reply_at now (lines_after now (line_received old now received k.over) frames) t).act ≡ true
+    → is_record (reply_at now (lines_after now (line_received old now received k.got) frames) t).act ≡ true
     → (course_after c (calls_of (cut_short now received frames (Some t)))).waiting ≡ Some (record { incoming = t.incoming; at = t.at; moment = now })
 
 -- the bytes that the link took in its turns are the first of those written on it, and those of the frames that it took whole are the

@@ -42,4 +42,4 @@ TurnAdds = (h : List Entry) (before after : History) (old new : Line) (t : Turn)
 abbrev pub CutAdds : Type 0
 CutAdds = (h : List Entry) (old : Line) (now : ℕ) (received : List ℕ) (frames : List TakenFrame) (c : Course)
     → StandsAt h c old → (k : IsCutShort now received frames None old)
-    → (course_after c (calls_of (cut_short now received frames None))).added ≡ c.added ++ added now (line_received old now received k.over) frames
+    → (course_after c (calls_of (cut_short now received frames None))).added ≡ c.added ++ added now (line_received old now received k.got) frames

@@ -4,6 +4,7 @@ use mathlib.Core.List.{IsPrefix}
 use Rattle.session_model.specs.Journal.{History}
 use Rattle.session_model.specs.Inbox.{InboxRecord}
 use Rattle.fixp_machine.specs.Machine.{link_end, run}
+use Rattle.gw_links.specs.declared.link.Got.{Got}
 use Rattle.conn_turns.specs.Lines.{Line, TakenFrame, IsNext, AreTaken, lines_after}
 use Rattle.conn_turns.specs.declared.news.NewsItem.{NewsItem}
 use Rattle.conn_turns.specs.Frames.{added, told}
@@ -15,14 +16,14 @@ pub record Sends (sent : List ℕ) (lost : Bool) (old new : Line) : Type 0 where
   pub front : IsPrefix sent old.machine.unsent
   pub line : new ≡ record old { machine = run old.machine (sending_calls sent lost) }
 
--- the line behind a tick, with bytes that were received behind those held
-abbrev pub line_received : Line → ℕ → List ℕ → (over : Bool) → Line
-line_received old now received over = record (line_ticked old now) { held = old.held ++ received; over = over }
+-- the line behind a tick and a receive: these bytes stand behind those held, and it is known whether the link has given its end
+abbrev pub line_received : Line → ℕ → List ℕ → Option Got → Line
+line_received old now received got = record (line_ticked old now) { held = old.held ++ received; over = old.over || is_end got }
 
 -- behind its tick a turn received, served the frames and the outbox, and sent
 pub record Works (before after : History) (old new : Line) (w : Work) : Type 0 where
   pub behind : Line
-  pub served : Served before after (line_received old w.now w.received (old.over || is_end w.got)) behind w
+  pub served : Served before after (line_received old w.now w.received w.got) behind w
   pub sends : Sends w.sent w.lost behind new
 
 -- a whole turn: it only sent, it worked, or its link failed as it received. What was seen of the outbox changes by its work alone
@@ -34,11 +35,11 @@ IsTurn before after old new (link_lost now) = (new ≡ record (line_ticked old n
 IsTurn before after old new (cut_short now received frames refused) = ⊥
 IsTurn before after old new not_begun = ⊥
 
--- a turn was cut short behind frames, and behind them the one whose act was refused, if one was
+-- behind its receive a turn was cut short behind frames, and behind them the one whose act was refused, if one was
 pub record IsCutShort (now : ℕ) (received : List ℕ) (frames : List TakenFrame) (refused : Option TakenFrame) (old : Line) : Type 0 where
-  pub over : Bool
-  pub taken : AreTaken now (line_received old now received over) frames
-  pub next : IfSome refused (IsNext (lines_after now (line_received old now received over) frames))
+  pub got : Option Got
+  pub taken : AreTaken now (line_received old now received got) frames
+  pub next : IfSome refused (IsNext (lines_after now (line_received old now received got) frames))
 
 abbrev pub IsCut : Line → Turn → Type 0
 IsCut old (only_sends now sent lost) = ⊥
@@ -50,7 +51,7 @@ IsCut old not_begun = ⊥
 -- the records that a whole turn adds to the inbox: those of the frames that it took
 abbrev pub adds_in : Line → Turn → List InboxRecord
 adds_in old (only_sends now sent lost) = []
-adds_in old (works w) = added w.now (line_received old w.now w.received (old.over || is_end w.got)) w.frames
+adds_in old (works w) = added w.now (line_received old w.now w.received w.got) w.frames
 adds_in old (link_lost now) = []
 adds_in old (cut_short now received frames refused) = []
 adds_in old not_begun = []
@@ -58,7 +59,7 @@ adds_in old not_begun = []
 -- what a whole turn tells: what the frames that it took tell
 abbrev pub tells_in : Line → Turn → List NewsItem
 tells_in old (only_sends now sent lost) = []
-tells_in old (works w) = told w.now (line_received old w.now w.received (old.over || is_end w.got)) w.frames
+tells_in old (works w) = told w.now (line_received old w.now w.received w.got) w.frames
 tells_in old (link_lost now) = []
 tells_in old (cut_short now received frames refused) = []
 tells_in old not_begun = []

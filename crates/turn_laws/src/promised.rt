@@ -6,13 +6,14 @@ ghost use Rattle.turn_laws.specs.Turned.{TurnIsOne, CutIsOne};
 use jr_boxes::Inbox;
 use jr_record::Journal;
 
-/// A turn that answers, and one whose link failed, is a whole turn, whatever the inboxes of this kind: the inbox gained what that
-/// adds, the news are what it tells, and the link gave and took what it received and sent.
+/// A turn in time that answers, and one whose link failed, is a whole turn, whatever the inboxes of this kind: the inbox gained what
+/// that adds, the news are what it tells, and the link gave and took what it received and sent.
 pub fn turn_is_one<I: Journal>(inbox: &Inbox<I>)
     ensures law { TurnIsOne inbox.now }
 {}
 
-/// A turn at any other fault was cut short: the inbox gained what its frames add, and the news are what they tell.
-pub fn cut_is_one<I: Journal>(inbox: &Inbox<I>, since: &Inbox<I>)
-    ensures law { CutIsOne inbox.now since.now }
+/// A turn in time at any other fault had not begun, or was cut short: its link gave what it received in one call and took nothing,
+/// the inbox gained what its frames add, and the news are what they tell.
+pub fn cut_is_one<I: Journal>(inbox: &Inbox<I>)
+    ensures law { CutIsOne inbox.now }
 {}

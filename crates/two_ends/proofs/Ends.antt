@@ -26,13 +26,13 @@ use Rattle.two_ends.specs.Hearing.{came, AreFirstOf}
 use Rattle.two_ends.specs.Meeting.{Run, course_in, TookWhole, ReadsFrom, LinkedByBytes, Refused, runs_on, last_run, runs_of, MayRefuse, MayLive}
 use Rattle.two_ends.specs.Meeting
 use Rattle.two_ends.proofs.Sessions.{session_of_ends, ends_hold}
-use Rattle.turn_laws.specs.Legs.{TurnedLeg, calls_on, AreTurnsOf, given_on, sent_on, course_on, leg_of}
+use Rattle.turn_laws.specs.Legs.{TurnedLeg, IsTimely, calls_on, AreTurnsOf, given_on, sent_on, course_on, leg_of}
 use Rattle.turn_laws.specs.Lives.{AllAreTurns, legs_of, state_after, inbox_after}
 use Rattle.turn_laws.proofs.Running.{leg_stands, turns_run, all_run}
 use Rattle.turn_laws.proofs.Sent.{sent_are_written}
-use Rattle.two_ends.specs.Loops.{IsTimely, RefusedLeg, LoopLife, refused_leg, machine_life, IsRefusedOn, MayTurn, last_leg, legs_in, ReadsOf, LinkedLinks, no_more, left_alone, right_alone, paired}
+use Rattle.two_ends.specs.Loops.{RefusedLeg, LoopLife, refused_leg, machine_life, IsRefusedOn, MayTurn, last_leg, legs_in, ReadsOf, LinkedLinks, no_more, left_alone, right_alone, paired}
 use Rattle.two_ends.specs.LoopLaws.{LoopsAreEnds, LoopsAreASession, LoopsHold}
-use Rattle.two_ends.proofs.Given.{given_came, calls_fit}
+use Rattle.two_ends.proofs.Given.{given_are_bytes, given_came, calls_fit}
 use Rattle.two_ends.proofs.Whole.{sent_are_whole}
 
 -- a run of the machine is these turns, begins where it may, and is in range
@@ -66,7 +66,7 @@ reads r w t u x y from = record {
   written = subst (λ (leg : Leg). IsPrefix (sent_on u) (bytes_written (course_of w.state w.inbox leg).output)) (sym y.leg) (sent_are_written w.outbox w.state w.inbox u y.awaits y.enough y.turns).written;
   came = record {
     bytes = given_on t;
-    are_bytes = x.timely.bytes;
+    are_bytes = given_are_bytes t x.timely;
     begins = from;
     frames = subst (λ (leg : Leg). AreFirstOf (came leg.calls) (frames_of (given_on t))) (sym x.leg) (given_came r.outbox r.state t x.turns);
   };

@@ -1,6 +1,6 @@
 -- The frames that came in the turns of a connection are the first of the bytes that the link gave.
 use Rattle.std.proofs.Common.{◌≡◌, ℕ, Bool, true, false, if◌then◌else◌, List, [], ◌∷◌, ◌++◌, map, drop, Option, Some, None, refl, sym, ap, subst, ◌∙◌, append-nil, append_assoc}
-use Rattle.std.specs.Prelude.{⊤, ◌<◌, ◌||◌, IfSome, option_to_list}
+use Rattle.std.specs.Prelude.{⊤, ◌<◌, IfSome, option_to_list}
 use Rattle.std.specs.List.{AllByRecursion, AllZip, flat_map}
 use Rattle.std.proofs.lemmas.Grind.{flat_map-append}
 use Rattle.std.proofs.lemmas.List.Elements.{All-from_recursion, recursion_from_All}
@@ -14,14 +14,13 @@ use Rattle.fixp_replies.specs.Incoming.{Incoming, application, session, wrong_or
 use Rattle.fixp_machine.specs.Machine.{State, Call, did, link_end}
 use Rattle.fixp_machine.specs.Machine as calls
 use Rattle.conn_turns.specs.Lines.{Line, TakenFrame, size_of, frame_calls, IsNext, line_after, lines_after, AreTaken}
-use Rattle.conn_turns.specs.Turns.{Work, Turn, only_sends, works, link_lost, cut_short, not_begun, first_calls, calls_of_frames, closing_calls, outbox_calls, sending_calls, calls_of, is_end}
+use Rattle.conn_turns.specs.Turns.{Work, Turn, only_sends, works, link_lost, cut_short, not_begun, first_calls, calls_of_frames, closing_calls, outbox_calls, sending_calls, calls_of}
 use Rattle.connection_laws.specs.Ranges.{IsInTime, FitsIncoming, FitsCall}
 use Rattle.connection_laws.proofs.Spelled.{spelled_fits}
 use Rattle.two_ends.specs.Hearing.{came_by, came, AreFirstOf}
 use Rattle.turn_laws.specs.Turns.{line_received, IsTurn, IsCut}
-use Rattle.turn_laws.specs.Legs.{AreTurns, TurnedLeg, first_line, all_turns, AreTurnsOf, calls_on, given_in, given_on}
+use Rattle.turn_laws.specs.Legs.{AreTurns, TurnedLeg, first_line, all_turns, AreTurnsOf, calls_on, given_in, given_on, moment_of, IsTimelyTurn, IsTimely}
 use Rattle.turn_laws.proofs.Each.{closing_all, outbox_all}
-use Rattle.two_ends.specs.Loops.{moment_of, IsTimely}
 use Rattle.two_ends.specs.LoopLaws.{GivenCame}
 
 -- a call by which no frame came
@@ -123,7 +122,7 @@ turn_reads : (before after : History) (old new : Line) (t : Turn) (given : List 
 turn_reads before after old new (only_sends now sent lost) given is r k =
     reads_on given is old.held new.held (first_calls now ++ sending_calls sent lost) r (ap (λ (l : Line). l.held) k.0.line) (none_came (sending_calls sent lost) (sending_quiet sent lost))
 turn_reads before after old new (works w) given is r k =
-    let l : Line = line_received old w.now w.received (old.over || is_end w.got) in
+    let l : Line = line_received old w.now w.received w.got in
     subst (λ (js : List Incoming). Reads (given ++ w.received) (is ++ js) new.held) (sym (work_came w))
     (subst (λ (bs : List ℕ). Reads (given ++ w.received) (is ++ incomings w.frames) bs) (sym (ap (λ (x : Line). x.held) k.sends.line ∙ k.served.held))
     (reads_frames w.now l w.frames (given ++ w.received) is (reads_more given is old.held w.received r) k.served.frames))
@@ -148,11 +147,11 @@ cut_reads l (only_sends now sent lost) given is r k = absurd k
 cut_reads l (works w) given is r k = absurd k
 cut_reads l (link_lost now) given is r k = absurd k
 cut_reads l (cut_short now received frames None) given is r k =
-    let m : Line = line_received l now received k.over in
+    let m : Line = line_received l now received k.got in
     let x = reads_frames now m frames (given ++ received) is (reads_more given is l.held received r) k.taken in
     ((lines_after now m frames).held, subst (λ (js : List Incoming). Reads (given ++ received) (is ++ js) (lines_after now m frames).held) (sym (frames_came now frames)) x)
 cut_reads l (cut_short now received frames (Some t)) given is r k =
-    let m : Line = line_received l now received k.over in
+    let m : Line = line_received l now received k.got in
     let n : Line = lines_after now m frames in
     let x = reads_next (given ++ received) (is ++ incomings frames) n t (reads_frames now m frames (given ++ received) is (reads_more given is l.held received r) k.taken) k.next in
     let same : came (calls_of_frames now frames ++ calls.frame t.incoming t.at now ∷ []) ≡ incomings frames ++ t.incoming ∷ [] =
@@ -250,9 +249,17 @@ turn_on_time (cut_short now received frames (Some t)) time =
     (tt, (tt, all_append IsOnTime (calls_of_frames now frames) (calls.frame t.incoming t.at now ∷ []) (frames_on_time now frames time) (time, tt)))
 turn_on_time not_begun time = tt
 
-turns_on_time : (turns : List Turn) → AllByRecursion (λ (t : Turn). IsInTime (moment_of t)) turns → AllByRecursion IsOnTime (flat_map calls_of turns)
+turns_on_time : (turns : List Turn) → AllByRecursion IsTimelyTurn turns → AllByRecursion IsOnTime (flat_map calls_of turns)
 turns_on_time [] all = tt
-turns_on_time (t ∷ later) all = all_append IsOnTime (calls_of t) (flat_map calls_of later) (turn_on_time t all.0) (turns_on_time later all.1)
+turns_on_time (t ∷ later) all = all_append IsOnTime (calls_of t) (flat_map calls_of later) (turn_on_time t all.0.time) (turns_on_time later all.1)
+
+-- what the link gave in them are bytes
+given_bytes : (turns : List Turn) → AllByRecursion IsTimelyTurn turns → AllByRecursion IsByte (flat_map given_in turns)
+given_bytes [] all = tt
+given_bytes (t ∷ later) all = all_append IsByte (given_in t) (flat_map given_in later) (recursion_from_All IsByte (given_in t) all.0.bytes) (given_bytes later all.1)
+
+pub given_are_bytes : (t : TurnedLeg) → IsTimely t → IsBytes (given_on t)
+given_are_bytes t timely = All-from_recursion IsByte (given_on t) (given_bytes (all_turns t) timely.turns)
 
 call_fits : (call : Call) → AllByRecursion FitsIncoming (came_by call) → IsOnTime call → FitsCall call
 call_fits (calls.begin now) fits time = tt
@@ -276,5 +283,5 @@ each_fits (call ∷ later) fits time =
 pub calls_fit : (h : List Entry) (s : State) (t : TurnedLeg) → AreTurnsOf h s t → IsTimely t → AllByRecursion FitsCall (calls_on t)
 calls_fit h s t k timely =
     let x = all_read h s t k in
-    let bytes : AllByRecursion IsByte (spelled_all x.1.frames ++ x.0) = subst (λ (bs : List ℕ). AllByRecursion IsByte bs) x.1.joins (recursion_from_All IsByte (given_on t) timely.bytes) in
+    let bytes : AllByRecursion IsByte (spelled_all x.1.frames ++ x.0) = subst (λ (bs : List ℕ). AllByRecursion IsByte bs) x.1.joins (given_bytes (all_turns t) timely.turns) in
     each_fits (calls_on t) (read_fits (came (calls_on t)) x.1.frames (all_first IsByte (spelled_all x.1.frames) x.0 bytes) x.1.are) (turns_on_time (all_turns t) timely.turns)

@@ -1,7 +1,8 @@
 -- The sample of two loops, computed.
 use Rattle.std.proofs.Common.{◌≡◌, inr, ℕ, ◌+◌, true, false, List, [], ◌∷◌, ◌++◌, length, drop, refl, sym, ap, subst, ◌∙◌, arith, append-nil}
-use Rattle.std.specs.Prelude.{◌||◌, nat_lt}
-use Rattle.std.specs.List.{AllByRecursion, list_all}
+use Rattle.std.specs.Prelude.{◌<◌, nat_lt}
+use Rattle.std.specs.List.{list_all}
+use Rattle.std.proofs.lemmas.List.Elements.{All-nil}
 use Rattle.sofh_frame.specs.Framing.{Frame, IsBytes, spelled}
 use Rattle.sofh_frame.proofs.SplitLemmas.{drop-spelled}
 use Rattle.session_model.specs.Journal.{BeginsHistory}
@@ -13,22 +14,22 @@ use Rattle.fixp_shake.specs.declared.config.EndConfig.{EndConfig}
 use Rattle.fixp_machine.specs.Machine.{run}
 use Rattle.conn_turns.specs.Lines.{Line, IsNext, MayTake, line_after, lines_after}
 use Rattle.conn_turns.specs.Exact.{line_ticked}
-use Rattle.conn_turns.specs.Turns.{Turn, Work, calls_of_frames, closing_calls, outbox_calls, sending_calls, is_end}
+use Rattle.conn_turns.specs.Turns.{Turn, Work, works, calls_of_frames, closing_calls, outbox_calls, sending_calls}
 use Rattle.connection_laws.specs.Writing.{said, bytes_written}
 use Rattle.connection_laws.specs.Samples.{sample_config}
 use Rattle.connection_laws.proofs.Framing.{is_session, frame_of_message}
-use Rattle.connection_laws.specs.Ranges.{IsInRange, IsInTime}
+use Rattle.connection_laws.specs.Ranges.{IsInRange}
 use Rattle.two_ends.specs.Meeting.{life_in}
 use Rattle.two_ends.specs.Samples.{acceptor, opening, answer}
 use Rattle.two_ends.proofs.Sampled.{opening_is_legal, answer_is_legal, are_bytes, sends_nothing, nothing_left}
 use Rattle.turn_laws.specs.Turns.{Sends, line_received, Works}
-use Rattle.turn_laws.specs.Legs.{TurnedLeg, all_turns, first_line, AreTurnsOf, given_on}
-use Rattle.two_ends.specs.Loops.{machine_life, moment_of, IsTimely, no_more, paired}
+use Rattle.turn_laws.specs.Legs.{first_line, AreTurnsOf, given_in, given_on, moment_of, IsTimelyTurn}
+use Rattle.two_ends.specs.Loops.{machine_life, no_more, paired}
 use Rattle.two_ends.specs.LoopSamples.{nothing, frame_of, hears, leg_a, leg_b, begins, life_on_leg, TurnsSample}
 
 -- what a turn that worked leaves, before and behind its sending
 abbrev received_in : Line → Work → Line
-received_in old w = line_received old w.now w.received (old.over || is_end w.got)
+received_in old w = line_received old w.now w.received w.got
 
 abbrev served_in : Line → Work → Line
 served_in old w = record {
@@ -157,15 +158,14 @@ in_range config session keepalive credentials = record {
   next = omega arith;
 }
 
-timely : (t : TurnedLeg) (m : Message) → list_all (λ b. nat_lt b 256) (bytes_written (said m ∷ [])) ≡ true → given_on t ≡ bytes_written (said m ∷ []) → t.moment ≡ 0
-    → AllByRecursion (λ (turn : Turn). IsInTime (moment_of turn)) (all_turns t) → IsTimely t
-timely t m small given zero turns = record { bytes = subst IsBytes (sym given) (are_bytes m small); begins = omega (arith, zero); turns = turns }
+timely : (t : Turn) (m : Message) → list_all (λ b. nat_lt b 256) (bytes_written (said m ∷ [])) ≡ true → given_in t ≡ bytes_written (said m ∷ []) → moment_of t ≡ 0 → IsTimelyTurn t
+timely t m small given zero = record { bytes = subst IsBytes (sym given) (are_bytes m small); time = omega (arith, zero) }
 
 pub turns_sample : TurnsSample
 turns_sample = (
   record {
-    lives_a = (record { own_flow = refl; peer_flow = refl; range = in_range sample_config refl refl refl; opens = record { awaits = refl; enough = omega arith; before = λ _. omega arith }; payloads = tt; turns = (of_a, tt); last = tt; timely = (timely leg_a answer refl refl refl (omega arith, (omega arith, tt)), tt) }, tt);
-    lives_b = (record { own_flow = refl; peer_flow = refl; range = in_range acceptor refl refl refl; opens = record { awaits = refl; enough = omega arith; before = λ _. omega arith }; payloads = tt; turns = (of_b, tt); last = tt; timely = (timely leg_b opening refl refl refl (omega arith, tt), tt) }, tt);
+    lives_a = (record { own_flow = refl; peer_flow = refl; range = in_range sample_config refl refl refl; opens = record { awaits = refl; enough = omega arith; before = λ _. omega arith }; payloads = tt; turns = (of_a, tt); last = tt; timely = (record { begins = omega arith; turns = (record { bytes = All-nil (λ (b : ℕ). b < 256); time = omega arith }, (timely (works work_a) answer refl refl refl, tt)) }, tt) }, tt);
+    lives_b = (record { own_flow = refl; peer_flow = refl; range = in_range acceptor refl refl refl; opens = record { awaits = refl; enough = omega arith; before = λ _. omega arith }; payloads = tt; turns = (of_b, tt); last = tt; timely = (record { begins = omega arith; turns = (timely (works work_b) opening refl refl refl, tt) }, tt) }, tt);
     chained_a = ([], [], record { opens_outbox = refl; opens_inbox = refl; outbox_image = nothing_left; inbox_image = nothing_left }, (refl, refl));
     chained_b = ([], [], record { opens_outbox = refl; opens_inbox = refl; outbox_image = nothing_left; inbox_image = nothing_left }, (refl, refl));
     outboxes_a = (sends_nothing (life_in (machine_life (life_on_leg sample_config leg_a))).served, tt);

@@ -2,7 +2,6 @@
 use Rattle.std.specs.Prelude.{◌≡◌, ℕ, List, [], ◌∷◌, ◌++◌, map, flat_map, Option, Some, None, option_map, IfSome}
 use Rattle.std.specs.List.{AllByRecursion}
 use mathlib.Core.List.{IsPrefix}
-use Rattle.sofh_frame.specs.Framing.{IsBytes}
 use Rattle.sofh_frame.specs.Splits.{frames_of}
 use Rattle.session_model.specs.Journal.{Entry, OutboxRecord, entries}
 use Rattle.session_model.specs.Inbox.{InboxRecord}
@@ -10,12 +9,11 @@ use Rattle.session_model.specs.Lives.{Life, KeepsOutbox, Chained}
 use Rattle.fixp_msgs.specs.Payload.{IsApplication}
 use Rattle.fixp_msgs.specs.declared.flow.Flow.{Flow}
 use Rattle.fixp_machine.specs.Machine.{State}
-use Rattle.conn_turns.specs.Turns.{Turn, only_sends, works, link_lost, cut_short, not_begun}
 use Rattle.connection_laws.specs.Courses.{Waiting}
 use Rattle.connection_laws.specs.Living.{Opens}
-use Rattle.connection_laws.specs.Ranges.{IsInRange, IsInTime}
+use Rattle.connection_laws.specs.Ranges.{IsInRange}
 use Rattle.two_ends.specs.Meeting.{Refused, MachineLife, life_in}
-use Rattle.turn_laws.specs.Legs.{TurnedLeg, all_turns, AreTurnsOf, given_on, sent_on, course_on, leg_of}
+use Rattle.turn_laws.specs.Legs.{TurnedLeg, IsTimely, AreTurnsOf, given_on, sent_on, course_on, leg_of}
 use Rattle.turn_laws.specs.Lives.{AllAreTurns, legs_of, state_after, inbox_after}
 
 -- a last connection of a life, on which the append of the records of the frame that waits failed
@@ -64,20 +62,6 @@ last_leg (Some r) = r.leg ∷ []
 
 abbrev pub legs_in : LoopLife → List TurnedLeg
 legs_in l = l.legs ++ last_leg l.last
-
--- the moment of a turn
-abbrev pub moment_of : Turn → ℕ
-moment_of (only_sends now sent lost) = now
-moment_of (works w) = w.now
-moment_of (link_lost now) = now
-moment_of (cut_short now received frames refused) = now
-moment_of not_begun = 0
-
--- what the link gave on a connection are bytes, and its moments are below 2^44
-pub record IsTimely (t : TurnedLeg) : Type 0 where
-  pub bytes : IsBytes (given_on t)
-  pub begins : IsInTime t.moment
-  pub turns : AllByRecursion (λ (turn : Turn). IsInTime (moment_of turn)) (all_turns t)
 
 -- The life is of an end with these flows, whose numbers are in range, and opens where it may; its closing outbox has payloads of
 -- application messages; and each of its connections is turns over that outbox, of bytes and in time

@@ -5,31 +5,36 @@ use Rattle.gate_turn.specs.Places.{known}
 use Rattle.conn_loop.specs.Conn.{line_of}
 use Rattle.conn_loop.specs.Live.{live_end}
 use Rattle.turn_laws.proofs.Repacking.{turn_is_one, cut_is_one}
-use Rattle.conn_serve.proofs.Making.{whole_at, err_at, on_cut, on_both, goes_made, closed_made, of_turn_made, blamed_made}
+use Rattle.conn_serve.proofs.Making.{whole_at, err_at, on_cut, on_both, goes_made, lost_made, closed_made, of_turn_made, blamed_made}
 use Rattle.conn_serve.proofs.Turning.{was_short, cut_is_short}
 use Rattle.conn_serve.proofs.connection.make_turn.Goals as goal
 
 pub returns-clause-whole : goal.returns-clause-whole
 returns-clause-whole g c =
-    let one = turn_is_one c.args.inbox.now _ _ (live_end _ _ _ (line_of c.args.conn.now) c.args.inbox.now []) (live_end _ _ _ (line_of c.turn.new.self) c.turn.new.inbox _) c.turn.result in
-    whole_at _ c.turn.result c.close_of.result c.close_of.ensures (on_ok_weaker c.turn.result one c.turn.ensures.did) (λ e. one (c.turn.ensures.lost e))
+    let one = turn_is_one c.args.inbox.now _ _ _ (live_end _ _ _ (line_of c.args.conn.now) c.args.inbox.now []) (live_end _ _ _ (line_of c.turn.new.self) c.turn.new.inbox _) c.turn.result in
+    whole_at _ c.turn.result c.close_of.result c.close_of.ensures (on_ok_weaker c.turn.result (one c.turn.ensures.limit c.turn.ensures.ticks) c.turn.ensures.did) (λ e. one c.turn.ensures.limit c.turn.ensures.ticks (c.turn.ensures.lost e))
 
 pub returns-clause-cut : goal.returns-clause-cut
 returns-clause-cut g c =
     err_at _ c.turn.result c.close_of.result c.close_of.ensures
-    (on_cut _ _ c.turn.result (λ (f : TurnFault) why is k. record { now = _; fault = f; is = is; cut = cut_is_one c.args.inbox.now c.turn.new.inbox _ (line_of c.args.conn.now) _ f k }) c.turn.ensures.cut)
+    (on_cut _ _ c.turn.result
+    (λ (f : TurnFault) why is k. record { fault = f; is = is; cut = cut_is_one c.args.inbox.now _ _ _ (live_end _ _ _ (line_of c.args.conn.now) c.args.inbox.now []) (live_end _ _ _ (line_of c.turn.new.self) c.turn.new.inbox _) f c.turn.ensures.limit c.turn.ensures.ticks k })
+    c.turn.ensures.cut)
 
 pub returns-clause-short : goal.returns-clause-short
 returns-clause-short g c =
     on_both _ _ _ c.close_of.result (returns-clause-whole g c) (returns-clause-cut g c)
-    (was_short (live_end _ _ _ (line_of c.args.conn.now) c.args.inbox.now []) (live_end _ _ _ (line_of c.turn.new.self) c.turn.new.inbox _) refl)
-    (cut_is_short (line_of c.args.conn.now) c.args.inbox.now c.turn.new.inbox _)
+    (was_short _ _ _ (live_end _ _ _ (line_of c.args.conn.now) c.args.inbox.now []) (live_end _ _ _ (line_of c.turn.new.self) c.turn.new.inbox _) refl)
+    (λ why. cut_is_short _ _ _ (live_end _ _ _ (line_of c.args.conn.now) c.args.inbox.now []) (live_end _ _ _ (line_of c.turn.new.self) c.turn.new.inbox _) why refl)
 
 pub returns-clause-goes : goal.returns-clause-goes
 returns-clause-goes g c = λ e. goes_made _ c.turn.result c.turn.ensures.goes (sym c.close_of.ensures ∙ e)
 
 pub returns-clause-closed : goal.returns-clause-closed
 returns-clause-closed g c = λ close e. closed_made _ c.turn.result c.turn.ensures.answer c.turn.ensures.ended_lost close (sym c.close_of.ensures ∙ e)
+
+pub returns-clause-lost : goal.returns-clause-lost
+returns-clause-lost g c = λ e. lost_made _ c.turn.result c.turn.ensures.link (sym c.close_of.ensures ∙ e)
 
 pub returns-clause-leaves : goal.returns-clause-leaves
 returns-clause-leaves g c = whole_at _ c.turn.result c.close_of.result c.close_of.ensures c.turn.ensures.leaves c.turn.ensures.leaves_lost

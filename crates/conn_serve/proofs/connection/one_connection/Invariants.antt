@@ -15,7 +15,8 @@ invariant-loop g l = record {
   own : IsPassAt l.gate l.pass;
   free : IsFree l.pass;
   looks : Looks (known l.fn.pass) (known l.pass);
-  turned : Turned (connection_at (g.L.Link.told l.fn.link) (g.L.Link.carried l.fn.link) (g.K.Sink.taken l.fn.out) (known l.fn.pass).seen (line_of l.initial.conn) l.fn.inbox) (connection_at (g.L.Link.told l.link) (g.L.Link.carried l.link) (g.K.Sink.taken l.out) (known l.pass).seen (line_of l.conn) l.inbox) l.counter;
+  turned : Turned g.L.Link.eager (connection_at (g.L.Link.told l.fn.link) (g.L.Link.carried l.fn.link) (g.K.Sink.taken l.fn.out) (known l.fn.pass).seen (g.C.Clock.last l.initial.clock) (line_of l.initial.conn) l.fn.inbox)
+      (connection_at (g.L.Link.told l.link) (g.L.Link.carried l.link) (g.K.Sink.taken l.out) (known l.pass).seen (g.C.Clock.last l.clock) (line_of l.conn) l.inbox) l.counter;
   goes : GoesOn (line_of l.conn).machine;
   seen : HasSeen (line_of l.conn).machine (known l.pass);
   agrees : Agrees (line_of l.conn).machine l.inbox;
@@ -23,5 +24,7 @@ invariant-loop g l = record {
   inbox : faults_of l.fn.inbox ≤ faults_of l.inbox;
   out : g.K.Sink.faults l.fn.out ≤ g.K.Sink.faults l.out;
   stays : g.L.Link.place l.link ≡ g.L.Link.place l.fn.link;
+  failed : g.L.Link.faults l.fn.link ≤ g.L.Link.faults l.link;
+  ticks : g.C.Clock.last l.fn.clock ≤ g.C.Clock.last l.clock;
   told : g.C.Clock.told l.clock ≡ g.C.Clock.told l.fn.clock;
 }

@@ -15,23 +15,36 @@ loop-number-init g c = record {
   looks = looks_self (known c.args.pass.now);
   may = c.requires.may;
   lent = c.requires.lent;
-  lived = lived_none _ _ _ _ c.args.inbox.now;
+  lived = lived_none _ _ _ _ _ _ c.args.inbox.now;
   kind = kind_self c.args.inbox.now;
   inbox = omega arith;
   out = omega arith;
   dialer = omega arith;
+  ticks = omega arith;
   told = refl;
 }
 
 pub returns-then-load-clause-served : goal.returns-then-load-clause-served
-returns-then-load-clause-served g c = over_stopped _ (life_at _ _ _ c.args.inbox.now) (life_at _ _ _ c.loop-number.inbox) _ _ c.loop-number.invariant.lived
+returns-then-load-clause-served g c = over_stopped _ _ _ _ (life_at _ _ _ c.args.inbox.now) (life_at _ _ _ c.loop-number.inbox) _ _ c.loop-number.invariant.lived
+
+pub returns-in-Some-clause-kind : goal.returns-in-Some-clause-kind
+returns-in-Some-clause-kind g c =
+    let one = c.serve_next-answer.ensures in
+    let was = c.loop-number.invariant in
+    kind_on c.args.inbox.now c.loop-number.inbox c.serve_next-answer.new.inbox was.inbox one.never_falls.0 was.kind one.kind
+
+pub returns-in-Some-clause-ticks : goal.returns-in-Some-clause-ticks
+returns-in-Some-clause-ticks g c = omega (arith, c.loop-number.invariant.ticks, c.serve_next-answer.ensures.ticks)
 
 pub returns-in-Some-clause-looks : goal.returns-in-Some-clause-looks
 returns-in-Some-clause-looks g c = looks_on _ _ _ c.loop-number.invariant.looks c.serve_next-answer.ensures.looks
 
 pub returns-in-Some-clause-served : goal.returns-in-Some-clause-served
 returns-in-Some-clause-served g c =
-    over_ok c.in-Some.end _ (life_at _ _ _ c.args.inbox.now) (life_at _ _ _ c.loop-number.inbox) (life_at _ _ _ c.serve_next-answer.new.inbox) _ _ _ c.loop-number.invariant.lived (subst (IsRound _ (life_at _ _ _ c.loop-number.inbox) (life_at _ _ _ c.serve_next-answer.new.inbox) _ _) (c.in-Ok.is ∙ ap Ok c.in-Some.is) c.serve_next-answer.ensures.round)
+    over_ok _ _ _ _ c.in-Some.end _ (life_at _ _ _ c.args.inbox.now) (life_at _ _ _ c.loop-number.inbox) (life_at _ _ _ c.serve_next-answer.new.inbox) _ _ _ c.loop-number.invariant.lived (subst (IsRound _ _ (life_at _ _ _ c.loop-number.inbox) (life_at _ _ _ c.serve_next-answer.new.inbox) _ _) (c.in-Ok.is ∙ ap Ok c.in-Some.is) c.serve_next-answer.ensures.round)
+
+pub returns-in-Err-clause-ticks : goal.returns-in-Err-clause-ticks
+returns-in-Err-clause-ticks g c = omega (arith, c.loop-number.invariant.ticks, c.serve_next-answer.ensures.ticks)
 
 pub returns-in-Err-clause-looks : goal.returns-in-Err-clause-looks
 returns-in-Err-clause-looks g c = looks_on _ _ _ c.loop-number.invariant.looks c.serve_next-answer.ensures.looks
@@ -44,7 +57,7 @@ returns-in-Err-clause-blamed g c =
 
 pub returns-in-Err-clause-served : goal.returns-in-Err-clause-served
 returns-in-Err-clause-served g c =
-    over_err c.in-Err.fault _ (life_at _ _ _ c.args.inbox.now) (life_at _ _ _ c.loop-number.inbox) (life_at _ _ _ c.serve_next-answer.new.inbox) _ _ _ c.loop-number.invariant.lived c.in-Err.ensures.round
+    over_err _ _ _ _ c.in-Err.fault _ (life_at _ _ _ c.args.inbox.now) (life_at _ _ _ c.loop-number.inbox) (life_at _ _ _ c.serve_next-answer.new.inbox) _ _ _ c.loop-number.invariant.lived c.in-Err.ensures.round c.serve_next-answer.ensures.ticks
 
 pub loop-number-preserved : goal.loop-number-preserved
 loop-number-preserved g c =
@@ -56,10 +69,11 @@ loop-number-preserved g c =
       looks = looks_on _ _ _ was.looks one.looks;
       may = one.goes (c.in-Ok.is ∙ ap Ok c.in_default.is);
       lent = one.lent;
-      lived = lived_more _ (life_at _ _ _ c.args.inbox.now) (life_at _ _ _ c.loop-number.inbox) (life_at _ _ _ c.serve_next-answer.new.inbox) _ _ _ was.lived (subst (IsRound _ (life_at _ _ _ c.loop-number.inbox) (life_at _ _ _ c.serve_next-answer.new.inbox) _ _) (c.in-Ok.is ∙ ap Ok c.in_default.is) one.round);
+      lived = lived_more _ _ _ _ _ (life_at _ _ _ c.args.inbox.now) (life_at _ _ _ c.loop-number.inbox) (life_at _ _ _ c.serve_next-answer.new.inbox) _ _ _ was.lived (subst (IsRound _ _ (life_at _ _ _ c.loop-number.inbox) (life_at _ _ _ c.serve_next-answer.new.inbox) _ _) (c.in-Ok.is ∙ ap Ok c.in_default.is) one.round);
       kind = kind_on c.args.inbox.now c.loop-number.inbox c.serve_next-answer.new.inbox was.inbox one.never_falls.0 was.kind one.kind;
       inbox = omega (arith, was.inbox, one.never_falls.0);
       out = omega (arith, was.out, one.never_falls.1);
       dialer = omega (arith, was.dialer, one.never_falls.2);
+      ticks = omega (arith, was.ticks, one.ticks);
       told = one.told ∙ was.told;
     }

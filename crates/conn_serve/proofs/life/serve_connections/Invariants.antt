@@ -18,12 +18,13 @@ invariant-loop-number g l = record {
   looks : Looks (known l.fn.pass) (known l.pass);
   may : MayBegin (line_of l.conn).machine (known l.pass) l.inbox;
   lent : g.N.Dialer.lent l.dialer ≡ false;
-  lived : LivedTo l.number (life_at (g.N.Dialer.told l.fn.dialer) (g.K.Sink.taken l.fn.out) (known l.fn.pass).seen l.fn.inbox)
+  lived : LivedTo g.N.Link.Link (g.C.Clock.last l.fn.clock) (g.C.Clock.last l.clock) l.number (life_at (g.N.Dialer.told l.fn.dialer) (g.K.Sink.taken l.fn.out) (known l.fn.pass).seen l.fn.inbox)
       (life_at (g.N.Dialer.told l.dialer) (g.K.Sink.taken l.out) (known l.pass).seen l.inbox) (line_of l.fn.conn).machine (line_of l.conn).machine;
   kind : SameKind l.fn.inbox l.inbox;
   inbox : faults_of l.fn.inbox ≤ faults_of l.inbox;
   out : g.K.Sink.faults l.fn.out ≤ g.K.Sink.faults l.out;
   dialer : g.N.Dialer.faults l.fn.dialer ≤ g.N.Dialer.faults l.dialer;
+  ticks : g.C.Clock.last l.fn.clock ≤ g.C.Clock.last l.clock;
   told : g.C.Clock.told l.clock ≡ g.C.Clock.told l.fn.clock;
 }
 

@@ -5,33 +5,40 @@ use Rattle.conn_turns.specs.Lines.{Line}
 use Rattle.conn_serve.specs.declared.answer.ServeFault.TheVariants as faults
 use Rattle.conn_serve.specs.Moments.{faults_at, serving_at}
 use Rattle.conn_serve.proofs.Living.{nothing_served}
-use Rattle.conn_serve.proofs.Opening.{may_open, blamed_none, served_at}
+use Rattle.conn_serve.proofs.Opening.{may_open, blamed_none, served_at, served_by}
 use Rattle.conn_serve.proofs.Marking.{marked_by, seated_by}
 use Rattle.conn_serve.proofs.serving.serve.Goals as goal
 
-pub returns-in_default-clause-served : goal.returns-in_default-clause-served
-returns-in_default-clause-served g c = record {
+pub returns-in_default-clause-through : goal.returns-in_default-clause-through
+returns-in_default-clause-through g c = record {
   connections = Err faults.Memory;
   refused = None;
-  life = nothing_served _ _ _ _ c.args.inbox.now;
+  life = nothing_served g.N.Link.Link (g.C.Clock.last c.args.clock.now) _ _ _ _ c.args.inbox.now;
   blamed = blamed_none (faults_at _ _ _ c.args.inbox.now) (faults_at _ _ _ c.args.inbox.now);
   senders = inr (refl, refl, refl);
   answer = refl;
 }
+
+pub returns-in_default-clause-served : goal.returns-in_default-clause-served
+returns-in_default-clause-served g c =
+    served_by g.N.Link.Link _ _ c.args.gate.now (serving_at _ _ _ _ _ c.args.inbox.now _) (serving_at _ _ _ _ _ c.args.inbox.now _) _ _ (returns-in_default-clause-through g c)
 
 pub serve_beside-requires-clause-may : goal.serve_beside-requires-clause-may
 serve_beside-requires-clause-may g c κs within =
     let r = c.requires in
     may_open c.args.config c.args.most (opening_of c.args.gate.now).history _ (known c.args.pass.now) c.args.inbox.now (ap (λ (l : Line). l.machine) c.in-Ok.ensures) r.opened r.sent r.credentials r.flow r.within
 
+pub returns-clause-through : goal.returns-clause-through
+returns-clause-through g c =
+    served_at g.N.Link.Link _ _ c.args.gate.now (serving_at _ _ _ _ _ c.args.inbox.now _) (serving_at _ _ _ _ _ c.serve_beside.new.inbox _) _ _ _ (ap (λ (l : Line). l.machine) c.in-Ok.ensures) c.serve_beside.ensures.served
+
 pub returns-clause-served : goal.returns-clause-served
-returns-clause-served g c =
-    served_at c.args.gate.now (serving_at _ _ _ _ _ c.args.inbox.now _) (serving_at _ _ _ _ _ c.serve_beside.new.inbox _) _ _ _ (ap (λ (l : Line). l.machine) c.in-Ok.ensures) c.serve_beside.ensures.served
+returns-clause-served g c = served_by g.N.Link.Link _ _ c.args.gate.now (serving_at _ _ _ _ _ c.args.inbox.now _) (serving_at _ _ _ _ _ c.serve_beside.new.inbox _) _ _ (returns-clause-through g c)
 
 pub returns-clause-marked : goal.returns-clause-marked
 returns-clause-marked g c = λ u many.
-    marked_by c.args.gate.now (serving_at _ _ _ _ _ c.args.inbox.now _) (serving_at _ _ _ _ _ c.serve_beside.new.inbox _) _ _ c.serve_beside.ensures.served u many
+    marked_by c.args.gate.now (serving_at _ _ _ _ _ c.args.inbox.now _) (serving_at _ _ _ _ _ c.serve_beside.new.inbox _) _ _ (served_by g.N.Link.Link _ _ c.args.gate.now (serving_at _ _ _ _ _ c.args.inbox.now _) (serving_at _ _ _ _ _ c.serve_beside.new.inbox _) _ _ c.serve_beside.ensures.served) u many
 
 pub returns-clause-seated : goal.returns-clause-seated
 returns-clause-seated g c = λ made h.
-    seated_by c.args.gate.now (serving_at _ _ _ _ _ c.args.inbox.now _) (serving_at _ _ _ _ _ c.serve_beside.new.inbox _) _ _ c.serve_beside.ensures.served made h
+    seated_by c.args.gate.now (serving_at _ _ _ _ _ c.args.inbox.now _) (serving_at _ _ _ _ _ c.serve_beside.new.inbox _) _ _ (served_by g.N.Link.Link _ _ c.args.gate.now (serving_at _ _ _ _ _ c.args.inbox.now _) (serving_at _ _ _ _ _ c.serve_beside.new.inbox _) _ _ c.serve_beside.ensures.served) made h

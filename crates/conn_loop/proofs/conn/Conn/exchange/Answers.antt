@@ -5,7 +5,7 @@ use Rattle.conn_turns.specs.Lines.{Line}
 use Rattle.conn_loop.specs.Conn.{line_of, KeepsAll}
 use Rattle.conn_loop.specs.Live.{live_end}
 use Rattle.conn_loop.specs.Moving.{IsLossOf}
-use Rattle.conn_loop.proofs.Exchanging.{did_work, cut_turn, on_ok_any, loss_cut, loss_ends, loss_answer, loss_goes, goes_after, leaves_of}
+use Rattle.conn_loop.proofs.Exchanging.{did_work, on_ok_any, loss_cut, loss_ends, loss_answer, loss_goes, goes_after, leaves_of}
 use Rattle.conn_loop.proofs.conn.Conn.exchange.Goals as goal
 
 pub returns-in_default-clause-did : goal.returns-in_default-clause-did
@@ -40,8 +40,7 @@ pub returns-in_default-clause-answer : goal.returns-in_default-clause-answer
 returns-in_default-clause-answer g c = loss_answer c.receive.new.self.end c.lose_link.new.self.end c.lose_link.result c.lose_link.ensures.answer
 
 pub returns-in-Err-clause-cut : goal.returns-in-Err-clause-cut
-returns-in-Err-clause-cut g c = λ _.
-    cut_turn c.args.now _ _ _ _ _ (line_of c.args.self.now) (line_of c.receive.new.self) _ c.args.inbox.now c.work.new.inbox _ _ c.in-Err.fault c.in-Ok.ensures.received c.in-Err.ensures.cut
+returns-in-Err-clause-cut g c = λ _. record { got = _; line = line_of c.receive.new.self; receives = c.in-Ok.ensures.received; cut = c.in-Err.ensures.cut }
 
 pub returns-clause-did : goal.returns-clause-did
 returns-clause-did g c =

@@ -3,7 +3,6 @@ use Rattle.std.proofs.lemmas.Result.{on_ok_weaker}
 use Rattle.fixp_shake.specs.declared.config.EndConfig.{EndConfig}
 use Rattle.fixp_replies.specs.declared.facts.Facts.{Facts}
 use Rattle.gate_turn.specs.Places.{known}
-use Rattle.conn_turns.specs.declared.answer.TurnFault.TheVariants as faults
 use Rattle.conn_loop.specs.Conn.{line_of}
 use Rattle.conn_loop.specs.Live.{live_end}
 use Rattle.conn_loop.proofs.Working.{seen_same}
@@ -11,7 +10,8 @@ use Rattle.conn_loop.proofs.Exchanging.{on_ok_any, loss_cut, loss_ends, loss_ans
 use Rattle.conn_loop.proofs.conn.Conn.turn.Goals as goal
 
 pub returns-in_default-clause-cut : goal.returns-in_default-clause-cut
-returns-in_default-clause-cut g c = λ _. cut_none _ _ c.args.inbox.now _ faults.Memory c.clear.ensures refl
+returns-in_default-clause-cut g c = λ _.
+    cut_none _ _ (live_end _ _ _ (line_of c.args.self.now) c.args.inbox.now []) (live_end _ _ _ (line_of c.start.new.self) c.args.inbox.now _) refl refl refl c.in_default.ensures.err refl c.clear.ensures
 
 pub returns-then-not-works-clause-did : goal.returns-then-not-works-clause-did
 returns-then-not-works-clause-did g c =
@@ -44,8 +44,8 @@ returns-clause-lost g c = λ e.
 
 pub returns-clause-cut : goal.returns-clause-cut
 returns-clause-cut g c =
-    cut_as c.moment-now.result _ (line_of c.args.self.now) (line_of c.start.new.self) c.args.inbox.now c.exchange.new.inbox _ _ c.exchange.result c.moment-now.ensures.now c.in-Ok.ensures.ticked c.clear.ensures
-    c.exchange.ensures.cut
+    cut_as c.moment-now.result _ _ (live_end _ _ _ (line_of c.args.self.now) c.args.inbox.now []) (live_end _ _ _ (line_of c.exchange.new.self) c.exchange.new.inbox _) (line_of c.start.new.self) _ c.exchange.result c.moment-now.ensures.now
+    c.in-Ok.ensures.ticked (c.in-Ok.ensures.idle (cc)) (c.in-Ok.ensures.unended (cc)) c.clear.ensures c.exchange.ensures.cut
 
 pub returns-then-not-works-clause-goes : goal.returns-then-not-works-clause-goes
 returns-then-not-works-clause-goes g c = λ e.
