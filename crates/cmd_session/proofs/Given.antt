@@ -34,9 +34,9 @@ given_back G sees role c before config input input' devices devices' s s' i d e 
     (subst (λ x. EndsBehindConfig G sees role c before (given config x devices s) s.0) (sym i) h))
 
 -- how the boxes were not opened, and what was lived over them, by an equal configuration
-pub refused_by : {D : Type 0} (told : D → Option (List ℕ)) (disk : D → ℕ) (config config' : EndConfig) (before after : Disks D) (status : Status) → config ≡ config'
-    → RefusedBoxes told disk config.peer_flow before after status → RefusedBoxes told disk config'.peer_flow before after status
-refused_by told disk config config' before after status same h = subst (λ (c : EndConfig). RefusedBoxes told disk c.peer_flow before after status) same h
+pub refused_by : {D : Type 0} (told : D → Option (List ℕ)) (may_leave : D → List ℕ → Type 0) (disk : D → ℕ) (config config' : EndConfig) (before after : Disks D) (status : Status) → config ≡ config'
+    → RefusedBoxes told may_leave disk config.peer_flow before after status → RefusedBoxes told may_leave disk config'.peer_flow before after status
+refused_by told may_leave disk config config' before after status same h = subst (λ (c : EndConfig). RefusedBoxes told may_leave disk c.peer_flow before after status) same h
 
 pub lived_by : {J : Type 0} {G : Ghosts J} {O : Type 0} {H : Ghosts O} {S K D N C : Type 0} (sees : Sees S K D N) (senders : ℕ) (config config' : EndConfig) (input : S) (before after : OverBoxes K N C (Outbox O H) (Inbox J G)) (status : Status)
     → config ≡ config' → LivedOn sees senders config input before after status → LivedOn sees senders config' input before after status

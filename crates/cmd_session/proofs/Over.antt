@@ -1,5 +1,5 @@
 -- One life over both journals, from what it was over their boxes.
-use Rattle.std.proofs.Common.{◌≡◌, ◌⊎◌, inl, inr, ⊎_elim, ℕ, ◌^◌, ◌≤◌, true, false, List, [], ◌++◌, length, Option, Result, sym, ap, subst, ◌∙◌, arith}
+use Rattle.std.proofs.Common.{◌≡◌, ◌⊎◌, inl, inr, ⊎_elim, ℕ, ◌^◌, ◌≤◌, true, false, List, [], ◌++◌, length, map, Option, Result, sym, ap, subst, ◌∙◌, arith}
 use Rattle.std.specs.Prelude.{option_to_list}
 use Rattle.std.specs.Option.{ForSome}
 use Rattle.std.proofs.Math.Logic.{∥∥₁_map, ∥∥₁_elim}
@@ -22,7 +22,7 @@ use Rattle.jr_record.specs.declared.journal.Journal.{Ghosts}
 use Rattle.jr_record.specs.declared.record.Record.{Record}
 use Rattle.jr_record.specs.declared.limits.Limits.{Limits as JournalLimits}
 use Rattle.jr_record.specs.Images.{IsJournal, Leaves, journal_size}
-use Rattle.jr_boxes.specs.Outboxes.{outbox_of, records_of_history}
+use Rattle.jr_boxes.specs.Outboxes.{record_of, outbox_of, records_of_history}
 use Rattle.jr_boxes.specs.Inboxes.{records_of_inbox}
 use Rattle.jr_boxes.specs.declared.outbox.Outbox.{Outbox}
 use Rattle.jr_boxes.specs.declared.inbox.Inbox.{Inbox}
@@ -32,19 +32,22 @@ use Rattle.jr_boxes.proofs.Kept.{length-places}
 use Rattle.gate_turn.specs.Views.{Limits}
 use Rattle.conn_steps.specs.Settling.{IsPast, HaveRoom}
 use Rattle.conn_serve.specs.declared.answer.ServeFault.{ServeFault}
-use Rattle.conn_serve.specs.Connections.{adds_of, refused_of_all, wanted_of_all}
+use Rattle.conn_serve.specs.Connections.{all_of, adds_of, refused_of_all, wanted_of_all}
 use Rattle.conn_serve.specs.Moments.{life_at, beside}
 use Rattle.conn_serve.specs.Opening.{opened_state}
-use Rattle.life_laws.specs.Lives.{all_of, LifeOfLoop, served_of}
+use Rattle.life_laws.specs.Lives.{LifeOfLoop, served_of}
 use Rattle.life_laws.proofs.Loops.{served_keeps}
 use Rattle.life_laws.proofs.Opened.{opened_opens}
-use Rattle.life_laws.specs.Plans.{plan_in}
+use Rattle.life_laws.proofs.Seen.{order_prop}
+use Rattle.life_laws.specs.Plans.{plan_in, GoesOnWith}
+use Rattle.life_laws.proofs.Lost.{plans_go_on, lost_few}
 use Rattle.life_laws.specs.PlanLives.{LivedBoxes, WasFull, FillsInbox}
 use Rattle.life_laws.proofs.Outboxes.{entries-outbox_of, plans_keep_outbox}
 use Rattle.cmd_base.specs.declared.status.Status.{Status}
-use Rattle.cmd_session.specs.Lived.{LeavesImages, KeepsRecords, FullInbox, limits, OpensOutbox, OpensInbox, LivedOver, LivedOn, Lived, over_boxes}
+use Rattle.cmd_session.specs.Lived.{LeavesImages, FullInbox, limits, OpensOutbox, OpensInbox, LivedOver, LivedOn, Lived, over_boxes}
 use Rattle.cmd_session.specs.Outsides.{Sees, live_of}
 use Rattle.cmd_session.specs.declared.outside.SessionOutside.{SessionOutside}
+use Rattle.cmd_session.proofs.Kept.{outbox_kept, inbox_kept}
 
 -- a disk's count rose where that of a box over it did
 pub risen_over : (disk now_disk old new : ℕ) → disk ≤ old → new ≡ now_disk → HasRisen old new → HasRisen disk now_disk
@@ -56,26 +59,8 @@ record_set = hlevel (ℕ_set, List-set, ⊎_set)
 records_prop : (rs qs : List Record) → IsProp (rs ≡ qs)
 records_prop rs qs = List-set record_set rs qs
 
-order_prop : (es : List Entry) → IsProp (InOrder es)
-order_prop es = hlevel (ℕ_set, List-set)
-
 module _ {S K D N J : Type 0} {H : Ghosts J} (outbox : Outbox J H) (sees : Sees S K D N) (disk_at : J → D) (leaves_are : (j : J) (image : Option (List Record)) → Leaves (sees.may_leave (disk_at j)) image → H.leaves j image)
     (only : (j : J) (rs qs : List Record) → H.stands j rs → H.stands j qs → rs ≡ qs) (sizes : (j : J) (rs : List Record) → H.stands j rs → journal_size rs ≡ H.size j) where
-  -- a box that changed nothing leaves what its disk held
-  pub outbox_kept : (before after : D) → OpensOutbox (sees.told before) outbox → after ≡ disk_at (outboxes.journal_of outbox) → KeepsRecords sees.told sees.may_leave before after
-  outbox_kept before after o same = record {
-    records = records_of_history o.history;
-    held = o.told;
-    left = λ image left. o.holds.journal.images image (leaves_are (outboxes.journal_of outbox) image (subst (λ (d : D). Leaves (sees.may_leave d) image) same left));
-  }
-
-  pub inbox_kept : (before after : D) (box : Inbox J H) → OpensInbox (sees.told before) box → after ≡ disk_at (inboxes.journal_of box) → KeepsRecords sees.told sees.may_leave before after
-  inbox_kept before after box o same = record {
-    records = records_of_inbox o.inbox;
-    held = o.told;
-    left = λ image left. o.holds.journal.images image (leaves_are (inboxes.journal_of box) image (subst (λ (d : D). Leaves (sees.may_leave d) image) same left));
-  }
-
   module _ {C : Type 0} (config : EndConfig) (plans : List (List (List ℕ))) (before after : SessionOutside S K D N C) (closed : Outbox J H) (box since : Inbox J H) (result : Result (Unit {0}) ServeFault)
       (o : OpensOutbox (sees.told before.out_disk) outbox) (i : OpensInbox (sees.told before.in_disk) box) (limit : ((outboxes.limits_of outbox).entries ≡ 2 ^ 24) × ((outboxes.limits_of outbox).bytes ≡ 2 ^ 30))
       (in_limit : (inboxes.limits_of box).bytes ≡ 2 ^ 30) (now_out_is : after.out_disk ≡ disk_at (outboxes.journal_of closed)) (now_in_is : after.in_disk ≡ disk_at (inboxes.journal_of since))
@@ -99,27 +84,34 @@ module _ {S K D N J : Type 0} {H : Ghosts J} (outbox : Outbox J H) (sees : Sees 
     opens = subst (λ (es : List Entry). Opens es entries_then machine i.inbox) (sym (entries-outbox_of l.opening))
         (opened_opens box l.opening config (2 ^ 24) entries_then i.inbox (subst (λ (es : List Entry). IsPrefix l.opening.made es) (sym (entries-outbox_of l.closing)) l.plans_kept.begins.made) i.holds)
 
-    life : LifeOfLoop (outbox_of l.opening) (outbox_of l.closing) [] machine i.inbox (all_of l.served.ended l.served.given_up) (refused_of_all (option_to_list l.served.given_up))
-    life = served_keeps box (life_at (sees.carried before.dialer) (sees.taken before.out) l.opening box) (life_at (sees.carried after.dialer) (sees.taken after.out) l.seen since) machine l.connections (outbox_of l.opening) (outbox_of l.closing) [] i.inbox l.served has opens
+    life : LifeOfLoop (outbox_of l.opening) (outbox_of l.closing) l.lost machine i.inbox (all_of l.served.ended l.served.given_up) (refused_of_all (option_to_list l.served.given_up))
+    life = served_keeps box (life_at (sees.carried before.dialer) (sees.taken before.out) l.opening box) (life_at (sees.carried after.dialer) (sees.taken after.out) l.seen since) machine l.connections (outbox_of l.opening) (outbox_of l.closing) l.lost i.inbox l.served has opens
 
     connections : KeepsConnections (model_flow config.own_flow) (model_flow config.peer_flow) (entries (life_in (machine_life life.life)).opening_outbox) (entries (life_in (machine_life life.life)).closing_outbox) (served_of life.life)
     connections = subst (λ (rs : List OutboxRecord). KeepsConnections (model_flow config.own_flow) (model_flow config.peer_flow) (entries rs) (entries life.life.closing_outbox) (served_of life.life)) (sym life.outboxes.0)
         (subst (λ (rs : List OutboxRecord). KeepsConnections (model_flow config.own_flow) (model_flow config.peer_flow) (entries (outbox_of l.opening)) (entries rs) (served_of life.life)) (sym life.outboxes.1) life.keeps)
 
     order : InOrder l.closing.made
-    order = ∥∥₁_elim l.stands (order_prop l.closing.made) (λ s. s.outbox.in_order)
+    order = ∥∥₁_elim l.holds (order_prop l.closing.made) (λ h. h.outbox.in_order)
+
+    -- the closing history goes on with what was lost
+    goes : GoesOnWith plans l.opening l.closing l.lost
+    goes = plans_go_on plans l.opening l.closing l.lost l.plans_kept l.loses
 
     outbox_is_kept : KeepsOutbox (plan_in plans) (life_in (machine_life life.life))
-    outbox_is_kept = plans_keep_outbox plans l.opening l.closing (life_in (machine_life life.life)) l.plans_kept order life.outboxes.0 life.outboxes.1 life.outboxes.2 (_, sym life.keeps.inbox_adds)
+    outbox_is_kept = plans_keep_outbox plans l.opening l.closing goes.whole (life_in (machine_life life.life)) l.plans_kept order goes.keeps (goes.in_order order) life.outboxes.0 life.outboxes.1
+        (ap (λ (rs : List OutboxRecord). rs ++ life.life.refused_outbox) life.outboxes.1 ∙ (ap (λ (rs : List OutboxRecord). outbox_of l.closing ++ rs) life.outboxes.2 ∙ goes.goes_on))
+        (subst (λ (rs : List OutboxRecord). length rs ≤ 1) (sym life.outboxes.2) (lost_few plans l.opening l.closing l.lost l.loses))
+        (_, sym life.keeps.inbox_adds)
 
     -- what is left of both journals
-    images : outboxes.is_broken closed ≡ false → ∥ LeavesImages (sees.may_leave after.out_disk) (records_of_history l.closing) [] ∥₁
-    images sound = ∥∥₁_map (l.holds sound) (λ h image left. h.journal.images image (leaves_are (outboxes.journal_of closed) image (subst (λ (d : D). Leaves (sees.may_leave d) image) now_out_is left)))
+    out_left : ∥ LeavesImages (sees.may_leave after.out_disk) (records_of_history l.closing) (map record_of l.lost) ∥₁
+    out_left = ∥∥₁_map l.holds (λ h image left. h.journal.images image (leaves_are (outboxes.journal_of closed) image (subst (λ (d : D). Leaves (sees.may_leave d) image) now_out_is left)))
 
-    out_left : (HasRisen (sees.disk before.out_disk) (sees.disk after.out_disk) → ⊥) → ∥ LeavesImages (sees.may_leave after.out_disk) (records_of_history l.closing) [] ∥₁
-    out_left never = ⊎_elim
+    out_whole : (HasRisen (sees.disk before.out_disk) (sees.disk after.out_disk) → ⊥) → l.lost ≡ []
+    out_whole never = ⊎_elim
         (λ (b : outboxes.is_broken closed ≡ true). absurd (never (risen_over (sees.disk before.out_disk) (sees.disk after.out_disk) (outboxes.faults_of outbox) (outboxes.faults_of closed) out_least (sym out_count) (l.broken b))))
-        images
+        l.whole
         (cases_Bool (outboxes.is_broken closed))
 
     abbrev list : List InboxRecord
@@ -139,8 +131,8 @@ module _ {S K D N J : Type 0} {H : Ghosts J} (outbox : Outbox J H) (sees : Sees 
     abbrev wanted : List InboxRecord
     wanted = wanted_of_all (option_to_list l.served.given_up)
 
-    full : (entries bytes : ℕ) → FillsInbox since wanted entries bytes ⊎ WasFull (record { entries = (outboxes.limits_of outbox).entries; bytes = (outboxes.limits_of outbox).bytes }) l.opening l.closing entries bytes
-        → FullInbox list wanted entries bytes ⊎ WasFull limits l.opening l.closing entries bytes
+    full : (entries bytes : ℕ) → FillsInbox since wanted entries bytes ⊎ WasFull (record { entries = (outboxes.limits_of outbox).entries; bytes = (outboxes.limits_of outbox).bytes }) plans l.opening l.closing entries bytes
+        → FullInbox list wanted entries bytes ⊎ WasFull limits plans l.opening l.closing entries bytes
     full entries bytes (inl f) = inl (record {
       entries_are = f.entries_are ∙ (ap length held.noticed.places ∙ length-places 0 list);
       bytes_are = f.bytes_are ∙ sym (sizes (inboxes.journal_of since) (records_of_inbox list) held.journal.stands_for);
@@ -149,7 +141,7 @@ module _ {S K D N J : Type 0} {H : Ghosts J} (outbox : Outbox J H) (sees : Sees 
     full entries bytes (inr w) =
         let same : (◌≡◌ {A = Limits} (record { entries = (outboxes.limits_of outbox).entries; bytes = (outboxes.limits_of outbox).bytes }) limits) =
         ap (λ (n : ℕ). record { entries = n; bytes = (outboxes.limits_of outbox).bytes }) limit.0 ∙ ap (λ (n : ℕ). record { entries = 2 ^ 24; bytes = n }) limit.1 in
-        inr (subst (λ (x : Limits). WasFull x l.opening l.closing entries bytes) same w)
+        inr (subst (λ (x : Limits). WasFull x plans l.opening l.closing entries bytes) same w)
 
     pub lived_over : LivedOver sees config plans before after box since result
     lived_over = record {
@@ -165,12 +157,20 @@ module _ {S K D N J : Type 0} {H : Ghosts J} (outbox : Outbox J H) (sees : Sees 
       served = l.served;
       answer = l.answer;
       refusal = l.refusal;
+      lost = l.lost;
+      loses = l.loses;
+      whole = goes.whole;
+      goes_on = goes.goes_on;
+      in_order = goes.in_order order;
+      keeps = goes.keeps;
       life = life;
       contract = record { connections = connections; outbox = outbox_is_kept };
       out_left = out_left;
+      out_whole = out_whole;
       in_left = λ image left. held.journal.images image (leaves_are (inboxes.journal_of since) image (subst (λ (d : D). Leaves (sees.may_leave d) image) now_in_is left));
       room = room;
       marked = l.marked;
+      none = l.plans_kept.none;
       journal = λ e. ⊎_elim
           (λ risen. inr (risen_over (sees.disk before.in_disk) (sees.disk after.in_disk) (inboxes.faults_of box) (inboxes.faults_of since) in_least (sym in_count) risen))
           (λ risen. inl (risen_over (sees.disk before.out_disk) (sees.disk after.out_disk) (outboxes.faults_of outbox) (outboxes.faults_of closed) out_least (sym out_count) risen))
@@ -192,8 +192,10 @@ module _ {S K D N J : Type 0} {H : Ghosts J} (outbox : Outbox J H) (sees : Sees 
         (λ b. inl (record {
           cause = b.cause;
           dialer_is = b.dialer_is;
-          out_kept = outbox_kept before.out_disk after.out_disk o (now_out_is ∙ ap (λ (x : Outbox J H). disk_at (outboxes.journal_of x)) b.outbox_is);
-          in_kept = inbox_kept before.in_disk after.in_disk box i (now_in_is ∙ ap (λ (x : Inbox J H). disk_at (inboxes.journal_of x)) b.box_is);
+          left = record {
+            outbox = outbox_kept sees.told sees.may_leave disk_at outbox before.out_disk after.out_disk o (leaves_are (outboxes.journal_of outbox)) (now_out_is ∙ ap (λ (x : Outbox J H). disk_at (outboxes.journal_of x)) b.outbox_is);
+            inbox = inbox_kept sees.told sees.may_leave disk_at box before.in_disk after.in_disk i (leaves_are (inboxes.journal_of box)) (now_in_is ∙ ap (λ (x : Inbox J H). disk_at (inboxes.journal_of x)) b.box_is);
+          };
         }))
         (λ h. inr (record {
           old = box;

@@ -1,5 +1,5 @@
 -- What is left of the senders behind a life, and what its answer blames.
-use Rattle.std.proofs.Common.{◌≡◌, ◌⊎◌, ⊎_elim, ℕ, ◌+◌, ◌<◌, Bool, true, false, List, [], ◌∷◌, ◌++◌, ◌^◌, length, take, slice_index_or, All, Option, Some, None, Result, Err, IfErr, sym, ap, ◌∙◌, subst, arith, append-nil}
+use Rattle.std.proofs.Common.{◌≡◌, ◌⊎◌, ⊎_elim, ℕ, ◌+◌, ◌<◌, Bool, List, [], ◌∷◌, ◌++◌, ◌^◌, length, slice_index_or, All, Option, Some, None, Result, Err, IfErr, sym, ap, ◌∙◌, subst, arith, append-nil}
 use Rattle.std.proofs.lemmas.Option.{none-some}
 use mathlib.Core.Logic.{dite}
 use native.Mathlib.Decide.{ℕ_discrete}
@@ -25,7 +25,7 @@ use Rattle.conn_serve.specs.declared.answer.ServeFault.TheVariants as faults
 use Rattle.conn_serve.specs.declared.answer.LifeEnd.{LifeEnd}
 use Rattle.conn_serve.specs.Answers.{answer_of}
 use Rattle.conn_serve.specs.Senders.{refusal_of, IsRefusal, FinishedFirst, SubmittedAll}
-use Rattle.conn_serve.specs.Causes.{Tells}
+use Rattle.conn_serve.specs.Causes.{TellsAll}
 use Rattle.conn_serve.specs.Lines.{lines_from}
 use Rattle.conn_serve.specs.Served.{lacks_lines, ServedLife}
 use Rattle.conn_serve.specs.Moments.{Beside, ServingAt, beside, with_seen}
@@ -122,9 +122,14 @@ takes_earlier None mid new lines h t = tt
 takes_earlier (Some xs) None new lines h t = absurd h
 takes_earlier (Some xs) (Some ys) new lines h t = subst (λ (zs : List ℕ). Appends (Some zs) new lines) (h ∙ append-nil xs) t
 
-tells_earlier : (lacking : Bool) (old mid new : Option (List ℕ)) (lines : List ℕ) → Appends old mid [] → Tells lacking mid new lines → Tells lacking old new lines
-tells_earlier false old mid new lines h t = takes_earlier old mid new lines h t
-tells_earlier true old mid new lines h t = record { count = t.count; within = t.within; appended = takes_earlier old mid new (take t.count lines) h t.appended }
+tells_earlier : (lacking : Bool) (old mid new : Option (List ℕ)) (lines : List ℕ) → Appends old mid [] → TellsAll lacking mid new lines → TellsAll lacking old new lines
+tells_earlier lacking old mid new lines h t = record {
+  earlier = t.earlier;
+  late = t.late;
+  are = t.are;
+  few = t.few;
+  told = record { between = t.told.between; first = takes_earlier old mid t.told.between t.earlier h t.told.first; last = t.told.last };
+}
 
 module _ {J : Type 0} {G : Ghosts J} (taken : Option (List ℕ)) (old new : Beside J G) where
   served_earlier : (before seen : History) (m : State) (result : Result LifeEnd ServeFault) → Appends taken old.out [] → ServedLife (with_seen old before) (with_seen new seen) m result
@@ -136,6 +141,8 @@ module _ {J : Type 0} {G : Ghosts J} (taken : Option (List ℕ)) (old new : Besi
     mid = s.mid;
     were = s.were;
     gave_up = s.gave_up;
+    followed = s.followed;
+    timely = s.timely;
     refuses = s.refuses;
     lines = tells_earlier (lacks_lines result) taken old.out new.out (lines_from 1 (s.ended ++ option_to_list s.given_up)) h s.lines;
     came = s.came;
@@ -155,8 +162,10 @@ module _ {J : Type 0} {G : Ghosts J} (taken : Option (List ℕ)) (old new : Besi
     refused = l.refused;
     few = l.few;
     opened = l.opened;
-    stands = l.stands;
+    lost = l.lost;
     holds = l.holds;
+    loses = l.loses;
+    whole = l.whole;
     broken = l.broken;
     plans_kept = l.plans_kept;
     begins = l.begins;

@@ -1,8 +1,8 @@
 -- One life of a session over both journals: what they held, what was served, and what they hold behind it (this project's profile).
-use Rattle.std.specs.Prelude.{◌≡◌, ◌⊎◌, ℕ, ◌^◌, ◌<◌, true, List, [], ◌++◌, length, Option, IfSome, option_to_list, Result, Ok, Err, IsSomeAnd}
+use Rattle.std.specs.Prelude.{◌≡◌, ◌⊎◌, ℕ, ◌^◌, ◌<◌, true, List, [], ◌++◌, length, map, Option, IfSome, option_to_list, Result, Ok, Err, IsSomeAnd}
 use Rattle.std.specs.Option.{ForSome}
 use Rattle.gw_outside.specs.Faults.{HasRisen}
-use Rattle.session_model.specs.Journal.{History}
+use Rattle.session_model.specs.Journal.{History, OutboxRecord, InOrder}
 use Rattle.session_model.specs.Inbox.{InboxRecord, applied}
 use Rattle.session_model.specs.Lives.{IsImage, KeepsContract}
 use Rattle.fixp_shake.specs.declared.config.EndConfig.{EndConfig}
@@ -14,12 +14,13 @@ use Rattle.gw_links.specs.Dialers.{DialerTold}
 use Rattle.jr_record.specs.declared.journal.Journal.{Ghosts}
 use Rattle.jr_record.specs.declared.record.Record.{Record}
 use Rattle.jr_record.specs.Images.{IsJournal, Leaves, journal_size}
-use Rattle.jr_boxes.specs.Outboxes.{outbox_of, records_of_history}
+use Rattle.jr_boxes.specs.Outboxes.{record_of, outbox_of, records_of_history}
 use Rattle.jr_boxes.specs.Inboxes.{records_of_inbox}
 use Rattle.jr_boxes.specs.declared.outbox.Outbox.{Outbox}
 use Rattle.jr_boxes.specs.declared.inbox.Inbox.{Inbox}
 use Rattle.jr_boxes.specs.Outbox as outboxes
 use Rattle.jr_boxes.specs.Inbox as inboxes
+use Rattle.cmd_base.specs.Contents.{Disks}
 use Rattle.cmd_base.specs.declared.status.Status.{Status}
 use Rattle.cmd_base.specs.declared.status.Status.TheVariants.{Done, OutputFault, JournalFault, DialFault, Unfinished, Rejected, Full, Turns, Memory}
 use Rattle.gate_turn.specs.Views.{Limits}
@@ -28,15 +29,15 @@ use Rattle.conn_serve.specs.declared.answer.ServeFault.{ServeFault}
 use Rattle.conn_serve.specs.declared.answer.ServeFault.TheVariants as faults
 use Rattle.conn_serve.specs.declared.answer.LifeEnd.{LifeEnd}
 use Rattle.conn_serve.specs.Answers.{answer_of}
-use Rattle.conn_serve.specs.Connections.{adds_of, refused_of_all, wanted_of_all}
+use Rattle.conn_serve.specs.Connections.{all_of, adds_of, refused_of_all, wanted_of_all}
 use Rattle.conn_serve.specs.Moments.{life_at, beside}
 use Rattle.conn_serve.specs.Served.{ServedLife}
 use Rattle.conn_serve.specs.Opening.{opened_state, IsUnrefused}
-use Rattle.life_laws.specs.Lives.{all_of, LifeOfLoop}
-use Rattle.life_laws.specs.Plans.{plan_in}
+use Rattle.life_laws.specs.Lives.{LifeOfLoop}
+use Rattle.life_laws.specs.Plans.{plan_in, KeepsPlans, LosesNext}
 use Rattle.life_laws.specs.PlanLives.{IsOfSender, LivedBoxes, WasFull}
 use Rattle.cmd_session.specs.Inputs.{ArePlanned}
-use Rattle.cmd_session.specs.Outsides.{Sees, live_of}
+use Rattle.cmd_session.specs.Outsides.{Sees, live_of, disks_of}
 use Rattle.cmd_session.specs.declared.outside.Live.{Live}
 use Rattle.cmd_session.specs.declared.outside.SessionOutside.{SessionOutside}
 
@@ -75,6 +76,20 @@ pub record KeepsRecords {D : Type 0} (told : D → Option (List ℕ)) (may_leave
   pub held : ForSome (told before) (λ content. IsJournal content records)
   pub left : LeavesImages (may_leave after) records []
 
+-- a disk tells what it told, and a stop may leave no content of it that it might not have left before
+pub record LeavesNoMore {D : Type 0} (told : D → Option (List ℕ)) (may_leave : D → List ℕ → Type 0) (before after : D) : Type 0 where
+  pub tells : told after ≡ told before
+  pub leaves : (content : List ℕ) → may_leave after content → may_leave before content
+
+-- a disk that was refused: it leaves no more than it did, or it told a journal and leaves its records
+abbrev pub IsKept : {D : Type 0} → (D → Option (List ℕ)) → (D → List ℕ → Type 0) → (before after : D) → Type 0
+IsKept told may_leave before after = LeavesNoMore told may_leave before after ⊎ KeepsRecords told may_leave before after
+
+-- both disks told a journal, and leave no other records
+pub record LeftBoth {D : Type 0} (told : D → Option (List ℕ)) (may_leave : D → List ℕ → Type 0) (before after : Disks D) : Type 0 where
+  pub outbox : KeepsRecords told may_leave before.outbox after.outbox
+  pub inbox : KeepsRecords told may_leave before.inbox after.inbox
+
 -- an inbox of this list has so many messages, and so many bytes, and its journal no room for the one record that was wanted
 pub record FullInbox (inbox wanted : List InboxRecord) (entries bytes : ℕ) : Type 0 where
   pub entries_are : entries ≡ length (applied inbox)
@@ -100,9 +115,10 @@ module _ {J : Type 0} {G : Ghosts J} where
 
   module _ {S K D N C : Type 0} where
     -- One life over both journals. They held a history and a list; what serves its connections is a machine that is made of both; and it keeps
-    -- the contract of one end, by these plans. What is left are the records of the closing history and list, and in the inbox a beginning
-    -- of those refused. Every record that the life added to its inbox had room, and so had the one whose append the disk failed. Why it
-    -- answers so: the connections and the refusal say it (`IsLifeAnswer`, `answer_of`), and the counts
+    -- the contract of one end, by these plans. What is left are the records of the closing history and list, and behind them a beginning of
+    -- those refused by a failed call: in the outbox of the one that the plans have next, if its disk failed, with which the closing history
+    -- is one history in order, which keeps the plans too. Every record that the life added to its inbox had room, and so had the one whose
+    -- append the disk failed. Why it answers so: the connections and the refusal say it (`IsLifeAnswer`, `answer_of`), and the counts
     pub record LivedOver (sees : Sees S K D N) (config : EndConfig) (plans : List (List (List ℕ)))
         (before after : SessionOutside S K D N C) (old new : Inbox J G) (result : Result (Unit {0}) ServeFault) : Type 0 where
       pub opening : History
@@ -118,21 +134,28 @@ module _ {J : Type 0} {G : Ghosts J} where
           (life_at (sees.carried after.dialer) (sees.taken after.out) seen new) (fresh config (opened_state opening old) (2 ^ 24)) connections
       pub answer : result ≡ answer_of connections refused
       pub refusal : IfSome refused IsOfSender
-      pub life : LifeOfLoop (outbox_of opening) (outbox_of closing) [] (fresh config (opened_state opening old) (2 ^ 24)) inbox
+      pub lost : List OutboxRecord
+      pub loses : LosesNext plans opening closing lost
+      pub whole : History
+      pub goes_on : outbox_of closing ++ lost ≡ outbox_of whole
+      pub in_order : InOrder whole.made
+      pub keeps : KeepsPlans plans opening whole
+      pub life : LifeOfLoop (outbox_of opening) (outbox_of closing) lost (fresh config (opened_state opening old) (2 ^ 24)) inbox
           (all_of served.ended served.given_up) (refused_of_all (option_to_list served.given_up))
       pub contract : KeepsContract (model_flow config.own_flow) (model_flow config.peer_flow) (plan_in plans) (life_in (machine_life life.life))
-      pub out_left : (HasRisen (sees.disk before.out_disk) (sees.disk after.out_disk) → ⊥)
-          → ∥ LeavesImages (sees.may_leave after.out_disk) (records_of_history closing) [] ∥₁
+      pub out_left : ∥ LeavesImages (sees.may_leave after.out_disk) (records_of_history closing) (map record_of lost) ∥₁
+      pub out_whole : (HasRisen (sees.disk before.out_disk) (sees.disk after.out_disk) → ⊥) → lost ≡ []
       pub in_left : LeavesImages (sees.may_leave after.in_disk) (records_of_inbox (inbox ++ adds_of (all_of served.ended served.given_up)))
           (records_of_inbox (refused_of_all (option_to_list served.given_up)))
       pub room : HaveRoom (2 ^ 30) (journal_size (records_of_inbox inbox))
           (adds_of (all_of served.ended served.given_up) ++ refused_of_all (option_to_list served.given_up))
       pub marked : IsUnrefused result → 0 < length plans → closing.finished ≡ true
+      pub none : plans ≡ [] → closing.finished ≡ opening.finished
       pub journal : result ≡ Err faults.Journal → HasRisen (sees.disk before.out_disk) (sees.disk after.out_disk)
           ⊎ HasRisen (sees.disk before.in_disk) (sees.disk after.in_disk)
       pub full : (entries bytes : ℕ) → result ≡ Err (faults.Full entries bytes)
           → FullInbox (inbox ++ adds_of (all_of served.ended served.given_up)) (wanted_of_all (option_to_list served.given_up)) entries bytes
-          ⊎ WasFull limits opening closing entries bytes
+          ⊎ WasFull limits plans opening closing entries bytes
 
 module _ {S K D N C : Type 0} where
   -- INPUT has these plans, and the status is one of a life, with its cause where it blames OUT or the dialer
@@ -152,8 +175,7 @@ module _ {S K D N C : Type 0} where
   pub record LeftAll (sees : Sees S K D N) (before after : SessionOutside S K D N C) (status : Status) : Type 0 where
     pub cause : IsUnbegun sees.sink before.out after.out status
     pub dialer_is : after.dialer ≡ before.dialer
-    pub out_kept : KeepsRecords sees.told sees.may_leave before.out_disk after.out_disk
-    pub in_kept : KeepsRecords sees.told sees.may_leave before.in_disk after.in_disk
+    pub left : LeftBoth sees.told sees.may_leave (disks_of before) (disks_of after)
 
 -- what a life over boxes is lived on: OUT, the dialer and the clock, and the boxes
 pub record OverBoxes (K N C O I : Type 0) : Type 0 where

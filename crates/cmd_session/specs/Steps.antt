@@ -14,7 +14,7 @@ use Rattle.cmd_base.specs.declared.status.Status.{Status}
 use Rattle.cmd_base.specs.declared.status.Status.TheVariants.{InputFault, JournalFault}
 use Rattle.cmd_session.specs.Inputs.{IsConfigured, configuration_at, flow_received, end_of, RefusesInput}
 use Rattle.cmd_session.specs.Boxes.{IsBox, IsNotOpened}
-use Rattle.cmd_session.specs.Lived.{Lived}
+use Rattle.cmd_session.specs.Lived.{KeepsRecords, IsKept, LeftBoth, Lived}
 use Rattle.cmd_session.specs.Outsides.{Sees, live_of, disks_of, KeepsLive, KeepsBehindInbox, KeepsBehindConfig}
 use Rattle.cmd_session.specs.declared.outside.Live.{Live}
 use Rattle.cmd_session.specs.declared.outside.SessionOutside.{SessionOutside}
@@ -26,17 +26,22 @@ module _ {S K D N C : Type 0} where
     pub cause : status ≡ InputFault → HasRisen (sees.source old) (sees.source new)
     pub live : KeepsLive before after
 
--- the disk of the outbox holds none, or could not be opened; that of the inbox is as it was
-pub record RefusedOutbox {D : Type 0} (told : D → Option (List ℕ)) (disk : D → ℕ) (flow : Flow) (before after : Disks D) (status : Status) : Type 0 where
+-- the disk of the outbox holds none, or could not be opened, and is kept; that of the inbox is as it was
+pub record RefusedOutbox {D : Type 0} (told : D → Option (List ℕ)) (may_leave : D → List ℕ → Type 0) (disk : D → ℕ) (flow : Flow) (before after : Disks D)
+    (status : Status) : Type 0 where
   pub refused : IsNotOpened Outbox flow (told before.outbox) status
   pub cause : status ≡ JournalFault → HasRisen (disk before.outbox) (disk after.outbox)
+  pub outbox_kept : IsKept told may_leave before.outbox after.outbox
   pub inbox_is : after.inbox ≡ before.inbox
 
--- the disk of the outbox holds one; that of the inbox holds none of the peer's flow, or could not be opened
-pub record RefusedInbox {D : Type 0} (told : D → Option (List ℕ)) (disk : D → ℕ) (flow : Flow) (before after : Disks D) (status : Status) : Type 0 where
+-- the disk of the outbox holds one, and leaves its records; that of the inbox holds none of the peer's flow, or could not be opened, and is kept
+pub record RefusedInbox {D : Type 0} (told : D → Option (List ℕ)) (may_leave : D → List ℕ → Type 0) (disk : D → ℕ) (flow : Flow) (before after : Disks D)
+    (status : Status) : Type 0 where
   pub outbox : ForSome (told before.outbox) (IsBox Outbox flow)
   pub refused : IsNotOpened Inbox flow (told before.inbox) status
   pub cause : status ≡ JournalFault → HasRisen (disk before.inbox) (disk after.inbox)
+  pub outbox_kept : KeepsRecords told may_leave before.outbox after.outbox
+  pub inbox_kept : IsKept told may_leave before.inbox after.inbox
 
 -- both disks hold their boxes
 pub record HoldBoxes {D : Type 0} (told : D → Option (List ℕ)) (flow : Flow) (disks : Disks D) : Type 0 where
@@ -44,8 +49,9 @@ pub record HoldBoxes {D : Type 0} (told : D → Option (List ℕ)) (flow : Flow)
   pub inbox : ForSome (told disks.inbox) (IsBox Inbox flow)
 
 -- how the boxes were not opened
-abbrev pub RefusedBoxes : {D : Type 0} → (D → Option (List ℕ)) → (D → ℕ) → Flow → (before after : Disks D) → Status → Type 0
-RefusedBoxes told disk flow before after status = RefusedOutbox told disk flow before after status ⊎ RefusedInbox told disk flow before after status
+abbrev pub RefusedBoxes : {D : Type 0} → (D → Option (List ℕ)) → (D → List ℕ → Type 0) → (D → ℕ) → Flow → (before after : Disks D) → Status → Type 0
+RefusedBoxes told may_leave disk flow before after status =
+    RefusedOutbox told may_leave disk flow before after status ⊎ RefusedInbox told may_leave disk flow before after status
 
 module _ {S K D N C : Type 0} where
   -- CONFIG was refused, with its fault, or could not be read; all behind it is as it was
@@ -58,16 +64,20 @@ module _ {S K D N C : Type 0} where
   -- a box was not opened; INPUT and all behind it is as it was
   pub record StopsAtBoxes (sees : Sees S K D N) (role : Role) (c : Configuration) (before after : SessionOutside S K D N C)
       (status : Status) : Type 0 where
-    pub refused : RefusedBoxes sees.told sees.disk (flow_received role c.link) (disks_of before) (disks_of after) status
+    pub refused : RefusedBoxes sees.told sees.may_leave sees.disk (flow_received role c.link) (disks_of before) (disks_of after) status
     pub kept : KeepsBehindInbox before after
+
+  -- INPUT was refused; both disks leave the records that they told
+  pub record StopsAtInput (sees : Sees S K D N) (senders : ℕ) (before after : SessionOutside S K D N C) (status : Status) : Type 0 where
+    pub refused : RefusedInput sees senders before.input after.input (live_of before) (live_of after) status
+    pub left : LeftBoth sees.told sees.may_leave (disks_of before) (disks_of after)
 
 module _ {S K D N C J : Type 0} where
   -- both boxes were opened, and then INPUT was refused, or the session lived
   pub record RunsOn (G : Ghosts J) (sees : Sees S K D N) (role : Role) (c : Configuration) (before after : SessionOutside S K D N C)
       (status : Status) : Type 0 where
     pub boxes : HoldBoxes sees.told (flow_received role c.link) (disks_of before)
-    pub ended : RefusedInput sees c.trade.senders before.input after.input (live_of before) (live_of after) status
-        ⊎ Lived G sees c.trade.senders (end_of role c.link) before after status
+    pub ended : StopsAtInput sees c.trade.senders before after status ⊎ Lived G sees c.trade.senders (end_of role c.link) before after status
 
   -- where a run whose configuration is this ended
   abbrev pub EndsBehindConfig : Ghosts J → Sees S K D N → Role → Configuration → (before after : SessionOutside S K D N C) → Status → Type 0

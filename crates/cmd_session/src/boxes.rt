@@ -15,7 +15,7 @@ ghost use Rattle.jr_boxes.specs.declared.faults.Which.TheVariants as boxes;
 ghost use Rattle.jr_boxes.specs.Outbox as outboxes;
 ghost use Rattle.jr_boxes.specs.Inbox as inboxes;
 ghost use Rattle.cmd_session.specs.Boxes.{IsBox, IsWrong, IsNotOpened};
-ghost use Rattle.cmd_session.specs.Lived.{OpensOutbox, OpensInbox};
+ghost use Rattle.cmd_session.specs.Lived.{IsKept, OpensOutbox, OpensInbox};
 
 use cmd_base::{JournalCause, Status, Which};
 use fixp_shake::Flow;
@@ -81,6 +81,7 @@ pub fn open_outbox<D: Disk>(alloc: Global, disk: D) -> Result<Outbox<LogJournal<
     ensures few { IfOk result (λ box. outboxes.front_of box < 2 ^ 40) }
     ensures never_falls { IfOk result (λ box. D.faults disk ≤ outboxes.faults_of box) }
     ensures refused { IfErr result (λ e. (flow : flows.Flow) → IsNotOpened boxes.Outbox flow (D.told disk) e.1) }
+    ensures kept { IfErr result (λ e. IsKept D.told D.may_leave disk e.0) }
     ensures refused_never_falls { IfErr result (λ e. D.faults disk ≤ D.faults e.0) }
     ensures cause { IfErr result (λ e. e.1 ≡ Status.JournalFault → HasRisen (D.faults disk) (D.faults e.0)) }
 {
@@ -113,6 +114,7 @@ pub fn open_inbox<D: Disk>(
     ensures numbered { IfOk result (λ box. flow ≡ flow_variants.Recoverable → inboxes.next_of box + 1 < 2 ^ 64) }
     ensures never_falls { IfOk result (λ box. D.faults disk ≤ inboxes.faults_of box) }
     ensures refused { IfErr result (λ e. IsNotOpened boxes.Inbox flow (D.told disk) e.1) }
+    ensures kept { IfErr result (λ e. IsKept D.told D.may_leave disk e.0) }
     ensures refused_never_falls { IfErr result (λ e. D.faults disk ≤ D.faults e.0) }
     ensures cause { IfErr result (λ e. e.1 ≡ Status.JournalFault → HasRisen (D.faults disk) (D.faults e.0)) }
 {

@@ -49,7 +49,7 @@ fn open_boxes<D: Disk>(
     ensures numbered { IfOk result (λ boxes. flow ≡ flows.Recoverable → inboxes.next_of boxes.1 + 1 < 2 ^ 64) }
     ensures few { IfOk result (λ boxes. outboxes.front_of boxes.0 < 2 ^ 40) }
     ensures never_falls { IfOk result (λ boxes. (D.faults out_disk ≤ outboxes.faults_of boxes.0) × (D.faults in_disk ≤ inboxes.faults_of boxes.1)) }
-    ensures refused { IfErr result (λ e. RefusedBoxes D.told D.faults flow (record { outbox = out_disk; inbox = in_disk }) (record { outbox = e.1; inbox = e.2 }) e.0) }
+    ensures refused { IfErr result (λ e. RefusedBoxes D.told D.may_leave D.faults flow (record { outbox = out_disk; inbox = in_disk }) (record { outbox = e.1; inbox = e.2 }) e.0) }
     ensures refused_never_falls { IfErr result (λ e. (D.faults out_disk ≤ D.faults e.1) × (D.faults in_disk ≤ D.faults e.2)) }
 {
     let outbox = match open_outbox(alloc, out_disk) {
@@ -92,7 +92,7 @@ fn run_over_boxes<
     requires limit { (inboxes.limits_of inbox.old).entries ≡ 2 ^ 24 }
     requires numbered { inboxes.flow_of inbox.old ≡ flows.Recoverable → inboxes.next_of inbox.old + 1 < 2 ^ 64 }
     requires few_entries { outboxes.front_of outbox < 2 ^ 40 }
-    ensures ended { RefusedInput (sees S.Source K.Sink D.Disk N.Dialer) senders input.old input.new devices.old devices.new result.0
+    ensures ended { (RefusedInput (sees S.Source K.Sink D.Disk N.Dialer) senders input.old input.new devices.old devices.new result.0 × (result.1 ≡ outbox) × (inbox.new ≡ inbox.old))
         ⊎ LivedOn (sees S.Source K.Sink D.Disk N.Dialer) senders config input.old (over_boxes devices.old outbox inbox.old) (over_boxes devices.new result.1 inbox.new) result.0 }
     ensures lent { N.lent devices.new.dialer ≡ false }
     ensures never_falls { (S.faults input.old ≤ S.faults input.new) × (K.faults devices.old.out ≤ K.faults devices.new.out) × (N.faults devices.old.dialer ≤ N.faults devices.new.dialer) }

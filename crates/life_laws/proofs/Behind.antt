@@ -23,18 +23,19 @@ use Rattle.turn_laws.specs.Lives.{AllAreTurns, state_after, inbox_after}
 use Rattle.turn_laws.proofs.Running.{all_seen, leg_stands}
 use Rattle.conn_serve.specs.declared.answer.ServeFault.{ServeFault}
 use Rattle.conn_serve.specs.declared.answer.LifeEnd.{LifeEnd}
-use Rattle.conn_serve.specs.Connections.{Connection, IsConnection, HasEnded, AllEnded, adds_of, refused_of_all}
+use Rattle.conn_serve.specs.Connections.{Connection, turned, all_of, IsConnection, HasEnded, AllEnded, adds_of, refused_of_all}
 use Rattle.conn_serve.specs.Served.{WasGivenUp, ServedLife}
-use Rattle.life_laws.specs.Lives.{turned, all_of, LifeOpens, ServedIsTurned}
-use Rattle.conn_serve.proofs.Following.{were_are_turns}
+use Rattle.life_laws.specs.Lives.{LifeOpens, ServedIsTurned}
+use Rattle.conn_serve.proofs.Following.{plain, plain_are_turns}
 use Rattle.life_laws.proofs.Turned.{has_before, IsTurnedOne, connection_turned}
 use Rattle.conn_serve.specs.Moments.{LifeAt}
 
 -- what was seen before a connection, and before several, begins what was seen behind them
 seen_over : (before after : History) (m : State) (last : Line) (c : Connection) → IsConnection before after m last c → IsPrefix before.made after.made
-seen_over before after m last c k =
+seen_over before after m last c real =
+    let k = plain before after m last c real in
     prefix_trans before.made k.seen.made after.made
-    (all_seen before k.seen (first_line m c.leg.moment) last c.leg.turns (were_are_turns before k.seen (first_line m c.leg.moment) last c.leg.turns k.told k.added k.turns)) k.grows.made
+    (all_seen before k.seen (first_line m c.leg.moment) last c.leg.turns (plain_are_turns before k.seen (first_line m c.leg.moment) last c.leg.turns k.told k.added k.turns)) k.grows.made
 
 pub seen_over_all : (before after : History) (m new : State) (cs : List Connection) → AllEnded before after m new cs → IsPrefix before.made after.made
 seen_over_all before after m new [] all = prefix_equal before.made after.made (ap (λ (x : History). x.made) (sym all.1))

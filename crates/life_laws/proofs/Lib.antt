@@ -4,7 +4,9 @@ pub mod Waits
 pub mod Loops
 pub mod Opened
 pub mod Planned
+pub mod Lost
 pub mod Outboxes
+pub mod Seen
 pub mod Senders
 pub mod Passes
 pub mod Boxes

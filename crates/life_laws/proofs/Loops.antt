@@ -12,13 +12,13 @@ use Rattle.conn_turns.specs.Lines.{Line}
 use Rattle.connection_laws.specs.Living.{Leg, AllMayRun, Opens}
 use Rattle.connection_laws.proofs.Living.{opening_on, none_refused, closing_on}
 use Rattle.connection_laws.specs.Ranges.{IsInRange}
-use Rattle.turn_laws.specs.Legs.{TurnedLeg, course_on}
+use Rattle.turn_laws.specs.Legs.{TurnedLeg, IsTimely, course_on}
 use Rattle.turn_laws.specs.Lives.{AllAreTurns, legs_of, state_after, inbox_after}
 use Rattle.turn_laws.proofs.Running.{all_run, turns_serve, turns_refused}
-use Rattle.two_ends.specs.Loops.{IsRefusedOn, IsTimely}
-use Rattle.conn_serve.specs.Connections.{Connection, refused_of_all}
+use Rattle.two_ends.specs.Loops.{IsRefusedOn}
+use Rattle.conn_serve.specs.Connections.{Connection, turned, all_of, refused_of_all}
 use Rattle.conn_serve.specs.Served.{WasGivenUp}
-use Rattle.life_laws.specs.Lives.{turned, all_of, LifeOfLoop, LifeMayTurn, ServedKeeps}
+use Rattle.life_laws.specs.Lives.{LifeOfLoop, LifeMayTurn, ServedKeeps}
 use Rattle.life_laws.proofs.Turned.{IsTurnedOne}
 use Rattle.life_laws.proofs.Behind.{AreBehind, given_turned, turned_append, given_adds, AllTurned, with_given, all_turned, life_behind}
 use Rattle.life_laws.proofs.Waits.{Waits, waits_or_none}

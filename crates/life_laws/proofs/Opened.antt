@@ -8,9 +8,9 @@ use Rattle.fixp_machine.specs.Machine.{State, fresh}
 use Rattle.jr_record.specs.declared.journal.Journal.{Ghosts}
 use Rattle.jr_boxes.specs.declared.inbox.Inbox.{Inbox}
 use Rattle.connection_laws.specs.Living.{Opens}
-use Rattle.conn_serve.specs.Connections.{refused_of_all}
+use Rattle.conn_serve.specs.Connections.{all_of, refused_of_all}
 use Rattle.conn_serve.specs.Opening.{opened_state}
-use Rattle.life_laws.specs.Lives.{all_of, LifeOfLoop, OpenedOpens, OpenedInRange, ServedIsALoopLife}
+use Rattle.life_laws.specs.Lives.{LifeOfLoop, OpenedOpens, OpenedInRange, ServedIsALoopLife}
 use Rattle.life_laws.proofs.Behind.{seen_over_all, seen_behind}
 use Rattle.life_laws.proofs.Loops.{served_keeps, life_may_turn}
 
@@ -28,7 +28,7 @@ module _ {J : Type 0} {G : Ghosts J} where
   }
 
   pub served_is_a_loop_life : (box : Inbox J G) → ServedIsALoopLife box
-  served_is_a_loop_life box old new opened config most result opening closing refused i k same begins has holds range payloads timely =
+  served_is_a_loop_life box old new opened config most result opening closing refused i k same begins has holds range payloads =
       let m : State = fresh config (opened_state opened old.box) most in
       let h : List Entry = entries closing in
       let earlier : IsPrefix opened.made h =
@@ -37,4 +37,4 @@ module _ {J : Type 0} {G : Ghosts J} where
       let o : Opens (entries opening) h m i = subst (λ (es : List Entry). Opens es h m i) (sym same) (opened_opens old.box opened config most h i earlier holds) in
       let l : LifeOfLoop opening closing refused m i (all_of k.ended k.given_up) (refused_of_all (option_to_list k.given_up)) =
       served_keeps box old new m result opening closing refused i k has o in
-      (l, life_may_turn opening closing refused m i (all_of k.ended k.given_up) (refused_of_all (option_to_list k.given_up)) l o range payloads timely)
+      (l, life_may_turn opening closing refused m i (all_of k.ended k.given_up) (refused_of_all (option_to_list k.given_up)) l o range payloads k.timely)

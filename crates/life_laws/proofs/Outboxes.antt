@@ -1,12 +1,12 @@
 -- An outbox that keeps plans, in the words of the session model.
-use Rattle.std.proofs.Common.{◌≡◌, inl, ℕ, zero, suc, Bool, true, false, List, [], ◌∷◌, ◌++◌, map, refl, sym, ap, subst, ◌∙◌, append-nil}
+use Rattle.std.proofs.Common.{◌≡◌, inl, ℕ, zero, suc, ◌≤◌, Bool, true, false, List, [], ◌∷◌, ◌++◌, length, map, refl, sym, ap, subst, ◌∙◌, arith, append-nil}
 use mathlib.Core.List.{IsPrefix}
 use Rattle.session_model.specs.Journal.{Entry, OutboxRecord, entry, entries, History, is_finished, history_of, BeginsHistory, InOrder}
 use Rattle.session_model.specs.Inbox.{applied, payloads_of}
 use Rattle.session_model.specs.Plans.{sent_by, Continues, Completes, SendersDone}
-use Rattle.session_model.specs.Lives.{Life, KeepsOutbox}
+use Rattle.session_model.specs.Lives.{Life, IsImage, KeepsOutbox}
 use Rattle.session_model.proofs.Lists.{prefix_self, prefix_equal, prefix_trans, prefix_map, prefix_of_append}
-use Rattle.session_model.proofs.Images.{image_of_none}
+use Rattle.session_model.proofs.Images.{image_of_none, image_of_one}
 use Rattle.jr_boxes.specs.Outboxes.{mark_of, outbox_of}
 use Rattle.life_laws.specs.Plans.{plan_in, KeepsPlans}
 use Rattle.life_laws.specs.PlanLaws.{PlansKeepOutbox}
@@ -46,49 +46,68 @@ plan_is : (plans : List (List (List ℕ))) (s : ℕ) (applied other : List (List
 plan_is plans zero applied other = refl
 plan_is plans (suc s) applied other = refl
 
-module _ (plans : List (List (List ℕ))) (o c : History) (life : Life) (k : KeepsPlans plans o c) (order : InOrder c.made) (grown : IsPrefix life.served.opening_inbox life.served.closing_inbox) where
-  abbrev over : Life
-  over = record { opening_outbox = outbox_of o; closing_outbox = outbox_of c; refused_outbox = []; served = life.served }
+-- what holds of the closing records, and of all of them with the one that was refused behind them, if one was, holds of each image
+image_of_few : {A : Type 0} (P : List A → Type 0) (closing refused image : List A) → length refused ≤ 1 → P closing → P (closing ++ refused) → IsImage closing refused image → P image
+image_of_few P closing [] image few at all g = image_of_none P closing image at g
+image_of_few P closing (r ∷ []) image few at all g = image_of_one P closing r image at all g
+image_of_few P closing (r ∷ s ∷ rs) image few at all g = absurd (omega (arith, few))
 
-  continues : (ps : List (List ℕ)) (s : ℕ) → Continues (plan_in plans s ps) (sent_by (entries (outbox_of o)) s) (sent_by (entries (outbox_of c)) s)
-  continues ps s = subst (λ (plan : List (List ℕ)). Continues plan (sent_by (entries (outbox_of o)) s) (sent_by (entries (outbox_of c)) s)) (plan_is plans s [] ps)
-      (subst (λ (es : List Entry). Continues (plan_in plans s []) (sent_by es s) (sent_by (entries (outbox_of c)) s)) (sym (entries-outbox_of o))
-      (subst (λ (es : List Entry). Continues (plan_in plans s []) (sent_by o.made s) (sent_by es s)) (sym (entries-outbox_of c)) (k.each s)))
+-- a history that keeps plans, by its records
+module _ (plans : List (List (List ℕ))) (o x : History) (life : Life) (k : KeepsPlans plans o x) (grown : IsPrefix life.served.opening_inbox life.served.closing_inbox) where
+  continues : (ps : List (List ℕ)) (s : ℕ) → Continues (plan_in plans s ps) (sent_by (entries (outbox_of o)) s) (sent_by (entries (outbox_of x)) s)
+  continues ps s = subst (λ (plan : List (List ℕ)). Continues plan (sent_by (entries (outbox_of o)) s) (sent_by (entries (outbox_of x)) s)) (plan_is plans s [] ps)
+      (subst (λ (es : List Entry). Continues (plan_in plans s []) (sent_by es s) (sent_by (entries (outbox_of x)) s)) (sym (entries-outbox_of o))
+      (subst (λ (es : List Entry). Continues (plan_in plans s []) (sent_by o.made s) (sent_by es s)) (sym (entries-outbox_of x)) (k.each s)))
 
-  completes : o.finished ≡ false → c.finished ≡ true → (ps : List (List ℕ)) (s : ℕ) → Completes (plan_in plans s ps) (sent_by (entries (outbox_of o)) s) (sent_by (entries (outbox_of c)) s)
-  completes open_is marked ps s = subst (λ (plan : List (List ℕ)). Completes plan (sent_by (entries (outbox_of o)) s) (sent_by (entries (outbox_of c)) s)) (plan_is plans s [] ps)
-      (subst (λ (es : List Entry). Completes (plan_in plans s []) (sent_by es s) (sent_by (entries (outbox_of c)) s)) (sym (entries-outbox_of o))
-      (subst (λ (es : List Entry). Completes (plan_in plans s []) (sent_by o.made s) (sent_by es s)) (sym (entries-outbox_of c)) (k.done open_is marked s)))
+  completes : o.finished ≡ false → x.finished ≡ true → (ps : List (List ℕ)) (s : ℕ) → Completes (plan_in plans s ps) (sent_by (entries (outbox_of o)) s) (sent_by (entries (outbox_of x)) s)
+  completes open_is marked ps s = subst (λ (plan : List (List ℕ)). Completes plan (sent_by (entries (outbox_of o)) s) (sent_by (entries (outbox_of x)) s)) (plan_is plans s [] ps)
+      (subst (λ (es : List Entry). Completes (plan_in plans s []) (sent_by es s) (sent_by (entries (outbox_of x)) s)) (sym (entries-outbox_of o))
+      (subst (λ (es : List Entry). Completes (plan_in plans s []) (sent_by o.made s) (sent_by es s)) (sym (entries-outbox_of x)) (k.done open_is marked s)))
 
-  done : is_finished (outbox_of o) ≡ false → is_finished (outbox_of c) ≡ true → SendersDone (plan_in plans) (entries (outbox_of o)) (entries (outbox_of c)) life.served.opening_inbox life.served.closing_inbox
+  done : is_finished (outbox_of o) ≡ false → is_finished (outbox_of x) ≡ true → SendersDone (plan_in plans) (entries (outbox_of o)) (entries (outbox_of x)) life.served.opening_inbox life.served.closing_inbox
   done open_is marked = record {
     answered = life.served.closing_inbox;
     opened = grown;
     reached = prefix_self life.served.closing_inbox;
     peer_done = inl (plan_is plans);
-    all_sent = completes (sym (mark_of_records o.made o.finished) ∙ open_is) (sym (mark_of_records c.made c.finished) ∙ marked) (payloads_of (applied life.served.closing_inbox));
+    all_sent = completes (sym (mark_of_records o.made o.finished) ∙ open_is) (sym (mark_of_records x.made x.finished) ∙ marked) (payloads_of (applied life.served.closing_inbox));
   }
 
-  begins : BeginsHistory (history_of (outbox_of o)) (history_of (outbox_of c))
-  begins = subst (λ (h : History). BeginsHistory h (history_of (outbox_of c))) (sym (history_of-outbox_of o)) (subst (λ (h : History). BeginsHistory o h) (sym (history_of-outbox_of c)) k.begins)
+  begins : BeginsHistory (history_of (outbox_of o)) (history_of (outbox_of x))
+  begins = subst (λ (h : History). BeginsHistory h (history_of (outbox_of x))) (sym (history_of-outbox_of o)) (subst (λ (h : History). BeginsHistory o h) (sym (history_of-outbox_of x)) k.begins)
+
+module _ (plans : List (List (List ℕ))) (o c w : History) (refused : List OutboxRecord) (life : Life) (k : KeepsPlans plans o c) (order : InOrder c.made) (kw : KeepsPlans plans o w) (ordered : InOrder w.made)
+    (whole : outbox_of c ++ refused ≡ outbox_of w) (few : length refused ≤ 1) (grown : IsPrefix life.served.opening_inbox life.served.closing_inbox) where
+  abbrev over : Life
+  over = record { opening_outbox = outbox_of o; closing_outbox = outbox_of c; refused_outbox = refused; served = life.served }
+
+  -- what holds of the records of both histories holds of each image
+  each_image : (P : List OutboxRecord → Type 0) → P (outbox_of c) → P (outbox_of w) → (image : List OutboxRecord) → IsImage (outbox_of c) refused image → P image
+  each_image P at all image g = image_of_few P (outbox_of c) refused image few at (subst P (sym whole) all) g
 
   kept : KeepsOutbox (plan_in plans) over
   kept = record {
     outbox_grows = outbox_begins o c k.begins;
-    history_grows = λ image g. image_of_none (λ (rs : List OutboxRecord). BeginsHistory (history_of (outbox_of o)) (history_of rs)) (outbox_of c) image begins g;
-    in_order = λ image g. image_of_none (λ (rs : List OutboxRecord). InOrder (entries rs)) (outbox_of c) image (subst InOrder (sym (entries-outbox_of c)) order) g;
-    plans = λ image g s. image_of_none (λ (rs : List OutboxRecord). Continues (plan_in plans s (payloads_of (applied life.served.closing_inbox))) (sent_by (entries (outbox_of o)) s) (sent_by (entries rs) s)) (outbox_of c) image
-        (continues (payloads_of (applied life.served.closing_inbox)) s) g;
-    finishes = λ image g open_is. image_of_none (λ (rs : List OutboxRecord). is_finished rs ≡ true → SendersDone (plan_in plans) (entries (outbox_of o)) (entries rs) life.served.opening_inbox life.served.closing_inbox) (outbox_of c) image
-        (done open_is) g;
+    history_grows = each_image (λ (rs : List OutboxRecord). BeginsHistory (history_of (outbox_of o)) (history_of rs)) (begins plans o c life k grown) (begins plans o w life kw grown);
+    in_order = each_image (λ (rs : List OutboxRecord). InOrder (entries rs)) (subst InOrder (sym (entries-outbox_of c)) order) (subst InOrder (sym (entries-outbox_of w)) ordered);
+    plans = λ image g s.
+        let applied_then : List (List ℕ) = payloads_of (applied life.served.closing_inbox) in
+        each_image (λ (rs : List OutboxRecord). Continues (plan_in plans s applied_then) (sent_by (entries (outbox_of o)) s) (sent_by (entries rs) s))
+        (continues plans o c life k grown applied_then s) (continues plans o w life kw grown applied_then s) image g;
+    finishes = λ image g open_is.
+        each_image (λ (rs : List OutboxRecord). is_finished rs ≡ true → SendersDone (plan_in plans) (entries (outbox_of o)) (entries rs) life.served.opening_inbox life.served.closing_inbox)
+        (done plans o c life k grown open_is) (done plans o w life kw grown open_is) image g;
   }
 
-  same_life : life.opening_outbox ≡ outbox_of o → life.closing_outbox ≡ outbox_of c → life.refused_outbox ≡ [] → over ≡ life
-  same_life opening closing refused =
-      ap (λ (rs : List OutboxRecord). record { opening_outbox = rs; closing_outbox = outbox_of c; refused_outbox = []; served = life.served }) (sym opening)
-      ∙ ap (λ (rs : List OutboxRecord). record { opening_outbox = life.opening_outbox; closing_outbox = rs; refused_outbox = []; served = life.served }) (sym closing)
-      ∙ ap (λ (rs : List OutboxRecord). record { opening_outbox = life.opening_outbox; closing_outbox = life.closing_outbox; refused_outbox = rs; served = life.served }) (sym refused)
+  same_life : life.opening_outbox ≡ outbox_of o → life.closing_outbox ≡ outbox_of c → life.refused_outbox ≡ refused → over ≡ life
+  same_life opening closing lost =
+      ap (λ (rs : List OutboxRecord). record { opening_outbox = rs; closing_outbox = outbox_of c; refused_outbox = refused; served = life.served }) (sym opening)
+      ∙ ap (λ (rs : List OutboxRecord). record { opening_outbox = life.opening_outbox; closing_outbox = rs; refused_outbox = refused; served = life.served }) (sym closing)
+      ∙ ap (λ (rs : List OutboxRecord). record { opening_outbox = life.opening_outbox; closing_outbox = life.closing_outbox; refused_outbox = rs; served = life.served }) (sym lost)
 
 pub plans_keep_outbox : PlansKeepOutbox
-plans_keep_outbox plans o c life k order opening closing refused grown =
-    subst (λ (l : Life). KeepsOutbox (plan_in plans) l) (same_life plans o c life k order grown opening closing refused) (kept plans o c life k order grown)
+plans_keep_outbox plans o c w life k order kw ordered opening closing whole few grown =
+    let all : outbox_of c ++ life.refused_outbox ≡ outbox_of w = ap (λ (rs : List OutboxRecord). rs ++ life.refused_outbox) (sym closing) ∙ whole in
+    subst (λ (l : Life). KeepsOutbox (plan_in plans) l)
+    (same_life plans o c w life.refused_outbox life k order kw ordered all few grown opening closing refl)
+    (kept plans o c w life.refused_outbox life k order kw ordered all few grown)

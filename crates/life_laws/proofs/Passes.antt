@@ -1,5 +1,5 @@
 -- The passes of a life once all are back: those of the senders, and that of the connection behind them.
-use Rattle.std.proofs.Common.{◌≡◌, ◌⊎◌, inl, inr, ⊎_elim, ℕ, zero, suc, ◌+◌, ◌<◌, true, false, true≢false, List, [], ◌∷◌, length, slice_index_or, All, Option, Some, None, Result, Ok, Err, if◌then◌else◌, refl, sym, ap, subst, ◌∙◌, arith, add-one}
+use Rattle.std.proofs.Common.{◌≡◌, ◌⊎◌, inl, inr, ⊎_elim, ℕ, zero, suc, ◌+◌, ◌<◌, true, false, true≢false, List, [], ◌∷◌, length, slice_get, slice_index_or, All, Option, Some, None, Result, Ok, Err, if◌then◌else◌, refl, sym, ap, subst, ◌∙◌, arith, add-one}
 use Rattle.std.specs.Prelude.{option_to_list, IfErr, IfSome}
 use Rattle.std.proofs.lemmas.Bool.{cases_Bool}
 use mathlib.Core.Logic.{dite}
@@ -35,9 +35,9 @@ use Rattle.conn_serve.specs.Connections.{wanted_of_all}
 use Rattle.conn_serve.specs.Senders.{refusal_of, MetRefusal, IsRefusal, Finishes, FinishedFirst, SubmittedAll, SomeMarked}
 use Rattle.conn_serve.specs.Served.{ServedLife}
 use Rattle.conn_serve.specs.Opening.{ServedBy, IsUnrefused}
-use Rattle.life_laws.specs.Plans.{plan_in, MadeOf, IsAllMade, PlansMade}
+use Rattle.life_laws.specs.Plans.{plan_in, MadeOf, IsAllMade, LosesMessage, LosesOwn, PlansMade}
 use Rattle.life_laws.specs.PlanLives.{SomePass, IsOfSender, SeesMark, SeesFailure, MetFull, BlamesInbox, FillsInbox, ServedAt}
-use Rattle.life_laws.proofs.Senders.{PartMade, AllFresh, SendersMade, senders_made, ran_part, ran_at}
+use Rattle.life_laws.proofs.Senders.{PartMade, AllFresh, EachMade, NoneEnded, PartLoses, SendersMade, senders_made, ran_part, ran_at, ran_next_at, ran_seen_at}
 use Rattle.conn_serve.specs.Moments.{life_at, faults_at, serving_at, beside}
 
 -- an answer that is neither want of memory nor done is that of the connections, or a refusal
@@ -152,11 +152,32 @@ module _ {J : Type 0} {G : Ghosts J} (gate : Gate J G) (a : Account) (plans : Li
         let d : Sender J G = at_place after i lt in
         ap (λ (p : Part). p.mine) (sender_at i d lt) ∙ all i d lt
 
-    ended_at : ((i : ℕ) (d : Sender J G) → i < length after → (known (slice_index_or after i d).pass).ended ≡ false)
-        ⊎ ((i : ℕ) (d : Sender J G) → i < length after → IsAllMade (entries_of a.history.made (suc i)) (suc i) (plan_in plans (suc i) []) (known (slice_index_or after i d).pass).mine)
-        → (n : ℕ) → In (length plans + 1) n → (known_at new n).ended ≡ true → (s : ℕ) → In (length plans) s → IsAllMade (entries_of a.history.made s) s (plan_in plans s []) (known_at new s).mine
+    ended_at : NoneEnded gate a plans after ⊎ EachMade gate a plans after → (n : ℕ) → In (length plans + 1) n → (known_at new n).ended ≡ true → (s : ℕ) → In (length plans) s → IsAllMade (entries_of a.history.made s) s (plan_in plans s []) (known_at new s).mine
     ended_at (inl none) n h e s k = absurd (true≢false (sym e ∙ unended_at none n h))
     ended_at (inr all) n h e s k = all_at all s k
+
+    last_unlost : (known_at new (length plans + 1)).lost ≡ []
+    last_unlost = ap (λ (p : Part). p.lost) last_at ∙ (looks.lost ∙ ap (λ (p : Part). p.lost) was.1)
+
+    loses_own : (i : ℕ) (d : Sender J G) → i < length after → PartLoses gate a plans after i (known (slice_index_or after i d).pass) → LosesOwn a plans (known_at new) (suc i)
+    loses_own i d lt l = record {
+      sender = record { from_one = omega arith; up_to = omega (arith, lt, m.long) };
+      opened = l.opened;
+      unended = λ n h e. true≢false (sym e ∙ unended_at l.unended n h);
+      what = ⊎_elim
+          (λ x. inl (subst (λ (p : Part). LosesMessage (plan_in plans (suc i) []) p) (sym (sender_at i d lt)) x))
+          (λ x. inr (ap (λ (p : Part). p.lost) (sender_at i d lt) ∙ x.0, all_at x.1))
+          l.what;
+    }
+
+    lost_at : (n : ℕ) → In (length plans + 1) n → ((known_at new n).lost ≡ []) ⊎ LosesOwn a plans (known_at new) n
+    lost_at zero h = absurd (omega (arith, h.from_one))
+    lost_at (suc i) h = dite (ℕ_discrete (suc i) (length plans + 1))
+        (λ e. inl (subst (λ (n : ℕ). (known_at new n).lost ≡ []) (sym e) last_unlost))
+        (λ ne.
+        let lt : i < length after = omega (arith, h.up_to, ne, m.long) in
+        let d : Sender J G = at_place after i lt in
+        ⊎_elim (λ e. inl (ap (λ (p : Part). p.lost) (sender_at i d lt) ∙ e)) (λ l. inr (loses_own i d lt l)) (m.lost i d lt))
 
     made_at : (known_at new 1).made ≡ length plans + 1
     made_at = dite (ℕ_discrete (length plans) 0)
@@ -169,7 +190,7 @@ module _ {J : Type 0} {G : Ghosts J} (gate : Gate J G) (a : Account) (plans : Li
         ap (λ (p : Part). p.made) (sender_at 0 d lt) ∙ seats.first d lt)
 
     pub plans_made : PlansMade a plans (known_at new)
-    plans_made = record { made = made_at; number = number_at; each = each_at; last = last_mine; ended = ended_at m.ended }
+    plans_made = record { made = made_at; number = number_at; each = each_at; last = last_mine; unmarked = last_unended; ended = ended_at m.ended; lost = lost_at }
 
     -- a sender whose pass is so
     some_sender : (P : Part → Type 0) (i : ℕ) (d : Sender J G) → i < length after → P (known (slice_index_or after i d).pass) → SomePass (length plans + 1) P (known_at new)
@@ -228,12 +249,15 @@ module _ {J : Type 0} {G : Ghosts J} (gate : Gate J G) (a : Account) (plans : Li
           (λ f. to_pass SeesFailure (failed_since (suc i) (plan_in plans (suc i) []) (known (slice_index_or counted i met.sender).pass) (known (slice_index_or s.ran i met.sender).pass) counted_is_made ran_is_made (inl ((was_refused submit.Fault f).shown.failed refl))))
           (refused_journal met.sender.refused (met.is ∙ ap Some e))
 
-      met_full : (entries bytes : ℕ) → fault ≡ faults.Full entries bytes → SomePass (length plans + 1) (MetFull entries bytes) (known_at new)
+      met_full : (entries bytes : ℕ) → fault ≡ faults.Full entries bytes → SomePass (length plans + 1) (MetFull plans entries bytes) (known_at new)
       met_full entries bytes e =
           let w = was_refused (submit.Full entries bytes) (refused_full met.sender.refused entries bytes (met.is ∙ ap Some e)) in
           let q : Part = known (slice_index_or s.ran i met.sender).pass in
-          to_pass (MetFull entries bytes) (record {
+          to_pass (MetFull plans entries bytes) (record {
             payload = w.payload;
+            next = subst (λ (n : ℕ). slice_get (plan_in plans n []) (length q.mine) ≡ Some w.payload) (sym ran_is_made.number)
+                (ran_next_at gate a plans seated counted fresh count after refused s i met.sender met.there.1 (submit.Full entries bytes) w);
+            seen_all = ran_seen_at gate a plans seated counted fresh count after refused s i met.sender met.there.1;
             behind = subst (λ (b : Account). BeginsHistory b.history q.seen) (sym ran_is_made.opening) ran_is_made.behind;
             full = w.shown.full entries bytes refl;
           })
@@ -257,7 +281,7 @@ module _ {J : Type 0} {G : Ghosts J} (gate : Gate J G) (a : Account) (plans : Li
         (failed_since 1 (plan_in plans 1 []) (known (slice_index_or s.ran 0 d).pass) (known (slice_index_or after 0 d).pass) (ran_part gate a plans seated counted fresh count after refused s 0 d h.0) (made.each 0 d lt) (f.journal refl)))
         (refused_as faults.Journal e)
 
-    pub refused_full_shown : (entries bytes : ℕ) → refused ≡ Some (faults.Full entries bytes) → SomePass (length plans + 1) (MetFull entries bytes) (known_at new)
+    pub refused_full_shown : (entries bytes : ℕ) → refused ≡ Some (faults.Full entries bytes) → SomePass (length plans + 1) (MetFull plans entries bytes) (known_at new)
     refused_full_shown entries bytes e = ⊎_elim
         (λ h. met_full h.0 (faults.Full entries bytes) h.1 entries bytes refl)
         (λ h.
@@ -297,12 +321,12 @@ module _ {J : Type 0} {G : Ghosts J} (gate : Gate J G) (a : Account) (plans : Li
     life = subst (λ (p : Part). ServedLife (life_at dialed out a.history box) (life_at later now_out p.seen since) m s.connections) (sym (last_at all_made))
         (subst (λ (h : History). ServedLife (life_at dialed out h box) (life_at later now_out now.seen since) m s.connections) (ap (λ (p : Part). p.seen) was.1) s.life)
 
-    full_at : (entries bytes : ℕ) → result ≡ Err (faults.Full entries bytes) → FillsInbox since (wanted_of_all (option_to_list life.given_up)) entries bytes ⊎ SomePass (length plans + 1) (MetFull entries bytes) (known_at new)
+    full_at : (entries bytes : ℕ) → result ≡ Err (faults.Full entries bytes) → FillsInbox since (wanted_of_all (option_to_list life.given_up)) entries bytes ⊎ SomePass (length plans + 1) (MetFull plans entries bytes) (known_at new)
     full_at entries bytes e = ⊎_elim
         (λ c.
         let b = (blamed_at (IsBlamed (faults_at out_faults dial_faults first box) (faults_at now_out_faults now_dial_faults now since)) s.connections (faults.Full entries bytes) s.blamed c).full entries bytes refl in
         inl (record { entries_are = b.0; bytes_are = b.1; past = life.past entries bytes c }))
-        (λ r. inr (by_refusal (faults.Full entries bytes) (SomePass (length plans + 1) (MetFull entries bytes) (known_at new)) r (λ h. refused_full_shown s.refused h entries bytes r)))
+        (λ r. inr (by_refusal (faults.Full entries bytes) (SomePass (length plans + 1) (MetFull plans entries bytes) (known_at new)) r (λ h. refused_full_shown s.refused h entries bytes r)))
         (answer_blames s.connections s.refused (faults.Full entries bytes) (λ x. cc) (sym s.answer ∙ e))
 
     refusal_at : IfSome s.refused IsOfSender

@@ -1,12 +1,12 @@
 -- The plans of senders, as their passes know them once all are back.
-use Rattle.std.proofs.Common.{◌≡◌, ◌⊎◌, inl, inr, ⊎_elim, ℕ, zero, suc, ◌+◌, ◌<◌, ◌≤◌, Bool, true, false, true≢false, cond, ne_eqb, List, [], ◌∷◌, ◌++◌, length, take, drop, refl, sym, ap, subst, ◌∙◌, arith, append-nil, drop_of_length-le}
+use Rattle.std.proofs.Common.{◌≡◌, ◌≢◌, ◌⊎◌, inl, inr, ⊎_elim, ℕ, zero, suc, ◌+◌, ◌<◌, ◌≤◌, Bool, true, false, true≢false, cond, ne_eqb, List, [], ◌∷◌, ◌++◌, length, take, drop, slice_get, Some, refl, sym, ap, subst, ◌∙◌, arith, append-nil, drop_of_length-le}
 use Rattle.std.specs.List.{AllByRecursion}
-use Rattle.std.proofs.lemmas.Bool.{cases_lt}
+use Rattle.std.proofs.lemmas.Bool.{cases_Bool, cases_lt}
 use Rattle.std.proofs.lemmas.List.{map-append, get_or_past}
 use mathlib.Core.List.{IsPrefix}
 use mathlib.Core.Logic.{dite}
 use native.Mathlib.Decide.{ℕ_discrete}
-use Rattle.session_model.specs.Journal.{Entry, entries_of, payloads, BeginsHistory}
+use Rattle.session_model.specs.Journal.{Entry, History, OutboxRecord, entry, entries_of, payloads, BeginsHistory}
 use Rattle.session_model.specs.Plans.{sent_by, Continues, Completes}
 use Rattle.session_model.proofs.Lists.{prefix_take}
 use Rattle.session_model.proofs.Journals.{length-payloads}
@@ -15,7 +15,9 @@ use Rattle.gate_turn.specs.Rule.{In}
 use Rattle.gate_turn.specs.Steps.{Closed}
 use Rattle.gate_turn.proofs.Histories.{entries_of-append}
 use Rattle.gate_plans.specs.Sent.{entries_behind}
-use Rattle.life_laws.specs.Plans.{plan_in, MadeOf, IsAllMade, PlansMade}
+use Rattle.gate_senders.specs.Kept.{next_entry}
+use Rattle.gate_senders.specs.Shown.{entry_after}
+use Rattle.life_laws.specs.Plans.{plan_in, MadeOf, IsAllMade, LosesMessage, AllMade, LosesOwn, PlansMade, NextMessage, LosesNext}
 use Rattle.life_laws.specs.PlanLaws.{PlansAreKept}
 
 payloads-entries_behind : (sender n : ℕ) (ps : List (List ℕ)) → payloads (entries_behind sender n ps) ≡ ps
@@ -96,7 +98,7 @@ module _ (opening now : Account) (plans : List (List (List ℕ))) (known : ℕ �
       (continues_made (entries_of opening.history.made s) (known s).mine s (plan_in plans s []) (p.each s h))
   continues_of s (inr out) = continues_same (plan_in plans s []) (sent_by opening.history.made s) (sent_by now.history.made s) (ap (λ (es : List Entry). payloads es) (same_of s out))
 
-  completes_of : ((s : ℕ) → In (length plans) s → IsAllMade (entries_of opening.history.made s) s (plan_in plans s []) (known s).mine) → (s : ℕ) → In (length plans) s ⊎ (In (length plans) s → ⊥)
+  completes_of : AllMade opening plans known → (s : ℕ) → In (length plans) s ⊎ (In (length plans) s → ⊥)
       → Completes (plan_in plans s []) (sent_by opening.history.made s) (sent_by now.history.made s)
   completes_of all s (inl h) = subst (λ (es : List Entry). Completes (plan_in plans s []) (sent_by opening.history.made s) (payloads es)) (its s (inside s h))
       (completes_made (entries_of opening.history.made s) (known s).mine s (plan_in plans s []) (all s h))
@@ -112,9 +114,59 @@ module _ (opening now : Account) (plans : List (List (List ℕ))) (known : ℕ �
       let first : In (known 1).made 1 = of_made 1 (record { from_one = omega arith; up_to = omega arith }) in
       subst (λ (a : Account). BeginsHistory a.history now.history) (c.opened 1 first) (c.found 1 first).begins
 
+  -- no mark stands behind the history where a pass lost something
+  open_of : (n : ℕ) → LosesOwn opening plans known n → now.history.finished ≡ false
+  open_of n l = ⊎_elim
+      (λ (marked : now.history.finished ≡ true). absurd (⊎_elim l.opened (λ (m : (k : ℕ) × In (known 1).made k × ((known k).ended ≡ true)). l.unended m.0 (to_made m.0 m.1) m.2) (c.marked marked)))
+      (λ is. is)
+      (cases_Bool now.history.finished)
+
+  -- the message that a pass lost is the next one behind what the history has of it
+  next_of : (n : ℕ) → In (length plans + 1) n → (known n).lost ≡ now.refused → LosesMessage (plan_in plans n []) (known n) → NextMessage plans now.history now.refused
+  next_of n h is l = record {
+    sender = n;
+    payload = l.payload;
+    next = subst (λ (es : List Entry). slice_get (plan_in plans n []) (length es) ≡ Some l.payload) (its n h) l.next;
+    is = sym is ∙ l.is ∙ ap (λ (e : Entry). entry e ∷ [])
+        (ap (λ (k : ℕ). record { sender = k; own_number = length (known n).mine + 1; payload = l.payload }) (p.number n h)
+        ∙ ap (λ (es : List Entry). record { sender = n; own_number = length es + 1; payload = l.payload }) (its n h));
+  }
+
+  loses_of : (now.refused ≡ []) ⊎ ((n : ℕ) × In (known 1).made n × ((known n).lost ≡ now.refused)) → LosesNext plans opening.history now.history now.refused
+  loses_of (inl none) = inl none
+  loses_of (inr a) = ⊎_elim
+      (λ none. inl (sym a.2 ∙ none))
+      (λ (l : LosesOwn opening plans known a.0). inr (
+        open_of a.0 l,
+        ⊎_elim
+            (λ x. inl (next_of a.0 (to_made a.0 a.1) a.2 x))
+            (λ x. inr (record { some = omega (arith, l.sender.from_one, l.sender.up_to); all = λ s. completes_of x.1 s (cases_In s); is = sym a.2 ∙ x.0 }))
+            l.what,
+      ))
+      (p.lost a.0 (to_made a.0 a.1))
+
+  -- where there is no plan, only the last pass was made, which made no mark
+  none_of : plans ≡ [] → now.history.finished ≡ opening.history.finished
+  none_of none = ⊎_elim
+      (λ (marked : now.history.finished ≡ true). ⊎_elim (λ was. marked ∙ sym was) (λ m. absurd (by_pass m.0 m.1 m.2)) (c.marked marked))
+      (λ (unmarked : now.history.finished ≡ false). ⊎_elim
+      (λ (was : opening.history.finished ≡ true). sym (ap (λ (h : History). h.finished) (begins_of.alone was)))
+      (λ (was : opening.history.finished ≡ false). unmarked ∙ sym was)
+      (cases_Bool opening.history.finished))
+      (cases_Bool now.history.finished)
+    where
+      by_pass : (n : ℕ) → In (known 1).made n → (known n).ended ≡ true → ⊥
+      by_pass n inside ended =
+          let last : n ≡ length plans + 1 = omega (arith, inside.from_one, inside.up_to, p.made, ap length none) in
+          true≢false (sym (subst (λ (k : ℕ). (known k).ended ≡ true) last ended) ∙ p.unmarked)
+
 pub plans_are_kept : PlansAreKept
-plans_are_kept opening now plans known p c = record {
-  begins = begins_of opening now plans known p c;
-  each = λ s. continues_of opening now plans known p c s (cases_In opening now plans known p c s);
-  done = λ open_is marked s. done_of opening now plans known p c open_is (c.marked marked) s;
-}
+plans_are_kept opening now plans known p c = (
+  record {
+    begins = begins_of opening now plans known p c;
+    each = λ s. continues_of opening now plans known p c s (cases_In opening now plans known p c s);
+    done = λ open_is marked s. done_of opening now plans known p c open_is (c.marked marked) s;
+    none = none_of opening now plans known p c;
+  },
+  loses_of opening now plans known p c c.lost,
+)

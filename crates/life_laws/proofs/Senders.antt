@@ -1,8 +1,14 @@
 -- What the passes of senders know behind a life, in which each went on with its plan.
-use Rattle.std.proofs.Common.{◌≡◌, ◌⊎◌, inl, inr, ℕ, zero, suc, ◌+◌, ◌-◌, ◌<◌, ◌≤◌, false, List, [], ◌++◌, length, take, drop, map, reverse, slice_index_or, All, Option, None, if◌then◌else◌, ◌==◌, sym, ap, subst, ◌∙◌, arith, add-one, append-nil, length-drop}
-use Rattle.std.proofs.lemmas.List.{take_all, get_or-map, reverse-reverse, length-map}
-use Rattle.session_model.specs.Journal.{Entry, History, entries_of, BeginsHistory}
+use Rattle.std.proofs.Common.{◌≡◌, ◌≢◌, ◌⊎◌, inl, inr, ⊎_elim, ℕ, zero, suc, ◌+◌, ◌-◌, ◌<◌, ◌≤◌, true, false, List, [], ◌∷◌, ◌++◌, length, take, drop, map, reverse, slice_get, slice_index_or, All, Option, Some, None, if◌then◌else◌, ◌==◌, refl, sym, ap, subst, ◌∙◌, arith, add-one, append-nil, length-drop, length-append}
+use Rattle.std.proofs.lemmas.Option.{none-some, same_Some}
+use Rattle.std.proofs.lemmas.List.{take_all, get_or-map, get_or_default, reverse-reverse, length-map}
+use Rattle.std.specs.List.{AllByRecursion}
+use mathlib.Core.List.{IsPrefix}
+use Rattle.session_model.specs.Journal.{Entry, History, finish, entries_of, BeginsHistory}
+use Rattle.session_model.proofs.Lists.{all_append, all_weaker, prefix_get}
 use Rattle.jr_record.specs.declared.journal.Journal.{Ghosts}
+use Rattle.jr_boxes.specs.declared.faults.SubmitFault.{SubmitFault}
+use Rattle.jr_boxes.specs.declared.faults.SubmitFault.TheVariants as submit
 use Rattle.gate_turn.specs.Views.{Account, Part, new_part}
 use Rattle.gate_turn.specs.Rule.{In}
 use Rattle.gate_turn.specs.Places.{known}
@@ -14,15 +20,18 @@ use Rattle.gate_senders.specs.Gate.{opening_of, MadeAt}
 use Rattle.gate_senders.specs.Shown.{TakesTurn}
 use Rattle.gate_senders.specs.declared.gate.Gate.{Gate}
 use Rattle.gate_senders.specs.declared.kept.Kept.{Kept}
+use Rattle.gate_senders.proofs.Keeping.{submit_failed}
 use Rattle.plan_values.specs.Plans.{payloads_of}
 use Rattle.plan_values.specs.declared.plan.Plan.{Plan}
 use Rattle.gate_plans.specs.Sent.{entries_behind}
-use Rattle.gate_plans.specs.Runs.{plan_of, HasNone, Counted, CountedEach, Ran}
+use Rattle.gate_plans.specs.Runs.{plan_of, HasNone, Counted, CountedEach, Ran, WasRefused}
 use Rattle.gate_plans.specs.Seats.{SeatedFrom}
 use Rattle.gate_plans.specs.declared.sender.Sender.{Sender}
 use Rattle.conn_serve.specs.declared.answer.ServeFault.{ServeFault}
-use Rattle.conn_serve.specs.Senders.{IsRefusal, FinishedFirst, SubmittedAll}
-use Rattle.life_laws.specs.Plans.{plan_in, MadeOf, IsAllMade}
+use Rattle.conn_serve.specs.Senders.{LosesMark, IsRefusal, FinishedFirst, SubmittedAll}
+use Rattle.life_laws.specs.Plans.{plan_in, MadeOf, IsAllMade, LosesMessage}
+use Rattle.life_laws.specs.PlanLives.{IsAmong}
+use Rattle.life_laws.proofs.Seen.{stand_long, stand_among, own_among}
 
 -- what a pass knows that was made with a value that said this, and went on with a plan
 pub record PartMade (a : Account) (n : ℕ) (plan : List (List ℕ)) (p : Part) : Type 0 where
@@ -97,6 +106,47 @@ module _ {J : Type 0} {G : Ghosts J} (gate : Gate J G) (a : Account) where
       let within : length (drop (length had) plan) ≤ t.done - c.done = omega (arith, length-drop (length had) plan, done, long, whole) in
       ran_mine n plan s c t f k r ∙ ap (λ (ps : List (List ℕ)). had ++ entries_behind n (length had) ps) (take_all (t.done - c.done) (drop (length had) plan) within)
 
+  counted_unlost : (n : ℕ) (plan : List (List ℕ)) (s c : Sender J G) → Fresh n plan s → Counted gate s c → (known c.pass).lost ≡ []
+  counted_unlost n plan s c f k = k.lost ∙ ap (λ (p : Part). p.lost) f.part
+
+  -- it made as many as it counts as done, so what it met a refusal at is the next of its plan behind these
+  ran_next : (n : ℕ) (plan : List (List ℕ)) (s c t : Sender J G) → Fresh n plan s → Counted gate s c → Ran gate c t → (met : SubmitFault) (w : WasRefused c t met) → slice_get plan (length (known t.pass).mine) ≡ Some w.payload
+  ran_next n plan s c t f k r met w =
+      let had : List Entry = (known c.pass).mine in
+      let more : List Entry = entries_behind (known c.pass).number (length had) (take (t.done - c.done) (drop c.done (plan_of c))) in
+      let long : length (known t.pass).mine ≡ t.done =
+      omega (arith, ap length r.sent.mine, length-append had more, stand_long (known t.pass).seen.made (length (known c.pass).seen.made) r.numbers more r.sent.stand, r.each, r.done, k.done) in
+      subst (λ (ps : List (List ℕ)). slice_get ps (length (known t.pass).mine) ≡ Some w.payload) (r.plan ∙ (k.plan ∙ f.plan_is))
+      (subst (λ (d : ℕ). slice_get (plan_of t) d ≡ Some w.payload) (sym long) w.next)
+
+  -- all that it made stands in what it has then seen
+  ran_seen : (n : ℕ) (plan : List (List ℕ)) (s c t : Sender J G) → Fresh n plan s → Counted gate s c → Ran gate c t → AllByRecursion (IsAmong (known t.pass).seen.made) (known t.pass).mine
+  ran_seen n plan s c t f k r =
+      let seen : List Entry = (known t.pass).seen.made in
+      let had : List Entry = (known c.pass).mine in
+      let more : List Entry = entries_behind (known c.pass).number (length had) (take (t.done - c.done) (drop c.done (plan_of c))) in
+      let begins : IsPrefix a.history.made seen = (ran_made n plan s c t f k r).behind.made in
+      let opened = all_weaker (IsAmong a.history.made) (IsAmong seen) (λ e x. (x.0, prefix_get a.history.made seen x.0 e begins x.1)) (entries_of a.history.made n) (own_among a.history.made n) in
+      subst (λ (es : List Entry). AllByRecursion (IsAmong seen) es) (sym r.sent.mine)
+      (all_append (IsAmong seen) had more (subst (λ (es : List Entry). AllByRecursion (IsAmong seen) es) (sym (counted_had n plan s c f k)) opened)
+      (stand_among seen (length (known c.pass).seen.made) r.numbers more r.sent.stand))
+
+  -- what it lost: nothing, or the message behind those that it made
+  ran_loses : (n : ℕ) (plan : List (List ℕ)) (s c t : Sender J G) → Fresh n plan s → Counted gate s c → Ran gate c t → (r : Option SubmitFault) → t.refused ≡ r
+      → ((known t.pass).lost ≡ []) ⊎ (LosesMessage plan (known t.pass) × (a.history.finished ≢ true))
+  ran_loses n plan s c t f k r None none = inl (r.unlost (λ e. none-some submit.Fault (sym none ∙ e)) ∙ counted_unlost n plan s c f k)
+  ran_loses n plan s c t f k r (Some fault) met = ⊎_elim
+      (λ failed.
+      let w = r.refused fault met in
+      let l = w.lost failed in
+      let behind : BeginsHistory a.history (known t.pass).seen = (ran_made n plan s c t f k r).behind in
+      inr (
+        record { payload = w.payload; next = ran_next n plan s c t f k r fault w; is = l.lost },
+        λ was. l.unmarked (sym (ap (λ (h : History). h.finished) (behind.alone was)) ∙ was),
+      ))
+      (λ other. inl (r.unlost (λ e. other (same_Some fault submit.Fault (sym met ∙ e))) ∙ counted_unlost n plan s c f k))
+      (submit_failed fault)
+
   counted_unended : (n : ℕ) (plan : List (List ℕ)) (s c : Sender J G) → Fresh n plan s → Counted gate s c → (known c.pass).ended ≡ false
   counted_unended n plan s c f k = k.pass.ended ∙ ap (λ (p : Part). p.ended) f.part
 
@@ -106,12 +156,27 @@ module _ {J : Type 0} {G : Ghosts J} (gate : Gate J G) (a : Account) (plans : Li
     pub long : length senders ≡ length plans
     pub each : (i : ℕ) (d : Sender J G) → i < length senders → Fresh gate a (suc i) (plan_in plans (suc i) []) (slice_index_or senders i d)
 
+  -- each made all of its plan
+  abbrev pub EachMade : List (Sender J G) → Type 0
+  EachMade after =
+      (i : ℕ) (d : Sender J G) → i < length after → IsAllMade (entries_of a.history.made (suc i)) (suc i) (plan_in plans (suc i) []) (known (slice_index_or after i d).pass).mine
+
+  -- none made the mark
+  abbrev pub NoneEnded : List (Sender J G) → Type 0
+  NoneEnded after = (i : ℕ) (d : Sender J G) → i < length after → (known (slice_index_or after i d).pass).ended ≡ false
+
+  -- what a pass of theirs lost: the next message of its plan, or the mark behind all plans; and nothing marks the history
+  pub record PartLoses (after : List (Sender J G)) (i : ℕ) (p : Part) : Type 0 where
+    pub opened : a.history.finished ≢ true
+    pub unended : NoneEnded after
+    pub what : LosesMessage (plan_in plans (suc i) []) p ⊎ ((p.lost ≡ finish ∷ []) × EachMade after)
+
   -- what all of them know behind a life; where one made the mark, each made all of its plan
   pub record SendersMade (after : List (Sender J G)) : Type 0 where
     pub long : length after ≡ length plans
     pub each : (i : ℕ) (d : Sender J G) → i < length after → PartMade a (suc i) (plan_in plans (suc i) []) (known (slice_index_or after i d).pass)
-    pub ended : ((i : ℕ) (d : Sender J G) → i < length after → (known (slice_index_or after i d).pass).ended ≡ false)
-        ⊎ ((i : ℕ) (d : Sender J G) → i < length after → IsAllMade (entries_of a.history.made (suc i)) (suc i) (plan_in plans (suc i) []) (known (slice_index_or after i d).pass).mine)
+    pub ended : NoneEnded after ⊎ EachMade after
+    pub lost : (i : ℕ) (d : Sender J G) → i < length after → ((known (slice_index_or after i d).pass).lost ≡ []) ⊎ PartLoses after i (known (slice_index_or after i d).pass)
 
   module _ (seated counted : List (Sender J G)) (fresh : AllFresh seated) (count : CountedEach gate seated counted) where
     count_made : SendersMade counted
@@ -123,6 +188,9 @@ module _ {J : Type 0} {G : Ghosts J} (gate : Gate J G) (a : Account) (plans : Li
       ended = inl (λ i d lt.
           let within : i < length seated = omega (arith, lt, count.long) in
           counted_unended gate a (suc i) (plan_in plans (suc i) []) (slice_index_or seated i d) (slice_index_or counted i d) (fresh.each i d within) (count.each i d within));
+      lost = λ i d lt.
+          let within : i < length seated = omega (arith, lt, count.long) in
+          inl (counted_unlost gate a (suc i) (plan_in plans (suc i) []) (slice_index_or seated i d) (slice_index_or counted i d) (fresh.each i d within) (count.each i d within));
     }
 
     module _ (after : List (Sender J G)) (refused : Option ServeFault) (s : SubmittedAll gate counted after refused) where
@@ -136,6 +204,15 @@ module _ {J : Type 0} {G : Ghosts J} (gate : Gate J G) (a : Account) (plans : Li
       ran_part i d lt = ran_made gate a (suc i) (plan_in plans (suc i) []) (slice_index_or seated i d) (slice_index_or counted i d) (slice_index_or s.ran i d)
           (fresh.each i d (ran_within i lt)) (count.each i d (ran_within i lt)) (ran_at i d lt)
 
+      pub ran_next_at : (i : ℕ) (d : Sender J G) → i < length s.ran → (met : SubmitFault) (w : WasRefused (slice_index_or counted i d) (slice_index_or s.ran i d) met)
+          → slice_get (plan_in plans (suc i) []) (length (known (slice_index_or s.ran i d).pass).mine) ≡ Some w.payload
+      ran_next_at i d lt met w = ran_next gate a (suc i) (plan_in plans (suc i) []) (slice_index_or seated i d) (slice_index_or counted i d) (slice_index_or s.ran i d)
+          (fresh.each i d (ran_within i lt)) (count.each i d (ran_within i lt)) (ran_at i d lt) met w
+
+      pub ran_seen_at : (i : ℕ) (d : Sender J G) → i < length s.ran → AllByRecursion (IsAmong (known (slice_index_or s.ran i d).pass).seen.made) (known (slice_index_or s.ran i d).pass).mine
+      ran_seen_at i d lt = ran_seen gate a (suc i) (plan_in plans (suc i) []) (slice_index_or seated i d) (slice_index_or counted i d) (slice_index_or s.ran i d)
+          (fresh.each i d (ran_within i lt)) (count.each i d (ran_within i lt)) (ran_at i d lt)
+
       ran_unended : (i : ℕ) (d : Sender J G) → i < length s.ran → (known (slice_index_or s.ran i d).pass).ended ≡ false
       ran_unended i d lt = (ran_at i d lt).pass.ended
           ∙ counted_unended gate a (suc i) (plan_in plans (suc i) []) (slice_index_or seated i d) (slice_index_or counted i d) (fresh.each i d (ran_within i lt)) (count.each i d (ran_within i lt))
@@ -144,14 +221,28 @@ module _ {J : Type 0} {G : Ghosts J} (gate : Gate J G) (a : Account) (plans : Li
       ran_whole none i d lt = ran_all gate a (suc i) (plan_in plans (suc i) []) (slice_index_or seated i d) (slice_index_or counted i d) (slice_index_or s.ran i d)
           (fresh.each i d (ran_within i lt)) (count.each i d (ran_within i lt)) (ran_at i d lt) (none i d lt)
 
-      ran_long : length s.ran ≡ length plans
-      ran_long = s.each.long ∙ count.long ∙ fresh.long
+      lost_at : (i : ℕ) (d : Sender J G) (r : Option SubmitFault) → i < length s.ran → (slice_index_or s.ran i d).refused ≡ r
+          → ((known (slice_index_or s.ran i d).pass).lost ≡ []) ⊎ (LosesMessage (plan_in plans (suc i) []) (known (slice_index_or s.ran i d).pass) × (a.history.finished ≢ true))
+      lost_at i d r lt is = ran_loses gate a (suc i) (plan_in plans (suc i) []) (slice_index_or seated i d) (slice_index_or counted i d) (slice_index_or s.ran i d)
+          (fresh.each i d (ran_within i lt)) (count.each i d (ran_within i lt)) (ran_at i d lt) r is
+
+      ran_unlost : All HasNone s.ran → (i : ℕ) (d : Sender J G) → i < length s.ran → (known (slice_index_or s.ran i d).pass).lost ≡ []
+      ran_unlost none i d lt = (ran_at i d lt).unlost (λ e. none-some submit.Fault (sym (none i d lt) ∙ e))
+          ∙ counted_unlost gate a (suc i) (plan_in plans (suc i) []) (slice_index_or seated i d) (slice_index_or counted i d) (fresh.each i d (ran_within i lt)) (count.each i d (ran_within i lt))
+
+      ran_many : length s.ran ≡ length plans
+      ran_many = s.each.long ∙ count.long ∙ fresh.long
 
       ran_only : SendersMade s.ran
-      ran_only = record { long = ran_long; each = ran_part; ended = inl ran_unended }
+      ran_only = record {
+        long = ran_many;
+        each = ran_part;
+        ended = inl ran_unended;
+        lost = λ i d lt. ⊎_elim (λ e. inl e) (λ l. inr (record { opened = l.1; unended = ran_unended; what = inl l.0 })) (lost_at i d (slice_index_or s.ran i d).refused lt refl);
+      }
 
       with_finish : All HasNone s.ran → FinishedFirst s.ran after refused → SendersMade after
-      with_finish none f = record { long = f.long ∙ ran_long; each = each_at; ended = inr all_at }
+      with_finish none f = record { long = f.long ∙ ran_many; each = each_at; ended = inr all_at; lost = finish_lost }
         where
           each_at : (i : ℕ) (d : Sender J G) → i < length after → PartMade a (suc i) (plan_in plans (suc i) []) (known (slice_index_or after i d).pass)
           each_at zero d lt = part_still a 1 (plan_in plans 1 []) (known (slice_index_or s.ran 0 d).pass) (known (slice_index_or after 0 d).pass) (ran_part 0 d (omega (arith, lt, f.long))) (f.first d).turn (f.first d).mine
@@ -160,6 +251,23 @@ module _ {J : Type 0} {G : Ghosts J} (gate : Gate J G) (a : Account) (plans : Li
           all_at : (i : ℕ) (d : Sender J G) → i < length after → IsAllMade (entries_of a.history.made (suc i)) (suc i) (plan_in plans (suc i) []) (known (slice_index_or after i d).pass).mine
           all_at zero d lt = (f.first d).mine ∙ ran_whole none 0 d (omega (arith, lt, f.long))
           all_at (suc i) d lt = ap (λ (t : Sender J G). (known t.pass).mine) (f.others (suc i) d (omega arith)) ∙ ran_whole none (suc i) d (omega (arith, lt, f.long))
+
+          -- the first one lost the mark
+          loses_mark : (d : Sender J G) → 0 < length after → LosesMark (known (slice_index_or s.ran 0 d).pass) (known (slice_index_or after 0 d).pass) refused
+              → PartLoses after 0 (known (slice_index_or after 0 d).pass)
+          loses_mark d lt m = record {
+            opened = λ was. m.unmarked (sym (ap (λ (h : History). h.finished) ((each_at 0 d lt).behind.alone was)) ∙ was);
+            unended = unended_at;
+            what = inr (m.lost, all_at);
+          }
+            where
+              unended_at : NoneEnded after
+              unended_at zero e within = ap (λ (t : Sender J G). (known t.pass).ended) (get_or_default after 0 e d within) ∙ (m.unended ∙ ran_unended 0 d (omega (arith, within, f.long)))
+              unended_at (suc i) e within = ap (λ (t : Sender J G). (known t.pass).ended) (f.others (suc i) e (omega arith)) ∙ ran_unended (suc i) e (omega (arith, within, f.long))
+
+          finish_lost : (i : ℕ) (d : Sender J G) → i < length after → ((known (slice_index_or after i d).pass).lost ≡ []) ⊎ PartLoses after i (known (slice_index_or after i d).pass)
+          finish_lost zero d lt = ⊎_elim (λ same. inl (same ∙ ran_unlost none 0 d (omega (arith, lt, f.long)))) (λ m. inr (loses_mark d lt m)) (f.first d).lost
+          finish_lost (suc i) d lt = inl (ap (λ (t : Sender J G). (known t.pass).lost) (f.others (suc i) d (omega arith)) ∙ ran_unlost none (suc i) d (omega (arith, lt, f.long)))
 
       submitted_made : SendersMade after
       submitted_made = by_kind s.finished

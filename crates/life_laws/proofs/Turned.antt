@@ -29,8 +29,8 @@ use Rattle.turn_laws.proofs.Going.{after_append}
 use Rattle.turn_laws.proofs.Working.{turn_may_stand}
 use Rattle.turn_laws.proofs.Running.{all_seen, turns_stand, begin_stands, leg_stands}
 use Rattle.turn_laws.proofs.Adding.{turn_adds, cut_adds}
-use Rattle.conn_serve.specs.Connections.{Connection, WereTurns, CutAt, IsConnection}
-use Rattle.conn_serve.proofs.Following.{were_are_turns}
+use Rattle.conn_serve.specs.Connections.{Connection, IsConnection}
+use Rattle.conn_serve.proofs.Following.{PlainTurns, PlainCut, PlainConnection, plain, plain_are_turns}
 
 -- an outbox that begins with what was seen begins with what was seen before
 pub has_before : (h : List Entry) (before after : History) → Has h after → IsPrefix before.made after.made → Has h before
@@ -38,12 +38,12 @@ has_before h before after has p = record { begins = prefix_trans before.made aft
 
 -- what whole turns add
 turns_add : (h : List Entry) (before after : History) (old new : Line) (ts : List Turn) (news : List NewsItem) (adds : List InboxRecord) (c : Course) → StandsAt h c old → Has h after
-    → WereTurns before after old new ts news adds → (course_after c (flat_map calls_of ts)).added ≡ c.added ++ adds
+    → PlainTurns before after old new ts news adds → (course_after c (flat_map calls_of ts)).added ≡ c.added ++ adds
 turns_add h before after old new [] news adds c s has w = sym (append-nil c.added) ∙ ap (λ (rs : List InboxRecord). c.added ++ rs) (sym w.3)
 turns_add h before after old new (t ∷ later) news adds c s has w =
     let mid : Line = w.1 in
     let between : History = w.2 in
-    let so_far : Has h between = has_before h between after has (all_seen between after mid new later (were_are_turns between after mid new later w.4 w.5 w.8)) in
+    let so_far : Has h between = has_before h between after has (all_seen between after mid new later (plain_are_turns between after mid new later w.4 w.5 w.8)) in
     let x = turn_may_stand h before between old mid t c s so_far w.3 in
     let d : Course = course_after c (calls_of t) in
     ap (λ (e : Course). e.added) (after_append c (calls_of t) (flat_map calls_of later))
@@ -78,7 +78,7 @@ frame_adds_nothing d incoming at now = by_test (is_record o.act) refl
 
 -- what a turn that was cut short adds, also behind the frames that it took
 cut_turn_adds : (h : List Entry) (old : Line) (now : ℕ) (received : List ℕ) (frames : List TakenFrame) (next : Option TakenFrame) (c : Course) → StandsAt h c old → (k : IsCutShort now received frames next old)
-    → (course_after c (calls_of (cut_short now received frames next))).added ≡ c.added ++ added now (line_received old now received k.over) frames
+    → (course_after c (calls_of (cut_short now received frames next))).added ≡ c.added ++ added now (line_received old now received k.got) frames
 cut_turn_adds h old now received frames None c s k = cut_adds h old now received frames c s k
 cut_turn_adds h old now received frames (Some t) c s k =
     let call : Call = calls.frame t.incoming t.at now in
@@ -87,16 +87,16 @@ cut_turn_adds h old now received frames (Some t) c s k =
     let joined : course_after c (first_calls now ++ (took ++ call ∷ [])) ≡ next_course d call =
     after_append c (first_calls now) (took ++ call ∷ []) ∙ (after_append (course_after c (first_calls now)) took (call ∷ [])
     ∙ ap (λ (e : Course). next_course e call) (sym (after_append c (first_calls now) took))) in
-    ap (λ (e : Course). e.added) joined ∙ (frame_adds_nothing d t.incoming t.at now ∙ cut_adds h old now received frames c s (record { over = k.over; taken = k.taken; next = tt }))
+    ap (λ (e : Course). e.added) joined ∙ (frame_adds_nothing d t.incoming t.at now ∙ cut_adds h old now received frames c s (record { got = k.got; taken = k.taken; next = tt }))
 
-cut_part_adds : (h : List Entry) (c : Course) (last : Line) (cut : Option Turn) (news : List NewsItem) (adds refused wanted : List InboxRecord) → StandsAt h c last → CutAt last cut news adds refused wanted
+cut_part_adds : (h : List Entry) (c : Course) (last : Line) (cut : Option Turn) (news : List NewsItem) (adds refused wanted : List InboxRecord) → StandsAt h c last → PlainCut last cut news adds refused wanted
     → (course_after c (flat_map calls_of (option_to_list cut))).added ≡ c.added ++ adds
 cut_part_adds h c last None news adds refused wanted s k = sym (append-nil c.added) ∙ ap (λ (rs : List InboxRecord). c.added ++ rs) (sym k.1)
 cut_part_adds h c last (Some t) news adds refused wanted s k =
     ap (λ (cs : List Call). (course_after c cs).added) (append-nil (calls_of t) ∙ ap calls_of k.is)
     ∙ (cut_turn_adds h last k.now k.received k.frames k.next c s k.cut ∙ ap (λ (rs : List InboxRecord). c.added ++ rs) (sym k.adds_are))
 
-is_cut : (last : Line) (cut : Option Turn) (news : List NewsItem) (adds refused wanted : List InboxRecord) → CutAt last cut news adds refused wanted → IfSome cut (IsCut last)
+is_cut : (last : Line) (cut : Option Turn) (news : List NewsItem) (adds refused wanted : List InboxRecord) → PlainCut last cut news adds refused wanted → IfSome cut (IsCut last)
 is_cut last None news adds refused wanted k = tt
 is_cut last (Some t) news adds refused wanted k = subst (λ (u : Turn). IsCut last u) (sym k.is) k.cut
 
@@ -109,12 +109,13 @@ pub record IsTurnedOne (h : List Entry) (m : State) (i : List InboxRecord) (last
 
 pub connection_turned : (h : List Entry) (before after : History) (m : State) (i : List InboxRecord) (last : Line) (c : Connection) → m.facts.recorded.inbox_next ≡ next_number i → m.facts.recorded.sent ≤ length h
     → Has h after → IsConnection before after m last c → IsTurnedOne h m i last c
-connection_turned h before after m i last c awaits enough has k =
+connection_turned h before after m i last c awaits enough has real =
+    let k : PlainConnection before after m last c = plain before after m last c real in
     let t : TurnedLeg = c.leg in
     let b : Course = beginning m i t.moment in
     let first : List Call = flat_map calls_of t.turns in
     let so_far : Has h k.seen = has_before h k.seen after has k.grows.made in
-    let are : AreTurns before k.seen (first_line m t.moment) last t.turns = were_are_turns before k.seen (first_line m t.moment) last t.turns k.told k.added k.turns in
+    let are : AreTurns before k.seen (first_line m t.moment) last t.turns = plain_are_turns before k.seen (first_line m t.moment) last t.turns k.told k.added k.turns in
     let turns : AreTurnsOf h m t = record { before = before; after = k.seen; last = last; turns = are; cut = is_cut last t.cut k.cut_told k.cut_added c.refused c.wanted k.cut; has = so_far } in
     let start : StandsAt h b (first_line m t.moment) = begin_stands h m i t.moment awaits enough in
     let x = turns_stand h before k.seen (first_line m t.moment) last t.turns b start so_far are in

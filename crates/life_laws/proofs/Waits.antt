@@ -24,7 +24,8 @@ use Rattle.turn_laws.specs.Turns.{line_received, IsCutShort}
 use Rattle.turn_laws.specs.Standing.{StandsAt}
 use Rattle.turn_laws.specs.Legs.{course_on}
 use Rattle.turn_laws.proofs.Running.{refused_waits}
-use Rattle.conn_serve.specs.Connections.{Connection, CutAt, IsConnection}
+use Rattle.conn_serve.specs.Connections.{Connection, IsConnection}
+use Rattle.conn_serve.proofs.Following.{PlainCut, plain}
 use Rattle.life_laws.proofs.Turned.{none_recorded, IsTurnedOne}
 
 -- a frame waits, and its act has these records
@@ -43,12 +44,12 @@ refused_none faults.Memory = refl
 
 -- where the act of the refused frame is a record, the machine replies to it as it did
 waits_at : (h : List Entry) (c : Course) (old : Line) (now : ℕ) (received : List ℕ) (frames : List TakenFrame) (t : TakenFrame) → StandsAt h c old → (k : IsCutShort now received frames (Some t) old)
-    → is_record (reply_at now (lines_after now (line_received old now received k.over) frames) t).act ≡ true
-    → Waits (course_after c (calls_of (cut_short now received frames (Some t)))) (records_of (reply_at now (lines_after now (line_received old now received k.over) frames) t).act t.incoming)
+    → is_record (reply_at now (lines_after now (line_received old now received k.got) frames) t).act ≡ true
+    → Waits (course_after c (calls_of (cut_short now received frames (Some t)))) (records_of (reply_at now (lines_after now (line_received old now received k.got) frames) t).act t.incoming)
 waits_at h c old now received frames t s k records = record { waiting = w; is = refused_waits h old c now received frames t s k records; left_are = ap (λ (o : Outcome). records_of o.act t.incoming) same }
   where
     l : Line
-    l = lines_after now (line_received old now received k.over) frames
+    l = lines_after now (line_received old now received k.got) frames
 
     o : Outcome
     o = reply_at now l t
@@ -71,7 +72,7 @@ waits_at h c old now received frames t s k records = record { waiting = w; is = 
     ran : (course_after c (first ++ (took ++ call ∷ []))).state ≡ step l.machine call
     ran = state_is_run c (first ++ (took ++ call ∷ [])) ∙ (ap (λ (x : State). run x (first ++ (took ++ call ∷ []))) s.machine
         ∙ (run_append old.machine first (took ++ call ∷ []) ∙ (run_append (run old.machine first) took (call ∷ [])
-        ∙ ap (λ (x : State). step x call) (sym (frames_make_calls now (line_received old now received k.over) frames)))))
+        ∙ ap (λ (x : State). step x call) (sym (frames_make_calls now (line_received old now received k.got) frames)))))
 
     same : reply_to (course_after c (first ++ (took ++ call ∷ []))).state w ≡ o
     same = ap (λ (x : State). reply_to x w) ran ∙ ap (λ (b : Bool). reply_to (if b then record got { pending = Some o } else reply_applied got o now) w) records
@@ -89,14 +90,14 @@ by_record (faults.Full entries bytes) now l t d refused true e is waits = inl is
 by_record faults.Memory now l t d refused true e is waits = inl is
 
 by_next : (h : List Entry) (c : Course) (last : Line) (now : ℕ) (received : List ℕ) (frames : List TakenFrame) (next : Option TakenFrame) (fault : TurnFault) (refused : List InboxRecord) → StandsAt h c last
-    → (k : IsCutShort now received frames next last) → refused ≡ refused_of fault now (lines_after now (line_received last now received k.over) frames) next
+    → (k : IsCutShort now received frames next last) → refused ≡ refused_of fault now (lines_after now (line_received last now received k.got) frames) next
     → (refused ≡ []) ⊎ Waits (course_after c (calls_of (cut_short now received frames next))) refused
 by_next h c last now received frames None fault refused s k is = inl is
 by_next h c last now received frames (Some t) fault refused s k is =
-    let l : Line = lines_after now (line_received last now received k.over) frames in
+    let l : Line = lines_after now (line_received last now received k.got) frames in
     by_record fault now l t (course_after c (calls_of (cut_short now received frames (Some t)))) refused (is_record (reply_at now l t).act) refl is (λ e. waits_at h c last now received frames t s k e)
 
-by_cut : (h : List Entry) (c : Course) (last : Line) (cut : Option Turn) (told : List NewsItem) (added refused wanted : List InboxRecord) → StandsAt h c last → CutAt last cut told added refused wanted
+by_cut : (h : List Entry) (c : Course) (last : Line) (cut : Option Turn) (told : List NewsItem) (added refused wanted : List InboxRecord) → StandsAt h c last → PlainCut last cut told added refused wanted
     → (refused ≡ []) ⊎ Waits (course_after c (flat_map calls_of (option_to_list cut))) refused
 by_cut h c last None told added refused wanted s k = inl k.2
 by_cut h c last (Some t) told added refused wanted s k =
@@ -105,6 +106,7 @@ by_cut h c last (Some t) told added refused wanted s k =
 
 pub waits_or_none : (h : List Entry) (before after : History) (m : State) (machine : State) (i : List InboxRecord) (last : Line) (c : Connection) → IsConnection before after machine last c → IsTurnedOne h m i last c
     → (c.refused ≡ []) ⊎ Waits (course_on m i c.leg) c.refused
-waits_or_none h before after m machine i last c k x =
+waits_or_none h before after m machine i last c real x =
+    let k = plain before after machine last c real in
     subst (λ (d : Course). (c.refused ≡ []) ⊎ Waits d c.refused) (sym x.joined)
     (by_cut h (course_after (beginning m i c.leg.moment) (flat_map calls_of c.leg.turns)) last c.leg.cut k.cut_told k.cut_added c.refused c.wanted x.stands k.cut)

@@ -1,5 +1,5 @@
 -- What was served over a life, as a life of the laws over lists of turns, and so of the session model.
-use Rattle.std.specs.Prelude.{◌≡◌, ℕ, ◌+◌, ◌^◌, ◌≤◌, List, [], ◌++◌, map, length, Option, IfSome, option_to_list, Result}
+use Rattle.std.specs.Prelude.{◌≡◌, ℕ, ◌+◌, ◌^◌, ◌≤◌, List, [], ◌++◌, length, Option, IfSome, option_to_list, Result}
 use Rattle.std.specs.List.{AllByRecursion}
 use mathlib.Core.List.{IsPrefix}
 use Rattle.session_model.specs.Journal.{Entry, OutboxRecord, entries, History, BeginsHistory}
@@ -19,24 +19,16 @@ use Rattle.jr_boxes.specs.Inbox.{HoldsBox, next_of}
 use Rattle.gate_turn.specs.Views.{Part}
 use Rattle.conn_loop.specs.Conn.{Looks}
 use Rattle.turn_laws.specs.Standing.{Has}
-use Rattle.turn_laws.specs.Legs.{TurnedLeg}
+use Rattle.turn_laws.specs.Legs.{IsTimely}
 use Rattle.turn_laws.specs.Lives.{AllAreTurns, state_after, inbox_after}
-use Rattle.two_ends.specs.Loops.{LoopLife, machine_life, IsRefusedOn, legs_in, IsTimely, MayTurn}
+use Rattle.two_ends.specs.Loops.{LoopLife, machine_life, IsRefusedOn, legs_in, MayTurn}
 use Rattle.conn_serve.specs.declared.answer.ServeFault.{ServeFault}
 use Rattle.conn_serve.specs.declared.answer.LifeEnd.{LifeEnd}
-use Rattle.conn_serve.specs.Connections.{Connection, adds_of, refused_of_all}
+use Rattle.conn_serve.specs.Connections.{Connection, turned, all_of, adds_of, refused_of_all}
 use Rattle.conn_serve.specs.Moments.{LifeAt}
 use Rattle.conn_serve.specs.Turned.{MayBegin}
 use Rattle.conn_serve.specs.Served.{ServedLife}
 use Rattle.conn_serve.specs.Opening.{opened_state}
-
--- connections, by their turns
-abbrev pub turned : List Connection → List TurnedLeg
-turned cs = map (λ (c : Connection). c.leg) cs
-
--- the connections that ended, and the one that was given up, if one was
-abbrev pub all_of : List Connection → Option Connection → List Connection
-all_of ended given_up = ended ++ option_to_list given_up
 
 -- what a life of the loop served, in the words of the session model
 abbrev pub served_of : LoopLife → Served
@@ -112,8 +104,7 @@ module _ {J : Type 0} {G : Ghosts J} where
       → IsInRange (fresh config (opened_state opened box) most)
 
   -- So what `serve` ensures of a life is a life of the loop that may turn, where the machine is in range, the closing outbox has less than
-  -- 2^40 entries, payloads of application messages, and begins with what its pass came to see, and what the links gave and the clock
-  -- told is in range
+  -- 2^40 entries, payloads of application messages, and begins with what its pass came to see
   abbrev pub ServedIsALoopLife : Inbox J G → Type 0
   ServedIsALoopLife box =
       (old new : LifeAt J G) (opened : History) (config : EndConfig) (most : ℕ) (result : Result LifeEnd ServeFault)
@@ -121,7 +112,6 @@ module _ {J : Type 0} {G : Ghosts J} where
       → (k : ServedLife old new (fresh config (opened_state opened old.box) most) result)
       → entries opening ≡ opened.made → BeginsHistory opened old.seen → Has (entries closing) new.seen → HoldsBox old.box i []
       → IsInRange (fresh config (opened_state opened old.box) most) → AllByRecursion (λ (e : Entry). IsApplication e.payload) (entries closing)
-      → AllByRecursion IsTimely (turned (all_of k.ended k.given_up))
       → (l : LifeOfLoop opening closing refused (fresh config (opened_state opened old.box) most) i (all_of k.ended k.given_up)
       (refused_of_all (option_to_list k.given_up)))
       × MayTurn config.own_flow config.peer_flow l.life

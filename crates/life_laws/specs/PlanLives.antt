@@ -1,7 +1,8 @@
 -- What a life of connections and senders left, of a gate's passes, and of the boxes once the gate is closed (this project's profile).
-use Rattle.std.specs.Prelude.{◌≡◌, ◌⊎◌, ⊤, ℕ, ◌+◌, ◌^◌, ◌<◌, true, false, List, [], length, Option, IfSome, option_to_list, Result, Err}
+use Rattle.std.specs.Prelude.{◌≡◌, ◌⊎◌, ⊤, ℕ, ◌+◌, ◌^◌, ◌<◌, true, false, List, [], length, slice_get, Option, Some, IfSome, option_to_list, Result, Err}
+use Rattle.std.specs.List.{AllByRecursion}
 use Rattle.gw_outside.specs.Faults.{HasRisen}
-use Rattle.session_model.specs.Journal.{Entry, History, BeginsHistory}
+use Rattle.session_model.specs.Journal.{Entry, History, OutboxRecord, BeginsHistory, entries_of}
 use Rattle.session_model.specs.Inbox.{InboxRecord}
 use Rattle.fixp_shake.specs.declared.config.EndConfig.{EndConfig}
 use Rattle.fixp_machine.specs.Machine.{State, fresh}
@@ -22,7 +23,7 @@ use Rattle.conn_serve.specs.Connections.{wanted_of_all}
 use Rattle.conn_serve.specs.Moments.{Beside, with_seen}
 use Rattle.conn_serve.specs.Served.{ServedLife}
 use Rattle.conn_serve.specs.Opening.{opened_state, IsUnrefused}
-use Rattle.life_laws.specs.Plans.{PlansMade, KeepsPlans}
+use Rattle.life_laws.specs.Plans.{plan_in, PlansMade, KeepsPlans, LosesNext}
 
 -- of what so many passes know, this is so of one
 pub record SomePass (made : ℕ) (P : Part → Type 0) (known : ℕ → Part) : Type 0 where
@@ -45,19 +46,30 @@ SeesMark p = p.seen.finished ≡ true
 abbrev pub SeesFailure : Part → Type 0
 SeesFailure p = HasFailed p.opening.faults p.faults
 
--- a message of a pass was refused, behind the opening history, at one that is at a limit
-pub record MetFull (entries bytes : ℕ) (p : Part) : Type 0 where
+-- an entry is among these
+abbrev pub IsAmong : List Entry → Entry → Type 0
+IsAmong entries e = (place : ℕ) × (slice_get entries place ≡ Some e)
+
+-- Behind the opening history a message of a pass was refused, at one that is at a limit: the next of its plan behind the entries that it made,
+-- all of which that history has
+pub record MetFull (plans : List (List (List ℕ))) (entries bytes : ℕ) (p : Part) : Type 0 where
   pub payload : List ℕ
+  pub next : slice_get (plan_in plans p.number []) (length p.mine) ≡ Some payload
+  pub seen_all : AllByRecursion (IsAmong p.seen.made) p.mine
   pub behind : BeginsHistory p.opening.history p.seen
   pub full : IsFullAt p.opening.limits p.seen (next_entry p.seen p.number payload) entries bytes
 
--- between the opening history and the closing one an entry was refused at a history that is at a limit
-pub record WasFull (limits : Limits) (opening closing : History) (entries bytes : ℕ) : Type 0 where
+-- Between the opening history and the closing one the next message of a sender's plan was refused, at a history that is at a limit; the sender
+-- added nothing behind that
+pub record WasFull (limits : Limits) (plans : List (List (List ℕ))) (opening closing : History) (entries bytes : ℕ) : Type 0 where
   pub history : History
   pub behind : BeginsHistory opening history
   pub begins : BeginsHistory history closing
-  pub entry : Entry
-  pub full : IsFullAt limits history entry entries bytes
+  pub sender : ℕ
+  pub payload : List ℕ
+  pub next : slice_get (plan_in plans sender []) (length (entries_of history.made sender)) ≡ Some payload
+  pub last : entries_of closing.made sender ≡ entries_of history.made sender
+  pub full : IsFullAt limits history (next_entry history sender payload) entries bytes
 
 module _ {J : Type 0} {G : Ghosts J} where
   -- a call of the disk of the inbox failed, or one had failed before
@@ -84,7 +96,7 @@ module _ {J : Type 0} {G : Ghosts J} where
     pub marked : IsUnrefused result → 0 < length plans → SomePass (length plans + 1) SeesMark known
     pub journal : result ≡ Err faults.Journal → BlamesInbox old.box new.box ⊎ SomePass (length plans + 1) SeesFailure known
     pub full : (entries bytes : ℕ) → result ≡ Err (faults.Full entries bytes)
-        → FillsInbox new.box (wanted_of_all (option_to_list life.given_up)) entries bytes ⊎ SomePass (length plans + 1) (MetFull entries bytes) known
+        → FillsInbox new.box (wanted_of_all (option_to_list life.given_up)) entries bytes ⊎ SomePass (length plans + 1) (MetFull plans entries bytes) known
 
 module _ {J : Type 0} {G : Ghosts J} {O : Type 0} {H : Ghosts O} where
   -- a journal is to blame, of the inbox or of the outbox: the count of its device's faults rose
@@ -93,7 +105,7 @@ module _ {J : Type 0} {G : Ghosts J} {O : Type 0} {H : Ghosts O} where
       HasRisen (inboxes.faults_of box) (inboxes.faults_of box') ⊎ HasRisen (outboxes.faults_of outbox) (outboxes.faults_of outbox')
 
   -- a life was served and its plans submitted, once the outbox is out of the gate again: that was opened on one history and closed on
-  -- another, which keeps the plans
+  -- another, which keeps the plans, and behind which a stop may leave what was lost with a failed call of its disk
   pub record LivedBoxes (config : EndConfig) (plans : List (List (List ℕ))) (old new : Beside J G) (outbox outbox' : Outbox O H)
       (result : Result (Unit {0}) ServeFault) : Type 0 where
     pub opening : History
@@ -103,8 +115,10 @@ module _ {J : Type 0} {G : Ghosts J} {O : Type 0} {H : Ghosts O} where
     pub refused : Option ServeFault
     pub few : length closing.made < 2 ^ 40
     pub opened : ∥ outboxes.HoldsBox outbox opening [] ∥₁
-    pub stands : ∥ outboxes.StandsFor outbox' closing ∥₁
-    pub holds : outboxes.is_broken outbox' ≡ false → ∥ outboxes.HoldsBox outbox' closing [] ∥₁
+    pub lost : List OutboxRecord
+    pub holds : ∥ outboxes.HoldsBox outbox' closing lost ∥₁
+    pub loses : LosesNext plans opening closing lost
+    pub whole : outboxes.is_broken outbox' ≡ false → lost ≡ []
     pub broken : outboxes.is_broken outbox' ≡ true → HasRisen (outboxes.faults_of outbox) (outboxes.faults_of outbox')
     pub plans_kept : KeepsPlans plans opening closing
     pub begins : BeginsHistory seen closing
@@ -116,4 +130,4 @@ module _ {J : Type 0} {G : Ghosts J} {O : Type 0} {H : Ghosts O} where
     pub journal : result ≡ Err faults.Journal → BlamesBoxes old.box new.box outbox outbox'
     pub full : (entries bytes : ℕ) → result ≡ Err (faults.Full entries bytes)
         → FillsInbox new.box (wanted_of_all (option_to_list served.given_up)) entries bytes
-        ⊎ WasFull (record { entries = (outboxes.limits_of outbox).entries; bytes = (outboxes.limits_of outbox).bytes }) opening closing entries bytes
+        ⊎ WasFull (record { entries = (outboxes.limits_of outbox).entries; bytes = (outboxes.limits_of outbox).bytes }) plans opening closing entries bytes

@@ -1,9 +1,12 @@
 -- What the passes of a gate know of the plans of its senders, and what an outbox keeps of them (this project's profile).
-use Rattle.std.specs.Prelude.{◌≡◌, ℕ, zero, suc, ◌+◌, true, false, List, [], ◌++◌, length, take, drop, slice_index_or}
-use Rattle.session_model.specs.Journal.{Entry, History, BeginsHistory, entries_of}
+use Rattle.std.specs.Prelude.{◌≡◌, ◌≢◌, ◌⊎◌, ℕ, zero, suc, ◌+◌, ◌<◌, true, false, List, [], ◌∷◌, ◌++◌, length, take, drop, slice_get, slice_index_or, Some}
+use Rattle.session_model.specs.Journal.{Entry, History, OutboxRecord, entry, finish, BeginsHistory, InOrder, entries_of}
 use Rattle.session_model.specs.Plans.{sent_by, Continues, Completes}
+use Rattle.jr_boxes.specs.Outboxes.{outbox_of}
 use Rattle.gate_turn.specs.Views.{Account, Part}
 use Rattle.gate_turn.specs.Rule.{In}
+use Rattle.gate_senders.specs.Kept.{next_entry}
+use Rattle.gate_senders.specs.Shown.{entry_after}
 use Rattle.gate_plans.specs.Sent.{entries_behind}
 
 -- the plan of each sender, whatever was applied: that of sender s is the s-th of these, and no other has one
@@ -20,18 +23,64 @@ pub record MadeOf (had : List Entry) (sender : ℕ) (plan : List (List ℕ)) (mi
 abbrev pub IsAllMade : List Entry → ℕ → List (List ℕ) → List Entry → Type 0
 IsAllMade had sender plan mine = mine ≡ had ++ entries_behind sender (length had) (drop (length had) plan)
 
--- What the passes know, one more than these plans: each sender's made messages of its plan, the last made nothing, and where one made
--- the mark, each sender's made all of its plan
+-- what a pass was to add by a call that failed: the message of its sender's plan behind those that it made
+pub record LosesMessage (plan : List (List ℕ)) (p : Part) : Type 0 where
+  pub payload : List ℕ
+  pub next : slice_get plan (length p.mine) ≡ Some payload
+  pub is : p.lost ≡ entry (entry_after p payload) ∷ []
+
+-- each sender's pass made all of its plan
+abbrev pub AllMade : Account → List (List (List ℕ)) → (ℕ → Part) → Type 0
+AllMade opening plans known = (s : ℕ) → In (length plans) s → IsAllMade (entries_of opening.history.made s) s (plan_in plans s []) (known s).mine
+
+-- the pass of a sender lost the next message of its plan, or, where each sender's pass made all of its plan, the mark; the mark stood not
+-- behind the opening history, and no pass made it
+pub record LosesOwn (opening : Account) (plans : List (List (List ℕ))) (known : ℕ → Part) (n : ℕ) : Type 0 where
+  pub sender : In (length plans) n
+  pub opened : opening.history.finished ≢ true
+  pub unended : (m : ℕ) → In (length plans + 1) m → (known m).ended ≢ true
+  pub what : LosesMessage (plan_in plans n []) (known n) ⊎ (((known n).lost ≡ finish ∷ []) × AllMade opening plans known)
+
+-- What the passes know, one more than these plans: each sender's made messages of its plan, the last made nothing and no mark, and where one
+-- made the mark, each sender's made all of its plan; and what a pass lost was its own
 pub record PlansMade (opening : Account) (plans : List (List (List ℕ))) (known : ℕ → Part) : Type 0 where
   pub made : (known 1).made ≡ length plans + 1
   pub number : (n : ℕ) → In (length plans + 1) n → (known n).number ≡ n
   pub each : (s : ℕ) → In (length plans) s → MadeOf (entries_of opening.history.made s) s (plan_in plans s []) (known s).mine
   pub last : (known (length plans + 1)).mine ≡ entries_of opening.history.made (length plans + 1)
-  pub ended : (n : ℕ) → In (length plans + 1) n → (known n).ended ≡ true
-      → (s : ℕ) → In (length plans) s → IsAllMade (entries_of opening.history.made s) s (plan_in plans s []) (known s).mine
+  pub unmarked : (known (length plans + 1)).ended ≡ false
+  pub ended : (n : ℕ) → In (length plans + 1) n → (known n).ended ≡ true → AllMade opening plans known
+  pub lost : (n : ℕ) → In (length plans + 1) n → ((known n).lost ≡ []) ⊎ LosesOwn opening plans known n
 
--- Each sender's entries continue its plan, and where the mark was added, each sent all of it
+-- Each sender's entries continue its plan, and where the mark was added, each sent all of it; where there is no plan, none was added
 pub record KeepsPlans (plans : List (List (List ℕ))) (opening closing : History) : Type 0 where
   pub begins : BeginsHistory opening closing
   pub each : (s : ℕ) → Continues (plan_in plans s []) (sent_by opening.made s) (sent_by closing.made s)
   pub done : opening.finished ≡ false → closing.finished ≡ true → (s : ℕ) → Completes (plan_in plans s []) (sent_by opening.made s) (sent_by closing.made s)
+  pub none : plans ≡ [] → closing.finished ≡ opening.finished
+
+-- the records behind a closing history of which a stop may leave a beginning are the message of a sender's plan behind those that the
+-- history has of it
+pub record NextMessage (plans : List (List (List ℕ))) (closing : History) (lost : List OutboxRecord) : Type 0 where
+  pub sender : ℕ
+  pub payload : List ℕ
+  pub next : slice_get (plan_in plans sender []) (length (entries_of closing.made sender)) ≡ Some payload
+  pub is : lost ≡ entry (next_entry closing sender payload) ∷ []
+
+-- they are the mark, and each sender sent all of its plan
+pub record FinishBehind (plans : List (List (List ℕ))) (opening closing : History) (lost : List OutboxRecord) : Type 0 where
+  pub some : 0 < length plans
+  pub all : (s : ℕ) → Completes (plan_in plans s []) (sent_by opening.made s) (sent_by closing.made s)
+  pub is : lost ≡ finish ∷ []
+
+-- what a life lost with a failed call of its outbox's disk: nothing, or one record, which the senders' plans have behind the closing history
+abbrev pub LosesNext : List (List (List ℕ)) → (opening closing : History) → List OutboxRecord → Type 0
+LosesNext plans opening closing lost =
+    (lost ≡ []) ⊎ ((closing.finished ≡ false) × (NextMessage plans closing lost ⊎ FinishBehind plans opening closing lost))
+
+-- the closing history with what was lost behind it is one history, in order as the closing one is, which keeps the plans too
+pub record GoesOnWith (plans : List (List (List ℕ))) (opening closing : History) (lost : List OutboxRecord) : Type 0 where
+  pub whole : History
+  pub goes_on : outbox_of closing ++ lost ≡ outbox_of whole
+  pub keeps : KeepsPlans plans opening whole
+  pub in_order : InOrder closing.made → InOrder whole.made

@@ -11,4 +11,4 @@ pub use lives::{
     life_may_turn, life_opens, opened_in_range, opened_opens, served_is_a_loop_life,
     served_is_turned, served_keeps,
 };
-pub use plans::{plans_are_kept, plans_keep_outbox};
+pub use plans::{plans_are_kept, plans_go_on, plans_keep_outbox};

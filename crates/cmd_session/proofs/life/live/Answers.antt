@@ -13,7 +13,7 @@ returns-clause-outbox_never_falls g c =
     let closed = c.close.ensures.closed in
     let inside : In (known_at c.serve_seated-answer.new.passes 1).made 1 = record { from_one = omega arith; up_to = c.serve_seated-answer.ensures.back.some_made } in
     let opening = closed.closed.opened 1 inside ∙ c.in-Ok-made_gate.ensures.opened.told in
-    let sound = subst (λ a. Sound a (account c.close.result closed.history)) opening (closed.closed.found 1 inside).sound in
+    let sound = subst (λ a. Sound a (account c.close.result closed.history closed.refused)) opening (closed.closed.found 1 inside).sound in
     never_fell (faults_of c.args.outbox) (faults_of c.close.result) (is_broken c.args.outbox) (is_broken c.close.result) sound.faults (λ e. (sound.broken e).rose)
 
 pub returns-clause-lived : goal.returns-clause-lived
