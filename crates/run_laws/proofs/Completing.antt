@@ -86,7 +86,7 @@ module _ {S K D N C J : Type 0} (G : Ghosts J) (sees : Sees S K D N)
       l.lived
 
   behind_config : EndsBehindConfig G sees role c before after status → LeftEnds
-  behind_config e = ⊎_elim at_boxes (λ r. ⊎_elim at_input at_life r.ended) e
+  behind_config e = ⊎_elim at_boxes (λ r. ⊎_elim (λ s. at_input s.refused) at_life r.ended) e
 
   pub at_step : Steps G sees role before after status → LeftEnds
   at_step s = ⊎_elim

@@ -21,7 +21,7 @@ no_record : (before after : List InboxRecord) (r : InboxRecord) → [] ≡ befor
 no_record before after r e = omega (arith, ap length e, length-append before (r ∷ after))
 
 -- a journal without records is one of either box
-empty_box : (which : Which) (flow : Flow) (content : List ℕ) → IsJournal content [] → IsBox which flow content
+pub empty_box : (which : Which) (flow : Flow) (content : List ℕ) → IsJournal content [] → IsBox which flow content
 empty_box Outbox flow content j = record {
   records = [];
   journal = j;

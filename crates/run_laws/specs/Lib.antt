@@ -1,1 +1,9 @@
 pub mod Completeness
+pub mod Several
+pub mod Linked
+pub mod Holding
+pub mod Pieces
+pub mod Senders
+pub mod Promise
+pub mod Samples
+pub mod Standing

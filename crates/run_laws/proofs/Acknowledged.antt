@@ -1,0 +1,87 @@
+-- What the lives of an end closed on stands in what is left in the end.
+use Rattle.std.proofs.Common.{◌⊎◌, inl, inr, ℕ, List, [], ◌∷◌, ◌++◌, map, Some, sym, ap, subst, ◌∙◌, append_assoc}
+use mathlib.Core.List.{IsPrefix}
+use Rattle.session_model.specs.Journal.{OutboxRecord, History, history_of, BeginsHistory}
+use Rattle.session_model.specs.Lives.{IsImage}
+use Rattle.session_model.proofs.Lists.{prefix_trans}
+use Rattle.gate_turn.proofs.Histories.{begins_self, begins_on}
+use Rattle.fixp_shake.specs.declared.config.EndConfig.{EndConfig}
+use Rattle.fixp_shake.specs.declared.config.Role.{Role}
+use Rattle.jr_record.specs.declared.journal.Journal.{Ghosts}
+use Rattle.jr_record.specs.Images.{IsJournal, Leaves}
+use Rattle.jr_boxes.specs.Outboxes.{record_of, outbox_of, records_of_history}
+use Rattle.cmd_config.specs.declared.configuration.Configuration.{Configuration}
+use Rattle.cmd_session.specs.Inputs.{end_of}
+use Rattle.cmd_session.specs.Lived.{LeftAll, HasLivedOver, Lived}
+use Rattle.cmd_session.specs.Outsides.{Sees}
+use Rattle.cmd_session.specs.Steps.{StopsAtInput, EndsBehindConfig, Steps}
+use Rattle.run_laws.specs.Several.{Run, IsEmptyJournal, IsAt, RunsOver, IsRun}
+use Rattle.run_laws.specs.Standing.{LifeStands, BoxesStand, ConfigStands, RunStands, AllStand, ClosingsStand}
+use Rattle.run_laws.proofs.Telling.{same_image, out_tells}
+use Rattle.run_laws.proofs.Ordered.{begins_within, history_of-records}
+use Rattle.run_laws.proofs.Merely.{image_left}
+use Rattle.run_laws.proofs.Ways.{Unlived, config_kept, boxes_kept, input_kept, unbegun_kept}
+use Rattle.run_laws.proofs.Chaining.{told_was, kept_was}
+use Rattle.run_laws.proofs.Submitted.{opening_closing}
+
+-- what is left of these contents begins the history of the end
+record Begun (outboxes : List ℕ → Type 0) (h : History) : Type 0 where
+  opened : List OutboxRecord
+  was : Leaves outboxes (Some (map record_of opened))
+  begins : BeginsHistory (history_of opened) h
+
+module _ {S K D N C J : Type 0} (G : Ghosts J) (sees : Sees S K D N) (role : Role) (h : History) (r : Run S K D N C) (outboxes : List ℕ → Type 0) (at : IsAt sees outboxes r.before.out_disk) (later : Begun (sees.may_leave r.after.out_disk) h) where
+  unlived : Unlived sees r.before r.after → Begun outboxes h
+  unlived kept = record { opened = later.opened; was = kept_was sees outboxes r.before.out_disk r.after.out_disk (map record_of later.opened) at kept.outbox later.was; begins = later.begins }
+
+  by_life : (config : EndConfig) (plans : List (List (List ℕ))) (l : LeftAll sees r.before r.after r.status ⊎ HasLivedOver G sees config plans r.before r.after r.status)
+      → Begun outboxes h × LifeStands G sees role r.before r.after r.status h config plans l
+  by_life config plans (inl left) = (unlived (unbegun_kept sees r.before r.after r.status left), tt)
+  by_life config plans (inr lived) =
+      let v = lived.over in
+      let image : IsImage (outbox_of v.closing) v.lost later.opened =
+      same_image record_of out_tells (outbox_of v.closing) v.lost later.opened
+      (image_left (sees.may_leave r.after.out_disk) (records_of_history v.closing) (map record_of v.lost) (map record_of later.opened) v.out_left later.was) in
+      let found : IsPrefix (outbox_of v.closing) later.opened = (image.kept, sym image.holds) in
+      let within : IsPrefix later.opened (outbox_of v.whole) = (
+        image.beginning.0,
+        ap (λ (rs : List OutboxRecord). rs ++ image.beginning.0) image.holds
+            ∙ (append_assoc (outbox_of v.closing) image.kept image.beginning.0 ∙ (ap (λ (rs : List OutboxRecord). outbox_of v.closing ++ rs) image.beginning.1 ∙ v.goes_on)),
+      ) in
+      let first : IsPrefix (outbox_of v.opening) later.opened = prefix_trans (outbox_of v.opening) (outbox_of v.closing) later.opened (opening_closing v) found in (
+        record {
+          opened = outbox_of v.opening;
+          was = told_was sees outboxes r.before.out_disk (records_of_history v.opening) at v.out_opened;
+          begins = begins_on (history_of (outbox_of v.opening)) (history_of later.opened) h (begins_within (outbox_of v.opening) later.opened v.whole first within) later.begins;
+        },
+        subst (λ (x : History). BeginsHistory x h) (history_of-records v.closing)
+            (begins_on (history_of (outbox_of v.closing)) (history_of later.opened) h (begins_within (outbox_of v.closing) later.opened v.whole found within) later.begins),
+      )
+
+  by_boxes : (c : Configuration) (l : StopsAtInput sees c.trade.senders r.before r.after r.status ⊎ Lived G sees c.trade.senders (end_of role c.link) r.before r.after r.status)
+      → Begun outboxes h × BoxesStand G sees role r.before r.after r.status h c l
+  by_boxes c (inl refused) = (unlived (input_kept sees r.before r.after r.status c.trade.senders refused), tt)
+  by_boxes c (inr on) = by_life (end_of role c.link) on.plans on.lived
+
+  by_config : (c : Configuration) (l : EndsBehindConfig G sees role c r.before r.after r.status) → Begun outboxes h × ConfigStands G sees role r.before r.after r.status h c l
+  by_config c (inl refused) = (unlived (boxes_kept sees r.before r.after r.status role c refused), tt)
+  by_config c (inr on) = by_boxes c on.ended
+
+  by_steps : (l : Steps G sees role r.before r.after r.status) → Begun outboxes h × RunStands G sees role r.before r.after r.status h l
+  by_steps (inl stopped) = (unlived (config_kept sees r.before r.after r.status role stopped), tt)
+  by_steps (inr was) = by_config was.configuration was.ended
+
+module _ {S K D N C J : Type 0} (G : Ghosts J) (sees : Sees S K D N) (role : Role) (h : History) (outbox inbox : List ℕ) (is : IsJournal outbox (records_of_history h)) where
+  all_stand : (runs : List (Run S K D N C)) (outboxes inboxes : List ℕ → Type 0) (over : RunsOver sees (IsRun G sees role) runs outboxes inboxes outbox inbox)
+      → Begun outboxes h × AllStand G sees role h outbox inbox runs outboxes inboxes over
+  all_stand [] outboxes inboxes over = (
+    record { opened = outbox_of h; was = (outbox, over.0, is); begins = subst (λ (x : History). BeginsHistory x h) (sym (history_of-records h)) (begins_self h) },
+    tt,
+  )
+  all_stand (r ∷ later) outboxes inboxes over =
+      let rest = all_stand later (sees.may_leave r.after.out_disk) (sees.may_leave r.after.in_disk) over.3 in
+      let here = by_steps G sees role h r outboxes over.0 rest.0 over.2 in
+      (here.0, (here.1, rest.1))
+
+pub closings_stand : {S K D N J : Type 0} (G : Ghosts J) (sees : Sees S K D N) (C : Type 0) → ClosingsStand G sees C
+closings_stand G sees C role h outbox inbox runs over is = (all_stand G sees role h outbox inbox is runs IsEmptyJournal IsEmptyJournal over).1

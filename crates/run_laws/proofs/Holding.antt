@@ -1,0 +1,134 @@
+-- What two ends hold of each other behind any runs of both.
+use Rattle.std.proofs.Common.{◌≡◌, inl, inr, ℕ, ◌+◌, ◌≤◌, ◌^◌, List, [], ◌∷◌, ◌++◌, map, Option, Ok, refl, sym, ap, subst, ◌∙◌, arith}
+use Rattle.std.specs.Prelude.{flat_map}
+use Rattle.std.specs.List.{AllByRecursion, AllZip}
+use Rattle.session_model.specs.Journal.{Entry, OutboxRecord, entries, History}
+use Rattle.session_model.specs.Inbox.{InboxRecord, next_number}
+use Rattle.session_model.specs.Lives.{KeepsOutbox, Chained}
+use Rattle.session_model.proofs.Lists.{prefix_self}
+use Rattle.gate_turn.proofs.Histories.{begins_self}
+use Rattle.fixp_msgs.specs.Payload.{IsApplication}
+use Rattle.fixp_msgs.specs.declared.flow.Flow.{Flow}
+use Rattle.fixp_shake.specs.declared.config.Role.{Role}
+use Rattle.fixp_shake.specs.declared.config.Role.TheVariants.{Initiator, Acceptor}
+use Rattle.gw_links.specs.Links.{Carried}
+use Rattle.two_ends.specs.Meeting.{Holds}
+use Rattle.two_ends.specs.Loops.{LoopLife, lives_of, legs_in, MayTurn}
+use Rattle.two_ends.proofs.Ends.{loops_hold}
+use Rattle.jr_record.specs.declared.journal.Journal.{Ghosts}
+use Rattle.jr_record.specs.Images.{IsJournal}
+use Rattle.jr_record.proofs.Verdicts.{at_most_one_verdict}
+use Rattle.jr_boxes.specs.Outboxes.{record_of, outbox_of}
+use Rattle.jr_boxes.specs.Inboxes.{records_of_inbox}
+use Rattle.cmd_config.specs.Settings.{own_flow, peer_flow}
+use Rattle.life_laws.proofs.Outboxes.{entries-outbox_of}
+use Rattle.cmd_session.specs.Inputs.{configuration_at, end_of}
+use Rattle.cmd_session.specs.Outsides.{Sees}
+use Rattle.run_laws.specs.Several.{Run, Flows, HasFlows, IsEmptyJournal, IsAt, brought, RunsOver, WasRun, HasRun}
+use Rattle.run_laws.specs.Linked.{CarriedOn}
+use Rattle.run_laws.specs.Holding.{RunsHold}
+use Rattle.run_laws.proofs.Refusing.{some_of}
+use Rattle.run_laws.proofs.Telling.{same_outbox, same_inbox}
+use Rattle.run_laws.proofs.Sending.{plan_of}
+use Rattle.run_laws.proofs.Joined.{carried_are_linked}
+use Rattle.run_laws.proofs.Fitted.{configurations_fit}
+use Rattle.run_laws.proofs.Ways.{Ways, ways_of}
+use Rattle.run_laws.proofs.Chaining.{Comes, unlived, lived_on}
+
+abbrev own : Role → Flows → Flow
+own role flows = own_flow role flows.client flows.server
+
+abbrev peer : Role → Flows → Flow
+peer role flows = peer_flow role flows.client flows.server
+
+module _ {S K D N C J : Type 0} (G : Ghosts J) (sees : Sees S K D N) (role : Role) (flows : Flows) (o : List OutboxRecord) (i : List InboxRecord)
+    (payloads : AllByRecursion (λ (e : Entry). IsApplication e.payload) (entries o)) where
+  module _ (r : Run S K D N C) (carried : List (Option Carried)) (outboxes inboxes : List ℕ → Type 0)
+      (out_at : IsAt sees outboxes r.before.out_disk) (in_at : IsAt sees inboxes r.before.in_disk) (was : WasRun G sees role flows r)
+      (later : Comes (own role flows) (peer role flows) (sees.may_leave r.after.out_disk) (sees.may_leave r.after.in_disk) carried o i) where
+    abbrev Now : Type 0
+    Now = Comes (own role flows) (peer role flows) outboxes inboxes (brought sees r ++ carried) o i
+
+    by_way : Ways G sees role r.before r.after r.status → Now
+    by_way (inl kept) = unlived G sees (own role flows) (peer role flows) o i payloads r.before r.after carried outboxes inboxes out_at in_at was.links later kept
+    by_way (inr by) =
+        let c = by.configuration in
+        let t = some_of (sees.left r.before.config) (HasFlows role flows) was.config in
+        let spelled : configuration_at role t.0 ≡ Ok c = by.spelled t.0 t.1 in
+        let same : (c.link.client_flow ≡ flows.client) × (c.link.server_flow ≡ flows.server) = t.2 c spelled in
+        let fits = configurations_fit role t.0 c spelled in
+        lived_on G sees (own role flows) (peer role flows) o i payloads r.before r.after carried outboxes inboxes out_at in_at was.links later (end_of role c.link) by.plans r.status by.lived
+        (ap (λ (f : Flow). own_flow role f c.link.server_flow) same.0 ∙ ap (λ (f : Flow). own_flow role flows.client f) same.1)
+        (ap (λ (f : Flow). peer_flow role f c.link.server_flow) same.0 ∙ ap (λ (f : Flow). peer_flow role flows.client f) same.1)
+        fits.session fits.keepalive fits.credentials
+
+    step : Now
+    step = by_way (ways_of G sees role r.before r.after r.status was.steps)
+
+  comes : (runs : List (Run S K D N C)) (outboxes inboxes : List ℕ → Type 0) (outbox inbox : List ℕ) → IsJournal outbox (map record_of o) → IsJournal inbox (records_of_inbox i)
+      → RunsOver sees (WasRun G sees role flows) runs outboxes inboxes outbox inbox → Comes (own role flows) (peer role flows) outboxes inboxes (flat_map (brought sees) runs) o i
+  comes [] outboxes inboxes outbox inbox out_is in_is over = record {
+    opened = o;
+    waiting = i;
+    lives = [];
+    out_was = (outbox, over.0, out_is);
+    in_was = (inbox, over.1, in_is);
+    begins = prefix_self o;
+    history = begins_self _;
+    chained = (refl, refl);
+    keeps = tt;
+    may_turn = λ few. tt;
+    links = tt;
+  }
+  comes (r ∷ later) outboxes inboxes outbox inbox out_is in_is over =
+      step r (flat_map (brought sees) later) outboxes inboxes over.0 over.1 over.2
+      (comes later (sees.may_leave r.after.out_disk) (sees.may_leave r.after.in_disk) outbox inbox out_is in_is over.3)
+
+-- the lives of an end, from the beginning on
+pub record AreLives (own peer : Flow) (carried : List (Option Carried)) (h : History) (i : List InboxRecord) : Type 0 where
+  pub lives : List LoopLife
+  pub chained : Chained [] [] (lives_of lives) (outbox_of h) i
+  pub keeps : AllByRecursion (KeepsOutbox (plan_of (outbox_of h))) (lives_of lives)
+  pub may_turn : AllByRecursion (MayTurn own peer) lives
+  pub links : AllZip CarriedOn carried (flat_map legs_in lives)
+
+module _ {S K D N C J : Type 0} (G : Ghosts J) (sees : Sees S K D N) (role : Role) (flows : Flows) (runs : List (Run S K D N C)) (h : History) (i : List InboxRecord) (ran : HasRun G sees role flows runs h i) where
+  abbrev from_empty : Type 0
+  from_empty = Comes (own_flow role flows.client flows.server) (peer_flow role flows.client flows.server) IsEmptyJournal IsEmptyJournal (flat_map (brought sees) runs) (outbox_of h) i
+
+  came : from_empty
+  came = comes G sees role flows (outbox_of h) i (subst (λ (es : List Entry). AllByRecursion (λ (e : Entry). IsApplication e.payload) es) (sym (entries-outbox_of h)) ran.payloads)
+      runs IsEmptyJournal IsEmptyJournal ran.outbox ran.inbox ran.outbox_is ran.inbox_is ran.over
+
+  none_opened : came.opened ≡ []
+  none_opened = same_outbox came.opened [] (at_most_one_verdict.one_list came.out_was.0 (map record_of came.opened) [] came.out_was.2 came.out_was.1)
+
+  none_waiting : came.waiting ≡ []
+  none_waiting = same_inbox came.waiting [] (at_most_one_verdict.one_list came.in_was.0 (records_of_inbox came.waiting) [] came.in_was.2 came.in_was.1)
+
+  pub are_lives : AreLives (own_flow role flows.client flows.server) (peer_flow role flows.client flows.server) (flat_map (brought sees) runs) h i
+  are_lives = record {
+    lives = came.lives;
+    chained = subst (λ (rs : List OutboxRecord). Chained rs [] (lives_of came.lives) (outbox_of h) i) none_opened
+        (subst (λ (rs : List InboxRecord). Chained came.opened rs (lives_of came.lives) (outbox_of h) i) none_waiting came.chained);
+    keeps = came.keeps;
+    may_turn = came.may_turn (subst (λ (rs : List InboxRecord). next_number rs ≤ 2 ^ 24 + 1) (sym none_waiting) (omega arith));
+    links = came.links;
+  }
+
+pub runs_hold : {S K D N J : Type 0} (G : Ghosts J) (sees : Sees S K D N) (C : Type 0) → RunsHold G sees C
+runs_hold G sees C flows runs_i runs_a h_i h_a i_i i_a ran_i ran_a linked =
+    let a = are_lives G sees Initiator flows runs_i h_i i_i ran_i in
+    let b = are_lives G sees Acceptor flows runs_a h_a i_a ran_a in
+    let both = loops_hold flows.client flows.server (plan_of (outbox_of h_i)) (plan_of (outbox_of h_a)) a.lives b.lives (outbox_of h_i) (outbox_of h_a) i_i i_a (record {
+      lives_a = a.may_turn;
+      lives_b = b.may_turn;
+      chained_a = a.chained;
+      chained_b = b.chained;
+      outboxes_a = a.keeps;
+      outboxes_b = b.keeps;
+      linked = carried_are_linked (flat_map (brought sees) runs_i) (flat_map (brought sees) runs_a) (flat_map legs_in a.lives) (flat_map legs_in b.lives) a.links b.links linked;
+    }) in (
+      subst (λ (es : List Entry). Holds flows.client es i_a) (entries-outbox_of h_i) both.0,
+      subst (λ (es : List Entry). Holds flows.server es i_i) (entries-outbox_of h_a) both.1,
+    )

@@ -1,0 +1,672 @@
+-- The sample of several runs of two ends, computed.
+use Rattle.std.proofs.Common.{◌≡◌, ◌⊎◌, inl, inr, ℕ, zero, suc, ◌+◌, ◌<◌, ◌≤◌, ◌^◌, Bool, true, false, true≢false, cond, ◌==◌, List, [], ◌∷◌, ◌++◌, map, length, drop, Option, Some, None, Ok, Err, Result, refl, sym, ap, subst, ◌∙◌, append-nil, arith}
+use Rattle.std.specs.Prelude.{option_to_list, IsSomeAnd, IfSome}
+use Rattle.sofh_frame.specs.Framing.{IsBytes}
+use Rattle.std.specs.Option.{ForSome}
+use Rattle.std.specs.List.{All}
+use Rattle.std.proofs.lemmas.Option.{same_Some}
+use Rattle.session_model.specs.Journal.{Entry, OutboxRecord, entry, entries, History, InOrder, counts_from}
+use Rattle.session_model.specs.Inbox.{InboxRecord}
+use Rattle.session_model.specs.Plans.{sent_by}
+use Rattle.session_model.specs.Lives.{IsImage, KeepsConnections, KeepsOutbox}
+use Rattle.session_model.proofs.Lists.{prefix_equal}
+use Rattle.gate_turn.proofs.Histories.{begins_self}
+use Rattle.fixp_msgs.specs.Payload.{IsApplication}
+use Rattle.fixp_shake.specs.declared.config.EndConfig.{EndConfig}
+use Rattle.fixp_shake.specs.declared.config.Role.{Role}
+use Rattle.fixp_shake.specs.declared.config.Role.TheVariants.{Initiator, Acceptor}
+use Rattle.fixp_shake.specs.declared.phase.Phase.TheVariants.{Ended}
+use Rattle.fixp_replies.specs.declared.facts.EndState.{EndState}
+use Rattle.fixp_machine.specs.Machine.{State, fresh, run, link_end, phase_of}
+use Rattle.fixp_machine.specs.Accepting.{model_flow}
+use Rattle.conn_turns.specs.Exact.{line_ticked}
+use Rattle.conn_turns.specs.Lines.{Line, lines_after}
+use Rattle.conn_turns.specs.Turns.{Work, only_sends, works, link_lost, calls_of_frames, closing_calls, outbox_calls, sending_calls}
+use Rattle.gw_links.specs.declared.link.Got.TheVariants as gots
+use Rattle.turn_laws.specs.Turns.{line_received, Works}
+use Rattle.turn_laws.specs.Made.{TurnAt, MadeTurn}
+use Rattle.conn_turns.specs.declared.answer.TurnEnd.TheVariants as turn_ends
+use Rattle.conn_turns.specs.declared.answer.TurnFault.TheVariants as turn_faults
+use Rattle.std.proofs.lemmas.List.Elements.{All-from_recursion}
+use Rattle.connection_laws.specs.Living.{Opens}
+use Rattle.gw_links.specs.Links.{Carried}
+use Rattle.turn_laws.specs.Legs.{TurnedLeg, IsTimely, first_line}
+use Rattle.turn_laws.specs.Standing.{Has}
+use Rattle.two_ends.specs.Meeting.{life_in}
+use Rattle.two_ends.specs.Loops.{machine_life}
+use Rattle.jr_record.specs.declared.journal.Journal.{Ghosts}
+use Rattle.jr_record.specs.Images.{IsJournal, journal_size}
+use Rattle.jr_record.proofs.Verdicts.{at_most_one_verdict}
+use Rattle.jr_boxes.specs.Outboxes.{IsOutbox, record_of, outbox_of, records_of_history}
+use Rattle.jr_boxes.specs.declared.faults.Which.TheVariants.{Outbox, Inbox as InboxBox}
+use Rattle.jr_boxes.specs.declared.inbox.Inbox.{Inbox}
+use Rattle.jr_boxes.specs.Inbox.{HoldsBox, next_of, is_negotiated}
+use Rattle.cmd_config.specs.declared.configuration.Configuration.{Configuration}
+use Rattle.conn_lines.specs.Lines.{connection_line}
+use Rattle.conn_lines.specs.declared.close.Close.TheVariants as closes
+use Rattle.conn_serve.specs.declared.answer.ServeFault.{ServeFault}
+use Rattle.conn_serve.specs.declared.answer.ServeFault.TheVariants as faults
+use Rattle.conn_serve.specs.declared.answer.LifeEnd.{LifeEnd}
+use Rattle.conn_serve.specs.declared.answer.LifeEnd.TheVariants as ends
+use Rattle.conn_serve.specs.Connections.{LinkSeen, Connection, all_of, MadeNoMore, IsConnection, AllEnded, IsFollowed, adds_of, refused_of_all}
+use Rattle.conn_serve.specs.Answers.{answer_of}
+use Rattle.conn_steps.specs.Settling.{HaveRoom}
+use Rattle.gw_outside.specs.Faults.{HasRisen}
+use Rattle.fixp_msgs.specs.declared.flow.Flow.TheVariants.{Recoverable}
+use Rattle.jr_boxes.specs.Inboxes.{records_of_inbox}
+use Rattle.life_laws.specs.PlanLives.{IsOfSender}
+use Rattle.conn_serve.specs.Moments.{life_at}
+use Rattle.conn_serve.specs.Opening.{opened_state, IsUnrefused}
+use Rattle.conn_serve.specs.Served.{ServedLife, IsTold}
+use Rattle.life_laws.specs.Lives.{LifeOfLoop, served_of}
+use Rattle.life_laws.specs.Plans.{plan_in, KeepsPlans, LosesNext, GoesOnWith}
+use Rattle.life_laws.proofs.Lost.{plans_go_on, lost_few}
+use Rattle.life_laws.proofs.Loops.{served_keeps}
+use Rattle.life_laws.proofs.Opened.{opened_opens}
+use Rattle.life_laws.proofs.Outboxes.{entries-outbox_of, plans_keep_outbox}
+use Rattle.cmd_base.specs.declared.status.Status.TheVariants.{OutputFault, DialFault}
+use Rattle.cmd_session.specs.Boxes.{IsBox}
+use Rattle.cmd_session.specs.Inputs.{configuration_at, flow_received, end_of}
+use Rattle.cmd_session.specs.Lived.{LeavesImages, IsOfLife, LivedOver, status_of}
+use Rattle.run_laws.specs.Several.{HasFlows, IsEmptyJournal, IsAt, RunsOver, WasRun, HasRun}
+use Rattle.run_laws.specs.Linked.{no_more, paired}
+use Rattle.run_laws.specs.Samples.{configured, config_text, both_recoverable, message, submitted, nothing, with_one, journal_of, MemoryDisk, IsOneOf, memory, settled, torn, one_left, MemoryOutside, MemoryRun, stopped_run, cut_run, of_initiator, of_acceptor, runs_of_initiator, runs_of_acceptor, RunsSample}
+use Rattle.run_laws.proofs.Fresh.{empty_box}
+use Rattle.run_laws.proofs.Spelled.{spelled_initiator, spelled_acceptor}
+
+-- ---- journals
+
+is_application : IsApplication submitted.payload
+is_application = record { frame = message; admissible = record { least = omega arith; most = omega arith }; application = refl; spelled = refl }
+
+in_order : InOrder (submitted ∷ [])
+in_order s = by_test (1 == s)
+  where
+    by_test : (b : Bool) → map (λ (e : Entry). e.own_number) (cond b (submitted ∷ []) []) ≡ counts_from 1 (length (cond b (submitted ∷ []) []))
+    by_test true = refl
+    by_test false = refl
+
+journal_nothing : IsJournal (journal_of nothing) (records_of_history nothing)
+journal_nothing = record { legal = tt; closed = 0; is_closed = λ e. omega (arith, e); behind = []; whole = refl }
+
+journal_one : IsJournal (journal_of with_one) (records_of_history with_one)
+journal_one = record {
+  legal = (((omega arith, omega arith), (omega arith, omega arith), (omega arith, omega arith)), tt);
+  closed = 0;
+  is_closed = λ e. omega (arith, e);
+  behind = [];
+  whole = refl;
+}
+
+-- what a disk leaves that was settled, or torn, are journals of these
+settled_leaves : (h : History) → IsJournal (journal_of h) (records_of_history h) → LeavesImages (λ content. IsOneOf content (settled h).left) (records_of_history h) []
+settled_leaves h j None left = settled_none left.1
+  where
+    settled_none : IsOneOf left.0 (settled h).left → ⊥
+    settled_none (inl same) = left.2 (records_of_history h) (subst (λ (c : List ℕ). IsJournal c (records_of_history h)) (sym same) j)
+    settled_none (inr none) = none
+settled_leaves h j (Some records) left = by_one left.1
+  where
+    by_one : IsOneOf left.0 (settled h).left → IsImage (records_of_history h) [] records
+    by_one (inl same) = record {
+      kept = [];
+      beginning = ([], refl);
+      holds = at_most_one_verdict.one_list left.0 records (records_of_history h) left.2 (subst (λ (c : List ℕ). IsJournal c (records_of_history h)) (sym same) j) ∙ sym (append-nil (records_of_history h));
+    }
+    by_one (inr none) = absurd none
+
+torn_leaves : LeavesImages (λ content. IsOneOf content torn.left) (records_of_history nothing) (map record_of (entry submitted ∷ []))
+torn_leaves None left = torn_none left.1
+  where
+    torn_none : IsOneOf left.0 torn.left → ⊥
+    torn_none (inl same) = left.2 (records_of_history nothing) (subst (λ (c : List ℕ). IsJournal c (records_of_history nothing)) (sym same) journal_nothing)
+    torn_none (inr (inl same)) = left.2 (records_of_history with_one) (subst (λ (c : List ℕ). IsJournal c (records_of_history with_one)) (sym same) journal_one)
+    torn_none (inr (inr none)) = none
+torn_leaves (Some records) left = by_one left.1
+  where
+    by_one : IsOneOf left.0 torn.left → IsImage (records_of_history nothing) (map record_of (entry submitted ∷ [])) records
+    by_one (inl same) = record {
+      kept = [];
+      beginning = (map record_of (entry submitted ∷ []), refl);
+      holds = at_most_one_verdict.one_list left.0 records (records_of_history nothing) left.2 (subst (λ (c : List ℕ). IsJournal c (records_of_history nothing)) (sym same) journal_nothing);
+    }
+    by_one (inr (inl same)) = record {
+      kept = map record_of (entry submitted ∷ []);
+      beginning = ([], refl);
+      holds = at_most_one_verdict.one_list left.0 records (records_of_history with_one) left.2 (subst (λ (c : List ℕ). IsJournal c (records_of_history with_one)) (sym same) journal_one);
+    }
+    by_one (inr (inr none)) = absurd none
+
+from_one : (P : List ℕ → Type 0) (x content : List ℕ) → P x → IsOneOf content (x ∷ []) → P content
+from_one P x content p (inl same) = subst P (sym same) p
+from_one P x content p (inr none) = absurd none
+
+empty_at : IsAt memory IsEmptyJournal (settled nothing)
+empty_at = record { tells = journal_nothing; leaves = λ content k. from_one IsEmptyJournal (journal_of nothing) content journal_nothing k }
+
+outbox_nothing : IsOutbox (records_of_history nothing) nothing
+outbox_nothing = record { spelled = refl; senders = tt; payloads = tt; in_order = λ s. refl }
+
+outbox_one : IsOutbox (records_of_history with_one) with_one
+outbox_one = record { spelled = refl; senders = ((omega arith, omega arith), tt); payloads = (is_application, tt); in_order = in_order }
+
+told_so : {A : Type 0} (P : A → Type 0) (x : A) → P x → ForSome (Some x) P
+told_so P x p y e = subst P (same_Some x y e) p
+
+-- ---- lives that add nothing to either box
+
+keeps_same : (plans : List (List (List ℕ))) (h : History) → h.finished ≡ false → KeepsPlans plans h h
+keeps_same plans h unmarked = record {
+  begins = begins_self h;
+  each = λ s. record { more = []; behind = sym (append-nil (sent_by h.made s)); planned = (_, refl) };
+  done = λ before after. absurd (true≢false (sym after ∙ before));
+  none = λ e. refl;
+}
+
+module _ {J : Type 0} {G : Ghosts J} (box : Inbox J G) (held : HoldsBox box [] []) (config : EndConfig) (plans : List (List (List ℕ))) (h : History) (lost : List OutboxRecord) (loses : LosesNext plans h h lost)
+    (order : InOrder h.made) (unmarked : h.finished ≡ false) (few : length h.made < 2 ^ 40)
+    (j : IsJournal (journal_of h) (records_of_history h)) (before after : MemoryOutside) (out_is : before.out_disk ≡ settled h) (in_was : before.in_disk ≡ settled nothing) (in_is : after.in_disk ≡ settled nothing)
+    (connections : Result LifeEnd ServeFault) (refused : Option ServeFault) (of_sender : IfSome refused IsOfSender) (result : Result (Unit {0}) ServeFault) (answer : result ≡ answer_of connections refused)
+    (served : ServedLife (life_at (memory.carried before.dialer) (memory.taken before.out) h box) (life_at (memory.carried after.dialer) (memory.taken after.out) h box) (fresh config (opened_state h box) (2 ^ 24)) connections)
+    (adds : adds_of (all_of served.ended served.given_up) ≡ []) (none : refused_of_all (option_to_list served.given_up) ≡ [])
+    (out_left : ∥ LeavesImages (memory.may_leave after.out_disk) (records_of_history h) (map record_of lost) ∥₁)
+    (out_whole : (HasRisen (memory.disk before.out_disk) (memory.disk after.out_disk) → ⊥) → lost ≡ [])
+    (marked : IsUnrefused result → 0 < length plans → h.finished ≡ true)
+    (journal : result ≡ Err faults.Journal → HasRisen (memory.disk before.out_disk) (memory.disk after.out_disk) ⊎ HasRisen (memory.disk before.in_disk) (memory.disk after.in_disk))
+    (not_full : (es bytes : ℕ) → result ≡ Err (faults.Full es bytes) → ⊥) where
+  abbrev machine : State
+  machine = fresh config (opened_state h box) (2 ^ 24)
+
+  abbrev made : List Entry
+  made = entries (outbox_of h)
+
+  has : Has made h
+  has = record { begins = prefix_equal h.made made (sym (entries-outbox_of h)); few = subst (λ (es : List Entry). length es < 2 ^ 40) (sym (entries-outbox_of h)) few }
+
+  opens : Opens made made machine []
+  opens = subst (λ (es : List Entry). Opens es made machine []) (sym (entries-outbox_of h)) (opened_opens box h config (2 ^ 24) made [] (prefix_equal h.made made (sym (entries-outbox_of h))) held)
+
+  life : LifeOfLoop (outbox_of h) (outbox_of h) lost machine [] (all_of served.ended served.given_up) (refused_of_all (option_to_list served.given_up))
+  life = served_keeps box (life_at (memory.carried before.dialer) (memory.taken before.out) h box) (life_at (memory.carried after.dialer) (memory.taken after.out) h box) machine connections (outbox_of h) (outbox_of h) lost [] served has opens
+
+  keeps : KeepsConnections (model_flow config.own_flow) (model_flow config.peer_flow) (entries (life_in (machine_life life.life)).opening_outbox) (entries (life_in (machine_life life.life)).closing_outbox) (served_of life.life)
+  keeps = subst (λ (rs : List OutboxRecord). KeepsConnections (model_flow config.own_flow) (model_flow config.peer_flow) (entries rs) (entries life.life.closing_outbox) (served_of life.life)) (sym life.outboxes.0)
+      (subst (λ (rs : List OutboxRecord). KeepsConnections (model_flow config.own_flow) (model_flow config.peer_flow) made (entries rs) (served_of life.life)) (sym life.outboxes.1) life.keeps)
+
+  goes : GoesOnWith plans h h lost
+  goes = plans_go_on plans h h lost (keeps_same plans h unmarked) loses
+
+  outbox_is_kept : KeepsOutbox (plan_in plans) (life_in (machine_life life.life))
+  outbox_is_kept = plans_keep_outbox plans h h goes.whole (life_in (machine_life life.life)) (keeps_same plans h unmarked) order goes.keeps (goes.in_order order) life.outboxes.0 life.outboxes.1
+      (ap (λ (rs : List OutboxRecord). rs ++ life.life.refused_outbox) life.outboxes.1 ∙ (ap (λ (rs : List OutboxRecord). outbox_of h ++ rs) life.outboxes.2 ∙ goes.goes_on))
+      (subst (λ (rs : List OutboxRecord). length rs ≤ 1) (sym life.outboxes.2) (lost_few plans h h lost loses))
+      (_, sym life.keeps.inbox_adds)
+
+  abbrev quiet : LivedOver memory config plans before after box box result
+  quiet = record {
+    opening = h;
+    closing = h;
+    inbox = [];
+    seen = h;
+    connections = connections;
+    refused = refused;
+    out_opened = subst (λ (d : MemoryDisk). ForSome (memory.told d) (λ content. IsJournal content (records_of_history h))) (sym out_is) (told_so (λ content. IsJournal content (records_of_history h)) (journal_of h) j);
+    in_opened = subst (λ (d : MemoryDisk). ForSome (memory.told d) (λ content. IsJournal content [])) (sym in_was) (told_so (λ content. IsJournal content []) (journal_of nothing) journal_nothing);
+    holds = held;
+    served = served;
+    answer = answer;
+    refusal = of_sender;
+    lost = lost;
+    loses = loses;
+    whole = goes.whole;
+    goes_on = goes.goes_on;
+    in_order = goes.in_order order;
+    keeps = goes.keeps;
+    life = life;
+    contract = record { connections = keeps; outbox = outbox_is_kept };
+    out_left = out_left;
+    out_whole = out_whole;
+    in_left = subst (λ (d : MemoryDisk). LeavesImages (memory.may_leave d) (records_of_inbox ([] ++ adds_of (all_of served.ended served.given_up))) (records_of_inbox (refused_of_all (option_to_list served.given_up)))) (sym in_is)
+        (subst (λ (rs : List InboxRecord). LeavesImages (memory.may_leave (settled nothing)) (records_of_inbox rs) (records_of_inbox (refused_of_all (option_to_list served.given_up)))) (sym adds)
+        (subst (λ (rs : List InboxRecord). LeavesImages (memory.may_leave (settled nothing)) [] (records_of_inbox rs)) (sym none) (settled_leaves nothing journal_nothing)));
+    room = subst (λ (rs : List InboxRecord). HaveRoom (2 ^ 30) (journal_size []) (rs ++ refused_of_all (option_to_list served.given_up))) (sym adds)
+        (subst (λ (rs : List InboxRecord). HaveRoom (2 ^ 30) (journal_size []) rs) (sym none) tt);
+    marked = marked;
+    none = λ e. refl;
+    journal = journal;
+    full = λ es bytes e. absurd (not_full es bytes e);
+  }
+
+journal_not_full : (es bytes : ℕ) → (◌≡◌ {A = Result (Unit {0}) ServeFault} (Err faults.Journal) (Err (faults.Full es bytes))) → ⊥
+journal_not_full es bytes e = cc
+
+cut_not_full : (es bytes : ℕ) → (◌≡◌ {A = Result (Unit {0}) ServeFault} (Err (faults.Unfinished Ended)) (Err (faults.Full es bytes))) → ⊥
+cut_not_full es bytes e = cc
+
+cut_no_journal : (◌≡◌ {A = Result (Unit {0}) ServeFault} (Err (faults.Unfinished Ended)) (Err faults.Journal)) → ⊥
+cut_no_journal e = cc
+
+not_full_stopped : (es bytes : ℕ) → (◌≡◌ {A = Result LifeEnd ServeFault} (Ok ends.Stopped) (Err (faults.Full es bytes))) → ⊥
+not_full_stopped es bytes e = cc
+
+not_full_cut : (es bytes : ℕ) → (◌≡◌ {A = Result LifeEnd ServeFault} (Err (faults.Unfinished Ended)) (Err (faults.Full es bytes))) → ⊥
+not_full_cut es bytes e = cc
+
+-- ---- the first run of either end: no connection came, and the append of the entry failed
+
+abbrev first_plans : List (List (List ℕ))
+first_plans = (submitted.payload ∷ []) ∷ []
+
+loses_first : LosesNext first_plans nothing nothing (entry submitted ∷ [])
+loses_first = inr (refl, inl (record { sender = 1; payload = submitted.payload; next = refl; is = refl }))
+
+module _ {J : Type 0} {G : Ghosts J} (box : Inbox J G) (held : HoldsBox box [] []) (role : Role) (text : List ℕ) where
+  abbrev first : MemoryRun
+  first = stopped_run text
+
+  abbrev none_served : ServedLife (life_at (Some one_left) (Some []) nothing box) (life_at (Some one_left) (Some []) nothing box) (fresh (end_of role configured.link) (opened_state nothing box) (2 ^ 24)) (Ok ends.Stopped)
+  none_served = record {
+    ended = [];
+    given_up = None;
+    behind = nothing;
+    mid = fresh (end_of role configured.link) (opened_state nothing box) (2 ^ 24);
+    were = (refl, refl);
+    gave_up = refl;
+    followed = tt;
+    timely = tt;
+    refuses = record { holds = λ i holds. subst (λ (rs : List InboxRecord). HoldsBox box rs []) (sym (append-nil i)) holds; room = tt };
+    lines = record { earlier = []; late = []; are = refl; few = inl ([], omega arith, refl); told = record { between = Some []; first = refl; last = refl } };
+    came = record { back = refl; left = refl };
+    tells = λ told k d lt. absurd (omega (arith, lt));
+    answer = λ k d lt. absurd (omega (arith, lt));
+    past = λ es bytes e. absurd (not_full_stopped es bytes e);
+  }
+
+  abbrev first_lived : LivedOver memory (end_of role configured.link) first_plans first.before first.after box box (Err faults.Journal)
+  first_lived = quiet box held (end_of role configured.link) first_plans nothing (entry submitted ∷ []) loses_first (λ s. refl) refl (omega arith) journal_nothing first.before first.after refl refl refl
+      (Ok ends.Stopped) (Some faults.Journal) tt (Err faults.Journal) refl none_served refl refl ∣ torn_leaves ∣₁ (λ never. absurd (never (omega arith))) (λ unrefused some. absurd (true≢false (sym unrefused)))
+      (λ e. inl (omega arith)) journal_not_full
+
+one_of : (P : Connection → Type 0) (c : Connection) → P c → All P (c ∷ [])
+one_of P c p zero d lt = p
+one_of P c p (suc k) d lt = absurd (omega (arith, lt))
+
+-- ---- the second run: the one connection ended as its link failed
+
+module _ {J : Type 0} {G : Ghosts J} (box : Inbox J G) (held : HoldsBox box [] []) (role : Role) (h : History) (mid : State) (link : LinkSeen) (leg : TurnedLeg) (carried : Carried) where
+  abbrev connection : Connection
+  connection = record { link = link; leg = leg; news = []; adds = []; refused = []; wanted = []; close = Some closes.LinkFault; carried = Some carried }
+
+  abbrev cut_served : AllEnded h h (fresh (end_of role configured.link) (opened_state h box) (2 ^ 24)) mid (connection ∷ []) → phase_of mid ≡ Ended → IsTimely leg
+      → ServedLife (life_at (Some one_left) (Some []) h box) (life_at (Some (record { left = 0; back = Some carried ∷ [] })) (Some (connection_line 1 closes.LinkFault)) h box)
+      (fresh (end_of role configured.link) (opened_state h box) (2 ^ 24)) (Err (faults.Unfinished Ended))
+  cut_served ended phase timely = record {
+    ended = connection ∷ [];
+    given_up = None;
+    behind = h;
+    mid = mid;
+    were = ended;
+    gave_up = refl;
+    followed = tt;
+    timely = (timely, tt);
+    refuses = record { holds = λ i holds. subst (λ (rs : List InboxRecord). HoldsBox box rs []) (sym (append-nil i)) holds; room = tt };
+    lines = record {
+      earlier = [];
+      late = connection_line 1 closes.LinkFault ++ [];
+      are = refl;
+      few = inr (1, Some closes.LinkFault, append-nil (connection_line 1 closes.LinkFault));
+      told = record { between = Some []; first = refl; last = sym (append-nil (connection_line 1 closes.LinkFault)) };
+    };
+    came = record { back = refl; left = refl };
+    tells = λ told. one_of IsTold connection refl;
+    answer = (one_of IsFollowed connection tt, refl, sym phase, refl);
+    past = λ es bytes e. absurd (not_full_cut es bytes e);
+  }
+
+  module _ (order : InOrder h.made) (unmarked : h.finished ≡ false) (few : length h.made < 2 ^ 40) (j : IsJournal (journal_of h) (records_of_history h)) (text : List ℕ)
+      (ended : AllEnded h h (fresh (end_of role configured.link) (opened_state h box) (2 ^ 24)) mid (connection ∷ [])) (phase : phase_of mid ≡ Ended) (timely : IsTimely leg) where
+    abbrev second : MemoryRun
+    second = cut_run text h carried
+
+    abbrev second_lived : LivedOver memory (end_of role configured.link) [] second.before second.after box box (Err (faults.Unfinished Ended))
+    second_lived = quiet box held (end_of role configured.link) [] h [] (inl refl) order unmarked few j second.before second.after refl refl refl (Err (faults.Unfinished Ended)) None tt (Err (faults.Unfinished Ended)) refl
+        (cut_served ended phase timely) refl refl ∣ settled_leaves h j ∣₁ (λ never. refl) (λ unrefused some. absurd (omega (arith, some))) (λ e. absurd (cut_no_journal e)) cut_not_full
+
+-- what is recorded as a life opens on an inbox without records
+abbrev found_state : History → EndState
+found_state h = record { negotiated = false; inbox_next = 1; peer_last = None; sent = length h.made; finish = None }
+
+opened_is : {J : Type 0} {G : Ghosts J} (box : Inbox J G) → HoldsBox box [] [] → (es : List Entry) → found_state (record { made = es; finished = false }) ≡ opened_state (record { made = es; finished = false }) box
+opened_is box held es =
+    ap (λ (b : Bool). record { negotiated = b; inbox_next = 1; peer_last = None; sent = length es; finish = None }) (sym held.noticed.negotiated)
+    ∙ (ap (λ (n : ℕ). record { negotiated = is_negotiated box; inbox_next = n; peer_last = None; sent = length es; finish = None }) (sym held.noticed.next)
+    ∙ ap (λ (o : Option ℕ). record { negotiated = is_negotiated box; inbox_next = next_of box; peer_last = o; sent = length es; finish = None }) (sym held.noticed.peer_last))
+
+-- ---- links that tell what they carried and nothing else, by a clock that gives 0, and each of which failed once
+
+abbrev at_carried : Carried → History → Line → TurnAt
+at_carried carried h line = record { told = None; carried = Some carried; seen = h; clock = 0; line = line }
+
+abbrev carried_nothing : Carried
+carried_nothing = record { given = []; taken = [] }
+
+abbrev failing : (first end : TurnAt) → LinkSeen
+failing first end = record { eager = true; first = first; end = end; faults_before = 0; faults_behind = 1 }
+
+no_more_at : (carried : Carried) (h : History) (line : Line) → MadeNoMore (at_carried carried h line) (at_carried carried h line)
+no_more_at carried h line = record {
+  moved = record {
+    tells = tt;
+    carries = ap (λ (bs : List ℕ). Some (record { given = bs; taken = carried.taken })) (sym (append-nil carried.given))
+        ∙ ap (λ (bs : List ℕ). Some (record { given = carried.given ++ []; taken = bs })) (sym (append-nil carried.taken));
+  };
+  clock = omega arith;
+}
+
+not_lost : {A : Type 0} → true ≡ false → A
+not_lost e = absurd (true≢false e)
+
+-- ---- the initiator's link took three bytes, and failed
+
+abbrev start_i : State
+start_i = fresh (end_of Initiator configured.link) (found_state with_one) (2 ^ 24)
+
+abbrev ticked_i : Line
+ticked_i = line_ticked (first_line start_i 0) 0
+
+abbrev last_i : Line
+last_i = record ticked_i { machine = run ticked_i.machine (sending_calls of_initiator.taken true) }
+
+abbrev leg_i : TurnedLeg
+leg_i = record { moment = 0; turns = only_sends 0 of_initiator.taken true ∷ []; cut = None }
+
+abbrev first_i : TurnAt
+first_i = at_carried carried_nothing with_one (first_line start_i 0)
+
+abbrev end_i : TurnAt
+end_i = at_carried of_initiator with_one last_i
+
+abbrev link_i : LinkSeen
+link_i = failing first_i end_i
+
+abbrev connection_i : Connection
+connection_i = record { link = link_i; leg = leg_i; news = []; adds = []; refused = []; wanted = []; close = Some closes.LinkFault; carried = Some of_initiator }
+
+unsent_i : first_i.line.machine.unsent ≡ [] → ⊥
+unsent_i none = let e : 0 ∷ (drop 1 first_i.line.machine.unsent) ≡ [] = none in absurd cc
+
+sent_i : MadeTurn true first_i end_i (only_sends 0 of_initiator.taken true)
+sent_i = record {
+  result = Err turn_faults.Link;
+  is = (record { front = (drop 3 ticked_i.machine.unsent, refl); line = refl }, refl);
+  does = (inl unsent_i, record { whole = not_lost; full = λ e. absurd (true≢false e); answer = λ e. (refl, refl, refl); kept = not_lost });
+  moved = record { tells = tt; carries = refl };
+  moment = refl;
+  clock = omega arith;
+}
+
+is_i : IsConnection with_one with_one start_i last_i connection_i
+is_i = record {
+  began = record { seen_is = refl; line = refl; time = refl };
+  behind = end_i;
+  line = refl;
+  told = [];
+  added = [];
+  turns = (refl, end_i, sent_i, [], [], refl, refl, (refl, refl, refl));
+  grows = begins_self with_one;
+  cut_told = [];
+  cut_added = [];
+  cut = (refl, refl, refl, refl, no_more_at of_initiator with_one last_i);
+  news = refl;
+  adds = refl;
+}
+
+ended_i : AllEnded with_one with_one start_i last_i.machine (connection_i ∷ [])
+ended_i = (
+  with_one,
+  last_i.machine,
+  record { last = last_i; is = is_i; machine = refl; whole = refl; close = closes.LinkFault; closed = refl; ending = refl; lost = λ e. omega arith; carried = (refl, refl) },
+  (refl, refl),
+)
+
+-- ---- the acceptor's link gave two of them, and then it failed too
+
+abbrev start_a : State
+start_a = fresh (end_of Acceptor configured.link) (found_state nothing) (2 ^ 24)
+
+abbrev begun_a : Line
+begun_a = first_line start_a 0
+
+abbrev heard : Work
+heard = record {
+  now = 0;
+  got = Some (gots.Bytes 2);
+  received = of_acceptor.given;
+  frames = [];
+  broken = None;
+  link_over = false;
+  again = None;
+  live = None;
+  at_again = nothing;
+  at_live = nothing;
+  at_finish = nothing;
+  finish = None;
+  sent = [];
+  lost = false;
+}
+
+abbrev received_a : Line
+received_a = line_received begun_a 0 of_acceptor.given heard.got
+
+abbrev served_a : Line
+served_a = record {
+  machine = run received_a.machine (calls_of_frames 0 [] ++ (closing_calls heard ++ outbox_calls heard));
+  held = (lines_after 0 received_a []).held;
+  place = (lines_after 0 received_a []).place;
+  over = (lines_after 0 received_a []).over;
+}
+
+abbrev mid_a : Line
+mid_a = record served_a { machine = run served_a.machine (sending_calls [] false) }
+
+works_a : Works nothing nothing begun_a mid_a heard
+works_a = record {
+  behind = served_a;
+  served = record {
+    frames = tt;
+    few = omega arith;
+    last = inr (inr (inr refl));
+    broken = refl;
+    link_over = refl;
+    again = refl;
+    live = refl;
+    finish = refl;
+    seen_again = begins_self nothing;
+    seen_live = begins_self nothing;
+    seen_finish = begins_self nothing;
+    seen = refl;
+    machine = refl;
+    held = refl;
+    place = refl;
+    over = refl;
+  };
+  sends = record { front = (served_a.machine.unsent, refl); line = refl };
+}
+
+abbrev ticked_a : Line
+ticked_a = line_ticked mid_a 0
+
+abbrev last_a : Line
+last_a = record ticked_a { machine = run ticked_a.machine (link_end ∷ []) }
+
+abbrev leg_a : TurnedLeg
+leg_a = record { moment = 0; turns = works heard ∷ link_lost 0 ∷ []; cut = None }
+
+abbrev first_a : TurnAt
+first_a = at_carried carried_nothing nothing begun_a
+
+abbrev between_a : TurnAt
+between_a = at_carried of_acceptor nothing mid_a
+
+abbrev end_a : TurnAt
+end_a = at_carried of_acceptor nothing last_a
+
+abbrev link_a : LinkSeen
+link_a = failing first_a end_a
+
+abbrev connection_a : Connection
+connection_a = record { link = link_a; leg = leg_a; news = []; adds = []; refused = []; wanted = []; close = Some closes.LinkFault; carried = Some of_acceptor }
+
+heard_a : MadeTurn true first_a between_a (works heard)
+heard_a = record {
+  result = Ok turn_ends.Go;
+  is = works_a;
+  does = (
+    (refl, refl),
+    λ room e. let f : room + 0 ≡ 32780 = e in record { some = omega (arith, f); counts = refl; answers = tt; lesser = λ is. tt },
+    record { whole = λ e. refl; full = λ e some. tt; answer = λ e. absurd (true≢false (sym e)); kept = λ e. refl },
+  );
+  moved = record { tells = tt; carries = refl };
+  moment = refl;
+  clock = omega arith;
+}
+
+lost_a : MadeTurn true between_a end_a (link_lost 0)
+lost_a = record {
+  result = Err turn_faults.Link;
+  is = (refl, refl);
+  does = ((refl, refl), (refl, refl, refl));
+  moved = record { tells = tt; carries = refl };
+  moment = refl;
+  clock = omega arith;
+}
+
+is_a : IsConnection nothing nothing start_a last_a connection_a
+is_a = record {
+  began = record { seen_is = refl; line = refl; time = refl };
+  behind = end_a;
+  line = refl;
+  told = [];
+  added = [];
+  turns = (refl, between_a, heard_a, [], [], refl, refl, (refl, end_a, lost_a, [], [], refl, refl, (refl, refl, refl)));
+  grows = begins_self nothing;
+  cut_told = [];
+  cut_added = [];
+  cut = (refl, refl, refl, refl, no_more_at of_acceptor nothing last_a);
+  news = refl;
+  adds = refl;
+}
+
+ended_a : AllEnded nothing nothing start_a last_a.machine (connection_a ∷ [])
+ended_a = (
+  nothing,
+  last_a.machine,
+  record { last = last_a; is = is_a; machine = refl; whole = refl; close = closes.LinkFault; closed = refl; ending = refl; lost = λ e. omega arith; carried = (refl, refl) },
+  (refl, refl),
+)
+
+no_bytes : IsBytes []
+no_bytes k d lt = absurd (omega (arith, lt))
+
+timely_i : IsTimely leg_i
+timely_i = record { begins = omega arith; turns = (record { bytes = no_bytes; time = omega arith }, tt) }
+
+timely_a : IsTimely leg_a
+timely_a = record {
+  begins = omega arith;
+  turns = (
+    record { bytes = All-from_recursion (λ (b : ℕ). b < 256) of_acceptor.given (omega arith, (omega arith, tt)); time = omega arith },
+    (record { bytes = no_bytes; time = omega arith }, tt),
+  );
+}
+
+-- ---- the runs of either end
+
+module _ {J : Type 0} {G : Ghosts J} (box : Inbox J G) (held : HoldsBox box [] []) (role : Role) (text : List ℕ) (spelled : configuration_at role text ≡ Ok configured) where
+  was : (r : MemoryRun) (h : History) (plans : List (List (List ℕ))) (result : Result (Unit {0}) ServeFault) → r.before.config ≡ Some text → r.before.input ≡ None → r.before.out_disk ≡ settled h → r.before.in_disk ≡ settled nothing
+      → IsJournal (journal_of h) (records_of_history h) → IsOutbox (records_of_history h) h → r.status ≡ status_of result → IsOfLife r.status → (r.status ≡ OutputFault → ⊥) → (r.status ≡ DialFault → ⊥)
+      → LivedOver memory (end_of role configured.link) plans r.before r.after box box result → WasRun G memory role both_recoverable r
+  was r h plans result config input out_is in_is j outbox status of_life no_output no_dial life = record {
+    config = subst (λ (o : Option (List ℕ)). IsSomeAnd o (HasFlows role both_recoverable)) (sym config)
+        (λ c e. let same : configured ≡ c = cc (sym spelled ∙ e) in subst (λ (d : Configuration). (d.link.client_flow ≡ Recoverable) × (d.link.server_flow ≡ Recoverable)) same (refl, refl));
+    links = refl;
+    steps = inr (record {
+      configuration = configured;
+      spelled = λ other e. subst (λ (t : List ℕ). configuration_at role t ≡ Ok configured) (same_Some text other (sym config ∙ e)) spelled;
+      ended = inr (record {
+        boxes = record {
+          outbox = subst (λ (d : MemoryDisk). ForSome (memory.told d) (IsBox Outbox (flow_received role configured.link))) (sym out_is)
+              (told_so (IsBox Outbox (flow_received role configured.link)) (journal_of h) (record { records = records_of_history h; journal = j; those = (h, outbox) }));
+          inbox = subst (λ (d : MemoryDisk). ForSome (memory.told d) (IsBox InboxBox (flow_received role configured.link))) (sym in_is)
+              (told_so (IsBox InboxBox (flow_received role configured.link)) (journal_of nothing) (empty_box InboxBox (flow_received role configured.link) (journal_of nothing) journal_nothing));
+        };
+        ended = inr (record {
+          plans = plans;
+          life = record {
+            planned = λ other e. absurd (let d = sym input ∙ e in cc);
+            of_life = of_life;
+            output = λ e. absurd (no_output e);
+            dial = λ e. absurd (no_dial e);
+          };
+          lived = inr (record { old = box; new = box; result = result; status_is = status; over = life });
+        });
+      });
+    });
+  }
+
+  -- the first run
+  first_was : WasRun G memory role both_recoverable (stopped_run text)
+  first_was = was (stopped_run text) nothing first_plans (Err faults.Journal) refl refl refl refl journal_nothing outbox_nothing refl tt (λ e. cc) (λ e. cc) (first_lived box held role text)
+
+  -- both, where the second found this history
+  runs_over : (h : History) (carried : Carried) → IsOneOf (journal_of h) torn.left → WasRun G memory role both_recoverable (cut_run text h carried)
+      → RunsOver memory (WasRun G memory role both_recoverable) (stopped_run text ∷ cut_run text h carried ∷ []) IsEmptyJournal IsEmptyJournal (journal_of h) (journal_of nothing)
+  runs_over h carried among second = (
+    empty_at,
+    empty_at,
+    first_was,
+    (
+      record { tells = among; leaves = λ content k. from_one (λ c. IsOneOf c torn.left) (journal_of h) content among k },
+      record { tells = inl refl; leaves = λ content k. k },
+      second,
+      (inl refl, inl refl),
+    ),
+  )
+
+module _ {J : Type 0} {G : Ghosts J} (box : Inbox J G) where
+  ran_i : HoldsBox box [] [] → (text : List ℕ) → configuration_at Initiator text ≡ Ok configured → HasRun G memory Initiator both_recoverable (runs_of_initiator text) with_one []
+  ran_i held text spelled =
+      let ended : AllEnded with_one with_one (fresh (end_of Initiator configured.link) (opened_state with_one box) (2 ^ 24)) last_i.machine (connection_i ∷ []) =
+      subst (λ (s : EndState). AllEnded with_one with_one (fresh (end_of Initiator configured.link) s (2 ^ 24)) last_i.machine (connection_i ∷ [])) (opened_is box held (submitted ∷ [])) ended_i in
+      record {
+        outbox = journal_of with_one;
+        inbox = journal_of nothing;
+        over = runs_over box held Initiator text spelled with_one of_initiator (inr (inl refl))
+            (was box held Initiator text spelled (cut_run text with_one of_initiator) with_one [] (Err (faults.Unfinished Ended)) refl refl refl refl journal_one outbox_one refl tt (λ e. cc) (λ e. cc)
+            (second_lived box held Initiator with_one last_i.machine link_i leg_i of_initiator in_order refl (omega arith) journal_one text ended refl timely_i));
+        outbox_is = journal_one;
+        inbox_is = journal_nothing;
+        payloads = (is_application, tt);
+      }
+
+  ran_a : HoldsBox box [] [] → (text : List ℕ) → configuration_at Acceptor text ≡ Ok configured → HasRun G memory Acceptor both_recoverable (runs_of_acceptor text) nothing []
+  ran_a held text spelled =
+      let ended : AllEnded nothing nothing (fresh (end_of Acceptor configured.link) (opened_state nothing box) (2 ^ 24)) last_a.machine (connection_a ∷ []) =
+      subst (λ (s : EndState). AllEnded nothing nothing (fresh (end_of Acceptor configured.link) s (2 ^ 24)) last_a.machine (connection_a ∷ [])) (opened_is box held []) ended_a in
+      record {
+        outbox = journal_of nothing;
+        inbox = journal_of nothing;
+        over = runs_over box held Acceptor text spelled nothing of_acceptor (inl refl)
+            (was box held Acceptor text spelled (cut_run text nothing of_acceptor) nothing [] (Err (faults.Unfinished Ended)) refl refl refl refl journal_nothing outbox_nothing refl tt (λ e. cc) (λ e. cc)
+            (second_lived box held Acceptor nothing last_a.machine link_a leg_a of_acceptor (λ s. refl) refl (omega arith) journal_nothing text ended refl timely_a));
+        outbox_is = journal_nothing;
+        inbox_is = journal_nothing;
+        payloads = tt;
+      }
+
+  pub runs_sample : RunsSample box
+  runs_sample holds = (
+    ran_i holds config_text spelled_initiator,
+    ran_a holds config_text spelled_acceptor,
+    paired ([], refl) (0 ∷ [], refl) no_more,
+  )

@@ -1,0 +1,75 @@
+-- A run kept both disks, each by itself, or lived over them.
+use Rattle.std.proofs.Common.{◌≡◌, ◌⊎◌, inl, inr, ℕ, List, ap, subst}
+use Rattle.fixp_shake.specs.declared.config.Role.{Role}
+use Rattle.jr_record.specs.declared.journal.Journal.{Ghosts}
+use Rattle.cmd_base.specs.declared.status.Status.{Status}
+use Rattle.cmd_config.specs.declared.configuration.Configuration.{Configuration}
+use Rattle.cmd_session.specs.Inputs.{IsConfigured, ArePlanned, flow_received, end_of}
+use Rattle.cmd_session.specs.Lived.{IsKept, LeftAll, HasLivedOver, Lived}
+use Rattle.cmd_session.specs.Outsides.{Sees, disks_of}
+use Rattle.cmd_session.specs.Steps.{RefusedBoxes, StopsAtConfig, StopsAtBoxes, StopsAtInput, EndsBehindConfig, Steps}
+use Rattle.cmd_session.specs.declared.outside.SessionOutside.{SessionOutside}
+
+module _ {S K D N : Type 0} (sees : Sees S K D N) where
+  -- a disk that is as it was is kept
+  pub same_kept : (before after : D) → after ≡ before → IsKept sees.told sees.may_leave before after
+  same_kept before after same = inl (record { tells = ap sees.told same; leaves = λ content left. subst (λ (d : D). sees.may_leave d content) same left })
+
+  module _ {C : Type 0} where
+    -- no life was lived: both disks are kept, and the dialer is as it was
+    pub record Unlived (before after : SessionOutside S K D N C) : Type 0 where
+      pub outbox : IsKept sees.told sees.may_leave before.out_disk after.out_disk
+      pub inbox : IsKept sees.told sees.may_leave before.in_disk after.in_disk
+      pub dialer_is : after.dialer ≡ before.dialer
+
+    module _ (before after : SessionOutside S K D N C) (status : Status) where
+      pub config_kept : (role : Role) → StopsAtConfig sees role before after status → Unlived before after
+      config_kept role s = record {
+        outbox = same_kept before.out_disk after.out_disk s.kept.out_disk;
+        inbox = same_kept before.in_disk after.in_disk s.kept.behind.in_disk;
+        dialer_is = s.kept.behind.behind.live.dialer;
+      }
+
+      pub boxes_kept : (role : Role) (c : Configuration) → StopsAtBoxes sees role c before after status → Unlived before after
+      boxes_kept role c s = by_box s.refused
+        where
+          by_box : RefusedBoxes sees.told sees.may_leave sees.disk (flow_received role c.link) (disks_of before) (disks_of after) status → Unlived before after
+          by_box (inl o) = record { outbox = o.outbox_kept; inbox = same_kept before.in_disk after.in_disk o.inbox_is; dialer_is = s.kept.live.dialer }
+          by_box (inr i) = record { outbox = inr i.outbox_kept; inbox = i.inbox_kept; dialer_is = s.kept.live.dialer }
+
+      pub input_kept : (senders : ℕ) → StopsAtInput sees senders before after status → Unlived before after
+      input_kept senders s = record { outbox = inr s.left.outbox; inbox = inr s.left.inbox; dialer_is = s.refused.live.dialer }
+
+      pub unbegun_kept : LeftAll sees before after status → Unlived before after
+      unbegun_kept l = record { outbox = inr l.left.outbox; inbox = inr l.left.inbox; dialer_is = l.dialer_is }
+
+module _ {S K D N C J : Type 0} (G : Ghosts J) (sees : Sees S K D N) (role : Role) (before after : SessionOutside S K D N C) (status : Status) where
+  -- it lived over both, by the configuration that CONFIG spells and the plans that INPUT has
+  pub record LivedBy : Type 0 where
+    pub configuration : Configuration
+    pub spelled : IsConfigured role (sees.left before.config) configuration
+    pub plans : List (List (List ℕ))
+    pub planned : ArePlanned configuration.trade.senders (sees.left before.input) plans
+    pub lived : HasLivedOver G sees (end_of role configuration.link) plans before after status
+
+  abbrev pub Ways : Type 0
+  Ways = Unlived sees before after ⊎ LivedBy
+
+  by_life : (c : Configuration) → IsConfigured role (sees.left before.config) c → (on : Lived G sees c.trade.senders (end_of role c.link) before after status)
+      → LeftAll sees before after status ⊎ HasLivedOver G sees (end_of role c.link) on.plans before after status → Ways
+  by_life c spelled on (inl left) = inl (unbegun_kept sees before after status left)
+  by_life c spelled on (inr lived) = inr (record { configuration = c; spelled = spelled; plans = on.plans; planned = on.life.planned; lived = lived })
+
+  by_boxes : (c : Configuration) → IsConfigured role (sees.left before.config) c
+      → StopsAtInput sees c.trade.senders before after status ⊎ Lived G sees c.trade.senders (end_of role c.link) before after status → Ways
+  by_boxes c spelled (inl refused) = inl (input_kept sees before after status c.trade.senders refused)
+  by_boxes c spelled (inr on) = by_life c spelled on on.lived
+
+  by_config : (c : Configuration) → IsConfigured role (sees.left before.config) c → EndsBehindConfig G sees role c before after status → Ways
+  by_config c spelled (inl refused) = inl (boxes_kept sees before after status role c refused)
+  by_config c spelled (inr on) = by_boxes c spelled on.ended
+
+  -- which of both a run did
+  pub ways_of : Steps G sees role before after status → Ways
+  ways_of (inl stopped) = inl (config_kept sees before after status role stopped)
+  ways_of (inr was) = by_config was.configuration was.spelled was.ended

@@ -1,0 +1,51 @@
+-- What the outbox of an end holds of its senders behind any runs, over INPUTs that go on from run to run.
+use Rattle.std.specs.Prelude.{◌≡◌, ℕ, true, Contains, List, [], IsSomeAnd}
+use mathlib.Core.List.{IsPrefix}
+use Rattle.session_model.specs.Journal.{History, InOrder}
+use Rattle.session_model.specs.Plans.{sent_by}
+use Rattle.fixp_shake.specs.declared.config.Role.{Role}
+use Rattle.plan_text.specs.Plans.{HasPlans}
+use Rattle.jr_record.specs.declared.journal.Journal.{Ghosts}
+use Rattle.jr_record.specs.Images.{IsJournal}
+use Rattle.jr_boxes.specs.Outboxes.{records_of_history}
+use Rattle.life_laws.specs.Plans.{plan_in}
+use Rattle.cmd_session.specs.Outsides.{Sees}
+use Rattle.run_laws.specs.Several.{Run, IsEmptyJournal, RunsOver, IsRun}
+
+-- whatever plans a text has, each is a beginning of the plan of its sender
+abbrev pub IsPartOf : (ℕ → List (List ℕ)) → List ℕ → Type 0
+IsPartOf plan text = (senders : ℕ) (plans : List (List (List ℕ))) → HasPlans senders text plans → (s : ℕ) → IsPrefix (plan_in plans s []) (plan s)
+
+-- a text has plans, all of which were sent
+pub record AllSent (h : History) (text : List ℕ) : Type 0 where
+  pub senders : ℕ
+  pub plans : List (List (List ℕ))
+  pub has : HasPlans senders text plans
+  pub sent : (s : ℕ) → IsPrefix (plan_in plans s []) (sent_by h.made s)
+
+module _ {S K D N C : Type 0} where
+  -- of one of some runs all of INPUT was sent
+  pub record SomeSent (sees : Sees S K D N) (runs : List (Run S K D N C)) (h : History) : Type 0 where
+    pub run : Run S K D N C
+    pub among : Contains runs run
+    pub all : IsSomeAnd (sees.left run.before.input) (AllSent h)
+
+  -- The outbox holds each sender's messages once and in order, as many of its plan as were submitted; and where it has its finish, all that
+  -- the INPUT of one of the runs had
+  pub record HoldsSent (sees : Sees S K D N) (plan : ℕ → List (List ℕ)) (runs : List (Run S K D N C)) (h : History) : Type 0 where
+    pub in_order : InOrder h.made
+    pub planned : (s : ℕ) → IsPrefix (sent_by h.made s) (plan s)
+    pub finished : h.finished ≡ true → SomeSent sees runs h
+
+module _ {S K D N C J : Type 0} where
+  -- a run whose INPUT tells a part of this plan
+  pub record SendsPart (G : Ghosts J) (sees : Sees S K D N) (role : Role) (plan : ℕ → List (List ℕ)) (r : Run S K D N C) : Type 0 where
+    pub input : IsSomeAnd (sees.left r.before.input) (IsPartOf plan)
+    pub steps : IsRun G sees role r
+
+module _ {S K D N J : Type 0} where
+  -- So it is behind any runs of one end, from journals without records on, whatever its peer does
+  abbrev pub SendersHold : Ghosts J → Sees S K D N → (C : Type 0) → Type 0
+  SendersHold G sees C = (role : Role) (plan : ℕ → List (List ℕ)) (runs : List (Run S K D N C)) (outbox inbox : List ℕ) (h : History)
+      → RunsOver sees (SendsPart G sees role plan) runs IsEmptyJournal IsEmptyJournal outbox inbox → IsJournal outbox (records_of_history h)
+      → HoldsSent sees plan runs h

@@ -1,0 +1,53 @@
+-- What a run acknowledged stands in the outbox behind all later runs: the history that its life closed on begins the one that is left.
+use Rattle.std.specs.Prelude.{⊤, ◌⊎◌, ℕ, List, [], ◌∷◌}
+use Rattle.std.proofs.Common.{inl, inr}
+use Rattle.session_model.specs.Journal.{History, BeginsHistory}
+use Rattle.fixp_shake.specs.declared.config.EndConfig.{EndConfig}
+use Rattle.fixp_shake.specs.declared.config.Role.{Role}
+use Rattle.jr_record.specs.declared.journal.Journal.{Ghosts}
+use Rattle.jr_record.specs.Images.{IsJournal}
+use Rattle.jr_boxes.specs.Outboxes.{records_of_history}
+use Rattle.cmd_base.specs.declared.status.Status.{Status}
+use Rattle.cmd_config.specs.declared.configuration.Configuration.{Configuration}
+use Rattle.cmd_session.specs.Inputs.{end_of}
+use Rattle.cmd_session.specs.Lived.{LeftAll, HasLivedOver, Lived}
+use Rattle.cmd_session.specs.Outsides.{Sees}
+use Rattle.cmd_session.specs.Steps.{StopsAtInput, EndsBehindConfig, Steps}
+use Rattle.cmd_session.specs.declared.outside.SessionOutside.{SessionOutside}
+use Rattle.run_laws.specs.Several.{Run, IsEmptyJournal, RunsOver, IsRun}
+
+module _ {S K D N C J : Type 0} (G : Ghosts J) (sees : Sees S K D N) (role : Role) (before after : SessionOutside S K D N C) (status : Status) where
+  -- what a life closed on, if one was lived, begins this history
+  abbrev pub LifeStands : (h : History) (config : EndConfig) (plans : List (List (List ℕ)))
+      → LeftAll sees before after status ⊎ HasLivedOver G sees config plans before after status → Type 0
+  LifeStands h config plans (inl left) = ⊤
+  LifeStands h config plans (inr lived) = BeginsHistory lived.over.closing h
+
+  abbrev pub BoxesStand : (h : History) (c : Configuration)
+      → StopsAtInput sees c.trade.senders before after status ⊎ Lived G sees c.trade.senders (end_of role c.link) before after status → Type 0
+  BoxesStand h c (inl refused) = ⊤
+  BoxesStand h c (inr life) = LifeStands h (end_of role c.link) life.plans life.lived
+
+  abbrev pub ConfigStands : (h : History) (c : Configuration) → EndsBehindConfig G sees role c before after status → Type 0
+  ConfigStands h c (inl refused) = ⊤
+  ConfigStands h c (inr on) = BoxesStand h c on.ended
+
+  abbrev pub RunStands : (h : History) → Steps G sees role before after status → Type 0
+  RunStands h (inl stopped) = ⊤
+  RunStands h (inr was) = ConfigStands h was.configuration was.ended
+
+module _ {S K D N C J : Type 0} (G : Ghosts J) (sees : Sees S K D N) (role : Role) (h : History) (outbox inbox : List ℕ) where
+  abbrev pub AllStand : (runs : List (Run S K D N C)) (outboxes inboxes : List ℕ → Type 0)
+      → RunsOver sees (IsRun G sees role) runs outboxes inboxes outbox inbox → Type 0
+  AllStand [] outboxes inboxes over = ⊤
+  AllStand (r ∷ later) outboxes inboxes over =
+      RunStands G sees role r.before r.after r.status h over.2
+      × AllStand later (sees.may_leave r.after.out_disk) (sees.may_leave r.after.in_disk) over.3
+
+module _ {S K D N J : Type 0} where
+  -- so it is behind any runs of one end, whatever its peer does, of whatever history a stop may leave
+  abbrev pub ClosingsStand : Ghosts J → Sees S K D N → (C : Type 0) → Type 0
+  ClosingsStand G sees C = (role : Role) (h : History) (outbox inbox : List ℕ) (runs : List (Run S K D N C))
+      → (over : RunsOver sees (IsRun G sees role) runs IsEmptyJournal IsEmptyJournal outbox inbox)
+      → IsJournal outbox (records_of_history h)
+      → AllStand G sees role h outbox inbox runs IsEmptyJournal IsEmptyJournal over
