@@ -1,6 +1,6 @@
 -- What appends and reads answer, from what was added and what was read.
 use Rattle.std.specs.Prelude.{◌↔◌, is_some, slice_get}
-use Rattle.std.proofs.Common.{◌≡◌, ℕ, zero, suc, ◌+◌, ◌-◌, ◌<◌, ◌≤◌, Bool, true, false, List, [], ◌∷◌, ◌++◌, Option, Some, None, length, take, refl, sym, ◌∙◌, ap, subst, arith, length-append}
+use Rattle.std.proofs.Common.{◌≡◌, ℕ, zero, suc, ◌+◌, ◌-◌, ◌≤◌, true, List, [], ◌∷◌, ◌++◌, Option, Some, None, length, take, refl, sym, ◌∙◌, ap, subst, arith, length-append}
 use Rattle.std.proofs.Math.Logic.{∥∥₁_map, ∥∥₁_elim}
 use Rattle.std.proofs.lemmas.Bool.{false≢true}
 use Rattle.std.specs.Option.{ForSome}
@@ -9,12 +9,12 @@ use Rattle.gw_outside.specs.Disk.{LeavesSame}
 use Rattle.jr_record.specs.declared.record.Record.{Record}
 use Rattle.std.specs.List.{AllByRecursion}
 use Rattle.jr_record.specs.Records.{IsRecord}
-use Rattle.jr_dated.specs.Dated.{Dated, IsDated, spelled}
-use Rattle.jr_dated.specs.Images.{IsJournal, Leaves, sizes}
+use Rattle.jr_dated.specs.Dated.{Dated}
+use Rattle.jr_dated.specs.Images.{IsJournal, Leaves}
 use Rattle.jr_dated.specs.Journals.{Unchanged}
 use Rattle.jr_segments.specs.Numbers.{numbers_of}
 use Rattle.jr_segments.specs.Resting.{Keeps, SomeRest, places_from}
-use Rattle.jr_segments.specs.Reading.{Spans, Fetched, IsThere}
+use Rattle.jr_segments.specs.Reading.{Spans, Fetched}
 use Rattle.jr_segments.specs.Fronts.{length-places_from}
 use Rattle.jr_segments.specs.Settled.{closed_holds}
 use Rattle.jr_segments.specs.Journal.{StandsFor, MayLeave, HasAdded}

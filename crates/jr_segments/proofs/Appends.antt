@@ -1,12 +1,10 @@
 -- What adding records to a journal answers and leaves.
-use Rattle.std.proofs.Common.{◌≡◌, ◌⊎◌, ⊎_elim, ℕ, ◌+◌, ◌-◌, ◌*◌, ◌<◌, ◌≤◌, ◌^◌, Bool, true, false, List, [], ◌∷◌, ◌++◌, Option, Some, Err, length, refl, sym, ◌∙◌, ap, subst, arith, length-append}
+use Rattle.std.proofs.Common.{◌≡◌, ℕ, ◌+◌, ◌-◌, ◌<◌, ◌≤◌, ◌^◌, List, [], ◌∷◌, ◌++◌, Some, sym, ◌∙◌, ap, subst, arith}
 use Rattle.std.proofs.Math.Logic.{∥∥₁_map}
 use Rattle.std.proofs.lemmas.Bool.{false≢true}
-use Rattle.std.proofs.lemmas.List.{append-nil}
 use Rattle.std.specs.List.{AllByRecursion}
 use Rattle.std.specs.Option.{ForSome}
 use Rattle.gw_outside.specs.declared.disk.Disk.{Ghosts}
-use Rattle.gw_outside.specs.Disk.{LeavesSame}
 use Rattle.jr_record.specs.declared.record.Record.{Record}
 use Rattle.jr_record.specs.Records.{IsRecord}
 use Rattle.jr_log.specs.Behind.{AllClosed}
@@ -14,8 +12,8 @@ use Rattle.jr_dated.specs.Dated.{Dated, IsDated, dated, undated}
 use Rattle.jr_dated.specs.Images.{IsJournal, Leaves, sizes}
 use Rattle.jr_dated.specs.Journals.{Holds, HoldsEither, Unchanged}
 use Rattle.jr_segments.specs.Numbers.{numbers_of}
-use Rattle.jr_segments.specs.Resting.{Keeps, Rests, SomeRest, front_of, places_from}
-use Rattle.jr_segments.specs.Fronts.{all-append, dated_legal, dated_within, undated-append, undated-dated, places_from-append, sizes-append, length-places_from, sizes_least}
+use Rattle.jr_segments.specs.Resting.{Keeps, SomeRest, front_of, places_from}
+use Rattle.jr_segments.specs.Fronts.{all-append, dated_legal, dated_within, undated-append, undated-dated, places_from-append, sizes-append}
 use Rattle.jr_segments.specs.Settled.{closed_holds, closed_by, settled, left_either}
 use Rattle.jr_segments.specs.Journal.{StandsFor, MayLeave, IsSame, HasAdded, HasFailed}
 use Rattle.jr_segments.specs.declared.journal.SegJournal.{SegJournal}

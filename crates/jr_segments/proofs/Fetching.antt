@@ -1,9 +1,9 @@
 -- What was read at a record's place.
-use Rattle.std.proofs.Common.{◌≡◌, ℕ, ◌+◌, ◌-◌, ◌<◌, ◌≤◌, min, List, [], ◌∷◌, ◌++◌, Option, Some, None, length, take, drop, refl, sym, ◌∙◌, ap, subst, arith, length-append}
+use Rattle.std.proofs.Common.{◌≡◌, ℕ, ◌+◌, ◌<◌, ◌≤◌, List, [], ◌++◌, Option, Some, None, length, take, drop, sym, ◌∙◌, ap, arith, length-append}
 use Rattle.std.proofs.lemmas.List.{append-nil, length-take, length-drop, nil_from_length, take_all}
 use Rattle.std.specs.Option.{ForSome}
 use Rattle.gw_outside.specs.Disk.{ReadsAt}
-use Rattle.jr_dated.specs.Dated.{Dated, IsDated, BeginsWith, spelled}
+use Rattle.jr_dated.specs.Dated.{Dated, BeginsWith, spelled}
 use Rattle.jr_dated.specs.Images.{record_size}
 use Rattle.jr_dated.proofs.Spelling.{one, length-spelled}
 use Rattle.jr_segments.specs.Reading.{Fetched, IsFitting, IsThere}

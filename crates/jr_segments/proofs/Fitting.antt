@@ -6,7 +6,7 @@ use Rattle.std.specs.List.{AllByRecursion}
 use Rattle.jr_record.specs.declared.record.Record.{Record}
 use Rattle.jr_record.specs.Records.{IsRecord, is_control}
 use Rattle.jr_dated.specs.declared.limits.Limits.{Limits}
-use Rattle.jr_dated.specs.Images.{record_size, sizes}
+use Rattle.jr_dated.specs.Images.{record_size}
 use Rattle.jr_dated.specs.Journals.{fitting}
 
 -- those looked at fit, and leave this room

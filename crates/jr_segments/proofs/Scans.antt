@@ -1,7 +1,6 @@
 -- Reading on: what was taken, and what is left.
 use Rattle.std.proofs.Common.{◌≡◌, inl, inr, ◌⊎◌, ℕ, ◌+◌, ◌-◌, ◌<◌, ◌≤◌, ◌^◌, max, Bool, true, false, List, [], ◌∷◌, ◌++◌, Option, Some, None, length, take, drop, refl, sym, ◌∙◌, ap, subst, arith, append_assoc, length-append, take-append-drop}
 use Rattle.std.proofs.lemmas.List.{append-nil, drop_all, drop-drop, length-take, take-take}
-use Rattle.std.specs.List.{AllByRecursion}
 use Rattle.std.specs.Option.{ForSome}
 use Rattle.std.specs.Prelude.{IfSome, nat_eq}
 use Rattle.gw_outside.specs.Disk.{ReadsAt}
@@ -12,8 +11,8 @@ use Rattle.jr_record.specs.Images.{gated, Breaks}
 use Rattle.std.proofs.lemmas.Bool.Decides.{nat_tests}
 use Rattle.jr_log.specs.Opening.{IsClosed}
 use Rattle.jr_dated.specs.declared.formats.Format.{Format}
-use Rattle.jr_dated.specs.Dated.{Dated, stamped, latest_of}
-use Rattle.jr_dated.specs.Formats.{header_of, LegalIn, spelled_in, IsJournalIn, IsDamagedIn}
+use Rattle.jr_dated.specs.Dated.{Dated, stamped}
+use Rattle.jr_dated.specs.Formats.{header_of, LegalIn, spelled_in, IsDamagedIn}
 use Rattle.jr_dated.proofs.Sizes.{length-header, most_in}
 use Rattle.jr_segments.specs.Numbers.{numbers_of}
 use Rattle.jr_segments.specs.Opening.{places_by, Refuses, LacksHeader, Takes, IsRead, IsFound}

@@ -1,5 +1,5 @@
 -- The records in front of the closed byte are those that an image holds.
-use Rattle.std.proofs.Common.{◌≡◌, ℕ, ◌+◌, ◌*◌, ◌<◌, ◌≤◌, ◌^◌, max, List, [], ◌∷◌, ◌++◌, length, take, get_or, refl, sym, ◌∙◌, ap, subst, arith, append_assoc, length-append}
+use Rattle.std.proofs.Common.{◌≡◌, ℕ, ◌+◌, ◌*◌, ◌<◌, ◌≤◌, ◌^◌, max, List, [], ◌∷◌, ◌++◌, length, take, get_or, refl, sym, ◌∙◌, ap, arith, append_assoc, length-append}
 use Rattle.std.proofs.lemmas.List.{take_at, get_or_at}
 use Rattle.std.proofs.lemmas.Grind.{flat_map-append}
 use Rattle.std.specs.List.{AllByRecursion}
@@ -7,8 +7,8 @@ use Rattle.jr_record.specs.declared.record.Record.{Record}
 use Rattle.jr_record.specs.Records.{IsRecord}
 use Rattle.jr_record.specs.Images.{gated}
 use Rattle.jr_log.specs.Behind.{IsClosedBehind, GoesOn}
-use Rattle.jr_dated.specs.Dated.{Dated, IsDated, spelled, dated, stamped, undated, latest_of}
-use Rattle.jr_dated.specs.Images.{header, IsJournal, record_size, sizes, journal_size}
+use Rattle.jr_dated.specs.Dated.{Dated, IsDated, spelled, dated, undated, latest_of}
+use Rattle.jr_dated.specs.Images.{header, IsJournal, record_size, sizes}
 use Rattle.jr_dated.proofs.Spelling.{length-spelled}
 use Rattle.jr_segments.specs.Opening.{places_by}
 use Rattle.jr_segments.specs.Resting.{front_of, places_from}

@@ -1,16 +1,12 @@
 -- What every journal that keeps the places of its records promises, from what it keeps.
-use Rattle.std.specs.Prelude.{◌≡◌, ℕ, ◌+◌, ◌*◌, ◌<◌, ◌≤◌, ◌^◌, List, [], Option, Some, None, length, true, is_some}
+use Rattle.std.specs.Prelude.{◌≡◌, ℕ, ◌+◌, ◌*◌, ◌<◌, ◌≤◌, ◌^◌, List, Option, Some, None, length, true, is_some}
 use Rattle.std.proofs.Common.{arith, refl, sym, ap, ◌∙◌}
-use Rattle.std.proofs.Math.Logic.{∥∥₁_map}
 use Rattle.std.proofs.lemmas.Bool.{false≢true}
 use Rattle.std.specs.Option.{ForSome}
-use Rattle.gw_outside.specs.declared.disk.Disk.{Ghosts}
-use Rattle.session_model.specs.Lives.{IsImage}
 use Rattle.jr_dated.specs.Dated.{Dated, undated}
 use Rattle.jr_dated.specs.Images.{IsJournal, journal_size}
-use Rattle.jr_dated.specs.Journals.{Holds}
 use Rattle.jr_dated.proofs.Verdicts.{at_most_one_verdict}
-use Rattle.jr_segments.specs.Resting.{Keeps, places_from}
+use Rattle.jr_segments.specs.Resting.{Keeps}
 use Rattle.jr_segments.specs.Fronts.{length-places_from, length-undated}
 
 -- as many records as places, and its size

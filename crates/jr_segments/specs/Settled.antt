@@ -10,7 +10,7 @@ use Rattle.jr_log.specs.Behind.{IsClosedBehind, AllClosed}
 use Rattle.jr_dated.specs.Dated.{Dated, IsDated}
 use Rattle.jr_dated.specs.Images.{IsJournal, Leaves}
 use Rattle.jr_dated.proofs.Verdicts.{at_most_one_verdict}
-use Rattle.jr_segments.specs.Resting.{front_of, Rests, SomeRest}
+use Rattle.jr_segments.specs.Resting.{front_of, SomeRest}
 
 -- an image that is closed behind the records holds them
 pub closed_holds : (h : List Dated) (image : List ℕ) → AllByRecursion IsDated h → IsClosedBehind (front_of h) image → IsJournal image h

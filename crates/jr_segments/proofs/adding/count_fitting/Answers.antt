@@ -1,6 +1,6 @@
-use Rattle.std.proofs.Common.{◌∷◌, List, subst, rules}
+use Rattle.std.proofs.Common.{List, subst, rules}
 use Rattle.jr_record.specs.declared.record.Record.{Record}
-use Rattle.jr_segments.proofs.Fitting.{Looked, begin, one_more, none_more, all_fit}
+use Rattle.jr_segments.proofs.Fitting.{Looked, begin, one_more}
 use Rattle.jr_segments.proofs.adding.count_fitting.Goals as goal
 
 pub loop-r-init : goal.loop-r-init

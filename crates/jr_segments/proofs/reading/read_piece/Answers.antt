@@ -1,8 +1,5 @@
-use Rattle.std.proofs.Common.{◌≡◌, ◌≤◌, length, sym, ◌∙◌, subst, Bool, true, rules}
-use Rattle.std.specs.Prelude.{IsTrue}
-use Rattle.std.proofs.lemmas.Bool.{false≢true}
+use Rattle.std.proofs.Common.{◌≡◌, length, rules}
 use Rattle.jr_dated.specs.Dated.{dated_of}
-use Rattle.jr_segments.specs.Reading.{Fetched}
 use Rattle.jr_segments.proofs.Scans.{told_reads}
 use Rattle.jr_segments.proofs.Fetching.{fetched, not_fetched, short_read}
 use Rattle.jr_segments.proofs.reading.read_piece.Goals as goal

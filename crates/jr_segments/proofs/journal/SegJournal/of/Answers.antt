@@ -1,4 +1,4 @@
-use Rattle.std.proofs.Common.{◌≡◌, ℕ, List, refl, sym, ◌∙◌}
+use Rattle.std.proofs.Common.{refl}
 use Rattle.jr_segments.proofs.Adds.{found_keeps, found_closed, found_early, found_few}
 use Rattle.jr_segments.proofs.Appends.{holds_rest}
 use Rattle.jr_segments.proofs.journal.SegJournal.of.Goals as goal

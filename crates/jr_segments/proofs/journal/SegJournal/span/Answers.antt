@@ -1,4 +1,4 @@
-use Rattle.std.proofs.Common.{arith, rules}
+use Rattle.std.proofs.Common.{arith}
 use Rattle.jr_segments.specs.Numbers.{numbers_of}
 use Rattle.jr_segments.proofs.Spanning.{spans_at}
 use Rattle.jr_segments.proofs.journal.SegJournal.span.Goals as goal

@@ -1,6 +1,5 @@
-use Rattle.std.proofs.Common.{◌≡◌, ℕ, ◌-◌, ◌+◌, ◌<◌, ◌≤◌, ◌∷◌, ◌++◌, List, [], length, true, refl, sym, ◌∙◌, ap, subst, arith, rules}
+use Rattle.std.proofs.Common.{◌∷◌, List, [], ap, subst, arith}
 use Rattle.jr_record.specs.declared.record.Record.{Record}
-use Rattle.jr_segments.specs.Numbers.{numbers_of}
 use Rattle.jr_segments.specs.Journal.{HasAdded, HasFailed}
 use Rattle.jr_segments.proofs.Appends.{same_unchanged, added_holds, failed_either}
 use Rattle.jr_segments.proofs.Answering.{added_counts}

@@ -1,9 +1,8 @@
-use Rattle.std.proofs.Common.{◌≡◌, ℕ, ◌-◌, ◌+◌, ◌<◌, ◌≤◌, ◌∷◌, ◌++◌, List, [], length, take, true, refl, sym, ◌∙◌, ap, subst, arith, rules}
+use Rattle.std.proofs.Common.{◌≡◌, List, length, take, sym, ◌∙◌, ap, subst, arith, rules}
 use Rattle.std.proofs.lemmas.List.{length-take-le, take_all}
 use Rattle.std.specs.List.{AllByRecursion}
 use Rattle.jr_record.specs.declared.record.Record.{Record}
 use Rattle.jr_record.specs.Records.{IsRecord}
-use Rattle.jr_dated.specs.Dated.{Dated, dated}
 use Rattle.jr_dated.specs.Journals.{fitting}
 use Rattle.jr_segments.specs.Journal.{HasAdded, HasFailed}
 use Rattle.jr_segments.proofs.Appends.{same_unchanged, added_holds, failed_either}

@@ -1,8 +1,6 @@
-use Rattle.std.proofs.Common.{◌≡◌, ℕ, List, Option, Some, None, length, true, refl, sym, ◌∙◌, ap, subst, arith, rules}
-use Rattle.jr_record.specs.declared.record.Record.{Record}
-use Rattle.jr_dated.specs.Dated.{Dated, stamped, dated_of}
+use Rattle.std.proofs.Common.{◌≡◌, refl}
+use Rattle.jr_dated.specs.Dated.{stamped}
 use Rattle.jr_segments.specs.Numbers.{numbers_of}
-use Rattle.jr_segments.specs.Reading.{Fetched}
 use Rattle.jr_segments.proofs.Answering.{some_same, read_unchanged, read_found, read_none}
 use Rattle.jr_segments.proofs.journal.SegJournalJournal.read.Goals as goal
 

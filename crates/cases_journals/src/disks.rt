@@ -1,0 +1,124 @@
+//! Disks in memory, and the steps that are taken on one which no journal holds.
+
+use cases_words::{digits, halves, number};
+use gw_fakes::{MemDisk, Pick};
+use jr_dated::Limits;
+use jr_segments::{SegJournal, format};
+use std::alloc::{AllocError, Global};
+
+/// The room of each disk, in bytes.
+pub const ROOM: usize = 4096;
+
+/// Limits that no case meets but those that give their own.
+pub const WIDE: Limits = Limits {
+    entries: 1000,
+    bytes: 100_000,
+};
+
+/// The most device calls that an opening is looked for at.
+const MOST: u64 = 64;
+
+/// The limits that a case gives, `within ENTRIES BYTES`.
+pub fn limits_of(disk: &str) -> Limits {
+    let ("within", limits) = halves(disk) else {
+        return WIDE;
+    };
+    let (entries, bytes) = halves(limits);
+    Limits {
+        entries: number(entries).min(1 << 26),
+        bytes: number(bytes).min(1 << 33),
+    }
+}
+
+/// The disk of a case: empty, or formatted, or `then` the one that was left. That formatting was refused would show at the opening.
+pub fn begun(alloc: Global, disk: &str, left: MemDisk) -> Result<MemDisk, AllocError> {
+    if disk == "then" {
+        return Ok(left);
+    }
+    let mut made = MemDisk::without_faults(alloc, ROOM)?;
+    if disk != "empty" {
+        let _ = format(&mut made);
+    }
+    Ok(made)
+}
+
+/// The disk, which lets the calls of an opening pass and so many more.
+fn fused_behind_opening(alloc: Global, disk: MemDisk, more: u64) -> MemDisk {
+    let mut disk = disk;
+    for calls in 0..MOST {
+        disk.fuse(calls);
+        match SegJournal::open(alloc, disk, WIDE) {
+            Ok(journal) => {
+                let mut disk = journal.close();
+                disk.fuse(calls + more.min(MOST));
+                return disk;
+            }
+            Err((back, _fault)) => disk = back,
+        }
+    }
+    disk
+}
+
+/// A fuse, `CALLS`, or `CALLS behind opening`.
+fn fused(alloc: Global, disk: MemDisk, words: &str) -> MemDisk {
+    let (calls, behind) = halves(words);
+    if behind == "behind opening" {
+        return fused_behind_opening(alloc, disk, number(calls));
+    }
+    let mut disk = disk;
+    disk.fuse(number(calls));
+    disk
+}
+
+/// A stop that leaves what a word says of the writes that no sync followed.
+fn stopped(disk: MemDisk, word: &str) -> MemDisk {
+    disk.stop(match word {
+        "old" => Pick::Old,
+        "kept" => Pick::Kept,
+        _ => Pick::Noise,
+    })
+}
+
+/// Formats a disk, also as a journal without moments, or tells its content.
+fn add_told(
+    alloc: Global,
+    disk: &mut MemDisk,
+    kind: &str,
+    told: &mut String,
+) -> Result<(), AllocError> {
+    match kind {
+        "format" => {
+            let answer = format(disk);
+            write!(told, " -> {answer:?}")
+        }
+        "content" => {
+            let content = digits(alloc, disk.content())?;
+            write!(told, " -> {content}")
+        }
+        "plain" => {
+            let answer = jr_log::format(disk);
+            write!(told, " -> {answer:?}")
+        }
+        _ => told.push_str(" -> no step"),
+    }
+}
+
+/// A step on a disk.
+pub fn on_disk(
+    alloc: Global,
+    disk: MemDisk,
+    words: &str,
+    told: &mut String,
+) -> Result<MemDisk, AllocError> {
+    write!(told, " {words}")?;
+    let (kind, others) = halves(words);
+    match kind {
+        "fuse" => Ok(fused(alloc, disk, others)),
+        "stop" => Ok(stopped(disk, others)),
+        _ => {
+            let mut disk = disk;
+            add_told(alloc, &mut disk, kind, told)?;
+            Ok(disk)
+        }
+    }
+}

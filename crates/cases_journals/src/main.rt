@@ -1,0 +1,77 @@
+//! Cases of journals with moments: reads `journals.txt`, plays each line on a disk in memory of its own, and prints its steps with
+//! what each gave. What it has to print stands in `stdout`, worked out by hand from the format.
+#![tactic(auto)]
+
+mod disks;
+mod opened;
+mod records;
+
+use crate::disks::{begun, limits_of};
+use crate::opened::step;
+use cases_words::{asked, begins};
+use gw_fakes::MemDisk;
+use jr_dated::Limits;
+use std::alloc::{AllocError, Global};
+use std::rt::Files;
+use std::{fs, io};
+
+/// Takes the steps on a disk, one behind another.
+fn play(
+    alloc: Global,
+    disk: MemDisk,
+    limits: Limits,
+    steps: &str,
+    told: &mut String,
+) -> Result<MemDisk, AllocError> {
+    let mut disk = disk;
+    for words in steps.split("; ") {
+        disk = step(alloc, disk, limits, words, told)?;
+        told.push_str(";")?;
+    }
+    Ok(disk)
+}
+
+/// What a case shows, `DISK: STEP; STEP; ..`, where a disk was left behind. A note stands as it is.
+fn add_line(
+    alloc: Global,
+    left: MemDisk,
+    line: &str,
+    told: &mut String,
+) -> Result<MemDisk, AllocError> {
+    match line.split_once(": ") {
+        Some((disk, steps)) if !line.starts_with("#") => {
+            write!(told, "{disk}:")?;
+            play(
+                alloc,
+                begun(alloc, disk, left)?,
+                limits_of(disk),
+                steps,
+                told,
+            )
+        }
+        _ => {
+            told.push_str(line)?;
+            Ok(left)
+        }
+    }
+}
+
+/// Prints what the cases show.
+fn print<R: Files + Print + AllocGlobal>(rt: &R) -> io::Result<()> {
+    let text = fs::read_to_string(rt, "journals.txt")?;
+    let mut disk = MemDisk::without_faults(rt.alloc(), 0)?;
+    for line in text.lines() {
+        let mut told = String::new(rt.alloc());
+        disk = add_line(rt.alloc(), disk, line, &mut told)?;
+        rt.println(told)?;
+    }
+    Ok(())
+}
+
+fn main(rt: HostRuntime) -> io::Result<()> {
+    let asked = asked(&rt)?;
+    if begins(&rt, &asked, "journals")? {
+        print(&rt)?;
+    }
+    Ok(())
+}
