@@ -1,5 +1,5 @@
 -- The entries that are fetched of an outbox: their payloads, their numbers, how many they are, and how long their payloads.
-use Rattle.std.proofs.Common.{◌≡◌, ℕ, zero, suc, ◌+◌, ◌-◌, ◌<◌, min, All, List, [], ◌∷◌, length, take, drop, get_or, refl, sym, ap, subst, ◌∙◌, arith, length-drop}
+use Rattle.std.proofs.Common.{◌≡◌, ℕ, suc, ◌+◌, ◌-◌, min, All, List, [], ◌∷◌, length, take, drop, refl, sym, ap, subst, ◌∙◌, length-drop}
 use Rattle.std.proofs.lemmas.List.{length-take}
 use Rattle.session_model.specs.Inbox.{Numbered}
 use Rattle.session_model.specs.Journal.{Entry, History, payloads}
@@ -37,18 +37,6 @@ length_fetched h from most =
 pub sized : {es given : List Numbered} → es ≡ given → All (λ (m : Numbered). IsPayload m.payload) given → All (λ (m : Numbered). IsPayload m.payload) es
 sized same all = subst (All (λ (m : Numbered). IsPayload m.payload)) (sym same) all
 
--- the number of one of some entries
-pub counted_at : (es : List Numbered) (first i : ℕ) (d : Numbered) → AreFrom first es → i < length es → (get_or es i d).number ≡ first + i
-counted_at [] first i d from within = absurd (omega arith)
-counted_at (m ∷ es) first zero d from within = omega (arith, ap (λ (ns : List ℕ). get_or ns 0 0) from)
-counted_at (m ∷ es) first (suc i) d from within =
-    omega (arith, counted_at es (first + 1) i d (ap (λ (ns : List ℕ). drop 1 ns) from) (omega arith))
-
 pub length_payloads : (es : List Numbered) → length (payloads_of es) ≡ length es
 length_payloads [] = refl
 length_payloads (m ∷ es) = ap (λ (n : ℕ). suc n) (length_payloads es)
-
--- one past the number of the last of some entries behind those sent is below 2^40 where that is
-pub few_last : (sent n last : ℕ) → sent < 1099511627776 → last < 1099511627776 → (0 < n → last + 1 ≡ (sent + 1) + n) → sent + n < 1099511627776
-few_last sent zero last s l h = omega arith
-few_last sent (suc k) last s l h = let e = h (omega arith) in omega arith

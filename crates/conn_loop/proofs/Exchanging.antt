@@ -1,5 +1,5 @@
 -- A turn's receive, work and sending, put together.
-use Rattle.std.proofs.Common.{◌≡◌, inl, inr, ◌<◌, ℕ, Bool, true, List, [], ◌++◌, ◌≤◌, length, Option, Some, None, Result, Ok, Err, refl, sym, ap, subst, ◌∙◌, arith, append-nil}
+use Rattle.std.proofs.Common.{◌≡◌, inl, inr, ⊎_elim, ◌+◌, ◌<◌, ℕ, Bool, true, false, List, [], ◌++◌, ◌≤◌, length, Option, Some, None, Result, Ok, Err, refl, sym, ap, subst, ◌∙◌, arith, append-nil, true≢false}
 use Rattle.std.specs.Prelude.{IsSome, ◌⊎◌, ◌≢◌, OnOk, IfOk, IfErr}
 use Rattle.gw_links.specs.Links.{LinkTold, Carried, Moved}
 use Rattle.gw_links.specs.declared.link.Got.{Got}
@@ -18,17 +18,18 @@ use Rattle.conn_turns.specs.Frames.{added, told}
 use Rattle.conn_turns.specs.Turns.{Work}
 use Rattle.conn_turns.specs.Exact.{Served, line_ticked}
 use Rattle.conn_steps.specs.Settling.{Gains}
+use Rattle.fixp_shake.specs.Flows.{is_absent}
 use Rattle.fixp_shake.specs.declared.config.EndConfig.{EndConfig}
 use Rattle.fixp_replies.specs.declared.facts.Facts.{Facts}
 use Rattle.gate_turn.specs.Views.{Part}
 use Rattle.conn_turns.specs.declared.answer.TurnFault.TheVariants as faults
 use Rattle.conn_steps.specs.Agreeing.{Agrees}
-use Rattle.conn_loop.specs.Conn.{answer_of, GoesOn, HasSeen, KeepsAll, MayServe}
+use Rattle.conn_loop.specs.Conn.{answer_of, GoesOn, HasSeen, HasLooked, KeepsAll, MayServe}
 use Rattle.conn_loop.specs.Moving.{ReceivedOnce, SentOnce, IsLossOf}
 use Rattle.conn_loop.proofs.Working.{seen_same}
 use Rattle.conn_loop.specs.Turned.{received_by, ServedFrames, DidWork, Exchanged, CutWork, DidTurn, CutTurn, Leaves}
 use Rattle.conn_steps.specs.Ends.{taking_end}
-use Rattle.conn_loop.specs.Live.{LiveEnd}
+use Rattle.conn_loop.specs.Live.{EndAt}
 
 -- a turn that answers that the connection goes on left it open
 pub goes_on : (o : Option Ending) → ends.Go ≡ answer_of o → o ≡ None
@@ -87,8 +88,23 @@ goes_still now old l new g limit begun done untold moment config facts small k s
   credentials = omega (arith, ap (λ (x : EndConfig). length x.credentials) (k.config ∙ config), g.credentials);
 }
 
+-- a turn that only sent does not look; where it goes on, something was unsent
+pub no_look : (m n : State) (p : Part) (r : Result TurnEnd TurnFault) → (m.unsent ≢ []) ⊎ IsSome n.ending → (r ≡ Ok ends.Go → n.ending ≡ None) → HasLooked m p p r
+no_look m n p r why goes = record {
+  most = omega arith;
+  least = λ e idle flow. absurd (⊎_elim (λ some. some idle) (λ ended. true≢false (sym (subst (λ (o : Option Ending). IsSome o) (goes e) ended))) why);
+}
+
+-- it looks as its exchange does, whose machine is of the same configuration
+pub looked_on : (m n : State) (p q : Part) (r : Result TurnEnd TurnFault) → n.config ≡ m.config → q.turns ≤ p.turns + 2
+    → (r ≡ Ok ends.Go → is_absent n.config.own_flow ≡ false → p.turns < q.turns) → HasLooked m p q r
+looked_on m n p q r config most least = record {
+  most = most;
+  least = λ e idle flow. least e (ap (λ (x : EndConfig). is_absent x.own_flow) config ∙ flow);
+}
+
 module _ {J : Type 0} {G : Ghosts J} where
-  pub did_work : (now : ℕ) (eager : Bool) (old new : LiveEnd J G) (told_between : Option LinkTold) (carried_between : Option Carried) (r mid : Line) (result : Result TurnEnd TurnFault) (got : Option Got)
+  pub did_work : (now : ℕ) (eager : Bool) (old new : EndAt J G) (told_between : Option LinkTold) (carried_between : Option Carried) (r mid : Line) (result : Result TurnEnd TurnFault) (got : Option Got)
       → ReceivedOnce eager old.told told_between old.carried carried_between old.line r got
       → ServedFrames now old.seen new.seen (taking_end r old.box old.news) (taking_end mid new.box new.news)
       → SentOnce told_between new.told carried_between new.carried mid new.line result
@@ -143,12 +159,12 @@ module _ {J : Type 0} {G : Ghosts J} where
   }
 
   -- a turn that had no memory to begin did nothing
-  pub cut_none : (now : ℕ) (eager : Bool) (old new : LiveEnd J G) → new.told ≡ old.told → new.carried ≡ old.carried → new.seen ≡ old.seen → new.line ≡ old.line → new.box ≡ old.box → new.news ≡ old.news
+  pub cut_none : (now : ℕ) (eager : Bool) (old new : EndAt J G) → new.told ≡ old.told → new.carried ≡ old.carried → new.seen ≡ old.seen → new.line ≡ old.line → new.box ≡ old.box → new.news ≡ old.news
       → CutTurn now eager old new faults.Memory
   cut_none now eager old new told carried seen line box news =
       inl (refl, λ i. record { told = told i; carried = carried i; seen = seen i; line = line i; box = box i; news = news i })
 
-  pub only_sent : (now n : ℕ) (eager : Bool) (old new : LiveEnd J G) (l : Line) (result : Result TurnEnd TurnFault) → now ≡ n → l ≡ line_ticked old.line now
+  pub only_sent : (now n : ℕ) (eager : Bool) (old new : EndAt J G) (l : Line) (result : Result TurnEnd TurnFault) → now ≡ n → l ≡ line_ticked old.line now
       → (old.line.machine.unsent ≢ []) ⊎ IsSome l.machine.ending → SentOnce old.told new.told old.carried new.carried l new.line result
       → new.box ≡ old.box → new.news ≡ old.news → new.seen ≡ old.seen → DidTurn n eager old new result
   only_sent now n eager old new l result is ticks why sent box news seen = inl (record {
@@ -161,7 +177,7 @@ module _ {J : Type 0} {G : Ghosts J} where
     same_seen = seen;
   })
 
-  pub did_more : (now n : ℕ) (eager : Bool) (old new : LiveEnd J G) (l : Line) (news : List NewsItem) (result : Result TurnEnd TurnFault) → now ≡ n → l ≡ line_ticked old.line now
+  pub did_more : (now n : ℕ) (eager : Bool) (old new : EndAt J G) (l : Line) (news : List NewsItem) (result : Result TurnEnd TurnFault) → now ≡ n → l ≡ line_ticked old.line now
       → old.line.machine.unsent ≡ [] → l.machine.ending ≡ None → news ≡ old.news → Exchanged now eager (record old { line = l; news = news }) new result
       → DidTurn n eager old new result
   did_more now n eager old new l news result is ticks idle goes none x = inr (record {
@@ -172,7 +188,7 @@ module _ {J : Type 0} {G : Ghosts J} where
         (subst (λ (ns : List NewsItem). Exchanged now eager (record old { line = l; news = ns }) new result) none x));
   })
 
-  pub cut_as : (now n : ℕ) (eager : Bool) (old new : LiveEnd J G) (l : Line) (news : List NewsItem) (r : Result TurnEnd TurnFault) → now ≡ n → l ≡ line_ticked old.line now
+  pub cut_as : (now n : ℕ) (eager : Bool) (old new : EndAt J G) (l : Line) (news : List NewsItem) (r : Result TurnEnd TurnFault) → now ≡ n → l ≡ line_ticked old.line now
       → old.line.machine.unsent ≡ [] → l.machine.ending ≡ None → news ≡ old.news
       → IfErr r (λ fault. (fault ≡ faults.Link → ⊥) → CutWork now eager (record old { line = l; news = news }) new fault) → IfErr r (λ fault. (fault ≡ faults.Link → ⊥) → CutTurn n eager old new fault)
   cut_as now n eager old new l news (Ok end) is ticks idle goes none h = tt

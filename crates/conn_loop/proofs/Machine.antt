@@ -1,6 +1,6 @@
 -- Calls of the machine in a turn.
 use Rattle.std.proofs.Common.{◌≡◌, ◌≤◌, ◌+◌, ◌-◌, ◌&&◌, not, eq-eqb, ℕ, Bool, true, false, if◌then◌else◌, List, [], length, Option, Some, None, refl, sym, ap, subst, ◌∙◌, true≢false}
-use Rattle.std.specs.Prelude.{◌≢◌, is_some, IfSome}
+use Rattle.std.specs.Prelude.{◌≢◌, is_some, is_none, IfSome, IfNone}
 use Rattle.fixp_msgs.specs.declared.numbering.Range.{Range}
 use Rattle.fixp_replies.specs.declared.act.Ending.{Ending}
 use Rattle.fixp_replies.specs.declared.act.Ending.TheVariants as endings
@@ -10,8 +10,9 @@ use Rattle.flow_idem.specs.Runs.{runs_of}
 use Rattle.session_model.specs.Journal.{History, BeginsHistory}
 use Rattle.fixp_shake.specs.declared.config.EndConfig.{EndConfig}
 use Rattle.fixp_shake.specs.Flows.{is_absent}
+use Rattle.fixp_shake.specs.Phases.{is_established}
 use Rattle.gate_turn.specs.Views.{Part}
-use Rattle.conn_turns.specs.Turns.{served_now, finish_of}
+use Rattle.conn_turns.specs.Turns.{served_now, sends_live, finish_of}
 use Rattle.fixp_end.proofs.Begun.{begun_free}
 use Rattle.conn_loop.specs.Conn.{HasSeen}
 use Rattle.fixp_machine.specs.Machine.{State, around, made, connected, sent_again, served_again, link_ended, after_turn, after_closed, rest_of}
@@ -79,6 +80,42 @@ rest_none r n e = ap (λ (b : Bool). if b then None else Some (record { from = r
 -- the finish that is told depends on the own flow alone
 pub finish_same : (m n : State) (h : History) → n.config ≡ m.config → finish_of n h ≡ finish_of m h
 finish_same m n h config = ap (λ (x : EndConfig). if not (is_absent x.own_flow) && h.finished then Some (length h.made) else None) config
+
+-- the finish that is told is the mark that was seen, where there is an own flow
+pub finish_marked : (m : State) (h : History) (mark : Option ℕ) → is_absent m.config.own_flow ≡ false
+    → IfSome mark (λ n. (h.finished ≡ true) × (length h.made ≡ n)) → IfNone mark (h.finished ≢ true) → mark ≡ finish_of m h
+finish_marked m h mark flow some none =
+    by_case h.finished mark some none ∙ sym (ap (λ (b : Bool). if not b && h.finished then Some (length h.made) else None) flow)
+  where
+    by_case : (b : Bool) (o : Option ℕ) → IfSome o (λ n. (b ≡ true) × (length h.made ≡ n)) → IfNone o (b ≢ true) → o ≡ (if b then Some (length h.made) else None)
+    by_case true None s n = absurd (n refl)
+    by_case true (Some k) s n = ap (λ (x : ℕ). Some x) (sym s.1)
+    by_case false None s n = refl
+    by_case false (Some k) s n = absurd (true≢false (sym s.0))
+
+-- and none where there is no own flow
+pub finish_none : (m : State) (h : History) → is_absent m.config.own_flow ≡ true → None ≡ finish_of m h
+finish_none m h flow = sym (ap (λ (b : Bool). if not b && h.finished then Some (length h.made) else None) flow)
+
+-- where entries are sent live there is an own flow
+pub live_flow : (m : State) → sends_live m ≡ true → is_absent m.config.own_flow ≡ false
+live_flow m sends = by_case (is_none m.ending) (is_established m.facts.connection.phase) (is_none m.facts.connection.serving) (is_absent m.config.own_flow) sends
+  where
+    by_case : (a b d absent : Bool) → (a && b && d && not absent) ≡ true → absent ≡ false
+    by_case true true true false e = refl
+    by_case true true true true e = absurd (true≢false (sym e))
+    by_case true true false absent e = absurd (true≢false (sym e))
+    by_case true false d absent e = absurd (true≢false (sym e))
+    by_case false b d absent e = absurd (true≢false (sym e))
+
+-- a finish that is told was seen
+pub finish_seen : (m : State) (h : History) → IfSome (finish_of m h) (λ n. (h.finished ≡ true) × (length h.made ≡ n))
+finish_seen m h = by_case (not (is_absent m.config.own_flow)) h.finished refl
+  where
+    by_case : (flow b : Bool) → h.finished ≡ b → IfSome (if flow && b then Some (length h.made) else None) (λ n. (h.finished ≡ true) × (length h.made ≡ n))
+    by_case true true e = (e, refl)
+    by_case true false e = tt
+    by_case false b e = tt
 
 -- a connection that had not ended, and whose link's end does not finish it, ends as one whose link has ended
 pub link_ends : (s : State) → s.ending ≡ None → (link_ended s).ending ≢ Some endings.Finished → (link_ended s).ending ≡ Some endings.LinkEnded

@@ -9,33 +9,31 @@ use Rattle.conn_steps.proofs.Following.{line_is}
 use Rattle.conn_loop.specs.Serving.{ServedOutbox}
 use Rattle.conn_loop.proofs.Machine.{finish_same}
 
-pub served_outbox : (now : ℕ) (h first second last : History) (old one two new : Line) → BeginsHistory h first → BeginsHistory first second → BeginsHistory second last
+pub served_outbox : (now : ℕ) (h first last : History) (old one two new : Line) → BeginsHistory h first → BeginsHistory first last
     → one ≡ record old { machine = run old.machine (again_calls now (served_of (served_now old.machine) first)) }
-    → two ≡ record one { machine = run one.machine (live_calls now (live_of one.machine second)) }
-    → new ≡ record two { machine = run two.machine (finish_calls now (finish_of two.machine last)) }
-    → two.machine.config ≡ old.machine.config → ServedOutbox now h last old new
-served_outbox now h first second last old one two new begins goes_on ends again live finish config =
+    → two ≡ record one { machine = run one.machine (live_calls now (live_of one.machine last)) }
+    → new ≡ record two { machine = run two.machine (finish_calls now (finish_of one.machine last)) }
+    → one.machine.config ≡ old.machine.config → ServedOutbox now h last old new
+served_outbox now h first last old one two new begins goes_on again live finish config =
     let sent = served_of (served_now old.machine) first in
     let m = run old.machine (again_calls now sent) in
-    let more = live_of m second in
+    let more = live_of m last in
     let told = finish_of old.machine last in
     let here : one.machine ≡ m = ap (λ (l : Line). l.machine) again in
-    let there : two.machine ≡ run m (live_calls now more) = ap (λ (l : Line). l.machine) live ∙ ap (λ (s : State). run s (live_calls now (live_of s second))) here in
+    let there : two.machine ≡ run m (live_calls now more) = ap (λ (l : Line). l.machine) live ∙ ap (λ (s : State). run s (live_calls now (live_of s last))) here in
     record {
       again = sent;
       live = more;
       finish = told;
       at_again = first;
-      at_live = second;
       again_is = refl;
       live_is = refl;
       finish_is = refl;
       seen_again = begins;
       seen_live = goes_on;
-      seen_finish = ends;
       line = line_is _ _
           (ap (λ (l : Line). l.machine) finish
-          ∙ (ap (λ (o : Option ℕ). run two.machine (finish_calls now o)) (finish_same old.machine two.machine last config)
+          ∙ (ap (λ (o : Option ℕ). run two.machine (finish_calls now o)) (finish_same old.machine one.machine last config)
           ∙ (ap (λ (s : State). run s (finish_calls now told)) there
           ∙ (sym (run_append m (live_calls now more) (finish_calls now told)) ∙ sym (run_append old.machine (again_calls now sent) (live_calls now more ++ finish_calls now told))))))
           (ap (λ (l : Line). l.held) finish ∙ (ap (λ (l : Line). l.held) live ∙ ap (λ (l : Line). l.held) again))

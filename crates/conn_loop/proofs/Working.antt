@@ -26,12 +26,13 @@ abbrev ends_at : ℕ → ℕ → Line → List Call
 ends_at now count l = bad_calls now (unframed_at count l) ++ (end_calls (is_link_over l) ++ turn_done now ∷ [])
 
 pub looks_self : (p : Part) → Looks p p
-looks_self p = record { seen = begins_self p.seen; faults = omega arith; number = refl; made = refl; opening = refl; mine = refl; ended = refl; lost = refl }
+looks_self p = record { seen = begins_self p.seen; faults = omega arith; turns = omega arith; number = refl; made = refl; opening = refl; mine = refl; ended = refl; lost = refl }
 
 pub looks_on : (p q r : Part) → Looks p q → Looks q r → Looks p r
 looks_on p q r a b = record {
   seen = begins_on p.seen q.seen r.seen a.seen b.seen;
   faults = omega (arith, a.faults, b.faults);
+  turns = omega (arith, a.turns, b.turns);
   number = b.number ∙ a.number;
   made = b.made ∙ a.made;
   opening = b.opening ∙ a.opening;
@@ -68,7 +69,7 @@ module _ {J : Type 0} {G : Ghosts J} where
           again = s.again;
           live = s.live;
           at_again = s.at_again;
-          at_live = s.at_live;
+          at_live = seen;
           at_finish = seen;
           finish = s.finish;
           sent = [];
@@ -82,11 +83,11 @@ module _ {J : Type 0} {G : Ghosts J} where
           broken = refl;
           link_over = refl;
           again = s.again_is ∙ ap (λ (m : State). served_of (served_now m) s.at_again) told;
-          live = s.live_is ∙ ap (λ (m : State). live_of (run m (again_calls now s.again)) s.at_live) told;
+          live = s.live_is ∙ ap (λ (m : State). live_of (run m (again_calls now s.again)) seen) told;
           finish = s.finish_is ∙ ap (λ (m : State). finish_of m seen) told;
           seen_again = s.seen_again;
           seen_live = s.seen_live;
-          seen_finish = s.seen_finish;
+          seen_finish = begins_self seen;
           seen = refl;
           machine = ap (λ (x : Line). x.machine) s.line ∙ (ap (λ (m : State). run m outbox) told
               ∙ (ap (λ (m : State). run (run m (ends_at now many l)) outbox) (frames_make_calls now old t.frames)

@@ -1,12 +1,14 @@
 -- A connection in the code, as a line; its beginning, and its end by a cut (this project's profile).
-use Rattle.std.specs.Prelude.{◌≡◌, ℕ, ◌+◌, ◌^◌, ◌<◌, ◌≤◌, true, false, [], ◌∷◌, length, Option, Some, None, IfSome}
+use Rattle.std.specs.Prelude.{◌≡◌, ℕ, ◌+◌, ◌^◌, ◌<◌, ◌≤◌, true, false, [], ◌∷◌, length, Option, Some, None, IfSome, Result, Ok}
 use Rattle.fixp_replies.specs.declared.act.Ending.{Ending}
 use Rattle.fixp_machine.specs.Machine.{State, begin, link_end, taken, run}
 use Rattle.session_model.specs.Journal.{BeginsHistory}
 use Rattle.fixp_replies.specs.Outgoing.{reply_limit}
+use Rattle.fixp_shake.specs.Flows.{is_absent}
 use Rattle.gate_turn.specs.Views.{Part}
 use Rattle.conn_turns.specs.declared.answer.TurnEnd.{TurnEnd}
 use Rattle.conn_turns.specs.declared.answer.TurnEnd.TheVariants as ends
+use Rattle.conn_turns.specs.declared.answer.TurnFault.{TurnFault}
 use Rattle.conn_turns.specs.Lines.{Line}
 use Rattle.conn_loop.specs.declared.conn.Conn.{Conn}
 
@@ -77,16 +79,24 @@ pub record SameInbox (old new : State) : Type 0 where
   pub untold : new.untold ≡ old.untold
   pub ending : new.ending ≡ old.ending
 
--- the new one is the same pass, which made and lost nothing: what it has seen begins with what it had seen, and its count of faults did not fall
+-- the new one is the same pass, which made and lost nothing: what it has seen begins with what it had seen, and its counts of faults and
+-- of turns at the outbox did not fall
 pub record Looks (p q : Part) : Type 0 where
   pub seen : BeginsHistory p.seen q.seen
   pub faults : p.faults ≤ q.faults
+  pub turns : p.turns ≤ q.turns
   pub number : q.number ≡ p.number
   pub made : q.made ≡ p.made
   pub opening : q.opening ≡ p.opening
   pub mine : q.mine ≡ p.mine
   pub ended : q.ended ≡ p.ended
   pub lost : q.lost ≡ p.lost
+
+-- A turn of this machine took the outbox twice at most; and once at least where it goes on, nothing was unsent at its start, and there is
+-- an own flow
+pub record HasLooked (m : State) (p q : Part) (result : Result TurnEnd TurnFault) : Type 0 where
+  pub most : q.turns ≤ p.turns + 2
+  pub least : result ≡ Ok ends.Go → m.unsent ≡ [] → is_absent m.config.own_flow ≡ false → p.turns < q.turns
 
 -- what a turn that did not fail answers of a machine
 abbrev pub answer_of : Option Ending → TurnEnd

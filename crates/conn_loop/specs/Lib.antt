@@ -1,4 +1,5 @@
 pub mod Conn
+pub mod Ends
 pub mod Live
 pub mod Moving
 pub mod Serving

@@ -9,7 +9,7 @@ use Rattle.conn_turns.specs.Lines.{Line}
 
 -- what its link tells, and tells that it had carried; what its pass has seen of the outbox; its connection; its inbox; and the
 -- news of its turn
-pub record LiveEnd (J : Type 0) (G : Ghosts J) : Type 0 where
+pub record EndAt (J : Type 0) (G : Ghosts J) : Type 0 where
   pub told : Option LinkTold
   pub carried : Option Carried
   pub seen : History
@@ -18,5 +18,5 @@ pub record LiveEnd (J : Type 0) (G : Ghosts J) : Type 0 where
   pub news : List NewsItem
 
 module _ {J : Type 0} {G : Ghosts J} where
-  abbrev pub live_end : Option LinkTold → Option Carried → History → Line → Inbox J G → List NewsItem → LiveEnd J G
+  abbrev pub live_end : Option LinkTold → Option Carried → History → Line → Inbox J G → List NewsItem → EndAt J G
   live_end told carried seen line box news = record { told = told; carried = carried; seen = seen; line = line; box = box; news = news }

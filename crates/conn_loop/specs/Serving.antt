@@ -23,18 +23,16 @@ pub record BlamesPass (p q : Part) (fault : TurnFault) : Type 0 where
   pub no_other : (fault ≡ faults.Link → ⊥) × (fault ≡ faults.Inbox → ⊥)
   pub never_full : (entries bytes : ℕ) → fault ≡ faults.Full entries bytes → ⊥
 
--- the range that was served was sent again whole, entries were sent live where that may be, and the finish was told where it
--- stands, each of the outbox as it was seen then
+-- the range that was served was sent again whole, of the outbox as it was seen then; and entries were sent live where that may be, and the
+-- finish was told where it stands, both of the outbox as it was seen at one look behind that
 pub record ServedOutbox (now : ℕ) (seen seen' : History) (old new : Line) : Type 0 where
   pub again : Option (List (List ℕ))
   pub live : Option (List (List ℕ))
   pub finish : Option ℕ
   pub at_again : History
-  pub at_live : History
   pub again_is : again ≡ served_of (served_now old.machine) at_again
-  pub live_is : live ≡ live_of (run old.machine (again_calls now again)) at_live
+  pub live_is : live ≡ live_of (run old.machine (again_calls now again)) seen'
   pub finish_is : finish ≡ finish_of old.machine seen'
   pub seen_again : BeginsHistory seen at_again
-  pub seen_live : BeginsHistory at_again at_live
-  pub seen_finish : BeginsHistory at_live seen'
+  pub seen_live : BeginsHistory at_again seen'
   pub line : new ≡ record old { machine = run old.machine (again_calls now again ++ (live_calls now live ++ finish_calls now finish)) }

@@ -25,7 +25,7 @@ use Rattle.conn_steps.specs.Taking.{refused_by}
 use Rattle.gate_turn.specs.Views.{Part}
 use Rattle.conn_steps.specs.Agreeing.{Agrees}
 use Rattle.conn_loop.specs.Conn.{HasSeen, answer_of}
-use Rattle.conn_loop.specs.Live.{LiveEnd}
+use Rattle.conn_loop.specs.Live.{EndAt}
 use Rattle.conn_loop.specs.Moving.{ReceivedOnce, SentOnce, IsLossOf}
 
 -- what a stop may leave of what the act of a frame would have added that was refused, if one was
@@ -73,7 +73,7 @@ module _ {J : Type 0} {G : Ghosts J} where
 
   -- behind its tick a turn received, its frames were served, and what was to be sent was sent. Where its link failed as it sent, it
   -- answers as that says: the fault, where nothing had ended the connection before; and else how the connection then stands
-  pub record DidWork (now : ℕ) (eager : Bool) (old new : LiveEnd J G) (result : Result TurnEnd TurnFault) : Type 0 where
+  pub record DidWork (now : ℕ) (eager : Bool) (old new : EndAt J G) (result : Result TurnEnd TurnFault) : Type 0 where
     pub work : Work
     pub at : work.now ≡ now
     pub bytes : IsBytes work.received
@@ -91,7 +91,7 @@ module _ {J : Type 0} {G : Ghosts J} where
     pub moved : Moved old.told new.told old.carried new.carried work.received work.sent
 
   -- the link of a turn failed as it received: the turn answers the fault, unless both finishes were exchanged
-  pub record LostLink (old new : LiveEnd J G) (result : Result TurnEnd TurnFault) : Type 0 where
+  pub record LostLink (old new : EndAt J G) (result : Result TurnEnd TurnFault) : Type 0 where
     pub line : new.line ≡ record old.line { machine = run old.line.machine (link_end ∷ []) }
     pub answer : IsLossOf old.line.machine new.line.machine result
     pub moved : Moved old.told new.told old.carried new.carried [] []
@@ -100,11 +100,11 @@ module _ {J : Type 0} {G : Ghosts J} where
     pub same_seen : new.seen ≡ old.seen
 
   -- behind its tick a turn did its work, or its link failed as it received
-  abbrev pub Exchanged : (now : ℕ) (eager : Bool) (old new : LiveEnd J G) (result : Result TurnEnd TurnFault) → Type 0
+  abbrev pub Exchanged : (now : ℕ) (eager : Bool) (old new : EndAt J G) (result : Result TurnEnd TurnFault) → Type 0
   Exchanged now eager old new result = DidWork now eager old new result ⊎ LostLink old new result
 
   -- behind its tick a turn received once, and then it was cut short behind frames; it sent nothing
-  pub record CutWork (now : ℕ) (eager : Bool) (old new : LiveEnd J G) (fault : TurnFault) : Type 0 where
+  pub record CutWork (now : ℕ) (eager : Bool) (old new : EndAt J G) (fault : TurnFault) : Type 0 where
     pub got : Option Got
     pub line : Line
     pub receives : ReceivedOnce eager old.told new.told old.carried new.carried old.line line got
@@ -112,7 +112,7 @@ module _ {J : Type 0} {G : Ghosts J} where
 
   -- A turn only sent: something was unsent at its start, or its tick ended the connection. The inbox, the pass and the news are as
   -- they were, and it answers as what it sent says
-  pub record OnlySent (now : ℕ) (old new : LiveEnd J G) (result : Result TurnEnd TurnFault) : Type 0 where
+  pub record OnlySent (now : ℕ) (old new : EndAt J G) (result : Result TurnEnd TurnFault) : Type 0 where
     pub why : (old.line.machine.unsent ≢ []) ⊎ IsSome (run old.line.machine (first_calls now)).ending
     pub sent : SentOnce old.told new.told old.carried new.carried (line_ticked old.line now) new.line result
     pub same_box : new.box ≡ old.box
@@ -120,27 +120,27 @@ module _ {J : Type 0} {G : Ghosts J} where
     pub same_seen : new.seen ≡ old.seen
 
   -- nothing was unsent and its tick left the connection open: it did more
-  pub record DidMore (now : ℕ) (eager : Bool) (old new : LiveEnd J G) (result : Result TurnEnd TurnFault) : Type 0 where
+  pub record DidMore (now : ℕ) (eager : Bool) (old new : EndAt J G) (result : Result TurnEnd TurnFault) : Type 0 where
     pub idle : old.line.machine.unsent ≡ []
     pub unended : (run old.line.machine (first_calls now)).ending ≡ None
     pub exchanged : Exchanged now eager (record old { line = line_ticked old.line now }) new result
 
   -- what a turn did that was not cut short: it only sent, or it did more
-  abbrev pub DidTurn : (now : ℕ) (eager : Bool) (old new : LiveEnd J G) (result : Result TurnEnd TurnFault) → Type 0
+  abbrev pub DidTurn : (now : ℕ) (eager : Bool) (old new : EndAt J G) (result : Result TurnEnd TurnFault) → Type 0
   DidTurn now eager old new result = OnlySent now old new result ⊎ DidMore now eager old new result
 
   -- a turn had no memory to begin, and all is as it was
-  abbrev pub NotBegun : (old new : LiveEnd J G) → TurnFault → Type 0
+  abbrev pub NotBegun : (old new : EndAt J G) → TurnFault → Type 0
   NotBegun old new fault = (fault ≡ faults.Memory) × (new ≡ old)
 
   -- a turn was cut short in its work: nothing was unsent, and its tick left the connection open
-  pub record CutMore (now : ℕ) (eager : Bool) (old new : LiveEnd J G) (fault : TurnFault) : Type 0 where
+  pub record CutMore (now : ℕ) (eager : Bool) (old new : EndAt J G) (fault : TurnFault) : Type 0 where
     pub idle : old.line.machine.unsent ≡ []
     pub unended : (run old.line.machine (first_calls now)).ending ≡ None
     pub work : CutWork now eager (record old { line = line_ticked old.line now }) new fault
 
   -- what a turn did that was cut short: it had not begun, or its work was cut short
-  abbrev pub CutTurn : (now : ℕ) (eager : Bool) (old new : LiveEnd J G) → TurnFault → Type 0
+  abbrev pub CutTurn : (now : ℕ) (eager : Bool) (old new : EndAt J G) → TurnFault → Type 0
   CutTurn now eager old new fault = NotBegun old new fault ⊎ CutMore now eager old new fault
 
   -- what a turn that did not give the connection up leaves, also where the connection has ended: the next one may begin, and the

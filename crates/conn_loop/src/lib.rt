@@ -6,6 +6,7 @@
 mod closing;
 mod conn;
 mod frames;
+mod live;
 mod outbox;
 mod receiving;
 mod sending;
@@ -14,3 +15,4 @@ mod work;
 
 pub use conn::Conn;
 pub use conn_turns::{News, NewsItem, TurnEnd, TurnFault};
+pub use live::LiveEnd;

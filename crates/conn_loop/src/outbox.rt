@@ -1,11 +1,10 @@
 //! What a turn sends of the outbox.
 
-ghost use Rattle.std.specs.Prelude.{◌≡◌, ◌≢◌, ℕ, ◌+◌, ◌*◌, ◌^◌, ◌<◌, ◌≤◌, not, length, None, Ok, Err, IfOk, IfErr, OnOk};
+ghost use Rattle.std.specs.Prelude.{◌≡◌, ◌≢◌, ℕ, ◌+◌, ◌*◌, ◌^◌, ◌<◌, ◌≤◌, not, length, true, false, None, Ok, Err, IfOk, IfErr, IfSome, OnOk};
 ghost use Rattle.fixp_shake.specs.Flows.{is_absent};
-ghost use Rattle.fixp_end.specs.Sending.{AreFrom};
 ghost use Rattle.fixp_machine.specs.Machine.{run};
 ghost use Rattle.jr_record.specs.declared.faults.FetchFault.TheVariants as fetching;
-ghost use Rattle.gate_turn.specs.Views.{HasFailed};
+ghost use Rattle.gate_turn.specs.Views.{HasFailed, Part};
 ghost use Rattle.gate_turn.specs.Places.{known};
 ghost use Rattle.gate_turn.specs.Calls.{IsFree};
 ghost use Rattle.gate_senders.specs.Gate.{IsPassAt};
@@ -16,26 +15,13 @@ ghost use Rattle.conn_loop.specs.Serving.{ServedOutbox, BlamesPass, fault_of};
 use crate::conn::Conn;
 use conn_turns::TurnFault;
 use fixp_end::{Flow, Phase};
-use gate_senders::{Gate, Kept};
+use gate_senders::{Gate, Kept, Look};
 use gate_turn::Pass;
-use jr_boxes::Stable;
 use jr_record::{FetchFault, Journal};
 use std::sync::Wait;
 
 /// How many entries a turn sends live at most.
 const LIVE: u16 = 16;
-
-/// The number of the last entry, or 0 where there is none.
-fn last_number(entries: &[Stable]) -> u64
-    ensures few { result < 2 ^ 40 }
-    ensures last { (first : ℕ) → AreFrom first entries.now → 0 < length entries.now → result + 1 ≡ first + length entries.now }
-{
-    if entries.is_empty() {
-        return 0;
-    }
-    let last = entries.len() - 1;
-    entries[last].number()
-}
 
 /// A refusal of the outbox, as a turn answers it.
 fn refusal(fault: FetchFault) -> TurnFault
@@ -90,6 +76,7 @@ impl Conn {
         ensures own { IsPassAt gate.now pass.new }
         ensures free { IsFree pass.new }
         ensures looks { Looks (known pass.old) (known pass.new) }
+        ensures most { (known pass.new).turns ≤ (known pass.old).turns + 1 }
         ensures again { OnOk result (line_of self.new ≡ record (line_of self.old) { machine = run (line_of self.old).machine (again_calls now (served_of (served_now (line_of self.old).machine) (known pass.new).seen)) }) }
         ensures serve { OnOk result (MayServe (line_of self.new).machine now 4600000 (known pass.new)) }
         ensures same { OnOk result (SameInbox (line_of self.old).machine (line_of self.new).machine) }
@@ -112,14 +99,38 @@ impl Conn {
         }
     }
 
-    /// Sends entries live, where that may be: those behind the last one sent.
+    /// The outbox's mark, where this end has a flow of its own and it stands.
+    #[tactic(auto, using(crate::proofs::Machine::finish_marked, crate::proofs::Machine::finish_none))]
+    fn mark<J: Journal, R: Wait>(
+        &self,
+        gate: &Gate<J>,
+        pass: &mut Pass<Kept<J>>,
+        rt: &R,
+    ) -> Option<u64>
+        requires own { IsPassAt gate.now pass.old }
+        requires free { IsFree pass.old }
+        ensures own { IsPassAt gate.now pass.new }
+        ensures free { IsFree pass.new }
+        ensures looks { Looks (known pass.old) (known pass.new) }
+        ensures most { (known pass.new).turns ≤ (known pass.old).turns + 1 }
+        ensures least { is_absent (line_of self.now).machine.config.own_flow ≡ false → (known pass.old).turns < (known pass.new).turns }
+        ensures mark { result ≡ finish_of (line_of self.now).machine (known pass.new).seen }
+    {
+        if !self.has_flow() {
+            return None;
+        }
+        gate.closed(pass, rt)
+    }
+
+    /// Sends entries live, where that may be: those behind the last one sent. Answers the outbox's mark, as it was seen with them,
+    /// where this end has a flow of its own and it stands.
     pub(crate) fn send_live<J: Journal, R: Wait>(
         &mut self,
         gate: &Gate<J>,
         pass: &mut Pass<Kept<J>>,
         now: u64,
         rt: &R,
-    ) -> Result<(), FetchFault>
+    ) -> Result<Option<u64>, FetchFault>
         requires own { IsPassAt gate.now pass.old }
         requires free { IsFree pass.old }
         requires serve { MayServe (line_of self.old).machine now 4600000 (known pass.old) }
@@ -127,7 +138,10 @@ impl Conn {
         ensures own { IsPassAt gate.now pass.new }
         ensures free { IsFree pass.new }
         ensures looks { Looks (known pass.old) (known pass.new) }
+        ensures most { (known pass.new).turns ≤ (known pass.old).turns + 1 }
+        ensures least { is_absent (line_of self.old).machine.config.own_flow ≡ false → (known pass.old).turns < (known pass.new).turns }
         ensures live { OnOk result (line_of self.new ≡ record (line_of self.old) { machine = run (line_of self.old).machine (live_calls now (live_of (line_of self.old).machine (known pass.new).seen)) }) }
+        ensures mark { IfOk result (λ mark. mark ≡ finish_of (line_of self.old).machine (known pass.new).seen) }
         ensures serve { OnOk result (MayServe (line_of self.new).machine now 4900000 (known pass.new)) }
         ensures same { OnOk result (SameInbox (line_of self.old).machine (line_of self.new).machine) }
         ensures serving { OnOk result ((line_of self.new).machine.facts.connection.serving ≡ (line_of self.old).machine.facts.connection.serving) }
@@ -135,14 +149,12 @@ impl Conn {
         ensures broken { result ≡ Err fetching.Broken → HasFailed (known pass.new).opening.faults (known pass.new).faults }
     {
         if !self.sends_live() {
-            return Ok(());
+            return Ok(self.mark(gate, pass, rt));
         }
-        match gate.fetch(pass, self.end.sent() + 1, LIVE, rt) {
-            Ok(entries) => {
-                // An entry tells at its number alone that this is below 2^40, as the machine asks of the last one.
-                let _ = last_number(entries.as_slice());
+        match gate.look(pass, self.end.sent() + 1, LIVE, rt) {
+            Ok(Look { entries, mark }) => {
                 self.end.send_live(entries.as_slice(), now);
-                Ok(())
+                Ok(mark)
             }
             Err(fault) => Err(fault),
         }
@@ -150,34 +162,22 @@ impl Conn {
 
     /// Tells the machine of the outbox's finish, if it is there.
     #[tactic(auto, using(crate::proofs::Machine::closed_keeps))]
-    pub(crate) fn tell_finish<J: Journal, R: Wait>(
-        &mut self,
-        gate: &Gate<J>,
-        pass: &mut Pass<Kept<J>>,
-        now: u64,
-        rt: &R,
-    )
-        requires own { IsPassAt gate.now pass.old }
-        requires free { IsFree pass.old }
-        requires serve { MayServe (line_of self.old).machine now 4900000 (known pass.old) }
-        requires time { now < 2 ^ 44 }
-        ensures own { IsPassAt gate.now pass.new }
-        ensures free { IsFree pass.new }
-        ensures looks { Looks (known pass.old) (known pass.new) }
-        ensures finish { line_of self.new ≡ record (line_of self.old) { machine = run (line_of self.old).machine (finish_calls now (finish_of (line_of self.old).machine (known pass.new).seen)) } }
-        ensures serve { MayServe (line_of self.new).machine now 5000000 (known pass.new) }
+    fn tell_finish(&mut self, mark: Option<u64>, now: u64)
+        requires done { (line_of self.old).machine.pending ≡ None }
+        requires little { length (line_of self.old).machine.unsent ≤ 4900000 }
+        requires time { ((line_of self.old).machine.moment ≤ now) × (now < 2 ^ 44) }
+        ensures finish { line_of self.new ≡ record (line_of self.old) { machine = run (line_of self.old).machine (finish_calls now mark) } }
+        ensures serve { (p : Part) → IfSome mark (λ n. (p.seen.finished ≡ true) × (length p.seen.made ≡ n)) → MayServe (line_of self.old).machine now 4900000 p → MayServe (line_of self.new).machine now 5000000 p }
         ensures same { SameInbox (line_of self.old).machine (line_of self.new).machine }
         ensures serving { (line_of self.new).machine.facts.connection.serving ≡ (line_of self.old).machine.facts.connection.serving }
     {
-        if !self.has_flow() {
-            return;
-        }
-        if let Some(last) = gate.closed(pass, rt) {
+        if let Some(last) = mark {
             self.end.closed(last, now);
         }
     }
 
-    /// Sends what the outbox has to send in this turn, and tells its finish.
+    /// Sends what the outbox has to send in this turn, and tells its finish: it takes the outbox once for the range that is sent
+    /// again, if one is, and once for all else.
     ///
     /// # Errors
     /// Where the outbox could not be read, or there is no memory for what was read.
@@ -195,6 +195,8 @@ impl Conn {
         ensures own { IsPassAt gate.now pass.new }
         ensures free { IsFree pass.new }
         ensures looks { Looks (known pass.old) (known pass.new) }
+        ensures most { (known pass.new).turns ≤ (known pass.old).turns + 2 }
+        ensures least { OnOk result (is_absent (line_of self.old).machine.config.own_flow ≡ false → (known pass.old).turns < (known pass.new).turns) }
         ensures served { OnOk result (ServedOutbox now (known pass.old).seen (known pass.new).seen (line_of self.old) (line_of self.new)) }
         ensures serve { OnOk result (MayServe (line_of self.new).machine now 5000000 (known pass.new)) }
         ensures same { OnOk result (SameInbox (line_of self.old).machine (line_of self.new).machine) }
@@ -204,10 +206,12 @@ impl Conn {
         if let Err(fault) = self.send_again(gate, pass, now, rt) {
             return Err(refusal(fault));
         }
-        if let Err(fault) = self.send_live(gate, pass, now, rt) {
-            return Err(refusal(fault));
+        match self.send_live(gate, pass, now, rt) {
+            Ok(mark) => {
+                self.tell_finish(mark, now);
+                Ok(())
+            }
+            Err(fault) => Err(refusal(fault)),
         }
-        self.tell_finish(gate, pass, now, rt);
-        Ok(())
     }
 }

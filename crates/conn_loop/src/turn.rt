@@ -1,7 +1,8 @@
 //! A turn of a connection, whole.
 
-ghost use Rattle.std.specs.Prelude.{◌≡◌, ◌⊎◌, ℕ, ◌+◌, ◌^◌, ◌<◌, ◌≤◌, [], max, true, Ok, Err, Some, None, IfOk, IfErr, OnOk};
+ghost use Rattle.std.specs.Prelude.{◌≡◌, ◌⊎◌, ℕ, ◌+◌, ◌^◌, ◌<◌, ◌≤◌, [], max, true, false, Ok, Err, Some, None, IfOk, IfErr, OnOk};
 ghost use Rattle.gw_outside.specs.Faults.{HasRisen};
+ghost use Rattle.fixp_shake.specs.Flows.{is_absent};
 ghost use Rattle.fixp_replies.specs.declared.act.Ending.TheVariants as endings;
 ghost use Rattle.jr_boxes.specs.Inbox.{faults_of, is_broken, size_of, count_of};
 ghost use Rattle.gate_turn.specs.Views.{HasFailed};
@@ -13,7 +14,7 @@ ghost use Rattle.conn_turns.specs.declared.answer.TurnFault.TheVariants as fault
 ghost use Rattle.conn_turns.specs.declared.answer.TurnEnd.TheVariants as ends;
 ghost use Rattle.conn_steps.specs.Settling.{SameKind};
 ghost use Rattle.conn_steps.specs.Agreeing.{IsInTurn, Agrees};
-ghost use Rattle.conn_loop.specs.Conn.{GoesOn, HasSeen, Looks};
+ghost use Rattle.conn_loop.specs.Conn.{GoesOn, HasSeen, HasLooked, Looks};
 ghost use Rattle.conn_loop.specs.Turned.{Exchanged, CutWork, DidTurn, CutTurn, Leaves};
 ghost use Rattle.conn_loop.specs.Live.{live_end};
 
@@ -52,6 +53,8 @@ impl Conn {
         ensures own { IsPassAt gate.now pass.new }
         ensures free { IsFree pass.new }
         ensures looks { Looks (known pass.old) (known pass.new) }
+        ensures most { (known pass.new).turns ≤ (known pass.old).turns + 2 }
+        ensures least { result ≡ Ok ends.Go → is_absent (line_of self.old).machine.config.own_flow ≡ false → (known pass.old).turns < (known pass.new).turns }
         ensures did { OnOk result (Exchanged now L.eager (live_end (L.told link.old) (L.carried link.old) (known pass.old).seen (line_of self.old) inbox.old (items_of news.old)) (live_end (L.told link.new) (L.carried link.new) (known pass.new).seen (line_of self.new) inbox.new (items_of news.new)) result) }
         ensures lost { result ≡ Err faults.Link → Exchanged now L.eager (live_end (L.told link.old) (L.carried link.old) (known pass.old).seen (line_of self.old) inbox.old (items_of news.old)) (live_end (L.told link.new) (L.carried link.new) (known pass.new).seen (line_of self.new) inbox.new (items_of news.new)) result }
         ensures cut { IfErr result (λ fault. (fault ≡ faults.Link → ⊥) → CutWork now L.eager (live_end (L.told link.old) (L.carried link.old) (known pass.old).seen (line_of self.old) inbox.old (items_of news.old)) (live_end (L.told link.new) (L.carried link.new) (known pass.new).seen (line_of self.new) inbox.new (items_of news.new)) fault) }
@@ -106,6 +109,7 @@ impl Conn {
         ensures own { IsPassAt gate.now pass.new }
         ensures free { IsFree pass.new }
         ensures looks { Looks (known pass.old) (known pass.new) }
+        ensures looked { HasLooked (line_of self.old).machine (known pass.old) (known pass.new) result }
         ensures did { OnOk result (DidTurn (max (C.last clock.new) (line_of self.old).machine.moment) L.eager (live_end (L.told link.old) (L.carried link.old) (known pass.old).seen (line_of self.old) inbox.old []) (live_end (L.told link.new) (L.carried link.new) (known pass.new).seen (line_of self.new) inbox.new (items_of news.new)) result) }
         ensures lost { result ≡ Err faults.Link → DidTurn (max (C.last clock.new) (line_of self.old).machine.moment) L.eager (live_end (L.told link.old) (L.carried link.old) (known pass.old).seen (line_of self.old) inbox.old []) (live_end (L.told link.new) (L.carried link.new) (known pass.new).seen (line_of self.new) inbox.new (items_of news.new)) result }
         ensures cut { IfErr result (λ fault. (fault ≡ faults.Link → ⊥) → CutTurn (max (C.last clock.new) (line_of self.old).machine.moment) L.eager (live_end (L.told link.old) (L.carried link.old) (known pass.old).seen (line_of self.old) inbox.old []) (live_end (L.told link.new) (L.carried link.new) (known pass.new).seen (line_of self.new) inbox.new (items_of news.new)) fault) }

@@ -1,6 +1,7 @@
 //! What a turn does before it sends: its beginning, and its work.
 
 ghost use Rattle.std.specs.Prelude.{◌≡◌, ◌≢◌, ◌⊎◌, ℕ, ◌+◌, ◌^◌, ◌<◌, ◌≤◌, [], true, false, length, Ok, Err, None, IsSome, IsTrue, IsFalse, IfOk, IfErr, OnOk, OnErr};
+ghost use Rattle.fixp_shake.specs.Flows.{is_absent};
 ghost use Rattle.gw_outside.specs.Faults.{HasRisen};
 ghost use Rattle.jr_boxes.specs.Inbox.{faults_of, is_broken, size_of, count_of};
 ghost use Rattle.gate_turn.specs.Views.{HasFailed};
@@ -87,6 +88,8 @@ impl Conn {
         ensures own { IsPassAt gate.now pass.new }
         ensures free { IsFree pass.new }
         ensures looks { Looks (known pass.old) (known pass.new) }
+        ensures most { (known pass.new).turns ≤ (known pass.old).turns + 2 }
+        ensures least { OnOk result (is_absent (line_of self.old).machine.config.own_flow ≡ false → (known pass.old).turns < (known pass.new).turns) }
         ensures served { OnOk result (ServedFrames now (known pass.old).seen (known pass.new).seen (taking_end (line_of self.old) inbox.old (items_of news.old)) (taking_end (line_of self.new) inbox.new (items_of news.new))) }
         ensures cut { IfErr result (CutShort now (line_of self.old) inbox.old inbox.new (items_of news.old) (items_of news.new)) }
         ensures serve { OnOk result (MayServe (line_of self.new).machine now 5000000 (known pass.new)) }

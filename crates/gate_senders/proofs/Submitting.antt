@@ -1,5 +1,5 @@
 -- What a pass has seen, made and lost, once its entry stands or was refused.
-use Rattle.std.proofs.Common.{◌≡◌, ◌≢◌, ℕ, ◌+◌, ◌≤◌, Bool, true, false, not, ◌&&◌, ◌||◌, List, [], ◌∷◌, ◌++◌, length, drop, Result, Ok, Err, OnOk, IfOk, IfErr, IsErrOf, inl, inr, ⊎_elim, refl, sym, ap, ◌∙◌, subst, arith}
+use Rattle.std.proofs.Common.{◌≡◌, ◌≢◌, ℕ, ◌+◌, ◌≤◌, Bool, true, false, not, ◌&&◌, ◌||◌, List, [], ◌∷◌, ◌++◌, length, drop, Result, Ok, Err, OnOk, IfOk, IfErr, IsErrOf, ⊎_elim, refl, sym, ap, ◌∙◌, subst, arith}
 use Rattle.session_model.specs.Journal.{Entry, History, OutboxRecord, entry, finish, BeginsHistory}
 use Rattle.session_model.proofs.Lists.{drop_length}
 use Rattle.jr_boxes.specs.declared.faults.SubmitFault.{SubmitFault}

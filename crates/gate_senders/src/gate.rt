@@ -14,7 +14,7 @@ ghost use Rattle.gate_senders.specs.Kept.{next_entry, messages, IsFullAt};
 ghost use Rattle.gate_senders.specs.Told.{told_by};
 ghost use Rattle.gate_senders.specs.Shown.{TakesTurn, Submitted, Finished, entry_after};
 
-use crate::kept::Kept;
+use crate::kept::{Kept, Look};
 use gate_turn::{Held, Logged, Pass, Passes, TurnLock};
 use jr_boxes::{CloseFault, Outbox, Stable, SubmitFault};
 use jr_record::{FetchFault, Journal};
@@ -178,6 +178,41 @@ impl<J: Journal> Gate<J> {
         answer
     }
 
+    /// The entries from a number on, as `fetch` gives them, and the mark, as `closed` tells it, by one turn. What was seen then
+    /// has less than 2^40 entries.
+    ///
+    /// # Errors
+    ///
+    /// `Broken` and `Fault` where a call of the disk has failed, before or now. `Memory`.
+    pub fn look<R: Wait>(
+        &self,
+        pass: &mut Pass<Kept<J>>,
+        from: u64,
+        most: u16,
+        rt: &R,
+    ) -> Result<Look, FetchFault>
+        requires own { IsPassAt self.now pass.old }
+        requires free { IsFree pass.old }
+        requires least { 1 ≤ from }
+        ensures own { IsPassAt self.now pass.new }
+        ensures free { IsFree pass.new }
+        ensures turn { TakesTurn (known pass.old) (known pass.new) }
+        ensures given { IfOk result (λ look. look.entries.items ≡ messages (known pass.new).seen from most) }
+        ensures sizes { IfOk result (λ look. All (λ m. IsPayload m.payload) look.entries.items) }
+        ensures some { IfOk result (λ look. IfSome look.mark (λ n. ((known pass.new).seen.finished ≡ true) × (length (known pass.new).seen.made ≡ n))) }
+        ensures none { IfOk result (λ look. IfNone look.mark ((known pass.new).seen.finished ≢ true)) }
+        ensures few { length (known pass.new).seen.made < 2 ^ 40 }
+        ensures same { ((known pass.new).mine ≡ (known pass.old).mine) × ((known pass.new).ended ≡ (known pass.old).ended) }
+        ensures unlost { (known pass.new).lost ≡ (known pass.old).lost }
+        ensures fault { IsErrOf result fetching.Fault → HasFailed (known pass.old).faults (known pass.new).faults }
+        ensures broken { result ≡ Err fetching.Broken → HasFailed (known pass.new).opening.faults (known pass.new).faults }
+    {
+        let Held { mut value } = self.lock.enter_next(pass, rt);
+        let answer = value.look(self.alloc, from, most);
+        self.lock.leave(pass, Held { value });
+        answer
+    }
+
     /// The number of entries behind which the mark stands, or None where it does not stand.
     pub fn closed<R: Wait>(&self, pass: &mut Pass<Kept<J>>, rt: &R) -> Option<u64>
         requires own { IsPassAt self.now pass.old }
@@ -191,11 +226,7 @@ impl<J: Journal> Gate<J> {
         ensures unlost { (known pass.new).lost ≡ (known pass.old).lost }
     {
         let Held { value } = self.lock.enter_next(pass, rt);
-        let answer = if value.marked() {
-            Some(value.length())
-        } else {
-            None
-        };
+        let answer = value.mark();
         self.lock.leave(pass, Held { value });
         answer
     }

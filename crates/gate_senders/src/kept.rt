@@ -1,5 +1,5 @@
 //! An outbox under the turn lock, with the history that is told of it and the records whose adding failed.
-ghost use Rattle.std.specs.Prelude.{◌≡◌, ◌≢◌, ◌↔◌, ℕ, ◌+◌, ◌-◌, ◌<◌, ◌≤◌, ◌^◌, true, false, [], ◌∷◌, length, slice_get, Some, Err, IfOk, IfErr, OnOk, IsErrOf, IsTrue, All};
+ghost use Rattle.std.specs.Prelude.{◌≡◌, ◌≢◌, ◌↔◌, ℕ, ◌+◌, ◌-◌, ◌<◌, ◌≤◌, ◌^◌, true, false, [], ◌∷◌, length, slice_get, Some, Err, IfOk, IfErr, IfSome, IfNone, OnOk, IsErrOf, IsTrue, All};
 ghost use Rattle.session_model.specs.Journal.{History, entries_of, entry, finish, payloads};
 ghost use Rattle.fixp_msgs.specs.Payload.{IsApplication};
 ghost use Rattle.jr_record.specs.Records.{IsPayload, IsSender};
@@ -39,6 +39,15 @@ impl<J: Journal> Logged for Kept<J> {
     fn marked(&self) -> bool {
         self.outbox.closed()
     }
+}
+
+/// What one look at an outbox finds.
+#[derive(Drop)]
+pub struct Look {
+    /// The entries that were asked for, in order.
+    pub entries: Vec<Stable>,
+    /// The number of entries behind which the mark stands, or None where it does not stand.
+    pub mark: Option<u64>,
 }
 
 /// The histories that an outbox holds may be told of it, where it refused nothing.
@@ -154,6 +163,7 @@ impl<J: Journal> Kept<J> {
         requires least { 1 ≤ from }
         ensures given { IfOk result (λ list. list.items ≡ messages (told_by self.old).history from most) }
         ensures sizes { IfOk result (λ list. All (λ m. IsPayload m.payload) list.items) }
+        ensures few { length (told_by self.old).history.made < 2 ^ 40 }
         ensures same { ((told_by self.new).history ≡ (told_by self.old).history) × ((told_by self.new).refused ≡ (told_by self.old).refused) }
         ensures sound { StaysSound (told_by self.old) (told_by self.new) }
         ensures fault { IsErrOf result fetching.Fault → HasFailed (told_by self.old).faults (told_by self.new).faults }
@@ -168,6 +178,38 @@ impl<J: Journal> Kept<J> {
             };
         }
         Ok(list)
+    }
+
+    /// The number of entries behind which the mark stands, or None where it does not stand.
+    pub(crate) fn mark(&self) -> Option<u64>
+        ensures some { IfSome result (λ n. ((told_by self.now).history.finished ≡ true) × (length (told_by self.now).history.made ≡ n)) }
+        ensures none { IfNone result ((told_by self.now).history.finished ≢ true) }
+    {
+        if self.marked() {
+            Some(self.length())
+        } else {
+            None
+        }
+    }
+
+    /// The entries from a number on, at most so many, and the mark.
+    pub(crate) fn look(&mut self, alloc: Global, from: u64, most: u16) -> Result<Look, FetchFault>
+        requires least { 1 ≤ from }
+        ensures given { IfOk result (λ look. look.entries.items ≡ messages (told_by self.old).history from most) }
+        ensures sizes { IfOk result (λ look. All (λ m. IsPayload m.payload) look.entries.items) }
+        ensures marked { IfOk result (λ look. IfSome look.mark (λ n. ((told_by self.old).history.finished ≡ true) × (length (told_by self.old).history.made ≡ n))) }
+        ensures unmarked { IfOk result (λ look. IfNone look.mark ((told_by self.old).history.finished ≢ true)) }
+        ensures few { length (told_by self.old).history.made < 2 ^ 40 }
+        ensures same { ((told_by self.new).history ≡ (told_by self.old).history) × ((told_by self.new).refused ≡ (told_by self.old).refused) }
+        ensures sound { StaysSound (told_by self.old) (told_by self.new) }
+        ensures fault { IsErrOf result fetching.Fault → HasFailed (told_by self.old).faults (told_by self.new).faults }
+        ensures broken { result ≡ Err fetching.Broken → (told_by self.old).broken ≡ true }
+    {
+        let mark = self.mark();
+        match self.fetch(alloc, from, most) {
+            Ok(entries) => Ok(Look { entries, mark }),
+            Err(fault) => Err(fault),
+        }
     }
 
     /// The outbox.

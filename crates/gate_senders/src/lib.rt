@@ -7,4 +7,4 @@ mod kept;
 mod told;
 
 pub use gate::Gate;
-pub use kept::Kept;
+pub use kept::{Kept, Look};

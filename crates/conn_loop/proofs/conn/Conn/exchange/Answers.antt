@@ -1,4 +1,5 @@
 use Rattle.std.proofs.Common.{◌∷◌, [], inl, inr, refl, ap, subst, ◌∙◌}
+use Rattle.fixp_shake.specs.Flows.{is_absent}
 use Rattle.fixp_machine.specs.Machine.{State, link_end, run}
 use Rattle.gate_turn.specs.Places.{known}
 use Rattle.conn_turns.specs.Lines.{Line}
@@ -100,3 +101,6 @@ returns-in_default-clause-leaves_lost g c = λ _.
     let same = ap (λ (l : Line). l.machine) c.in_default.ensures.failed.0 in
     leaves_of c.args.now m n (known c.args.pass.now) c.args.inbox.now c.requires.in_turn.begun c.requires.in_turn.time c.requires.time c.requires.sent c.requires.in_turn.credentials c.requires.seen c.requires.agrees
     (subst (λ (x : State). KeepsAll x n x.moment) same c.lose_link.ensures.keeps) (c.lose_link.ensures.facts ∙ ap (λ (x : State). x.facts) same)
+
+pub returns-clause-least : goal.returns-clause-least
+returns-clause-least g c = λ e flow. c.in_default-work.ensures.least (ap (λ (l : Line). is_absent l.machine.config.own_flow) c.in-Ok.ensures.received.line ∙ flow)

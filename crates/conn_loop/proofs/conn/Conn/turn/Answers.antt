@@ -6,7 +6,7 @@ use Rattle.gate_turn.specs.Places.{known}
 use Rattle.conn_loop.specs.Conn.{line_of}
 use Rattle.conn_loop.specs.Live.{live_end}
 use Rattle.conn_loop.proofs.Working.{seen_same}
-use Rattle.conn_loop.proofs.Exchanging.{on_ok_any, loss_cut, loss_ends, loss_answer, loss_goes, goes_still, agrees_same, leaves_of, only_sent, did_more, cut_as, cut_none}
+use Rattle.conn_loop.proofs.Exchanging.{on_ok_any, loss_cut, loss_ends, loss_answer, loss_goes, goes_still, no_look, looked_on, agrees_same, leaves_of, only_sent, did_more, cut_as, cut_none}
 use Rattle.conn_loop.proofs.conn.Conn.turn.Goals as goal
 
 pub returns-in_default-clause-cut : goal.returns-in_default-clause-cut
@@ -77,3 +77,12 @@ returns-then-not-works-clause-leaves_lost g c = λ _.
 
 pub returns-then-not-works-clause-ended_lost : goal.returns-then-not-works-clause-ended_lost
 returns-then-not-works-clause-ended_lost g c = loss_ends c.start.new.self.end c.send.new.self.end c.send.result c.send.ensures.answer
+
+pub returns-then-not-works-clause-looked : goal.returns-then-not-works-clause-looked
+returns-then-not-works-clause-looked g c =
+    no_look c.args.self.now.end c.start.new.self.end (known c.args.pass.now) c.send.result (c.in-Ok.ensures.why (cc))
+    (λ e. c.send.ensures.goes (loss_goes c.start.new.self.end c.send.new.self.end c.send.result c.send.ensures.answer e))
+
+pub returns-clause-looked : goal.returns-clause-looked
+returns-clause-looked g c =
+    looked_on c.args.self.now.end c.start.new.self.end (known c.args.pass.now) (known c.exchange.new.pass) c.exchange.result c.in-Ok.ensures.config c.exchange.ensures.most c.exchange.ensures.least

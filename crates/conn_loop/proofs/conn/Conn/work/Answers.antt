@@ -1,4 +1,7 @@
+use Rattle.std.proofs.Common.{ap, ◌∙◌}
 use Rattle.std.proofs.lemmas.Result.{on_ok_weaker, IfErr-weaker}
+use Rattle.fixp_shake.specs.Flows.{is_absent}
+use Rattle.fixp_shake.specs.declared.config.EndConfig.{EndConfig}
 use Rattle.gate_turn.specs.Places.{known}
 use Rattle.conn_turns.specs.declared.answer.TurnFault.{TurnFault}
 use Rattle.conn_loop.specs.Conn.{line_of}
@@ -23,3 +26,9 @@ returns-clause-cut g c =
     (λ (fault : TurnFault) (b : BlamesPass (known c.args.pass.now) (known c.serve_outbox.new.pass) fault).
     cut_at_outbox c.args.now c.in-Ok.taken (line_of c.args.self.now) (line_of c.take_frames.new.self) c.args.inbox.now c.take_frames.new.inbox _ _ fault c.in-Ok.ensures.took c.in-Ok.ensures.last.1 b.never_full)
     c.serve_outbox.ensures.blames
+
+pub returns-clause-least : goal.returns-clause-least
+returns-clause-least g c =
+    on_ok_weaker c.serve_outbox.result
+    (λ least flow. least (ap (λ (x : EndConfig). is_absent x.own_flow) (c.close_frames.ensures.config ∙ c.in-Ok.ensures.own.config) ∙ flow))
+    c.serve_outbox.ensures.least
