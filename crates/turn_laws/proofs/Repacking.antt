@@ -14,7 +14,7 @@ use Rattle.fixp_machine.specs.Machine.{State, Call, run}
 use Rattle.conn_turns.specs.Turns.{Work, only_sends, works, link_lost, first_calls, calls_of_frames, closing_calls, outbox_calls}
 use Rattle.conn_turns.proofs.Taking.{run_append}
 use Rattle.conn_turns.specs.Exact.{Served, line_ticked}
-use Rattle.conn_loop.specs.Live.{LiveEnd}
+use Rattle.conn_loop.specs.Live.{EndAt}
 use Rattle.conn_loop.specs.Turned.{CutShort, CutMore, Exchanged}
 use Rattle.turn_laws.specs.Turns.{Sends, Works, line_received}
 use Rattle.turn_laws.specs.Made.{turn_at, calls_unsent, DoesMore, SendsAll}
@@ -90,7 +90,7 @@ module _ {J : Type 0} {G : Ghosts J} where
         news_are = l.same_news ∙ sym (append-nil old.news);
       }
 
-  cut_more_is_one : (eager : Bool) (before after : ℕ) (old new : LiveEnd J G) (fault : TurnFault) → IsInTime (max after old.line.machine.moment) → before ≤ after → CutMore (max after old.line.machine.moment) eager old new fault
+  cut_more_is_one : (eager : Bool) (before after : ℕ) (old new : EndAt J G) (fault : TurnFault) → IsInTime (max after old.line.machine.moment) → before ≤ after → CutMore (max after old.line.machine.moment) eager old new fault
       → WasCut eager before after old new fault
   cut_more_is_one eager before after old new fault time clock k =
       let now : ℕ = max after old.line.machine.moment in

@@ -45,7 +45,14 @@ seen_on before after old new not_begun k = absurd k
 pub all_seen : (before after : History) (old new : Line) (turns : List Turn) → AreTurns before after old new turns → IsPrefix before.made after.made
 all_seen before after old new [] a = prefix_equal before.made after.made (ap (λ (x : History). x.made) (sym a.1))
 all_seen before after old new (t ∷ later) a =
-    prefix_trans before.made a.2.made after.made (seen_on before a.2 old a.1 t a.3) (all_seen a.2 after a.1 new later a.4)
+    prefix_trans before.made a.2.made after.made (seen_on before a.2 old a.1 t a.3) (prefix_trans a.2.made a.4.made after.made a.5.made (all_seen a.4 after a.1 new later a.6))
+
+-- the outbox has what was seen behind the first turn
+pub has_so_far : (h : List Entry) (before after : History) (old new : Line) (t : Turn) (later : List Turn) → Has h after → (a : AreTurns before after old new (t ∷ later)) → Has h a.2
+has_so_far h before after old new t later has a = record {
+  begins = prefix_trans a.2.made after.made h (prefix_trans a.2.made a.4.made after.made a.5.made (all_seen a.4 after a.1 new later a.6)) has.begins;
+  few = has.few;
+}
 
 -- whole turns, one behind another
 pub record TurnsStand (h : List Entry) (c : Course) (new : Line) (turns : List Turn) : Type 0 where
@@ -56,11 +63,9 @@ pub turns_stand : (h : List Entry) (before after : History) (old new : Line) (tu
 turns_stand h before after old new [] c s has a = record { may = tt; after = subst (λ (l : Line). StandsAt h c l) (sym a.0) s }
 turns_stand h before after old new (t ∷ later) c s has a =
     let mid : Line = a.1 in
-    let between : History = a.2 in
-    let so_far : Has h between = record { begins = prefix_trans between.made after.made h (all_seen between after mid new later a.4) has.begins; few = has.few } in
-    let x = turn_may_stand h before between old mid t c s so_far a.3 in
+    let x = turn_may_stand h before a.2 old mid t c s (has_so_far h before after old new t later has a) a.3 in
     let d : Course = course_after c (calls_of t) in
-    let y = turns_stand h between after mid new later d x.after has a.4 in
+    let y = turns_stand h a.4 after mid new later d x.after has a.6 in
     record {
       may = may_append h c (calls_of t) (flat_map calls_of later) x.may y.may;
       after = subst (λ (e : Course). StandsAt h e new) (sym (after_append c (calls_of t) (flat_map calls_of later))) y.after;

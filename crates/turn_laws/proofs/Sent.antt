@@ -27,7 +27,7 @@ use Rattle.turn_laws.specs.Legs.{AreTurns, first_line, sent_in, sent_on, whole_i
 use Rattle.turn_laws.proofs.Going.{after_append}
 use Rattle.turn_laws.proofs.Working.{turn_may_stand}
 use Rattle.turn_laws.proofs.Each.{closing_all, outbox_all}
-use Rattle.turn_laws.proofs.Running.{all_seen, turns_stand, begin_stands, cut_stands, whole_first}
+use Rattle.turn_laws.proofs.Running.{has_so_far, turns_stand, begin_stands, cut_stands, whole_first}
 
 -- a call by which the link takes nothing
 abbrev TakesNothing : Call → Type 0
@@ -98,9 +98,9 @@ work_takes w = (
 )
 
 -- the link took these bytes, the first of those written; where the connection has not ended, they are those counted
-record Took (c : Course) (sent : List ℕ) : Type 0 where
-  front : IsPrefix sent (bytes_written c.output)
-  exact : c.state.ending ≡ None → c.taken ≡ sent
+pub record Took (c : Course) (sent : List ℕ) : Type 0 where
+  pub front : IsPrefix sent (bytes_written c.output)
+  pub exact : c.state.ending ≡ None → c.taken ≡ sent
 
 front_of : (h : List Entry) (c : Course) (sent rest : List ℕ) → Stands h c → c.taken ++ c.state.unsent ≡ sent ++ rest → IsPrefix sent (bytes_written c.output)
 front_of h c sent rest st e = (rest, sym (st.bytes ∙ e))
@@ -149,7 +149,7 @@ work_parts w =
     let sending : List Call = sending_calls w.sent w.lost in
     ap (λ (cs : List Call). first ++ cs) (ap (λ (cs : List Call). frames ++ cs) (sym (append_assoc closing outbox sending)) ∙ sym (append_assoc frames (closing ++ outbox) sending))
 
-turn_took : (h : List Entry) (before after : History) (old new : Line) (t : Turn) (c : Course) → c.state ≡ old.machine → IsTurn before after old new t → Stands h (course_after c (calls_of t)) → Took (course_after c (calls_of t)) (c.taken ++ sent_in t)
+pub turn_took : (h : List Entry) (before after : History) (old new : Line) (t : Turn) (c : Course) → c.state ≡ old.machine → IsTurn before after old new t → Stands h (course_after c (calls_of t)) → Took (course_after c (calls_of t)) (c.taken ++ sent_in t)
 turn_took h before after old new (only_sends now sent lost) c is k st =
     behind_took h c (run old.machine (first_calls now)) (first_calls now) sent lost (tt, (tt, tt)) (state_is_run c (first_calls now) ∙ ap (λ (x : State). run x (first_calls now)) is) k.0.front st
 turn_took h before after old new (works w) c is k st =
@@ -169,17 +169,17 @@ turns_took : (h : List Entry) (before after : History) (old new : Line) (turns :
     → Took (course_after c (flat_map calls_of turns)) (c.taken ++ flat_map sent_in turns)
 turns_took h before after old new [] c s has a = record { front = front_of h c (c.taken ++ []) c.state.unsent s.stands (ap (λ (bs : List ℕ). bs ++ c.state.unsent) (sym (append-nil c.taken))); exact = λ _. sym (append-nil c.taken) }
 turns_took h before after old new (t ∷ []) c s has a =
-    let x = turn_may_stand h before a.2 old a.1 t c s (record { begins = subst (λ (v : History). IsPrefix v.made h) a.4.1 has.begins; few = has.few }) a.3 in
+    let x = turn_may_stand h before a.2 old a.1 t c s (has_so_far h before after old new t [] has a) a.3 in
     subst (λ (cs : List Call). Took (course_after c cs) (c.taken ++ (sent_in t ++ []))) (sym (append-nil (calls_of t)))
     (subst (λ (bs : List ℕ). Took (course_after c (calls_of t)) (c.taken ++ bs)) (sym (append-nil (sent_in t))) (turn_took h before a.2 old a.1 t c s.machine a.3 x.after.stands))
 turns_took h before after old new (t ∷ (u ∷ later)) c s has a =
     let mid : Line = a.1 in
     let between : History = a.2 in
-    let x = turn_may_stand h before between old mid t c s (record { begins = prefix_trans between.made after.made h (all_seen between after mid new (u ∷ later) a.4) has.begins; few = has.few }) a.3 in
+    let x = turn_may_stand h before between old mid t c s (has_so_far h before after old new t (u ∷ later) has a) a.3 in
     let d : Course = course_after c (calls_of t) in
     let more : List Call = flat_map calls_of (u ∷ later) in
-    let y : Took (course_after d more) (d.taken ++ flat_map sent_in (u ∷ later)) = turns_took h between after mid new (u ∷ later) d x.after has a.4 in
-    let is : d.taken ≡ c.taken ++ sent_in t = (turn_took h before between old mid t c s.machine a.3 x.after.stands).exact (ap (λ (m : State). m.ending) x.after.machine ∙ a.4.0) in
+    let y : Took (course_after d more) (d.taken ++ flat_map sent_in (u ∷ later)) = turns_took h a.4 after mid new (u ∷ later) d x.after has a.6 in
+    let is : d.taken ≡ c.taken ++ sent_in t = (turn_took h before between old mid t c s.machine a.3 x.after.stands).exact (ap (λ (m : State). m.ending) x.after.machine ∙ a.6.0) in
     subst (λ (e : Course). Took e (c.taken ++ (sent_in t ++ flat_map sent_in (u ∷ later)))) (sym (after_append c (calls_of t) more))
     (subst (λ (bs : List ℕ). Took (course_after d more) bs) (ap (λ (bs : List ℕ). bs ++ flat_map sent_in (u ∷ later)) is ∙ append_assoc c.taken (sent_in t) (flat_map sent_in (u ∷ later))) y)
 

@@ -3,7 +3,7 @@ use Rattle.std.specs.Prelude.{◌≡◌, ℕ, ◌-◌, ◌≤◌, ◌&&◌, Bool
 use Rattle.std.specs.List.{AllByRecursion, flat_map}
 use mathlib.Core.List.{IsPrefix}
 use Rattle.sofh_frame.specs.Framing.{IsBytes}
-use Rattle.session_model.specs.Journal.{Entry, History}
+use Rattle.session_model.specs.Journal.{Entry, History, BeginsHistory}
 use Rattle.session_model.specs.Inbox.{InboxRecord, next_number}
 use Rattle.fixp_replies.specs.Acts.{is_record}
 use Rattle.fixp_machine.specs.Machine.{State, Call, connected, taken, link_end, run}
@@ -16,11 +16,13 @@ use Rattle.connection_laws.specs.Ranges.{IsInTime}
 use Rattle.turn_laws.specs.Turns.{line_received, IsTurn, IsCutShort, IsCut}
 use Rattle.turn_laws.specs.Standing.{StandsAt, Has}
 
--- whole turns, one behind another: each is made of an open connection, and leaves the line and what was seen where the next finds them
+-- Whole turns, one behind another: each is made of an open connection, and leaves the line where the next finds it. The next one finds what
+-- was seen of the outbox, or more of it: a pass that takes over between two turns has seen all that the outbox has come to
 abbrev pub AreTurns : (before after : History) (old new : Line) → List Turn → Type 0
 AreTurns before after old new [] = (new ≡ old) × (after ≡ before)
 AreTurns before after old new (t ∷ later) =
-    (old.machine.ending ≡ None) × (mid : Line) × (between : History) × IsTurn before between old mid t × AreTurns between after mid new later
+    (old.machine.ending ≡ None) × (mid : Line) × (between : History) × IsTurn before between old mid t
+    × (found : History) × BeginsHistory between found × AreTurns found after mid new later
 
 -- a connection of a life: the moment of its beginning, its whole turns, and the one behind them that was cut short, if one was
 pub record TurnedLeg : Type 0 where

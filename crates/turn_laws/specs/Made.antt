@@ -11,7 +11,7 @@ use Rattle.conn_turns.specs.Lines.{Line, TakenFrame}
 use Rattle.conn_turns.specs.Turns.{Turn, only_sends, works, link_lost, cut_short, not_begun, first_calls, calls_of_frames, closing_calls, outbox_calls}
 use Rattle.conn_turns.specs.Exact.{Received, line_ticked, most_held}
 use Rattle.conn_loop.specs.Conn.{answer_of}
-use Rattle.conn_loop.specs.Live.{LiveEnd}
+use Rattle.conn_loop.specs.Live.{EndAt}
 use Rattle.conn_loop.specs.Moving.{IsLossOf}
 use Rattle.turn_laws.specs.Turns.{IsTurn, IsCutShort}
 use Rattle.turn_laws.specs.Legs.{given_in, sent_in, moment_of}
@@ -26,7 +26,7 @@ pub record TurnAt : Type 0 where
   pub line : Line
 
 -- a live end, by what its clock gave last
-abbrev pub turn_at : {J : Type 0} {G : Ghosts J} → LiveEnd J G → ℕ → TurnAt
+abbrev pub turn_at : {J : Type 0} {G : Ghosts J} → EndAt J G → ℕ → TurnAt
 turn_at e clock = record { told = e.told; carried = e.carried; seen = e.seen; clock = clock; line = e.line }
 
 -- the calls of a whole turn before it sends

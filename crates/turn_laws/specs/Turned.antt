@@ -12,7 +12,7 @@ use Rattle.conn_turns.specs.Lines.{TakenFrame, reply_at, lines_after}
 use Rattle.conn_turns.specs.Frames.{added, told}
 use Rattle.conn_turns.specs.Turns.{Turn, cut_short}
 use Rattle.conn_steps.specs.Settling.{IsPast, Gains, Refuses}
-use Rattle.conn_loop.specs.Live.{LiveEnd}
+use Rattle.conn_loop.specs.Live.{EndAt}
 use Rattle.conn_loop.specs.Turned.{DidTurn, NotBegun, CutTurn, refused_of, wanted_of}
 use Rattle.turn_laws.specs.Turns.{line_received, adds_in, tells_in}
 use Rattle.turn_laws.specs.Legs.{IsTimelyTurn}
@@ -21,7 +21,7 @@ use Rattle.turn_laws.specs.Made.{turn_at, MadeTurn, MadeCut}
 module _ {J : Type 0} {G : Ghosts J} where
   -- It was a whole turn, in time, by a clock that gave these moments last: the inbox gained what that adds, the news are what it tells,
   -- and the link gave and took what it received and sent
-  pub record WasTurn (eager : Bool) (before after : ℕ) (old new : LiveEnd J G) : Type 0 where
+  pub record WasTurn (eager : Bool) (before after : ℕ) (old new : EndAt J G) : Type 0 where
     pub turn : Turn
     pub made : MadeTurn eager (turn_at old before) (turn_at new after) turn
     pub timely : IsTimelyTurn turn
@@ -31,7 +31,7 @@ module _ {J : Type 0} {G : Ghosts J} where
   -- a turn that answers, and one whose link failed, was a whole one, where it was in time, whatever the inboxes of this kind
   abbrev pub TurnIsOne : Inbox J G → Type 0
   TurnIsOne box =
-      (eager : Bool) (before after : ℕ) (old new : LiveEnd J G) (result : Result TurnEnd TurnFault)
+      (eager : Bool) (before after : ℕ) (old new : EndAt J G) (result : Result TurnEnd TurnFault)
       → IsInTime (max after old.line.machine.moment) → before ≤ after → DidTurn (max after old.line.machine.moment) eager old new result
       → WasTurn eager before after old new
 
@@ -39,7 +39,7 @@ module _ {J : Type 0} {G : Ghosts J} where
   -- stop may leave of the refused one what its fault may, and the news are what the frames tell. At Full its journal has no room for the
   -- record of the refused one, whose act is a record unless memory ran out; and where one was refused the fault is not the link's nor the
   -- outbox's
-  pub record WasCut (eager : Bool) (before after : ℕ) (old new : LiveEnd J G) (fault : TurnFault) : Type 0 where
+  pub record WasCut (eager : Bool) (before after : ℕ) (old new : EndAt J G) (fault : TurnFault) : Type 0 where
     pub now : ℕ
     pub received : List ℕ
     pub frames : List TakenFrame
@@ -59,6 +59,6 @@ module _ {J : Type 0} {G : Ghosts J} where
   -- one that answers another fault had not begun, or was cut short, where it was in time
   abbrev pub CutIsOne : Inbox J G → Type 0
   CutIsOne box =
-      (eager : Bool) (before after : ℕ) (old new : LiveEnd J G) (fault : TurnFault)
+      (eager : Bool) (before after : ℕ) (old new : EndAt J G) (fault : TurnFault)
       → IsInTime (max after old.line.machine.moment) → before ≤ after → CutTurn (max after old.line.machine.moment) eager old new fault
       → NotBegun old new fault ⊎ WasCut eager before after old new fault

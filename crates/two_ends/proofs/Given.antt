@@ -136,7 +136,7 @@ turns_read : (before after : History) (old new : Line) (turns : List Turn) (give
 turns_read before after old new [] given is r a = reads_on given is old.held new.held [] r (ap (λ (l : Line). l.held) a.0) refl
 turns_read before after old new (t ∷ later) given is r a =
     let x = turn_reads before a.2 old a.1 t given is r a.3 in
-    let y = turns_read a.2 after a.1 new later (given ++ given_in t) (is ++ came (calls_of t)) x a.4 in
+    let y = turns_read a.4 after a.1 new later (given ++ given_in t) (is ++ came (calls_of t)) x a.6 in
     subst (λ (bs : List ℕ). Reads bs (is ++ came (calls_of t ++ flat_map calls_of later)) new.held) (append_assoc given (given_in t) (flat_map given_in later))
     (subst (λ (js : List Incoming). Reads ((given ++ given_in t) ++ flat_map given_in later) js new.held)
     (append_assoc is (came (calls_of t)) (came (flat_map calls_of later)) ∙ ap (λ (js : List Incoming). is ++ js) (sym (came_append (calls_of t) (flat_map calls_of later)))) y)

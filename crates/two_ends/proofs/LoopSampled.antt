@@ -102,7 +102,7 @@ of_a = record {
   before = nothing;
   after = nothing;
   last = sent_in mid_a work_a;
-  turns = (refl, mid_a, nothing, (sends_a, refl), (refl, sent_in mid_a work_a, nothing, works_a, (refl, refl)));
+  turns = (refl, mid_a, nothing, (sends_a, refl), nothing, same, (refl, sent_in mid_a work_a, nothing, works_a, nothing, same, (refl, refl)));
   cut = tt;
   has = record { begins = prefix_self []; few = omega arith };
 }
@@ -143,7 +143,7 @@ of_b = record {
   before = nothing;
   after = nothing;
   last = sent_in first_b work_b;
-  turns = (refl, sent_in first_b work_b, nothing, works_b, (refl, refl));
+  turns = (refl, sent_in first_b work_b, nothing, works_b, nothing, same, (refl, refl));
   cut = tt;
   has = record { begins = prefix_self []; few = omega arith };
 }

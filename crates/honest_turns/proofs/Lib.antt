@@ -1,0 +1,14 @@
+pub mod Reaching
+pub mod Calling
+pub mod Hearing
+pub mod Turning
+pub mod Opening
+pub mod Stopping
+pub mod Linking
+pub mod Connecting
+pub mod Resting
+pub mod Living
+pub mod Timing
+pub mod Renewing
+pub mod Sampled
+pub mod Counted
