@@ -34,7 +34,7 @@ use Rattle.conn_turns.specs.declared.answer.TurnFault.TheVariants as faults
 use Rattle.conn_steps.specs.Agreeing.{Agrees}
 use Rattle.conn_loop.specs.declared.conn.Conn.{Conn}
 use Rattle.conn_loop.specs.Conn.{line_of, new_line, line_begun, line_cut, answer_of, GoesOn, HasSeen}
-use Rattle.conn_loop.specs.Live.{LiveEnd}
+use Rattle.conn_loop.specs.Live.{EndAt}
 use Rattle.conn_loop.specs.Turned.{DidTurn, Exchanged, Leaves}
 use Rattle.fixp_shake.specs.declared.config.EndConfig.{EndConfig}
 use Rattle.conn_loop.proofs.Working.{seen_same}
@@ -137,12 +137,12 @@ module _ {J : Type 0} {G : Ghosts J} where
   rests m p box some l = record { over = λ _. some; time = l.time; sent = l.sent; credentials = l.credentials; seen = l.seen; agrees = l.agrees }
 
   -- a turn moves the place by the bytes of at most 16 frames
-  worked_place : (now : ℕ) (eager : Bool) (old new : LiveEnd J G) (result : Result TurnEnd TurnFault) → Exchanged now eager old new result → new.line.place ≤ old.line.place + 262240
+  worked_place : (now : ℕ) (eager : Bool) (old new : EndAt J G) (result : Result TurnEnd TurnFault) → Exchanged now eager old new result → new.line.place ≤ old.line.place + 262240
   worked_place now eager old new result (inl w) =
       omega (arith, ap (λ (x : Line). x.place) w.line, w.served.place, frames_place w.work.now _ w.work.frames w.served.frames, w.served.few)
   worked_place now eager old new result (inr z) = omega (arith, ap (λ (x : Line). x.place) z.line)
 
-  pub turn_place : (now : ℕ) (eager : Bool) (old new : LiveEnd J G) (result : Result TurnEnd TurnFault) → DidTurn now eager old new result → new.line.place ≤ old.line.place + 262240
+  pub turn_place : (now : ℕ) (eager : Bool) (old new : EndAt J G) (result : Result TurnEnd TurnFault) → DidTurn now eager old new result → new.line.place ≤ old.line.place + 262240
   turn_place now eager old new result (inl x) = omega (arith, ap (λ (y : Line). y.place) x.sent.line)
   turn_place now eager old new result (inr y) = worked_place now eager (record old { line = line_ticked old.line now }) new result y.exchanged
 

@@ -2,6 +2,7 @@
 use Rattle.std.proofs.Common.{◌≡◌, ℕ, Bool, List, [], ◌∷◌, ◌++◌, Option, Some, None, ap, subst}
 use Rattle.session_model.specs.Journal.{History, BeginsHistory}
 use Rattle.session_model.specs.Inbox.{InboxRecord}
+use Rattle.gate_turn.proofs.Histories.{begins_self}
 use Rattle.fixp_machine.specs.Machine.{State}
 use Rattle.conn_turns.specs.declared.news.NewsItem.{NewsItem}
 use Rattle.conn_turns.specs.declared.answer.TurnFault.{TurnFault}
@@ -19,7 +20,7 @@ pub were_are_turns : WereAreTurns
 were_are_turns eager old new [] news adds were = (ap (λ (x : TurnAt). x.line) were.0, ap (λ (x : TurnAt). x.seen) were.0)
 were_are_turns eager old new (t ∷ later) news adds were =
     let (unended, mid, made, told, added, news_are, adds_are, behind) = were in
-    (unended, mid.line, mid.seen, made.is, were_are_turns eager mid new later told added behind)
+    (unended, mid.line, mid.seen, made.is, mid.seen, begins_self mid.seen, were_are_turns eager mid new later told added behind)
 
 -- a connection without its link: whole turns of the line and of what was seen
 abbrev pub PlainTurns : (before after : History) (old new : Line) → List Turn → List NewsItem → List InboxRecord → Type 0
@@ -33,7 +34,7 @@ pub plain_are_turns : (before after : History) (old new : Line) (turns : List Tu
 plain_are_turns before after old new [] news adds were = (were.0, were.1)
 plain_are_turns before after old new (t ∷ later) news adds were =
     let (unended, mid, between, is, told, added, news_are, adds_are, behind) = were in
-    (unended, mid, between, is, plain_are_turns between after mid new later told added behind)
+    (unended, mid, between, is, between, begins_self between, plain_are_turns between after mid new later told added behind)
 
 -- one that was cut short, if one was
 pub record PlainCutAt (last : Line) (t : Turn) (news : List NewsItem) (adds refused wanted : List InboxRecord) : Type 0 where

@@ -349,7 +349,7 @@ module _ {J : Type 0} {G : Ghosts J} where
   round_given over n old new m m' faults.Turns is g = g
   round_given over n old new m m' faults.Memory is g = inr g
 
-  made_none : (dialed later : Option DialerTold) (out : Option (List ℕ)) (seen : History) (m : State) (box : Inbox J G) → later ≡ dialed → MadeNone (life_at dialed out seen box) (life_at later out seen box) m m
+  pub made_none : (dialed later : Option DialerTold) (out : Option (List ℕ)) (seen : History) (m : State) (box : Inbox J G) → later ≡ dialed → MadeNone (life_at dialed out seen box) (life_at later out seen box) m m
   made_none dialed later out seen m box same = record {
     same_dialer = subst (λ (d : Option DialerTold). AllCame dialed d []) (sym same) (came_none dialed);
     same_out = Appends-nil out;
@@ -368,6 +368,11 @@ module _ {J : Type 0} {G : Ghosts J} where
   round_none carried_of over n dialed later out seen m box (faults.Full entries bytes) next phase_is = absurd next
   round_none carried_of over n dialed later out seen m box faults.Turns next phase_is = absurd next
   round_none carried_of over n dialed later out seen m box faults.Memory next phase_is = absurd next
+
+  -- the dialer was told to stop before a connection came
+  pub round_stopped : {L : Type 0} (carried_of : L → Option Carried) (over : LinkSeen → Type 0) (n : ℕ) (dialed later : Option DialerTold) (out : Option (List ℕ)) (seen : History) (m : State) (box : Inbox J G)
+      → IsNext carried_of dialed later (Ok None) → IsRound over n (life_at dialed out seen box) (life_at later out seen box) m m (Ok (Some ends.Stopped))
+  round_stopped carried_of over n dialed later out seen m box next = inr (made_none dialed later out seen m box next)
 
   -- ---- a life so far: the connection of the number n is next
 
@@ -511,13 +516,15 @@ module _ {J : Type 0} {G : Ghosts J} where
       over_none G' p q q (Ok ends.Stopped) n old new new m m' m' l (made_none new.dialed new.dialed new.out new.seen m' new.box refl) (omega arith) l.lived.followed
 
   pub over_ok : {L : Type 0} (G' : LinkGhosts L) (p q t : ℕ) (end : LifeEnd) (n : ℕ) (old mid new : LifeAt J G) (m m' m'' : State)
-      → LivedTo G' p q n old mid m m' → IsRound (IsOverBy G' q t) n mid new m' m'' (Ok (Some end))
+      → LivedTo G' p q n old mid m m' → IsRound (IsOverBy G' q t) n mid new m' m'' (Ok (Some end)) → q ≤ t
       → ServedOver G' p t old new m (Ok end)
-  over_ok G' p q t ends.Finished n old mid new m m' m'' l r =
+  over_ok G' p q t ends.Finished n old mid new m m' m'' l r later =
       over_ended G' p q t (Ok ends.Finished) n old mid new m m' m'' (closes.Ended endings.Finished) l r
       (refl, record { earlier = l.ended; last = r.connection; are = refl; closed = r.closed; followed = l.lived.followed })
-  over_ok G' p q t ends.Stopped n old mid new m m' m'' l r =
-      over_given G' p q t (Ok ends.Stopped) None n old mid new m m' l r refl (λ entries bytes e. cc) l.lived.followed
+  over_ok G' p q t ends.Stopped n old mid new m m' m'' l (inl g) later =
+      over_given G' p q t (Ok ends.Stopped) None n old mid new m m' l g refl (λ entries bytes e. cc) l.lived.followed
+  over_ok G' p q t ends.Stopped n old mid new m m' m'' l (inr none) later =
+      over_none G' p q t (Ok ends.Stopped) n old mid new m m' m'' l none later l.lived.followed
 
   pub over_err : {L : Type 0} (G' : LinkGhosts L) (p q t : ℕ) (fault : ServeFault) (n : ℕ) (old mid new : LifeAt J G) (m m' m'' : State)
       → LivedTo G' p q n old mid m m' → IsRound (IsOverBy G' q t) n mid new m' m'' (Err fault) → q ≤ t

@@ -17,7 +17,7 @@ use Rattle.conn_serve.specs.declared.answer.ServeFault.{ServeFault}
 use Rattle.conn_serve.specs.declared.answer.ServeFault.TheVariants as faults
 use Rattle.conn_serve.specs.declared.answer.LifeEnd.{LifeEnd}
 use Rattle.conn_serve.specs.declared.answer.LifeEnd.TheVariants as ends
-use Rattle.conn_serve.specs.Answers.{answer_of, yields}
+use Rattle.conn_serve.specs.Answers.{answer_of, yields, yields_to}
 use Rattle.conn_serve.specs.Senders.{refusal_of, OnlyClosed, IsRefusal, FinishedFirst, SubmittedAll, SomeMarked}
 use Rattle.conn_serve.specs.Opening.{ServedBy, IsUnrefused}
 use Rattle.conn_serve.specs.Moments.{ServingAt}
@@ -116,14 +116,25 @@ module _ {O : Type 0} {H : Ghosts O} where
       by_kind (inl x) = subst (λ (l : List (Sender O H)). Seated gate l made) (sym x.0) ran_seated
       by_kind (inr x) = finished_seated gate made s.ran after refused s.ready x.2 ran_seated
 
+-- one that does not yield to some refusal is none that yields to each
+firm_to : (e f : ServeFault) → yields_to e f ≡ false → yields e ≡ false
+firm_to faults.Output f is = refl
+firm_to faults.Journal f is = refl
+firm_to faults.Dial f is = refl
+firm_to (faults.Unfinished phase) f is = is
+firm_to (faults.Rejected template code) f is = is
+firm_to (faults.Full entries bytes) f is = refl
+firm_to faults.Turns f is = is
+firm_to faults.Memory f is = refl
+
 unanswered : (connections : Result LifeEnd ServeFault) (f : ServeFault) → yields f ≡ false → IsUnrefused (answer_of connections (Some f)) → ⊥
 unanswered (Ok ends.Finished) f firm u = false≢true (sym firm ∙ u)
 unanswered (Ok ends.Stopped) f firm u = false≢true (sym firm ∙ u)
-unanswered (Err e) f firm u = by_kind (yields e) refl u
+unanswered (Err e) f firm u = by_kind (yields_to e f) refl u
   where
-    by_kind : (b : _) → yields e ≡ b → IsUnrefused (if b then Err f else Err e) → ⊥
+    by_kind : (b : _) → yields_to e f ≡ b → IsUnrefused (if b then Err f else Err e) → ⊥
     by_kind true is u = false≢true (sym firm ∙ u)
-    by_kind false is u = false≢true (sym is ∙ u)
+    by_kind false is u = false≢true (sym (firm_to e f is) ∙ u)
 
 module _ {J : Type 0} {G : Ghosts J} {O : Type 0} {H : Ghosts O} where
   pub marked_by : (gate : Gate O H) (old new : ServingAt J G O H) (m : State) (result : Result (Unit {0}) ServeFault)

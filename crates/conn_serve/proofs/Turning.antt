@@ -42,7 +42,7 @@ use Rattle.conn_serve.specs.Causes.{lacks, lacks_at, Tells}
 use Rattle.conn_serve.specs.Turned.{Turned, CutOff, GivenUp, Begins, TurnedOn, GivenUpOn}
 use Rattle.conn_serve.specs.Answers.{close_of, IsOfTurn}
 use Rattle.conn_serve.proofs.Shortness.{turn_short, told_short, told_few, turn_few}
-use Rattle.conn_loop.specs.Live.{LiveEnd, live_end}
+use Rattle.conn_loop.specs.Live.{EndAt, live_end}
 use Rattle.conn_serve.specs.Moments.{ConnectionAt, connection_at, turn_in}
 
 -- ---- lists of turns
@@ -174,15 +174,15 @@ memory_turn fault why memory is = let same : close_of (Err turn_faults.Memory) �
 module _ {J : Type 0} {G : Ghosts J} where
   -- ---- what a turn told is short
 
-  pub was_short : (eager : Bool) (before after : ℕ) (old new : LiveEnd J G) → old.news ≡ [] → WasTurn eager before after old new → All IsShort new.news
+  pub was_short : (eager : Bool) (before after : ℕ) (old new : EndAt J G) → old.news ≡ [] → WasTurn eager before after old new → All IsShort new.news
   was_short eager before after old new none was =
       subst (All IsShort) (sym (was.news_are ∙ ap (λ (ns : List NewsItem). ns ++ tells_in old.line was.turn) none)) (turn_short old.seen new.seen old.line new.line was.turn was.made.is)
 
-  pub cut_is_short : (eager : Bool) (before after : ℕ) (old new : LiveEnd J G) (why : ServeFault) → old.news ≡ [] → CutOff eager before after old new why → All IsShort new.news
+  pub cut_is_short : (eager : Bool) (before after : ℕ) (old new : EndAt J G) (why : ServeFault) → old.news ≡ [] → CutOff eager before after old new why → All IsShort new.news
   cut_is_short eager before after old new why none c = by_kind c.cut
     where
       by_kind : NotBegun old new c.fault ⊎ WasCut eager before after old new c.fault → All IsShort new.news
-      by_kind (inl n) = subst (All IsShort) (sym (ap (λ (e : LiveEnd J G). e.news) n.1 ∙ none)) (All-nil IsShort)
+      by_kind (inl n) = subst (All IsShort) (sym (ap (λ (e : EndAt J G). e.news) n.1 ∙ none)) (All-nil IsShort)
       by_kind (inr k) =
           let l : Line = line_received old.line k.now k.received k.made.cut.got in
           subst (All IsShort) (sym (k.news_are ∙ ap (λ (ns : List NewsItem). ns ++ told k.now l k.frames) none)) (told_short k.now l k.frames k.made.cut.taken)
@@ -190,7 +190,7 @@ module _ {J : Type 0} {G : Ghosts J} where
   -- ---- turns
 
   -- a connection between its turns, as its next turn finds it, and as it leaves it with these news
-  abbrev end_at : ConnectionAt J G → List NewsItem → LiveEnd J G
+  abbrev end_at : ConnectionAt J G → List NewsItem → EndAt J G
   end_at c news = live_end c.told c.carried c.seen c.line c.box news
 
   pub turned_none : (eager : Bool) (told : Option LinkTold) (carried : Option Carried) (out : Option (List ℕ)) (seen : History) (clock : ℕ) (l : Line) (box : Inbox J G)
@@ -359,13 +359,13 @@ module _ {J : Type 0} {G : Ghosts J} where
     is_cut = (refl, refl, refl, refl, record { moved = still; clock = ticks });
     timely = tt;
     moved = still;
-    refuses = subst (λ (e : LiveEnd J G). Refuses old.box e.box [] []) (sym n.1) (refuses_none old.box old.box [] (gains_none old.box old.box refl));
+    refuses = subst (λ (e : EndAt J G). Refuses old.box e.box [] []) (sym n.1) (refuses_none old.box old.box [] (gains_none old.box old.box refl));
     lines = record {
       earlier = [];
       late = [];
       are = refl;
       few = omega arith;
-      lines = record { between = old.out; first = Appends-nil old.out; last = subst (λ (ns : List NewsItem). Tells (lacks fault) old.out new.out (news_lines ns)) (ap (λ (e : LiveEnd J G). e.news) n.1) lines };
+      lines = record { between = old.out; first = Appends-nil old.out; last = subst (λ (ns : List NewsItem). Tells (lacks fault) old.out new.out (news_lines ns)) (ap (λ (e : EndAt J G). e.news) n.1) lines };
     };
     spent = λ e. absurd (no_turns (cc));
     cut_short = (λ e. absurd (no_journal (cc)), λ entries bytes e. absurd (no_full entries bytes (cc)));
@@ -373,7 +373,7 @@ module _ {J : Type 0} {G : Ghosts J} where
   }
     where
       still : Moved old.told new.told old.carried new.carried [] []
-      still = subst (λ (e : LiveEnd J G). Moved old.told e.told old.carried e.carried [] []) (sym n.1) (moved_none old.told old.carried)
+      still = subst (λ (e : EndAt J G). Moved old.told e.told old.carried e.carried [] []) (sym n.1) (moved_none old.told old.carried)
 
       memory : why ≡ faults.Memory
       memory = memory_turn turn_fault why n.0 is

@@ -71,7 +71,7 @@ IsOfConnection (faults.Full entries bytes) = ⊤
 IsOfConnection faults.Turns = ⊤
 IsOfConnection faults.Memory = ⊤
 
--- a fault of the connections' side that yields to a refusal of a sender or of the Finish
+-- a fault of the connections' side that yields to each refusal of a sender or of the Finish
 abbrev pub yields : ServeFault → Bool
 yields faults.Output = false
 yields faults.Journal = false
@@ -82,6 +82,28 @@ yields (faults.Full entries bytes) = false
 yields faults.Turns = true
 yields faults.Memory = false
 
+-- that a journal failed
+abbrev pub is_journal : ServeFault → Bool
+is_journal faults.Output = false
+is_journal faults.Journal = true
+is_journal faults.Dial = false
+is_journal (faults.Unfinished phase) = false
+is_journal (faults.Rejected template code) = false
+is_journal (faults.Full entries bytes) = false
+is_journal faults.Turns = false
+is_journal faults.Memory = false
+
+-- a fault of the connections' side that yields to this refusal: one that yields to each, and that of the dialer to a failed journal
+abbrev pub yields_to : (fault refusal : ServeFault) → Bool
+yields_to faults.Output refusal = false
+yields_to faults.Journal refusal = false
+yields_to faults.Dial refusal = is_journal refusal
+yields_to (faults.Unfinished phase) refusal = true
+yields_to (faults.Rejected template code) refusal = true
+yields_to (faults.Full entries bytes) refusal = false
+yields_to faults.Turns refusal = true
+yields_to faults.Memory refusal = false
+
 -- a refusal is answered unless the connections' side ended with a fault that does not yield to it. Connections that were told to stop
 -- without one want memory
 abbrev pub answer_of : Result LifeEnd ServeFault → Option ServeFault → Result (Unit {0}) ServeFault
@@ -90,4 +112,4 @@ answer_of (Ok ends.Finished) (Some refusal) = Err refusal
 answer_of (Ok ends.Stopped) None = Err faults.Memory
 answer_of (Ok ends.Stopped) (Some refusal) = Err refusal
 answer_of (Err fault) None = Err fault
-answer_of (Err fault) (Some refusal) = if yields fault then Err refusal else Err fault
+answer_of (Err fault) (Some refusal) = if yields_to fault refusal then Err refusal else Err fault

@@ -1,6 +1,7 @@
 pub mod Answers
 pub mod Connections
 pub mod Moments
+pub mod Ends
 pub mod Lines
 pub mod Causes
 pub mod Turned

@@ -56,9 +56,10 @@ pub record IsNextLink {L : Type 0} (carried : L → Option Carried) (link : L) (
   pub tells : IsTrue (is_some old) → IsTrue (is_some (carried link))
 
 -- The next link of a dialer, which had carried nothing, and tells what it carried where the dialer tells its links; where there was
--- none, none is left exactly where the answer says so
-abbrev pub IsNext : {L : Type 0} → (L → Option Carried) → (old new : Option DialerTold) → Result L ServeFault → Type 0
-IsNext carried old new (Ok link) = IsNextLink carried link old new
+-- none, none is left where the answer says so; and where the dialer was told to stop, None, it is as it was
+abbrev pub IsNext : {L : Type 0} → (L → Option Carried) → (old new : Option DialerTold) → Result (Option L) ServeFault → Type 0
+IsNext carried old new (Ok (Some link)) = IsNextLink carried link old new
+IsNext carried old new (Ok None) = new ≡ old
 IsNext carried old new (Err faults.Output) = ⊥
 IsNext carried old new (Err faults.Journal) = ⊥
 IsNext carried old new (Err faults.Dial) = new ≡ old
@@ -189,7 +190,7 @@ module _ {J : Type 0} {G : Ghosts J} where
   abbrev pub IsRound : (over : LinkSeen → Type 0) (n : ℕ) (old new : LifeAt J G) (m m' : State) → Result (Option LifeEnd) ServeFault → Type 0
   IsRound over n old new m m' (Ok None) = (close : Close) × Follows close × EndedOne over n false old new m m' close
   IsRound over n old new m m' (Ok (Some ends.Finished)) = EndedOne over n false old new m m' (closes.Ended endings.Finished)
-  IsRound over n old new m m' (Ok (Some ends.Stopped)) = GaveOneUp over None old new m
+  IsRound over n old new m m' (Ok (Some ends.Stopped)) = GaveOneUp over None old new m ⊎ MadeNone old new m m'
   IsRound over n old new m m' (Err faults.Output) = ((close : Close) × EndedOne over n true old new m m' close) ⊎ GaveOneUp over (Some faults.Output) old new m
   IsRound over n old new m m' (Err faults.Journal) = GaveOneUp over (Some faults.Journal) old new m
   IsRound over n old new m m' (Err faults.Dial) = MadeNone old new m m'

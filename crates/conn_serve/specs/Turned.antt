@@ -17,7 +17,7 @@ use Rattle.conn_turns.specs.declared.answer.TurnFault.{TurnFault}
 use Rattle.conn_steps.specs.Settling.{IsPast, Gains, Refuses}
 use Rattle.conn_steps.specs.Agreeing.{Agrees}
 use Rattle.conn_loop.specs.Conn.{HasSeen}
-use Rattle.conn_loop.specs.Live.{LiveEnd}
+use Rattle.conn_loop.specs.Live.{EndAt}
 use Rattle.conn_loop.specs.Turned.{NotBegun}
 use Rattle.connection_laws.specs.Ranges.{IsInTime}
 use Rattle.turn_laws.specs.Legs.{given_in, sent_in, first_line, IsTimelyTurn}
@@ -52,7 +52,7 @@ module _ {J : Type 0} {G : Ghosts J} where
     pub lines : Appends old.out new.out (news_lines news)
 
   -- a turn had not begun, or was cut short, by a fault, which is this one to its connection, by a clock that gave these moments last
-  pub record CutOff (eager : Bool) (before after : ℕ) (old new : LiveEnd J G) (why : ServeFault) : Type 0 where
+  pub record CutOff (eager : Bool) (before after : ℕ) (old new : EndAt J G) (why : ServeFault) : Type 0 where
     pub fault : TurnFault
     pub is : close_of (Err fault) ≡ Err why
     pub cut : NotBegun old new fault ⊎ WasCut eager before after old new fault

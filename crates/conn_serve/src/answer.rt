@@ -1,7 +1,7 @@
 //! How a life of connections ends.
 
 ghost use Rattle.std.specs.Prelude.{◌≡◌};
-ghost use Rattle.conn_serve.specs.Answers.{close_of, submit_fault, finish_fault, yields, answer_of};
+ghost use Rattle.conn_serve.specs.Answers.{close_of, submit_fault, finish_fault, yields_to, answer_of};
 
 use conn_lines::Close;
 use conn_turns::{TurnEnd, TurnFault};
@@ -84,22 +84,22 @@ pub(crate) fn refused_finish(fault: CloseFault) -> Option<ServeFault>
     }
 }
 
-/// Whether a fault of the connections' side yields to a refusal of a sender: the life was not finished, and nothing failed.
-fn yields(fault: ServeFault) -> bool
-    ensures { result ≡ yields fault }
+/// Whether a fault of the connections' side yields to this refusal of a sender: where the life was not finished, and nothing failed;
+/// and where the dialer failed and the refusal is that of a journal, since no other dial would mend that.
+fn yields_to(fault: ServeFault, refusal: ServeFault) -> bool
+    ensures { result ≡ yields_to fault refusal }
 {
     match fault {
         ServeFault::Unfinished { .. } | ServeFault::Rejected { .. } | ServeFault::Turns => true,
-        ServeFault::Output
-        | ServeFault::Journal
-        | ServeFault::Dial
-        | ServeFault::Full { .. }
-        | ServeFault::Memory => false,
+        ServeFault::Dial => matches!(refusal, ServeFault::Journal),
+        ServeFault::Output | ServeFault::Journal | ServeFault::Full { .. } | ServeFault::Memory =>
+            false,
     }
 }
 
 /// The answer of a life whose connections ended so, and whose senders were refused so, if they were. A fault of the
-/// connections' side comes first, then a refusal, and then that the session was not finished.
+/// connections' side comes first, but that a journal failed comes before that the dialer did; then a refusal; and then that the
+/// session was not finished.
 pub(crate) fn answer_of(
     connections: Result<LifeEnd, ServeFault>,
     refused: Option<ServeFault>,
@@ -113,12 +113,9 @@ pub(crate) fn answer_of(
         },
         // Only a refusal tells the connections to stop.
         Ok(LifeEnd::Stopped) => Err(refused.unwrap_or(ServeFault::Memory)),
-        Err(fault) => {
-            if yields(fault) {
-                Err(refused.unwrap_or(fault))
-            } else {
-                Err(fault)
-            }
-        }
+        Err(fault) => match refused {
+            Some(refusal) if yields_to(fault, refusal) => Err(refusal),
+            _ => Err(fault),
+        },
     }
 }

@@ -10,8 +10,8 @@ ghost use Rattle.gw_outside.specs.Faults.{HasRisen};
 ghost use Rattle.conn_lines.specs.declared.close.Close.{Close};
 ghost use Rattle.conn_lines.specs.declared.close.Close.TheVariants as closes;
 ghost use Rattle.conn_steps.specs.Settling.{SameKind};
-ghost use Rattle.conn_steps.specs.Agreeing.{Agrees};
-ghost use Rattle.conn_loop.specs.Conn.{line_of, GoesOn, HasSeen, Looks};
+ghost use Rattle.conn_loop.specs.Conn.{line_of, Looks};
+ghost use Rattle.conn_loop.specs.Ends.{line_in, pass_in, in_turn, MayTurn, Stays};
 ghost use Rattle.conn_loop.specs.Turned.{Leaves};
 ghost use Rattle.turn_laws.specs.Turned.{WasTurn};
 ghost use Rattle.conn_serve.specs.Answers.{IsOfTurn, IsOfConnection};
@@ -19,13 +19,13 @@ ghost use Rattle.conn_serve.specs.Connections.{ClosesAs};
 ghost use Rattle.conn_serve.specs.Lines.{IsShort};
 ghost use Rattle.conn_serve.specs.Causes.{IsBlamed};
 ghost use Rattle.conn_serve.specs.Turned.{CutOff, Turned, GivenUp, TurnedOn, GivenUpOn, MayBegin};
-ghost use Rattle.conn_loop.specs.Live.{live_end};
+ghost use Rattle.conn_serve.specs.Ends.{connection_in, faults_in_end};
 ghost use Rattle.conn_serve.specs.Moments.{connection_at, faults_at};
 
 use crate::answer::{ServeFault, close_of};
 use crate::news::Teller;
 use conn_lines::Close;
-use conn_loop::Conn;
+use conn_loop::{Conn, LiveEnd};
 use conn_turns::News;
 use gate_senders::{Gate, Kept};
 use gate_turn::Pass;
@@ -41,84 +41,57 @@ const TURNS: u64 = 1 << 40;
 
 /// One turn. Answers how the connection came to its end, where it did.
 fn make_turn<L: Link, O: Journal, I: Journal, C: Clock, R: Wait>(
-    conn: &mut Conn,
+    end: &mut LiveEnd<'_, O, I, C>,
     link: &mut L,
-    gate: &Gate<O>,
-    pass: &mut Pass<Kept<O>>,
-    inbox: &mut Inbox<I>,
-    clock: &mut C,
     news: &mut News,
     rt: &R,
 ) -> Result<Option<Close>, ServeFault>
-    requires own { IsPassAt gate.now pass.old }
-    requires free { IsFree pass.old }
-    requires goes { GoesOn (line_of conn.old).machine }
-    requires place { (line_of conn.old).place < 2 ^ 63 }
-    requires seen { HasSeen (line_of conn.old).machine (known pass.old) }
-    requires agrees { Agrees (line_of conn.old).machine inbox.old }
-    ensures own { IsPassAt gate.now pass.new }
-    ensures free { IsFree pass.new }
-    ensures looks { Looks (known pass.old) (known pass.new) }
-    ensures whole { OnOk result (WasTurn L.eager (C.last clock.old) (C.last clock.new) (live_end (L.told link.old) (L.carried link.old) (known pass.old).seen (line_of conn.old) inbox.old []) (live_end (L.told link.new) (L.carried link.new) (known pass.new).seen (line_of conn.new) inbox.new (items_of news.new))) }
-    ensures cut { IfErr result (CutOff L.eager (C.last clock.old) (C.last clock.new) (live_end (L.told link.old) (L.carried link.old) (known pass.old).seen (line_of conn.old) inbox.old []) (live_end (L.told link.new) (L.carried link.new) (known pass.new).seen (line_of conn.new) inbox.new (items_of news.new))) }
+    requires may { MayTurn end.old }
+    requires place { (line_in end.old).place < 2 ^ 63 }
+    ensures stays { Stays end.old end.new }
+    ensures whole { OnOk result (WasTurn L.eager (C.last end.old.clock.now) (C.last end.new.clock.now) (in_turn (L.told link.old) (L.carried link.old) end.old []) (in_turn (L.told link.new) (L.carried link.new) end.new (items_of news.new))) }
+    ensures cut { IfErr result (CutOff L.eager (C.last end.old.clock.now) (C.last end.new.clock.now) (in_turn (L.told link.old) (L.carried link.old) end.old []) (in_turn (L.told link.new) (L.carried link.new) end.new (items_of news.new))) }
     ensures short { All IsShort (items_of news.new) }
-    ensures goes { result ≡ Ok None → GoesOn (line_of conn.new).machine }
-    ensures closed { (close : Close) → result ≡ Ok (Some close) → ClosesAs close (line_of conn.new).machine.ending }
-    ensures leaves { OnOk result (Leaves (line_of conn.new).machine (known pass.new) inbox.new) }
-    ensures blamed { IfErr result (IsBlamed (faults_at 0 0 (known pass.old) inbox.old) (faults_at 0 0 (known pass.new) inbox.new)) }
+    ensures goes { result ≡ Ok None → MayTurn end.new }
+    ensures closed { (close : Close) → result ≡ Ok (Some close) → ClosesAs close (line_in end.new).machine.ending }
+    ensures leaves { OnOk result (Leaves (line_in end.new).machine (pass_in end.new) end.new.inbox.now) }
+    ensures blamed { IfErr result (IsBlamed (faults_in_end 0 0 end.old) (faults_in_end 0 0 end.new)) }
     ensures of_turn { IfErr result IsOfTurn }
-    ensures kind { SameKind inbox.old inbox.new }
-    ensures never_falls { faults_of inbox.old ≤ faults_of inbox.new }
-    ensures stays { L.place link.new ≡ L.place link.old }
-    ensures told { C.told clock.new ≡ C.told clock.old }
-    ensures ticks { C.last clock.old ≤ C.last clock.new }
+    ensures place { L.place link.new ≡ L.place link.old }
     ensures lost { result ≡ Ok (Some closes.LinkFault) → HasRisen (L.faults link.old) (L.faults link.new) }
     ensures failed { L.faults link.old ≤ L.faults link.new }
 {
-    close_of(conn.turn(link, gate, pass, inbox, clock, news, rt))
+    close_of(end.turn(link, news, rt))
 }
 
 /// One turn, whose news are told as soon as it is over, also where it answers a fault. Answers how the connection came to its
 /// end, where it did.
 fn turn_once<L: Link, K: Sink, O: Journal, I: Journal, C: Clock, R: Wait>(
-    conn: &mut Conn,
+    end: &mut LiveEnd<'_, O, I, C>,
     link: &mut L,
     out: &mut K,
-    gate: &Gate<O>,
-    pass: &mut Pass<Kept<O>>,
-    inbox: &mut Inbox<I>,
-    clock: &mut C,
     teller: &mut Teller,
     rt: &R,
 ) -> Result<Option<Close>, ServeFault>
-    requires own { IsPassAt gate.now pass.old }
-    requires free { IsFree pass.old }
-    requires goes { GoesOn (line_of conn.old).machine }
-    requires place { (line_of conn.old).place < 2 ^ 63 }
-    requires seen { HasSeen (line_of conn.old).machine (known pass.old) }
-    requires agrees { Agrees (line_of conn.old).machine inbox.old }
-    ensures own { IsPassAt gate.now pass.new }
-    ensures free { IsFree pass.new }
-    ensures looks { Looks (known pass.old) (known pass.new) }
-    ensures turned { OnOk result (Turned L.eager (connection_at (L.told link.old) (L.carried link.old) (K.taken out.old) (known pass.old).seen (C.last clock.old) (line_of conn.old) inbox.old) (connection_at (L.told link.new) (L.carried link.new) (K.taken out.new) (known pass.new).seen (C.last clock.new) (line_of conn.new) inbox.new) 1) }
-    ensures goes { result ≡ Ok None → GoesOn (line_of conn.new).machine }
-    ensures closed { (close : Close) → result ≡ Ok (Some close) → ClosesAs close (line_of conn.new).machine.ending }
-    ensures leaves { OnOk result (Leaves (line_of conn.new).machine (known pass.new) inbox.new) }
-    ensures given_up { IfErr result (λ fault. GivenUp L.eager (Some fault) (connection_at (L.told link.old) (L.carried link.old) (K.taken out.old) (known pass.old).seen (C.last clock.old) (line_of conn.old) inbox.old) (connection_at (L.told link.new) (L.carried link.new) (K.taken out.new) (known pass.new).seen (C.last clock.new) (line_of conn.new) inbox.new)) }
-    ensures blamed { IfErr result (IsBlamed (faults_at (K.faults out.old) 0 (known pass.old) inbox.old) (faults_at (K.faults out.new) 0 (known pass.new) inbox.new)) }
+    requires may { MayTurn end.old }
+    requires place { (line_in end.old).place < 2 ^ 63 }
+    ensures stays { Stays end.old end.new }
+    ensures turned { OnOk result (Turned L.eager (connection_in (L.told link.old) (L.carried link.old) (K.taken out.old) end.old) (connection_in (L.told link.new) (L.carried link.new) (K.taken out.new) end.new) 1) }
+    ensures goes { result ≡ Ok None → MayTurn end.new }
+    ensures closed { (close : Close) → result ≡ Ok (Some close) → ClosesAs close (line_in end.new).machine.ending }
+    ensures leaves { OnOk result (Leaves (line_in end.new).machine (pass_in end.new) end.new.inbox.now) }
+    ensures given_up { IfErr result (λ fault. GivenUp L.eager (Some fault) (connection_in (L.told link.old) (L.carried link.old) (K.taken out.old) end.old) (connection_in (L.told link.new) (L.carried link.new) (K.taken out.new) end.new)) }
+    ensures blamed { IfErr result (IsBlamed (faults_in_end (K.faults out.old) 0 end.old) (faults_in_end (K.faults out.new) 0 end.new)) }
     ensures of_turn { IfErr result IsOfTurn }
-    ensures kind { SameKind inbox.old inbox.new }
-    ensures never_falls { (faults_of inbox.old ≤ faults_of inbox.new) × (K.faults out.old ≤ K.faults out.new) }
-    ensures stays { L.place link.new ≡ L.place link.old }
-    ensures told { C.told clock.new ≡ C.told clock.old }
-    ensures ticks { C.last clock.old ≤ C.last clock.new }
+    ensures never_falls { K.faults out.old ≤ K.faults out.new }
+    ensures place { L.place link.new ≡ L.place link.old }
     ensures lost { result ≡ Ok (Some closes.LinkFault) → HasRisen (L.faults link.old) (L.faults link.new) }
     ensures failed { L.faults link.old ≤ L.faults link.new }
 {
-    let answer = make_turn(conn, link, gate, pass, inbox, clock, &mut teller.news, rt);
+    let answer = make_turn(end, link, &mut teller.news, rt);
     if let Err(fault) = teller.tell_news(out) {
         if answer.is_ok() {
-            let _ = conn.cut();
+            let _ = end.cut();
         }
         return Err(fault);
     }
@@ -126,7 +99,46 @@ fn turn_once<L: Link, K: Sink, O: Journal, I: Journal, C: Clock, R: Wait>(
 }
 
 /// A connection over a link, from its beginning on. Answers how it came to its end, or `None` where it was told to stop.
-pub(crate) fn one_connection<L: Link, K: Sink, O: Journal, I: Journal, C: Clock, R: Wait>(
+fn one_connection<L: Link, K: Sink, O: Journal, I: Journal, C: Clock, R: Wait>(
+    end: &mut LiveEnd<'_, O, I, C>,
+    link: &mut L,
+    out: &mut K,
+    teller: &mut Teller,
+    stop: &AtomicBool,
+    rt: &R,
+) -> Result<Option<Close>, ServeFault>
+    requires may { MayBegin (line_in end.old).machine (pass_in end.old) end.old.inbox.now }
+    ensures stays { Stays end.old end.new }
+    ensures turned { (close : Close) → result ≡ Ok (Some close) → TurnedOn L.eager (connection_in (L.told link.old) (L.carried link.old) (K.taken out.old) end.old) (connection_in (L.told link.new) (L.carried link.new) (K.taken out.new) end.new) }
+    ensures closed { (close : Close) → result ≡ Ok (Some close) → ClosesAs close (line_in end.new).machine.ending }
+    ensures leaves { (close : Close) → result ≡ Ok (Some close) → Leaves (line_in end.new).machine (pass_in end.new) end.new.inbox.now }
+    ensures stopped { result ≡ Ok None → GivenUpOn L.eager None (connection_in (L.told link.old) (L.carried link.old) (K.taken out.old) end.old) (connection_in (L.told link.new) (L.carried link.new) (K.taken out.new) end.new) }
+    ensures given_up { IfErr result (λ fault. GivenUpOn L.eager (Some fault) (connection_in (L.told link.old) (L.carried link.old) (K.taken out.old) end.old) (connection_in (L.told link.new) (L.carried link.new) (K.taken out.new) end.new)) }
+    ensures blamed { IfErr result (IsBlamed (faults_in_end (K.faults out.old) 0 end.old) (faults_in_end (K.faults out.new) 0 end.new)) }
+    ensures of_connection { IfErr result IsOfConnection }
+    ensures never_falls { K.faults out.old ≤ K.faults out.new }
+    ensures place { L.place link.new ≡ L.place link.old }
+    ensures lost { result ≡ Ok (Some closes.LinkFault) → HasRisen (L.faults link.old) (L.faults link.new) }
+    ensures failed { L.faults link.old ≤ L.faults link.new }
+{
+    end.begin();
+    for _ in 0..TURNS {
+        if stop.load(Ordering::SeqCst) {
+            let _ = end.cut();
+            return Ok(None);
+        }
+        match turn_once(end, link, out, teller, rt) {
+            Ok(None) => {}
+            Ok(Some(close)) => return Ok(Some(close)),
+            Err(fault) => return Err(fault),
+        }
+    }
+    let _ = end.cut();
+    Err(ServeFault::Turns)
+}
+
+/// A connection of a live end of these over a link, from its beginning on, as `one_connection` serves it.
+pub(crate) fn lent_connection<L: Link, K: Sink, O: Journal, I: Journal, C: Clock, R: Wait>(
     conn: &mut Conn,
     link: &mut L,
     out: &mut K,
@@ -159,18 +171,6 @@ pub(crate) fn one_connection<L: Link, K: Sink, O: Journal, I: Journal, C: Clock,
     ensures lost { result ≡ Ok (Some closes.LinkFault) → HasRisen (L.faults link.old) (L.faults link.new) }
     ensures failed { L.faults link.old ≤ L.faults link.new }
 {
-    conn.begin(clock);
-    for _ in 0..TURNS {
-        if stop.load(Ordering::SeqCst) {
-            let _ = conn.cut();
-            return Ok(None);
-        }
-        match turn_once(conn, link, out, gate, pass, inbox, clock, teller, rt) {
-            Ok(None) => {}
-            Ok(Some(close)) => return Ok(Some(close)),
-            Err(fault) => return Err(fault),
-        }
-    }
-    let _ = conn.cut();
-    Err(ServeFault::Turns)
+    let mut end = LiveEnd::new(conn, gate, pass, inbox, clock);
+    one_connection(&mut end, link, out, teller, stop, rt)
 }

@@ -1,6 +1,6 @@
 //! The connections of a life, one after another.
 
-ghost use Rattle.std.specs.Prelude.{◌≡◌, ◌≤◌, true, false, OnErr, Ok, Some, None, Err, IfOk, IfErr, IfSome, OnOk};
+ghost use Rattle.std.specs.Prelude.{◌≡◌, ◌≤◌, true, false, is_some, OnErr, Ok, Some, None, Err, IfOk, IfErr, IfSome, OnOk};
 ghost use Rattle.gw_outside.specs.Faults.{HasRisen};
 ghost use Rattle.fixp_machine.specs.Machine.{phase_of};
 ghost use Rattle.jr_boxes.specs.Inbox.{faults_of};
@@ -17,14 +17,14 @@ ghost use Rattle.conn_serve.specs.Served.{IsOverBy, IsRound, ServedOver, IsNext}
 ghost use Rattle.conn_serve.specs.Moments.{life_at, faults_at};
 
 use crate::answer::{LifeEnd, ServeFault};
-use crate::connection::one_connection;
+use crate::connection::lent_connection;
 use crate::news::Teller;
 use conn_lines::Close;
 use conn_loop::Conn;
 use fixp_replies::Ending;
 use gate_senders::{Gate, Kept};
 use gate_turn::Pass;
-use gw_links::{Clock, Dialer};
+use gw_links::{Clock, Dialer, Next};
 use gw_outside::Sink;
 use jr_boxes::Inbox;
 use jr_record::Journal;
@@ -32,21 +32,26 @@ use std::alloc::Global;
 use std::sync::Wait;
 use std::sync::atomic::{AtomicBool, Ordering};
 
-/// The next link; it is a fault where none is left.
-fn next_link<N: Dialer>(dialer: &mut N, conn: &Conn) -> Result<N::Link, ServeFault>
+/// The next link, or `None` where the dialer was told to stop before one came; it is a fault where none is left.
+fn next_link<N: Dialer>(
+    dialer: &mut N,
+    conn: &Conn,
+    stop: &AtomicBool,
+) -> Result<Option<N::Link>, ServeFault>
     requires lent { N.lent dialer.old ≡ false }
     ensures next { IsNext N.Link.carried (N.told dialer.old) (N.told dialer.new) result }
     ensures phase { (phase : _) → result ≡ Err (faults.Unfinished phase) → phase ≡ phase_of (line_of conn.now).machine }
-    ensures lent { OnOk result (N.lent dialer.new ≡ true) }
+    ensures lent { IfOk result (λ link. N.lent dialer.new ≡ is_some link) }
     ensures back { OnErr result (N.lent dialer.new ≡ false) }
     ensures dial { result ≡ Err faults.Dial → HasRisen (N.faults dialer.old) (N.faults dialer.new) }
     ensures never_falls { N.faults dialer.old ≤ N.faults dialer.new }
 {
-    match dialer.next() {
-        Ok(Some(link)) => Ok(link),
-        Ok(None) => Err(ServeFault::Unfinished {
+    match dialer.next(stop) {
+        Ok(Next::Link(link)) => Ok(Some(link)),
+        Ok(Next::NoneLeft) => Err(ServeFault::Unfinished {
             phase: conn.end().phase(),
         }),
+        Ok(Next::Stopped) => Ok(None),
         Err(_) => Err(ServeFault::Dial),
     }
 }
@@ -65,8 +70,8 @@ fn end_behind(close: Close) -> Result<Option<LifeEnd>, ServeFault>
     }
 }
 
-/// The connection of this number, over the next link, which goes back to the dialer. Answers how the life ends behind it, or
-/// `None` where the next one follows.
+/// The connection of this number, over the next link, which goes back to the dialer. Answers how the life ends behind it, or where the
+/// dialer was told to stop before it came, or `None` where the next one follows.
 fn serve_next<N: Dialer, K: Sink, O: Journal, I: Journal, C: Clock, R: Wait>(
     dialer: &mut N,
     out: &mut K,
@@ -96,11 +101,12 @@ fn serve_next<N: Dialer, K: Sink, O: Journal, I: Journal, C: Clock, R: Wait>(
     ensures told { C.told clock.new ≡ C.told clock.old }
     ensures ticks { C.last clock.old ≤ C.last clock.new }
 {
-    let mut link = match next_link(dialer, conn) {
-        Ok(link) => link,
+    let mut link = match next_link(dialer, conn, stop) {
+        Ok(Some(link)) => link,
+        Ok(None) => return Ok(Some(LifeEnd::Stopped)),
         Err(fault) => return Err(fault),
     };
-    let answer = one_connection(
+    let answer = lent_connection(
         conn, &mut link, out, gate, pass, inbox, clock, teller, stop, rt,
     );
     dialer.back(link);
@@ -118,7 +124,7 @@ fn serve_next<N: Dialer, K: Sink, O: Journal, I: Journal, C: Clock, R: Wait>(
 }
 
 /// Serves the connections that a dialer gives, one after another, until one ends with both finishes exchanged, or until `stop`
-/// is set, which is looked at before each turn and each connection. The lines of each turn's news and of each connection's end
+/// is set, which is looked at before each turn and each connection, and by the dialer while it waits for one. The lines of each turn's news and of each connection's end
 /// stand on OUT as soon as they are known. Each link goes back to the dialer at its connection's end.
 ///
 /// # Errors

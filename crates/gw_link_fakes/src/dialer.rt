@@ -1,9 +1,10 @@
 //! A dialer in memory: it gives tapes in order, and keeps each one that comes back in its old place.
 
-ghost use Rattle.std.specs.Prelude.{◌≡◌, ◌↔◌, [], ◌+◌, ◌-◌, ◌<◌, ◌≤◌, ◌++◌, ◌∷◌, IsTrue, Some, IfOk, IsSome, IfSome, slice_index_or, OnErr, true, false, is_ok, is_some, length, not, map};
+ghost use Rattle.std.specs.Prelude.{◌≡◌, ◌↔◌, [], ◌+◌, ◌-◌, ◌<◌, ◌≤◌, ◌++◌, ◌∷◌, IsTrue, Some, IfOk, IsSome, IfSome, slice_index_or, OnErr, Ok, true, false, is_ok, is_some, length, not, map};
 ghost use Rattle.std.specs.List.{All};
 ghost use Rattle.gw_outside.specs.Faults.{HasCause};
-ghost use Rattle.gw_links.specs.Dialers.{IsLeft, dialed, returned};
+ghost use Rattle.gw_links.specs.Dialers.{IsLeft, dialed, link_in, returned};
+ghost use Rattle.gw_links.specs.declared.dialer.Next.TheVariants as nexts;
 ghost use Rattle.gw_link_fakes.specs.Dialing.{came_back, lent_out, new_dialer, told_of_dialer};
 ghost use Rattle.gw_link_fakes.specs.Tallies.{fails};
 ghost use Rattle.gw_link_fakes.specs.Tapes.{IsUnused, carried_of};
@@ -11,14 +12,15 @@ ghost use Rattle.gw_link_fakes.specs.Tapes.{IsUnused, carried_of};
 use crate::tally::Tally;
 use crate::tape::MemTape;
 use gw_fakes::Calls;
-use gw_links::Dialer;
+use gw_links::{Dialer, Next};
 use gw_outside::Failed;
 use std::alloc::Global;
 use std::collections::VecDeque;
 use std::marker::Model;
+use std::sync::atomic::AtomicBool;
 
 /// A dialer over tapes. Those that are left stand in front, and those that came back behind them, so that they are in
-/// their old order again when all came back.
+/// their old order again when all came back. It waits for nothing, and so it never stops.
 #[derive(Drop)]
 pub struct MemDialer {
     links: VecDeque<MemTape>,
@@ -83,28 +85,31 @@ impl Dialer for MemDialer {
 
     ghost faults = { λ d. d.tally.faults };
 
-    fn next(&mut self) -> Result<Option<MemTape>, Failed>
+    fn next(&mut self, _stop: &AtomicBool) -> Result<Next<MemTape>, Failed>
         requires { self.old.is_lent ≡ false }
-        ensures left { IfOk result (λ link. IsLeft (length self.old.left) link) }
+        ensures left { IfOk result (λ next. IsLeft (length self.old.left) next) }
         ensures told { Some (told_of_dialer self.new) ≡ Some (dialed result (told_of_dialer self.old)) }
-        ensures fresh { IfOk result (λ link. IfSome link IsUnused) }
-        ensures lent { IfOk result (λ link. self.new.is_lent ≡ is_some link) }
+        ensures fresh { IfOk result (λ next. IfSome (link_in next) IsUnused) }
+        ensures lent { IfOk result (λ next. self.new.is_lent ≡ is_some (link_in next)) }
         ensures lent_none { OnErr result (self.new.is_lent ≡ false) }
         ensures cause { HasCause self.old.tally.faults self.new.tally.faults result }
 
-        // Exactly the calls that are to fail do, and every other gives the next link.
+        // Exactly the calls that are to fail do, and every other gives the next link, where one is left; none stops.
         ensures fails { is_ok result ≡ not (fails self.old.tally) }
         ensures after { self.new ≡ lent_out self.old }
-        ensures first { IfOk result (λ link. IfSome link (λ l. self.old.left ≡ l ∷ self.new.left)) }
+        ensures first { IfOk result (λ next. IfSome (link_in next) (λ l. self.old.left ≡ l ∷ self.new.left)) }
+        ensures goes_on { result ≡ Ok nexts.Stopped → ⊥ }
     {
         self.tally.meet()?;
         if self.left == 0 {
-            return Ok(None);
+            return Ok(Next::NoneLeft);
         }
-        let link = self.links.pop_front();
+        let Some(link) = self.links.pop_front() else {
+            unreachable!()
+        };
         self.left -= 1;
         self.is_lent = true;
-        Ok(link)
+        Ok(Next::Link(link))
     }
 
     fn back(&mut self, link: MemTape)

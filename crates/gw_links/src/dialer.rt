@@ -4,10 +4,22 @@ ghost use Rattle.std.specs.Prelude.{◌≡◌, ℕ, Bool, true, false, Option, I
 ghost use Rattle.std.specs.Option.{option_map};
 ghost use Rattle.gw_outside.specs.Faults.{HasCause};
 ghost use Rattle.gw_links.specs.Links.{CarriedNothing};
-ghost use Rattle.gw_links.specs.Dialers.{DialerTold, IsLeft, dialed, returned};
+ghost use Rattle.gw_links.specs.Dialers.{DialerTold, IsLeft, dialed, link_in, returned};
 
 use crate::link::Link;
 use gw_outside::Failed;
+use std::sync::atomic::AtomicBool;
+
+/// What a dialer answers that did not fail.
+#[derive(Debug)]
+pub enum Next<L> {
+    /// The next connection.
+    Link(L),
+    /// No connection is left.
+    NoneLeft,
+    /// It was told to stop before a connection came.
+    Stopped,
+}
 
 /// Connections, of which at most one is lent at a time.
 pub trait Dialer {
@@ -23,17 +35,19 @@ pub trait Dialer {
     /// How many calls of `next` have failed; it never falls.
     ghost faults: { Self → ℕ };
 
-    /// The next connection, or `None` exactly where none is left.
+    /// The next connection, or that none is left. Where it has to wait it looks at `stop`, and is to answer `Stopped` soon behind
+    /// the moment at which it sees it set, and only there: no clause can speak of the flag, so when a dialer stops is free. Behind
+    /// `Stopped` it is as it was.
     ///
     /// # Errors
     /// `Failed` where the dialer failed: it gave no connection, and has as many left as before.
-    fn next(&mut self) -> Result<Option<Self::Link>, Failed>
+    fn next(&mut self, stop: &AtomicBool) -> Result<Next<Self::Link>, Failed>
         requires { lent self.old ≡ false }
-        ensures left { IfOk result (λ link. IfSome (told self.old) (λ t. IsLeft t.left link)) }
+        ensures left { IfOk result (λ next. IfSome (told self.old) (λ t. IsLeft t.left next)) }
         ensures told { told self.new ≡ option_map (dialed result) (told self.old) }
-        ensures fresh { IfOk result (λ link. IfSome link (λ l. CarriedNothing (Self.Link.carried l))) }
-        ensures tells { IfOk result (λ link. IfSome link (λ l. IsTrue (is_some (told self.old)) → IsTrue (is_some (Self.Link.carried l)))) }
-        ensures lent { IfOk result (λ link. lent self.new ≡ is_some link) }
+        ensures fresh { IfOk result (λ next. IfSome (link_in next) (λ l. CarriedNothing (Self.Link.carried l))) }
+        ensures tells { IfOk result (λ next. IfSome (link_in next) (λ l. IsTrue (is_some (told self.old)) → IsTrue (is_some (Self.Link.carried l)))) }
+        ensures lent { IfOk result (λ next. lent self.new ≡ is_some (link_in next)) }
         ensures lent_none { OnErr result (lent self.new ≡ false) }
         ensures cause { HasCause (faults self.old) (faults self.new) result };
 

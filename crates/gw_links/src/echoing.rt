@@ -5,10 +5,11 @@ ghost use Rattle.gw_outside.specs.Faults.{HasCause};
 ghost use Rattle.gw_links.specs.Echoes.{EchoedAll, EchoedFront, EchoedWhole};
 ghost use Rattle.gw_links.specs.declared.echoing.Echoed.TheVariants.{Idle, Part};
 
-use crate::dialer::Dialer;
+use crate::dialer::{Dialer, Next};
 use crate::link::{Got, Link};
 use crate::send::send_front;
 use gw_outside::Failed;
+use std::sync::atomic::AtomicBool;
 
 /// How an echo ended.
 #[derive(Clone, Copy, Debug, PartialEq, Eq)]
@@ -61,8 +62,8 @@ pub fn echo<L: Link>(link: &mut L, piece: &mut [u8], rounds: u64) -> Result<Echo
     Ok(Echoed::Whole)
 }
 
-/// Echoes over one connection after another, `most` of them at most, and answers whether none is left. A connection whose
-/// link fails is over, and the next one follows.
+/// Echoes over one connection after another, `most` of them at most, until the dialer is told to stop, and answers whether none is
+/// left. A connection whose link fails is over, and the next one follows.
 ///
 /// # Errors
 /// `Failed` where the dialer failed.
@@ -71,6 +72,7 @@ pub fn echo_all<N: Dialer>(
     piece: &mut [u8],
     rounds: u64,
     most: u64,
+    stop: &AtomicBool,
 ) -> Result<bool, Failed>
     requires piece { 0 < length piece.old }
     requires lent { N.lent dialer.old ≡ false }
@@ -80,8 +82,10 @@ pub fn echo_all<N: Dialer>(
     ensures cause { HasCause (N.faults dialer.old) (N.faults dialer.new) result }
 {
     for _ in 0..most {
-        let Some(mut link) = dialer.next()? else {
-            return Ok(true);
+        let mut link = match dialer.next(stop)? {
+            Next::Link(link) => link,
+            Next::NoneLeft => return Ok(true),
+            Next::Stopped => return Ok(false),
         };
         let _ = echo(&mut link, piece, rounds);
         dialer.back(link);

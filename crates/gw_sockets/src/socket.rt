@@ -11,7 +11,7 @@ use mio::net::TcpStream;
 use mio::{Events, Interest, Poll, Token};
 use std::alloc::Global;
 use std::io::{self, ErrorKind, Read, Write};
-use std::net::{self, Net};
+use std::net::{Net, SocketAddr};
 use std::time::Duration;
 
 /// How long a receive waits for bytes, in milliseconds.
@@ -21,6 +21,7 @@ const WAIT: u64 = 10;
 #[derive(Drop)]
 pub struct SocketLink {
     stream: TcpStream,
+    peer: Option<SocketAddr>,
     poll: Poll,
     events: Events,
     has_sent: bool,
@@ -67,18 +68,17 @@ impl SocketLink {
     pub(crate) fn new<R: Net>(
         rt: &R,
         alloc: Global,
-        stream: net::TcpStream,
+        mut stream: TcpStream,
     ) -> io::Result<SocketLink>
         ensures fresh { IfOk result (λ link. link.faults ≡ 0) }
     {
-        stream.set_nonblocking(true)?;
-        let mut stream = TcpStream::from_std(stream);
         stream.set_nodelay(true)?;
         let poll = Poll::new(rt)?;
         let events = Events::with_capacity(alloc, 1)?;
         poll.registry()
             .register(&mut stream, Token(0), Interest::READABLE)?;
         Ok(SocketLink {
+            peer: stream.peer_addr().ok(),
             stream,
             poll,
             events,
@@ -91,6 +91,11 @@ impl SocketLink {
     /// Why the last call that failed did, if one has.
     pub fn reason(&self) -> Option<SocketReason> {
         self.reason
+    }
+
+    /// The address of the other end, where the system told it.
+    pub fn peer(&self) -> Option<SocketAddr> {
+        self.peer
     }
 
     /// Receives, and waits where nothing is there and nothing was sent since the last wait.

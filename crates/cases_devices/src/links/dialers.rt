@@ -9,6 +9,7 @@ use gw_link_fakes::{Calls, MemDialer, MemTape};
 use gw_links::echo_all;
 use gw_outside::Bytes;
 use std::alloc::{AllocError, Global};
+use std::sync::atomic::AtomicBool;
 
 /// A tape of each word.
 fn tapes(alloc: Global, room: usize, words: &str) -> Result<Vec<MemTape>, AllocError>
@@ -53,10 +54,11 @@ pub fn dialer_line(alloc: Global, rest: &str) -> Result<String, AllocError> {
     let (fail, others) = halves(rest);
     let (room, words) = halves(others);
     let mut dialer = dialer(alloc, fail, tapes(alloc, number(room) as usize, words)?)?;
+    let stop = AtomicBool::new(false);
     let mut piece = [0; 4];
-    let first = echo_all(&mut dialer, &mut piece, 9, 2);
+    let first = echo_all(&mut dialer, &mut piece, 9, 2, &stop);
     let between = came_back(alloc, &dialer)?;
-    let second = echo_all(&mut dialer, &mut piece, 9, 9);
+    let second = echo_all(&mut dialer, &mut piece, 9, 9, &stop);
     let behind = came_back(alloc, &dialer)?;
     format!(in alloc; "dialer {first:?}{between}, {second:?}{behind}")
 }

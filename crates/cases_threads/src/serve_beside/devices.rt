@@ -3,8 +3,9 @@
 ghost use Rattle.std.specs.Prelude.{◌≡◌, ◌+◌, ◌<◌, ◌≤◌, ◌^◌, false, true, length, IsTrue, is_some, IsErr, IfOk, IfSome, OnOk, OnErr};
 
 use crate::serve_beside::meeting::Meeting;
-use gw_links::Dialer;
+use gw_links::{Dialer, Next};
 use gw_outside::{Disk, Failed};
+use std::sync::atomic::AtomicBool;
 
 /// A dialer whose calls of `next` come to the meeting.
 #[derive(Drop)]
@@ -31,9 +32,9 @@ impl<N: Dialer> Dialer for MetDialer<'_, N> {
 
     ghost faults = { λ d. N.faults d.dialer };
 
-    fn next(&mut self) -> Result<Option<N::Link>, Failed> {
+    fn next(&mut self, stop: &AtomicBool) -> Result<Next<N::Link>, Failed> {
         self.meeting.dial();
-        self.dialer.next()
+        self.dialer.next(stop)
     }
 
     fn back(&mut self, link: N::Link) {

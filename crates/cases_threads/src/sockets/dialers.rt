@@ -2,10 +2,11 @@
 
 ghost use Rattle.std.specs.Prelude.{◌≡◌, false};
 
-use gw_links::Dialer;
+use gw_links::{Dialer, Next};
 use gw_sockets::{AcceptDialer, ConnectDialer, SocketReason};
 use std::alloc::{AllocError, Global};
 use std::net::{Net, TcpListener, TcpStream};
+use std::sync::atomic::AtomicBool;
 use std::time::Clock;
 
 /// Why a dialer failed, if it has.
@@ -21,12 +22,13 @@ fn fails<N: Dialer>(dialer: &mut N) -> bool
     requires { N.lent dialer.old ≡ false }
     ensures { N.lent dialer.new ≡ false }
 {
-    match dialer.next() {
-        Ok(Some(link)) => {
+    match dialer.next(&AtomicBool::new(false)) {
+        Ok(Next::Link(link)) => {
             dialer.back(link);
             false
         }
-        Ok(None) => false,
+        Ok(Next::NoneLeft) => false,
+        Ok(Next::Stopped) => false,
         Err(_) => true,
     }
 }
@@ -59,7 +61,8 @@ pub fn in_use<R: Net<Listener = TcpListener, Stream = TcpStream> + Clock + Alloc
     rt: &R,
 ) -> Result<String, AllocError> {
     let alloc = rt.alloc();
-    let _first = AcceptDialer::new(rt, alloc, "127.0.0.1:45624", 1);
+    let mut first = AcceptDialer::new(rt, alloc, "127.0.0.1:45624", 1);
+    let _ = first.listen();
     let mut second = AcceptDialer::new(rt, alloc, "127.0.0.1:45624", 1);
     let once = fails(&mut second);
     let again = fails(&mut second);
@@ -84,12 +87,13 @@ fn is_over<N: Dialer>(dialer: &mut N) -> bool
     requires { N.lent dialer.old ≡ false }
     ensures { N.lent dialer.new ≡ false }
 {
-    match dialer.next() {
-        Ok(Some(link)) => {
+    match dialer.next(&AtomicBool::new(false)) {
+        Ok(Next::Link(link)) => {
             dialer.back(link);
             false
         }
-        Ok(None) => true,
+        Ok(Next::NoneLeft) => true,
+        Ok(Next::Stopped) => false,
         Err(_) => false,
     }
 }
@@ -100,6 +104,7 @@ pub fn over<R: Net<Listener = TcpListener, Stream = TcpStream> + Clock + AllocGl
 ) -> Result<String, AllocError> {
     let alloc = rt.alloc();
     let mut accepting = AcceptDialer::new(rt, alloc, "127.0.0.1:45626", 2);
+    let _ = accepting.listen();
     let mut connecting = ConnectDialer::new(rt, alloc, "127.0.0.1:45626", 2);
     let first = [is_over(&mut connecting), is_over(&mut accepting)];
     let second = [is_over(&mut connecting), is_over(&mut accepting)];

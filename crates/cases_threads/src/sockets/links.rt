@@ -1,14 +1,15 @@
 //! Links over sockets: bytes both ways, the end of a peer, a socket that takes no more, and how long a receive waits.
 
-ghost use Rattle.std.specs.Prelude.{◌<◌, length, IfOk};
+ghost use Rattle.std.specs.Prelude.{◌≡◌, ◌<◌, false, length, IfOk};
 ghost use Rattle.gw_links.specs.Links.{IsWithin};
 
 use cases_words::digits;
-use gw_links::{Dialer, Got, Link};
+use gw_links::{Dialer, Got, Link, Next};
 use gw_outside::Failed;
 use gw_sockets::{AcceptDialer, ConnectDialer, SocketLink};
 use std::alloc::{AllocError, Global};
 use std::net::{Net, TcpListener, TcpStream};
+use std::sync::atomic::AtomicBool;
 use std::time::Clock;
 
 /// How often a receive is tried until something comes.
@@ -17,6 +18,18 @@ const TRIES: u64 = 500;
 /// How many bytes are sent at once, where a socket is filled.
 const PIECE: usize = 4096;
 
+/// The next link, if one comes.
+fn next_of<N: Dialer>(dialer: &mut N) -> Option<N::Link>
+    requires { N.lent dialer.old ≡ false }
+{
+    match dialer.next(&AtomicBool::new(false)) {
+        Ok(Next::Link(link)) => Some(link),
+        Ok(Next::NoneLeft) => None,
+        Ok(Next::Stopped) => None,
+        Err(_) => None,
+    }
+}
+
 /// The two ends of a new connection at a port.
 fn ends<R: Net<Listener = TcpListener, Stream = TcpStream> + Clock>(
     rt: &R,
@@ -24,14 +37,11 @@ fn ends<R: Net<Listener = TcpListener, Stream = TcpStream> + Clock>(
     address: &str,
 ) -> Option<(SocketLink, SocketLink)> {
     let mut accepting = AcceptDialer::new(rt, alloc, address, 1);
+    let _ = accepting.listen();
     let mut connecting = ConnectDialer::new(rt, alloc, address, 1);
-    let Ok(Some(near)) = connecting.next() else {
-        return None;
-    };
-    match accepting.next() {
-        Ok(Some(far)) => Some((near, far)),
-        _ => None,
-    }
+    let near = next_of(&mut connecting)?;
+    let far = next_of(&mut accepting)?;
+    Some((near, far))
 }
 
 /// Receives until something comes.

@@ -1,9 +1,7 @@
 use Rattle.std.proofs.Common.{[], refl, sym, ◌∙◌}
 use Rattle.std.proofs.lemmas.Result.{on_ok_weaker}
 use Rattle.conn_turns.specs.declared.answer.TurnFault.{TurnFault}
-use Rattle.gate_turn.specs.Places.{known}
-use Rattle.conn_loop.specs.Conn.{line_of}
-use Rattle.conn_loop.specs.Live.{live_end}
+use Rattle.conn_loop.specs.Ends.{pass_in, in_turn}
 use Rattle.turn_laws.proofs.Repacking.{turn_is_one, cut_is_one}
 use Rattle.conn_serve.proofs.Making.{whole_at, err_at, on_cut, on_both, goes_made, lost_made, closed_made, of_turn_made, blamed_made}
 use Rattle.conn_serve.proofs.Turning.{was_short, cut_is_short}
@@ -11,21 +9,21 @@ use Rattle.conn_serve.proofs.connection.make_turn.Goals as goal
 
 pub returns-clause-whole : goal.returns-clause-whole
 returns-clause-whole g c =
-    let one = turn_is_one c.args.inbox.now _ _ _ (live_end _ _ _ (line_of c.args.conn.now) c.args.inbox.now []) (live_end _ _ _ (line_of c.turn.new.self) c.turn.new.inbox _) c.turn.result in
-    whole_at _ c.turn.result c.close_of.result c.close_of.ensures (on_ok_weaker c.turn.result (one c.turn.ensures.limit c.turn.ensures.ticks) c.turn.ensures.did) (λ e. one c.turn.ensures.limit c.turn.ensures.ticks (c.turn.ensures.lost e))
+    let one = turn_is_one c.args.end.now.inbox.now _ _ _ (in_turn _ _ c.args.end.now []) (in_turn _ _ c.turn.new.self _) c.turn.result in
+    whole_at _ c.turn.result c.close_of.result c.close_of.ensures (on_ok_weaker c.turn.result (one c.turn.ensures.limit c.turn.ensures.stays.ticks) c.turn.ensures.did) (λ e. one c.turn.ensures.limit c.turn.ensures.stays.ticks (c.turn.ensures.lost e))
 
 pub returns-clause-cut : goal.returns-clause-cut
 returns-clause-cut g c =
     err_at _ c.turn.result c.close_of.result c.close_of.ensures
     (on_cut _ _ c.turn.result
-    (λ (f : TurnFault) why is k. record { fault = f; is = is; cut = cut_is_one c.args.inbox.now _ _ _ (live_end _ _ _ (line_of c.args.conn.now) c.args.inbox.now []) (live_end _ _ _ (line_of c.turn.new.self) c.turn.new.inbox _) f c.turn.ensures.limit c.turn.ensures.ticks k })
+    (λ (f : TurnFault) why is k. record { fault = f; is = is; cut = cut_is_one c.args.end.now.inbox.now _ _ _ (in_turn _ _ c.args.end.now []) (in_turn _ _ c.turn.new.self _) f c.turn.ensures.limit c.turn.ensures.stays.ticks k })
     c.turn.ensures.cut)
 
 pub returns-clause-short : goal.returns-clause-short
 returns-clause-short g c =
     on_both _ _ _ c.close_of.result (returns-clause-whole g c) (returns-clause-cut g c)
-    (was_short _ _ _ (live_end _ _ _ (line_of c.args.conn.now) c.args.inbox.now []) (live_end _ _ _ (line_of c.turn.new.self) c.turn.new.inbox _) refl)
-    (λ why. cut_is_short _ _ _ (live_end _ _ _ (line_of c.args.conn.now) c.args.inbox.now []) (live_end _ _ _ (line_of c.turn.new.self) c.turn.new.inbox _) why refl)
+    (was_short _ _ _ (in_turn _ _ c.args.end.now []) (in_turn _ _ c.turn.new.self _) refl)
+    (λ why. cut_is_short _ _ _ (in_turn _ _ c.args.end.now []) (in_turn _ _ c.turn.new.self _) why refl)
 
 pub returns-clause-goes : goal.returns-clause-goes
 returns-clause-goes g c = λ e. goes_made _ c.turn.result c.turn.ensures.goes (sym c.close_of.ensures ∙ e)
@@ -43,7 +41,7 @@ pub returns-clause-blamed : goal.returns-clause-blamed
 returns-clause-blamed g c =
     let e = c.turn.ensures in
     err_at _ c.turn.result c.close_of.result c.close_of.ensures
-    (blamed_made (known c.args.pass.now) (known c.turn.new.pass) c.args.inbox.now c.turn.new.inbox c.turn.result e.kind e.inbox e.outbox e.broken e.full)
+    (blamed_made (pass_in c.args.end.now) (pass_in c.turn.new.self) c.args.end.now.inbox.now c.turn.new.self.inbox.now c.turn.result e.stays.kind e.inbox e.outbox e.broken e.full)
 
 pub returns-clause-of_turn : goal.returns-clause-of_turn
 returns-clause-of_turn g c = err_at _ c.turn.result c.close_of.result c.close_of.ensures (of_turn_made c.turn.result)

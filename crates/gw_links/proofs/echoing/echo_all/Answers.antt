@@ -5,9 +5,9 @@ use Rattle.gw_links.proofs.echoing.echo_all.Goals as goal
 pub loop-preserved : goal.loop-preserved
 loop-preserved g c = record {
   echoed =
-      one_more_echoed _ _ _ _ _ c.loop.invariant.echoed (rw c.in-Some.is at c.in_ok-link.ensures.told) c.back.ensures.told
-      (λ tells. is_echo _ _ _ _ (rw c.in-Some.is at c.in_ok-link.ensures.fresh) ((rw c.in-Some.is at c.in_ok-link.ensures.tells) tells) c.echo.ensures.front)
-      (rw c.in-Some.is at c.in_ok-link.ensures.left);
+      one_more_echoed _ _ _ _ _ c.loop.invariant.echoed (rw c.in-Link.is at c.in_ok-link.ensures.told) c.back.ensures.told
+      (λ tells. is_echo _ _ _ _ (rw c.in-Link.is at c.in_ok-link.ensures.fresh) ((rw c.in-Link.is at c.in_ok-link.ensures.tells) tells) c.echo.ensures.front)
+      (rw c.in-Link.is at c.in_ok-link.ensures.left);
   home = search rules;
   counted = search rules;
 }

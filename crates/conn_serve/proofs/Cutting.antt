@@ -1,0 +1,69 @@
+-- A connection of a live end, as it begins and as it is cut.
+use Rattle.std.proofs.Common.{◌≡◌, ◌<◌, ◌≤◌, ℕ, Bool, List, length, Option, sym, ap, subst, ◌∙◌}
+use Rattle.gw_links.specs.Links.{LinkTold, Carried}
+use Rattle.gw_links.specs.declared.clock.Clock.{Ghosts as ClockGhosts}
+use Rattle.jr_record.specs.declared.journal.Journal.{Ghosts}
+use Rattle.jr_boxes.specs.declared.inbox.Inbox.{Inbox}
+use Rattle.gate_turn.specs.Places.{known}
+use Rattle.gate_turn.specs.declared.pass.Pass.{Pass}
+use Rattle.gate_senders.specs.declared.kept.Kept.{Kept}
+use Rattle.conn_loop.specs.declared.live.LiveEnd.{LiveEnd}
+use Rattle.conn_loop.specs.declared.conn.Conn.{Conn}
+use Rattle.conn_loop.specs.Conn.{line_of, GoesOn, HasSeen}
+use Rattle.conn_loop.specs.Ends.{line_in, pass_in, MayTurn}
+use Rattle.conn_loop.proofs.Working.{seen_same}
+use Rattle.conn_steps.specs.Agreeing.{Agrees}
+use Rattle.fixp_replies.specs.declared.facts.EndState.{EndState}
+use Rattle.conn_serve.specs.declared.answer.ServeFault.{ServeFault}
+use Rattle.conn_serve.specs.Moments.{ConnectionAt, connection_at}
+use Rattle.conn_serve.specs.Ends.{connection_in}
+use Rattle.conn_serve.specs.Turned.{Turned, GivenUp, MayBegin}
+use Rattle.conn_serve.proofs.Turning.{turned_none, given_dropped, agrees_recorded}
+
+module _ {O I C : Type 0} {G : Ghosts O} {H : Ghosts I} {K : ClockGhosts C} where
+  -- a live end of these is such a connection
+  pub new_in : (told : Option LinkTold) (carried : Option Carried) (out : Option (List ℕ)) (e : LiveEnd O I C G H K) (conn : Conn) (pass : Pass (Kept O G)) (box : Inbox I H) (clock : C)
+      → e.conn.now ≡ conn → e.pass.now ≡ pass → e.inbox.now ≡ box → e.clock.now ≡ clock
+      → connection_in told carried out e ≡ connection_at told carried out (known pass).seen (K.last clock) (line_of conn) box
+  new_in told carried out e conn pass box clock n p b k =
+      ap (λ (x : Pass (Kept O G)). connection_at told carried out (known x).seen (K.last e.clock.now) (line_in e) e.inbox.now) p
+      ∙ (ap (λ (x : C). connection_at told carried out (known pass).seen (K.last x) (line_in e) e.inbox.now) k
+      ∙ (ap (λ (x : Conn). connection_at told carried out (known pass).seen (K.last clock) (line_of x) e.inbox.now) n
+      ∙ ap (λ (x : Inbox I H). connection_at told carried out (known pass).seen (K.last clock) (line_of conn) x) b))
+
+  -- its connection is cut, and nothing else of it changes
+  pub given_in_cut : (eager : Bool) (why : Option ServeFault) (old : ConnectionAt I H) (told : Option LinkTold) (carried : Option Carried) (out : Option (List ℕ)) (e f : LiveEnd O I C G H K)
+      → f.pass.now ≡ e.pass.now → f.inbox.now ≡ e.inbox.now → f.clock.now ≡ e.clock.now → GivenUp eager why old (connection_in told carried out e) → GivenUp eager why old (connection_in told carried out f)
+  given_in_cut eager why old told carried out e f pass inbox clock g =
+      subst (λ (p : Pass (Kept O G)). GivenUp eager why old (connection_at told carried out (known p).seen (K.last f.clock.now) (line_in f) f.inbox.now)) (sym pass)
+      (subst (λ (b : Inbox I H). GivenUp eager why old (connection_at told carried out (pass_in e).seen (K.last f.clock.now) (line_in f) b)) (sym inbox)
+      (subst (λ (k : C). GivenUp eager why old (connection_at told carried out (pass_in e).seen (K.last k) (line_in f) e.inbox.now)) (sym clock)
+      (given_dropped eager why old (connection_in told carried out e) (line_in f) g)))
+
+  -- its connection begins
+  pub begun_in : (eager : Bool) (told : Option LinkTold) (carried : Option Carried) (out : Option (List ℕ)) (e f : LiveEnd O I C G H K)
+      → f.pass.now ≡ e.pass.now → f.inbox.now ≡ e.inbox.now → Turned eager (record (connection_in told carried out e) { clock = K.last f.clock.now; line = line_in f }) (connection_in told carried out f) 0
+  begun_in eager told carried out e f pass inbox =
+      subst (λ (p : Pass (Kept O G)). Turned eager (connection_at told carried out (pass_in e).seen (K.last f.clock.now) (line_in f) e.inbox.now) (connection_at told carried out (known p).seen (K.last f.clock.now) (line_in f) f.inbox.now) 0) (sym pass)
+      (subst (λ (b : Inbox I H). Turned eager (connection_at told carried out (pass_in e).seen (K.last f.clock.now) (line_in f) e.inbox.now) (connection_at told carried out (pass_in e).seen (K.last f.clock.now) (line_in f) b) 0) (sym inbox)
+      (turned_none eager told carried out (pass_in e).seen (K.last f.clock.now) (line_in f) e.inbox.now))
+
+  -- behind a beginning a turn may be made
+  pub may_turn : (e f : LiveEnd O I C G H K) → f.pass.now ≡ e.pass.now → f.inbox.now ≡ e.inbox.now
+      → (length (line_in e).machine.config.credentials ≤ 2048 → (line_in e).machine.facts.recorded.sent < 1099511627776 → GoesOn (line_in f).machine)
+      → (line_in f).machine.facts.recorded ≡ (line_in e).machine.facts.recorded → (line_in f).machine.config ≡ (line_in e).machine.config → (line_in f).machine.most ≡ (line_in e).machine.most
+      → MayBegin (line_in e).machine (pass_in e) e.inbox.now → MayTurn f
+  may_turn e f pass inbox goes recorded config most may = record {
+    goes = goes may.credentials may.sent;
+    seen = subst (λ (p : Pass (Kept O G)). HasSeen (line_in f).machine (known p)) (sym pass)
+        (seen_same (line_in e).machine (line_in f).machine (pass_in e) (ap (λ (r : EndState). r.sent) recorded) (ap (λ (r : EndState). r.finish) recorded) may.seen);
+    agrees = subst (λ (b : Inbox I H). Agrees (line_in f).machine b) (sym inbox) (agrees_recorded (line_in e).machine (line_in f).machine e.inbox.now config most recorded may.agrees);
+  }
+
+  -- the next connection may begin of what such an end had
+  pub begins_in : (e : LiveEnd O I C G H K) (conn : Conn) (pass : Pass (Kept O G)) (box : Inbox I H) → conn ≡ e.conn.now → pass ≡ e.pass.now → box ≡ e.inbox.now
+      → MayBegin (line_in e).machine (pass_in e) e.inbox.now → MayBegin (line_of conn).machine (known pass) box
+  begins_in e conn pass box n p b may =
+      subst (λ (x : Conn). MayBegin (line_of x).machine (known pass) box) (sym n)
+      (subst (λ (x : Pass (Kept O G)). MayBegin (line_in e).machine (known x) box) (sym p)
+      (subst (λ (x : Inbox I H). MayBegin (line_in e).machine (pass_in e) x) (sym b) may))
