@@ -25,7 +25,7 @@ given config input devices s = record {
   clock = devices.clock;
 }
 
-pub given_back : {S K D N C J : Type 0} (G : Ghosts J) (sees : Sees S K D N) (role : Role) (c : Configuration) (before : SessionOutside S K D N C) (config input input' : S) (devices devices' : Live K N C) (s s' : Status × D × D)
+pub given_back : {S K D N C J : Type 0} (G : Ghosts J) (sees : Sees S K D N C) (role : Role) (c : Configuration) (before : SessionOutside S K D N C) (config input input' : S) (devices devices' : Live K N C) (s s' : Status × D × D)
     → input' ≡ input → devices' ≡ devices → s' ≡ s → EndsBehindConfig G sees role c before (given config input devices s) s.0
     → EndsBehindConfig G sees role c before (given config input' devices' s') s'.0
 given_back G sees role c before config input input' devices devices' s s' i d e h =
@@ -38,6 +38,6 @@ pub refused_by : {D : Type 0} (told : D → Option (List ℕ)) (may_leave : D �
     → RefusedBoxes told may_leave disk config.peer_flow before after status → RefusedBoxes told may_leave disk config'.peer_flow before after status
 refused_by told may_leave disk config config' before after status same h = subst (λ (c : EndConfig). RefusedBoxes told may_leave disk c.peer_flow before after status) same h
 
-pub lived_by : {J : Type 0} {G : Ghosts J} {O : Type 0} {H : Ghosts O} {S K D N C : Type 0} (sees : Sees S K D N) (senders : ℕ) (config config' : EndConfig) (input : S) (before after : OverBoxes K N C (Outbox O H) (Inbox J G)) (status : Status)
+pub lived_by : {J : Type 0} {G : Ghosts J} {O : Type 0} {H : Ghosts O} {S K D N C : Type 0} (sees : Sees S K D N C) (senders : ℕ) (config config' : EndConfig) (input : S) (before after : OverBoxes K N C (Outbox O H) (Inbox J G)) (status : Status)
     → config ≡ config' → LivedOn sees senders config input before after status → LivedOn sees senders config' input before after status
 lived_by sees senders config config' input before after status same h = subst (λ (c : EndConfig). LivedOn sees senders c input before after status) same h

@@ -41,7 +41,7 @@ use Rattle.life_laws.proofs.Opened.{opened_opens}
 use Rattle.life_laws.proofs.Seen.{order_prop}
 use Rattle.life_laws.specs.Plans.{plan_in, GoesOnWith}
 use Rattle.life_laws.proofs.Lost.{plans_go_on, lost_few}
-use Rattle.life_laws.specs.PlanLives.{LivedBoxes, WasFull, FillsInbox}
+use Rattle.life_laws.specs.PlanLives.{clocked, LivedBoxes, WasFull, FillsInbox}
 use Rattle.life_laws.proofs.Outboxes.{entries-outbox_of, plans_keep_outbox}
 use Rattle.cmd_base.specs.declared.status.Status.{Status}
 use Rattle.cmd_session.specs.Lived.{LeavesImages, FullInbox, limits, OpensOutbox, OpensInbox, LivedOver, LivedOn, Lived, over_boxes}
@@ -59,13 +59,13 @@ record_set = hlevel (ℕ_set, List-set, ⊎_set)
 records_prop : (rs qs : List Record) → IsProp (rs ≡ qs)
 records_prop rs qs = List-set record_set rs qs
 
-module _ {S K D N J : Type 0} {H : Ghosts J} (outbox : Outbox J H) (sees : Sees S K D N) (disk_at : J → D) (leaves_are : (j : J) (image : Option (List Record)) → Leaves (sees.may_leave (disk_at j)) image → H.leaves j image)
+module _ {S K D N C J : Type 0} {H : Ghosts J} (outbox : Outbox J H) (sees : Sees S K D N C) (disk_at : J → D) (leaves_are : (j : J) (image : Option (List Record)) → Leaves (sees.may_leave (disk_at j)) image → H.leaves j image)
     (only : (j : J) (rs qs : List Record) → H.stands j rs → H.stands j qs → rs ≡ qs) (sizes : (j : J) (rs : List Record) → H.stands j rs → journal_size rs ≡ H.size j) where
-  module _ {C : Type 0} (config : EndConfig) (plans : List (List (List ℕ))) (before after : SessionOutside S K D N C) (closed : Outbox J H) (box since : Inbox J H) (result : Result (Unit {0}) ServeFault)
+  module _ (config : EndConfig) (plans : List (List (List ℕ))) (before after : SessionOutside S K D N C) (closed : Outbox J H) (box since : Inbox J H) (result : Result (Unit {0}) ServeFault)
       (o : OpensOutbox (sees.told before.out_disk) outbox) (i : OpensInbox (sees.told before.in_disk) box) (limit : ((outboxes.limits_of outbox).entries ≡ 2 ^ 24) × ((outboxes.limits_of outbox).bytes ≡ 2 ^ 30))
       (in_limit : (inboxes.limits_of box).bytes ≡ 2 ^ 30) (now_out_is : after.out_disk ≡ disk_at (outboxes.journal_of closed)) (now_in_is : after.in_disk ≡ disk_at (inboxes.journal_of since))
       (out_least : sees.disk before.out_disk ≤ outboxes.faults_of outbox) (in_least : sees.disk before.in_disk ≤ inboxes.faults_of box) (out_count : sees.disk after.out_disk ≡ outboxes.faults_of closed) (in_count : sees.disk after.in_disk ≡ inboxes.faults_of since)
-      (l : LivedBoxes config plans (beside (sees.carried before.dialer) (sees.taken before.out) box) (beside (sees.carried after.dialer) (sees.taken after.out) since) outbox closed result) where
+      (l : LivedBoxes (clocked sees.links (sees.last before.clock) (sees.last after.clock)) config plans (beside (sees.carried before.dialer) (sees.taken before.out) box) (beside (sees.carried after.dialer) (sees.taken after.out) since) outbox closed result) where
     abbrev machine : State
     machine = fresh config (opened_state l.opening box) (2 ^ 24)
 
@@ -84,8 +84,8 @@ module _ {S K D N J : Type 0} {H : Ghosts J} (outbox : Outbox J H) (sees : Sees 
     opens = subst (λ (es : List Entry). Opens es entries_then machine i.inbox) (sym (entries-outbox_of l.opening))
         (opened_opens box l.opening config (2 ^ 24) entries_then i.inbox (subst (λ (es : List Entry). IsPrefix l.opening.made es) (sym (entries-outbox_of l.closing)) l.plans_kept.begins.made) i.holds)
 
-    life : LifeOfLoop (outbox_of l.opening) (outbox_of l.closing) l.lost machine i.inbox (all_of l.served.ended l.served.given_up) (refused_of_all (option_to_list l.served.given_up))
-    life = served_keeps box (life_at (sees.carried before.dialer) (sees.taken before.out) l.opening box) (life_at (sees.carried after.dialer) (sees.taken after.out) l.seen since) machine l.connections (outbox_of l.opening) (outbox_of l.closing) l.lost i.inbox l.served has opens
+    life : LifeOfLoop (outbox_of l.opening) (outbox_of l.closing) l.lost machine i.inbox (all_of l.served.life.ended l.served.life.given_up) (refused_of_all (option_to_list l.served.life.given_up))
+    life = served_keeps box (life_at (sees.carried before.dialer) (sees.taken before.out) l.opening box) (life_at (sees.carried after.dialer) (sees.taken after.out) l.seen since) machine l.connections (outbox_of l.opening) (outbox_of l.closing) l.lost i.inbox l.served.life has opens
 
     connections : KeepsConnections (model_flow config.own_flow) (model_flow config.peer_flow) (entries (life_in (machine_life life.life)).opening_outbox) (entries (life_in (machine_life life.life)).closing_outbox) (served_of life.life)
     connections = subst (λ (rs : List OutboxRecord). KeepsConnections (model_flow config.own_flow) (model_flow config.peer_flow) (entries rs) (entries life.life.closing_outbox) (served_of life.life)) (sym life.outboxes.0)
@@ -115,21 +115,21 @@ module _ {S K D N J : Type 0} {H : Ghosts J} (outbox : Outbox J H) (sees : Sees 
         (cases_Bool (outboxes.is_broken closed))
 
     abbrev list : List InboxRecord
-    list = i.inbox ++ adds_of (all_of l.served.ended l.served.given_up)
+    list = i.inbox ++ adds_of (all_of l.served.life.ended l.served.life.given_up)
 
-    held : inboxes.HoldsBox since list (refused_of_all (option_to_list l.served.given_up))
-    held = l.served.refuses.holds i.inbox i.holds
+    held : inboxes.HoldsBox since list (refused_of_all (option_to_list l.served.life.given_up))
+    held = l.served.life.refuses.holds i.inbox i.holds
 
     -- what was added had room behind what the inbox's journal took as it opened
-    room : HaveRoom (2 ^ 30) (journal_size (records_of_inbox i.inbox)) (adds_of (all_of l.served.ended l.served.given_up) ++ refused_of_all (option_to_list l.served.given_up))
+    room : HaveRoom (2 ^ 30) (journal_size (records_of_inbox i.inbox)) (adds_of (all_of l.served.life.ended l.served.life.given_up) ++ refused_of_all (option_to_list l.served.life.given_up))
     room = subst (λ (n : ℕ). HaveRoom n (journal_size (records_of_inbox i.inbox)) records) in_limit
-        (subst (λ (n : ℕ). HaveRoom (inboxes.limits_of box).bytes n records) (sym (sizes (inboxes.journal_of box) (records_of_inbox i.inbox) i.holds.journal.stands_for)) l.served.refuses.room)
+        (subst (λ (n : ℕ). HaveRoom (inboxes.limits_of box).bytes n records) (sym (sizes (inboxes.journal_of box) (records_of_inbox i.inbox) i.holds.journal.stands_for)) l.served.life.refuses.room)
       where
         records : List InboxRecord
-        records = adds_of (all_of l.served.ended l.served.given_up) ++ refused_of_all (option_to_list l.served.given_up)
+        records = adds_of (all_of l.served.life.ended l.served.life.given_up) ++ refused_of_all (option_to_list l.served.life.given_up)
 
     abbrev wanted : List InboxRecord
-    wanted = wanted_of_all (option_to_list l.served.given_up)
+    wanted = wanted_of_all (option_to_list l.served.life.given_up)
 
     full : (entries bytes : ℕ) → FillsInbox since wanted entries bytes ⊎ WasFull (record { entries = (outboxes.limits_of outbox).entries; bytes = (outboxes.limits_of outbox).bytes }) plans l.opening l.closing entries bytes
         → FullInbox list wanted entries bytes ⊎ WasFull limits plans l.opening l.closing entries bytes
@@ -179,7 +179,7 @@ module _ {S K D N J : Type 0} {H : Ghosts J} (outbox : Outbox J H) (sees : Sees 
     }
 
   -- what was lived over the boxes was lived over their disks
-  pub lived_disks : {C : Type 0} (senders : ℕ) (config : EndConfig) (before after : SessionOutside S K D N C) (closed : Outbox J H) (box since : Inbox J H) (status : Status)
+  pub lived_disks : (senders : ℕ) (config : EndConfig) (before after : SessionOutside S K D N C) (closed : Outbox J H) (box since : Inbox J H) (status : Status)
       (o : OpensOutbox (sees.told before.out_disk) outbox) (i : OpensInbox (sees.told before.in_disk) box) (limit : ((outboxes.limits_of outbox).entries ≡ 2 ^ 24) × ((outboxes.limits_of outbox).bytes ≡ 2 ^ 30))
       (in_limit : (inboxes.limits_of box).bytes ≡ 2 ^ 30) (now_out_is : after.out_disk ≡ disk_at (outboxes.journal_of closed)) (now_in_is : after.in_disk ≡ disk_at (inboxes.journal_of since))
       (out_least : sees.disk before.out_disk ≤ outboxes.faults_of outbox) (in_least : sees.disk before.in_disk ≤ inboxes.faults_of box) (out_count : sees.disk after.out_disk ≡ outboxes.faults_of closed) (in_count : sees.disk after.in_disk ≡ inboxes.faults_of since)

@@ -7,7 +7,7 @@ use Rattle.std.specs.Prelude.{option_to_list}
 use Rattle.std.specs.Io.KnownBytes.{Appends}
 use Rattle.fixp_shake.specs.declared.config.EndConfig.{EndConfig}
 use Rattle.fixp_machine.specs.Machine.{State, fresh}
-use Rattle.gw_links.specs.Dialers.{DialerTold}
+use Rattle.gw_links.specs.declared.link.Link.{Ghosts as LinkGhosts}
 use Rattle.session_model.specs.Journal.{History}
 use Rattle.jr_record.specs.declared.journal.Journal.{Ghosts}
 use Rattle.jr_boxes.specs.declared.inbox.Inbox.{Inbox}
@@ -27,13 +27,14 @@ use Rattle.conn_serve.specs.Answers.{answer_of}
 use Rattle.conn_serve.specs.Senders.{refusal_of, IsRefusal, FinishedFirst, SubmittedAll}
 use Rattle.conn_serve.specs.Causes.{TellsAll}
 use Rattle.conn_serve.specs.Lines.{lines_from}
-use Rattle.conn_serve.specs.Served.{lacks_lines, ServedLife}
+use Rattle.conn_serve.specs.Served.{lacks_lines, ServedLife, ServedOver}
 use Rattle.conn_serve.specs.Moments.{Beside, ServingAt, beside, with_seen}
-use Rattle.conn_serve.specs.Opening.{opened_state, ServedBy}
-use Rattle.life_laws.specs.PlanLives.{LivedBoxes}
+use Rattle.conn_serve.specs.Opening.{opened_state, ServedThrough}
+use Rattle.life_laws.specs.PlanLives.{Clocked, LivedBoxes}
 use Rattle.life_laws.proofs.Passes.{answer_blames, blamed_at}
 use Rattle.cmd_base.specs.declared.status.Status.{Status}
 use Rattle.cmd_session.specs.Lived.{OverBoxes, over_boxes, HasLived}
+use Rattle.cmd_session.specs.Outsides.{Hears}
 use Rattle.cmd_session.specs.declared.outside.Live.{Live}
 
 module _ {J : Type 0} {G : Ghosts J} (gate : Gate J G) (made : ℕ) where
@@ -110,11 +111,12 @@ dial_caused gate before after connections refused result P w blamed answer e =
     blamed_at P connections faults.Dial blamed (answer_is connections refused faults.Dial (λ x. cc) (not_refused gate before after refused faults.Dial never_dial (λ x. cc) (λ x. cc) w) (sym answer ∙ e))
 
 -- what served senders, of lists that are equal
-pub served_moved : {J : Type 0} {G : Ghosts J} {O : Type 0} {H : Ghosts O} {gate : Gate O H} {old new : ServingAt J G O H} {m : State} {before after : List (Sender O H)} {result : Result (Unit {0}) ServeFault}
-    → ServedBy gate old new m result → old.senders ≡ before → new.senders ≡ after → ServedBy gate (record old { senders = before }) (record new { senders = after }) m result
-served_moved {gate = gate} {old = old} {new = new} {m = m} {before = before} {result = result} s first second =
-    subst (λ (ss : List (Sender _ _)). ServedBy gate (record old { senders = before }) (record new { senders = ss }) m result) second
-    (subst (λ (ss : List (Sender _ _)). ServedBy gate (record old { senders = ss }) new m result) first s)
+pub served_moved : {J : Type 0} {G : Ghosts J} {O : Type 0} {H : Ghosts O} {L : Type 0} {links : LinkGhosts L} {least most : ℕ} {gate : Gate O H} {old new : ServingAt J G O H} {m : State} {before after : List (Sender O H)} {result : Result (Unit {0}) ServeFault}
+    → ServedThrough links least most gate old new m result → old.senders ≡ before → new.senders ≡ after
+    → ServedThrough links least most gate (record old { senders = before }) (record new { senders = after }) m result
+served_moved {links = links} {least = least} {most = most} {gate = gate} {old = old} {new = new} {m = m} {before = before} {result = result} s first second =
+    subst (λ (ss : List (Sender _ _)). ServedThrough links least most gate (record old { senders = before }) (record new { senders = ss }) m result) second
+    (subst (λ (ss : List (Sender _ _)). ServedThrough links least most gate (record old { senders = ss }) new m result) first s)
 
 -- OUT that took nothing first took what it took behind that
 takes_earlier : (old mid new : Option (List ℕ)) (lines : List ℕ) → Appends old mid [] → Appends mid new lines → Appends old new lines
@@ -151,10 +153,16 @@ module _ {J : Type 0} {G : Ghosts J} (taken : Option (List ℕ)) (old new : Besi
     past = s.past;
   }
 
-  boxes_earlier : {O : Type 0} {H : Ghosts O} (config : EndConfig) (plans : List (List (List ℕ))) (outbox closed : Outbox O H) (result : Result (Unit {0}) ServeFault) → Appends taken old.out [] → LivedBoxes config plans old new outbox closed result
-      → LivedBoxes config plans (record old { out = taken }) new outbox closed result
+  over_earlier : {L : Type 0} (over : Clocked L) (before seen : History) (m : State) (result : Result LifeEnd ServeFault) → Appends taken old.out []
+      → ServedOver over.links over.before over.behind (with_seen old before) (with_seen new seen) m result
+      → ServedOver over.links over.before over.behind (with_seen (record old { out = taken }) before) (with_seen new seen) m result
   unfolding served_earlier
-  boxes_earlier config plans outbox closed result h l = record {
+  over_earlier over before seen m result h s = record { life = served_earlier before seen m result h s.life; links = s.links; clock = s.clock }
+
+  boxes_earlier : {O : Type 0} {H : Ghosts O} {L : Type 0} (over : Clocked L) (config : EndConfig) (plans : List (List (List ℕ))) (outbox closed : Outbox O H) (result : Result (Unit {0}) ServeFault) → Appends taken old.out []
+      → LivedBoxes over config plans old new outbox closed result → LivedBoxes over config plans (record old { out = taken }) new outbox closed result
+  unfolding over_earlier
+  boxes_earlier over config plans outbox closed result h l = record {
     opening = l.opening;
     closing = l.closing;
     seen = l.seen;
@@ -169,7 +177,7 @@ module _ {J : Type 0} {G : Ghosts J} (taken : Option (List ℕ)) (old new : Besi
     broken = l.broken;
     plans_kept = l.plans_kept;
     begins = l.begins;
-    served = served_earlier l.opening l.seen (fresh config (opened_state l.opening old.box) (2 ^ 24)) l.connections h l.served;
+    served = over_earlier over l.opening l.seen (fresh config (opened_state l.opening old.box) (2 ^ 24)) l.connections h l.served;
     limits = l.limits;
     answer = l.answer;
     refusal = l.refusal;
@@ -179,11 +187,12 @@ module _ {J : Type 0} {G : Ghosts J} (taken : Option (List ℕ)) (old new : Besi
   }
 
 -- what was lived behind a push of nothing
-pub lived_from : {J : Type 0} {G : Ghosts J} {O : Type 0} {H : Ghosts O} {K N C : Type 0} (taken : K → Option (List ℕ)) (carried : N → Option DialerTold) (config : EndConfig) (plans : List (List (List ℕ)))
-    (old : Live K N C) (out : K) (outbox : Outbox O H) (box : Inbox J G) (after : OverBoxes K N C (Outbox O H) (Inbox J G)) (status : Status) → Appends (taken old.out) (taken out) []
-    → HasLived taken carried config plans (over_boxes (record { out = out; dialer = old.dialer; clock = old.clock }) outbox box) after status → HasLived taken carried config plans (over_boxes old outbox box) after status
-lived_from taken carried config plans old out outbox box after status h l = record {
+pub lived_from : {J : Type 0} {G : Ghosts J} {O : Type 0} {H : Ghosts O} {K N C : Type 0} (hears : Hears K N C) (config : EndConfig) (plans : List (List (List ℕ)))
+    (old : Live K N C) (out : K) (outbox : Outbox O H) (box : Inbox J G) (after : OverBoxes K N C (Outbox O H) (Inbox J G)) (status : Status) → Appends (hears.taken old.out) (hears.taken out) []
+    → HasLived hears config plans (over_boxes (record { out = out; dialer = old.dialer; clock = old.clock }) outbox box) after status → HasLived hears config plans (over_boxes old outbox box) after status
+lived_from hears config plans old out outbox box after status h l = record {
   result = l.result;
   status_is = l.status_is;
-  boxes = boxes_earlier (taken old.out) (beside (carried old.dialer) (taken out) box) (beside (carried after.live.dialer) (taken after.live.out) after.inbox) config plans outbox after.outbox l.result h l.boxes;
+  boxes = boxes_earlier (hears.taken old.out) (beside (hears.carried old.dialer) (hears.taken out) box) (beside (hears.carried after.live.dialer) (hears.taken after.live.out) after.inbox)
+      (record { links = hears.links; before = hears.last old.clock; behind = hears.last after.live.clock }) config plans outbox after.outbox l.result h l.boxes;
 }

@@ -10,7 +10,6 @@ use Rattle.fixp_machine.specs.Machine.{fresh}
 use Rattle.fixp_machine.specs.Accepting.{model_flow}
 use Rattle.two_ends.specs.Meeting.{life_in}
 use Rattle.two_ends.specs.Loops.{machine_life}
-use Rattle.gw_links.specs.Dialers.{DialerTold}
 use Rattle.jr_record.specs.declared.journal.Journal.{Ghosts}
 use Rattle.jr_record.specs.declared.record.Record.{Record}
 use Rattle.jr_record.specs.Images.{IsJournal, Leaves, journal_size}
@@ -31,13 +30,13 @@ use Rattle.conn_serve.specs.declared.answer.LifeEnd.{LifeEnd}
 use Rattle.conn_serve.specs.Answers.{answer_of}
 use Rattle.conn_serve.specs.Connections.{all_of, adds_of, refused_of_all, wanted_of_all}
 use Rattle.conn_serve.specs.Moments.{life_at, beside}
-use Rattle.conn_serve.specs.Served.{ServedLife}
+use Rattle.conn_serve.specs.Served.{ServedOver}
 use Rattle.conn_serve.specs.Opening.{opened_state, IsUnrefused}
 use Rattle.life_laws.specs.Lives.{LifeOfLoop}
 use Rattle.life_laws.specs.Plans.{plan_in, KeepsPlans, LosesNext}
-use Rattle.life_laws.specs.PlanLives.{IsOfSender, LivedBoxes, WasFull}
+use Rattle.life_laws.specs.PlanLives.{IsOfSender, clocked, LivedBoxes, WasFull}
 use Rattle.cmd_session.specs.Inputs.{ArePlanned}
-use Rattle.cmd_session.specs.Outsides.{Sees, live_of, disks_of}
+use Rattle.cmd_session.specs.Outsides.{Sees, Hears, heard, live_of, disks_of}
 use Rattle.cmd_session.specs.declared.outside.Live.{Live}
 use Rattle.cmd_session.specs.declared.outside.SessionOutside.{SessionOutside}
 
@@ -119,7 +118,7 @@ module _ {J : Type 0} {G : Ghosts J} where
     -- those refused by a failed call: in the outbox of the one that the plans have next, if its disk failed, with which the closing history
     -- is one history in order, which keeps the plans too. Every record that the life added to its inbox had room, and so had the one whose
     -- append the disk failed. Why it answers so: the connections and the refusal say it (`IsLifeAnswer`, `answer_of`), and the counts
-    pub record LivedOver (sees : Sees S K D N) (config : EndConfig) (plans : List (List (List ℕ)))
+    pub record LivedOver (sees : Sees S K D N C) (config : EndConfig) (plans : List (List (List ℕ)))
         (before after : SessionOutside S K D N C) (old new : Inbox J G) (result : Result (Unit {0}) ServeFault) : Type 0 where
       pub opening : History
       pub closing : History
@@ -130,7 +129,7 @@ module _ {J : Type 0} {G : Ghosts J} where
       pub out_opened : ForSome (sees.told before.out_disk) (λ content. IsJournal content (records_of_history opening))
       pub in_opened : ForSome (sees.told before.in_disk) (λ content. IsJournal content (records_of_inbox inbox))
       pub holds : inboxes.HoldsBox old inbox []
-      pub served : ServedLife (life_at (sees.carried before.dialer) (sees.taken before.out) opening old)
+      pub served : ServedOver sees.links (sees.last before.clock) (sees.last after.clock) (life_at (sees.carried before.dialer) (sees.taken before.out) opening old)
           (life_at (sees.carried after.dialer) (sees.taken after.out) seen new) (fresh config (opened_state opening old) (2 ^ 24)) connections
       pub answer : result ≡ answer_of connections refused
       pub refusal : IfSome refused IsOfSender
@@ -141,25 +140,25 @@ module _ {J : Type 0} {G : Ghosts J} where
       pub in_order : InOrder whole.made
       pub keeps : KeepsPlans plans opening whole
       pub life : LifeOfLoop (outbox_of opening) (outbox_of closing) lost (fresh config (opened_state opening old) (2 ^ 24)) inbox
-          (all_of served.ended served.given_up) (refused_of_all (option_to_list served.given_up))
+          (all_of served.life.ended served.life.given_up) (refused_of_all (option_to_list served.life.given_up))
       pub contract : KeepsContract (model_flow config.own_flow) (model_flow config.peer_flow) (plan_in plans) (life_in (machine_life life.life))
       pub out_left : ∥ LeavesImages (sees.may_leave after.out_disk) (records_of_history closing) (map record_of lost) ∥₁
       pub out_whole : (HasRisen (sees.disk before.out_disk) (sees.disk after.out_disk) → ⊥) → lost ≡ []
-      pub in_left : LeavesImages (sees.may_leave after.in_disk) (records_of_inbox (inbox ++ adds_of (all_of served.ended served.given_up)))
-          (records_of_inbox (refused_of_all (option_to_list served.given_up)))
+      pub in_left : LeavesImages (sees.may_leave after.in_disk) (records_of_inbox (inbox ++ adds_of (all_of served.life.ended served.life.given_up)))
+          (records_of_inbox (refused_of_all (option_to_list served.life.given_up)))
       pub room : HaveRoom (2 ^ 30) (journal_size (records_of_inbox inbox))
-          (adds_of (all_of served.ended served.given_up) ++ refused_of_all (option_to_list served.given_up))
+          (adds_of (all_of served.life.ended served.life.given_up) ++ refused_of_all (option_to_list served.life.given_up))
       pub marked : IsUnrefused result → 0 < length plans → closing.finished ≡ true
       pub none : plans ≡ [] → closing.finished ≡ opening.finished
       pub journal : result ≡ Err faults.Journal → HasRisen (sees.disk before.out_disk) (sees.disk after.out_disk)
           ⊎ HasRisen (sees.disk before.in_disk) (sees.disk after.in_disk)
       pub full : (entries bytes : ℕ) → result ≡ Err (faults.Full entries bytes)
-          → FullInbox (inbox ++ adds_of (all_of served.ended served.given_up)) (wanted_of_all (option_to_list served.given_up)) entries bytes
+          → FullInbox (inbox ++ adds_of (all_of served.life.ended served.life.given_up)) (wanted_of_all (option_to_list served.life.given_up)) entries bytes
           ⊎ WasFull limits plans opening closing entries bytes
 
 module _ {S K D N C : Type 0} where
   -- INPUT has these plans, and the status is one of a life, with its cause where it blames OUT or the dialer
-  pub record IsPlannedLife (sees : Sees S K D N) (senders : ℕ) (plans : List (List (List ℕ))) (input : S) (before after : Live K N C)
+  pub record IsPlannedLife (sees : Sees S K D N C) (senders : ℕ) (plans : List (List (List ℕ))) (input : S) (before after : Live K N C)
       (status : Status) : Type 0 where
     pub planned : ArePlanned senders (sees.left input) plans
     pub of_life : IsOfLife status
@@ -172,7 +171,7 @@ IsUnbegun sink old new status = (status ≡ Memory) ⊎ ((status ≡ OutputFault
 
 module _ {S K D N C : Type 0} where
   -- no life began: the dialer is as it was, and each disk leaves what it held
-  pub record LeftAll (sees : Sees S K D N) (before after : SessionOutside S K D N C) (status : Status) : Type 0 where
+  pub record LeftAll (sees : Sees S K D N C) (before after : SessionOutside S K D N C) (status : Status) : Type 0 where
     pub cause : IsUnbegun sees.sink before.out after.out status
     pub dialer_is : after.dialer ≡ before.dialer
     pub left : LeftBoth sees.told sees.may_leave (disks_of before) (disks_of after)
@@ -197,24 +196,25 @@ module _ {K N C O I : Type 0} where
 module _ {J : Type 0} {G : Ghosts J} {O : Type 0} {H : Ghosts O} where
   module _ {K N C : Type 0} where
     -- it lived over the boxes, and the status is that of its answer
-    pub record HasLived (taken : K → Option (List ℕ)) (carried : N → Option DialerTold) (config : EndConfig) (plans : List (List (List ℕ)))
+    pub record HasLived (hears : Hears K N C) (config : EndConfig) (plans : List (List (List ℕ)))
         (before after : OverBoxes K N C (Outbox O H) (Inbox J G)) (status : Status) : Type 0 where
       pub result : Result (Unit {0}) ServeFault
       pub status_is : status ≡ status_of result
-      pub boxes : LivedBoxes config plans (beside (carried before.live.dialer) (taken before.live.out) before.inbox)
-          (beside (carried after.live.dialer) (taken after.live.out) after.inbox) before.outbox after.outbox result
+      pub boxes : LivedBoxes (clocked hears.links (hears.last before.live.clock) (hears.last after.live.clock)) config plans
+          (beside (hears.carried before.live.dialer) (hears.taken before.live.out) before.inbox)
+          (beside (hears.carried after.live.dialer) (hears.taken after.live.out) after.inbox) before.outbox after.outbox result
 
   module _ {S K D N C : Type 0} where
     -- INPUT has plans; OUT was begun; and no life began, or one was lived over the boxes
-    pub record LivedOn (sees : Sees S K D N) (senders : ℕ) (config : EndConfig) (input : S)
+    pub record LivedOn (sees : Sees S K D N C) (senders : ℕ) (config : EndConfig) (input : S)
         (before after : OverBoxes K N C (Outbox O H) (Inbox J G)) (status : Status) : Type 0 where
       pub plans : List (List (List ℕ))
       pub life : IsPlannedLife sees senders plans input before.live after.live status
-      pub lived : BeganNone sees.sink before after status ⊎ HasLived sees.taken sees.carried config plans before after status
+      pub lived : BeganNone sees.sink before after status ⊎ HasLived (heard sees) config plans before after status
 
 module _ {S K D N C J : Type 0} where
   -- it lived over both disks, and the status is that of its answer
-  pub record HasLivedOver (G : Ghosts J) (sees : Sees S K D N) (config : EndConfig) (plans : List (List (List ℕ)))
+  pub record HasLivedOver (G : Ghosts J) (sees : Sees S K D N C) (config : EndConfig) (plans : List (List (List ℕ)))
       (before after : SessionOutside S K D N C) (status : Status) : Type 0 where
     pub old : Inbox J G
     pub new : Inbox J G
@@ -223,7 +223,7 @@ module _ {S K D N C J : Type 0} where
     pub over : LivedOver sees config plans before after old new result
 
   -- INPUT has plans; OUT was begun; and no life began, or one was lived over both disks
-  pub record Lived (G : Ghosts J) (sees : Sees S K D N) (senders : ℕ) (config : EndConfig) (before after : SessionOutside S K D N C)
+  pub record Lived (G : Ghosts J) (sees : Sees S K D N C) (senders : ℕ) (config : EndConfig) (before after : SessionOutside S K D N C)
       (status : Status) : Type 0 where
     pub plans : List (List (List ℕ))
     pub life : IsPlannedLife sees senders plans before.input (live_of before) (live_of after) status

@@ -4,6 +4,8 @@ use Rattle.gw_outside.specs.declared.streams.Source.{Ghosts as SourceGhosts}
 use Rattle.gw_outside.specs.declared.streams.Sink.{Ghosts as SinkGhosts}
 use Rattle.gw_outside.specs.declared.disk.Disk.{Ghosts as DiskGhosts}
 use Rattle.gw_links.specs.declared.dialer.Dialer.{Ghosts as DialerGhosts}
+use Rattle.gw_links.specs.declared.link.Link.{Ghosts as LinkGhosts}
+use Rattle.gw_links.specs.declared.clock.Clock.{Ghosts as ClockGhosts}
 use Rattle.gw_links.specs.Dialers.{DialerTold}
 use Rattle.cmd_base.specs.Causes.{SessionCounts}
 use Rattle.cmd_base.specs.Contents.{Disks}
@@ -11,27 +13,49 @@ use Rattle.cmd_session.specs.declared.outside.Live.{Live}
 use Rattle.cmd_session.specs.declared.outside.SessionOutside.{SessionOutside}
 
 -- What devices of these kinds tell of themselves: what a source has left, what a sink has taken, what a disk holds and may leave at a stop,
--- and what the connections of a dialer carried; and how often each has failed
-pub record Sees (S K D N : Type 0) : Type 1 where
+-- what the connections of a dialer carried, its links as their contracts have them, and what a clock gave last; and how often each has failed
+pub record Sees (S K D N C : Type 0) : Type 1 where
   pub left : S → Option (List ℕ)
   pub taken : K → Option (List ℕ)
   pub told : D → Option (List ℕ)
   pub may_leave : D → List ℕ → Type 0
   pub carried : N → Option DialerTold
+  pub Link : Type 0
+  pub links : LinkGhosts Link
+  pub last : C → ℕ
   pub source : S → ℕ
   pub sink : K → ℕ
   pub disk : D → ℕ
   pub dials : N → ℕ
 
-module _ {S K D N L : Type 0} where
+-- of them, what a life needs: what OUT, a dialer with its links, and a clock tell
+pub record Hears (K N C : Type 0) : Type 1 where
+  pub taken : K → Option (List ℕ)
+  pub carried : N → Option DialerTold
+  pub Link : Type 0
+  pub links : LinkGhosts Link
+  pub last : C → ℕ
+
+module _ {K N C L : Type 0} where
+  abbrev pub hears : SinkGhosts K → DialerGhosts N L → LinkGhosts L → ClockGhosts C → Hears K N C
+  hears sink dialer links clock = record { taken = sink.taken; carried = dialer.told; Link = L; links = links; last = clock.last }
+
+module _ {S K D N C : Type 0} where
+  abbrev pub heard : Sees S K D N C → Hears K N C
+  heard seen = record { taken = seen.taken; carried = seen.carried; Link = seen.Link; links = seen.links; last = seen.last }
+
+module _ {S K D N C L : Type 0} where
   -- as the contracts of the devices have it
-  abbrev pub sees : SourceGhosts S → SinkGhosts K → DiskGhosts D → DialerGhosts N L → Sees S K D N
-  sees source sink disk dialer = record {
+  abbrev pub sees : SourceGhosts S → SinkGhosts K → DiskGhosts D → DialerGhosts N L → LinkGhosts L → ClockGhosts C → Sees S K D N C
+  sees source sink disk dialer links clock = record {
     left = source.left;
     taken = sink.taken;
     told = disk.told;
     may_leave = disk.may_leave;
     carried = dialer.told;
+    Link = L;
+    links = links;
+    last = clock.last;
     source = source.faults;
     sink = sink.faults;
     disk = disk.faults;
@@ -40,7 +64,7 @@ module _ {S K D N L : Type 0} where
 
 module _ {S K D N C : Type 0} where
   -- the counts of faults
-  abbrev pub counts_of : Sees S K D N → SessionOutside S K D N C → SessionCounts
+  abbrev pub counts_of : Sees S K D N C → SessionOutside S K D N C → SessionCounts
   counts_of seen outside = record {
     config = seen.source outside.config;
     input = seen.source outside.input;

@@ -21,7 +21,7 @@ use Rattle.cmd_session.specs.declared.outside.SessionOutside.{SessionOutside}
 
 module _ {S K D N C : Type 0} where
   -- INPUT was refused, with its fault, or could not be read; OUT, the dialer and the clock are as they were
-  pub record RefusedInput (sees : Sees S K D N) (senders : ℕ) (old new : S) (before after : Live K N C) (status : Status) : Type 0 where
+  pub record RefusedInput (sees : Sees S K D N C) (senders : ℕ) (old new : S) (before after : Live K N C) (status : Status) : Type 0 where
     pub refused : RefusesInput senders (sees.left old) status
     pub cause : status ≡ InputFault → HasRisen (sees.source old) (sees.source new)
     pub live : KeepsLive before after
@@ -55,41 +55,41 @@ RefusedBoxes told may_leave disk flow before after status =
 
 module _ {S K D N C : Type 0} where
   -- CONFIG was refused, with its fault, or could not be read; all behind it is as it was
-  pub record StopsAtConfig (sees : Sees S K D N) (role : Role) (before after : SessionOutside S K D N C) (status : Status) : Type 0 where
+  pub record StopsAtConfig (sees : Sees S K D N C) (role : Role) (before after : SessionOutside S K D N C) (status : Status) : Type 0 where
     pub verdict : (text : List ℕ) → sees.left before.config ≡ Some text → Refuses status (configuration_at role text)
     pub unconfigured : IsUnconfigured status
     pub cause : status ≡ InputFault → HasRisen (sees.source before.config) (sees.source after.config)
     pub kept : KeepsBehindConfig before after
 
   -- a box was not opened; INPUT and all behind it is as it was
-  pub record StopsAtBoxes (sees : Sees S K D N) (role : Role) (c : Configuration) (before after : SessionOutside S K D N C)
+  pub record StopsAtBoxes (sees : Sees S K D N C) (role : Role) (c : Configuration) (before after : SessionOutside S K D N C)
       (status : Status) : Type 0 where
     pub refused : RefusedBoxes sees.told sees.may_leave sees.disk (flow_received role c.link) (disks_of before) (disks_of after) status
     pub kept : KeepsBehindInbox before after
 
   -- INPUT was refused; both disks leave the records that they told
-  pub record StopsAtInput (sees : Sees S K D N) (senders : ℕ) (before after : SessionOutside S K D N C) (status : Status) : Type 0 where
+  pub record StopsAtInput (sees : Sees S K D N C) (senders : ℕ) (before after : SessionOutside S K D N C) (status : Status) : Type 0 where
     pub refused : RefusedInput sees senders before.input after.input (live_of before) (live_of after) status
     pub left : LeftBoth sees.told sees.may_leave (disks_of before) (disks_of after)
 
 module _ {S K D N C J : Type 0} where
   -- both boxes were opened, and then INPUT was refused, or the session lived
-  pub record RunsOn (G : Ghosts J) (sees : Sees S K D N) (role : Role) (c : Configuration) (before after : SessionOutside S K D N C)
+  pub record RunsOn (G : Ghosts J) (sees : Sees S K D N C) (role : Role) (c : Configuration) (before after : SessionOutside S K D N C)
       (status : Status) : Type 0 where
     pub boxes : HoldBoxes sees.told (flow_received role c.link) (disks_of before)
     pub ended : StopsAtInput sees c.trade.senders before after status ⊎ Lived G sees c.trade.senders (end_of role c.link) before after status
 
   -- where a run whose configuration is this ended
-  abbrev pub EndsBehindConfig : Ghosts J → Sees S K D N → Role → Configuration → (before after : SessionOutside S K D N C) → Status → Type 0
+  abbrev pub EndsBehindConfig : Ghosts J → Sees S K D N C → Role → Configuration → (before after : SessionOutside S K D N C) → Status → Type 0
   EndsBehindConfig G sees role c before after status = StopsAtBoxes sees role c before after status ⊎ RunsOn G sees role c before after status
 
   -- CONFIG spells a configuration, and a run of it ended so
-  pub record WasConfigured (G : Ghosts J) (sees : Sees S K D N) (role : Role) (before after : SessionOutside S K D N C)
+  pub record WasConfigured (G : Ghosts J) (sees : Sees S K D N C) (role : Role) (before after : SessionOutside S K D N C)
       (status : Status) : Type 0 where
     pub configuration : Configuration
     pub spelled : IsConfigured role (sees.left before.config) configuration
     pub ended : EndsBehindConfig G sees role configuration before after status
 
   -- where a run ended
-  abbrev pub Steps : Ghosts J → Sees S K D N → Role → (before after : SessionOutside S K D N C) → Status → Type 0
+  abbrev pub Steps : Ghosts J → Sees S K D N C → Role → (before after : SessionOutside S K D N C) → Status → Type 0
   Steps G sees role before after status = StopsAtConfig sees role before after status ⊎ WasConfigured G sees role before after status

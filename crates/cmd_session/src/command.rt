@@ -92,8 +92,8 @@ fn run_over_boxes<
     requires limit { (inboxes.limits_of inbox.old).entries ≡ 2 ^ 24 }
     requires numbered { inboxes.flow_of inbox.old ≡ flows.Recoverable → inboxes.next_of inbox.old + 1 < 2 ^ 64 }
     requires few_entries { outboxes.front_of outbox < 2 ^ 40 }
-    ensures ended { (RefusedInput (sees S.Source K.Sink D.Disk N.Dialer) senders input.old input.new devices.old devices.new result.0 × (result.1 ≡ outbox) × (inbox.new ≡ inbox.old))
-        ⊎ LivedOn (sees S.Source K.Sink D.Disk N.Dialer) senders config input.old (over_boxes devices.old outbox inbox.old) (over_boxes devices.new result.1 inbox.new) result.0 }
+    ensures ended { (RefusedInput (sees S.Source K.Sink D.Disk N.Dialer N.Link.Link C.Clock) senders input.old input.new devices.old devices.new result.0 × (result.1 ≡ outbox) × (inbox.new ≡ inbox.old))
+        ⊎ LivedOn (sees S.Source K.Sink D.Disk N.Dialer N.Link.Link C.Clock) senders config input.old (over_boxes devices.old outbox inbox.old) (over_boxes devices.new result.1 inbox.new) result.0 }
     ensures lent { N.lent devices.new.dialer ≡ false }
     ensures never_falls { (S.faults input.old ≤ S.faults input.new) × (K.faults devices.old.out ≤ K.faults devices.new.out) × (N.faults devices.old.dialer ≤ N.faults devices.new.dialer) }
     ensures boxes_never_fall { (outboxes.faults_of outbox ≤ outboxes.faults_of result.1) × (inboxes.faults_of inbox.old ≤ inboxes.faults_of inbox.new) }
@@ -128,10 +128,10 @@ fn run_over_disks<
     requires link { IsLinkInRange configuration.link }
     requires trade { IsTradeInRange configuration.trade }
     requires lent { N.lent outside.dialer ≡ false }
-    ensures ended { (config : S) → EndsBehindConfig ⟦<LogJournal<D> as Journal>⟧ (sees S.Source K.Sink D.Disk N.Dialer) role configuration (record outside { config = config }) result.1 result.0 }
+    ensures ended { (config : S) → EndsBehindConfig ⟦<LogJournal<D> as Journal>⟧ (sees S.Source K.Sink D.Disk N.Dialer N.Link.Link C.Clock) role configuration (record outside { config = config }) result.1 result.0 }
     ensures config { result.1.config ≡ outside.config }
     ensures lent { N.lent result.1.dialer ≡ false }
-    ensures none_fell { NoneFellInSession (counts_of (sees S.Source K.Sink D.Disk N.Dialer) outside) (counts_of (sees S.Source K.Sink D.Disk N.Dialer) result.1) }
+    ensures none_fell { NoneFellInSession (counts_of (sees S.Source K.Sink D.Disk N.Dialer N.Link.Link C.Clock) outside) (counts_of (sees S.Source K.Sink D.Disk N.Dialer N.Link.Link C.Clock) result.1) }
 {
     let Configuration { link, trade } = configuration;
     let end = end_config(role, link);
@@ -192,9 +192,9 @@ pub fn run_session<
     outside: SessionOutside<S, K, D, N, C>,
 ) -> (Status, SessionOutside<S, K, D, N, C>)
     requires lent { N.lent outside.dialer ≡ false }
-    ensures steps { Steps ⟦<LogJournal<D> as Journal>⟧ (sees S.Source K.Sink D.Disk N.Dialer) role outside result.1 result.0 }
+    ensures steps { Steps ⟦<LogJournal<D> as Journal>⟧ (sees S.Source K.Sink D.Disk N.Dialer N.Link.Link C.Clock) role outside result.1 result.0 }
     ensures lent { N.lent result.1.dialer ≡ false }
-    ensures none_fell { NoneFellInSession (counts_of (sees S.Source K.Sink D.Disk N.Dialer) outside) (counts_of (sees S.Source K.Sink D.Disk N.Dialer) result.1) }
+    ensures none_fell { NoneFellInSession (counts_of (sees S.Source K.Sink D.Disk N.Dialer N.Link.Link C.Clock) outside) (counts_of (sees S.Source K.Sink D.Disk N.Dialer N.Link.Link C.Clock) result.1) }
 {
     let mut outside = outside;
     match read_config::<S, Configuration>(alloc, role, &mut outside.config) {

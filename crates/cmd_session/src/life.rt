@@ -18,8 +18,9 @@ ghost use Rattle.gate_plans.specs.Seats.{Seated};
 ghost use Rattle.conn_serve.specs.declared.answer.ServeFault.TheVariants as faults;
 ghost use Rattle.conn_serve.specs.Senders.{SomeMarked};
 ghost use Rattle.conn_serve.specs.Moments.{beside, serving_at};
-ghost use Rattle.conn_serve.specs.Opening.{opened_state, ServedBy, IsUnrefused};
-ghost use Rattle.life_laws.specs.PlanLives.{ServedAt};
+ghost use Rattle.conn_serve.specs.Opening.{opened_state, ServedThrough, IsUnrefused};
+ghost use Rattle.life_laws.specs.PlanLives.{clocked, ServedAt};
+ghost use Rattle.cmd_session.specs.Outsides.{hears};
 ghost use Rattle.cmd_session.specs.Lived.{status_of, over_boxes, IsOfLife, BeganNone, HasLived};
 
 use crate::boxes::MOST;
@@ -97,7 +98,7 @@ fn serve_beside<
     ensures own { IsPassAt gate.now pass.new }
     ensures free { IsFree pass.new }
     ensures looks { Looks (known pass.old) (known pass.new) }
-    ensures served { ServedBy gate.now (serving_at (N.told dialer.old) (K.taken out.old) (K.faults out.old) (N.faults dialer.old) (known pass.old) inbox.old senders.old.items) (serving_at (N.told dialer.new) (K.taken out.new) (K.faults out.new) (N.faults dialer.new) (known pass.new) inbox.new senders.new.items) (fresh config (opened_state (opening_of gate.now).history inbox.old) (2 ^ 24)) result }
+    ensures through { ServedThrough N.Link.Link (C.last clock.old) (C.last clock.new) gate.now (serving_at (N.told dialer.old) (K.taken out.old) (K.faults out.old) (N.faults dialer.old) (known pass.old) inbox.old senders.old.items) (serving_at (N.told dialer.new) (K.taken out.new) (K.faults out.new) (N.faults dialer.new) (known pass.new) inbox.new senders.new.items) (fresh config (opened_state (opening_of gate.now).history inbox.old) (2 ^ 24)) result }
     ensures marked { IsUnrefused result → 0 < vec_len senders.old → SomeMarked senders.new.items }
     ensures limits { inboxes.limits_of inbox.new ≡ inboxes.limits_of inbox.old }
     ensures output { result ≡ Err faults.Output → HasRisen (K.faults out.old) (K.faults out.new) }
@@ -156,7 +157,7 @@ fn serve_seated<
     requires greatest { config.keepalive ≤ 60000 }
     requires credentials { length config.credentials ≤ 2048 }
     ensures back { AllBackAt gate.now passes.new }
-    ensures served { ServedAt (opening_of gate.now) (map payloads_of plans.items) (known_at passes.new) (beside (N.told dialer.old) (K.taken out.old) inbox.old) (beside (N.told dialer.new) (K.taken out.new) inbox.new) (fresh config (opened_state (opening_of gate.now).history inbox.old) (2 ^ 24)) result }
+    ensures served { ServedAt (clocked N.Link.Link (C.last clock.old) (C.last clock.new)) (opening_of gate.now) (map payloads_of plans.items) (known_at passes.new) (beside (N.told dialer.old) (K.taken out.old) inbox.old) (beside (N.told dialer.new) (K.taken out.new) inbox.new) (fresh config (opened_state (opening_of gate.now).history inbox.old) (2 ^ 24)) result }
     ensures output { result ≡ Err faults.Output → HasRisen (K.faults out.old) (K.faults out.new) }
     ensures dial { result ≡ Err faults.Dial → HasRisen (N.faults dialer.old) (N.faults dialer.new) }
     ensures lent { N.lent dialer.new ≡ false }
@@ -234,7 +235,7 @@ pub fn live<K: Sink, D: Disk + Send, N: Dialer, C: Clock, R: Threads + Wait + Sy
     requires greatest { config.keepalive ≤ 60000 }
     requires credentials { length config.credentials ≤ 2048 }
     ensures lived { BeganNone K.faults (over_boxes devices.old outbox inbox.old) (over_boxes devices.new result.1 inbox.new) result.0
-        ⊎ HasLived K.taken N.told config (map payloads_of plans.items) (over_boxes devices.old outbox inbox.old) (over_boxes devices.new result.1 inbox.new) result.0 }
+        ⊎ HasLived (hears K.Sink N.Dialer N.Link.Link C.Clock) config (map payloads_of plans.items) (over_boxes devices.old outbox inbox.old) (over_boxes devices.new result.1 inbox.new) result.0 }
     ensures of_life { IsOfLife result.0 }
     ensures output { result.0 ≡ Status.OutputFault → HasRisen (K.faults devices.old.out) (K.faults devices.new.out) }
     ensures dial { result.0 ≡ Status.DialFault → HasRisen (N.faults devices.old.dialer) (N.faults devices.new.dialer) }

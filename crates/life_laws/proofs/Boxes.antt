@@ -25,7 +25,7 @@ use Rattle.gate_senders.proofs.Keeping.{keeps_stands, front_is}
 use Rattle.conn_serve.specs.declared.answer.ServeFault.{ServeFault}
 use Rattle.conn_serve.specs.Opening.{opened_state}
 use Rattle.life_laws.specs.Plans.{plan_in, KeepsPlans, LosesNext}
-use Rattle.life_laws.specs.PlanLives.{SomePass, SeesMark, SeesFailure, MetFull, WasFull, BlamesInbox, ServedAt, LivedBoxes}
+use Rattle.life_laws.specs.PlanLives.{Clocked, SomePass, SeesMark, SeesFailure, MetFull, WasFull, BlamesInbox, ServedAt, LivedBoxes}
 use Rattle.life_laws.proofs.Planned.{plans_are_kept}
 use Rattle.life_laws.proofs.Seen.{order_prop, none_behind}
 use Rattle.conn_serve.specs.Moments.{beside}
@@ -36,9 +36,9 @@ risen_of old new true now sound f = absurd (true≢false sound)
 risen_of old new false true sound f = omega (arith, f.disk)
 risen_of old new false false sound f = omega (arith, f.disk)
 
-module _ {J : Type 0} {G : Ghosts J} {O : Type 0} {H : Ghosts O} (gate : Gate O H) (passes : Passes (Kept O H)) (plans : List (List (List ℕ))) (dialed later : Option DialerTold) (out now_out : Option (List ℕ)) (config : EndConfig)
+module _ {J : Type 0} {G : Ghosts J} {O : Type 0} {H : Ghosts O} {L : Type 0} (over : Clocked L) (gate : Gate O H) (passes : Passes (Kept O H)) (plans : List (List (List ℕ))) (dialed later : Option DialerTold) (out now_out : Option (List ℕ)) (config : EndConfig)
     (outbox closed : Outbox O H) (box since : Inbox J G) (result : Result (Unit {0}) ServeFault) (o : OpensOn gate outbox) (sound : is_broken outbox ≡ false) (in_sound : inboxes.is_broken box ≡ false) (k : ClosedWith gate passes closed) (few : front_of closed < 2 ^ 40)
-    (s : ServedAt (opening_of gate) plans (known_at passes) (beside dialed out box) (beside later now_out since) (fresh config (opened_state (opening_of gate).history box) (2 ^ 24)) result) where
+    (s : ServedAt over (opening_of gate) plans (known_at passes) (beside dialed out box) (beside later now_out since) (fresh config (opened_state (opening_of gate).history box) (2 ^ 24)) result) where
   within : (n : ℕ) → In (length plans + 1) n → In (known_at passes 1).made n
   within n h = record { from_one = h.from_one; up_to = omega (arith, h.up_to, s.made.made) }
 
@@ -95,7 +95,7 @@ module _ {J : Type 0} {G : Ghosts J} {O : Type 0} {H : Ghosts O} (gate : Gate O 
   kept : KeepsPlans plans (opening_of gate).history k.history × LosesNext plans (opening_of gate).history k.history k.refused
   kept = plans_are_kept (opening_of gate) (account closed k.history k.refused) plans (known_at passes) s.made k.closed
 
-  pub lived_boxes : LivedBoxes config plans (beside dialed out box) (beside later now_out since) outbox closed result
+  pub lived_boxes : LivedBoxes over config plans (beside dialed out box) (beside later now_out since) outbox closed result
   lived_boxes = record {
     opening = (opening_of gate).history;
     closing = k.history;

@@ -29,14 +29,14 @@ use Rattle.conn_serve.specs.declared.answer.ServeFault.{ServeFault}
 use Rattle.conn_serve.specs.declared.answer.ServeFault.TheVariants as faults
 use Rattle.conn_serve.specs.declared.answer.LifeEnd.{LifeEnd}
 use Rattle.conn_serve.specs.declared.answer.LifeEnd.TheVariants as ends
-use Rattle.conn_serve.specs.Answers.{answer_of, yields}
+use Rattle.conn_serve.specs.Answers.{answer_of, yields_to}
 use Rattle.conn_serve.specs.Causes.{BlamesJournal, IsBlamed}
 use Rattle.conn_serve.specs.Connections.{wanted_of_all}
 use Rattle.conn_serve.specs.Senders.{refusal_of, MetRefusal, IsRefusal, Finishes, FinishedFirst, SubmittedAll, SomeMarked}
-use Rattle.conn_serve.specs.Served.{ServedLife}
-use Rattle.conn_serve.specs.Opening.{ServedBy, IsUnrefused}
+use Rattle.conn_serve.specs.Served.{ServedOver}
+use Rattle.conn_serve.specs.Opening.{ServedThrough, IsUnrefused}
 use Rattle.life_laws.specs.Plans.{plan_in, MadeOf, IsAllMade, LosesMessage, LosesOwn, PlansMade}
-use Rattle.life_laws.specs.PlanLives.{SomePass, IsOfSender, SeesMark, SeesFailure, MetFull, BlamesInbox, FillsInbox, ServedAt}
+use Rattle.life_laws.specs.PlanLives.{Clocked, SomePass, IsOfSender, SeesMark, SeesFailure, MetFull, BlamesInbox, FillsInbox, ServedAt}
 use Rattle.life_laws.proofs.Senders.{PartMade, AllFresh, EachMade, NoneEnded, PartLoses, SendersMade, senders_made, ran_part, ran_at, ran_next_at, ran_seen_at}
 use Rattle.conn_serve.specs.Moments.{life_at, faults_at, serving_at, beside}
 
@@ -56,7 +56,7 @@ answer_blames (Err fault) (Some r) x memory e = ⊎_elim
     let given : Err fault ≡ Err x = sym (ap (λ b. if b then Err r else Err fault) no) ∙ e in
     let same : fault ≡ x = cc in
     inl (ap Err same))
-    (cases_Bool (yields fault))
+    (cases_Bool (yields_to fault r))
 
 -- which refusals of a sender are those of a journal, and of a limit
 refused_journal : (met : Option SubmitFault) → refusal_of met ≡ Some faults.Journal → (met ≡ Some submit.Broken) ⊎ (met ≡ Some submit.Fault)
@@ -298,8 +298,8 @@ module _ {J : Type 0} {G : Ghosts J} (gate : Gate J G) (a : Account) (plans : Li
         (refused_as fault e)
 
   -- what a served life is of the passes
-  module _ {I : Type 0} {K : Ghosts I} (dialed later : Option DialerTold) (out now_out : Option (List ℕ)) (out_faults now_out_faults dial_faults now_dial_faults : ℕ) (m : State) (box since : Inbox I K) (result : Result (Unit {0}) ServeFault)
-      (s : ServedBy gate (serving_at dialed out out_faults dial_faults first box counted) (serving_at later now_out now_out_faults now_dial_faults now since after) m result) (marked : IsUnrefused result → 0 < length counted → SomeMarked after) (limits : limits_of since ≡ limits_of box) where
+  module _ {I : Type 0} {K : Ghosts I} {L : Type 0} (over : Clocked L) (dialed later : Option DialerTold) (out now_out : Option (List ℕ)) (out_faults now_out_faults dial_faults now_dial_faults : ℕ) (m : State) (box since : Inbox I K) (result : Result (Unit {0}) ServeFault)
+      (s : ServedThrough over.links over.before over.behind gate (serving_at dialed out out_faults dial_faults first box counted) (serving_at later now_out now_out_faults now_dial_faults now since after) m result) (marked : IsUnrefused result → 0 < length counted → SomeMarked after) (limits : limits_of since ≡ limits_of box) where
     all_made : SendersMade gate a plans after
     all_made = senders_made gate a plans seated counted fresh count after s.refused s.senders
 
@@ -317,15 +317,15 @@ module _ {J : Type 0} {G : Ghosts J} (gate : Gate J G) (a : Account) (plans : Li
         by_blame (inr (inl broken)) = inl (inr broken)
         by_blame (inr (inr failed)) = inr (last_failed all_made failed)
 
-    life : ServedLife (life_at dialed out a.history box) (life_at later now_out (known_at new (length plans + 1)).seen since) m s.connections
-    life = subst (λ (p : Part). ServedLife (life_at dialed out a.history box) (life_at later now_out p.seen since) m s.connections) (sym (last_at all_made))
-        (subst (λ (h : History). ServedLife (life_at dialed out h box) (life_at later now_out now.seen since) m s.connections) (ap (λ (p : Part). p.seen) was.1) s.life)
+    life : ServedOver over.links over.before over.behind (life_at dialed out a.history box) (life_at later now_out (known_at new (length plans + 1)).seen since) m s.connections
+    life = subst (λ (p : Part). ServedOver over.links over.before over.behind (life_at dialed out a.history box) (life_at later now_out p.seen since) m s.connections) (sym (last_at all_made))
+        (subst (λ (h : History). ServedOver over.links over.before over.behind (life_at dialed out h box) (life_at later now_out now.seen since) m s.connections) (ap (λ (p : Part). p.seen) was.1) s.life)
 
-    full_at : (entries bytes : ℕ) → result ≡ Err (faults.Full entries bytes) → FillsInbox since (wanted_of_all (option_to_list life.given_up)) entries bytes ⊎ SomePass (length plans + 1) (MetFull plans entries bytes) (known_at new)
+    full_at : (entries bytes : ℕ) → result ≡ Err (faults.Full entries bytes) → FillsInbox since (wanted_of_all (option_to_list life.life.given_up)) entries bytes ⊎ SomePass (length plans + 1) (MetFull plans entries bytes) (known_at new)
     full_at entries bytes e = ⊎_elim
         (λ c.
         let b = (blamed_at (IsBlamed (faults_at out_faults dial_faults first box) (faults_at now_out_faults now_dial_faults now since)) s.connections (faults.Full entries bytes) s.blamed c).full entries bytes refl in
-        inl (record { entries_are = b.0; bytes_are = b.1; past = life.past entries bytes c }))
+        inl (record { entries_are = b.0; bytes_are = b.1; past = life.life.past entries bytes c }))
         (λ r. inr (by_refusal (faults.Full entries bytes) (SomePass (length plans + 1) (MetFull plans entries bytes) (known_at new)) r (λ h. refused_full_shown s.refused h entries bytes r)))
         (answer_blames s.connections s.refused (faults.Full entries bytes) (λ x. cc) (sym s.answer ∙ e))
 
@@ -336,7 +336,7 @@ module _ {J : Type 0} {G : Ghosts J} (gate : Gate J G) (a : Account) (plans : Li
         where_some None h = tt
         where_some (Some x) h = h x refl
 
-    pub served_at : ServedAt a plans (known_at new) (beside dialed out box) (beside later now_out since) m result
+    pub served_at : ServedAt over a plans (known_at new) (beside dialed out box) (beside later now_out since) m result
     served_at = record {
       connections = s.connections;
       refused = s.refused;

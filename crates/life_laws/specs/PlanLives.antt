@@ -6,6 +6,7 @@ use Rattle.session_model.specs.Journal.{Entry, History, OutboxRecord, BeginsHist
 use Rattle.session_model.specs.Inbox.{InboxRecord}
 use Rattle.fixp_shake.specs.declared.config.EndConfig.{EndConfig}
 use Rattle.fixp_machine.specs.Machine.{State, fresh}
+use Rattle.gw_links.specs.declared.link.Link.{Ghosts as LinkGhosts}
 use Rattle.jr_record.specs.declared.journal.Journal.{Ghosts}
 use Rattle.jr_boxes.specs.declared.inbox.Inbox.{Inbox}
 use Rattle.jr_boxes.specs.Inbox as inboxes
@@ -21,9 +22,18 @@ use Rattle.conn_steps.specs.Settling.{IsPast}
 use Rattle.conn_serve.specs.Answers.{answer_of}
 use Rattle.conn_serve.specs.Connections.{wanted_of_all}
 use Rattle.conn_serve.specs.Moments.{Beside, with_seen}
-use Rattle.conn_serve.specs.Served.{ServedLife}
+use Rattle.conn_serve.specs.Served.{ServedOver}
 use Rattle.conn_serve.specs.Opening.{opened_state, IsUnrefused}
 use Rattle.life_laws.specs.Plans.{plan_in, PlansMade, KeepsPlans, LosesNext}
+
+-- What a life is served over: links, as the contracts of its dialer have them, and what its clock gave last before and behind it
+pub record Clocked (L : Type 0) : Type 1 where
+  pub links : LinkGhosts L
+  pub before : ℕ
+  pub behind : ℕ
+
+abbrev pub clocked : {L : Type 0} → LinkGhosts L → (before behind : ℕ) → Clocked L
+clocked links before behind = record { links = links; before = before; behind = behind }
 
 -- of what so many passes know, this is so of one
 pub record SomePass (made : ℕ) (P : Part → Type 0) (known : ℕ → Part) : Type 0 where
@@ -82,21 +92,21 @@ module _ {J : Type 0} {G : Ghosts J} where
     pub bytes_are : bytes ≡ inboxes.size_of box
     pub past : IsPast (inboxes.limits_of box).bytes bytes wanted
 
-  -- The connections were served and the plans submitted beside each other; the passes are back, with that of the connection behind the
-  -- senders'; and it answers what comes first of both
-  pub record ServedAt (opening : Account) (plans : List (List (List ℕ))) (known : ℕ → Part) (old new : Beside J G) (m : State)
+  -- The connections were served over these links and the plans submitted beside each other; the passes are back, with that of the connection
+  -- behind the senders'; and it answers what comes first of both
+  pub record ServedAt {L : Type 0} (over : Clocked L) (opening : Account) (plans : List (List (List ℕ))) (known : ℕ → Part) (old new : Beside J G) (m : State)
       (result : Result (Unit {0}) ServeFault) : Type 0 where
     pub connections : Result LifeEnd ServeFault
     pub refused : Option ServeFault
     pub made : PlansMade opening plans known
-    pub life : ServedLife (with_seen old opening.history) (with_seen new (known (length plans + 1)).seen) m connections
+    pub life : ServedOver over.links over.before over.behind (with_seen old opening.history) (with_seen new (known (length plans + 1)).seen) m connections
     pub limits : inboxes.limits_of new.box ≡ inboxes.limits_of old.box
     pub answer : result ≡ answer_of connections refused
     pub refusal : IfSome refused IsOfSender
     pub marked : IsUnrefused result → 0 < length plans → SomePass (length plans + 1) SeesMark known
     pub journal : result ≡ Err faults.Journal → BlamesInbox old.box new.box ⊎ SomePass (length plans + 1) SeesFailure known
     pub full : (entries bytes : ℕ) → result ≡ Err (faults.Full entries bytes)
-        → FillsInbox new.box (wanted_of_all (option_to_list life.given_up)) entries bytes ⊎ SomePass (length plans + 1) (MetFull plans entries bytes) known
+        → FillsInbox new.box (wanted_of_all (option_to_list life.life.given_up)) entries bytes ⊎ SomePass (length plans + 1) (MetFull plans entries bytes) known
 
 module _ {J : Type 0} {G : Ghosts J} {O : Type 0} {H : Ghosts O} where
   -- a journal is to blame, of the inbox or of the outbox: the count of its device's faults rose
@@ -106,7 +116,7 @@ module _ {J : Type 0} {G : Ghosts J} {O : Type 0} {H : Ghosts O} where
 
   -- a life was served and its plans submitted, once the outbox is out of the gate again: that was opened on one history and closed on
   -- another, which keeps the plans, and behind which a stop may leave what was lost with a failed call of its disk
-  pub record LivedBoxes (config : EndConfig) (plans : List (List (List ℕ))) (old new : Beside J G) (outbox outbox' : Outbox O H)
+  pub record LivedBoxes {L : Type 0} (over : Clocked L) (config : EndConfig) (plans : List (List (List ℕ))) (old new : Beside J G) (outbox outbox' : Outbox O H)
       (result : Result (Unit {0}) ServeFault) : Type 0 where
     pub opening : History
     pub closing : History
@@ -122,12 +132,13 @@ module _ {J : Type 0} {G : Ghosts J} {O : Type 0} {H : Ghosts O} where
     pub broken : outboxes.is_broken outbox' ≡ true → HasRisen (outboxes.faults_of outbox) (outboxes.faults_of outbox')
     pub plans_kept : KeepsPlans plans opening closing
     pub begins : BeginsHistory seen closing
-    pub served : ServedLife (with_seen old opening) (with_seen new seen) (fresh config (opened_state opening old.box) (2 ^ 24)) connections
+    pub served : ServedOver over.links over.before over.behind (with_seen old opening) (with_seen new seen)
+        (fresh config (opened_state opening old.box) (2 ^ 24)) connections
     pub limits : inboxes.limits_of new.box ≡ inboxes.limits_of old.box
     pub answer : result ≡ answer_of connections refused
     pub refusal : IfSome refused IsOfSender
     pub marked : IsUnrefused result → 0 < length plans → closing.finished ≡ true
     pub journal : result ≡ Err faults.Journal → BlamesBoxes old.box new.box outbox outbox'
     pub full : (entries bytes : ℕ) → result ≡ Err (faults.Full entries bytes)
-        → FillsInbox new.box (wanted_of_all (option_to_list served.given_up)) entries bytes
+        → FillsInbox new.box (wanted_of_all (option_to_list served.life.given_up)) entries bytes
         ⊎ WasFull (record { entries = (outboxes.limits_of outbox).entries; bytes = (outboxes.limits_of outbox).bytes }) plans opening closing entries bytes

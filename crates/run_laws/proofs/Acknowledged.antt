@@ -30,7 +30,7 @@ record Begun (outboxes : List ℕ → Type 0) (h : History) : Type 0 where
   was : Leaves outboxes (Some (map record_of opened))
   begins : BeginsHistory (history_of opened) h
 
-module _ {S K D N C J : Type 0} (G : Ghosts J) (sees : Sees S K D N) (role : Role) (h : History) (r : Run S K D N C) (outboxes : List ℕ → Type 0) (at : IsAt sees outboxes r.before.out_disk) (later : Begun (sees.may_leave r.after.out_disk) h) where
+module _ {S K D N C J : Type 0} (G : Ghosts J) (sees : Sees S K D N C) (role : Role) (h : History) (r : Run S K D N C) (outboxes : List ℕ → Type 0) (at : IsAt sees outboxes r.before.out_disk) (later : Begun (sees.may_leave r.after.out_disk) h) where
   unlived : Unlived sees r.before r.after → Begun outboxes h
   unlived kept = record { opened = later.opened; was = kept_was sees outboxes r.before.out_disk r.after.out_disk (map record_of later.opened) at kept.outbox later.was; begins = later.begins }
 
@@ -71,7 +71,7 @@ module _ {S K D N C J : Type 0} (G : Ghosts J) (sees : Sees S K D N) (role : Rol
   by_steps (inl stopped) = (unlived (config_kept sees r.before r.after r.status role stopped), tt)
   by_steps (inr was) = by_config was.configuration was.ended
 
-module _ {S K D N C J : Type 0} (G : Ghosts J) (sees : Sees S K D N) (role : Role) (h : History) (outbox inbox : List ℕ) (is : IsJournal outbox (records_of_history h)) where
+module _ {S K D N C J : Type 0} (G : Ghosts J) (sees : Sees S K D N C) (role : Role) (h : History) (outbox inbox : List ℕ) (is : IsJournal outbox (records_of_history h)) where
   all_stand : (runs : List (Run S K D N C)) (outboxes inboxes : List ℕ → Type 0) (over : RunsOver sees (IsRun G sees role) runs outboxes inboxes outbox inbox)
       → Begun outboxes h × AllStand G sees role h outbox inbox runs outboxes inboxes over
   all_stand [] outboxes inboxes over = (
@@ -83,5 +83,5 @@ module _ {S K D N C J : Type 0} (G : Ghosts J) (sees : Sees S K D N) (role : Rol
       let here = by_steps G sees role h r outboxes over.0 rest.0 over.2 in
       (here.0, (here.1, rest.1))
 
-pub closings_stand : {S K D N J : Type 0} (G : Ghosts J) (sees : Sees S K D N) (C : Type 0) → ClosingsStand G sees C
-closings_stand G sees C role h outbox inbox runs over is = (all_stand G sees role h outbox inbox is runs IsEmptyJournal IsEmptyJournal over).1
+pub closings_stand : {S K D N C J : Type 0} (G : Ghosts J) (sees : Sees S K D N C) → ClosingsStand G sees
+closings_stand G sees role h outbox inbox runs over is = (all_stand G sees role h outbox inbox is runs IsEmptyJournal IsEmptyJournal over).1

@@ -75,7 +75,7 @@ AllHistories contents = (records : List Record) → Leaves contents (Some record
 abbrev AllLists : (List ℕ → Type 0) → Type 0
 AllLists contents = (records : List Record) → Leaves contents (Some records) → IsList records
 
-module _ {S K D N C J : Type 0} (G : Ghosts J) (sees : Sees S K D N) (role : Role) (r : Run S K D N C) (outboxes inboxes : List ℕ → Type 0)
+module _ {S K D N C J : Type 0} (G : Ghosts J) (sees : Sees S K D N C) (role : Role) (r : Run S K D N C) (outboxes inboxes : List ℕ → Type 0)
     (out_at : IsAt sees outboxes r.before.out_disk) (in_at : IsAt sees inboxes r.before.in_disk) (out_all : AllHistories outboxes) (in_all : AllLists inboxes) where
   both_boxes : Ways G sees role r.before r.after r.status → AllHistories (sees.may_leave r.after.out_disk) × AllLists (sees.may_leave r.after.in_disk)
   both_boxes (inl kept) = (
@@ -85,10 +85,10 @@ module _ {S K D N C J : Type 0} (G : Ghosts J) (sees : Sees S K D N) (role : Rol
   both_boxes (inr by) =
       let v = by.lived.over in (
         λ records left. history_left v.closing v.whole v.lost records v.goes_on v.in_order (image_left (sees.may_leave r.after.out_disk) (records_of_history v.closing) (map record_of v.lost) records v.out_left left),
-        λ records left. list_left (v.inbox ++ adds_of (all_of v.served.ended v.served.given_up)) (refused_of_all (option_to_list v.served.given_up)) records (v.in_left (Some records) left),
+        λ records left. list_left (v.inbox ++ adds_of (all_of v.served.life.ended v.served.life.given_up)) (refused_of_all (option_to_list v.served.life.given_up)) records (v.in_left (Some records) left),
       )
 
-all_boxes : {S K D N C J : Type 0} (G : Ghosts J) (sees : Sees S K D N) (role : Role) (runs : List (Run S K D N C)) (outboxes inboxes : List ℕ → Type 0) (outbox inbox : List ℕ) → AllHistories outboxes → AllLists inboxes
+all_boxes : {S K D N C J : Type 0} (G : Ghosts J) (sees : Sees S K D N C) (role : Role) (runs : List (Run S K D N C)) (outboxes inboxes : List ℕ → Type 0) (outbox inbox : List ℕ) → AllHistories outboxes → AllLists inboxes
     → RunsOver sees (IsRun G sees role) runs outboxes inboxes outbox inbox → AreBoxes outbox inbox
 all_boxes G sees role [] outboxes inboxes outbox inbox out_all in_all over = record {
   history = λ records j. out_all records (outbox, over.0, j);
@@ -98,7 +98,7 @@ all_boxes G sees role (r ∷ later) outboxes inboxes outbox inbox out_all in_all
     let both = both_boxes G sees role r outboxes inboxes over.0 over.1 out_all in_all (ways_of G sees role r.before r.after r.status over.2) in
     all_boxes G sees role later (sees.may_leave r.after.out_disk) (sees.may_leave r.after.in_disk) outbox inbox both.0 both.1 over.3
 
-pub boxes_are_left : {S K D N J : Type 0} (G : Ghosts J) (sees : Sees S K D N) (C : Type 0) → BoxesAreLeft G sees C
-boxes_are_left G sees C role runs outbox inbox over = all_boxes G sees role runs IsEmptyJournal IsEmptyJournal outbox inbox
+pub boxes_are_left : {S K D N C J : Type 0} (G : Ghosts J) (sees : Sees S K D N C) → BoxesAreLeft G sees
+boxes_are_left G sees role runs outbox inbox over = all_boxes G sees role runs IsEmptyJournal IsEmptyJournal outbox inbox
     (λ records left. (record { made = []; finished = false }, at_most_one_verdict.one_list left.0 records [] left.2 left.1, λ s. refl))
     (λ records left. ([], at_most_one_verdict.one_list left.0 records [] left.2 left.1)) over

@@ -65,7 +65,7 @@ pub record Comes (own peer : Flow) (outboxes inboxes : List ℕ → Type 0) (car
   pub may_turn : next_number waiting ≤ 2 ^ 24 + 1 → AllByRecursion (MayTurn own peer) lives
   pub links : AllZip CarriedOn carried (flat_map legs_in lives)
 
-module _ {S K D N : Type 0} (sees : Sees S K D N) where
+module _ {S K D N C : Type 0} (sees : Sees S K D N C) where
   -- what a disk tells as a run begins is one of the contents that there were
   pub told_was : (contents : List ℕ → Type 0) (disk : D) (records : List Record) → IsAt sees contents disk → ((content : List ℕ) → sees.told disk ≡ Some content → IsJournal content records) → Leaves contents (Some records)
   told_was contents disk records at opened = let t = some_of (sees.told disk) contents at.tells in (t.0, t.2, opened t.0 t.1)
@@ -77,7 +77,7 @@ module _ {S K D N : Type 0} (sees : Sees S K D N) where
       let same : records ≡ k.records = image_of_none (λ (rs : List Record). rs ≡ k.records) k.records records refl (k.left (Some records) left) in
       subst (λ (rs : List Record). Leaves contents (Some rs)) (sym same) (told_was contents before k.records at k.held)
 
-module _ {S K D N C J : Type 0} (G : Ghosts J) (sees : Sees S K D N) (own peer : Flow) (o : List OutboxRecord) (i : List InboxRecord) (payloads : AllByRecursion (λ (e : Entry). IsApplication e.payload) (entries o))
+module _ {S K D N C J : Type 0} (G : Ghosts J) (sees : Sees S K D N C) (own peer : Flow) (o : List OutboxRecord) (i : List InboxRecord) (payloads : AllByRecursion (λ (e : Entry). IsApplication e.payload) (entries o))
     (before after : SessionOutside S K D N C) (carried : List (Option Carried)) (outboxes inboxes : List ℕ → Type 0)
     (out_at : IsAt sees outboxes before.out_disk) (in_at : IsAt sees inboxes before.in_disk) (told : is_some (sees.carried before.dialer) ≡ true)
     (later : Comes own peer (sees.may_leave after.out_disk) (sees.may_leave after.in_disk) carried o i) where
@@ -110,10 +110,10 @@ module _ {S K D N C J : Type 0} (G : Ghosts J) (sees : Sees S K D N) (own peer :
     machine = fresh config (opened_state v.opening lived.old) (2 ^ 24)
 
     abbrev cs : List Connection
-    cs = all_of v.served.ended v.served.given_up
+    cs = all_of v.served.life.ended v.served.life.given_up
 
     abbrev left : List InboxRecord
-    left = refused_of_all (option_to_list v.served.given_up)
+    left = refused_of_all (option_to_list v.served.life.given_up)
 
     -- what the next life found of both boxes
     out_image : IsImage (outbox_of v.closing) v.lost later.opened
@@ -201,7 +201,7 @@ module _ {S K D N C J : Type 0} (G : Ghosts J) (sees : Sees S K D N) (own peer :
     unfolding is_life
     may_turn_so few =
         subst (λ (f : Flow). MayTurn f peer life) own_is (subst (λ (f : Flow). MayTurn config.own_flow f life) peer_is
-        (life_may_turn (outbox_of v.opening) (outbox_of v.closing) kept machine v.inbox cs left is_life opens (in_range few) closing_payloads v.served.timely))
+        (life_may_turn (outbox_of v.opening) (outbox_of v.closing) kept machine v.inbox cs left is_life opens (in_range few) closing_payloads v.served.life.timely))
 
     next_found : next_number v.inbox ≤ 2 ^ 24 + 1 → next_number later.waiting ≤ 2 ^ 24 + 1
     next_found few =
@@ -211,12 +211,12 @@ module _ {S K D N C J : Type 0} (G : Ghosts J) (sees : Sees S K D N) (own peer :
 
     -- its links carried what its turns say
     came_so : came ≡ carried_by cs
-    came_so = brought_all (sees.carried before.dialer) (sees.carried after.dialer) (carried_by cs) told v.served.came
+    came_so = brought_all (sees.carried before.dialer) (sees.carried after.dialer) (carried_by cs) told v.served.life.came
 
     links : AllZip CarriedOn came (legs_in life)
     links = subst (λ (xs : List (Option Carried)). AllZip CarriedOn xs (legs_in life)) (sym came_so)
         (subst (λ (ts : List TurnedLeg). AllZip CarriedOn (carried_by cs) ts) (sym v.life.legs)
-        (all_carried v.opening v.served.behind v.seen machine v.served.mid v.served.ended v.served.given_up v.served.were v.served.gave_up))
+        (all_carried v.opening v.served.life.behind v.seen machine v.served.life.mid v.served.life.ended v.served.life.given_up v.served.life.were v.served.life.gave_up))
 
     pub lived_on : Comes own peer outboxes inboxes (came ++ carried) o i
     lived_on = record {

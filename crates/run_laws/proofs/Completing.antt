@@ -23,7 +23,7 @@ use Rattle.run_laws.proofs.Ending.{BlamesNone, ends_as, behind_finish, unrefused
 as_many : (senders : ℕ) (text : List ℕ) (plans : List (List (List ℕ))) → HasPlans senders text plans → length plans ≡ senders
 as_many senders text plans h = ap length h.plans_are ∙ many_plans 1 senders h.gifts
 
-module _ {S K D N C J : Type 0} (G : Ghosts J) (sees : Sees S K D N)
+module _ {S K D N C J : Type 0} (G : Ghosts J) (sees : Sees S K D N C)
     (before after : SessionOutside S K D N C) (role : Role) (c : Configuration) (status : Status) (set_up : IsSetUp sees role c before) (none : NoneRose (counts_of sees before) (counts_of sees after)) where
   abbrev LeftEnds : Type 0
   LeftEnds = WantsMemory before after status ⊎ Completed G sees role c before after status
@@ -70,10 +70,10 @@ module _ {S K D N C J : Type 0} (G : Ghosts J) (sees : Sees S K D N)
       plans = plans;
       planned = subst (λ (o : Option (List ℕ)). IsSomeAnd o (λ text. HasPlans c.trade.senders text plans)) (sym told_plans.1) has_plans;
       lived = h;
-      ends = subst (EndsAs h.over.served.behind h.over.seen h.over.served.mid (sees.carried after.dialer) h.over.served.ended h.over.served.given_up) status_is
-          (ends_as h.over.served.behind h.over.seen h.over.served.mid (sees.carried after.dialer) h.over.served.ended h.over.served.given_up h.over.connections h.over.refused h.over.refusal answer_blames_none h.over.served.answer);
+      ends = subst (EndsAs h.over.served.life.behind h.over.seen h.over.served.life.mid (sees.carried after.dialer) h.over.served.life.ended h.over.served.life.given_up) status_is
+          (ends_as h.over.served.life.behind h.over.seen h.over.served.life.mid (sees.carried after.dialer) h.over.served.life.ended h.over.served.life.given_up h.over.connections h.over.refused h.over.refusal answer_blames_none h.over.served.life.answer);
       finished = λ one. subst (IsBehindFinish h.over.refused) status_is
-          (behind_finish h.over.served.behind h.over.seen h.over.served.mid (sees.carried after.dialer) h.over.served.ended h.over.served.given_up h.over.connections h.over.refused h.over.refusal answer_blames_none h.over.served.answer one);
+          (behind_finish h.over.served.life.behind h.over.seen h.over.served.life.mid (sees.carried after.dialer) h.over.served.life.ended h.over.served.life.given_up h.over.connections h.over.refused h.over.refusal answer_blames_none h.over.served.life.answer one);
       full = λ entries bytes e. full_is h.result entries bytes (sym h.status_is ∙ e);
       marked = λ of some. h.over.marked (unrefused h.result (subst (λ (s : Status). IsOfConnections s) h.status_is of))
           (subst (λ (n : ℕ). 0 < n) (sym (as_many c.trade.senders told_plans.0 plans has_plans)) some);
@@ -99,6 +99,6 @@ module _ {S K D N C J : Type 0} (G : Ghosts J) (sees : Sees S K D N)
       behind_config (subst (λ (d : Configuration). EndsBehindConfig G sees role d before after status) same w.ended))
       s
 
-pub run_completes : {S K D N C J : Type 0} (G : Ghosts J) (sees : Sees S K D N)
+pub run_completes : {S K D N C J : Type 0} (G : Ghosts J) (sees : Sees S K D N C)
     (before after : SessionOutside S K D N C) → RunCompletes G sees before after
 run_completes G sees before after role c status set_up none steps = at_step G sees before after role c status set_up none steps

@@ -47,6 +47,13 @@ last_finished close ended e one = ⊎_elim
 not_rejected : (template code : ℕ) (ended : List Connection) → EndsWith (closes.Ended (endings.Rejected template code)) ended → OneFinished ended → ⊥
 not_rejected template code ended e one = let same : closes.Ended (endings.Rejected template code) ≡ closes.Ended endings.Finished = last_finished _ ended e one in cc
 
+-- a failed dialer is the answer, or the failed journal that comes before it
+dial_blames : (x : ServeFault) → IsOfSender x → BlamesNone (answer_of (Err faults.Dial) (Some x)) → ⊥
+dial_blames faults.Journal of none = none faults.Journal tt refl
+dial_blames (faults.Full entries bytes) of none = none faults.Dial tt refl
+dial_blames faults.Memory of none = none faults.Dial tt refl
+dial_blames _ of none = of
+
 module _ (behind seen : History) (m : State) (later : Option DialerTold) (ended : List Connection) (given_up : Option Connection) where
   -- a refusal of a sender that blames no device is a limit, or want of memory
   refusal_ends : (x : ServeFault) → IsOfSender x → BlamesNone (Err x) → EndsAs behind seen m later ended given_up (status_of (Err x))
@@ -66,7 +73,7 @@ module _ (behind seen : History) (m : State) (later : Option DialerTold) (ended 
   ends_as (Err faults.Journal) None of none answer = absurd (none faults.Journal tt refl)
   ends_as (Err faults.Journal) (Some x) of none answer = absurd (none faults.Journal tt refl)
   ends_as (Err faults.Dial) None of none answer = absurd (none faults.Dial tt refl)
-  ends_as (Err faults.Dial) (Some x) of none answer = absurd (none faults.Dial tt refl)
+  ends_as (Err faults.Dial) (Some x) of none answer = absurd (dial_blames x of none)
   ends_as (Err (faults.Unfinished phase)) None of none answer = answer
   ends_as (Err (faults.Unfinished phase)) (Some x) of none answer = refusal_ends x of none
   ends_as (Err (faults.Rejected template code)) None of none answer = answer

@@ -37,7 +37,7 @@ empty_box Inbox flow content j = record {
 no_lines : (senders : ℕ) → TellsPlans senders []
 no_lines senders = record { short = omega arith; plans = payloads_of_senders 1 senders []; has = record { gifts = []; given = tt; plans_are = refl } }
 
-pub fresh_is_set_up : {S K D N C : Type 0} (sees : Sees S K D N) (before : SessionOutside S K D N C) → FreshIsSetUp sees before
+pub fresh_is_set_up : {S K D N C : Type 0} (sees : Sees S K D N C) (before : SessionOutside S K D N C) → FreshIsSetUp sees before
 fresh_is_set_up sees before role c config outbox inbox input = record {
   config = config;
   outbox = of_told (sees.told before.out_disk) (λ content. IsJournal content []) (IsBox Outbox (flow_received role c.link)) (empty_box Outbox (flow_received role c.link)) outbox;

@@ -41,7 +41,7 @@ own role flows = own_flow role flows.client flows.server
 abbrev peer : Role → Flows → Flow
 peer role flows = peer_flow role flows.client flows.server
 
-module _ {S K D N C J : Type 0} (G : Ghosts J) (sees : Sees S K D N) (role : Role) (flows : Flows) (o : List OutboxRecord) (i : List InboxRecord)
+module _ {S K D N C J : Type 0} (G : Ghosts J) (sees : Sees S K D N C) (role : Role) (flows : Flows) (o : List OutboxRecord) (i : List InboxRecord)
     (payloads : AllByRecursion (λ (e : Entry). IsApplication e.payload) (entries o)) where
   module _ (r : Run S K D N C) (carried : List (Option Carried)) (outboxes inboxes : List ℕ → Type 0)
       (out_at : IsAt sees outboxes r.before.out_disk) (in_at : IsAt sees inboxes r.before.in_disk) (was : WasRun G sees role flows r)
@@ -92,7 +92,7 @@ pub record AreLives (own peer : Flow) (carried : List (Option Carried)) (h : His
   pub may_turn : AllByRecursion (MayTurn own peer) lives
   pub links : AllZip CarriedOn carried (flat_map legs_in lives)
 
-module _ {S K D N C J : Type 0} (G : Ghosts J) (sees : Sees S K D N) (role : Role) (flows : Flows) (runs : List (Run S K D N C)) (h : History) (i : List InboxRecord) (ran : HasRun G sees role flows runs h i) where
+module _ {S K D N C J : Type 0} (G : Ghosts J) (sees : Sees S K D N C) (role : Role) (flows : Flows) (runs : List (Run S K D N C)) (h : History) (i : List InboxRecord) (ran : HasRun G sees role flows runs h i) where
   abbrev from_empty : Type 0
   from_empty = Comes (own_flow role flows.client flows.server) (peer_flow role flows.client flows.server) IsEmptyJournal IsEmptyJournal (flat_map (brought sees) runs) (outbox_of h) i
 
@@ -116,8 +116,8 @@ module _ {S K D N C J : Type 0} (G : Ghosts J) (sees : Sees S K D N) (role : Rol
     links = came.links;
   }
 
-pub runs_hold : {S K D N J : Type 0} (G : Ghosts J) (sees : Sees S K D N) (C : Type 0) → RunsHold G sees C
-runs_hold G sees C flows runs_i runs_a h_i h_a i_i i_a ran_i ran_a linked =
+pub runs_hold : {S K D N C J : Type 0} (G : Ghosts J) (sees : Sees S K D N C) → RunsHold G sees
+runs_hold G sees flows runs_i runs_a h_i h_a i_i i_a ran_i ran_a linked =
     let a = are_lives G sees Initiator flows runs_i h_i i_i ran_i in
     let b = are_lives G sees Acceptor flows runs_a h_a i_a ran_a in
     let both = loops_hold flows.client flows.server (plan_of (outbox_of h_i)) (plan_of (outbox_of h_a)) a.lives b.lives (outbox_of h_i) (outbox_of h_a) i_i i_a (record {

@@ -16,12 +16,12 @@ use Rattle.run_laws.proofs.Ways.{Ways, ways_of}
 abbrev AllListed : (List ℕ → Type 0) → Type 0
 AllListed contents = Leaves contents None → ⊥
 
-module _ {S K D N : Type 0} (sees : Sees S K D N) (contents : List ℕ → Type 0) (before after : D) (at : IsAt sees contents before) (all : AllListed contents) where
+module _ {S K D N C : Type 0} (sees : Sees S K D N C) (contents : List ℕ → Type 0) (before after : D) (at : IsAt sees contents before) (all : AllListed contents) where
   kept_listed : IsKept sees.told sees.may_leave before after → AllListed (sees.may_leave after)
   kept_listed (inl fewer) left = all (left.0, at.leaves left.0 (fewer.leaves left.0 left.1), left.2)
   kept_listed (inr k) left = k.left None left
 
-module _ {S K D N C J : Type 0} (G : Ghosts J) (sees : Sees S K D N) (role : Role) (r : Run S K D N C) (outboxes inboxes : List ℕ → Type 0)
+module _ {S K D N C J : Type 0} (G : Ghosts J) (sees : Sees S K D N C) (role : Role) (r : Run S K D N C) (outboxes inboxes : List ℕ → Type 0)
     (out_at : IsAt sees outboxes r.before.out_disk) (in_at : IsAt sees inboxes r.before.in_disk) (out_all : AllListed outboxes) (in_all : AllListed inboxes) where
   both_listed : Ways G sees role r.before r.after r.status → AllListed (sees.may_leave r.after.out_disk) × AllListed (sees.may_leave r.after.in_disk)
   both_listed (inl kept) = (
@@ -41,7 +41,7 @@ sound contents content all is = record {
   formatted = λ broken. all (content, is, λ records j. at_most_one_verdict.formatted content records j broken);
 }
 
-all_sound : {S K D N C J : Type 0} (G : Ghosts J) (sees : Sees S K D N) (role : Role) (runs : List (Run S K D N C)) (outboxes inboxes : List ℕ → Type 0) (outbox inbox : List ℕ) → AllListed outboxes → AllListed inboxes
+all_sound : {S K D N C J : Type 0} (G : Ghosts J) (sees : Sees S K D N C) (role : Role) (runs : List (Run S K D N C)) (outboxes inboxes : List ℕ → Type 0) (outbox inbox : List ℕ) → AllListed outboxes → AllListed inboxes
     → RunsOver sees (IsRun G sees role) runs outboxes inboxes outbox inbox → IsSound outbox × IsSound inbox
 all_sound G sees role [] outboxes inboxes outbox inbox out_all in_all over = (sound outboxes outbox out_all over.0, sound inboxes inbox in_all over.1)
 all_sound G sees role (r ∷ later) outboxes inboxes outbox inbox out_all in_all over =
@@ -51,5 +51,5 @@ all_sound G sees role (r ∷ later) outboxes inboxes outbox inbox out_all in_all
 empty_listed : AllListed IsEmptyJournal
 empty_listed left = left.2 [] left.1
 
-pub none_is_lost : {S K D N J : Type 0} (G : Ghosts J) (sees : Sees S K D N) (C : Type 0) → NoneIsLost G sees C
-none_is_lost G sees C role runs outbox inbox over = all_sound G sees role runs IsEmptyJournal IsEmptyJournal outbox inbox empty_listed empty_listed over
+pub none_is_lost : {S K D N C J : Type 0} (G : Ghosts J) (sees : Sees S K D N C) → NoneIsLost G sees
+none_is_lost G sees role runs outbox inbox over = all_sound G sees role runs IsEmptyJournal IsEmptyJournal outbox inbox empty_listed empty_listed over

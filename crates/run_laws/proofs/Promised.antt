@@ -37,7 +37,7 @@ all_images : (may_leave : List ℕ → Type 0) (closing refused : List Record) �
 all_images may_leave closing refused merely None left = none_left may_leave closing refused merely left
 all_images may_leave closing refused merely (Some records) left = image_left may_leave closing refused records merely left
 
-module _ {J : Type 0} {G : Ghosts J} {S K D N C : Type 0} (sees : Sees S K D N) (config : EndConfig) (plans : List (List (List ℕ))) (before after : SessionOutside S K D N C) (old new : Inbox J G)
+module _ {J : Type 0} {G : Ghosts J} {S K D N C : Type 0} (sees : Sees S K D N C) (config : EndConfig) (plans : List (List (List ℕ))) (before after : SessionOutside S K D N C) (old new : Inbox J G)
     (result : Result (Unit {0}) ServeFault) (v : LivedOver sees config plans before after old new result) where
   abbrev life : Life
   life = life_in (machine_life v.life.life)
@@ -56,10 +56,10 @@ module _ {J : Type 0} {G : Ghosts J} {S K D N C : Type 0} (sees : Sees S K D N) 
         (subst (λ (rs : List OutboxRecord). LeavesImages (sees.may_leave after.out_disk) (records_of_history v.closing) (map record_of rs)) (sym v.life.outboxes.2)
         (all_images (sees.may_leave after.out_disk) (records_of_history v.closing) (map record_of v.lost) v.out_left));
     in_left = subst (λ (rs : List InboxRecord). LeavesImages (sees.may_leave after.in_disk) (records_of_inbox rs) (records_of_inbox life.served.refused_inbox)) (sym v.life.inbox.1)
-        (subst (λ (rs : List InboxRecord). LeavesImages (sees.may_leave after.in_disk) (records_of_inbox (v.inbox ++ adds_of (all_of v.served.ended v.served.given_up))) (records_of_inbox rs)) (sym v.life.inbox.2) v.in_left);
+        (subst (λ (rs : List InboxRecord). LeavesImages (sees.may_leave after.in_disk) (records_of_inbox (v.inbox ++ adds_of (all_of v.served.life.ended v.served.life.given_up))) (records_of_inbox rs)) (sym v.life.inbox.2) v.in_left);
   }
 
-module _ {S K D N C J : Type 0} (G : Ghosts J) (sees : Sees S K D N) (role : Role) (flows : Flows) (r : Run S K D N C) where
+module _ {S K D N C J : Type 0} (G : Ghosts J) (sees : Sees S K D N C) (role : Role) (flows : Flows) (r : Run S K D N C) where
   by_way : IsSomeAnd (sees.left r.before.config) (HasFlows role flows) → Ways G sees role r.before r.after r.status
       → KeepsSession sees (own_flow role flows.client flows.server) (peer_flow role flows.client flows.server) r.before r.after
   by_way config (inl kept) = inl (record { outbox = kept.outbox; inbox = kept.inbox })
@@ -73,5 +73,5 @@ module _ {S K D N C J : Type 0} (G : Ghosts J) (sees : Sees S K D N) (role : Rol
       (ap (λ (f : Flow). peer_flow role f c.link.server_flow) same.0 ∙ ap (λ (f : Flow). peer_flow role flows.client f) same.1)
       c.trade.senders (λ text told. (by.planned text told).1))
 
-pub run_keeps : {S K D N J : Type 0} (G : Ghosts J) (sees : Sees S K D N) (C : Type 0) → RunKeeps G sees C
-run_keeps G sees C role flows r config steps = by_way G sees role flows r config (ways_of G sees role r.before r.after r.status steps)
+pub run_keeps : {S K D N C J : Type 0} (G : Ghosts J) (sees : Sees S K D N C) → RunKeeps G sees
+run_keeps G sees role flows r config steps = by_way G sees role flows r config (ways_of G sees role r.before r.after r.status steps)

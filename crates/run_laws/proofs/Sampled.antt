@@ -48,7 +48,7 @@ use Rattle.conn_serve.specs.declared.answer.ServeFault.{ServeFault}
 use Rattle.conn_serve.specs.declared.answer.ServeFault.TheVariants as faults
 use Rattle.conn_serve.specs.declared.answer.LifeEnd.{LifeEnd}
 use Rattle.conn_serve.specs.declared.answer.LifeEnd.TheVariants as ends
-use Rattle.conn_serve.specs.Connections.{LinkSeen, Connection, all_of, MadeNoMore, IsConnection, AllEnded, IsFollowed, adds_of, refused_of_all}
+use Rattle.conn_serve.specs.Connections.{LinkSeen, IsOver, ByClock, Connection, all_of, MadeNoMore, IsConnection, AllEnded, IsFollowed, adds_of, refused_of_all}
 use Rattle.conn_serve.specs.Answers.{answer_of}
 use Rattle.conn_steps.specs.Settling.{HaveRoom}
 use Rattle.gw_outside.specs.Faults.{HasRisen}
@@ -57,7 +57,7 @@ use Rattle.jr_boxes.specs.Inboxes.{records_of_inbox}
 use Rattle.life_laws.specs.PlanLives.{IsOfSender}
 use Rattle.conn_serve.specs.Moments.{life_at}
 use Rattle.conn_serve.specs.Opening.{opened_state, IsUnrefused}
-use Rattle.conn_serve.specs.Served.{ServedLife, IsTold}
+use Rattle.conn_serve.specs.Served.{ServedLife, ServedOver, IsTold}
 use Rattle.life_laws.specs.Lives.{LifeOfLoop, served_of}
 use Rattle.life_laws.specs.Plans.{plan_in, KeepsPlans, LosesNext, GoesOnWith}
 use Rattle.life_laws.proofs.Lost.{plans_go_on, lost_few}
@@ -70,7 +70,7 @@ use Rattle.cmd_session.specs.Inputs.{configuration_at, flow_received, end_of}
 use Rattle.cmd_session.specs.Lived.{LeavesImages, IsOfLife, LivedOver, status_of}
 use Rattle.run_laws.specs.Several.{HasFlows, IsEmptyJournal, IsAt, RunsOver, WasRun, HasRun}
 use Rattle.run_laws.specs.Linked.{no_more, paired}
-use Rattle.run_laws.specs.Samples.{configured, config_text, both_recoverable, message, submitted, nothing, with_one, journal_of, MemoryDisk, IsOneOf, memory, settled, torn, one_left, MemoryOutside, MemoryRun, stopped_run, cut_run, of_initiator, of_acceptor, runs_of_initiator, runs_of_acceptor, RunsSample}
+use Rattle.run_laws.specs.Samples.{configured, config_text, both_recoverable, message, submitted, nothing, with_one, journal_of, MemoryDisk, IsOneOf, memory_links, memory, settled, torn, one_left, MemoryOutside, MemoryRun, stopped_run, cut_run, of_initiator, of_acceptor, runs_of_initiator, runs_of_acceptor, RunsSample}
 use Rattle.run_laws.proofs.Fresh.{empty_box}
 use Rattle.run_laws.proofs.Spelled.{spelled_initiator, spelled_acceptor}
 
@@ -167,8 +167,8 @@ module _ {J : Type 0} {G : Ghosts J} (box : Inbox J G) (held : HoldsBox box [] [
     (order : InOrder h.made) (unmarked : h.finished ≡ false) (few : length h.made < 2 ^ 40)
     (j : IsJournal (journal_of h) (records_of_history h)) (before after : MemoryOutside) (out_is : before.out_disk ≡ settled h) (in_was : before.in_disk ≡ settled nothing) (in_is : after.in_disk ≡ settled nothing)
     (connections : Result LifeEnd ServeFault) (refused : Option ServeFault) (of_sender : IfSome refused IsOfSender) (result : Result (Unit {0}) ServeFault) (answer : result ≡ answer_of connections refused)
-    (served : ServedLife (life_at (memory.carried before.dialer) (memory.taken before.out) h box) (life_at (memory.carried after.dialer) (memory.taken after.out) h box) (fresh config (opened_state h box) (2 ^ 24)) connections)
-    (adds : adds_of (all_of served.ended served.given_up) ≡ []) (none : refused_of_all (option_to_list served.given_up) ≡ [])
+    (served : ServedOver memory.links (memory.last before.clock) (memory.last after.clock) (life_at (memory.carried before.dialer) (memory.taken before.out) h box) (life_at (memory.carried after.dialer) (memory.taken after.out) h box) (fresh config (opened_state h box) (2 ^ 24)) connections)
+    (adds : adds_of (all_of served.life.ended served.life.given_up) ≡ []) (none : refused_of_all (option_to_list served.life.given_up) ≡ [])
     (out_left : ∥ LeavesImages (memory.may_leave after.out_disk) (records_of_history h) (map record_of lost) ∥₁)
     (out_whole : (HasRisen (memory.disk before.out_disk) (memory.disk after.out_disk) → ⊥) → lost ≡ [])
     (marked : IsUnrefused result → 0 < length plans → h.finished ≡ true)
@@ -186,8 +186,8 @@ module _ {J : Type 0} {G : Ghosts J} (box : Inbox J G) (held : HoldsBox box [] [
   opens : Opens made made machine []
   opens = subst (λ (es : List Entry). Opens es made machine []) (sym (entries-outbox_of h)) (opened_opens box h config (2 ^ 24) made [] (prefix_equal h.made made (sym (entries-outbox_of h))) held)
 
-  life : LifeOfLoop (outbox_of h) (outbox_of h) lost machine [] (all_of served.ended served.given_up) (refused_of_all (option_to_list served.given_up))
-  life = served_keeps box (life_at (memory.carried before.dialer) (memory.taken before.out) h box) (life_at (memory.carried after.dialer) (memory.taken after.out) h box) machine connections (outbox_of h) (outbox_of h) lost [] served has opens
+  life : LifeOfLoop (outbox_of h) (outbox_of h) lost machine [] (all_of served.life.ended served.life.given_up) (refused_of_all (option_to_list served.life.given_up))
+  life = served_keeps box (life_at (memory.carried before.dialer) (memory.taken before.out) h box) (life_at (memory.carried after.dialer) (memory.taken after.out) h box) machine connections (outbox_of h) (outbox_of h) lost [] served.life has opens
 
   keeps : KeepsConnections (model_flow config.own_flow) (model_flow config.peer_flow) (entries (life_in (machine_life life.life)).opening_outbox) (entries (life_in (machine_life life.life)).closing_outbox) (served_of life.life)
   keeps = subst (λ (rs : List OutboxRecord). KeepsConnections (model_flow config.own_flow) (model_flow config.peer_flow) (entries rs) (entries life.life.closing_outbox) (served_of life.life)) (sym life.outboxes.0)
@@ -226,10 +226,10 @@ module _ {J : Type 0} {G : Ghosts J} (box : Inbox J G) (held : HoldsBox box [] [
     contract = record { connections = keeps; outbox = outbox_is_kept };
     out_left = out_left;
     out_whole = out_whole;
-    in_left = subst (λ (d : MemoryDisk). LeavesImages (memory.may_leave d) (records_of_inbox ([] ++ adds_of (all_of served.ended served.given_up))) (records_of_inbox (refused_of_all (option_to_list served.given_up)))) (sym in_is)
-        (subst (λ (rs : List InboxRecord). LeavesImages (memory.may_leave (settled nothing)) (records_of_inbox rs) (records_of_inbox (refused_of_all (option_to_list served.given_up)))) (sym adds)
+    in_left = subst (λ (d : MemoryDisk). LeavesImages (memory.may_leave d) (records_of_inbox ([] ++ adds_of (all_of served.life.ended served.life.given_up))) (records_of_inbox (refused_of_all (option_to_list served.life.given_up)))) (sym in_is)
+        (subst (λ (rs : List InboxRecord). LeavesImages (memory.may_leave (settled nothing)) (records_of_inbox rs) (records_of_inbox (refused_of_all (option_to_list served.life.given_up)))) (sym adds)
         (subst (λ (rs : List InboxRecord). LeavesImages (memory.may_leave (settled nothing)) [] (records_of_inbox rs)) (sym none) (settled_leaves nothing journal_nothing)));
-    room = subst (λ (rs : List InboxRecord). HaveRoom (2 ^ 30) (journal_size []) (rs ++ refused_of_all (option_to_list served.given_up))) (sym adds)
+    room = subst (λ (rs : List InboxRecord). HaveRoom (2 ^ 30) (journal_size []) (rs ++ refused_of_all (option_to_list served.life.given_up))) (sym adds)
         (subst (λ (rs : List InboxRecord). HaveRoom (2 ^ 30) (journal_size []) rs) (sym none) tt);
     marked = marked;
     none = λ e. refl;
@@ -284,7 +284,7 @@ module _ {J : Type 0} {G : Ghosts J} (box : Inbox J G) (held : HoldsBox box [] [
 
   abbrev first_lived : LivedOver memory (end_of role configured.link) first_plans first.before first.after box box (Err faults.Journal)
   first_lived = quiet box held (end_of role configured.link) first_plans nothing (entry submitted ∷ []) loses_first (λ s. refl) refl (omega arith) journal_nothing first.before first.after refl refl refl
-      (Ok ends.Stopped) (Some faults.Journal) tt (Err faults.Journal) refl none_served refl refl ∣ torn_leaves ∣₁ (λ never. absurd (never (omega arith))) (λ unrefused some. absurd (true≢false (sym unrefused)))
+      (Ok ends.Stopped) (Some faults.Journal) tt (Err faults.Journal) refl (record { life = none_served; links = tt; clock = omega arith }) refl refl ∣ torn_leaves ∣₁ (λ never. absurd (never (omega arith))) (λ unrefused some. absurd (true≢false (sym unrefused)))
       (λ e. inl (omega arith)) journal_not_full
 
 one_of : (P : Connection → Type 0) (c : Connection) → P c → All P (c ∷ [])
@@ -324,13 +324,14 @@ module _ {J : Type 0} {G : Ghosts J} (box : Inbox J G) (held : HoldsBox box [] [
   }
 
   module _ (order : InOrder h.made) (unmarked : h.finished ≡ false) (few : length h.made < 2 ^ 40) (j : IsJournal (journal_of h) (records_of_history h)) (text : List ℕ)
-      (ended : AllEnded h h (fresh (end_of role configured.link) (opened_state h box) (2 ^ 24)) mid (connection ∷ [])) (phase : phase_of mid ≡ Ended) (timely : IsTimely leg) where
+      (ended : AllEnded h h (fresh (end_of role configured.link) (opened_state h box) (2 ^ 24)) mid (connection ∷ [])) (phase : phase_of mid ≡ Ended) (timely : IsTimely leg)
+      (over : IsOver memory_links link) (by_clock : ByClock 0 0 (connection ∷ [])) where
     abbrev second : MemoryRun
     second = cut_run text h carried
 
     abbrev second_lived : LivedOver memory (end_of role configured.link) [] second.before second.after box box (Err (faults.Unfinished Ended))
     second_lived = quiet box held (end_of role configured.link) [] h [] (inl refl) order unmarked few j second.before second.after refl refl refl (Err (faults.Unfinished Ended)) None tt (Err (faults.Unfinished Ended)) refl
-        (cut_served ended phase timely) refl refl ∣ settled_leaves h j ∣₁ (λ never. refl) (λ unrefused some. absurd (omega (arith, some))) (λ e. absurd (cut_no_journal e)) cut_not_full
+        (record { life = cut_served ended phase timely; links = (over, tt); clock = by_clock }) refl refl ∣ settled_leaves h j ∣₁ (λ never. refl) (λ unrefused some. absurd (omega (arith, some))) (λ e. absurd (cut_no_journal e)) cut_not_full
 
 -- what is recorded as a life opens on an inbox without records
 abbrev found_state : History → EndState
@@ -352,6 +353,20 @@ carried_nothing = record { given = []; taken = [] }
 
 abbrev failing : (first end : TurnAt) → LinkSeen
 failing first end = record { eager = true; first = first; end = end; faults_before = 0; faults_behind = 1 }
+
+-- such a link is one in memory
+over_memory : (first end : TurnAt) → IsOver memory_links (failing first end)
+over_memory first end = record {
+  before = record { told = first.told; carried = first.carried; failed = 0 };
+  behind = record { told = end.told; carried = end.carried; failed = 1 };
+  eager = refl;
+  told_before = refl;
+  told_behind = refl;
+  carried_before = refl;
+  carried_behind = refl;
+  failed_before = refl;
+  failed_behind = refl;
+}
 
 no_more_at : (carried : Carried) (h : History) (line : Line) → MadeNoMore (at_carried carried h line) (at_carried carried h line)
 no_more_at carried h line = record {
@@ -643,7 +658,7 @@ module _ {J : Type 0} {G : Ghosts J} (box : Inbox J G) where
         inbox = journal_of nothing;
         over = runs_over box held Initiator text spelled with_one of_initiator (inr (inl refl))
             (was box held Initiator text spelled (cut_run text with_one of_initiator) with_one [] (Err (faults.Unfinished Ended)) refl refl refl refl journal_one outbox_one refl tt (λ e. cc) (λ e. cc)
-            (second_lived box held Initiator with_one last_i.machine link_i leg_i of_initiator in_order refl (omega arith) journal_one text ended refl timely_i));
+            (second_lived box held Initiator with_one last_i.machine link_i leg_i of_initiator in_order refl (omega arith) journal_one text ended refl timely_i (over_memory first_i end_i) (omega arith, omega arith)));
         outbox_is = journal_one;
         inbox_is = journal_nothing;
         payloads = (is_application, tt);
@@ -658,7 +673,7 @@ module _ {J : Type 0} {G : Ghosts J} (box : Inbox J G) where
         inbox = journal_of nothing;
         over = runs_over box held Acceptor text spelled nothing of_acceptor (inl refl)
             (was box held Acceptor text spelled (cut_run text nothing of_acceptor) nothing [] (Err (faults.Unfinished Ended)) refl refl refl refl journal_nothing outbox_nothing refl tt (λ e. cc) (λ e. cc)
-            (second_lived box held Acceptor nothing last_a.machine link_a leg_a of_acceptor (λ s. refl) refl (omega arith) journal_nothing text ended refl timely_a));
+            (second_lived box held Acceptor nothing last_a.machine link_a leg_a of_acceptor (λ s. refl) refl (omega arith) journal_nothing text ended refl timely_a (over_memory first_a end_a) (omega arith, omega arith)));
         outbox_is = journal_nothing;
         inbox_is = journal_nothing;
         payloads = tt;

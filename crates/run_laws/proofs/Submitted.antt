@@ -58,12 +58,12 @@ continued plan whole before after part begun c =
     (prefix_trans c.more (drop (length before) plan) (drop (length before) whole) c.planned (prefix_drop (length before) plan whole part)))
 
 -- a life only adds to its outbox
-pub opening_closing : {J : Type 0} {G : Ghosts J} {S K D N C : Type 0} {sees : Sees S K D N} {config : EndConfig} {plans : List (List (List ℕ))} {before after : SessionOutside S K D N C} {old new : Inbox J G} {result : Result (Unit {0}) ServeFault}
+pub opening_closing : {J : Type 0} {G : Ghosts J} {S K D N C : Type 0} {sees : Sees S K D N C} {config : EndConfig} {plans : List (List (List ℕ))} {before after : SessionOutside S K D N C} {old new : Inbox J G} {result : Result (Unit {0}) ServeFault}
     (v : LivedOver sees config plans before after old new result) → IsPrefix (outbox_of v.opening) (outbox_of v.closing)
 opening_closing v = subst (λ (rs : List OutboxRecord). IsPrefix rs (outbox_of v.closing)) v.life.outboxes.0
     (subst (λ (rs : List OutboxRecord). IsPrefix v.life.life.opening_outbox rs) v.life.outboxes.1 v.contract.outbox.outbox_grows)
 
-module _ {S K D N C J : Type 0} (G : Ghosts J) (sees : Sees S K D N) (role : Role) (plan : ℕ → List (List ℕ)) (all : List (Run S K D N C)) (h : History) where
+module _ {S K D N C J : Type 0} (G : Ghosts J) (sees : Sees S K D N C) (role : Role) (plan : ℕ → List (List ℕ)) (all : List (Run S K D N C)) (h : History) where
   -- what is so of the outbox between two runs
   record Sent (o : List OutboxRecord) : Type 0 where
     in_order : InOrder (entries o)
@@ -171,5 +171,5 @@ module _ {S K D N C J : Type 0} (G : Ghosts J) (sees : Sees S K D N) (role : Rol
         finished = λ marked. end.finished (ap (λ (x : History). x.finished) (history_of-records h) ∙ marked);
       }
 
-pub senders_hold : {S K D N J : Type 0} (G : Ghosts J) (sees : Sees S K D N) (C : Type 0) → SendersHold G sees C
-senders_hold G sees C role plan runs outbox inbox h over is = holds_sent G sees role plan runs h outbox inbox over is
+pub senders_hold : {S K D N C J : Type 0} (G : Ghosts J) (sees : Sees S K D N C) → SendersHold G sees
+senders_hold G sees role plan runs outbox inbox h over is = holds_sent G sees role plan runs h outbox inbox over is

@@ -10,40 +10,39 @@ use Rattle.cmd_session.specs.Outsides.{Sees, disks_of}
 use Rattle.cmd_session.specs.Steps.{RefusedBoxes, StopsAtConfig, StopsAtBoxes, StopsAtInput, EndsBehindConfig, Steps}
 use Rattle.cmd_session.specs.declared.outside.SessionOutside.{SessionOutside}
 
-module _ {S K D N : Type 0} (sees : Sees S K D N) where
+module _ {S K D N C : Type 0} (sees : Sees S K D N C) where
   -- a disk that is as it was is kept
   pub same_kept : (before after : D) → after ≡ before → IsKept sees.told sees.may_leave before after
   same_kept before after same = inl (record { tells = ap sees.told same; leaves = λ content left. subst (λ (d : D). sees.may_leave d content) same left })
 
-  module _ {C : Type 0} where
-    -- no life was lived: both disks are kept, and the dialer is as it was
-    pub record Unlived (before after : SessionOutside S K D N C) : Type 0 where
-      pub outbox : IsKept sees.told sees.may_leave before.out_disk after.out_disk
-      pub inbox : IsKept sees.told sees.may_leave before.in_disk after.in_disk
-      pub dialer_is : after.dialer ≡ before.dialer
+  -- no life was lived: both disks are kept, and the dialer is as it was
+  pub record Unlived (before after : SessionOutside S K D N C) : Type 0 where
+    pub outbox : IsKept sees.told sees.may_leave before.out_disk after.out_disk
+    pub inbox : IsKept sees.told sees.may_leave before.in_disk after.in_disk
+    pub dialer_is : after.dialer ≡ before.dialer
 
-    module _ (before after : SessionOutside S K D N C) (status : Status) where
-      pub config_kept : (role : Role) → StopsAtConfig sees role before after status → Unlived before after
-      config_kept role s = record {
-        outbox = same_kept before.out_disk after.out_disk s.kept.out_disk;
-        inbox = same_kept before.in_disk after.in_disk s.kept.behind.in_disk;
-        dialer_is = s.kept.behind.behind.live.dialer;
-      }
+  module _ (before after : SessionOutside S K D N C) (status : Status) where
+    pub config_kept : (role : Role) → StopsAtConfig sees role before after status → Unlived before after
+    config_kept role s = record {
+      outbox = same_kept before.out_disk after.out_disk s.kept.out_disk;
+      inbox = same_kept before.in_disk after.in_disk s.kept.behind.in_disk;
+      dialer_is = s.kept.behind.behind.live.dialer;
+    }
 
-      pub boxes_kept : (role : Role) (c : Configuration) → StopsAtBoxes sees role c before after status → Unlived before after
-      boxes_kept role c s = by_box s.refused
-        where
-          by_box : RefusedBoxes sees.told sees.may_leave sees.disk (flow_received role c.link) (disks_of before) (disks_of after) status → Unlived before after
-          by_box (inl o) = record { outbox = o.outbox_kept; inbox = same_kept before.in_disk after.in_disk o.inbox_is; dialer_is = s.kept.live.dialer }
-          by_box (inr i) = record { outbox = inr i.outbox_kept; inbox = i.inbox_kept; dialer_is = s.kept.live.dialer }
+    pub boxes_kept : (role : Role) (c : Configuration) → StopsAtBoxes sees role c before after status → Unlived before after
+    boxes_kept role c s = by_box s.refused
+      where
+        by_box : RefusedBoxes sees.told sees.may_leave sees.disk (flow_received role c.link) (disks_of before) (disks_of after) status → Unlived before after
+        by_box (inl o) = record { outbox = o.outbox_kept; inbox = same_kept before.in_disk after.in_disk o.inbox_is; dialer_is = s.kept.live.dialer }
+        by_box (inr i) = record { outbox = inr i.outbox_kept; inbox = i.inbox_kept; dialer_is = s.kept.live.dialer }
 
-      pub input_kept : (senders : ℕ) → StopsAtInput sees senders before after status → Unlived before after
-      input_kept senders s = record { outbox = inr s.left.outbox; inbox = inr s.left.inbox; dialer_is = s.refused.live.dialer }
+    pub input_kept : (senders : ℕ) → StopsAtInput sees senders before after status → Unlived before after
+    input_kept senders s = record { outbox = inr s.left.outbox; inbox = inr s.left.inbox; dialer_is = s.refused.live.dialer }
 
-      pub unbegun_kept : LeftAll sees before after status → Unlived before after
-      unbegun_kept l = record { outbox = inr l.left.outbox; inbox = inr l.left.inbox; dialer_is = l.dialer_is }
+    pub unbegun_kept : LeftAll sees before after status → Unlived before after
+    unbegun_kept l = record { outbox = inr l.left.outbox; inbox = inr l.left.inbox; dialer_is = l.dialer_is }
 
-module _ {S K D N C J : Type 0} (G : Ghosts J) (sees : Sees S K D N) (role : Role) (before after : SessionOutside S K D N C) (status : Status) where
+module _ {S K D N C J : Type 0} (G : Ghosts J) (sees : Sees S K D N C) (role : Role) (before after : SessionOutside S K D N C) (status : Status) where
   -- it lived over both, by the configuration that CONFIG spells and the plans that INPUT has
   pub record LivedBy : Type 0 where
     pub configuration : Configuration

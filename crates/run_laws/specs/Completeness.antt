@@ -47,7 +47,7 @@ pub record TellsPlans (senders : ℕ) (text : List ℕ) : Type 0 where
 module _ {S K D N C : Type 0} where
   -- What a session begins on is told, and in order: CONFIG spells this configuration for an end of this role, the disks hold an outbox and an
   -- inbox of the flow that it receives, and INPUT has plans for its senders
-  pub record IsSetUp (sees : Sees S K D N) (role : Role) (c : Configuration) (before : SessionOutside S K D N C) : Type 0 where
+  pub record IsSetUp (sees : Sees S K D N C) (role : Role) (c : Configuration) (before : SessionOutside S K D N C) : Type 0 where
     pub config : IsSomeAnd (sees.left before.config) (λ text. configuration_at role text ≡ Ok c)
     pub outbox : IsSomeAnd (sees.told before.out_disk) (IsBox Outbox (flow_received role c.link))
     pub inbox : IsSomeAnd (sees.told before.in_disk) (IsBox Inbox (flow_received role c.link))
@@ -95,27 +95,27 @@ module _ {S K D N C J : Type 0} where
   -- A life by the plans of INPUT over both disks, each connection of which ended by a row of a turn but for one that was given up, if one was
   -- (`LivedOver`). Its connections did what the status says; where one ended as Finished the status is Done, or that of a refusal in its place; at
   -- Full it answered so, and `LivedOver` says why; and where there are senders, the mark stands at each status that comes of the connections alone
-  pub record Completed (G : Ghosts J) (sees : Sees S K D N) (role : Role) (c : Configuration) (before after : SessionOutside S K D N C)
+  pub record Completed (G : Ghosts J) (sees : Sees S K D N C) (role : Role) (c : Configuration) (before after : SessionOutside S K D N C)
       (status : Status) : Type 0 where
     pub plans : List (List (List ℕ))
     pub planned : IsSomeAnd (sees.left before.input) (λ text. HasPlans c.trade.senders text plans)
     pub lived : HasLivedOver G sees (end_of role c.link) plans before after status
-    pub ends : EndsAs lived.over.served.behind lived.over.seen lived.over.served.mid (sees.carried after.dialer) lived.over.served.ended
-        lived.over.served.given_up status
-    pub finished : OneFinished lived.over.served.ended → IsBehindFinish lived.over.refused status
+    pub ends : EndsAs lived.over.served.life.behind lived.over.seen lived.over.served.life.mid (sees.carried after.dialer) lived.over.served.life.ended
+        lived.over.served.life.given_up status
+    pub finished : OneFinished lived.over.served.life.ended → IsBehindFinish lived.over.refused status
     pub full : (entries bytes : ℕ) → status ≡ Full entries bytes → lived.result ≡ Err (faults.Full entries bytes)
     pub marked : IsOfConnections status → 0 < c.trade.senders → lived.over.closing.finished ≡ true
 
   -- Whatever a run keeps to, by its clause `steps`: set up so, and where no call of a device failed, it lived and completed, or memory ran out
   -- before
-  abbrev pub RunCompletes : Ghosts J → Sees S K D N → (before after : SessionOutside S K D N C) → Type 0
+  abbrev pub RunCompletes : Ghosts J → Sees S K D N C → (before after : SessionOutside S K D N C) → Type 0
   RunCompletes G sees before after =
       (role : Role) (c : Configuration) (status : Status)
       → IsSetUp sees role c before → NoneRose (counts_of sees before) (counts_of sees after) → Steps G sees role before after status
       → WantsMemory before after status ⊎ Completed G sees role c before after status
 
 -- two journals without records, as `format` makes them, and an INPUT without bytes, are in order with any CONFIG that spells a configuration
-abbrev pub FreshIsSetUp : {S K D N C : Type 0} → Sees S K D N → (before : SessionOutside S K D N C) → Type 0
+abbrev pub FreshIsSetUp : {S K D N C : Type 0} → Sees S K D N C → (before : SessionOutside S K D N C) → Type 0
 FreshIsSetUp sees before =
     (role : Role) (c : Configuration)
     → IsSomeAnd (sees.left before.config) (λ text. configuration_at role text ≡ Ok c)

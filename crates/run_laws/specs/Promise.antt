@@ -20,13 +20,13 @@ use Rattle.run_laws.specs.Several.{Run, Flows, HasFlows, IsRun}
 
 module _ {S K D N C : Type 0} where
   -- Both journals were kept: a stop leaves no more of a disk than before the run, or the records that it told
-  pub record KeepsBoth (sees : Sees S K D N) (before after : SessionOutside S K D N C) : Type 0 where
+  pub record KeepsBoth (sees : Sees S K D N C) (before after : SessionOutside S K D N C) : Type 0 where
     pub outbox : IsKept sees.told sees.may_leave before.out_disk after.out_disk
     pub inbox : IsKept sees.told sees.may_leave before.in_disk after.in_disk
 
   -- One life: both disks told journals of what it opened on; it keeps the contract of one end by the plans of INPUT; and whatever a stop leaves of
   -- them, at whichever call of a device, is a journal of what it closed on and of a beginning of the records whose append failed, if one did
-  pub record LivedOne (sees : Sees S K D N) (own peer : Flow) (before after : SessionOutside S K D N C) : Type 0 where
+  pub record LivedOne (sees : Sees S K D N C) (own peer : Flow) (before after : SessionOutside S K D N C) : Type 0 where
     pub senders : ℕ
     pub plans : List (List (List ℕ))
     pub planned : ForSome (sees.left before.input) (λ text. HasPlans senders text plans)
@@ -38,12 +38,12 @@ module _ {S K D N C : Type 0} where
     pub in_left : LeavesImages (sees.may_leave after.in_disk) (records_of_inbox life.served.closing_inbox) (records_of_inbox life.served.refused_inbox)
 
   -- a run kept both journals, each by itself, or lived such a life
-  abbrev pub KeepsSession : Sees S K D N → (own peer : Flow) → (before after : SessionOutside S K D N C) → Type 0
+  abbrev pub KeepsSession : Sees S K D N C → (own peer : Flow) → (before after : SessionOutside S K D N C) → Type 0
   KeepsSession sees own peer before after = KeepsBoth sees before after ⊎ LivedOne sees own peer before after
 
-module _ {S K D N J : Type 0} where
+module _ {S K D N C J : Type 0} where
   -- so it is of each run whose CONFIG tells these flows, whatever its peer does
-  abbrev pub RunKeeps : Ghosts J → Sees S K D N → (C : Type 0) → Type 0
-  RunKeeps G sees C = (role : Role) (flows : Flows) (r : Run S K D N C)
+  abbrev pub RunKeeps : Ghosts J → Sees S K D N C → Type 0
+  RunKeeps G sees = (role : Role) (flows : Flows) (r : Run S K D N C)
       → IsSomeAnd (sees.left r.before.config) (HasFlows role flows) → IsRun G sees role r
       → KeepsSession sees (own_flow role flows.client flows.server) (peer_flow role flows.client flows.server) r.before r.after

@@ -1,6 +1,6 @@
 -- Two runs of each of two ends, on disks and over dialers in memory. The first run of either is stopped in the midst of an append of its outbox: the
 -- initiator's second run finds the entry, the acceptor's does not. Then both are linked, and the link is cut in the midst of the first message.
-use Rattle.std.specs.Prelude.{◌≡◌, ◌⊎◌, ℕ, false, List, [], ◌∷◌, ◌++◌, flat_map, replicate, codes, Option, Some, None}
+use Rattle.std.specs.Prelude.{◌≡◌, ◌⊎◌, ℕ, true, false, List, [], ◌∷◌, ◌++◌, flat_map, replicate, codes, Option, Some, None}
 use Rattle.sbe_prim.specs.declared.Order.TheVariants.{Little}
 use Rattle.sofh_frame.specs.Framing.{Frame}
 use Rattle.session_model.specs.Journal.{Entry, History}
@@ -8,7 +8,8 @@ use Rattle.fixp_msgs.specs.Numbering.{payload_of}
 use Rattle.fixp_msgs.specs.declared.flow.Flow.TheVariants.{Recoverable}
 use Rattle.fixp_shake.specs.declared.phase.Phase.TheVariants.{Ended}
 use Rattle.fixp_shake.specs.declared.config.Role.TheVariants.{Initiator, Acceptor}
-use Rattle.gw_links.specs.Links.{Carried}
+use Rattle.gw_links.specs.Links.{LinkTold, Carried}
+use Rattle.gw_links.specs.declared.link.Link.{Ghosts as LinkGhosts}
 use Rattle.gw_links.specs.Dialers.{DialerTold}
 use Rattle.jr_record.specs.declared.journal.Journal.{Ghosts}
 use Rattle.jr_record.specs.Images.{header, gated}
@@ -69,14 +70,33 @@ abbrev pub IsOneOf : List ℕ → List (List ℕ) → Type 0
 IsOneOf content [] = ⊥
 IsOneOf content (x ∷ xs) = (content ≡ x) ⊎ IsOneOf content xs
 
--- devices in memory tell all; a source that was read tells nothing of what it has left
-abbrev pub memory : Sees (Option (List ℕ)) (List ℕ) MemoryDisk DialerTold
+-- a link in memory: what it tells, what it tells that it carried, and how many calls of it failed
+pub record MemoryLink : Type 0 where
+  pub told : Option LinkTold
+  pub carried : Option Carried
+  pub failed : ℕ
+
+abbrev pub memory_links : LinkGhosts MemoryLink
+memory_links = record {
+  told = λ link. link.told;
+  carried = λ link. link.carried;
+  eager = true;
+  Place = Unit {0};
+  place = λ _. tt;
+  faults = λ link. link.failed;
+}
+
+-- devices in memory tell all; a source that was read tells nothing of what it has left; and the clock gives 0
+abbrev pub memory : Sees (Option (List ℕ)) (List ℕ) MemoryDisk DialerTold (Unit {0})
 memory = record {
   left = λ text. text;
   taken = λ out. Some out;
   told = λ disk. Some disk.told;
   may_leave = λ disk content. IsOneOf content disk.left;
   carried = λ dialer. Some dialer;
+  Link = MemoryLink;
+  links = memory_links;
+  last = λ _. 0;
   source = λ _. 0;
   sink = λ _. 0;
   disk = λ disk. disk.failed;

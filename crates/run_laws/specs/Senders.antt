@@ -25,27 +25,27 @@ pub record AllSent (h : History) (text : List ℕ) : Type 0 where
 
 module _ {S K D N C : Type 0} where
   -- of one of some runs all of INPUT was sent
-  pub record SomeSent (sees : Sees S K D N) (runs : List (Run S K D N C)) (h : History) : Type 0 where
+  pub record SomeSent (sees : Sees S K D N C) (runs : List (Run S K D N C)) (h : History) : Type 0 where
     pub run : Run S K D N C
     pub among : Contains runs run
     pub all : IsSomeAnd (sees.left run.before.input) (AllSent h)
 
   -- The outbox holds each sender's messages once and in order, as many of its plan as were submitted; and where it has its finish, all that
   -- the INPUT of one of the runs had
-  pub record HoldsSent (sees : Sees S K D N) (plan : ℕ → List (List ℕ)) (runs : List (Run S K D N C)) (h : History) : Type 0 where
+  pub record HoldsSent (sees : Sees S K D N C) (plan : ℕ → List (List ℕ)) (runs : List (Run S K D N C)) (h : History) : Type 0 where
     pub in_order : InOrder h.made
     pub planned : (s : ℕ) → IsPrefix (sent_by h.made s) (plan s)
     pub finished : h.finished ≡ true → SomeSent sees runs h
 
 module _ {S K D N C J : Type 0} where
   -- a run whose INPUT tells a part of this plan
-  pub record SendsPart (G : Ghosts J) (sees : Sees S K D N) (role : Role) (plan : ℕ → List (List ℕ)) (r : Run S K D N C) : Type 0 where
+  pub record SendsPart (G : Ghosts J) (sees : Sees S K D N C) (role : Role) (plan : ℕ → List (List ℕ)) (r : Run S K D N C) : Type 0 where
     pub input : IsSomeAnd (sees.left r.before.input) (IsPartOf plan)
     pub steps : IsRun G sees role r
 
-module _ {S K D N J : Type 0} where
+module _ {S K D N C J : Type 0} where
   -- So it is behind any runs of one end, from journals without records on, whatever its peer does
-  abbrev pub SendersHold : Ghosts J → Sees S K D N → (C : Type 0) → Type 0
-  SendersHold G sees C = (role : Role) (plan : ℕ → List (List ℕ)) (runs : List (Run S K D N C)) (outbox inbox : List ℕ) (h : History)
+  abbrev pub SendersHold : Ghosts J → Sees S K D N C → Type 0
+  SendersHold G sees = (role : Role) (plan : ℕ → List (List ℕ)) (runs : List (Run S K D N C)) (outbox inbox : List ℕ) (h : History)
       → RunsOver sees (SendsPart G sees role plan) runs IsEmptyJournal IsEmptyJournal outbox inbox → IsJournal outbox (records_of_history h)
       → HoldsSent sees plan runs h

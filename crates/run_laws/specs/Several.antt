@@ -46,40 +46,39 @@ brought_by None new = []
 brought_by (Some old) None = []
 brought_by (Some old) (Some new) = drop (length old.back) new.back
 
-module _ {S K D N : Type 0} where
+module _ {S K D N C : Type 0} where
   -- a disk tells one of these contents, and a stop leaves no other
-  pub record IsAt (sees : Sees S K D N) (contents : List ℕ → Type 0) (disk : D) : Type 0 where
+  pub record IsAt (sees : Sees S K D N C) (contents : List ℕ → Type 0) (disk : D) : Type 0 where
     pub tells : IsSomeAnd (sees.told disk) contents
     pub leaves : (content : List ℕ) → sees.may_leave disk content → contents content
 
-  module _ {C : Type 0} where
-    -- and so in a run
-    abbrev pub brought : Sees S K D N → Run S K D N C → List (Option Carried)
-    brought sees r = brought_by (sees.carried r.before.dialer) (sees.carried r.after.dialer)
+  -- and so in a run
+  abbrev pub brought : Sees S K D N C → Run S K D N C → List (Option Carried)
+  brought sees r = brought_by (sees.carried r.before.dialer) (sees.carried r.after.dialer)
 
-    -- Runs one behind another, each of which was so: the first begins on disks with such contents, each later one on what a stop may
-    -- leave behind the one before, and that may be these contents behind the last
-    abbrev pub RunsOver : Sees S K D N → (Run S K D N C → Type 0) → List (Run S K D N C) → (outboxes inboxes : List ℕ → Type 0)
-        → (outbox inbox : List ℕ) → Type 0
-    RunsOver sees Was [] outboxes inboxes outbox inbox = outboxes outbox × inboxes inbox
-    RunsOver sees Was (r ∷ later) outboxes inboxes outbox inbox =
-        IsAt sees outboxes r.before.out_disk × IsAt sees inboxes r.before.in_disk × Was r
-        × RunsOver sees Was later (sees.may_leave r.after.out_disk) (sees.may_leave r.after.in_disk) outbox inbox
+  -- Runs one behind another, each of which was so: the first begins on disks with such contents, each later one on what a stop may
+  -- leave behind the one before, and that may be these contents behind the last
+  abbrev pub RunsOver : Sees S K D N C → (Run S K D N C → Type 0) → List (Run S K D N C) → (outboxes inboxes : List ℕ → Type 0)
+      → (outbox inbox : List ℕ) → Type 0
+  RunsOver sees Was [] outboxes inboxes outbox inbox = outboxes outbox × inboxes inbox
+  RunsOver sees Was (r ∷ later) outboxes inboxes outbox inbox =
+      IsAt sees outboxes r.before.out_disk × IsAt sees inboxes r.before.in_disk × Was r
+      × RunsOver sees Was later (sees.may_leave r.after.out_disk) (sees.may_leave r.after.in_disk) outbox inbox
 
 module _ {S K D N C J : Type 0} where
   -- it ended as `run_session` ensures for an end of this role
-  abbrev pub IsRun : Ghosts J → Sees S K D N → Role → Run S K D N C → Type 0
+  abbrev pub IsRun : Ghosts J → Sees S K D N C → Role → Run S K D N C → Type 0
   IsRun G sees role r = Steps G sees role r.before r.after r.status
 
   -- and so over a CONFIG that tells these flows, and a dialer that tells its links
-  pub record WasRun (G : Ghosts J) (sees : Sees S K D N) (role : Role) (flows : Flows) (r : Run S K D N C) : Type 0 where
+  pub record WasRun (G : Ghosts J) (sees : Sees S K D N C) (role : Role) (flows : Flows) (r : Run S K D N C) : Type 0 where
     pub config : IsSomeAnd (sees.left r.before.config) (HasFlows role flows)
     pub links : IsTrue (is_some (sees.carried r.before.dialer))
     pub steps : IsRun G sees role r
 
   -- All runs of an end, from two journals without records on. Behind them a stop may leave, or leaves, a journal of this history, with payloads
   -- of application messages, and one of this list
-  pub record HasRun (G : Ghosts J) (sees : Sees S K D N) (role : Role) (flows : Flows) (runs : List (Run S K D N C)) (h : History)
+  pub record HasRun (G : Ghosts J) (sees : Sees S K D N C) (role : Role) (flows : Flows) (runs : List (Run S K D N C)) (h : History)
       (i : List InboxRecord) : Type 0 where
     pub outbox : List ℕ
     pub inbox : List ℕ

@@ -16,7 +16,7 @@ use Rattle.cmd_session.specs.Steps.{StopsAtInput, EndsBehindConfig, Steps}
 use Rattle.cmd_session.specs.declared.outside.SessionOutside.{SessionOutside}
 use Rattle.run_laws.specs.Several.{Run, IsEmptyJournal, RunsOver, IsRun}
 
-module _ {S K D N C J : Type 0} (G : Ghosts J) (sees : Sees S K D N) (role : Role) (before after : SessionOutside S K D N C) (status : Status) where
+module _ {S K D N C J : Type 0} (G : Ghosts J) (sees : Sees S K D N C) (role : Role) (before after : SessionOutside S K D N C) (status : Status) where
   -- what a life closed on, if one was lived, begins this history
   abbrev pub LifeStands : (h : History) (config : EndConfig) (plans : List (List (List ℕ)))
       → LeftAll sees before after status ⊎ HasLivedOver G sees config plans before after status → Type 0
@@ -36,7 +36,7 @@ module _ {S K D N C J : Type 0} (G : Ghosts J) (sees : Sees S K D N) (role : Rol
   RunStands h (inl stopped) = ⊤
   RunStands h (inr was) = ConfigStands h was.configuration was.ended
 
-module _ {S K D N C J : Type 0} (G : Ghosts J) (sees : Sees S K D N) (role : Role) (h : History) (outbox inbox : List ℕ) where
+module _ {S K D N C J : Type 0} (G : Ghosts J) (sees : Sees S K D N C) (role : Role) (h : History) (outbox inbox : List ℕ) where
   abbrev pub AllStand : (runs : List (Run S K D N C)) (outboxes inboxes : List ℕ → Type 0)
       → RunsOver sees (IsRun G sees role) runs outboxes inboxes outbox inbox → Type 0
   AllStand [] outboxes inboxes over = ⊤
@@ -44,10 +44,10 @@ module _ {S K D N C J : Type 0} (G : Ghosts J) (sees : Sees S K D N) (role : Rol
       RunStands G sees role r.before r.after r.status h over.2
       × AllStand later (sees.may_leave r.after.out_disk) (sees.may_leave r.after.in_disk) over.3
 
-module _ {S K D N J : Type 0} where
+module _ {S K D N C J : Type 0} where
   -- so it is behind any runs of one end, whatever its peer does, of whatever history a stop may leave
-  abbrev pub ClosingsStand : Ghosts J → Sees S K D N → (C : Type 0) → Type 0
-  ClosingsStand G sees C = (role : Role) (h : History) (outbox inbox : List ℕ) (runs : List (Run S K D N C))
+  abbrev pub ClosingsStand : Ghosts J → Sees S K D N C → Type 0
+  ClosingsStand G sees = (role : Role) (h : History) (outbox inbox : List ℕ) (runs : List (Run S K D N C))
       → (over : RunsOver sees (IsRun G sees role) runs IsEmptyJournal IsEmptyJournal outbox inbox)
       → IsJournal outbox (records_of_history h)
       → AllStand G sees role h outbox inbox runs IsEmptyJournal IsEmptyJournal over

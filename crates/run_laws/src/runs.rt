@@ -15,12 +15,12 @@ pub fn run_completes<S: Source, K: Sink, D: Disk, N: Dialer, C: Clock>(
     before: &SessionOutside<S, K, D, N, C>,
     after: &SessionOutside<S, K, D, N, C>,
 )
-    ensures law { RunCompletes ⟦<LogJournal<D> as Journal>⟧ (sees S.Source K.Sink D.Disk N.Dialer) before.now after.now }
+    ensures law { RunCompletes ⟦<LogJournal<D> as Journal>⟧ (sees S.Source K.Sink D.Disk N.Dialer N.Link.Link C.Clock) before.now after.now }
 {}
 
 /// Journals without records and an INPUT without bytes are in order, with any CONFIG that spells a configuration.
 pub fn fresh_is_set_up<S: Source, K: Sink, D: Disk, N: Dialer, C: Clock>(
     before: &SessionOutside<S, K, D, N, C>,
 )
-    ensures law { FreshIsSetUp (sees S.Source K.Sink D.Disk N.Dialer) before.now }
+    ensures law { FreshIsSetUp (sees S.Source K.Sink D.Disk N.Dialer N.Link.Link C.Clock) before.now }
 {}

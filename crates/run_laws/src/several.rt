@@ -15,23 +15,23 @@ use jr_record::Journal;
 
 /// Two ends ran, each any number of times: the inbox of each holds of the outbox of the other what its flow promises.
 pub fn runs_hold<S: Source, K: Sink, D: Disk, N: Dialer, C: Clock>()
-    ensures law { RunsHold ⟦<LogJournal<D> as Journal>⟧ (sees S.Source K.Sink D.Disk N.Dialer) C }
+    ensures law { RunsHold ⟦<LogJournal<D> as Journal>⟧ (sees S.Source K.Sink D.Disk N.Dialer N.Link.Link C.Clock) }
 {}
 
 /// Behind any runs of an end, whatever a stop leaves of its disks has a list of records.
 pub fn none_is_lost<S: Source, K: Sink, D: Disk, N: Dialer, C: Clock>()
-    ensures law { NoneIsLost ⟦<LogJournal<D> as Journal>⟧ (sees S.Source K.Sink D.Disk N.Dialer) C }
+    ensures law { NoneIsLost ⟦<LogJournal<D> as Journal>⟧ (sees S.Source K.Sink D.Disk N.Dialer N.Link.Link C.Clock) }
 {}
 
 /// Behind any runs of an end, over INPUTs that are parts of one plan, the outbox holds each sender's messages once and in order, and
 /// where it has its finish, all that one of them had.
 pub fn senders_hold<S: Source, K: Sink, D: Disk, N: Dialer, C: Clock>()
-    ensures law { SendersHold ⟦<LogJournal<D> as Journal>⟧ (sees S.Source K.Sink D.Disk N.Dialer) C }
+    ensures law { SendersHold ⟦<LogJournal<D> as Journal>⟧ (sees S.Source K.Sink D.Disk N.Dialer N.Link.Link C.Clock) }
 {}
 
 /// A run kept both journals, each by itself, or lived one life of the session model over them.
 pub fn run_keeps<S: Source, K: Sink, D: Disk, N: Dialer, C: Clock>()
-    ensures law { RunKeeps ⟦<LogJournal<D> as Journal>⟧ (sees S.Source K.Sink D.Disk N.Dialer) C }
+    ensures law { RunKeeps ⟦<LogJournal<D> as Journal>⟧ (sees S.Source K.Sink D.Disk N.Dialer N.Link.Link C.Clock) }
 {}
 
 /// Two ends meet all premises of `runs_hold`, each by two runs in memory: either is stopped in the midst of an append, and the link
@@ -42,10 +42,10 @@ pub fn runs_sample<I: Journal>(empty: &Inbox<I>)
 
 /// Behind any runs of an end, what each life closed on stands in the outbox: each message that was acknowledged, at its number.
 pub fn closings_stand<S: Source, K: Sink, D: Disk, N: Dialer, C: Clock>()
-    ensures law { ClosingsStand ⟦<LogJournal<D> as Journal>⟧ (sees S.Source K.Sink D.Disk N.Dialer) C }
+    ensures law { ClosingsStand ⟦<LogJournal<D> as Journal>⟧ (sees S.Source K.Sink D.Disk N.Dialer N.Link.Link C.Clock) }
 {}
 
 /// Behind any runs of an end, whatever records a stop leaves of its disks are those of a history in order, and of a list.
 pub fn boxes_are_left<S: Source, K: Sink, D: Disk, N: Dialer, C: Clock>()
-    ensures law { BoxesAreLeft ⟦<LogJournal<D> as Journal>⟧ (sees S.Source K.Sink D.Disk N.Dialer) C }
+    ensures law { BoxesAreLeft ⟦<LogJournal<D> as Journal>⟧ (sees S.Source K.Sink D.Disk N.Dialer N.Link.Link C.Clock) }
 {}

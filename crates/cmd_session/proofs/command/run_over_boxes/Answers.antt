@@ -2,6 +2,7 @@ use Rattle.std.proofs.Common.{refl, inl, inr, ⊎_elim, map, subst}
 use Rattle.gw_outside.specs.Faults.{HasRisen}
 use Rattle.plan_values.specs.Plans.{payloads_of}
 use Rattle.cmd_session.specs.Inputs.{ArePlanned}
+use Rattle.cmd_session.specs.Outsides.{hears}
 use Rattle.cmd_session.proofs.Served.{lived_from}
 use Rattle.cmd_session.proofs.command.run_over_boxes.Goals as goal
 
@@ -35,6 +36,6 @@ returns-clause-ended g c =
             box_is = b.box_is;
             outbox_is = b.outbox_is;
           }))
-          (λ h. inr (lived_from g.K.Sink.taken g.N.Dialer.told _ _ c.args.devices.now _ _ _ _ _ c.in-Ok-begin.ensures.nothing h))
+          (λ h. inr (lived_from (hears g.K.Sink g.N.Dialer g.N.Link.Link g.C.Clock) _ _ c.args.devices.now _ _ _ _ _ c.in-Ok-begin.ensures.nothing h))
           c.live.ensures.lived;
     })

@@ -18,7 +18,7 @@ use Rattle.cmd_session.proofs.command.run_over_disks.Goals as goal
 
 pub returns-clause-ended : goal.returns-clause-ended
 returns-clause-ended g c = λ first.
-    let told = sees g.S.Source g.K.Sink g.D.Disk g.N.Dialer in
+    let told = sees g.S.Source g.K.Sink g.D.Disk g.N.Dialer g.N.Link.Link g.C.Clock in
     let before = record c.args.outside { config = first } in
     let end = c.end_config-end.ensures in
     elim c.match-open_boxes.branch [

@@ -22,7 +22,7 @@ returns-clause-lived g c =
     inr (record {
       result = c.serve_seated-answer.result;
       status_is = c.status_of.ensures.value;
-      boxes = lived_boxes _ _ _ _ _ _ _ _ _ _ _ _ _ c.in-Ok-made_gate.ensures.opened c.requires.sound c.requires.in_sound c.close.ensures.closed (omega (arith, c.close.result.within.all, few_records j.records.items j.size j.sized j.small)) c.serve_seated-answer.ensures.served;
+      boxes = lived_boxes _ _ _ _ _ _ _ _ _ _ _ _ _ _ c.in-Ok-made_gate.ensures.opened c.requires.sound c.requires.in_sound c.close.ensures.closed (omega (arith, c.close.result.within.all, few_records j.records.items j.size j.sized j.small)) c.serve_seated-answer.ensures.served;
     })
 
 pub returns-in_default-clause-lived : goal.returns-in_default-clause-lived

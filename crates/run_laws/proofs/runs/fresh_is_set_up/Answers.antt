@@ -3,4 +3,4 @@ use Rattle.cmd_session.specs.Outsides.{sees}
 use Rattle.run_laws.proofs.runs.fresh_is_set_up.Goals as goal
 
 pub returns : goal.returns
-returns g c = record { law = fresh_is_set_up (sees g.S.Source g.K.Sink g.D.Disk g.N.Dialer) c.args.before.now }
+returns g c = record { law = fresh_is_set_up (sees g.S.Source g.K.Sink g.D.Disk g.N.Dialer g.N.Link.Link g.C.Clock) c.args.before.now }

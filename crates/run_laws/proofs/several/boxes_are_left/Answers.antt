@@ -3,4 +3,4 @@ use Rattle.cmd_session.specs.Outsides.{sees}
 use Rattle.run_laws.proofs.several.boxes_are_left.Goals as goal
 
 pub returns : goal.returns
-returns g c = record { law = boxes_are_left _ (sees g.S.Source g.K.Sink g.D.Disk g.N.Dialer) _ }
+returns g c = record { law = boxes_are_left _ (sees g.S.Source g.K.Sink g.D.Disk g.N.Dialer g.N.Link.Link g.C.Clock) }

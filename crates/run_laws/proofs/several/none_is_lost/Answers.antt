@@ -3,4 +3,4 @@ use Rattle.cmd_session.specs.Outsides.{sees}
 use Rattle.run_laws.proofs.several.none_is_lost.Goals as goal
 
 pub returns : goal.returns
-returns g c = record { law = none_is_lost _ (sees g.S.Source g.K.Sink g.D.Disk g.N.Dialer) _ }
+returns g c = record { law = none_is_lost _ (sees g.S.Source g.K.Sink g.D.Disk g.N.Dialer g.N.Link.Link g.C.Clock) }
