@@ -1,4 +1,4 @@
 mod Adding
-mod Gifts
+pub mod Gifts
 mod Steps
 pub mod OneReading

@@ -9,4 +9,5 @@ mod plans;
 
 pub use fault::PlanFault;
 pub use laws::one_reading;
+pub use line::sender_of;
 pub use plans::read_plans;

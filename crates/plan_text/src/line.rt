@@ -1,6 +1,6 @@
 //! A line, and the payload that it gives to a sender.
 
-ghost use Rattle.std.specs.Prelude.{◌≡◌, ℕ, ◌≤◌, ◌<◌, ◌^◌, List, ◌∷◌, ◌++◌, true, false, length, decimal, Ok, IfOk, IfSome, IfNone};
+ghost use Rattle.std.specs.Prelude.{◌≡◌, ℕ, ◌≤◌, ◌<◌, ◌^◌, List, ◌∷◌, ◌++◌, true, false, length, decimal, Ok, Some, IfOk, IfSome, IfNone};
 ghost use Rattle.hex.specs.Hex.{decode_of};
 ghost use Rattle.plan_text.specs.Plans.{Gift, Gives};
 ghost use Rattle.plan_text.specs.Progress.{IsAdded};
@@ -23,6 +23,17 @@ fn sender_and_digits(line: &[u8], senders: usize) -> Option<(usize, &[u8])>
             Some((sender as usize, digits))
         }
         _ => None,
+    }
+}
+
+/// The sender of a line that gives it a payload. Of a line that gives none nothing is claimed.
+pub fn sender_of(line: &[u8], senders: usize) -> Option<usize>
+    ensures given { (g : Gift) → Gives senders line.now g → result ≡ Some g.sender }
+    ensures range { IfSome result (λ sender. (1 ≤ sender) × (sender ≤ senders)) }
+{
+    match sender_and_digits(line, senders) {
+        Some((sender, _)) => Some(sender),
+        None => None,
     }
 }
 

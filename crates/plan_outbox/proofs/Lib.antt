@@ -1,0 +1,4 @@
+mod Agreeing
+mod Taking
+mod Finding
+mod Finishing
