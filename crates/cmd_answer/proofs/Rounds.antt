@@ -3,7 +3,7 @@ use Rattle.std.proofs.Common.{◌≡◌, ◌⊎◌, inl, inr, ℕ, List, [], ◌
 use Rattle.std.proofs.lemmas.Grind.{common_steps}
 use Rattle.std.specs.Prelude.{IsSome}
 use Rattle.std.specs.Io.KnownBytes.{Consumes, Appends, IsAtEnd}
-use Rattle.std.proofs.KnownBytes.{Appends-trans, Consumes-trans}
+use Rattle.std.proofs.KnownBytes.{Appends-nil, Appends-trans, Consumes-nil, Consumes-trans}
 use Rattle.sofh_frame.specs.Framing.{First, frame, rest, bad_length, bad_encoding, first_of}
 use Rattle.sofh_frame.specs.Buffered.{written_over}
 use Rattle.sofh_frame.specs.Splits.{spelled_all, IsNoFrame}
@@ -17,12 +17,13 @@ use Rattle.fixp_machine.specs.Machine.{State, around, after_bad_frame, bytes_of}
 use Rattle.cmd_answer.specs.declared.acceptor.Acceptor.{Acceptor}
 use Rattle.cmd_answer.specs.declared.acceptor.Step.{Step}
 use Rattle.cmd_answer.specs.declared.acceptor.Step.TheVariants as steps
+use Rattle.cmd_config.specs.declared.settings.Settings.{Settings}
 use Rattle.cmd_base.specs.declared.status.Status.{Status}
-use Rattle.cmd_base.specs.declared.status.Status.TheVariants.{Done, Message}
-use Rattle.cmd_answer.specs.Answer.{Stage, stage_after, around_place, Answer, status_of, status_after, status_at_rest, ended_answer, broken_answer, answer_at_end, answer_after, IsAnswer}
-use Rattle.cmd_answer.specs.Progress.{IsBroken, Stands, BrokeOff, AnsweredAll, Halts, IsEmptied}
+use Rattle.cmd_base.specs.declared.status.Status.TheVariants.{Done, Message, Memory}
+use Rattle.cmd_answer.specs.Answer.{Stage, stage_after, around_place, Answer, status_of, status_after, status_at_rest, ended_answer, broken_answer, answer_at_end, answer_after, IsAnswer, acceptor_of}
+use Rattle.cmd_answer.specs.Progress.{IsBroken, IsNew, Stands, BrokeOff, AnsweredAll, Halts, IsEmptied}
 use Rattle.cmd_base.specs.Contents.{Content}
-use Rattle.cmd_answer.specs.Promise.{Begins, GaveWhole, GaveFront, Talks, AfterRound, round_of}
+use Rattle.cmd_answer.specs.Promise.{Begins, GaveWhole, GaveFront, Talks, AfterRound, KeepsPromise, round_of}
 use Rattle.cmd_answer.proofs.Devices.{told, at_end}
 use Rattle.cmd_answer.proofs.Fronts.{frames_in, one_answer, answered-begins, Begins-more, Begins-trans}
 
@@ -330,3 +331,36 @@ written_over-same room bytes e = rw (eq-eqb (length bytes) (length room) e) refl
 -- where less than a frame is held there is room
 pub room_left : (held : List ℕ) (room : ℕ) → first_of held ≡ rest → room + length held ≡ 32780 → 0 < room
 room_left held room waits whole = grind (arith, common_steps)
+
+-- ---- before the outputs are begun
+
+-- there was no memory
+pub unmade : (cfg : EndConfig) (before after : Content) → after.wire ≡ before.wire → after.out ≡ before.out → KeepsPromise cfg before after Memory
+unmade cfg before after wire out = λ input e. record {
+  wire = [];
+  out = [];
+  wire_gained = rw wire (Appends-nil before.wire);
+  out_gained = rw out (Appends-nil before.out);
+  wire_begins = λ answer is. record { rest = answer.wire; joins = refl };
+  out_begins = λ answer is. record { rest = answer.out; joins = refl };
+}
+
+-- an acceptor that has read nothing stands at the beginning of any input
+pub talks-new : (settings : Settings) (before now : Content) (a : Acceptor) → IsNew (acceptor_of settings) a → now.input ≡ before.input → Appends before.wire now.wire [] → Appends before.out now.out [] → Talks (acceptor_of settings) before now a
+talks-new settings before now a new same wire out = record {
+  read = [];
+  wire = [];
+  out = [];
+  stands = record {
+    received = [];
+    joins = sym new.held;
+    each = tt;
+    classified = tt;
+    config = ap (λ (s : State). s.config) new.end;
+    most = ap (λ (s : State). s.most) new.end;
+    stage = rw (new.end, new.lines, new.place) refl;
+  };
+  consumed = rw same (Consumes-nil before.input);
+  wire_gained = wire;
+  out_gained = out;
+}

@@ -6,12 +6,13 @@ ghost use Rattle.sofh_frame.specs.Framing.{rest, first_of};
 ghost use Rattle.fixp_shake.specs.declared.config.EndConfig.{EndConfig};
 ghost use Rattle.cmd_answer.specs.Answer.{acceptor_of, first_facts};
 ghost use Rattle.cmd_answer.specs.Progress.{AnswersOne, IsReady, replies_limit};
-ghost use Rattle.std.specs.Io.KnownBytes.{Appends};
+ghost use Rattle.std.specs.Io.KnownBytes.{Appends, Consumes};
 ghost use Rattle.gw_outside.specs.Faults.{HasRisen, TakesFront};
 ghost use Rattle.cmd_answer.specs.Answer.{status_of, status_at_rest, status_after};
 ghost use Rattle.cmd_config.specs.Settings.{IsInRange};
 ghost use Rattle.cmd_base.specs.Causes.{NoneFell, IsCaused, conversation_counts};
 ghost use Rattle.cmd_base.specs.Contents.{Content};
+ghost use Rattle.cmd_base.specs.Order.{HasGiven};
 ghost use Rattle.cmd_answer.specs.Promise.{Talks, IsIdle, AfterRound, KeepsPromise, IsConversationEnd, round_of};
 
 use crate::lines::push_line;
@@ -272,6 +273,8 @@ impl Acceptor {
         ensures after { (cfg : EndConfig) (before : Content) (wire out : Option (List ℕ)) →
             Talks cfg before (record { input = S.left input.old; wire = wire; out = out }) self.old →
             AfterRound cfg before (record { input = S.left input.new; wire = wire; out = out }) self.new result }
+        ensures given { result ≡ Ok true → HasGiven (S.left input.old) (S.left input.new) }
+        ensures consumed { (bytes : List ℕ) × Consumes (S.left input.old) (S.left input.new) bytes }
         ensures counted { S.faults input.old ≤ S.faults input.new }
         ensures ends { IfErr result IsConversationEnd }
         ensures cause { (wire out wired written : ℕ) → IfErr result (IsCaused (conversation_counts (S.faults input.old) wire out) (conversation_counts (S.faults input.new) wired written)) }
@@ -299,6 +302,7 @@ impl Acceptor {
         ensures after { (cfg : EndConfig) (before : Content) →
             Talks cfg before (record { input = S.left input.old; wire = K.taken wire.old; out = K.taken out.old }) self.old →
             AfterRound cfg before (record { input = S.left input.new; wire = K.taken wire.new; out = K.taken out.new }) self.new result }
+        ensures consumed { (bytes : List ℕ) × Consumes (S.left input.old) (S.left input.new) bytes }
         ensures none_fell { NoneFell (conversation_counts (S.faults input.old) (K.faults wire.old) (K.faults out.old)) (conversation_counts (S.faults input.new) (K.faults wire.new) (K.faults out.new)) }
         ensures ends { IfErr result IsConversationEnd }
         ensures cause { IfErr result (IsCaused (conversation_counts (S.faults input.old) (K.faults wire.old) (K.faults out.old)) (conversation_counts (S.faults input.new) (K.faults wire.new) (K.faults out.new))) }
@@ -343,7 +347,8 @@ fn as_round(status: Status) -> Result<bool, Status>
     }
 }
 
-/// Answers a recorded client: reads the input to its end, or to the end of the connection.
+/// Answers a recorded client: reads the input to its end, or to the end of the connection. The outputs are begun once a piece
+/// of the input was read: where that fails, they are left as they are.
 pub fn converse<R: Wait, S: Source, K: Sink>(
     rt: &R,
     alloc: Global,
@@ -356,19 +361,27 @@ pub fn converse<R: Wait, S: Source, K: Sink>(
     ensures promise { KeepsPromise (acceptor_of settings)
         (record { input = S.left input.old; wire = K.taken wire.old; out = K.taken out.old })
         (record { input = S.left input.new; wire = K.taken wire.new; out = K.taken out.new }) result }
+    ensures spared { result ≡ Status.InputFault → ((wire.new ≡ wire.old) × (out.new ≡ out.old)) ⊎ HasGiven (S.left input.old) (S.left input.new) }
     ensures ends { IsConversationEnd result }
     ensures none_fell { NoneFell (conversation_counts (S.faults input.old) (K.faults wire.old) (K.faults out.old)) (conversation_counts (S.faults input.new) (K.faults wire.new) (K.faults out.new)) }
     ensures cause { IsCaused (conversation_counts (S.faults input.old) (K.faults wire.old) (K.faults out.old)) (conversation_counts (S.faults input.new) (K.faults wire.new) (K.faults out.new)) result }
 {
+    let Ok(mut acceptor) = Acceptor::new(alloc, settings) else {
+        return Status::Memory;
+    };
+    let more = match acceptor.read(input) {
+        Ok(more) => more,
+        Err(status) => return status,
+    };
     let Ok(()) = begin(out) else {
         return Status::OutputFault;
     };
     let Ok(()) = begin(wire) else {
         return Status::OutputFault;
     };
-    let Ok(mut acceptor) = Acceptor::new(alloc, settings) else {
-        return Status::Memory;
-    };
+    if !more {
+        return Status::Done;
+    }
     for _ in rt.forever() {
         match acceptor.round(input, wire, out) {
             Ok(true) => {}

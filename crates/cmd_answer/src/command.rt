@@ -7,7 +7,7 @@ ghost use Rattle.cmd_config.specs.Settings.{settings_of_text};
 ghost use Rattle.cmd_base.specs.Texts.{Judges, ReadsWithin};
 ghost use Rattle.cmd_base.specs.Causes.{NoneFell, IsCaused, faults_of};
 ghost use Rattle.cmd_base.specs.Contents.{content_of};
-ghost use Rattle.cmd_base.specs.Order.{IsOfStreams, KeepsBehindConfig, KeepsDisks, StopsAtConfig, FailsInOrder};
+ghost use Rattle.cmd_base.specs.Order.{IsOfStreams, KeepsBehindConfig, KeepsDisks, StopsAtConfig, FailsInOrder, SparesOutputs};
 ghost use Rattle.cmd_answer.specs.Promise.{GaveBy};
 
 use crate::acceptor::converse;
@@ -26,6 +26,7 @@ pub fn answer<R: Wait, S: Source, K: Sink, D: Disk>(
     ensures config_verdict { (text : List ℕ) → S.left outside.old.config ≡ Some text → Judges result (settings_of_text text) }
     ensures answer_output { (text input : List ℕ) → S.left outside.old.config ≡ Some text → S.left outside.old.input ≡ Some input →
         GaveBy (settings_of_text text) input (content_of S.left K.taken outside.old) (content_of S.left K.taken outside.new) result }
+    ensures spared { result ≡ Status.InputFault → SparesOutputs S.left outside.old outside.new }
     ensures untouched_by_answer { KeepsDisks outside.old outside.new }
     ensures refused { (fault : ConfigFault) → result ≡ Status.Config fault → KeepsBehindConfig outside.old outside.new }
     ensures config_first { (text : List ℕ) → S.left outside.old.config ≡ Some text → IsErr (settings_of_text text) → StopsAtConfig S.faults outside.old outside.new result }

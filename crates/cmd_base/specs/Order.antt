@@ -1,6 +1,7 @@
 -- The order in which a run looks for refusals: the words, the configuration, the journals, the work (this project's profile). Where it is
 -- refused at one of them, all that comes behind it is left as it was.
-use Rattle.std.specs.Prelude.{◌≡◌, ℕ, ◌⊎◌}
+use Rattle.std.specs.Prelude.{◌≡◌, ℕ, ◌<◌, ◌⊎◌, List, length, Option}
+use Rattle.std.specs.Io.KnownBytes.{Consumes}
 use Rattle.gw_outside.specs.Faults.{HasRisen}
 use Rattle.cmd_base.specs.declared.outside.Outside.{Outside}
 use Rattle.cmd_base.specs.declared.status.Status.{Status}
@@ -58,3 +59,18 @@ pub record StopsAtConfig {S K D : Type 0} (faults : S → ℕ) (before after : O
 abbrev pub FailsInOrder : {S K D : Type 0} → (S → ℕ) → Outside S K D → Outside S K D → Type 0
 FailsInOrder faults before after = (HasRisen (faults before.config) (faults after.config) × KeepsBehindConfig before after)
     ⊎ HasRisen (faults before.input) (faults after.input)
+
+-- both outputs are as they were
+pub record KeepsOutputs {S K D : Type 0} (before after : Outside S K D) : Type 0 where
+  pub wire : after.wire ≡ before.wire
+  pub out : after.out ≡ before.out
+
+-- a source gave bytes, at least one of those that it told
+pub record HasGiven (old new : Option (List ℕ)) : Type 0 where
+  pub bytes : List ℕ
+  pub some : 0 < length bytes
+  pub given : Consumes old new bytes
+
+-- where an input failed, the outputs are as they were, but behind a piece that INPUT gave before
+abbrev pub SparesOutputs : {S K D : Type 0} → (S → Option (List ℕ)) → Outside S K D → Outside S K D → Type 0
+SparesOutputs left before after = KeepsOutputs before after ⊎ HasGiven (left before.input) (left after.input)

@@ -1,10 +1,10 @@
 -- What a round leaves of the promise.
-use Rattle.std.proofs.Common.{◌≡◌, ℕ, ◌+◌, ◌-◌, ◌<◌, ◌≤◌, List, [], ◌∷◌, ◌++◌, length, take, drop, Option, Some, None, Result, Ok, Err, refl, sym, ◌∙◌, ap, subst, arith, append_assoc, append-nil, length-append, eq-eqb}
+use Rattle.std.proofs.Common.{◌≡◌, Bool, ℕ, ◌+◌, ◌-◌, ◌<◌, ◌≤◌, List, [], ◌∷◌, ◌++◌, length, take, drop, Option, Some, None, Result, Ok, Err, refl, sym, ◌∙◌, ap, subst, arith, append_assoc, append-nil, length-append, eq-eqb}
 use Rattle.std.proofs.lemmas.Grind.{common_steps}
 use Rattle.std.proofs.lemmas.List.{take-append-le}
 use Rattle.std.proofs.Math.Seq.{take-append-add}
 use Rattle.std.specs.Io.KnownBytes.{Appends, Consumes, Keeps, IsAtEnd}
-use Rattle.std.proofs.KnownBytes.{Appends-nil, Appends-trans, Consumes-trans}
+use Rattle.std.proofs.KnownBytes.{Appends-nil, Appends-trans, Consumes-nil, Consumes-trans}
 use Rattle.gw_outside.specs.Faults.{TakesFront}
 use Rattle.sofh_frame.specs.Framing.{First, frame, rest, bad_length, bad_encoding, first_of}
 use Rattle.sofh_frame.specs.Buffered.{written_over}
@@ -13,12 +13,12 @@ use Rattle.sbe_layout.specs.declared.plan.Plan.{Plan}
 use Rattle.cmd_base.specs.declared.status.Bad.{Bad}
 use Rattle.cmd_base.specs.declared.status.Bad.TheVariants as bad
 use Rattle.cmd_base.specs.declared.status.Status.{Status}
-use Rattle.cmd_base.specs.declared.status.Status.TheVariants.{Done, Message}
+use Rattle.cmd_base.specs.declared.status.Status.TheVariants.{Done, Message, InputFault, Memory}
 use Rattle.cmd_decode.specs.declared.decoder.Decoder.{Decoder}
 use Rattle.cmd_decode.specs.Decoded.{Decoded, ends, behind, status_at, decoded_from, decoded}
 use Rattle.cmd_decode.specs.Progress.{goes_on, IsNew}
 use Rattle.cmd_decode.specs.Progress as progress
-use Rattle.cmd_decode.specs.Promise.{GaveDecoded, Streams, Stands, IsIdle, AfterRound, as_round}
+use Rattle.cmd_decode.specs.Promise.{GaveDecoded, Streams, Stands, IsIdle, AfterRound, KeepsPromise, as_round}
 use Rattle.cmd_decode.proofs.Going.{behind-behind, from-none}
 
 -- what was told of an input is what was read of it and what is left
@@ -147,6 +147,15 @@ finished plan before now after d b s idle consumed end same =
       status_is = sym (ap (λ (x : Decoded). x.status) is);
     }))
 
+-- the same of a decoder that holds as many bytes at the same place
+pub finished-by : (plan : Plan) (before now after : Streams) (d b : Decoder) → Stands plan before now d → IsIdle d → Consumes now.input after.input [] → IsAtEnd after.input → after.out ≡ now.out
+    → b.place ≡ d.place → b.framer.held ≡ d.framer.held → (result : Result Bool Status) → result ≡ as_round (status_at b.place b.framer.held (first_of b.framer.held)) → AfterRound plan before after b result
+finished-by plan before now after d b s idle consumed end same place held result is =
+    subst (AfterRound plan before after b) (sym is)
+    (subst (λ (at : ℕ). AfterRound plan before after b (as_round (status_at at b.framer.held (first_of b.framer.held)))) (sym place)
+    (subst (λ (bytes : List ℕ). AfterRound plan before after b (as_round (status_at d.place bytes (first_of bytes)))) (sym held)
+    (finished plan before now after d b s idle consumed end same)))
+
 -- a borrower leaves a room as long as it was
 pub written_over-same : (room bytes : List ℕ) → length bytes ≡ length room → written_over room bytes ≡ bytes
 written_over-same room bytes e = rw (eq-eqb (length bytes) (length room) e) refl
@@ -174,3 +183,22 @@ pub piece : (plan : Plan) (before : Streams) (input after out : Option (List ℕ
 piece plan before input after out old d count into s held same lines number place consumed =
     filled plan before (record { input = input; out = out }) old d (take count into) after s
     (held ∙ ap (λ l. old.framer.held ++ take count l) (written_over-same old.framer.room into same)) lines number place consumed
+
+-- nothing was printed yet
+none-printed : (out : Option (List ℕ)) (lines : List ℕ) → TakesFront out out lines
+none-printed out lines = record { count = 0; within = omega arith; appended = Appends-nil out }
+
+pub unread : (plan : Plan) (before after : Streams) → after.out ≡ before.out → KeepsPromise plan before after InputFault
+unread plan before after same = λ input e. rw same (none-printed before.out (decoded plan input).lines)
+
+pub unmade : (plan : Plan) (before after : Streams) → after.out ≡ before.out → KeepsPromise plan before after Memory
+unmade plan before after same = λ input e. rw same (none-printed before.out (decoded plan input).lines)
+
+-- the input has nothing
+pub empty : (plan : Plan) (before after : Streams) (d : Decoder) → IsNew d → Consumes before.input after.input [] → IsAtEnd after.input → Appends before.out after.out [] → KeepsPromise plan before after Done
+empty plan before after d new consumed end nothing =
+    let now : Streams = record { input = before.input; out = after.out } in
+    let idle : IsIdle d = record { waits = rw new.held refl; pushed = new.lines } in
+    let s = stands-new plan before now d new refl nothing (Consumes-nil before.input) in
+    subst (λ (h : List ℕ). AfterRound plan before after d (as_round (status_at d.place h (first_of h)))) new.held
+    (finished plan before now after d d s idle consumed end refl)

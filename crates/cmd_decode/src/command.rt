@@ -6,7 +6,7 @@ ghost use Rattle.schema_toml.specs.declared.fault.ConfigFault.{ConfigFault};
 ghost use Rattle.schema_load.specs.Load.{plan_of_text};
 ghost use Rattle.cmd_base.specs.Texts.{Judges, ReadsWithin};
 ghost use Rattle.cmd_base.specs.Causes.{NoneFell, IsCaused, faults_of};
-ghost use Rattle.cmd_base.specs.Order.{IsOfStreams, KeepsBehindConfig, KeepsDisks, StopsAtConfig, FailsInOrder};
+ghost use Rattle.cmd_base.specs.Order.{IsOfStreams, KeepsBehindConfig, KeepsDisks, StopsAtConfig, FailsInOrder, SparesOutputs};
 ghost use Rattle.cmd_decode.specs.Promise.{GaveText};
 
 use crate::stream::print_frames;
@@ -25,6 +25,7 @@ pub fn decode<R: Wait, S: Source, K: Sink, D: Disk>(
     ensures config_verdict { (text : List ℕ) → S.left outside.old.config ≡ Some text → Judges result (plan_of_text text) }
     ensures decode_output { (text input : List ℕ) → S.left outside.old.config ≡ Some text → S.left outside.old.input ≡ Some input →
         GaveText (plan_of_text text) input (K.taken outside.old.out) (K.taken outside.new.out) result }
+    ensures spared { result ≡ Status.InputFault → SparesOutputs S.left outside.old outside.new }
     ensures untouched_by_decode { (outside.new.wire ≡ outside.old.wire) × KeepsDisks outside.old outside.new }
     ensures refused { (fault : ConfigFault) → result ≡ Status.Config fault → KeepsBehindConfig outside.old outside.new }
     ensures config_first { (text : List ℕ) → S.left outside.old.config ≡ Some text → IsErr (plan_of_text text) → StopsAtConfig S.faults outside.old outside.new result }

@@ -1,6 +1,6 @@
 -- The whole of `encode`, from what its parts leave.
 use Rattle.std.proofs.Common.{◌≡◌, ℕ, ◌+◌, ◌-◌, ◌<◌, ◌≤◌, List, [], ◌++◌, length, take, Option, Some, None, inl, inr, sym, ◌∙◌, ap, subst, append-nil, length-append, arith}
-use Rattle.std.proofs.KnownBytes.{Appends-trans}
+use Rattle.std.proofs.KnownBytes.{Appends-nil, Appends-trans}
 use Rattle.std.specs.Io.KnownBytes.{Appends, Consumes, IsAtEnd}
 use Rattle.sbe_layout.specs.declared.plan.Plan.{Plan}
 use Rattle.sbe_text.specs.Lines.{lines_in}
@@ -93,10 +93,18 @@ refused-by plan text left old new (status.Rejected template code) short r nothin
 refused-by plan text left old new (status.Full entries bytes) short r nothing told = absurd told
 refused-by plan text left old new status.Turns short r nothing told = absurd told
 
-pub line_refused : (plan : Plan) (input end_left : Option (List ℕ)) (read : List ℕ) (left : ℕ) (old new : Option (List ℕ)) (s : Status) → Consumes input end_left read → IsAtEnd end_left → length read ≤ text_limit → RefusesWith plan read left → Appends old new []
-    → TellsLine (length (lines_in read) - left + 1) s → KeepsPromise plan input old new s
-line_refused plan input end_left read left old new s consumed end short r nothing told = λ text e.
-    subst (λ t. Gave plan t old new s) (sym (read-whole input end_left read text consumed end e)) (refused-by plan read left old new s short r nothing told)
+pub line_refused : (plan : Plan) (input end_left : Option (List ℕ)) (read : List ℕ) (left : ℕ) (old : Option (List ℕ)) (s : Status) → Consumes input end_left read → IsAtEnd end_left → length read ≤ text_limit → RefusesWith plan read left
+    → TellsLine (length (lines_in read) - left + 1) s → KeepsPromise plan input old old s
+line_refused plan input end_left read left old s consumed end short r told = λ text e.
+    subst (λ t. Gave plan t old old s) (sym (read-whole input end_left read text consumed end e)) (refused-by plan read left old old s short r (Appends-nil old) told)
 
-pub too_long : (plan : Plan) (input left : Option (List ℕ)) (read : List ℕ) (old new : Option (List ℕ)) → Consumes input left read → text_limit < length read → Appends old new [] → KeepsPromise plan input old new (status.Message bad.TooLong)
-too_long plan input left read old new consumed long nothing = λ text e. record { past = read-longer input left read text consumed long e; wire = nothing }
+pub too_long : (plan : Plan) (input left : Option (List ℕ)) (read : List ℕ) (old : Option (List ℕ)) → Consumes input left read → text_limit < length read → KeepsPromise plan input old old (status.Message bad.TooLong)
+too_long plan input left read old consumed long = λ text e. record { past = read-longer input left read text consumed long e; wire = Appends-nil old }
+
+-- the input could not be read
+pub unread : (plan : Plan) (input old : Option (List ℕ)) → KeepsPromise plan input old old status.InputFault
+unread plan input old = λ text e. Appends-nil old
+
+-- there was no memory before the output was begun
+pub unmade : (plan : Plan) (input old : Option (List ℕ)) → KeepsPromise plan input old old status.Memory
+unmade plan input old = λ text e. inl (Appends-nil old)

@@ -55,6 +55,13 @@ IsEncodeEnd OutputFault = ⊤
 IsEncodeEnd Memory = ⊤
 IsEncodeEnd _ = ⊥
 
+-- the statuses at which WIRE is left as it was: INPUT could not be read, or its text is refused
+abbrev pub LeavesWire : Status → Type 0
+LeavesWire InputFault = ⊤
+LeavesWire (Wrong (bad.Line line)) = ⊤
+LeavesWire (Wrong bad.TooLong) = ⊤
+LeavesWire _ = ⊥
+
 abbrev pub KeepsPromise : Plan → Option (List ℕ) → Option (List ℕ) → Option (List ℕ) → Status → Type 0
 KeepsPromise plan input before after status = (text : List ℕ) → input ≡ Some text → Gave plan text before after status
 

@@ -7,7 +7,7 @@ ghost use Rattle.schema_load.specs.Load.{plan_of_text};
 ghost use Rattle.cmd_base.specs.Texts.{Judges, ReadsWithin};
 ghost use Rattle.cmd_base.specs.Causes.{NoneFell, IsCaused, faults_of};
 ghost use Rattle.cmd_base.specs.Order.{IsOfStreams, KeepsBehindConfig, KeepsDisks, StopsAtConfig, FailsInOrder};
-ghost use Rattle.cmd_encode.specs.Promise.{GaveWire};
+ghost use Rattle.cmd_encode.specs.Promise.{GaveWire, LeavesWire};
 
 use crate::whole::write_frames;
 use cmd_base::{Outside, Status, read_config};
@@ -20,6 +20,7 @@ pub fn encode<S: Source, K: Sink, D: Disk>(alloc: Global, outside: &mut Outside<
     ensures config_verdict { (text : List ℕ) → S.left outside.old.config ≡ Some text → Judges result (plan_of_text text) }
     ensures encode_output { (text input : List ℕ) → S.left outside.old.config ≡ Some text → S.left outside.old.input ≡ Some input →
         GaveWire (plan_of_text text) input (K.taken outside.old.wire) (K.taken outside.new.wire) result }
+    ensures spared { LeavesWire result → outside.new.wire ≡ outside.old.wire }
     ensures untouched_by_encode { (outside.new.out ≡ outside.old.out) × KeepsDisks outside.old outside.new }
     ensures refused { (fault : ConfigFault) → result ≡ Status.Config fault → KeepsBehindConfig outside.old outside.new }
     ensures config_first { (text : List ℕ) → S.left outside.old.config ≡ Some text → IsErr (plan_of_text text) → StopsAtConfig S.faults outside.old outside.new result }

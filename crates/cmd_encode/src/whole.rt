@@ -4,7 +4,7 @@ ghost use Rattle.std.specs.Prelude.{◌≡◌, ◌+◌, ◌-◌, ◌≤◌, leng
 ghost use Rattle.sbe_text.specs.Lines.{lines_in};
 ghost use Rattle.cmd_encode.specs.Progress.{TellsLine};
 ghost use Rattle.gw_outside.specs.Faults.{HasRisen};
-ghost use Rattle.cmd_encode.specs.Promise.{IsEncodeEnd, KeepsPromise};
+ghost use Rattle.cmd_encode.specs.Promise.{IsEncodeEnd, KeepsPromise, LeavesWire};
 
 use crate::writing::{make_frames, write_all};
 use cmd_base::{Bad, INPUT_LIMIT, Status, TextFault, begin, read_text};
@@ -24,8 +24,8 @@ fn refused(text: &[u8], left: u64) -> Status
 }
 
 /// Writes the frames of the messages that the text of the input spells, by the plan of a schema. The text is read whole
-/// before anything is written.
-#[tactic(auto, using(crate::proofs::Fronts::wrote, crate::proofs::Fronts::line_refused, crate::proofs::Fronts::too_long))]
+/// before the output is begun: where it cannot be read, or a line of it is refused, the output is left as it is.
+#[tactic(auto, using(crate::proofs::Fronts::wrote, crate::proofs::Fronts::line_refused, crate::proofs::Fronts::too_long, crate::proofs::Fronts::unread, crate::proofs::Fronts::unmade))]
 pub fn write_frames<S: Source, K: Sink>(
     alloc: Global,
     plan: &Plan,
@@ -33,15 +33,13 @@ pub fn write_frames<S: Source, K: Sink>(
     wire: &mut K,
 ) -> Status
     ensures promise { KeepsPromise plan.now (S.left input.old) (K.taken wire.old) (K.taken wire.new) result }
+    ensures spared { LeavesWire result → wire.new ≡ wire.old }
     ensures ends { IsEncodeEnd result }
     ensures input_counted { S.faults input.old ≤ S.faults input.new }
     ensures wire_counted { K.faults wire.old ≤ K.faults wire.new }
     ensures input_cause { result ≡ Status.InputFault → HasRisen (S.faults input.old) (S.faults input.new) }
     ensures wire_cause { result ≡ Status.OutputFault → HasRisen (K.faults wire.old) (K.faults wire.new) }
 {
-    let Ok(()) = begin(wire) else {
-        return Status::OutputFault;
-    };
     let text = match read_text(alloc, input, INPUT_LIMIT) {
         Ok(text) => text,
         Err(TextFault::Source) => return Status::InputFault,
@@ -51,9 +49,13 @@ pub fn write_frames<S: Source, K: Sink>(
         return Status::Message(Bad::TooLong);
     }
     let mut frames = Vec::new(alloc);
-    match make_frames(alloc, plan, text.as_slice(), &mut frames) {
-        Ok(place) => write_all(alloc, plan, text.as_slice(), place, &mut frames, wire),
-        Err(Refusal::Left(left)) => refused(text.as_slice(), left),
-        Err(Refusal::Memory) => Status::Memory,
-    }
+    let place = match make_frames(alloc, plan, text.as_slice(), &mut frames) {
+        Ok(place) => place,
+        Err(Refusal::Left(left)) => return refused(text.as_slice(), left),
+        Err(Refusal::Memory) => return Status::Memory,
+    };
+    let Ok(()) = begin(wire) else {
+        return Status::OutputFault;
+    };
+    write_all(alloc, plan, text.as_slice(), place, &mut frames, wire)
 }

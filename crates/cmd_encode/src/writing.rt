@@ -5,7 +5,7 @@ ghost use Rattle.std.specs.Prelude.{◌≡◌, ◌≤◌, [], length, OnOk, OnEr
 ghost use Rattle.gw_outside.specs.Faults.{HasCause, HasRisen, TakesFront};
 ghost use Rattle.cmd_encode.specs.Progress.{IsMade, Makes, MakesFront, Pushed, Reads, WritesOne};
 ghost use Rattle.cmd_encode.specs.Encoded.{text_limit};
-ghost use Rattle.cmd_encode.specs.Promise.{Writes};
+ghost use Rattle.cmd_encode.specs.Promise.{LeavesWire, Writes};
 
 use crate::frame::add_frame;
 use cmd_base::{Bad, Status};
@@ -172,6 +172,7 @@ pub fn write_all<K: Sink>(
     requires made { IsMade plan.now text.now place frames.old.items }
     requires short { length text.now ≤ text_limit }
     ensures writes { Writes plan.now text.now (K.taken wire.old) (K.taken wire.new) result }
+    ensures begun { LeavesWire result → ⊥ }
     ensures counted { K.faults wire.old ≤ K.faults wire.new }
     ensures cause { result ≡ Status.OutputFault → HasRisen (K.faults wire.old) (K.faults wire.new) }
 {

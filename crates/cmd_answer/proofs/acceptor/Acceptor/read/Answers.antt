@@ -1,5 +1,6 @@
-use Rattle.std.proofs.Common.{ℕ, List, ◌++◌, length, take, refl, ap, ◌∙◌}
-use Rattle.std.proofs.KnownBytes.{Consumes-trans}
+use Rattle.std.proofs.Common.{ℕ, List, [], ◌++◌, length, take, refl, ap, ◌∙◌, arith}
+use Rattle.std.proofs.KnownBytes.{Consumes-kept, Consumes-nil, Consumes-trans}
+use Rattle.cmd_base.proofs.Giving.{gave}
 use Rattle.cmd_answer.proofs.Rounds.{kept-front, after-finish, stands-filled, written_over-same, room_left}
 use Rattle.cmd_answer.proofs.acceptor.Acceptor.read.Goals as goal
 
@@ -27,3 +28,15 @@ returns-clause-after g c = λ cfg before wire out talks.
       wire_gained = talks.wire_gained;
       out_gained = talks.out_gained;
     }
+
+pub returns-in_default-clause-consumed : goal.returns-in_default-clause-consumed
+returns-in_default-clause-consumed g c = ([], Consumes-kept _ _ _ [] (Consumes-nil _) c.in_default.ensures.bytes)
+
+pub returns-then-count-eq0-clause-consumed : goal.returns-then-count-eq0-clause-consumed
+returns-then-count-eq0-clause-consumed g c = ([], (rw c.if-count-eq0.true at c.in-Ok.ensures.bytes).0)
+
+pub returns-clause-consumed : goal.returns-clause-consumed
+returns-clause-consumed g c = (take c.in-Ok.count c.pull.new.into, c.in-Ok.ensures.bytes.0)
+
+pub returns-clause-given : goal.returns-clause-given
+returns-clause-given g c = λ e. gave _ _ c.in-Ok.count c.pull.new.into (omega (arith, c.if-count-eq0.false)) c.in-Ok.ensures.count c.in-Ok.ensures.bytes.0
