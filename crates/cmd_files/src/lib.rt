@@ -5,17 +5,21 @@
 mod again;
 mod files;
 mod lines;
+mod plans;
 mod report;
 mod session;
 mod session_said;
 mod usage;
+mod walk;
 
+pub use again::text_of_file;
 pub use files::run_over_files;
 pub use lines::push_place;
 pub use report::{Report, finish};
 pub use session::Session;
 pub use session_said::{
-    SaysWhy, push_bad, push_config, push_failed, push_plans, push_reject, push_undialed,
+    Outlook, SaysWhy, push_bad, push_config, push_failed, push_plans, push_reject, push_undialed,
     push_unfinished, push_unread, push_unwritten,
 };
 pub use usage::{VERSION, asked, usage_fault};
+pub use walk::{AtPlace, Walked, entry_at, walk_journal};

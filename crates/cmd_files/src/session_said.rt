@@ -2,12 +2,14 @@
 
 use crate::again::text_of_file;
 use crate::lines::{push_disk, push_input, push_journal, push_place, push_sink, push_source};
+use crate::plans::{PlanLine, plan_line};
 use crate::session::{Session, named};
+use crate::walk::{AtPlace, entry_at};
 use cmd_config::{Purpose, Role, read_configuration};
 use cmd_run::{Bad, JournalCause, Which};
-use gw_real::{DiskReason, FileDisk, Kept, Named, Reason};
+use gw_real::{FileDisk, Kept, Named, Reason};
 use gw_sockets::{AcceptDialer, ConnectDialer, SocketReason};
-use say_config::{Wanted, push_config_fault};
+use say_config::{Wanted, push_config_fault, push_file};
 use say_faults::{push_plan_fault, push_rejected};
 use schema_toml::ConfigFault;
 use std::alloc::{AllocError, Global};
@@ -17,26 +19,71 @@ use std::net::{Net, TcpListener, TcpStream};
 use std::rt::Files;
 use std::time::Clock;
 
-/// Adds why a journal's file failed; one that is missing has to be made first.
-fn push_journal_fault(
-    line: &mut String,
-    name: Named<'_>,
-    reason: DiskReason<'_>,
-) -> Result<(), AllocError> {
-    match reason {
-        DiskReason::System(error) if error.kind() == ErrorKind::NotFound => {
-            push_place(line, name)?;
-            write!(
-                line,
-                "{error}: for a new session run fixpgw format OUTBOX INBOX"
-            )
+/// How many bytes of a payload are shown.
+const SHOWN: usize = 64;
+
+/// The size of a journal without records, in bytes.
+const EMPTY: u64 = 17;
+
+/// What running a session again can bring.
+#[derive(Clone, Copy, Debug, PartialEq, Eq)]
+pub enum Outlook {
+    /// It goes on.
+    Open,
+    /// Nothing: both ends have finished, and this one knows it.
+    Over,
+    /// Both finishes are recorded here, and the peer's word that it has all is missing.
+    AllHere,
+    /// Nothing, for this reason.
+    Hopeless(&'static str),
+}
+
+impl Outlook {
+    /// Adds it behind a status that may come again.
+    fn push(self, line: &mut String) -> Result<(), AllocError> {
+        match self {
+            Outlook::Open => Ok(()),
+            Outlook::Over => line.push_str("; nothing is missing; the session is over"),
+            Outlook::AllHere => line.push_str(
+                "; both finishes are recorded, and nothing of the peer's is missing: only its word that it has all is",
+            ),
+            Outlook::Hopeless(why) => write!(line, "; running again cannot help: {why}"),
         }
-        reason => push_disk(line, name, reason),
     }
 }
 
+/// Whether there is no file at a path.
+fn is_missing<R: Files>(rt: &R, path: &str) -> bool {
+    matches!(rt.metadata(path), Err(error) if error.kind() == ErrorKind::NotFound)
+}
+
+/// Whether there is a file at a path that is longer than a journal without records.
+fn has_records<R: Files>(rt: &R, path: &str) -> bool {
+    matches!(rt.metadata(path), Ok(metadata) if metadata.len() > EMPTY)
+}
+
+/// Adds what to do where a journal is missing: both have to be made for a new session, and where the other one has records
+/// this is none.
+fn push_missing<R: Files>(
+    rt: &R,
+    line: &mut String,
+    name: Named<'_>,
+    other: Named<'_>,
+) -> Result<(), AllocError> {
+    if !is_missing(rt, name.path) {
+        return Ok(());
+    }
+    if !has_records(rt, other.path) {
+        return line.push_str(": for a new session run fixpgw format OUTBOX INBOX");
+    }
+    let role = name.role;
+    write!(line, ": only {role} is missing: ")?;
+    push_file(line, other.role, other.path)?;
+    line.push_str(" is there and has records, so this is no new session")
+}
+
 /// Adds that a session is not finished after so many connections, and what to do.
-pub fn push_unfinished(line: &mut String, most: u16) -> Result<(), AllocError> {
+pub fn push_unfinished(line: &mut String, most: u16, outlook: Outlook) -> Result<(), AllocError> {
     let connections = if most == 1 {
         "connection"
     } else {
@@ -44,8 +91,12 @@ pub fn push_unfinished(line: &mut String, most: u16) -> Result<(), AllocError> {
     };
     write!(
         line,
-        "the session is not finished after {most} {connections}: run it again with the same journals"
-    )
+        "the session is not finished after {most} {connections}"
+    )?;
+    match outlook {
+        Outlook::Open => line.push_str(": run it again with the same journals"),
+        outlook => outlook.push(line),
+    }
 }
 
 /// What the plans of INPUT are read again with.
@@ -88,12 +139,53 @@ pub fn push_plans<R: Files<File = File>>(
     let Bad::Line { line: number } = bad else {
         return push_input(line, session.input, kept, bad);
     };
-    match plans_again(rt, alloc, session, config) {
-        Some(plans) => {
-            push_place(line, session.input)?;
-            push_plan_fault(alloc, line, plans.senders, plans.text.as_slice(), *number)
+    let Some(plans) = plans_again(rt, alloc, session, config) else {
+        return push_input(line, session.input, kept, bad);
+    };
+    push_place(line, session.input)?;
+    match plan_line(alloc, plans.senders, plans.text.as_slice(), *number) {
+        Some(plan) => push_behind(rt, alloc, line, session, *number, &plan),
+        None => push_plan_fault(alloc, line, plans.senders, plans.text.as_slice(), *number),
+    }
+}
+
+/// Adds the front of a payload in hexadecimal.
+fn push_payload(line: &mut String, payload: &[u8]) -> Result<(), AllocError> {
+    for (at, &byte) in payload.iter().enumerate() {
+        if at == SHOWN {
+            return line.push_str("..");
         }
-        None => push_input(line, session.input, kept, bad),
+        write!(line, "{byte:02x}")?;
+    }
+    Ok(())
+}
+
+/// Adds why a line of INPUT that gives a payload to a sender is refused for what stands in OUTBOX.
+fn push_behind<R: Files<File = File>>(
+    rt: &R,
+    alloc: Global,
+    line: &mut String,
+    session: Session<'_>,
+    number: u64,
+    plan: &PlanLine,
+) -> Result<(), AllocError> {
+    let (sender, place) = (plan.sender, plan.place);
+    match entry_at(rt, alloc, session.outbox.path, sender, place) {
+        Some(AtPlace::Payload(payload)) => {
+            write!(
+                line,
+                "line {number} is not what OUTBOX has there: message {place} of sender {sender} was "
+            )?;
+            push_payload(line, payload.as_slice())?;
+            line.push_str("; an INPUT that was sent in part must stay as it is")
+        }
+        Some(AtPlace::Finished) => write!(
+            line,
+            "OUTBOX has its finish: no more can be sent in this session; line {number} is the first that was not; make new journals and a new session"
+        ),
+        Some(AtPlace::Nothing) | None => {
+            write!(line, "line {number} does not go on from what OUTBOX has")
+        }
     }
 }
 
@@ -128,7 +220,7 @@ impl<R> SaysWhy for FileDisk<'_, R> {
         let Some(reason) = self.reason() else {
             return Ok(false);
         };
-        push_journal_fault(line, name, reason)?;
+        push_disk(line, name, reason)?;
         Ok(true)
     }
 }
@@ -198,14 +290,18 @@ pub fn push_unwritten(
 }
 
 /// Adds which journal failed: the outbox, where it did.
-pub fn push_failed<D: SaysWhy>(
+pub fn push_failed<R: Files, D: SaysWhy>(
+    rt: &R,
     line: &mut String,
     session: Session<'_>,
     out_disk: &D,
     in_disk: &D,
 ) -> Result<(), AllocError> {
-    if !out_disk.push_why(line, session.outbox)? {
-        let _ = in_disk.push_why(line, session.inbox)?;
+    if out_disk.push_why(line, session.outbox)? {
+        return push_missing(rt, line, session.outbox, session.inbox);
+    }
+    if in_disk.push_why(line, session.inbox)? {
+        return push_missing(rt, line, session.inbox, session.outbox);
     }
     Ok(())
 }
@@ -235,12 +331,13 @@ pub fn push_reject(
     push_rejected(line, template, code)
 }
 
-/// Adds why there was no connection.
+/// Adds why there was no connection, and what running again can bring.
 pub fn push_undialed<N: SaysWhy>(
     line: &mut String,
     session: Session<'_>,
     dialer: &N,
+    outlook: Outlook,
 ) -> Result<(), AllocError> {
     let _ = dialer.push_why(line, named("ADDRESS", session.address))?;
-    Ok(())
+    outlook.push(line)
 }

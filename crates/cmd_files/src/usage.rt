@@ -24,6 +24,7 @@ const USAGE: &str =
   fixpgw COMMAND --help                 what a command takes and does
   fixpgw --help                         this text
   fixpgw --version                      the name and the version
+  fixpgw --quiet COMMAND ..             accept and connect say on standard error only what is refused, broken or lost
 
 OUT may be -, which is standard output. The last line on standard output is `status N NAME`, and N is the
 exit status: 0 done, 1 words, 2 config, 3 input-fault, 4 output-fault, 5 journal-fault, 6 journal-bad,
@@ -31,11 +32,12 @@ exit status: 0 done, 1 words, 2 config, 3 input-fault, 4 output-fault, 5 journal
 
 const ACCEPT: &str = "usage: fixpgw accept ADDRESS N CONFIG INPUT OUTBOX INBOX OUT
 
-A session as the acceptor, which listens: what INPUT gives is sent, what the peer sends is taken, each message once and in
-order, over as many connections as it takes. Run again with the same journals, it goes on where they stand.
+A session as the acceptor, which listens: what INPUT gives is sent, and what the peer sends is taken, over one connection
+after another. On a recoverable flow each message arrives once and in order; on another one what is lost is not sent again.
+Run again with the same journals, it goes on where they stand.
 
-  ADDRESS  where it listens, as 127.0.0.1:45617
-  N        how many connections there may be, 1 to 65535
+  ADDRESS  where it listens, as 127.0.0.1:15617
+  N        how many connections there may be, 1 to 65535; each counts, also that of a stranger
   CONFIG   the configuration of the session, as TOML (read)
   INPUT    what the senders send: lines `SENDER HEX` (read)
   OUTBOX   the journal of what is sent, made by fixpgw format (read and written)
@@ -44,11 +46,12 @@ order, over as many connections as it takes. Run again with the same journals, i
 
 const CONNECT: &str = "usage: fixpgw connect ADDRESS N CONFIG INPUT OUTBOX INBOX OUT
 
-A session as the initiator, which connects: what INPUT gives is sent, what the peer sends is taken, each message once and in
-order, over as many connections as it takes. Run again with the same journals, it goes on where they stand.
+A session as the initiator, which connects: what INPUT gives is sent, and what the peer sends is taken, over one connection
+after another. On a recoverable flow each message arrives once and in order; on another one what is lost is not sent again.
+Run again with the same journals, it goes on where they stand.
 
-  ADDRESS  where the acceptor listens, as 127.0.0.1:45617
-  N        how many connections there may be, 1 to 65535
+  ADDRESS  where the acceptor listens, as 127.0.0.1:15617
+  N        how many connections there may be, 1 to 65535; each counts, however short
   CONFIG   the configuration of the session, as TOML (read)
   INPUT    what the senders send: lines `SENDER HEX` (read)
   OUTBOX   the journal of what is sent, made by fixpgw format (read and written)

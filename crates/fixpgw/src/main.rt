@@ -26,6 +26,17 @@ fn words_of<R: Env + AllocGlobal>(rt: &R) -> io::Result<Vec<String>> {
     Ok(words)
 }
 
+/// The first word of a command line that is to say no more on standard error than what is wrong.
+const QUIET: &str = "--quiet";
+
+/// The words of a command, and whether it is to be quiet.
+fn behind_quiet(words: &[String]) -> (&[String], bool) {
+    match words.split_first() {
+        Some((first, rest)) if first.as_str() == QUIET => (rest, true),
+        _ => (words, false),
+    }
+}
+
 /// Prints a text that was asked for.
 fn show<R: Print + Eprint>(rt: &R, text: &str) -> ExitCode {
     match rt.println(text) {
@@ -64,8 +75,9 @@ fn main(rt: HostRuntime) -> ExitCode {
         Ok(words) => words,
         Err(error) => return finish(&rt, unread(&error)),
     };
-    let Some(session) = Session::of(words.as_slice()) else {
-        return run_words(&rt, words.as_slice());
+    let (words, is_quiet) = behind_quiet(words.as_slice());
+    let Some(session) = Session::of(words) else {
+        return run_words(&rt, words);
     };
     let (others, journals) = (session.others(), session.journals());
     let files = SessionFiles {
@@ -73,5 +85,5 @@ fn main(rt: HostRuntime) -> ExitCode {
         in_disk: FileDisk::new(&rt, session.inbox, &journals, Opening::Write),
         others: &others,
     };
-    finish(&rt, run_over_sockets(&rt, session, files))
+    finish(&rt, run_over_sockets(&rt, session, files, is_quiet))
 }

@@ -1,15 +1,29 @@
 //! What is wrong with a session, in a line.
 
-use crate::sessions::Devices;
 use cmd_files::{
     SaysWhy, Session, push_bad, push_config, push_failed, push_place, push_plans, push_reject,
     push_undialed, push_unfinished, push_unread, push_unwritten,
 };
 use cmd_run::Status;
 use gw_outside::Disk;
+use gw_real::{FileSink, FileSource};
+use say_live::Teller;
 use std::alloc::{AllocError, Global};
 use std::fs::File;
+use std::io::Printer;
 use std::rt::Files;
+use std::time::Clock;
+
+/// The devices of a session, out of their watches.
+#[derive(Drop)]
+pub struct Said<'a, R, D, N> {
+    pub config: FileSource<'a, R, File>,
+    pub input: FileSource<'a, R, File>,
+    pub out: FileSink<'a, R, File, Printer<'a, R>>,
+    pub out_disk: D,
+    pub in_disk: D,
+    pub dialer: N,
+}
 
 /// Whether the file of a journal has so many bytes.
 fn has_length<D: Disk>(disk: &mut D, bytes: u64) -> bool {
@@ -20,7 +34,7 @@ fn has_length<D: Disk>(disk: &mut D, bytes: u64) -> bool {
 fn push_full<R, D: Disk, N>(
     line: &mut String,
     session: Session<'_>,
-    outside: &mut Devices<'_, R, D, N>,
+    outside: &mut Said<'_, R, D, N>,
     entries: u64,
     bytes: u64,
 ) -> Result<(), AllocError> {
@@ -38,13 +52,14 @@ fn push_full<R, D: Disk, N>(
 }
 
 /// Adds what is wrong; nothing where the status says all.
-fn push_line<R: Files<File = File>, D: Disk + SaysWhy, N: SaysWhy>(
+fn push_line<R: Clock + Eprint + Files<File = File>, D: Disk + SaysWhy, N: SaysWhy>(
     rt: &R,
     alloc: Global,
     line: &mut String,
     session: Session<'_>,
     status: &Status,
-    outside: &mut Devices<'_, R, D, N>,
+    outside: &mut Said<'_, R, D, N>,
+    teller: &Teller<'_, R>,
 ) -> Result<(), AllocError> {
     match status {
         Status::Config(fault) => {
@@ -57,10 +72,12 @@ fn push_line<R: Files<File = File>, D: Disk + SaysWhy, N: SaysWhy>(
             outside.input.reason(),
         ),
         Status::OutputFault => { push_unwritten(line, outside.out.name(), outside.out.reason()) }
-        Status::JournalFault => { push_failed(line, session, &outside.out_disk, &outside.in_disk) }
+        Status::JournalFault => {
+            push_failed(rt, line, session, &outside.out_disk, &outside.in_disk)
+        }
         Status::JournalBad { which, cause } => push_bad(line, session, *which, *cause),
-        Status::DialFault => push_undialed(line, session, &outside.dialer),
-        Status::Unfinished { .. } => push_unfinished(line, session.most),
+        Status::DialFault => { push_undialed(line, session, &outside.dialer, teller.outlook()) }
+        Status::Unfinished { .. } => push_unfinished(line, session.most, teller.outlook()),
         Status::Rejected { template, code } => push_reject(line, session, *template, *code),
         Status::Full { entries, bytes } => push_full(line, session, outside, *entries, *bytes),
         Status::Message(bad) => push_plans(
@@ -77,15 +94,16 @@ fn push_line<R: Files<File = File>, D: Disk + SaysWhy, N: SaysWhy>(
 }
 
 /// What is wrong, in a line; none where the status says all, or where there is no memory to say it.
-pub fn line_of<R: Files<File = File>, D: Disk + SaysWhy, N: SaysWhy>(
+pub fn line_of<R: Clock + Eprint + Files<File = File>, D: Disk + SaysWhy, N: SaysWhy>(
     rt: &R,
     alloc: Global,
     session: Session<'_>,
     status: &Status,
-    outside: &mut Devices<'_, R, D, N>,
+    outside: &mut Said<'_, R, D, N>,
+    teller: &Teller<'_, R>,
 ) -> Option<String> {
     let mut line = String::new(alloc);
-    match push_line(rt, alloc, &mut line, session, status, outside) {
+    match push_line(rt, alloc, &mut line, session, status, outside, teller) {
         Ok(()) if !line.is_empty() => Some(line),
         _ => None,
     }

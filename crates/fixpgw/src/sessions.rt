@@ -3,7 +3,7 @@
 
 ghost use Rattle.std.specs.Prelude.{◌≡◌, false};
 
-use crate::session_said::line_of;
+use crate::session_said::{Said, line_of};
 use cmd_files::{Report, SaysWhy, Session};
 use cmd_run::Status;
 use cmd_session::{Role, SessionOutside, run_session};
@@ -11,6 +11,8 @@ use gw_links::{Clock as LinkClock, Dialer};
 use gw_outside::{Disk, Sink, Source};
 use gw_real::{FileSink, FileSource, Named};
 use gw_sockets::{AcceptDialer, ConnectDialer, MachineClock};
+use gw_watch::{Approaches, HasPeer, Pauses, WatchedDialer, WatchedSink, WatchedSource};
+use say_live::Teller;
 use schema_toml::TEXT_LIMIT;
 use std::alloc::Global;
 use std::fs::File;
@@ -21,12 +23,12 @@ use std::sync::Wait;
 use std::thread::Threads;
 use std::time::Clock;
 
-/// The devices of a session over files.
-pub type Devices<'a, R, D, N> = SessionOutside<
-    FileSource<'a, R, File>,
-    FileSink<'a, R, File, Printer<'a, R>>,
+/// The devices of a session over files, watched by this teller.
+pub type Devices<'a, 't, R, D, N> = SessionOutside<
+    WatchedSource<'t, R, FileSource<'a, R, File>, Teller<'a, R>>,
+    WatchedSink<'t, FileSink<'a, R, File, Printer<'a, R>>, Teller<'a, R>>,
     D,
-    N,
+    WatchedDialer<'t, R, N, Teller<'a, R>>,
     MachineClock<'a, R>,
 >;
 
@@ -49,14 +51,15 @@ fn out_of<'a, R: Print>(
     FileSink::new(rt, out, others)
 }
 
-/// The devices of a session over this dialer and these files.
-fn devices<'a, R: Files<File = File> + Print + AllocGlobal, D, N>(
+/// The devices of a session over this dialer and these files, watched by this teller.
+fn devices<'a, 't, R: Files<File = File> + Print + AllocGlobal, D, N>(
     rt: &'a R,
     session: Session<'a>,
     files: SessionFiles<'a, D>,
     dialer: N,
-) -> Devices<'a, R, D, N>
-    ensures { result.dialer ≡ dialer }
+    teller: &'t Teller<'a, R>,
+) -> Devices<'a, 't, R, D, N>
+    ensures { result.dialer.inner ≡ dialer }
 {
     let alloc = rt.alloc();
     let SessionFiles {
@@ -64,14 +67,25 @@ fn devices<'a, R: Files<File = File> + Print + AllocGlobal, D, N>(
         in_disk,
         others,
     } = files;
+    let config = FileSource::new(rt, alloc, session.config.path, TEXT_LIMIT + 1);
+    let input = FileSource::new(rt, alloc, session.input.path, 0);
     SessionOutside {
-        config: FileSource::new(rt, alloc, session.config.path, TEXT_LIMIT + 1),
-        input: FileSource::new(rt, alloc, session.input.path, 0),
-        out: out_of(rt, session.out, others),
+        config: WatchedSource::new(rt, config, teller),
+        input: WatchedSource::new(rt, input, teller),
+        out: WatchedSink::new(out_of(rt, session.out, others), teller),
         out_disk,
         in_disk,
-        dialer,
+        dialer: WatchedDialer::new(rt, alloc, dialer, teller, pauses_of(session.role)),
         clock: MachineClock::new(rt),
+    }
+}
+
+/// Whether an end pauses behind connections that came to nothing: one that makes them. One that listens would make those wait
+/// who come next.
+fn pauses_of(role: Role) -> Pauses {
+    match role {
+        Role::Initiator => Pauses::Longer,
+        Role::Acceptor => Pauses::Never,
     }
 }
 
@@ -89,41 +103,58 @@ fn run_over<R: Threads + Wait + Sync, S: Source, K: Sink, D: Disk + Send, N: Dia
 
 /// The report of a session that ended so. It closes the devices.
 fn report_of<
-    R: Files<File = File> + Print + AllocGlobal,
+    R: Clock + Eprint + Files<File = File> + Print + AllocGlobal,
     D: Disk + Drop + SaysWhy,
     N: Drop + SaysWhy,
->(rt: &R, session: Session<'_>, status: Status, outside: Devices<'_, R, D, N>) -> Report {
-    let mut outside = outside;
-    let line = line_of(rt, rt.alloc(), session, &status, &mut outside);
+>(
+    rt: &R,
+    session: Session<'_>,
+    status: Status,
+    outside: Devices<'_, '_, R, D, N>,
+    teller: &Teller<'_, R>,
+) -> Report {
     let SessionOutside {
-        config: _,
-        input: _,
-        out: _,
-        out_disk: _,
-        in_disk: _,
-        dialer: _,
+        config,
+        input,
+        out,
+        out_disk,
+        in_disk,
+        dialer,
         clock: _,
     } = outside;
+    let mut said = Said {
+        config: config.into_inner(),
+        input: input.into_inner(),
+        out: out.into_inner(),
+        out_disk,
+        in_disk,
+        dialer: dialer.into_inner(),
+    };
+    teller.close();
+    let line = line_of(rt, rt.alloc(), session, &status, &mut said, teller);
     Report { status, line }
 }
 
-/// Runs a session over this dialer and these files. The devices are closed when it returns, before anything is printed: where
-/// standard output is closed, a file may stand in its place.
+/// Runs a session over this dialer and these files. The devices are closed when it returns, before anything is printed on
+/// standard output: where that is closed, a file may stand in its place.
 fn run_with<
     'a,
-    R: Threads + Wait + Sync + Clock + Files<File = File> + Print + AllocGlobal,
+    R: Threads + Wait + Sync + Clock + Files<File = File> + Print + Eprint + AllocGlobal,
     D: Disk + Send + Drop + SaysWhy,
-    N: Dialer + Drop + SaysWhy,
->(rt: &'a R, session: Session<'a>, files: SessionFiles<'a, D>, dialer: N) -> Report
+    N: Approaches + Drop + SaysWhy,
+>(rt: &'a R, session: Session<'a>, files: SessionFiles<'a, D>, dialer: N, is_quiet: bool) -> Report
+where
+    N::Link: HasPeer,
     requires { N.lent dialer ≡ false }
 {
-    let devices = devices(rt, session, files, dialer);
+    let teller = Teller::new(rt, rt.alloc(), session, is_quiet);
+    let devices = devices(rt, session, files, dialer, &teller);
     let (status, devices) = run_over(rt, rt.alloc(), session.role, devices);
-    report_of(rt, session, status, devices)
+    report_of(rt, session, status, devices, &teller)
 }
 
 /// Runs a session over a socket, over the files that its words name, and over these disks of its journals. A listener is bound
-/// before anything else is looked at.
+/// once CONFIG, the journals and INPUT are accepted. A quiet one says no more on standard error than what is wrong.
 pub fn run_over_sockets<
     'a,
     R: Threads
@@ -133,18 +164,19 @@ pub fn run_over_sockets<
         + Clock
         + Files<File = File>
         + Print
+        + Eprint
         + AllocGlobal,
     D: Disk + Send + Drop + SaysWhy,
->(rt: &'a R, session: Session<'a>, files: SessionFiles<'a, D>) -> Report {
+>(rt: &'a R, session: Session<'a>, files: SessionFiles<'a, D>, is_quiet: bool) -> Report {
     let (alloc, most) = (rt.alloc(), u64::from(session.most));
     match session.role {
         Role::Initiator => {
             let dialer = ConnectDialer::new(rt, alloc, session.address, most);
-            run_with(rt, session, files, dialer)
+            run_with(rt, session, files, dialer, is_quiet)
         }
         Role::Acceptor => {
             let dialer = AcceptDialer::new(rt, alloc, session.address, most);
-            run_with(rt, session, files, dialer)
+            run_with(rt, session, files, dialer, is_quiet)
         }
     }
 }

@@ -1,0 +1,39 @@
+//! Who is told what a watch sees.
+
+use fixp_msgs::SessionMsg;
+use std::net::SocketAddr;
+
+/// What a watch sees.
+#[derive(Clone, Copy, Debug)]
+pub enum Heard<'a> {
+    /// The first connection is about to be asked for: CONFIG, both journals and INPUT are accepted, and OUT is begun.
+    Begun,
+    /// The dialer listens from now on.
+    Listens,
+    /// The dialer begins to connect.
+    Connects,
+    /// The dialer failed.
+    InVain,
+    /// A connection is there, with its peer, where that is known.
+    Connected { peer: Option<SocketAddr> },
+    /// The last connection is over.
+    Over,
+    /// A session message came in.
+    Came(SessionMsg<'a>),
+    /// A session message went out.
+    Went(SessionMsg<'a>),
+    /// An application message came in.
+    MessageCame,
+    /// An application message went out.
+    MessageWent,
+    /// A line went to OUT: its first 64 bytes.
+    Line(&'a [u8]),
+    /// INPUT is long in being read.
+    Reads,
+}
+
+/// Who is told what watches see, one after another. A watch goes on whatever its ear does.
+pub trait Ear {
+    /// Takes what a watch sees.
+    fn hear(&self, heard: Heard<'_>);
+}

@@ -1,0 +1,640 @@
+//! The ear of a session: it keeps what it hears, and says it in lines.
+
+use crate::counts::Sent;
+use crate::outline::{EndWords, OutLine, line_of};
+use crate::stamp::Stamp;
+use crate::words::{flow_name, push_messages, push_next, push_session, rule_name, terminate_name};
+use cmd_config::{Configuration, Purpose, Role, own_flow, peer_flow, read_configuration};
+use cmd_files::{Outlook, Session, Walked, push_place, text_of_file, walk_journal};
+use fixp_msgs::{
+    Establish, EstablishmentAck, EstablishmentReject, Flow, Negotiate, NegotiationReject,
+    NegotiationResponse, SessionMsg,
+};
+use gw_watch::{Ear, Heard};
+use say_config::push_file;
+use say_faults::push_rejected;
+use std::alloc::{AllocError, Global};
+use std::cell::Cell;
+use std::fs::File;
+use std::net::SocketAddr;
+use std::os::unix::fs::MetadataExt;
+use std::rt::Files;
+use std::time::Clock;
+use text_words::parse_address;
+
+/// Why running again cannot help where numbers went back, or the peer ended before the session was established.
+const APART: &str =
+    "the journals of the two ends do not belong together, as where one end has new ones with the same `session`";
+
+/// Why it cannot where a flow differs.
+const OTHER_FLOW: &str = "server_flow is another one at the peer than in CONFIG";
+
+/// The permission of all users to read a file.
+const READ_BY_ALL: u32 = 0o004;
+
+/// What was heard so far.
+#[derive(Clone, Copy)]
+struct Heed {
+    has_begun: bool,
+    /// The number of the connection, from 1.
+    connection: u64,
+    peer: Option<SocketAddr>,
+    is_established: bool,
+    /// The session that the peer asked for.
+    asked_session: [u8; 16],
+    /// The flow of its own that the peer asked for, by its code.
+    asked_flow: u8,
+    /// The heartbeat interval that the peer asked for, in milliseconds.
+    asked_keepalive: u32,
+    /// The next number of this end, and of the peer, as they were announced.
+    ours: Option<u64>,
+    theirs: Option<u64>,
+    sent: Sent,
+    delivered: u64,
+    /// How many messages OUTBOX had when the first connection was asked for.
+    stood_before: u64,
+    /// Whether the peer said that it has all of this end's messages.
+    has_peer_all: bool,
+    /// Whether the peer's own flow is another one than in CONFIG.
+    has_other_flow: bool,
+    /// Why running again cannot help, as far as the last connection showed.
+    hopeless: Option<&'static str>,
+}
+
+/// Says what goes on in a session on standard error.
+#[derive(Drop)]
+pub struct Teller<'a, R> {
+    rt: &'a R,
+    alloc: Global,
+    session: Session<'a>,
+    is_quiet: bool,
+    heed: Cell<Heed>,
+}
+
+impl<'a, R> Teller<'a, R> {
+    /// Nothing is heard yet. One that is quiet says only what was refused, which rules were broken, and what is lost.
+    pub fn new(rt: &'a R, alloc: Global, session: Session<'a>, is_quiet: bool) -> Teller<'a, R> {
+        Teller {
+            rt,
+            alloc,
+            session,
+            is_quiet,
+            heed: Cell::new(Heed {
+                has_begun: false,
+                connection: 0,
+                peer: None,
+                is_established: false,
+                asked_session: [0; 16],
+                asked_flow: 0,
+                asked_keepalive: 0,
+                ours: None,
+                theirs: None,
+                sent: Sent::default(),
+                delivered: 0,
+                stood_before: 0,
+                has_peer_all: false,
+                has_other_flow: false,
+                hopeless: None,
+            }),
+        }
+    }
+}
+
+impl<'a, R: Clock + Eprint + Files<File = File>> Teller<'a, R> {
+    /// The front of a line: the time.
+    fn begun(&self) -> Result<String, AllocError> {
+        let stamp = Stamp::now(self.rt);
+        format!(in self.alloc; "{stamp} ")
+    }
+
+    /// The front of a line about the connection: the time, and the peer's address.
+    fn of_peer(&self) -> Result<String, AllocError> {
+        let mut line = self.begun()?;
+        if let Some(peer) = self.heed.get().peer {
+            write!(line, "{peer} ")?;
+        }
+        Ok(line)
+    }
+
+    /// Prints a line that a quiet one says as well, where there was memory for it.
+    fn warn(&self, line: Result<String, AllocError>) {
+        if let Ok(line) = line {
+            let _ = self.rt.eprintln(line.as_str());
+        }
+    }
+
+    /// Prints a line, but where it is to be quiet.
+    fn say(&self, line: Result<String, AllocError>) {
+        if !self.is_quiet {
+            self.warn(line);
+        }
+    }
+
+    /// CONFIG, read again; none where that cannot be.
+    fn configuration(&self) -> Option<Configuration> {
+        let text = text_of_file(self.rt, self.alloc, self.session.config.path)?;
+        let purpose = Purpose::Live(self.session.role);
+        read_configuration(self.alloc, purpose, text.as_slice()).ok()
+    }
+
+    /// A line of this word and ADDRESS, which is quoted where it is none.
+    fn at_address(&self, word: &str) -> Result<String, AllocError> {
+        let mut line = self.begun()?;
+        let text = self.session.address;
+        match parse_address(text.as_bytes()) {
+            Some(address) => write!(line, "{word} {address}")?,
+            None => push_file(&mut line, word, text)?,
+        }
+        Ok(line)
+    }
+
+    /// That ADDRESS was not to be had.
+    fn in_vain(&self) -> Result<String, AllocError> {
+        match self.session.role {
+            Role::Acceptor => self.at_address("could not accept at"),
+            Role::Initiator => self.at_address("connected in vain to"),
+        }
+    }
+
+    /// That INPUT takes long.
+    fn reading(&self) -> Result<String, AllocError> {
+        let mut line = self.begun()?;
+        line.push_str("reading ")?;
+        push_place(&mut line, self.session.input)?;
+        line.push_str("it is long")?;
+        Ok(line)
+    }
+
+    /// That the files of CONFIG are for all to read, where they have credentials.
+    fn readable(&self) -> Option<Result<String, AllocError>> {
+        let metadata = self.rt.metadata(self.session.config.path).ok()?;
+        if metadata.mode() & READ_BY_ALL == 0 {
+            return None;
+        }
+        let configuration = self.configuration()?;
+        if configuration.link.credentials.is_empty() {
+            return None;
+        }
+        Some(self.of_readable())
+    }
+
+    fn of_readable(&self) -> Result<String, AllocError> {
+        let mut line = self.begun()?;
+        line.push_str("warning: ")?;
+        push_place(&mut line, self.session.config)?;
+        line.push_str("it has credentials, and every user can read it")?;
+        Ok(line)
+    }
+
+    /// Which messages stand in INBOX that OUT does not tell.
+    fn untold(&self, inbox: &Walked) -> Result<String, AllocError> {
+        let mut line = self.begun()?;
+        push_place(&mut line, self.session.inbox)?;
+        push_messages(&mut line, inbox.applied)?;
+        let (first, last) = (inbox.first, inbox.last);
+        write!(
+            line,
+            " of earlier runs, numbers {first} to {last}, which OUT does not tell: fixpgw journal OUTBOX INBOX - prints them"
+        )?;
+        Ok(line)
+    }
+
+    /// The first connection is about to be asked for.
+    fn begin(&self) {
+        let mut heed = self.heed.get();
+        heed.has_begun = true;
+        if let Some(outbox) = walk_journal(self.rt, self.alloc, self.session.outbox.path) {
+            heed.stood_before = outbox.entries;
+        }
+        self.heed.set(heed);
+        if let Some(warning) = self.readable() {
+            self.say(warning);
+        }
+        if let Some(inbox) = walk_journal(self.rt, self.alloc, self.session.inbox.path) {
+            if inbox.applied > 0 {
+                self.say(self.untold(&inbox));
+            }
+        }
+    }
+
+    /// A connection is there.
+    fn connect(&self, peer: Option<SocketAddr>) {
+        let mut heed = self.heed.get();
+        heed.connection = heed.connection.saturating_add(1);
+        heed.peer = peer;
+        heed.is_established = false;
+        heed.has_other_flow = false;
+        self.heed.set(heed);
+        self.say(self.connected());
+    }
+
+    fn connected(&self) -> Result<String, AllocError> {
+        let mut line = self.of_peer()?;
+        let (number, most) = (self.heed.get().connection, self.session.most);
+        write!(line, "connected: connection {number} of at most {most}")?;
+        Ok(line)
+    }
+
+    /// The session is established.
+    fn establish(&self) {
+        let mut heed = self.heed.get();
+        heed.is_established = true;
+        heed.hopeless = None;
+        self.heed.set(heed);
+        self.say(self.established());
+    }
+
+    fn established(&self) -> Result<String, AllocError> {
+        let heed = self.heed.get();
+        let mut line = self.of_peer()?;
+        line.push_str("established: the next number of this end is ")?;
+        push_next(&mut line, heed.ours)?;
+        line.push_str(", of the peer ")?;
+        push_next(&mut line, heed.theirs)?;
+        Ok(line)
+    }
+
+    /// The peer asks for a session.
+    fn take_negotiate(&self, m: &Negotiate<'_>) {
+        let mut heed = self.heed.get();
+        let session = m.session_id;
+        heed.asked_session = session;
+        heed.asked_flow = m.client_flow;
+        self.heed.set(heed);
+    }
+
+    /// The peer asks for a connection of a session.
+    fn take_establish(&self, m: &Establish<'_>) {
+        let mut heed = self.heed.get();
+        let session = m.session_id;
+        heed.asked_session = session;
+        heed.asked_keepalive = m.keepalive;
+        heed.theirs = m.next_seq;
+        self.heed.set(heed);
+    }
+
+    /// The peer takes the session, with a flow of its own.
+    fn take_response(&self, m: &NegotiationResponse<'_>) {
+        let Some(configuration) = self.configuration() else {
+            return;
+        };
+        let own = configuration.link.server_flow.code();
+        if own == m.server_flow {
+            return;
+        }
+        let mut heed = self.heed.get();
+        heed.has_other_flow = true;
+        self.heed.set(heed);
+        self.warn(self.other_flow("server_flow", m.server_flow, own));
+    }
+
+    /// The peer takes the connection.
+    fn take_acknowledgement(&self, m: &EstablishmentAck) {
+        let mut heed = self.heed.get();
+        heed.theirs = m.next_seq;
+        self.heed.set(heed);
+        self.establish();
+    }
+
+    /// That a flow is another one at the peer.
+    fn other_flow(&self, key: &str, peer: u8, own: u8) -> Result<String, AllocError> {
+        let mut line = self.of_peer()?;
+        let (peer, own) = (flow_name(peer), flow_name(own));
+        write!(line, "refused: its {key} is {peer}, and CONFIG has {own}")?;
+        Ok(line)
+    }
+
+    /// That the peer refused.
+    fn refused_by_peer(&self, template: u16, code: u8) -> Result<String, AllocError> {
+        let mut line = self.of_peer()?;
+        line.push_str("refused by the peer: ")?;
+        push_rejected(&mut line, template, code)?;
+        Ok(line)
+    }
+
+    /// A session message came in.
+    fn come(&self, message: SessionMsg<'_>) {
+        match message {
+            SessionMsg::Negotiate(m) => self.take_negotiate(&m),
+            SessionMsg::Establish(m) => self.take_establish(&m),
+            SessionMsg::NegotiationResponse(m) => self.take_response(&m),
+            SessionMsg::EstablishmentAck(m) => self.take_acknowledgement(&m),
+            SessionMsg::NegotiationReject(m) if m.code != 4 => {
+                self.warn(self.refused_by_peer(3, m.code));
+            }
+            SessionMsg::EstablishmentReject(m) if m.code != 2 => {
+                self.warn(self.refused_by_peer(6, m.code));
+            }
+            SessionMsg::NotApplied(m) => {
+                self.warn(self.not_applied("the peer did not get", m.from_seq, m.count));
+            }
+            SessionMsg::FinishedReceiving(_) => {
+                let mut heed = self.heed.get();
+                heed.has_peer_all = true;
+                self.heed.set(heed);
+            }
+            _ => {}
+        }
+    }
+
+    /// That numbers were jumped over.
+    fn not_applied(&self, who: &str, from: u64, count: u32) -> Result<String, AllocError> {
+        let mut line = self.of_peer()?;
+        let last = from.saturating_add(u64::from(count)).saturating_sub(1);
+        write!(line, "{who} messages {from} to {last}: they are lost")?;
+        Ok(line)
+    }
+
+    /// The own next number is announced.
+    fn announce(&self, next: Option<u64>) {
+        let mut heed = self.heed.get();
+        heed.ours = next;
+        heed.sent.announce(next);
+        self.heed.set(heed);
+    }
+
+    /// A session message went out.
+    fn go(&self, message: SessionMsg<'_>) {
+        match message {
+            SessionMsg::Establish(m) => self.announce(m.next_seq),
+            SessionMsg::EstablishmentAck(m) => {
+                self.announce(m.next_seq);
+                self.establish();
+            }
+            SessionMsg::Sequence(m) => self.announce(Some(m.next_seq)),
+            SessionMsg::Retransmission(m) => self.announce(Some(m.next_seq)),
+            SessionMsg::NegotiationReject(m) => self.refuse_session(&m),
+            SessionMsg::EstablishmentReject(m) => self.refuse_connection(&m),
+            SessionMsg::NotApplied(m) => {
+                self.warn(self.not_applied("this end did not get", m.from_seq, m.count));
+            }
+            _ => {}
+        }
+    }
+
+    /// That the peer asked for another session.
+    fn other_session(&self) -> Result<String, AllocError> {
+        let mut line = self.of_peer()?;
+        line.push_str("refused: it asks for session ")?;
+        push_session(&mut line, &self.heed.get().asked_session)?;
+        if let Some(configuration) = self.configuration() {
+            line.push_str(", and CONFIG has ")?;
+            push_session(&mut line, &configuration.link.session)?;
+        }
+        Ok(line)
+    }
+
+    /// That the peer is refused, for this reason.
+    fn refused(&self, why: &str) -> Result<String, AllocError> {
+        let mut line = self.of_peer()?;
+        write!(line, "refused: {why}")?;
+        Ok(line)
+    }
+
+    /// That the peer's flow is another one.
+    fn refused_flow(&self) -> Result<String, AllocError> {
+        match self.configuration() {
+            Some(configuration) => self.other_flow(
+                "client_flow",
+                self.heed.get().asked_flow,
+                configuration.link.client_flow.code(),
+            ),
+            None => self.refused("its client_flow is not the one in CONFIG"),
+        }
+    }
+
+    /// A Negotiate was refused. A session that is known already is none that is refused.
+    fn refuse_session(&self, m: &NegotiationReject<'_>) {
+        match m.code {
+            1 => self.warn(self.other_session()),
+            2 => self.warn(self.refused("its credentials are not those in CONFIG")),
+            3 => self.warn(self.refused_flow()),
+            _ => {}
+        }
+    }
+
+    /// Whether CONFIG has another session than the peer asked for.
+    fn is_other_session(&self) -> bool {
+        match self.configuration() {
+            Some(configuration) => configuration.link.session != self.heed.get().asked_session,
+            None => false,
+        }
+    }
+
+    fn refused_keepalive(&self) -> Result<String, AllocError> {
+        let mut line = self.of_peer()?;
+        let keepalive = self.heed.get().asked_keepalive;
+        write!(
+            line,
+            "refused: its keepalive is {keepalive} milliseconds, and 100 to 60000 are taken"
+        )?;
+        Ok(line)
+    }
+
+    /// An Establish was refused.
+    fn refuse_connection(&self, m: &EstablishmentReject<'_>) {
+        match m.code {
+            2 if self.is_other_session() => self.warn(self.other_session()),
+            2 => self.say(self.refused("the session is not negotiated yet, and it may do so")),
+            3 => self.warn(self.refused("the connection is established already")),
+            5 => self.warn(self.refused_keepalive()),
+            6 => self.warn(self.refused("its credentials are not those in CONFIG")),
+            _ => {}
+        }
+    }
+
+    /// That the connection ended so.
+    fn ended(&self, words: &str) -> Result<String, AllocError> {
+        let mut line = self.of_peer()?;
+        line.push_str(words)?;
+        if !self.heed.get().is_established {
+            line.push_str(" before the session was established")?;
+        }
+        Ok(line)
+    }
+
+    /// That the peer terminated.
+    fn terminated(&self, code: u64) -> Result<String, AllocError> {
+        let mut line = self.ended("the peer ended the connection")?;
+        let name = terminate_name(code);
+        write!(line, ": Terminate {code} ({name})")?;
+        self.push_hopeless(&mut line)?;
+        Ok(line)
+    }
+
+    /// That the peer broke a rule.
+    fn broken(&self, rule: u64) -> Result<String, AllocError> {
+        let mut line = self.of_peer()?;
+        let name = rule_name(rule);
+        write!(line, "the connection is ended for rule {rule}: {name}")?;
+        self.push_hopeless(&mut line)?;
+        Ok(line)
+    }
+
+    /// Adds that running again cannot help, where it cannot.
+    fn push_hopeless(&self, line: &mut String) -> Result<(), AllocError> {
+        match self.heed.get().hopeless {
+            Some(why) => write!(line, "; running again cannot help: {why}"),
+            None => Ok(()),
+        }
+    }
+
+    /// Keeps whether running again can help behind this end.
+    fn look_ahead(&self, end: EndWords) {
+        let mut heed = self.heed.get();
+        heed.hopeless = match end {
+            EndWords::Violation(4) if heed.has_other_flow => Some(OTHER_FLOW),
+            EndWords::Violation(5) => Some(APART),
+            EndWords::Terminated(2) if !heed.is_established => Some(APART),
+            _ => None,
+        };
+        self.heed.set(heed);
+    }
+
+    /// The connection came to this end.
+    fn end(&self, end: EndWords) {
+        self.look_ahead(end);
+        match end {
+            EndWords::Finished => {
+                let mut heed = self.heed.get();
+                heed.is_established = true;
+                self.heed.set(heed);
+                self.say(self.ended("finished: both ends have finished, and both know it"));
+            }
+            EndWords::Terminated(code) => self.warn(self.terminated(code)),
+            EndWords::LinkEnded => self.say(self.ended("the peer closed the connection")),
+            EndWords::LinkFault => self.say(self.ended("the connection broke")),
+            EndWords::Rejected => {}
+            EndWords::Violation(rule) => self.warn(self.broken(rule)),
+        }
+    }
+
+    /// A line went to OUT.
+    fn take_line(&self, line: &[u8]) {
+        match line_of(line) {
+            OutLine::Delivered => {
+                let mut heed = self.heed.get();
+                heed.delivered = heed.delivered.saturating_add(1);
+                self.heed.set(heed);
+            }
+            OutLine::Ended(end) => self.end(end),
+            OutLine::Other => {}
+        }
+    }
+
+    /// A message went out.
+    fn take_sent(&self) {
+        let mut heed = self.heed.get();
+        heed.sent.send();
+        self.heed.set(heed);
+    }
+
+    /// What came of OUTBOX and of the peer's messages.
+    fn counted(&self, outbox: &Walked) -> Result<String, AllocError> {
+        let heed = self.heed.get();
+        let before = heed.sent.stood_before().unwrap_or(heed.stood_before);
+        let (again, new) = (heed.sent.again(), heed.sent.new());
+        let sent = again.saturating_add(new);
+        let others = before.saturating_sub(again);
+        let none = outbox.entries.saturating_sub(before).saturating_sub(new);
+        let delivered = heed.delivered;
+        let mut line = self.begun()?;
+        line.push_str("OUTBOX has ")?;
+        push_messages(&mut line, outbox.entries)?;
+        write!(
+            line,
+            ": {sent} sent by this run, {others} that stood there before and were not sent again, {none} not sent; delivered: {delivered}"
+        )?;
+        Ok(line)
+    }
+
+    /// That messages will never be sent, where the own flow is one that is not sent again.
+    fn lost(&self, outbox: &Walked) -> Option<Result<String, AllocError>> {
+        let heed = self.heed.get();
+        let sent = heed.sent.again().saturating_add(heed.sent.new());
+        let lost = outbox.entries.saturating_sub(sent);
+        if lost == 0 {
+            return None;
+        }
+        let configuration = self.configuration()?;
+        let link = &configuration.link;
+        let flow = own_flow(self.session.role, link.client_flow, link.server_flow);
+        match flow {
+            Flow::Idempotent | Flow::Unsequenced => Some(self.of_lost(lost, flow)),
+            Flow::Recoverable | Flow::None => None,
+        }
+    }
+
+    fn of_lost(&self, lost: u64, flow: Flow) -> Result<String, AllocError> {
+        let mut line = self.begun()?;
+        push_messages(&mut line, lost)?;
+        let flow = flow_name(flow.code());
+        write!(
+            line,
+            " of OUTBOX were never sent on any connection of this run, and will not be: the flow is {flow}"
+        )?;
+        Ok(line)
+    }
+
+    /// Says at the end what came of it.
+    pub fn close(&self) {
+        if !self.heed.get().has_begun {
+            return;
+        }
+        let Some(outbox) = walk_journal(self.rt, self.alloc, self.session.outbox.path) else {
+            return;
+        };
+        self.say(self.counted(&outbox));
+        if let Some(lost) = self.lost(&outbox) {
+            self.warn(lost);
+        }
+    }
+
+    /// Whether both journals have all that they will have.
+    fn is_all_here(&self) -> Option<bool> {
+        let outbox = walk_journal(self.rt, self.alloc, self.session.outbox.path)?;
+        let inbox = walk_journal(self.rt, self.alloc, self.session.inbox.path)?;
+        let configuration = self.configuration()?;
+        let link = &configuration.link;
+        let role = self.session.role;
+        let own = own_flow(role, link.client_flow, link.server_flow);
+        let peer = peer_flow(role, link.client_flow, link.server_flow);
+        let has_sent = outbox.has_finish || matches!(own, Flow::None);
+        let has_all = match inbox.peer_last {
+            Some(last) => inbox.last >= last,
+            None => matches!(peer, Flow::None),
+        };
+        Some(has_sent && has_all)
+    }
+
+    /// What running again can bring.
+    pub fn outlook(&self) -> Outlook {
+        let heed = self.heed.get();
+        if let Some(why) = heed.hopeless {
+            return Outlook::Hopeless(why);
+        }
+        match self.is_all_here() {
+            Some(true) if heed.has_peer_all => Outlook::Over,
+            Some(true) => Outlook::AllHere,
+            _ => Outlook::Open,
+        }
+    }
+}
+
+impl<R: Clock + Eprint + Files<File = File>> Ear for Teller<'_, R> {
+    fn hear(&self, heard: Heard<'_>) {
+        match heard {
+            Heard::Begun => self.begin(),
+            Heard::Listens => self.say(self.at_address("listening at")),
+            Heard::Connects => self.say(self.at_address("connecting to")),
+            Heard::InVain => self.say(self.in_vain()),
+            Heard::Connected { peer } => self.connect(peer),
+            Heard::Came(message) => self.come(message),
+            Heard::Went(message) => self.go(message),
+            Heard::MessageWent => self.take_sent(),
+            Heard::Line(line) => self.take_line(line),
+            Heard::Reads => self.say(self.reading()),
+            Heard::Over | Heard::MessageCame => {}
+        }
+    }
+}
