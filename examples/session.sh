@@ -1,10 +1,10 @@
 #!/usr/bin/env bash
 # A session of two ends on this machine: a venue that accepts and a broker that connects. Makes four journals in a fresh
 # folder, starts both ends, waits for both, and shows that each inbox holds what the other's outbox holds. It listens at port
-# 45640, or at the one in PORT: examples/session.sh
+# 15640, or at the one in PORT: examples/session.sh
 set -u
 root=$(cd "$(dirname "$(readlink -f "$0")")/.." && pwd)
-address=127.0.0.1:${PORT:-45640}
+address=127.0.0.1:${PORT:-15640}
 "$root/fixpgw" --version >/dev/null || exit
 folder=$(mktemp -d)
 trap 'kill $venue $broker 2>/dev/null; rm -rf "$folder"' EXIT
@@ -15,16 +15,19 @@ cd "$folder" || exit
 "$root/fixpgw" format broker-out.jrn broker-in.jrn >said || { cat said; exit 1; }
 
 "$root/fixpgw" accept "$address" 10 "$root/examples/venue.toml" "$root/examples/reports.txt" \
-    venue-out.jrn venue-in.jrn venue.out >venue.said &
+    venue-out.jrn venue-in.jrn venue.out >venue.said 2>venue.told &
 venue=$!
 "$root/fixpgw" connect "$address" 10 "$root/examples/broker.toml" "$root/examples/session-orders.txt" \
-    broker-out.jrn broker-in.jrn broker.out >broker.said &
+    broker-out.jrn broker-in.jrn broker.out >broker.said 2>broker.told &
 broker=$!
 failed=0
 wait $venue || failed=1
 wait $broker || failed=1
-sed 's/^/venue: /' venue.said
-sed 's/^/broker: /' broker.said
+for end in venue broker; do
+    sed "s/^/$end: /" $end.said
+    # what an end tells of its run is of use where it goes wrong
+    [ $failed -eq 0 ] || sed "s/^/$end: /" $end.told >&2
+done
 
 # The messages of a journal, each as `NUMBER HEX`: those sent from an outbox, those applied from an inbox.
 sent() { "$root/fixpgw" journal "$1" "$2" - | sed -n 's/^entry \([0-9]*\) sender [0-9]* k [0-9]* /\1 /p'; }

@@ -1,9 +1,11 @@
 """Two ends of a session on this machine, for the trials beside this file: their files, their processes and their journals."""
-import os, signal, socket, subprocess, time
+import os, re, signal, socket, subprocess, time
 
 root = os.path.dirname(os.path.dirname(os.path.abspath(__file__)))
 program = os.path.join(root, "crates", "fixpgw", "out", "fixpgw")
 SESSION = "00112233-4455-6677-8899-aabbccddeeff"
+# the moment in front of a line that tells of a run, in UTC
+STAMP = r"^\d{4}-\d\d-\d\dT\d\d:\d\d:\d\d\.\d{3}Z "
 
 
 def build():
@@ -35,6 +37,18 @@ def configuration(client_flow, server_flow, senders, keepalive=1000):
             f'server_flow = "{server_flow}"\nsenders = {senders}\n')
 
 
+def parted(text):
+    """The lines on standard error that say how a run ended, and those with a moment in front, without it, that tell of the run."""
+    said, told = [], []
+    for line in text.splitlines():
+        moment = re.match(STAMP, line)
+        if moment:
+            told.append(line[moment.end() :])
+        else:
+            said.append(line)
+    return said, told
+
+
 class End:
     """One end: its files in a folder of its own, and its process while it runs."""
 
@@ -42,7 +56,7 @@ class End:
                  size=26, connections=65535, keepalive=1000):
         self.folder, self.command, self.senders, self.messages = folder, command, senders, messages
         self.words = [program, command, f"127.0.0.1:{port}", str(connections), "config.toml", "plans.txt", "out.jrn", "in.jrn", "out.txt"]
-        self.process, self.statuses, self.said = None, [], []
+        self.process, self.statuses, self.said, self.told = None, [], [], []
         os.mkdir(folder)
         with open(self.at("config.toml"), "w") as f:
             f.write(configuration(client_flow, server_flow, senders, keepalive))
@@ -54,8 +68,9 @@ class End:
         return os.path.join(self.folder, name)
 
     def start(self):
-        self.process = subprocess.Popen(self.words, cwd=self.folder, stdin=subprocess.DEVNULL, stdout=subprocess.DEVNULL,
-                                        stderr=subprocess.PIPE)
+        # a file, since what a process tells over many connections is more than a pipe holds
+        with open(self.at("said.txt"), "wb") as said:
+            self.process = subprocess.Popen(self.words, cwd=self.folder, stdin=subprocess.DEVNULL, stdout=subprocess.DEVNULL, stderr=said)
 
     def is_running(self):
         """Whether its process runs; the status of one that has ended is kept."""
@@ -68,10 +83,13 @@ class End:
         return False
 
     def reap(self):
-        said = self.process.communicate()[1].decode()
-        self.statuses.append(self.process.returncode)
+        """Keeps the status of a process that has ended, what it said of it, and what it told of its run."""
+        self.statuses.append(self.process.wait())
+        with open(self.at("said.txt")) as lines:
+            said, told = parted(lines.read())
+        self.told.append(told)
         if said:
-            self.said.append(said.strip())
+            self.said.append("\n".join(said))
         self.process = None
 
     def kill(self):
