@@ -7,6 +7,7 @@ use Rattle.std.proofs.lemmas.Bool.{ltb-true}
 use Rattle.session_model.proofs.Lists.{all_append}
 use Rattle.fixp_msgs.specs.Canonical.{IsLegal, FitsField}
 use Rattle.fixp_msgs.specs.Flow.{flow_code}
+use Rattle.fixp_msgs.specs.declared.messages.Expected.TheVariants as expects
 use Rattle.fixp_msgs.specs.Message.{Message, negotiate, negotiation_response, negotiation_reject, establish, establishment_ack, establishment_reject, sequence, unsequenced_heartbeat, retransmit_request, retransmission, retransmit_reject, applied, not_applied, finished_sending, finished_receiving, terminate}
 use Rattle.fixp_msgs.specs.Table.{Field, null}
 use Rattle.fixp_msgs.specs.declared.flow.Flow.{Flow}
@@ -81,7 +82,7 @@ pub legal_negotiate : (x : Around) (f : Facts) → Ready x f → IsLegal (openin
 legal_negotiate x f r = record { fields = (r.session, (fits_moment x f r, (fits_flow x.config.own_flow, tt))); datum = r.credentials }
 
 pub legal_establish : (x : Around) (f : Facts) → Ready x f → IsLegal (opening_establish x f)
-legal_establish x f r = record { fields = (r.session, (fits_moment x f r, (r.keepalive, (fits_announced x f r.sent, tt)))); datum = r.credentials }
+legal_establish x f r = record { fields = (r.session, (fits_moment x f r, (r.keepalive, (fits_announced x f r.sent, (tt, tt))))); datum = r.credentials }
 
 legal_skip : (x : Around) (f : Facts) (s : Option Range) → Ready x f → WithinMost x.most (skip_of s) → AllLegal (told_skip s)
 legal_skip x f None r within = tt
@@ -185,8 +186,8 @@ rejecting_establish x f id timestamp code own time small k = (record { fields = 
 
 acknowledging : (x : Around) (f : Facts) (timestamp keepalive : ℕ) (a : Announced) → Ready x f → timestamp < 2 ^ 64 → Legal x f (acknowledges x timestamp keepalive a)
 acknowledging x f timestamp keepalive a r time =
-    goes x f (skip_of a.skipped) (establishment_ack x.config.session timestamp x.config.keepalive (announced_number x a.facts) ∷ told_skip a.skipped) (established a.facts keepalive) r (λ k. (
-      record { fields = (r.session, (time, (r.keepalive, (fits_announced x a.facts (small k), tt)))); datum = tt },
+    goes x f (skip_of a.skipped) (establishment_ack x.config.session timestamp x.config.keepalive (announced_number x a.facts) expects.Absent ∷ told_skip a.skipped) (established a.facts keepalive) r (λ k. (
+      record { fields = (r.session, (time, (r.keepalive, (fits_announced x a.facts (small k), (tt, tt))))); datum = tt },
       legal_skip x f a.skipped r k.within,
     ))
   where
@@ -267,8 +268,8 @@ session_rows x f (negotiation_response id timestamp flow credentials) r m =
     own_rows (Legal x f) x f 2 id _ (λ e. ending x f f 2 e r (omega arith)) (all_within (Legal x f) (is_negotiating f.connection.phase) _ (λ _. (λ _. breaking x f f _ r, λ _. (λ _. shaking x f r, λ _. tt))))
 session_rows x f (negotiation_reject id timestamp code reason) r m =
     own_rows (Legal x f) x f 3 id _ (λ e. ending x f f 2 e r (omega arith)) (all_within (Legal x f) (is_negotiating f.connection.phase) _ (λ _. (λ _. shaking x f r, λ _. (λ _ _. tt, λ _. tt))))
-session_rows x f (establish id timestamp keepalive next credentials) r m = establish_all x f id timestamp keepalive next credentials r m.0 m.1.0
-session_rows x f (establishment_ack id timestamp keepalive next) r m =
+session_rows x f (establish id timestamp keepalive next expected credentials) r m = establish_all x f id timestamp keepalive next credentials r m.0 m.1.0
+session_rows x f (establishment_ack id timestamp keepalive next expected) r m =
     own_rows (Legal x f) x f 5 id _ (λ e. ending x f f 2 e r (omega arith)) (all_within (Legal x f) (is_establishing f.connection.phase) _ (λ _.
     announced_rows (Legal x f) x f 5 next (λ (a : Announced). goes_on x (skip_of a.skipped) (told_skip a.skipped) (established a.facts (min 60000 (max 100 keepalive)))) (refusing x f f r)
     (λ _. skipping x f (announced x f next).skipped (established (announced x f next).facts (min 60000 (max 100 keepalive))) r)))

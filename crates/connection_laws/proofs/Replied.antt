@@ -5,8 +5,10 @@ use Rattle.std.proofs.lemmas.Bool.{ltb-false}
 use Rattle.std.proofs.lemmas.Bool.Decides.{nat_tests}
 use Rattle.std.proofs.lemmas.Grind.{flat_map-append}
 use Rattle.session_model.specs.Events.{announce, handshake, BeginsWithHandshake}
+use Rattle.fixp_msgs.specs.declared.messages.Expected.{Expected}
 use Rattle.fixp_msgs.specs.declared.numbering.Range.{Range}
 use Rattle.fixp_msgs.specs.Flow.{flow_code}
+use Rattle.fixp_msgs.specs.declared.messages.Expected.TheVariants as expects
 use Rattle.fixp_msgs.specs.Message.{Message, negotiate, negotiation_response, negotiation_reject, establish, establishment_ack, establishment_reject, sequence, unsequenced_heartbeat, retransmit_request, retransmission, retransmit_reject, applied, not_applied, finished_sending, finished_receiving, terminate}
 use Rattle.flow_recover.specs.declared.receiver.Seen.{Seen}
 use Rattle.flow_recover.specs.declared.receiver.Seen.TheVariants.{Deliver, Gap, Repeat}
@@ -198,7 +200,7 @@ acknowledging : (x : Around) (f : Facts) (i : Incoming) (timestamp keepalive : �
     → is_shaken f.connection.phase ≡ false → Replies x f i (acknowledges x timestamp keepalive a)
 acknowledging x f i timestamp keepalive next a u e before =
     let g : Facts = established a.facts keepalive in
-    let ack : Message = establishment_ack x.config.session timestamp x.config.keepalive (announced_number x a.facts) in
+    let ack : Message = establishment_ack x.config.session timestamp x.config.keepalive (announced_number x a.facts) expects.Absent in
     record {
       writes = shakes (record {
         tells = events_asking x (ack ∷ told_skip a.skipped) (gap_to_ask g)
@@ -211,12 +213,12 @@ acknowledging x f i timestamp keepalive next a u e before =
       hears = hears_handshake f i (acknowledges x timestamp keepalive a) next e refl (ap (λ p. is_shaken p) (asked_phase g (gap_to_ask g)));
     }
 
-establish_all : (x : Around) (f : Facts) (id : List ℕ) (timestamp keepalive : ℕ) (next : Option ℕ) (credentials : List ℕ)
-    → AllRows (Replies x f (session (establish id timestamp keepalive next credentials))) (establish_rows_in x f id timestamp keepalive next credentials)
-establish_all x f id timestamp keepalive next credentials = by_place (awaits_client x f) (serves_client x f) refl
+establish_all : (x : Around) (f : Facts) (id : List ℕ) (timestamp keepalive : ℕ) (next : Option ℕ) (expected : Expected) (credentials : List ℕ)
+    → AllRows (Replies x f (session (establish id timestamp keepalive next expected credentials))) (establish_rows_in x f id timestamp keepalive next credentials)
+establish_all x f id timestamp keepalive next expected credentials = by_place (awaits_client x f) (serves_client x f) refl
   where
     i : Incoming
-    i = session (establish id timestamp keepalive next credentials)
+    i = session (establish id timestamp keepalive next expected credentials)
 
     P : Outcome → Type 0
     P = Replies x f i
@@ -374,9 +376,9 @@ session_rows x f (negotiation_reject id timestamp code reason) =
       λ _. shaking x f i refl (not_negotiated f.connection.phase n),
       λ _. (λ _. spares x f i _ refl refl (still f), λ _. tt),
     )))
-session_rows x f (establish id timestamp keepalive next credentials) = establish_all x f id timestamp keepalive next credentials
-session_rows x f (establishment_ack id timestamp keepalive next) =
-    let i = session (establishment_ack id timestamp keepalive next) in
+session_rows x f (establish id timestamp keepalive next expected credentials) = establish_all x f id timestamp keepalive next expected credentials
+session_rows x f (establishment_ack id timestamp keepalive next expected) =
+    let i = session (establishment_ack id timestamp keepalive next expected) in
     let interval : ℕ = min 60000 (max 100 keepalive) in
     own_rows (Replies x f i) x f 5 id _ (λ e. spares x f i _ refl refl (still f)) (all_within (Replies x f i) (is_establishing f.connection.phase) _ (λ n.
     announced_rows (Replies x f i) x f 5 next (λ (d : Announced). goes_on x (skip_of d.skipped) (told_skip d.skipped) (established d.facts interval)) (refusing x f f i (still f))

@@ -4,6 +4,7 @@ use Rattle.session_model.specs.Journal.{Entry}
 use Rattle.session_model.specs.Inbox.{InboxRecord, apply, skip}
 use Rattle.session_model.specs.Events.{announce, handshake, in_flow, message}
 use Rattle.fixp_msgs.specs.declared.flow.Flow.TheVariants as flows
+use Rattle.fixp_msgs.specs.declared.messages.Expected.TheVariants as expects
 use Rattle.fixp_msgs.specs.Message.{establishment_ack, retransmit_request}
 use Rattle.fixp_shake.specs.declared.config.Role.TheVariants as roles
 use Rattle.fixp_shake.specs.declared.config.EndConfig.{EndConfig}
@@ -51,7 +52,7 @@ outbox =
 -- and the peer asks for the second entry again
 abbrev pub calls : List Call
 calls =
-    frame (session (establishment_ack id 0 1000 (Some 4))) 0 1
+    frame (session (establishment_ack id 0 1000 (Some 4) expects.Absent)) 0 1
     ∷ did 1
     ∷ live (three ∷ []) 1
     ∷ frame (application reply) 44 2

@@ -2,12 +2,13 @@
 
 ghost use Rattle.std.specs.Prelude.{◌≡◌, []};
 ghost use Rattle.fixp_msgs.specs.Flow.{flow_code};
+ghost use Rattle.fixp_msgs.specs.declared.messages.Expected.TheVariants as expects;
 ghost use Rattle.fixp_msgs.specs.Message.{message_of, negotiate, negotiation_response, establish, establishment_ack, retransmit_request, retransmission};
 ghost use Rattle.fixp_replies.specs.Outgoing.{outgoing_message};
 
 use fixp_msgs::{
-    Applied, Establish, EstablishmentAck, EstablishmentReject, FinishedReceiving, FinishedSending,
-    Negotiate, NegotiationReject, NegotiationResponse, NotApplied, Retransmission,
+    Applied, Establish, EstablishmentAck, EstablishmentReject, Expected, FinishedReceiving,
+    FinishedSending, Negotiate, NegotiationReject, NegotiationResponse, NotApplied, Retransmission,
     RetransmitReject, RetransmitRequest, Sequence, SessionMsg, Terminate, UnsequencedHeartbeat,
 };
 use fixp_replies::Outgoing;
@@ -36,13 +37,14 @@ fn negotiation_response(config: &EndConfig, request_timestamp: u64) -> SessionMs
 }
 
 fn establish(config: &EndConfig, timestamp: u64, next_seq: Option<u64>) -> SessionMsg<'_>
-    ensures { message_of result ≡ establish config.now.session timestamp config.now.keepalive next_seq config.now.credentials }
+    ensures { message_of result ≡ establish config.now.session timestamp config.now.keepalive next_seq expects.Absent config.now.credentials }
 {
     SessionMsg::Establish(Establish {
         session_id: config.session,
         timestamp,
         keepalive: config.keepalive,
         next_seq,
+        expected_next: Expected::Absent,
         credentials: config.credentials.as_slice(),
     })
 }
@@ -52,13 +54,14 @@ fn establishment_ack(
     request_timestamp: u64,
     next_seq: Option<u64>,
 ) -> SessionMsg<'static>
-    ensures { message_of result ≡ establishment_ack config.now.session request_timestamp config.now.keepalive next_seq }
+    ensures { message_of result ≡ establishment_ack config.now.session request_timestamp config.now.keepalive next_seq expects.Absent }
 {
     SessionMsg::EstablishmentAck(EstablishmentAck {
         session_id: config.session,
         request_timestamp,
         keepalive: config.keepalive,
         next_seq,
+        expected_next: Expected::Absent,
     })
 }
 

@@ -6,10 +6,12 @@ use Rattle.session_model.specs.Inbox.{Numbered, InboxRecord, apply, applied, ski
 use Rattle.session_model.specs.Events.{Event, announce, handshake, in_flow, standing}
 use Rattle.session_model.specs.Growth.{GrownRecoverable}
 use Rattle.session_model.proofs.Inboxes.{next_number-append}
+use Rattle.fixp_msgs.specs.declared.messages.Expected.{Expected}
 use Rattle.fixp_msgs.specs.declared.numbering.Range.{Range}
 use Rattle.fixp_msgs.specs.declared.flow.Flow.{Flow}
 use Rattle.fixp_msgs.specs.declared.flow.Flow.TheVariants as flows
 use Rattle.fixp_msgs.specs.Flow.{flow_code}
+use Rattle.fixp_msgs.specs.declared.messages.Expected.TheVariants as expects
 use Rattle.fixp_msgs.specs.Message.{Message, negotiate, negotiation_response, negotiation_reject, establish, establishment_ack, establishment_reject, sequence, unsequenced_heartbeat, retransmit_request, retransmission, retransmit_reject, applied as applied_message, not_applied, finished_sending, finished_receiving, terminate}
 use Rattle.flow_recover.specs.declared.receiver.Seen.{Seen}
 use Rattle.flow_recover.specs.declared.receiver.Seen.TheVariants.{Deliver, Gap, Repeat}
@@ -147,12 +149,12 @@ handshaken x f template c inbox i next interval e a none =
     (announced_grows x.config.peer_flow x.most template c inbox i handshake next f (established (announced x f next).facts interval) a none
     (record { inbox_next = refl; receiver = refl; requester = refl; finish = refl; shaken = refl }))
 
-establish_all : (x : Around) (f : Facts) (id : List ℕ) (timestamp keepalive : ℕ) (next : Option ℕ) (credentials : List ℕ) (c : Option ℕ) (inbox : List InboxRecord) → Agrees x.config.peer_flow c f inbox
-    → AllRows (Leaves x.config.peer_flow c inbox (session (establish id timestamp keepalive next credentials))) (establish_rows_in x f id timestamp keepalive next credentials)
-establish_all x f id timestamp keepalive next credentials c inbox a = by_place (awaits_client x f) (serves_client x f)
+establish_all : (x : Around) (f : Facts) (id : List ℕ) (timestamp keepalive : ℕ) (next : Option ℕ) (expected : Expected) (credentials : List ℕ) (c : Option ℕ) (inbox : List InboxRecord) → Agrees x.config.peer_flow c f inbox
+    → AllRows (Leaves x.config.peer_flow c inbox (session (establish id timestamp keepalive next expected credentials))) (establish_rows_in x f id timestamp keepalive next credentials)
+establish_all x f id timestamp keepalive next expected credentials c inbox a = by_place (awaits_client x f) (serves_client x f)
   where
     i : Incoming
-    i = session (establish id timestamp keepalive next credentials)
+    i = session (establish id timestamp keepalive next expected credentials)
 
     P : Outcome → Type 0
     P = Leaves x.config.peer_flow c inbox i
@@ -160,7 +162,7 @@ establish_all x f id timestamp keepalive next credentials c inbox a = by_place (
     acknowledged : announcement_fault x f 4 next ≡ None → P (acknowledges x timestamp keepalive (announced x f next))
     acknowledged none =
         going x.config.peer_flow c inbox i x (skip_of (announced x f next).skipped)
-        (establishment_ack x.config.session timestamp x.config.keepalive (announced_number x (announced x f next).facts) ∷ told_skip (announced x f next).skipped)
+        (establishment_ack x.config.session timestamp x.config.keepalive (announced_number x (announced x f next).facts) expects.Absent ∷ told_skip (announced x f next).skipped)
         (established (announced x f next).facts keepalive)
         (handshaken x f 4 c inbox i next keepalive refl a none) (told_as (announced x f next).skipped i)
 
@@ -432,9 +434,9 @@ session_rows x f (negotiation_reject id timestamp code reason) c inbox a =
       λ _. shaking x.config.peer_flow c inbox i x f refl a (not_negotiated f.connection.phase n),
       λ _. (λ _. refused x.config.peer_flow c inbox i _ refl refl refl a, λ _. tt),
     )))
-session_rows x f (establish id timestamp keepalive next credentials) c inbox a = establish_all x f id timestamp keepalive next credentials c inbox a
-session_rows x f (establishment_ack id timestamp keepalive next) c inbox a =
-    let i = session (establishment_ack id timestamp keepalive next) in
+session_rows x f (establish id timestamp keepalive next expected credentials) c inbox a = establish_all x f id timestamp keepalive next expected credentials c inbox a
+session_rows x f (establishment_ack id timestamp keepalive next expected) c inbox a =
+    let i = session (establishment_ack id timestamp keepalive next expected) in
     let interval : ℕ = min 60000 (max 100 keepalive) in
     own_rows (Leaves x.config.peer_flow c inbox i) x f 5 id _ (λ e. refused x.config.peer_flow c inbox i _ refl refl refl a) (all_within (Leaves x.config.peer_flow c inbox i) (is_establishing f.connection.phase) _ (λ _.
     announced_rows (Leaves x.config.peer_flow c inbox i) x f 5 next (λ (d : Announced). goes_on x (skip_of d.skipped) (told_skip d.skipped) (established d.facts interval)) (refusing x.config.peer_flow c inbox i x f a)

@@ -5,6 +5,7 @@ use Rattle.std.specs.List.{AllByRecursion}
 use Rattle.std.proofs.lemmas.Bool.{ltb-false}
 use Rattle.fixp_msgs.specs.declared.numbering.Range.{Range}
 use Rattle.fixp_msgs.specs.Flow.{flow_code}
+use Rattle.fixp_msgs.specs.declared.messages.Expected.TheVariants as expects
 use Rattle.fixp_msgs.specs.Message.{Message, negotiate, negotiation_response, negotiation_reject, establish, establishment_ack, establishment_reject, sequence, unsequenced_heartbeat, retransmit_request, retransmission, retransmit_reject, applied, not_applied, finished_sending, finished_receiving, terminate}
 use Rattle.flow_recover.specs.declared.receiver.Seen.{Seen}
 use Rattle.flow_recover.specs.declared.receiver.Seen.TheVariants.{Deliver, Gap, Repeat}
@@ -62,9 +63,9 @@ not_null x f h = by_flow (is_sequenced x.config.own_flow)
 writes_terminate : (cfg : EndConfig) (code : ℕ) → Writes cfg (terminate cfg.session code [] ∷ [])
 writes_terminate cfg code = plain cfg (terminate cfg.session code []) refl (record { numbers = (tt, (tt, tt)); datum = omega arith })
 
-writes_ack : (x : Around) (f : Facts) (timestamp : ℕ) → f.recorded.sent < 2 ^ 40 → Writes x.config (establishment_ack x.config.session timestamp x.config.keepalive (announced_number x f) ∷ [])
-writes_ack x f timestamp h = plain x.config (establishment_ack x.config.session timestamp x.config.keepalive (announced_number x f)) refl
-    (record { numbers = (tt, (tt, (tt, (not_null x f h, tt)))); datum = tt })
+writes_ack : (x : Around) (f : Facts) (timestamp : ℕ) → f.recorded.sent < 2 ^ 40 → Writes x.config (establishment_ack x.config.session timestamp x.config.keepalive (announced_number x f) expects.Absent ∷ [])
+writes_ack x f timestamp h = plain x.config (establishment_ack x.config.session timestamp x.config.keepalive (announced_number x f) expects.Absent) refl
+    (record { numbers = (tt, (tt, (tt, (not_null x f h, (tt, tt))))); datum = tt })
 
 asks_not : (x : Around) (g : Option Range) → Writes x.config (request_for x g)
 asks_not x None = tt
@@ -83,7 +84,7 @@ writes_negotiate : (x : Around) → is_initiator x.config.role ≡ true → leng
 writes_negotiate x i h = (record { opening = λ _. i; writable = record { numbers = (tt, (tt, (tt, tt))); datum = h } }, tt)
 
 writes_establish : (x : Around) (f : Facts) → is_initiator x.config.role ≡ true → length x.config.credentials ≤ 2048 → f.recorded.sent < 2 ^ 40 → Writes x.config (opening_establish x f ∷ [])
-writes_establish x f i h sent = (record { opening = λ _. i; writable = record { numbers = (tt, (tt, (tt, (not_null x f sent, tt)))); datum = h } }, tt)
+writes_establish x f i h sent = (record { opening = λ _. i; writable = record { numbers = (tt, (tt, (tt, (not_null x f sent, (tt, tt))))); datum = h } }, tt)
 
 asked_sound : (cfg : EndConfig) (f : Facts) (g : Option Range) → Sound cfg f → Sound cfg (having_asked f g)
 asked_sound cfg f None s = s
@@ -378,9 +379,9 @@ establish_all x f id timestamp keepalive next credentials s = by_place (awaits_c
 
     acknowledged : (a : Announced) → Fits x f a → P (acknowledges x timestamp keepalive a)
     acknowledged a fits =
-        going x f (established a.facts keepalive) (skip_of a.skipped) (establishment_ack x.config.session timestamp x.config.keepalive (announced_number x a.facts) ∷ told_skip a.skipped)
+        going x f (established a.facts keepalive) (skip_of a.skipped) (establishment_ack x.config.session timestamp x.config.keepalive (announced_number x a.facts) expects.Absent ∷ told_skip a.skipped)
         (done x.config a.facts keepalive fits.sound) fits.sent fits.advances fits.within
-        (writes_behind x.config (establishment_ack x.config.session timestamp x.config.keepalive (announced_number x a.facts) ∷ []) (told_skip a.skipped)
+        (writes_behind x.config (establishment_ack x.config.session timestamp x.config.keepalive (announced_number x a.facts) expects.Absent ∷ []) (told_skip a.skipped)
         (writes_ack x a.facts timestamp fits.sound.sent) (tells_not x.config a.skipped))
 
     first : AllRows P (establish_rows x f id timestamp keepalive next credentials)
@@ -433,8 +434,8 @@ session_rows x f (negotiation_reject id timestamp code reason) s =
       λ _. shaking x f (awaits_as_initiator x.config f s (or_left (is_negotiating f.connection.phase) (is_establishing f.connection.phase) n)) s,
       λ _. (λ _. rejecting x f (endings.Rejected 3 code) s, λ _. tt),
     )))
-session_rows x f (establish id timestamp keepalive next credentials) s = establish_all x f id timestamp keepalive next credentials s
-session_rows x f (establishment_ack id timestamp keepalive next) s =
+session_rows x f (establish id timestamp keepalive next expected credentials) s = establish_all x f id timestamp keepalive next credentials s
+session_rows x f (establishment_ack id timestamp keepalive next expected) s =
     let interval : ℕ = min 60000 (max 100 keepalive) in
     own_rows (KeepsSound x.config x.most f) x f 5 id _ (λ e. ending x f 2 e s) (all_within (KeepsSound x.config x.most f) (is_establishing f.connection.phase) _ (λ _.
     announced_rows (KeepsSound x.config x.most f) x f 5 next (λ (a : Announced). goes_on x (skip_of a.skipped) (told_skip a.skipped) (established a.facts interval)) (refusing x f s)

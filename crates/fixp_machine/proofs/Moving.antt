@@ -7,6 +7,7 @@ use Rattle.fixp_msgs.specs.declared.flow.Flow.{Flow}
 use Rattle.fixp_msgs.specs.declared.flow.Flow.TheVariants as flows
 use Rattle.fixp_msgs.specs.declared.numbering.Range.{Range}
 use Rattle.fixp_msgs.specs.Flow.{flow_code}
+use Rattle.fixp_msgs.specs.declared.messages.Expected.TheVariants as expects
 use Rattle.fixp_msgs.specs.Message.{Message, negotiate, negotiation_response, negotiation_reject, establish, establishment_ack, establishment_reject, sequence, unsequenced_heartbeat, retransmit_request, retransmission, retransmit_reject, applied, not_applied, finished_sending, finished_receiving, terminate}
 use Rattle.flow_recover.specs.declared.receiver.Seen.{Seen}
 use Rattle.flow_recover.specs.declared.receiver.Seen.TheVariants.{Deliver, Gap, Repeat}
@@ -301,7 +302,7 @@ establish_all : (x : Around) (f : Facts) (i : Incoming) (id : List ℕ) (timesta
 establish_all x f i id timestamp keepalive next credentials = by_place (awaits_client x f) (serves_client x f)
   where
     acknowledged : (a : Announced) → Announces x f a → Moves x f i (acknowledges x timestamp keepalive a)
-    acknowledged a is = follows x f i a (established a.facts keepalive) (establishment_ack x.config.session timestamp x.config.keepalive (announced_number x a.facts) ∷ told_skip a.skipped) is refl refl
+    acknowledged a is = follows x f i a (established a.facts keepalive) (establishment_ack x.config.session timestamp x.config.keepalive (announced_number x a.facts) expects.Absent ∷ told_skip a.skipped) is refl refl
 
     first : AllRows (Moves x f i) (establish_rows x f id timestamp keepalive next credentials)
     first = (
@@ -346,9 +347,9 @@ session_rows x f (negotiation_response id timestamp flow credentials) s =
 session_rows x f (negotiation_reject id timestamp code reason) s =
     let i : Incoming = session (negotiation_reject id timestamp code reason) in
     own_rows (Moves x f i) x f 3 id _ (λ e. ending x f i _ e) (all_within (Moves x f i) (is_negotiating f.connection.phase) _ (λ _. (λ _. shaking x f i, λ _. (λ _. ending x f i _ _, λ _. tt))))
-session_rows x f (establish id timestamp keepalive next credentials) s = establish_all x f (session (establish id timestamp keepalive next credentials)) id timestamp keepalive next credentials
-session_rows x f (establishment_ack id timestamp keepalive next) s =
-    let i : Incoming = session (establishment_ack id timestamp keepalive next) in
+session_rows x f (establish id timestamp keepalive next expected credentials) s = establish_all x f (session (establish id timestamp keepalive next expected credentials)) id timestamp keepalive next credentials
+session_rows x f (establishment_ack id timestamp keepalive next expected) s =
+    let i : Incoming = session (establishment_ack id timestamp keepalive next expected) in
     let interval : ℕ = min 60000 (max 100 keepalive) in
     own_rows (Moves x f i) x f 5 id _ (λ e. ending x f i _ e) (all_within (Moves x f i) (is_establishing f.connection.phase) _ (λ _.
     announced_rows (Moves x f i) x f 5 next (λ (a : Announced). goes_on x (skip_of a.skipped) (told_skip a.skipped) (established a.facts interval)) (refusing x f i)

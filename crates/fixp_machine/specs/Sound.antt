@@ -38,8 +38,8 @@ abbrev pub is_opening : Message → Bool
 is_opening (negotiate _ _ _ _) = true
 is_opening (negotiation_response _ _ _ _) = false
 is_opening (negotiation_reject _ _ _ _) = false
-is_opening (establish _ _ _ _ _) = true
-is_opening (establishment_ack _ _ _ _) = false
+is_opening (establish _ _ _ _ _ _) = true
+is_opening (establishment_ack _ _ _ _ _) = false
 is_opening (establishment_reject _ _ _ _) = false
 is_opening (sequence _) = false
 is_opening unsequenced_heartbeat = false

@@ -6,7 +6,7 @@ use Rattle.std.specs.List.{AllByRecursion}
 use Rattle.fixp_msgs.specs.declared.messages.SessionMsg.{SessionMsg}
 use Rattle.fixp_msgs.specs.declared.reading.MsgFault.{MsgFault}
 use Rattle.fixp_msgs.specs.declared.reading.MsgFault.TheVariants.{BadTemplate, Short}
-use Rattle.fixp_msgs.specs.Header.{block_length_in, template_in, schema_in, session_schema}
+use Rattle.fixp_msgs.specs.Header.{block_length_in, template_in, schema_in, version_in, session_schema}
 use Rattle.fixp_msgs.specs.Message.{Message, message_of}
 use Rattle.fixp_msgs.specs.Table.{row_of, block_size, templates, is_template}
 use Rattle.fixp_msgs.specs.Grammar.{Spells, HoldsAll, HasDatum}
@@ -17,60 +17,65 @@ use Rattle.fixp_msgs.proofs.Rows.{of_template, is_template-row, spelled_at}
 
 -- a template's message has its template, and its fields and its datum are those of the bytes
 record FitsRow (id : ℕ) : Type 0 where
-  template : (block behind : List ℕ) → id ≡ (row_of (message_at id block behind)).template
-  fields : (block behind : List ℕ) → HoldsAll block 0 (row_of (message_at id block behind)).fields
-  datum : (block behind : List ℕ) → has_datum (row_of (message_at id block behind)).datum behind ≡ true → HasDatum behind (row_of (message_at id block behind)).datum
+  template : (version : ℕ) (block behind : List ℕ) → id ≡ (row_of (message_at version id block behind)).template
+  fields : (version : ℕ) (block behind : List ℕ) → HoldsAll version block 0 (row_of (message_at version id block behind)).fields
+  datum : (version : ℕ) (block behind : List ℕ) → has_datum (row_of (message_at version id block behind)).datum behind ≡ true
+      → HasDatum behind (row_of (message_at version id block behind)).datum
 
 fits-1 : FitsRow 1
-fits-1 = record { template = λ block behind. refl; fields = λ block behind. (refl, (refl, (refl, tt))); datum = λ block behind e. record { whole = leb-true _ _ e; value = refl } }
+fits-1 = record { template = λ version block behind. refl; fields = λ version block behind. (refl, (refl, (refl, tt))); datum = λ version block behind e. record { whole = leb-true _ _ e; value = refl } }
 
 fits-2 : FitsRow 2
-fits-2 = record { template = λ block behind. refl; fields = λ block behind. (refl, (refl, (refl, tt))); datum = λ block behind e. record { whole = leb-true _ _ e; value = refl } }
+fits-2 = record { template = λ version block behind. refl; fields = λ version block behind. (refl, (refl, (refl, tt))); datum = λ version block behind e. record { whole = leb-true _ _ e; value = refl } }
 
 fits-3 : FitsRow 3
-fits-3 = record { template = λ block behind. refl; fields = λ block behind. (refl, (refl, (refl, tt))); datum = λ block behind e. record { whole = leb-true _ _ e; value = refl } }
+fits-3 = record { template = λ version block behind. refl; fields = λ version block behind. (refl, (refl, (refl, tt))); datum = λ version block behind e. record { whole = leb-true _ _ e; value = refl } }
 
 fits-4 : FitsRow 4
-fits-4 = record { template = λ block behind. refl; fields = λ block behind. (refl, (refl, (refl, (refl, tt)))); datum = λ block behind e. record { whole = leb-true _ _ e; value = refl } }
+fits-4 = record { template = λ version block behind. refl; fields = λ version block behind. (refl, (refl, (refl, (refl, (refl, tt))))); datum = λ version block behind e. record { whole = leb-true _ _ e; value = refl } }
 
 fits-5 : FitsRow 5
-fits-5 = record { template = λ block behind. refl; fields = λ block behind. (refl, (refl, (refl, (refl, tt)))); datum = λ block behind e. tt }
+fits-5 = record { template = λ version block behind. refl; fields = λ version block behind. (refl, (refl, (refl, (refl, (refl, tt))))); datum = λ version block behind e. tt }
 
 fits-6 : FitsRow 6
-fits-6 = record { template = λ block behind. refl; fields = λ block behind. (refl, (refl, (refl, tt))); datum = λ block behind e. record { whole = leb-true _ _ e; value = refl } }
+fits-6 = record { template = λ version block behind. refl; fields = λ version block behind. (refl, (refl, (refl, tt))); datum = λ version block behind e. record { whole = leb-true _ _ e; value = refl } }
 
 fits-7 : FitsRow 7
-fits-7 = record { template = λ block behind. refl; fields = λ block behind. (refl, tt); datum = λ block behind e. tt }
+fits-7 = record { template = λ version block behind. refl; fields = λ version block behind. (refl, tt); datum = λ version block behind e. tt }
 
 fits-8 : FitsRow 8
-fits-8 = record { template = λ block behind. refl; fields = λ block behind. tt; datum = λ block behind e. tt }
+fits-8 = record { template = λ version block behind. refl; fields = λ version block behind. tt; datum = λ version block behind e. tt }
 
 fits-9 : FitsRow 9
-fits-9 = record { template = λ block behind. refl; fields = λ block behind. (refl, (refl, (refl, (refl, tt)))); datum = λ block behind e. tt }
+fits-9 = record { template = λ version block behind. refl; fields = λ version block behind. (refl, (refl, (refl, (refl, tt)))); datum = λ version block behind e. tt }
 
 fits-10 : FitsRow 10
-fits-10 = record { template = λ block behind. refl; fields = λ block behind. (refl, (refl, (refl, (refl, tt)))); datum = λ block behind e. tt }
+fits-10 = record { template = λ version block behind. refl; fields = λ version block behind. (refl, (refl, (refl, (refl, tt)))); datum = λ version block behind e. tt }
 
 fits-11 : FitsRow 11
-fits-11 = record { template = λ block behind. refl; fields = λ block behind. (refl, (refl, (refl, tt))); datum = λ block behind e. record { whole = leb-true _ _ e; value = refl } }
+fits-11 = record { template = λ version block behind. refl; fields = λ version block behind. (refl, (refl, (refl, tt))); datum = λ version block behind e. record { whole = leb-true _ _ e; value = refl } }
 
 fits-12 : FitsRow 12
-fits-12 = record { template = λ block behind. refl; fields = λ block behind. (refl, (refl, tt)); datum = λ block behind e. tt }
+fits-12 = record { template = λ version block behind. refl; fields = λ version block behind. (refl, (refl, tt)); datum = λ version block behind e. tt }
 
 fits-13 : FitsRow 13
-fits-13 = record { template = λ block behind. refl; fields = λ block behind. (refl, (refl, tt)); datum = λ block behind e. tt }
+fits-13 = record { template = λ version block behind. refl; fields = λ version block behind. (refl, (refl, tt)); datum = λ version block behind e. tt }
 
 fits-14 : FitsRow 14
-fits-14 = record { template = λ block behind. refl; fields = λ block behind. (refl, (refl, tt)); datum = λ block behind e. tt }
+fits-14 = record { template = λ version block behind. refl; fields = λ version block behind. (refl, (refl, tt)); datum = λ version block behind e. tt }
 
 fits-15 : FitsRow 15
-fits-15 = record { template = λ block behind. refl; fields = λ block behind. (refl, tt); datum = λ block behind e. tt }
+fits-15 = record { template = λ version block behind. refl; fields = λ version block behind. (refl, tt); datum = λ version block behind e. tt }
 
 fits-16 : FitsRow 16
-fits-16 = record { template = λ block behind. refl; fields = λ block behind. (refl, (refl, tt)); datum = λ block behind e. record { whole = leb-true _ _ e; value = refl } }
+fits-16 = record { template = λ version block behind. refl; fields = λ version block behind. (refl, (refl, tt)); datum = λ version block behind e. record { whole = leb-true _ _ e; value = refl } }
 
 fits-rows : AllByRecursion FitsRow templates
 fits-rows = (fits-1, (fits-2, (fits-3, (fits-4, (fits-5, (fits-6, (fits-7, (fits-8, (fits-9, (fits-10, (fits-11, (fits-12, (fits-13, (fits-14, (fits-15, (fits-16, tt))))))))))))))))
+
+-- the fields of a template's message are those of the bytes
+pub fields_at : (version id : ℕ) (block behind : List ℕ) → is_template id ≡ true → HoldsAll version block 0 (row_of (message_at version id block behind)).fields
+fields_at version id block behind one = (of_template FitsRow fits-rows id one).fields version block behind
 
 if-true : {A : Type 0} (b : Bool) (x y : A) → b ≡ true → (if b then x else y) ≡ x
 if-true true x y e = refl
@@ -95,15 +100,15 @@ found bytes m s =
     let size = block_length_in bytes in
     let block = take size (drop 8 bytes) in
     let behind = drop size (drop 8 bytes) in
-    let same : m ≡ message_at (template_in bytes) block behind = spelled_at bytes m s in
+    let same : m ≡ message_at (version_in bytes) (template_in bytes) block behind = spelled_at bytes m s in
     let one : is_template (template_in bytes) ≡ true = ap is_template s.template ∙ is_template-row m in
     let session : (schema_in bytes == session_schema) ≡ true = ap (λ n. n == session_schema) s.schema in
-    let covers : nat_le (block_size (row_of (message_at (template_in bytes) block behind))) size ≡ true =
+    let covers : nat_le (block_size (row_of (message_at (version_in bytes) (template_in bytes) block behind))) size ≡ true =
     ap (λ x. nat_le (block_size (row_of x)) size) (sym same) ∙ le-leb (block_size (row_of m)) size s.body.stands.covers in
     let whole : nat_le (8 + size) (length bytes) ≡ true = le-leb (8 + size) (length bytes) s.body.stands.whole in
-    let datum : has_datum (row_of (message_at (template_in bytes) block behind)).datum behind ≡ true =
+    let datum : has_datum (row_of (message_at (version_in bytes) (template_in bytes) block behind)).datum behind ≡ true =
     ap (λ x. has_datum (row_of x).datum behind) (sym same) ∙ ap (has_datum (row_of m).datum) (sym s.body.stands.rest) ∙ has_datum-true (row_of m).datum s.body.behind s.body.datum in
-    if-true _ (Some (message_at (template_in bytes) block behind)) None (and_from _ _ one (and_from _ _ session (and_from _ _ covers (and_from _ _ whole datum))))
+    if-true _ (Some (message_at (version_in bytes) (template_in bytes) block behind)) None (and_from _ _ one (and_from _ _ session (and_from _ _ covers (and_from _ _ whole datum))))
     ∙ ap Some (sym same)
 
 -- what is found is spelled
@@ -113,21 +118,21 @@ spelled bytes m e =
     let size = block_length_in bytes in
     let block = take size (drop 8 bytes) in
     let behind = drop size (drop 8 bytes) in
-    let picked = test-some _ (message_at (template_in bytes) block behind) m e in
+    let picked = test-some _ (message_at (version_in bytes) (template_in bytes) block behind) m e in
     let one = and-parts _ _ picked.0 in
     let session = and-parts _ _ one.1 in
     let covers = and-parts _ _ session.1 in
     let whole = and-parts _ _ covers.1 in
     let row = of_template FitsRow fits-rows (template_in bytes) one.0 in
     subst (Spells bytes) picked.1 (record {
-      template = row.template block behind;
+      template = row.template (version_in bytes) block behind;
       schema = eqb-true (schema_in bytes) session_schema session.0;
       body = record {
         block = block;
         behind = behind;
         stands = record { covers = leb-true _ _ covers.0; whole = leb-true _ _ whole.0; stated = refl; rest = refl };
-        fields = row.fields block behind;
-        datum = row.datum block behind whole.1;
+        fields = row.fields (version_in bytes) block behind;
+        datum = row.datum (version_in bytes) block behind whole.1;
       };
     })
 

@@ -27,11 +27,11 @@ datum_most : (datum : Option (List ℕ)) → IfSome datum (λ t. length t ≤ 20
 datum_most None _ = lit≤ tt
 datum_most (Some datum) short = omega arith
 
--- every frame has its two headers, and a legal one has at most 2,100 bytes
+-- every frame has its two headers, and a legal one has at most 2,108 bytes
 pub frame_bytes_least : (m : Message) → 14 ≤ length (frame_bytes m)
 frame_bytes_least m =
     let block : List ℕ = flat_map field_bytes (row_of m).fields in
     omega (arith, length-with_datum (header_bytes (row_of m) ++ block) (row_of m).datum)
 
-pub frame_bytes_most : (m : Message) → IsLegal m → length (frame_bytes m) ≤ 2100
+pub frame_bytes_most : (m : Message) → IsLegal m → length (frame_bytes m) ≤ 2108
 frame_bytes_most m legal = omega (arith, length-frame_bytes m legal, (bounds m).block, datum_most (row_of m).datum legal.datum)

@@ -8,10 +8,12 @@ use Rattle.std.proofs.lemmas.Nat.{from_le_bytes-to_le_bytes_2, from_le_bytes-to_
 use Rattle.std.specs.Prelude.{sum_by}
 use Rattle.std.specs.Int.{w16, w64, from_le_bytes, to_le_bytes}
 use Rattle.std.specs.List.{flat_map, AllByRecursion}
-use Rattle.fixp_msgs.specs.Header.{block_length_in}
+use Rattle.fixp_msgs.specs.declared.messages.Expected.{Expected}
+use Rattle.fixp_msgs.specs.declared.messages.Expected.TheVariants.{Absent, Null, Number}
+use Rattle.fixp_msgs.specs.Header.{block_length_in, version_in}
 use Rattle.fixp_msgs.specs.Message.{Message}
-use Rattle.fixp_msgs.specs.Table.{Field, row_of, size_of, block_size, null}
-use Rattle.fixp_msgs.specs.Grammar.{Spells, IsBlock, Holds, HoldsAll, HasDatum, unless_null}
+use Rattle.fixp_msgs.specs.Table.{Field, row_of, size_of, block_size, version_of, null}
+use Rattle.fixp_msgs.specs.Grammar.{Spells, IsBlock, Holds, HoldsAll, HasDatum, unless_null, expected_at}
 use Rattle.fixp_msgs.specs.Canonical.{field_bytes, with_datum, header_bytes, message_bytes, FitsField, IsLegal}
 use Rattle.fixp_msgs.proofs.Rows.{bounds}
 
@@ -21,6 +23,9 @@ length-field_bytes (Field.u8 n) fits = refl
 length-field_bytes (Field.u32 n) fits = refl
 length-field_bytes (Field.u64 n) fits = refl
 length-field_bytes (Field.optional n) fits = refl
+length-field_bytes (Field.expected Absent) fits = refl
+length-field_bytes (Field.expected Null) fits = refl
+length-field_bytes (Field.expected (Number n)) fits = refl
 
 -- the fields of a block take its bytes
 pub length-fields : (fs : List Field) → AllByRecursion FitsField fs → length (flat_map field_bytes fs) ≡ sum_by size_of fs
@@ -34,30 +39,75 @@ optional-again : (n : Option ℕ) → IfSome n (λ k. k < null) → n ≡ unless
 optional-again None fits = refl
 optional-again (Some k) fits = rw (from_le_bytes-to_le_bytes_8 k (omega arith)) (grind (arith, common_steps))
 
+-- the version is the one that has the field
+abbrev Agrees : ℕ → Field → Type 0
+Agrees version (Field.identifier id) = Unit {0}
+Agrees version (Field.u8 n) = Unit {0}
+Agrees version (Field.u32 n) = Unit {0}
+Agrees version (Field.u64 n) = Unit {0}
+Agrees version (Field.optional n) = Unit {0}
+Agrees version (Field.expected Absent) = version ≡ 0
+Agrees version (Field.expected Null) = version ≡ 1
+Agrees version (Field.expected (Number n)) = version ≡ 1
+
+row-agrees : (m : Message) → AllByRecursion (Agrees (version_of (row_of m))) (row_of m).fields
+row-agrees (Message.negotiate _ _ _ _) = (tt, (tt, (tt, tt)))
+row-agrees (Message.negotiation_response _ _ _ _) = (tt, (tt, (tt, tt)))
+row-agrees (Message.negotiation_reject _ _ _ _) = (tt, (tt, (tt, tt)))
+row-agrees (Message.establish _ _ _ _ Absent _) = (tt, (tt, (tt, (tt, (refl, tt)))))
+row-agrees (Message.establish _ _ _ _ Null _) = (tt, (tt, (tt, (tt, (refl, tt)))))
+row-agrees (Message.establish _ _ _ _ (Number n) _) = (tt, (tt, (tt, (tt, (refl, tt)))))
+row-agrees (Message.establishment_ack _ _ _ _ Absent) = (tt, (tt, (tt, (tt, (refl, tt)))))
+row-agrees (Message.establishment_ack _ _ _ _ Null) = (tt, (tt, (tt, (tt, (refl, tt)))))
+row-agrees (Message.establishment_ack _ _ _ _ (Number n)) = (tt, (tt, (tt, (tt, (refl, tt)))))
+row-agrees (Message.establishment_reject _ _ _ _) = (tt, (tt, (tt, tt)))
+row-agrees (Message.sequence _) = (tt, tt)
+row-agrees Message.unsequenced_heartbeat = tt
+row-agrees (Message.retransmit_request _ _ _ _) = (tt, (tt, (tt, (tt, tt))))
+row-agrees (Message.retransmission _ _ _ _) = (tt, (tt, (tt, (tt, tt))))
+row-agrees (Message.retransmit_reject _ _ _ _) = (tt, (tt, (tt, tt)))
+row-agrees (Message.applied _ _) = (tt, (tt, tt))
+row-agrees (Message.not_applied _ _) = (tt, (tt, tt))
+row-agrees (Message.finished_sending _ _) = (tt, (tt, tt))
+row-agrees (Message.finished_receiving _) = (tt, tt)
+row-agrees (Message.terminate _ _ _) = (tt, (tt, tt))
+
+-- an expected number is read again by its version, and by version 0 none is
+expected-again : (version : ℕ) (e : Expected) (rest : List ℕ) → FitsField (Field.expected e) → Agrees version (Field.expected e)
+    → e ≡ expected_at version (from_le_bytes w64 (field_bytes (Field.expected e) ++ rest))
+expected-again version Absent rest fits is = subst (λ v. Absent ≡ expected_at v (from_le_bytes w64 rest)) (sym is) refl
+expected-again version Null rest fits is = subst (λ v. Null ≡ expected_at v (from_le_bytes w64 (to_le_bytes w64 null))) (sym is) refl
+expected-again version (Number k) rest fits is =
+    subst (λ v. Number k ≡ expected_at v (from_le_bytes w64 (to_le_bytes w64 k))) (sym is)
+    (rw (from_le_bytes-to_le_bytes_8 k (omega arith)) (grind (arith, common_steps)))
+
 -- a field's bytes hold its value, whatever follows them
-holds_first : (f : Field) (rest : List ℕ) → FitsField f → Holds (field_bytes f ++ rest) 0 f
-holds_first (Field.identifier id) rest fits = sym (subst (λ n. take n (id ++ rest) ≡ id) fits (take-append_seam id rest))
-holds_first (Field.u8 n) rest fits = omega arith
-holds_first (Field.u32 n) rest fits = sym (from_le_bytes-to_le_bytes_4 n fits)
-holds_first (Field.u64 n) rest fits = sym (from_le_bytes-to_le_bytes_8 n fits)
-holds_first (Field.optional n) rest fits = optional-again n fits
+holds_first : (version : ℕ) (f : Field) (rest : List ℕ) → FitsField f → Agrees version f → Holds version (field_bytes f ++ rest) 0 f
+holds_first version (Field.identifier id) rest fits _ = sym (subst (λ n. take n (id ++ rest) ≡ id) fits (take-append_seam id rest))
+holds_first version (Field.u8 n) rest fits _ = omega arith
+holds_first version (Field.u32 n) rest fits _ = sym (from_le_bytes-to_le_bytes_4 n fits)
+holds_first version (Field.u64 n) rest fits _ = sym (from_le_bytes-to_le_bytes_8 n fits)
+holds_first version (Field.optional n) rest fits _ = optional-again n fits
+holds_first version (Field.expected e) rest fits is = expected-again version e rest fits is
 
 -- a field is where the bytes before it end
-holds_behind : (f : Field) (front bytes : List ℕ) → Holds bytes 0 f → Holds (front ++ bytes) (length front) f
-holds_behind (Field.identifier id) front bytes h = rw (drop-append_seam front bytes) h
-holds_behind (Field.u8 n) front bytes h = rw (drop-append_seam front bytes) h
-holds_behind (Field.u32 n) front bytes h = rw (drop-append_seam front bytes) h
-holds_behind (Field.u64 n) front bytes h = rw (drop-append_seam front bytes) h
-holds_behind (Field.optional n) front bytes h = rw (drop-append_seam front bytes) h
+holds_behind : (version : ℕ) (f : Field) (front bytes : List ℕ) → Holds version bytes 0 f → Holds version (front ++ bytes) (length front) f
+holds_behind version (Field.identifier id) front bytes h = rw (drop-append_seam front bytes) h
+holds_behind version (Field.u8 n) front bytes h = rw (drop-append_seam front bytes) h
+holds_behind version (Field.u32 n) front bytes h = rw (drop-append_seam front bytes) h
+holds_behind version (Field.u64 n) front bytes h = rw (drop-append_seam front bytes) h
+holds_behind version (Field.optional n) front bytes h = rw (drop-append_seam front bytes) h
+holds_behind version (Field.expected e) front bytes h = rw (drop-append_seam front bytes) h
 
 -- every field of the block is read again
-holds_all : (fs : List Field) (front : List ℕ) → AllByRecursion FitsField fs → HoldsAll (front ++ flat_map field_bytes fs) (length front) fs
-holds_all [] front _ = tt
-holds_all (f ∷ fs) front (fits, all) =
-    let P : ℕ → List ℕ → Type 0 = λ n bytes. HoldsAll bytes n fs in (
-      holds_behind f front (field_bytes f ++ flat_map field_bytes fs) (holds_first f (flat_map field_bytes fs) fits),
+holds_all : (version : ℕ) (fs : List Field) (front : List ℕ) → AllByRecursion FitsField fs → AllByRecursion (Agrees version) fs
+    → HoldsAll version (front ++ flat_map field_bytes fs) (length front) fs
+holds_all version [] front _ _ = tt
+holds_all version (f ∷ fs) front (fits, all) (agrees, more) =
+    let P : ℕ → List ℕ → Type 0 = λ n bytes. HoldsAll version bytes n fs in (
+      holds_behind version f front (field_bytes f ++ flat_map field_bytes fs) (holds_first version f (flat_map field_bytes fs) fits agrees),
       subst (λ n. P n (front ++ (field_bytes f ++ flat_map field_bytes fs))) (length-append front (field_bytes f) ∙ ap (λ n. length front + n) (length-field_bytes f fits))
-          (subst (P (length (front ++ field_bytes f))) (append_assoc front (field_bytes f) (flat_map field_bytes fs)) (holds_all fs (front ++ field_bytes f) all)),
+          (subst (P (length (front ++ field_bytes f))) (append_assoc front (field_bytes f) (flat_map field_bytes fs)) (holds_all version fs (front ++ field_bytes f) all more)),
     )
 
 -- a datum is read again, whatever follows it
@@ -90,6 +140,7 @@ written_spells m after legal =
     let r = row_of m in
     let small = bounds m in
     let size : from_le_bytes w16 (to_le_bytes w16 (block_size r)) ≡ block_size r = from_le_bytes-to_le_bytes_2 (block_size r) (omega (arith, small.block)) in
+    let version : from_le_bytes w16 (to_le_bytes w16 (version_of r)) ≡ version_of r = from_le_bytes-to_le_bytes_2 (version_of r) (omega (arith, small.version)) in
     let block : List ℕ = flat_map field_bytes r.fields in
     let behind : List ℕ = with_datum [] r.datum ++ after in
     let whole : message_bytes m ++ after ≡ header_bytes r ++ (block ++ behind) = with_datum-append (header_bytes r ++ block) r.datum after in
@@ -101,7 +152,7 @@ written_spells m after legal =
         block = block;
         behind = behind;
         stands = is_block (header_bytes r ++ (block ++ behind)) block behind (block_size r) refl (omega (arith, length-append block behind)) size (length-fields r.fields legal.fields);
-        fields = holds_all r.fields [] legal.fields;
+        fields = subst (λ v. HoldsAll v block 0 r.fields) (sym version) (holds_all (version_of r) r.fields [] legal.fields (row-agrees m));
         datum = has_datum r.datum after legal.datum;
       };
     })
@@ -109,6 +160,11 @@ written_spells m after legal =
 -- parts that were put one after another, as one list
 pub joined : (head id t k o : List ℕ) {x₀ x₁ x₂ : List ℕ} → x₀ ≡ head ++ (id ++ t) → x₁ ≡ x₀ ++ k → x₂ ≡ x₁ ++ o → x₂ ≡ head ++ (id ++ (t ++ (k ++ o)))
 joined head id t k o a b c = rw (c, b, a) (simp append_assoc)
+
+-- the same of the parts of EstablishmentAck
+pub joined_all : (head id t k o e : List ℕ) {x₀ x₁ x₂ x₃ x₄ x₅ : List ℕ} → x₀ ≡ head → x₁ ≡ x₀ ++ id → x₂ ≡ x₁ ++ t → x₃ ≡ x₂ ++ k → x₄ ≡ x₃ ++ o → x₅ ≡ x₄ ++ e
+    → x₅ ≡ head ++ (id ++ (t ++ (k ++ (o ++ (e ++ [])))))
+joined_all head id t k o e a b c d f g = rw (g, f, d, c, b, a) (simp (append_assoc, append-nil))
 
 -- the same with nothing behind it
 pub message_spells : (m : Message) → IsLegal m → Spells (message_bytes m) m

@@ -1,11 +1,12 @@
--- The one way in which a session message is written: version 0, no padding, nothing behind the last
--- element (SBE 1.0), in a frame of its own (Simple Open Framing Header 1.0).
-use Rattle.std.specs.Prelude.{◌≡◌, ◌≢◌, ℕ, ◌+◌, ◌<◌, ◌≤◌, ◌^◌, List, ◌++◌, Option, Some, None, IfSome, unwrap_or, length}
+-- The one way in which a session message is written: the lowest version that has its elements, no padding, nothing behind
+-- the last element (SBE 1.0), in a frame of its own (Simple Open Framing Header 1.0).
+use Rattle.std.specs.Prelude.{◌≡◌, ◌≢◌, ℕ, ◌+◌, ◌<◌, ◌≤◌, ◌^◌, List, [], ◌++◌, Option, Some, None, IfSome, unwrap_or, length}
 use Rattle.std.specs.Int.{w8, w16, w32, w64, to_le_bytes, to_be_bytes}
 use Rattle.std.specs.List.{flat_map, AllByRecursion}
+use Rattle.fixp_msgs.specs.declared.messages.Expected.TheVariants.{Absent, Null, Number}
 use Rattle.fixp_msgs.specs.Header.{session_schema}
 use Rattle.fixp_msgs.specs.Message.{Message}
-use Rattle.fixp_msgs.specs.Table.{Field, Row, row_of, block_size, null}
+use Rattle.fixp_msgs.specs.Table.{Field, Row, row_of, block_size, version_of, null}
 
 abbrev pub field_bytes : Field → List ℕ
 field_bytes (Field.identifier id) = id
@@ -13,15 +14,18 @@ field_bytes (Field.u8 n) = to_le_bytes w8 n
 field_bytes (Field.u32 n) = to_le_bytes w32 n
 field_bytes (Field.u64 n) = to_le_bytes w64 n
 field_bytes (Field.optional n) = to_le_bytes w64 (unwrap_or n null)
+field_bytes (Field.expected Absent) = []
+field_bytes (Field.expected Null) = to_le_bytes w64 null
+field_bytes (Field.expected (Number n)) = to_le_bytes w64 n
 
 -- behind these bytes stands the datum, if there is one: its length in two bytes, and its bytes
 abbrev pub with_datum : List ℕ → Option (List ℕ) → List ℕ
 with_datum bytes None = bytes
 with_datum bytes (Some datum) = bytes ++ to_le_bytes w16 (length datum) ++ datum
 
--- the header: the block's length, the template id, the schema id and version 0
+-- the header: the block's length, the template id, the schema id and the version
 abbrev pub header_bytes : Row → List ℕ
-header_bytes r = to_le_bytes w16 (block_size r) ++ to_le_bytes w16 r.template ++ to_le_bytes w16 session_schema ++ to_le_bytes w16 0
+header_bytes r = to_le_bytes w16 (block_size r) ++ to_le_bytes w16 r.template ++ to_le_bytes w16 session_schema ++ to_le_bytes w16 (version_of r)
 
 abbrev pub row_bytes : Row → List ℕ
 row_bytes r = with_datum (header_bytes r ++ flat_map field_bytes r.fields) r.datum
@@ -43,6 +47,7 @@ frame_bytes m = row_frame (row_of m)
 -- a datum has at most 2,048 bytes (this project's profile), and a number that is there is not the null value
 abbrev pub IsWritableField : Field → Type 0
 IsWritableField (Field.optional n) = n ≢ Some null
+IsWritableField (Field.expected (Number n)) = n ≢ null
 IsWritableField _ = Unit {0}
 
 pub record IsWritableRow (r : Row) : Type 0 where
@@ -59,6 +64,9 @@ FitsField (Field.u8 n) = n < 2 ^ 8
 FitsField (Field.u32 n) = n < 2 ^ 32
 FitsField (Field.u64 n) = n < 2 ^ 64
 FitsField (Field.optional n) = IfSome n (λ k. k < null)
+FitsField (Field.expected Absent) = Unit {0}
+FitsField (Field.expected Null) = Unit {0}
+FitsField (Field.expected (Number n)) = n < null
 
 pub record IsLegalRow (r : Row) : Type 0 where
   pub fields : AllByRecursion FitsField r.fields

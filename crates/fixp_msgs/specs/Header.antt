@@ -18,6 +18,9 @@ template_in message = from_le_bytes w16 (drop 2 message)
 abbrev pub schema_in : List ℕ → ℕ
 schema_in message = from_le_bytes w16 (drop 4 message)
 
+abbrev pub version_in : List ℕ → ℕ
+version_in message = from_le_bytes w16 (drop 6 message)
+
 -- the schema id of session messages (this project's profile)
 abbrev pub session_schema : ℕ
 session_schema = 0xF011

@@ -1,5 +1,6 @@
 -- The session messages as values (FIXP 1.1; the fields in the order of this project's profile).
 use Rattle.std.specs.Prelude.{ℕ, List, Option}
+use Rattle.fixp_msgs.specs.declared.messages.Expected.{Expected}
 use Rattle.fixp_msgs.specs.declared.messages.SessionMsg.{SessionMsg}
 use Rattle.fixp_msgs.specs.declared.messages.SessionMsg.TheVariants as variants
 
@@ -7,8 +8,8 @@ pub data Message : Type 0 where
   negotiate : (session : List ℕ) → (timestamp client_flow : ℕ) → (credentials : List ℕ) → Message
   negotiation_response : (session : List ℕ) → (request_timestamp server_flow : ℕ) → (credentials : List ℕ) → Message
   negotiation_reject : (session : List ℕ) → (request_timestamp code : ℕ) → (reason : List ℕ) → Message
-  establish : (session : List ℕ) → (timestamp keepalive : ℕ) → (next : Option ℕ) → (credentials : List ℕ) → Message
-  establishment_ack : (session : List ℕ) → (request_timestamp keepalive : ℕ) → (next : Option ℕ) → Message
+  establish : (session : List ℕ) → (timestamp keepalive : ℕ) → (next : Option ℕ) → (expected : Expected) → (credentials : List ℕ) → Message
+  establishment_ack : (session : List ℕ) → (request_timestamp keepalive : ℕ) → (next : Option ℕ) → (expected : Expected) → Message
   establishment_reject : (session : List ℕ) → (request_timestamp code : ℕ) → (reason : List ℕ) → Message
   sequence : (next : ℕ) → Message
   unsequenced_heartbeat : Message
@@ -26,8 +27,8 @@ abbrev pub message_of : SessionMsg → Message
 message_of (variants.Negotiate m) = negotiate m.session_id m.timestamp m.client_flow m.credentials.now
 message_of (variants.NegotiationResponse m) = negotiation_response m.session_id m.request_timestamp m.server_flow m.credentials.now
 message_of (variants.NegotiationReject m) = negotiation_reject m.session_id m.request_timestamp m.code m.reason.now
-message_of (variants.Establish m) = establish m.session_id m.timestamp m.keepalive m.next_seq m.credentials.now
-message_of (variants.EstablishmentAck m) = establishment_ack m.session_id m.request_timestamp m.keepalive m.next_seq
+message_of (variants.Establish m) = establish m.session_id m.timestamp m.keepalive m.next_seq m.expected_next m.credentials.now
+message_of (variants.EstablishmentAck m) = establishment_ack m.session_id m.request_timestamp m.keepalive m.next_seq m.expected_next
 message_of (variants.EstablishmentReject m) = establishment_reject m.session_id m.request_timestamp m.code m.reason.now
 message_of (variants.Sequence m) = sequence m.next_seq
 message_of (variants.UnsequencedHeartbeat _) = unsequenced_heartbeat

@@ -18,8 +18,8 @@ abbrev pub announcement_of : Message → Option Event
 announcement_of (negotiate _ _ _ _) = None
 announcement_of (negotiation_response _ _ _ _) = None
 announcement_of (negotiation_reject _ _ _ _) = None
-announcement_of (establish _ _ _ next _) = Some (Event.announce handshake next)
-announcement_of (establishment_ack _ _ _ next) = Some (Event.announce handshake next)
+announcement_of (establish _ _ _ next _ _) = Some (Event.announce handshake next)
+announcement_of (establishment_ack _ _ _ next _) = Some (Event.announce handshake next)
 announcement_of (establishment_reject _ _ _ _) = None
 announcement_of (sequence next) = Some (Event.announce in_flow (Some next))
 announcement_of unsequenced_heartbeat = None

@@ -1,10 +1,10 @@
 -- The message that bytes spell, as a function of the bytes.
 use Rattle.std.specs.Prelude.{ℕ, ◌+◌, ◌==◌, ◌&&◌, Bool, true, nat_eq, nat_le, if◌then◌else◌, List, length, take, drop, Option, Some, None}
 use Rattle.std.specs.Int.{w8, w16, w32, w64, from_le_bytes}
-use Rattle.fixp_msgs.specs.Header.{block_length_in, template_in, schema_in, session_schema}
+use Rattle.fixp_msgs.specs.Header.{block_length_in, template_in, schema_in, version_in, session_schema}
 use Rattle.fixp_msgs.specs.Message.{Message}
 use Rattle.fixp_msgs.specs.Table.{row_of, block_size, is_template}
-use Rattle.fixp_msgs.specs.Grammar.{unless_null}
+use Rattle.fixp_msgs.specs.Grammar.{unless_null, expected_at}
 
 -- the fields from a place of the block on
 abbrev pub u8_at : ℕ → List ℕ → ℕ
@@ -23,14 +23,14 @@ optional_at place block = unless_null (u64_at place block)
 abbrev pub datum_at : List ℕ → List ℕ
 datum_at behind = take (from_le_bytes w16 behind) (drop 2 behind)
 
--- the message of a template, from its block and what stands behind it
-abbrev pub message_at : ℕ → List ℕ → List ℕ → Message
-message_at id block behind =
+-- the message of a template at a version, from its block and what stands behind it
+abbrev pub message_at : ℕ → ℕ → List ℕ → List ℕ → Message
+message_at version id block behind =
     if nat_eq id 1 then Message.negotiate (take 16 block) (u64_at 16 block) (u8_at 24 block) (datum_at behind)
     else if nat_eq id 2 then Message.negotiation_response (take 16 block) (u64_at 16 block) (u8_at 24 block) (datum_at behind)
     else if nat_eq id 3 then Message.negotiation_reject (take 16 block) (u64_at 16 block) (u8_at 24 block) (datum_at behind)
-    else if nat_eq id 4 then Message.establish (take 16 block) (u64_at 16 block) (u32_at 24 block) (optional_at 28 block) (datum_at behind)
-    else if nat_eq id 5 then Message.establishment_ack (take 16 block) (u64_at 16 block) (u32_at 24 block) (optional_at 28 block)
+    else if nat_eq id 4 then Message.establish (take 16 block) (u64_at 16 block) (u32_at 24 block) (optional_at 28 block) (expected_at version (u64_at 36 block)) (datum_at behind)
+    else if nat_eq id 5 then Message.establishment_ack (take 16 block) (u64_at 16 block) (u32_at 24 block) (optional_at 28 block) (expected_at version (u64_at 36 block))
     else if nat_eq id 6 then Message.establishment_reject (take 16 block) (u64_at 16 block) (u8_at 24 block) (datum_at behind)
     else if nat_eq id 7 then Message.sequence (u64_at 0 block)
     else if nat_eq id 8 then Message.unsequenced_heartbeat
@@ -54,7 +54,7 @@ message_in bytes =
     let size = block_length_in bytes in
     let block = take size (drop 8 bytes) in
     let behind = drop size (drop 8 bytes) in
-    let m = message_at (template_in bytes) block behind in
+    let m = message_at (version_in bytes) (template_in bytes) block behind in
     if is_template (template_in bytes) && ((schema_in bytes == session_schema)
     && (nat_le (block_size (row_of m)) size && (nat_le (8 + size) (length bytes) && has_datum (row_of m).datum behind)))
     then Some m

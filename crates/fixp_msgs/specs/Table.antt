@@ -1,16 +1,19 @@
 -- The table of the session messages (FIXP 1.1 names them; template ids and blocks are this project's profile).
-use Rattle.std.specs.Prelude.{ℕ, ◌-◌, ◌^◌, Bool, List, [], ◌∷◌, Option, Some, None, sum_by, nat_eq}
+use Rattle.std.specs.Prelude.{ℕ, ◌-◌, ◌^◌, ◌==◌, if◌then◌else◌, Bool, true, false, List, [], ◌∷◌, Option, Some, None, sum_by, nat_eq}
 use Rattle.std.specs.List.{list_any}
+use Rattle.fixp_msgs.specs.declared.messages.Expected.{Expected}
+use Rattle.fixp_msgs.specs.declared.messages.Expected.TheVariants.{Absent, Null, Number}
 use Rattle.fixp_msgs.specs.Message.{Message}
 
 -- a field of a block with its value: a session's identifier of 16 bytes, an unsigned number of 8, 32 or
--- 64 bits, or one of 64 bits that may be missing
+-- 64 bits, one of 64 bits that may be missing, or the number that the writer expects, which is there from version 1 on
 pub data Field : Type 0 where
   identifier : List ℕ → Field
   u8 : ℕ → Field
   u32 : ℕ → Field
   u64 : ℕ → Field
   optional : Option ℕ → Field
+  expected : Expected → Field
 
 -- how many bytes a field takes
 abbrev pub size_of : Field → ℕ
@@ -19,6 +22,20 @@ size_of (u8 _) = 1
 size_of (u32 _) = 4
 size_of (u64 _) = 8
 size_of (optional _) = 8
+size_of (expected Absent) = 0
+size_of (expected Null) = 8
+size_of (expected (Number _)) = 8
+
+-- no field of version 0
+abbrev pub is_later : Field → Bool
+is_later (identifier _) = false
+is_later (u8 _) = false
+is_later (u32 _) = false
+is_later (u64 _) = false
+is_later (optional _) = false
+is_later (expected Absent) = false
+is_later (expected Null) = true
+is_later (expected (Number _)) = true
 
 -- a row of the table with a message's values: the template id, the fields of the block in order without gaps,
 -- and the variable data behind the block, if the message has any
@@ -34,10 +51,10 @@ row_of (Message.negotiation_response session timestamp flow credentials) =
     record { template = 2; fields = identifier session ∷ u64 timestamp ∷ u8 flow ∷ []; datum = Some credentials }
 row_of (Message.negotiation_reject session timestamp code reason) =
     record { template = 3; fields = identifier session ∷ u64 timestamp ∷ u8 code ∷ []; datum = Some reason }
-row_of (Message.establish session timestamp keepalive next credentials) =
-    record { template = 4; fields = identifier session ∷ u64 timestamp ∷ u32 keepalive ∷ optional next ∷ []; datum = Some credentials }
-row_of (Message.establishment_ack session timestamp keepalive next) =
-    record { template = 5; fields = identifier session ∷ u64 timestamp ∷ u32 keepalive ∷ optional next ∷ []; datum = None }
+row_of (Message.establish session timestamp keepalive next e credentials) =
+    record { template = 4; fields = identifier session ∷ u64 timestamp ∷ u32 keepalive ∷ optional next ∷ expected e ∷ []; datum = Some credentials }
+row_of (Message.establishment_ack session timestamp keepalive next e) =
+    record { template = 5; fields = identifier session ∷ u64 timestamp ∷ u32 keepalive ∷ optional next ∷ expected e ∷ []; datum = None }
 row_of (Message.establishment_reject session timestamp code reason) =
     record { template = 6; fields = identifier session ∷ u64 timestamp ∷ u8 code ∷ []; datum = Some reason }
 row_of (Message.sequence next) = record { template = 7; fields = u64 next ∷ []; datum = None }
@@ -57,6 +74,14 @@ row_of (Message.terminate session code reason) = record { template = 16; fields 
 -- the length of a row's block: its fields' bytes
 abbrev pub block_size : Row → ℕ
 block_size r = sum_by size_of r.fields
+
+-- the version of the session's schema that first has the elements of a row
+abbrev pub version_of : Row → ℕ
+version_of r = if list_any is_later r.fields then 1 else 0
+
+-- the length of the block of Establish and EstablishmentAck at a version
+abbrev pub established_block : ℕ → ℕ
+established_block version = if version == 0 then 36 else 44
 
 -- the number that stands for a missing one (SBE 1.0, "Null values": the greatest of the type)
 abbrev pub null : ℕ

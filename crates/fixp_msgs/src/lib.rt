@@ -16,8 +16,8 @@ pub use flow::Flow;
 pub use frames::{FrameKind, kind};
 pub use laws::{one_message, spelled_is_found, written_is_spelled, written_is_whole};
 pub use messages::{
-    Applied, Establish, EstablishmentAck, EstablishmentReject, FinishedReceiving, FinishedSending,
-    Negotiate, NegotiationReject, NegotiationResponse, NotApplied, Retransmission,
+    Applied, Establish, EstablishmentAck, EstablishmentReject, Expected, FinishedReceiving,
+    FinishedSending, Negotiate, NegotiationReject, NegotiationResponse, NotApplied, Retransmission,
     RetransmitReject, RetransmitRequest, Sequence, SessionMsg, Terminate, UnsequencedHeartbeat,
 };
 pub use numbering::{Counter, Range};

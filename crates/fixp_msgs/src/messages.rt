@@ -1,5 +1,16 @@
 //! The session messages and their fields (FIXP 1.1), in the layout of this project's profile.
 
+/// What a handshake's message says of the number that its writer expects next of the other side's flow.
+#[derive(Clone, Copy, Debug, PartialEq, Eq)]
+pub enum Expected {
+    /// Nothing: a message of version 0 has no such field.
+    Absent,
+    /// That the other side's flow is not sent again, so it expects none.
+    Null,
+    /// The number that its inbox awaits, as read; 2^64 - 1 is never written.
+    Number(u64),
+}
+
 /// The client proposes a session: its identifier and its own flow.
 #[derive(Clone, Copy, Debug, PartialEq, Eq)]
 pub struct Negotiate<'a> {
@@ -68,6 +79,8 @@ pub struct Establish<'a> {
     pub keepalive: u32,
     /// The number of the client's next application message; none on a flow without numbers.
     pub next_seq: Option<u64>,
+    /// The number that the client expects of the server's flow.
+    pub expected_next: Expected,
     /// Compared as bytes, at most 2,048 of them when written.
     pub credentials: &'a [u8],
 }
@@ -75,6 +88,7 @@ pub struct Establish<'a> {
 impl Establish<'_> {
     pub(crate) const TEMPLATE: u16 = 4;
 
+    /// At version 0; the expected number makes it longer.
     pub(crate) const BLOCK: u16 = 36;
 }
 
@@ -89,11 +103,14 @@ pub struct EstablishmentAck {
     pub keepalive: u32,
     /// The number of the server's next application message; none on a flow without numbers.
     pub next_seq: Option<u64>,
+    /// The number that the server expects of the client's flow.
+    pub expected_next: Expected,
 }
 
 impl EstablishmentAck {
     pub(crate) const TEMPLATE: u16 = 5;
 
+    /// At version 0; the expected number makes it longer.
     pub(crate) const BLOCK: u16 = 36;
 }
 

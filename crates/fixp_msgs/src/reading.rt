@@ -5,15 +5,15 @@ ghost use Rattle.std.specs.Int.{w16, w32, w64, from_le_bytes};
 ghost use Rattle.sbe_prim.specs.declared.Order.TheVariants.{Little};
 ghost use Rattle.fixp_msgs.specs.declared.frames.FrameKind.TheVariants.{Session};
 ghost use Rattle.fixp_msgs.specs.declared.reading.MsgFault.TheVariants as faults;
-ghost use Rattle.fixp_msgs.specs.Header.{kind_of, schema_in, template_in, block_length_in};
+ghost use Rattle.fixp_msgs.specs.Header.{kind_of, schema_in, template_in, version_in, block_length_in};
 ghost use Rattle.fixp_msgs.specs.Message.{Message, message_of};
-ghost use Rattle.fixp_msgs.specs.Table.{Field, is_template};
-ghost use Rattle.fixp_msgs.specs.Grammar.{Spells, IsBlock, BeginsWithDatum, HasBody, unless_null};
+ghost use Rattle.fixp_msgs.specs.Table.{Field, is_template, established_block};
+ghost use Rattle.fixp_msgs.specs.Grammar.{Spells, IsBlock, BeginsWithDatum, HasBody, unless_null, expected_at};
 ghost use Rattle.fixp_msgs.specs.Reading.{Answers, HasCause, Lacks, Finds};
 
 use crate::messages::{
-    Applied, Establish, EstablishmentAck, EstablishmentReject, FinishedReceiving, FinishedSending,
-    Negotiate, NegotiationReject, NegotiationResponse, NotApplied, Retransmission,
+    Applied, Establish, EstablishmentAck, EstablishmentReject, Expected, FinishedReceiving,
+    FinishedSending, Negotiate, NegotiationReject, NegotiationResponse, NotApplied, Retransmission,
     RetransmitReject, RetransmitRequest, Sequence, SessionMsg, Terminate, UnsequencedHeartbeat,
 };
 use thiserror::Error;
@@ -31,7 +31,7 @@ pub enum MsgFault {
 
 /// The session message that the bytes spell. `message` is a session message from its SBE header
 /// on (SBE 1.0, "Message structure"): longer blocks, bytes after the last element and any version
-/// are taken.
+/// are taken. At version 0 no expected number is there, at every other one it is.
 pub fn read<'a>(message: &'a [u8]) -> Result<SessionMsg<'a>, MsgFault>
     requires header { 8 ≤ length message.now }
     requires session { kind_of Little message.now ≡ Session }
@@ -105,6 +105,27 @@ fn optional_at(bytes: &[u8], at: usize) -> Option<u64>
         None
     } else {
         Some(number)
+    }
+}
+
+/// The length of the block of Establish and EstablishmentAck at a version.
+fn established_size(version: u16) -> usize
+    ensures { result ≡ established_block version }
+{
+    if version == 0 { 36 } else { 44 }
+}
+
+/// The number that the writer of a block of this version expects.
+fn expected_at(block: &[u8], version: u16) -> Expected
+    requires { established_block version ≤ length block.now }
+    ensures { result ≡ expected_at version (from_le_bytes w64 (drop 36 block.now)) }
+{
+    if version == 0 {
+        return Expected::Absent;
+    }
+    match u64_at(block, 36) {
+        u64::MAX => Expected::Null,
+        number => Expected::Number(number),
     }
 }
 
@@ -228,28 +249,32 @@ fn negotiation_reject<'a>(message: &'a [u8]) -> Option<SessionMsg<'a>>
 
 fn establish<'a>(message: &'a [u8]) -> Option<SessionMsg<'a>>
     requires { 8 ≤ length message.now }
-    ensures { Finds message.now Establish.TEMPLATE Establish.BLOCK true result }
+    ensures { Finds message.now Establish.TEMPLATE (established_block (version_in message.now)) true result }
 {
-    let (block, credentials) = parts_and_datum(message, Establish::BLOCK as usize)?;
+    let version = u16_at(message, 6);
+    let (block, credentials) = parts_and_datum(message, established_size(version))?;
     Some(SessionMsg::Establish(Establish {
         session_id: identifier(block),
         timestamp: u64_at(block, 16),
         keepalive: u32_at(block, 24),
         next_seq: optional_at(block, 28),
+        expected_next: expected_at(block, version),
         credentials,
     }))
 }
 
 fn establishment_ack<'a>(message: &'a [u8]) -> Option<SessionMsg<'a>>
     requires { 8 ≤ length message.now }
-    ensures { Finds message.now EstablishmentAck.TEMPLATE EstablishmentAck.BLOCK false result }
+    ensures { Finds message.now EstablishmentAck.TEMPLATE (established_block (version_in message.now)) false result }
 {
-    let (block, _) = parts(message, EstablishmentAck::BLOCK as usize)?;
+    let version = u16_at(message, 6);
+    let (block, _) = parts(message, established_size(version))?;
     Some(SessionMsg::EstablishmentAck(EstablishmentAck {
         session_id: identifier(block),
         request_timestamp: u64_at(block, 16),
         keepalive: u32_at(block, 24),
         next_seq: optional_at(block, 28),
+        expected_next: expected_at(block, version),
     }))
 }
 

@@ -1,17 +1,18 @@
 //! Writing a session message as a frame of its own.
 
-ghost use Rattle.std.specs.Prelude.{◌≡◌, ℕ, ◌+◌, ◌-◌, ◌<◌, ◌≤◌, ◌^◌, ◌++◌, length, take, drop, Some};
+ghost use Rattle.std.specs.Prelude.{◌≡◌, ℕ, ◌+◌, ◌-◌, ◌<◌, ◌≤◌, ◌^◌, ◌++◌, if◌then◌else◌, [], ◌∷◌, length, take, drop, Some};
 ghost use Rattle.std.specs.Int.{w16, w64, to_le_bytes};
+ghost use Rattle.std.specs.List.{list_any};
 ghost use Rattle.fixp_msgs.specs.declared.messages.SessionMsg.TheVariants as variants;
 ghost use Rattle.fixp_msgs.specs.Header.{session_schema};
 ghost use Rattle.fixp_msgs.specs.Message.{message_of};
-ghost use Rattle.fixp_msgs.specs.Table.{Field, Row, row_of};
+ghost use Rattle.fixp_msgs.specs.Table.{Field, Row, row_of, size_of, is_later};
 ghost use Rattle.fixp_msgs.specs.Canonical.{field_bytes, with_datum, framing_bytes, row_frame, frame_bytes, IsWritable, IsWritableRow, IsLegal, IsLegalRow};
 
 use crate::frames::SESSION_SCHEMA;
 use crate::messages::{
-    Applied, Establish, EstablishmentAck, EstablishmentReject, FinishedReceiving, FinishedSending,
-    Negotiate, NegotiationReject, NegotiationResponse, NotApplied, Retransmission,
+    Applied, Establish, EstablishmentAck, EstablishmentReject, Expected, FinishedReceiving,
+    FinishedSending, Negotiate, NegotiationReject, NegotiationResponse, NotApplied, Retransmission,
     RetransmitReject, RetransmitRequest, Sequence, SessionMsg, Terminate, UnsequencedHeartbeat,
 };
 
@@ -25,7 +26,7 @@ const HEADERS: usize = 14;
 pub fn size(msg: &SessionMsg<'_>) -> usize
     ensures size { result ≡ length (frame_bytes (message_of msg.now)) }
     ensures least { 14 ≤ result }
-    ensures most { IsWritable (message_of msg.now) → result ≤ 2100 }
+    ensures most { IsWritable (message_of msg.now) → result ≤ 2108 }
 {
     match msg {
         SessionMsg::Negotiate(m) => session_frame(&m.session_id, Negotiate::BLOCK)
@@ -37,8 +38,10 @@ pub fn size(msg: &SessionMsg<'_>) -> usize
         SessionMsg::NegotiationReject(m) => session_frame(&m.session_id, NegotiationReject::BLOCK)
             + datum_size(m.reason),
         SessionMsg::Establish(m) => session_frame(&m.session_id, Establish::BLOCK)
+            + expected_size(m.expected_next)
             + datum_size(m.credentials),
-        SessionMsg::EstablishmentAck(m) => session_frame(&m.session_id, EstablishmentAck::BLOCK),
+        SessionMsg::EstablishmentAck(m) => session_frame(&m.session_id, EstablishmentAck::BLOCK)
+            + expected_size(m.expected_next),
         SessionMsg::EstablishmentReject(m) => session_frame(
             &m.session_id,
             EstablishmentReject::BLOCK,
@@ -68,6 +71,18 @@ fn session_frame(id: &[u8; 16], block: u16) -> usize
     HEADERS + id.len() + (block as usize - 16)
 }
 
+/// The size of an expected number, where one is written.
+fn expected_size(expected: Expected) -> usize
+    ensures size { result ≡ size_of (Field.expected expected) }
+    ensures most { result ≤ 8 }
+{
+    match expected {
+        Expected::Absent => 0,
+        Expected::Null => 8,
+        Expected::Number(_) => 8,
+    }
+}
+
 /// The size of a datum with its length.
 fn datum_size(datum: &[u8]) -> usize
     ensures size { result ≡ 2 + length datum.now }
@@ -78,7 +93,7 @@ fn datum_size(datum: &[u8]) -> usize
 
 /// Writes the message's frame at the front of `out`, and answers the number of its bytes. It needs
 /// that room, data of at most 2,048 bytes, and no number 2^64 - 1 in an optional field, where it
-/// stands for a missing one. What stands behind the frame stays.
+/// stands for a missing one, or as an expected number. What stands behind the frame stays.
 pub fn write(msg: &SessionMsg<'_>, out: &mut [u8]) -> usize
     requires writable { IsWritable (message_of msg.now) }
     requires room { length (frame_bytes (message_of msg.now)) ≤ length out.old }
@@ -139,8 +154,32 @@ fn put_datum(out: &mut [u8], at: usize, datum: &[u8]) -> usize
     put(out, at, datum)
 }
 
-/// Puts the framing header and the message header at the front: the frame's size, and the length
-/// of the message's block and its template.
+/// What a message's header says of it.
+#[derive(Clone, Copy)]
+struct Head {
+    /// The length of its block.
+    block: u16,
+    template: u16,
+    version: u16,
+}
+
+/// Puts the framing header and the message header at the front: the frame's size, and what the header says.
+fn put_head(out: &mut [u8], frame: usize, head: Head) -> usize
+    requires size { frame < 2 ^ 32 }
+    requires room { 14 ≤ length out.old }
+    ensures end { result ≡ 14 }
+    ensures front { take result out.new ≡ framing_bytes frame ++ (to_le_bytes w16 head.block ++ to_le_bytes w16 head.template ++ to_le_bytes w16 session_schema ++ to_le_bytes w16 head.version) }
+    ensures back { (n : ℕ) → result ≤ n → drop n out.new ≡ drop n out.old }
+{
+    let at = put(out, 0, &(frame as u32).to_be_bytes());
+    let at = put(out, at, &LITTLE_ENDIAN_SBE.to_be_bytes());
+    let at = put(out, at, &head.block.to_le_bytes());
+    let at = put(out, at, &head.template.to_le_bytes());
+    let at = put(out, at, &SESSION_SCHEMA.to_le_bytes());
+    put(out, at, &head.version.to_le_bytes())
+}
+
+/// The same of a message of version 0.
 fn put_headers(out: &mut [u8], frame: usize, block: u16, template: u16) -> usize
     requires size { frame < 2 ^ 32 }
     requires room { 14 ≤ length out.old }
@@ -148,12 +187,15 @@ fn put_headers(out: &mut [u8], frame: usize, block: u16, template: u16) -> usize
     ensures front { take result out.new ≡ framing_bytes frame ++ (to_le_bytes w16 block ++ to_le_bytes w16 template ++ to_le_bytes w16 session_schema ++ to_le_bytes w16 0) }
     ensures back { (n : ℕ) → result ≤ n → drop n out.new ≡ drop n out.old }
 {
-    let at = put(out, 0, &(frame as u32).to_be_bytes());
-    let at = put(out, at, &LITTLE_ENDIAN_SBE.to_be_bytes());
-    let at = put(out, at, &block.to_le_bytes());
-    let at = put(out, at, &template.to_le_bytes());
-    let at = put(out, at, &SESSION_SCHEMA.to_le_bytes());
-    put(out, at, &[0, 0])
+    put_head(
+        out,
+        frame,
+        Head {
+            block,
+            template,
+            version: 0,
+        },
+    )
 }
 
 /// Puts the headers, the session's identifier and the number behind it, with which many blocks begin.
@@ -175,6 +217,38 @@ fn put_named(
     let at = put_headers(out, frame, block, template);
     let at = put(out, at, session_id);
     put(out, at, &number.to_le_bytes())
+}
+
+/// The header of Establish or EstablishmentAck: the expected number is there from version 1 on.
+fn established_head(template: u16, expected: Expected) -> Head
+    ensures block { result.block ≡ 36 + size_of (Field.expected expected) }
+    ensures template { result.template ≡ template }
+    ensures version { result.version ≡ (if list_any is_later (Field.expected expected ∷ []) then 1 else 0) }
+{
+    let (block, version) = match expected {
+        Expected::Absent => (Establish::BLOCK, 0),
+        Expected::Null => (Establish::BLOCK + 8, 1),
+        Expected::Number(_) => (Establish::BLOCK + 8, 1),
+    };
+    Head {
+        block,
+        template,
+        version,
+    }
+}
+
+/// Puts the expected number, where one is written.
+fn put_expected(out: &mut [u8], at: usize, expected: Expected) -> usize
+    requires room { at + size_of (Field.expected expected) ≤ length out.old }
+    ensures end { result ≡ at + size_of (Field.expected expected) }
+    ensures front { take result out.new ≡ take at out.old ++ field_bytes (Field.expected expected) }
+    ensures back { (n : ℕ) → result ≤ n → drop n out.new ≡ drop n out.old }
+{
+    match expected {
+        Expected::Absent => at,
+        Expected::Null => put(out, at, &u64::MAX.to_le_bytes()),
+        Expected::Number(number) => put(out, at, &number.to_le_bytes()),
+    }
 }
 
 /// A message that is written by a row of the table.
@@ -248,16 +322,13 @@ impl Written for Establish<'_> {
     ghost row = { λ m. row_of (message_of (variants.Establish m)) };
 
     fn put(self, out: &mut [u8], frame: usize) -> usize {
-        let at = put_named(
-            out,
-            frame,
-            Establish::BLOCK,
-            Establish::TEMPLATE,
-            &self.session_id,
-            self.timestamp,
-        );
+        let head = established_head(Establish::TEMPLATE, self.expected_next);
+        let at = put_head(out, frame, head);
+        let at = put(out, at, &self.session_id);
+        let at = put(out, at, &self.timestamp.to_le_bytes());
         let at = put(out, at, &self.keepalive.to_le_bytes());
         let at = put(out, at, &optional_bytes(self.next_seq));
+        let at = put_expected(out, at, self.expected_next);
         put_datum(out, at, self.credentials)
     }
 }
@@ -266,16 +337,13 @@ impl Written for EstablishmentAck {
     ghost row = { λ m. row_of (message_of (variants.EstablishmentAck m)) };
 
     fn put(self, out: &mut [u8], frame: usize) -> usize {
-        let at = put_named(
-            out,
-            frame,
-            EstablishmentAck::BLOCK,
-            EstablishmentAck::TEMPLATE,
-            &self.session_id,
-            self.request_timestamp,
-        );
+        let head = established_head(EstablishmentAck::TEMPLATE, self.expected_next);
+        let at = put_head(out, frame, head);
+        let at = put(out, at, &self.session_id);
+        let at = put(out, at, &self.request_timestamp.to_le_bytes());
         let at = put(out, at, &self.keepalive.to_le_bytes());
-        put(out, at, &optional_bytes(self.next_seq))
+        let at = put(out, at, &optional_bytes(self.next_seq));
+        put_expected(out, at, self.expected_next)
     }
 }
 

@@ -3,6 +3,7 @@
 use Rattle.std.specs.Prelude.{ℕ, ◌==◌, ◌&&◌, ◌||◌, Bool, true, not, min, max, nat_lt, if◌then◌else◌, List, [], ◌∷◌, Option}
 use Rattle.std.specs.Str.{bytes_eq}
 use Rattle.fixp_msgs.specs.Flow.{flow_code}
+use Rattle.fixp_msgs.specs.declared.messages.Expected.TheVariants as expects
 use Rattle.fixp_msgs.specs.Message.{negotiation_response, negotiation_reject, establishment_ack, establishment_reject}
 use Rattle.fixp_shake.specs.declared.phase.Phase.TheVariants.{Negotiating, Establishing, Established}
 use Rattle.fixp_shake.specs.declared.violation.Violation.TheVariants.{OtherSession}
@@ -47,7 +48,7 @@ established f interval = record f { connection = record f.connection { phase = E
 abbrev pub acknowledges : Around → (timestamp keepalive : ℕ) → Announced → Outcome
 acknowledges x timestamp keepalive a =
     goes_on x (skip_of a.skipped)
-    (establishment_ack x.config.session timestamp x.config.keepalive (announced_number x a.facts) ∷ told_skip a.skipped)
+    (establishment_ack x.config.session timestamp x.config.keepalive (announced_number x a.facts) expects.Absent ∷ told_skip a.skipped)
     (established a.facts keepalive)
 
 -- Establish, at an acceptor that waits for its client: 2 unnegotiated, 5 keepalive interval, 6 credentials, and then its

@@ -1,6 +1,7 @@
 -- Outcomes of an event, and rows of the reply table.
 use Rattle.std.specs.Prelude.{ℕ, ◌*◌, Bool, true, false, if◌then◌else◌, List, [], ◌∷◌, ◌++◌, Option, Some, None}
 use Rattle.fixp_msgs.specs.Flow.{flow_code}
+use Rattle.fixp_msgs.specs.declared.messages.Expected.TheVariants as expects
 use Rattle.fixp_msgs.specs.Message.{Message, negotiate, establish, retransmit_request, not_applied, terminate}
 use Rattle.fixp_msgs.specs.declared.numbering.Range.{Range}
 use Rattle.flow_retrans.specs.Requests.{first_of_gap}
@@ -107,4 +108,4 @@ abbrev pub opening_negotiate : Around → Message
 opening_negotiate x = negotiate x.config.session (timestamp x) (flow_code x.config.own_flow) x.config.credentials
 
 abbrev pub opening_establish : Around → Facts → Message
-opening_establish x f = establish x.config.session (timestamp x) x.config.keepalive (announced_number x f) x.config.credentials
+opening_establish x f = establish x.config.session (timestamp x) x.config.keepalive (announced_number x f) expects.Absent x.config.credentials

@@ -21,8 +21,8 @@ abbrev pub template_of_message : Message → ℕ
 template_of_message (negotiate _ _ _ _) = 1
 template_of_message (negotiation_response _ _ _ _) = 2
 template_of_message (negotiation_reject _ _ _ _) = 3
-template_of_message (establish _ _ _ _ _) = 4
-template_of_message (establishment_ack _ _ _ _) = 5
+template_of_message (establish _ _ _ _ _ _) = 4
+template_of_message (establishment_ack _ _ _ _ _) = 5
 template_of_message (establishment_reject _ _ _ _) = 6
 template_of_message (sequence _) = 7
 template_of_message unsequenced_heartbeat = 8
@@ -61,8 +61,8 @@ rows_of x f (session (negotiation_response id timestamp flow credentials)) =
     of_session x f 2 id (within (is_negotiating f.connection.phase) (negotiation_response_rows x f flow))
 rows_of x f (session (negotiation_reject id timestamp code reason)) =
     of_session x f 3 id (within (is_negotiating f.connection.phase) (negotiation_reject_rows x f code))
-rows_of x f (session (establish id timestamp keepalive next credentials)) = establish_rows_in x f id timestamp keepalive next credentials
-rows_of x f (session (establishment_ack id timestamp keepalive next)) =
+rows_of x f (session (establish id timestamp keepalive next expected credentials)) = establish_rows_in x f id timestamp keepalive next credentials
+rows_of x f (session (establishment_ack id timestamp keepalive next expected)) =
     of_session x f 5 id (within (is_establishing f.connection.phase) (establishment_ack_rows x f keepalive next))
 rows_of x f (session (establishment_reject id timestamp code reason)) =
     of_session x f 6 id (within (is_establishing f.connection.phase) (establishment_reject_rows x f code))

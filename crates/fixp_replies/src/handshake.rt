@@ -199,7 +199,7 @@ pub fn on_establish(around: &Around<'_>, facts: &mut Facts, m: &Establish<'_>) -
     requires most { around.now.most ≤ 2 ^ 24 }
     requires sent { facts.old.recorded.sent < 2 ^ 40 }
     ensures reply { outcome_of around.now.config.now result facts.new
-        ≡ answer_of (around_of around.now) facts.old (session (establish m.now.session_id m.now.timestamp m.now.keepalive m.now.next_seq m.now.credentials.now)) }
+        ≡ answer_of (around_of around.now) facts.old (session (establish m.now.session_id m.now.timestamp m.now.keepalive m.now.next_seq m.now.expected_next m.now.credentials.now)) }
     ensures sent { facts.new.recorded.sent ≡ facts.old.recorded.sent }
     ensures small { written_limit around.now.config.now result.written ≤ reply_limit around.now.config.now }
 {
@@ -289,7 +289,7 @@ pub fn on_establishment_ack(around: &Around<'_>, facts: &mut Facts, m: &Establis
     requires moment { around.now.moment < 2 ^ 44 }
     requires most { around.now.most ≤ 2 ^ 24 }
     ensures reply { outcome_of around.now.config.now result facts.new
-        ≡ answer_of (around_of around.now) facts.old (session (establishment_ack m.now.session_id m.now.request_timestamp m.now.keepalive m.now.next_seq)) }
+        ≡ answer_of (around_of around.now) facts.old (session (establishment_ack m.now.session_id m.now.request_timestamp m.now.keepalive m.now.next_seq m.now.expected_next)) }
     ensures sent { facts.new.recorded.sent ≡ facts.old.recorded.sent }
     ensures small { written_limit around.now.config.now result.written ≤ reply_limit around.now.config.now }
 {

@@ -71,10 +71,10 @@ abbrev pub reply_step : EndConfig → Message → Option ShakeStep
 reply_step cfg (negotiation_response id timestamp flow credentials) =
     of_session cfg id (if flow == flow_code cfg.peer_flow then steps.Establish else steps.Violate (OtherSession 2))
 reply_step cfg (negotiation_reject id timestamp code reason) = of_session cfg id (after_negotiation_reject code)
-reply_step cfg (establishment_ack id timestamp keepalive next) = of_session cfg id steps.Established
+reply_step cfg (establishment_ack id timestamp keepalive next expected) = of_session cfg id steps.Established
 reply_step cfg (establishment_reject id timestamp code reason) = of_session cfg id (after_establishment_reject code)
 reply_step cfg (negotiate id timestamp flow credentials) = None
-reply_step cfg (establish id timestamp keepalive next credentials) = None
+reply_step cfg (establish id timestamp keepalive next expected credentials) = None
 reply_step cfg (sequence next) = None
 reply_step cfg unsequenced_heartbeat = None
 reply_step cfg (retransmit_request id timestamp first count) = None

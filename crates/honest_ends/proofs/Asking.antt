@@ -7,6 +7,7 @@ use Rattle.std.proofs.lemmas.Bool.{ltb-true}
 use Rattle.fixp_msgs.specs.declared.numbering.Range.{Range}
 use Rattle.fixp_msgs.specs.declared.flow.Flow.{Flow}
 use Rattle.fixp_msgs.specs.Flow.{flow_code}
+use Rattle.fixp_msgs.specs.declared.messages.Expected.TheVariants as expects
 use Rattle.fixp_msgs.specs.Message.{Message, negotiate, negotiation_response, negotiation_reject, establish, establishment_ack, establishment_reject, sequence, unsequenced_heartbeat, retransmit_request, retransmission, retransmit_reject, applied, not_applied, finished_sending, finished_receiving, terminate}
 use Rattle.flow_recover.specs.declared.receiver.Seen.{Seen}
 use Rattle.flow_recover.specs.declared.receiver.Seen.TheVariants.{Deliver, Gap, Repeat}
@@ -426,7 +427,7 @@ acknowledging x f next timestamp keepalive =
     let n = p.no_request in
     let k = p.no_restart in
     let w = announced_allowed (is_sequenced x.config.own_flow) (f.recorded.sent + 1) in
-    passing x f (established a.facts keepalive) 0 (skip_of a.skipped) (establishment_ack x.config.session timestamp x.config.keepalive (announced_number x a.facts) ∷ told_skip a.skipped)
+    passing x f (established a.facts keepalive) 0 (skip_of a.skipped) (establishment_ack x.config.session timestamp x.config.keepalive (announced_number x a.facts) expects.Absent ∷ told_skip a.skipped)
     (record { requester = u.requester; serving = u.serving; sent = u.sent })
     (record { no_request = omega (arith, n); no_restart = omega (arith, k); no_turn = p.no_turn; no_number = λ l. begins a.facts u.sent l w p.no_number })
   where
@@ -434,10 +435,10 @@ acknowledging x f next timestamp keepalive =
         → IfSome (announcement x.config.own_flow (f.recorded.sent + 1)) (λ n. Allows (exactly (f.recorded.sent + 1)) n) × (unwrap_or (announcement x.config.own_flow (f.recorded.sent + 1)) (f.recorded.sent + 1) ≡ f.recorded.sent + 1)
         → ((m : Option ℕ) → Runs x.config.own_flow (exactly (f.recorded.sent + 1)) m (said_all (told_skip (announced x f next).skipped)) (f.recorded.sent + 1) m)
         → Runs x.config.own_flow (exactly (f.recorded.sent + 1)) l
-        (said (establishment_ack x.config.session timestamp x.config.keepalive (announced_number x g)) ∷ said_all (told_skip (announced x f next).skipped)) (f.recorded.sent + 1) l
+        (said (establishment_ack x.config.session timestamp x.config.keepalive (announced_number x g) expects.Absent) ∷ said_all (told_skip (announced x f next).skipped)) (f.recorded.sent + 1) l
     begins g e l w more =
         subst (λ (n : ℕ). Runs x.config.own_flow (exactly (f.recorded.sent + 1)) l
-        (said (establishment_ack x.config.session timestamp x.config.keepalive (if is_sequenced x.config.own_flow then Some (n + 1) else None)) ∷ said_all (told_skip (announced x f next).skipped)) (f.recorded.sent + 1) l) (sym e)
+        (said (establishment_ack x.config.session timestamp x.config.keepalive (if is_sequenced x.config.own_flow then Some (n + 1) else None) expects.Absent) ∷ said_all (told_skip (announced x f next).skipped)) (f.recorded.sent + 1) l) (sym e)
         ((w.0, tt), subst (λ (b : ℕ). Runs x.config.own_flow (exactly b) l (said_all (told_skip (announced x f next).skipped)) (f.recorded.sent + 1) l) (sym w.1) (more l))
 
 pub establish_runs : (x : Around) (f : Facts) (l : Option ℕ) → Runs x.config.own_flow (exactly (f.recorded.sent + 1)) l (said (opening_establish x f) ∷ []) (f.recorded.sent + 1) l
@@ -508,7 +509,7 @@ session_rows x f (negotiation_reject id timestamp code reason) = in_session x f 
   λ _. establishing x f,
   λ _. (λ _. rejecting x f 0 0 Same _, λ _. tt),
 )))
-session_rows x f (establish id timestamp keepalive next credentials) =
+session_rows x f (establish id timestamp keepalive next expected credentials) =
     choosing (Asks x f 0 0 Same) (awaits_client x f) (serves_client x f) (establish_rows x f id timestamp keepalive next credentials) (established_again_rows x f id timestamp) (
       λ _. replies x f _ refl refl (λ b. refl) (λ l. same_number (f.recorded.sent + 1) l),
       λ _. (
@@ -520,7 +521,7 @@ session_rows x f (establish id timestamp keepalive next credentials) =
       ),
     )
     (λ _. replies x f _ refl refl (λ b. refl) (λ l. same_number (f.recorded.sent + 1) l), λ _. (λ _. replies x f _ refl refl (λ b. refl) (λ l. same_number (f.recorded.sent + 1) l), λ _. tt))
-session_rows x f (establishment_ack id timestamp keepalive next) = in_session x f 0 0 Same 5 id _ (all_within (Asks x f 0 0 Same) (is_establishing f.connection.phase) (establishment_ack_rows x f keepalive next) (λ _.
+session_rows x f (establishment_ack id timestamp keepalive next expected) = in_session x f 0 0 Same 5 id _ (all_within (Asks x f 0 0 Same) (is_establishing f.connection.phase) (establishment_ack_rows x f keepalive next) (λ _.
     announced_all (Asks x f 0 0 Same) x f 5 next (λ (a : Announced). goes_on x (skip_of a.skipped) (told_skip a.skipped) (established a.facts (min 60000 (max 100 keepalive))))
     (λ some. refusing x f f 0 0 Same (announcement_fault x f 5 next) some (omega arith) (λ _ _. refl) refl refl)
     (let a = announced x f next in let u = untouched x f next in

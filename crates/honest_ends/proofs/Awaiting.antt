@@ -77,8 +77,8 @@ unannounced flow (entry payload) e = refl
 unannounced flow (said m) e = by_message m
   where
     by_message : (k : Message) → is_some (announces flow (said k)) ≡ false
-    by_message (establish id timestamp keepalive next credentials) = ap (λ b. is_some (if b then next else None)) e
-    by_message (establishment_ack id timestamp keepalive next) = ap (λ b. is_some (if b then next else None)) e
+    by_message (establish id timestamp keepalive next expected credentials) = ap (λ b. is_some (if b then next else None)) e
+    by_message (establishment_ack id timestamp keepalive next expected) = ap (λ b. is_some (if b then next else None)) e
     by_message (sequence next) = ap (λ b. is_some (if b then Some next else None)) e
     by_message _ = refl
 

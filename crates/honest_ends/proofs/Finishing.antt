@@ -4,6 +4,7 @@ use Rattle.std.proofs.Common.{◌≡◌, ◌⊎◌, inl, inr, ℕ, ◌+◌, ◌�
 use Rattle.std.specs.Prelude.{is_some, is_none, unwrap_or, Result, Ok, Err}
 use Rattle.fixp_msgs.specs.declared.numbering.Range.{Range}
 use Rattle.fixp_msgs.specs.Flow.{flow_code}
+use Rattle.fixp_msgs.specs.declared.messages.Expected.TheVariants as expects
 use Rattle.fixp_msgs.specs.Message.{Message, negotiate, negotiation_response, negotiation_reject, establish, establishment_ack, establishment_reject, sequence, unsequenced_heartbeat, retransmit_request, retransmission, retransmit_reject, applied, not_applied, finished_sending, finished_receiving, terminate}
 use Rattle.flow_recover.specs.declared.receiver.Seen.{Seen}
 use Rattle.flow_recover.specs.declared.receiver.Seen.TheVariants.{Deliver, Gap, Repeat}
@@ -346,7 +347,7 @@ acknowledging x f next timestamp keepalive =
     let a = announced x f next in
     let none = skip_answers a.skipped in
     let quiet = skip_sends a.skipped in
-    passing x f (established a.facts keepalive) (skip_of a.skipped) (establishment_ack x.config.session timestamp x.config.keepalive (announced_number x a.facts) ∷ told_skip a.skipped)
+    passing x f (established a.facts keepalive) (skip_of a.skipped) (establishment_ack x.config.session timestamp x.config.keepalive (announced_number x a.facts) expects.Absent ∷ told_skip a.skipped)
     (unmoved x f next) (omega (arith, none)) (omega (arith, quiet))
 
 -- all rows of all messages
@@ -402,8 +403,8 @@ session_rows x f (negotiation_reject id timestamp code reason) =
       λ _. passing x f (in_phase (as_negotiated f) phases.Establishing) _ (opening_establish x f ∷ []) refl refl refl,
       λ _. (λ _. rejecting x f 3 code, λ _. tt),
     )))
-session_rows x f (establish id timestamp keepalive next credentials) =
-    let P = Moves x f (said (establish id timestamp keepalive next credentials)) in
+session_rows x f (establish id timestamp keepalive next expected credentials) =
+    let P = Moves x f (said (establish id timestamp keepalive next expected credentials)) in
     choosing P (awaits_client x f) (serves_client x f) (establish_rows x f id timestamp keepalive next credentials) (established_again_rows x f id timestamp) (
       λ _. staying x f _ refl refl,
       λ _. (
@@ -415,8 +416,8 @@ session_rows x f (establish id timestamp keepalive next credentials) =
       ),
     )
     (λ _. staying x f _ refl refl, λ _. (λ _. staying x f _ refl refl, λ _. tt))
-session_rows x f (establishment_ack id timestamp keepalive next) =
-    let p = said (establishment_ack id timestamp keepalive next) in
+session_rows x f (establishment_ack id timestamp keepalive next expected) =
+    let p = said (establishment_ack id timestamp keepalive next expected) in
     in_session x f p 5 id _ (all_within (Moves x f p) (is_establishing f.connection.phase) (establishment_ack_rows x f keepalive next) (λ _.
     announcing x f f 5 next (λ (a : Announced). goes_on x (skip_of a.skipped) (told_skip a.skipped) (established a.facts (min 60000 (max 100 keepalive)))) refl
     (let a = announced x f next in

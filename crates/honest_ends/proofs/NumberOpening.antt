@@ -4,6 +4,7 @@ use Rattle.std.specs.Prelude.{⊤, is_some, is_none, unwrap_or, IfSome, IsSome}
 use Rattle.fixp_msgs.specs.declared.numbering.Range.{Range}
 use Rattle.fixp_msgs.specs.declared.flow.Flow.{Flow}
 use Rattle.fixp_msgs.specs.Flow.{flow_code}
+use Rattle.fixp_msgs.specs.declared.messages.Expected.TheVariants as expects
 use Rattle.fixp_msgs.specs.Message.{Message, negotiate, negotiation_response, negotiation_reject, establish, establishment_ack, establishment_reject, sequence, unsequenced_heartbeat, retransmit_request, retransmission, retransmit_reject, applied, not_applied, finished_sending, finished_receiving, terminate}
 use Rattle.flow_recover.specs.Receiving as receiver_is
 use Rattle.flow_recover.specs.Receiving.{Receiving}
@@ -261,8 +262,8 @@ session_opens x f (negotiation_reject id timestamp code reason) u =
       λ _. keeping x f (in_phase (as_negotiated f) phases.Establishing) p _ (opening_establish x f ∷ []) u.idle refl refl refl refl refl,
       λ _. (λ _. ending x f p [] (endings.Rejected 3 code) (rejected_fine 3 code), λ _. tt),
     )))
-session_opens x f (establish id timestamp keepalive next credentials) u =
-    let m = establish id timestamp keepalive next credentials in
+session_opens x f (establish id timestamp keepalive next expected credentials) u =
+    let m = establish id timestamp keepalive next expected credentials in
     let p = said m in
     choosing (Opens x.config f p) (awaits_client x f) (serves_client x f) (establish_rows x f id timestamp keepalive next credentials) (established_again_rows x f id timestamp)
     (λ _. (
@@ -272,13 +273,13 @@ session_opens x f (establish id timestamp keepalive next credentials) u =
         λ _. (
           λ _. rejecting x f p _ u.before refl,
           λ _. announcing x f m 4 next (acknowledges x timestamp keepalive) u (record { told = refl; none = refl; plain = λ q. tt })
-              (λ some. taking x f m next _ (establishment_ack x.config.session timestamp x.config.keepalive (announced_number x (announced x f next).facts) ∷ told_skip (announced x f next).skipped) keepalive u (record { told = refl; none = refl; plain = λ q. tt }) some),
+              (λ some. taking x f m next _ (establishment_ack x.config.session timestamp x.config.keepalive (announced_number x (announced x f next).facts) expects.Absent ∷ told_skip (announced x f next).skipped) keepalive u (record { told = refl; none = refl; plain = λ q. tt }) some),
         ),
       ),
     ))
     (λ _. (λ _. rejecting x f p _ u.before refl, λ _. (λ _. rejecting x f p _ u.before refl, λ _. tt)))
-session_opens x f (establishment_ack id timestamp keepalive next) u =
-    let m = establishment_ack id timestamp keepalive next in
+session_opens x f (establishment_ack id timestamp keepalive next expected) u =
+    let m = establishment_ack id timestamp keepalive next expected in
     let p = said m in
     in_session x f p 5 id _ (all_within (Opens x.config f p) (is_establishing f.connection.phase) (establishment_ack_rows x f keepalive next) (λ _.
     announcing x f m 5 next (λ (a : Announced). goes_on x (skip_of a.skipped) (told_skip a.skipped) (established a.facts (min 60000 (max 100 keepalive)))) u (record { told = refl; none = refl; plain = λ q. tt })

@@ -4,6 +4,7 @@ use Rattle.std.specs.Prelude.{is_some, is_none, IsSome}
 use Rattle.std.specs.List.{AllByRecursion}
 use Rattle.std.specs.Str.{bytes_eq}
 use Rattle.std.proofs.lemmas.Bool.Decides.{nat_tests}
+use Rattle.fixp_msgs.specs.declared.messages.Expected.{Expected}
 use Rattle.fixp_msgs.specs.declared.numbering.Range.{Range}
 use Rattle.fixp_msgs.specs.Flow.{flow_code}
 use Rattle.fixp_msgs.specs.Message.{Message, negotiate, negotiation_response, negotiation_reject, establish, establishment_ack, establishment_reject, sequence, unsequenced_heartbeat, retransmit_request, retransmission, retransmit_reject, applied, not_applied, finished_sending, finished_receiving, terminate}
@@ -66,8 +67,8 @@ answered_free x f theirs (entry payload) are even free = absurd free
 answered_free x f theirs (said (negotiate id timestamp flow credentials)) are even free = absurd free
 answered_free x f theirs (said (negotiation_response id timestamp flow credentials)) are even free = absurd free
 answered_free x f theirs (said (negotiation_reject id timestamp code reason)) are even free = absurd free
-answered_free x f theirs (said (establish id timestamp keepalive next credentials)) are even free = absurd free
-answered_free x f theirs (said (establishment_ack id timestamp keepalive next)) are even free = absurd free
+answered_free x f theirs (said (establish id timestamp keepalive next expected credentials)) are even free = absurd free
+answered_free x f theirs (said (establishment_ack id timestamp keepalive next expected)) are even free = absurd free
 answered_free x f theirs (said (establishment_reject id timestamp code reason)) are even free = absurd free
 answered_free x f theirs (said (sequence next)) are even free = absurd free
 answered_free x f theirs (said unsequenced_heartbeat) are even free = sparing x f acts.Nothing even
@@ -148,10 +149,10 @@ negotiate_asked x f theirs id timestamp flow credentials are same quiet asks = (
 in_range : (k : ℕ) → 100 ≤ k → k ≤ 60000 → (nat_lt k 100 || nat_lt 60000 k) ≡ false
 in_range k low high = grind (arith, nat_tests)
 
-establish_asked : (x : Around) (f : Facts) (theirs : EndConfig) (id : List ℕ) (timestamp keepalive : ℕ) (next : Option ℕ) (credentials : List ℕ)
+establish_asked : (x : Around) (f : Facts) (theirs : EndConfig) (id : List ℕ) (timestamp keepalive : ℕ) (next : Option ℕ) (expected : Expected) (credentials : List ℕ)
     → Peer x.config theirs → theirs.credentials ≡ x.config.credentials → (100 ≤ theirs.keepalive) × (theirs.keepalive ≤ 60000) → Quiet f
-    → IsAsk theirs phases.Establishing (said (establish id timestamp keepalive next credentials)) → Decides (Asked x.config phases.Establishing f) (establish_rows x f id timestamp keepalive next credentials)
-establish_asked x f theirs id timestamp keepalive next credentials are same range quiet asks = (
+    → IsAsk theirs phases.Establishing (said (establish id timestamp keepalive next expected credentials)) → Decides (Asked x.config phases.Establishing f) (establish_rows x f id timestamp keepalive next credentials)
+establish_asked x f theirs id timestamp keepalive next expected credentials are same range quiet asks = (
   λ _. answers refl quiet (inl ((asks.0 ∙ are.session, refl), tt)) none_left,
   λ _. (
     λ out. absurd (true≢false (sym out ∙ in_range keepalive (subst (λ (k : ℕ). 100 ≤ k) (sym asks.1) range.0) (subst (λ (k : ℕ). k ≤ 60000) (sym asks.1) range.1))),
@@ -185,10 +186,10 @@ pub ask_reply : (x : Around) (f : Facts) (theirs : EndConfig) (ph : Phase) (p : 
 ask_reply x f theirs phases.Negotiating (said (negotiate id timestamp flow credentials)) are same range waits before quiet asks =
     open_before (Asked x.config phases.Negotiating f) x f (session (negotiate id timestamp flow credentials)) before (heard (Asked x.config phases.Negotiating f) x f (session (negotiate id timestamp flow credentials))
     (decides_within (Asked x.config phases.Negotiating f) (awaits_client x f) (negotiate_rows x f id timestamp flow credentials) waits (negotiate_asked x f theirs id timestamp flow credentials are same quiet asks)))
-ask_reply x f theirs phases.Establishing (said (establish id timestamp keepalive next credentials)) are same range waits before quiet asks =
-    open_before (Asked x.config phases.Establishing f) x f (session (establish id timestamp keepalive next credentials)) before (heard (Asked x.config phases.Establishing f) x f (session (establish id timestamp keepalive next credentials))
+ask_reply x f theirs phases.Establishing (said (establish id timestamp keepalive next expected credentials)) are same range waits before quiet asks =
+    open_before (Asked x.config phases.Establishing f) x f (session (establish id timestamp keepalive next expected credentials)) before (heard (Asked x.config phases.Establishing f) x f (session (establish id timestamp keepalive next expected credentials))
     (decides_first (Asked x.config phases.Establishing f) (awaits_client x f) (establish_rows x f id timestamp keepalive next credentials) _ waits
-    (establish_asked x f theirs id timestamp keepalive next credentials are same range quiet asks)))
+    (establish_asked x f theirs id timestamp keepalive next expected credentials are same range quiet asks)))
 ask_reply x f theirs _ _ are same range waits before quiet asks = absurd asks
 
 -- what an initiator makes of an answer: it asks again, in this phase
@@ -252,8 +253,8 @@ pub data Acknowledged (cfg : EndConfig) (f : Facts) (o : Outcome) : Type 0 where
 
 pub ack_reply : (x : Around) (f : Facts) (theirs : EndConfig) (p : Piece) → Peer x.config theirs → f.connection.phase ≡ phases.Establishing → is_shaken f.connection.phase ≡ false → IsAck theirs p
     → Acknowledged x.config f (reply_of x f (incoming_of p))
-ack_reply x f theirs (said (establishment_ack id timestamp keepalive next)) are is before ack =
-    open_before (Acknowledged x.config f) x f (session (establishment_ack id timestamp keepalive next)) before (heard (Acknowledged x.config f) x f (session (establishment_ack id timestamp keepalive next)) (
+ack_reply x f theirs (said (establishment_ack id timestamp keepalive next expected)) are is before ack =
+    open_before (Acknowledged x.config f) x f (session (establishment_ack id timestamp keepalive next expected)) before (heard (Acknowledged x.config f) x f (session (establishment_ack id timestamp keepalive next expected)) (
       foreign x id (ack.0 ∙ are.session),
       λ _. (decides_within (Acknowledged x.config f) (is_establishing f.connection.phase) (establishment_ack_rows x f keepalive next) (is_it_establishing f.connection.phase is)
           (announced_decides (Acknowledged x.config f) x f 5 next (λ (a : Announced). goes_on x (skip_of a.skipped) (told_skip a.skipped) (established a.facts (min 60000 (max 100 keepalive))))

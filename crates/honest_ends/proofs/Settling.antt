@@ -5,6 +5,7 @@ use Rattle.std.proofs.lemmas.Bool.{ltb-false, and_parts}
 use Rattle.fixp_msgs.specs.declared.numbering.Range.{Range}
 use Rattle.fixp_msgs.specs.declared.flow.Flow.{Flow}
 use Rattle.fixp_msgs.specs.Flow.{flow_code}
+use Rattle.fixp_msgs.specs.declared.messages.Expected.TheVariants as expects
 use Rattle.fixp_msgs.specs.Message.{Message, negotiate, negotiation_response, negotiation_reject, establish, establishment_ack, establishment_reject, sequence, unsequenced_heartbeat, retransmit_request, retransmission, retransmit_reject, applied, not_applied, finished_sending, finished_receiving, terminate}
 use Rattle.flow_recover.specs.declared.receiver.Seen.{Seen}
 use Rattle.flow_recover.specs.declared.receiver.Seen.TheVariants.{Deliver, Gap, Repeat}
@@ -249,7 +250,7 @@ establish_all x f id timestamp keepalive next credentials = by_place (awaits_cli
     acknowledged : announcement_fault x f 4 next ≡ None → Settles x f (acknowledges x timestamp keepalive (announced x f next))
     acknowledged none =
         let a = announced x f next in
-        going x f (established a.facts keepalive) (skip_of a.skipped) (establishment_ack x.config.session timestamp x.config.keepalive (announced_number x a.facts) ∷ told_skip a.skipped)
+        going x f (established a.facts keepalive) (skip_of a.skipped) (establishment_ack x.config.session timestamp x.config.keepalive (announced_number x a.facts) expects.Absent ∷ told_skip a.skipped)
         (λ _ e. announced_ends x f 4 next none e)
 
     by_place : (a b : Bool) → AllRows (Settles x f) (if a then establish_rows x f id timestamp keepalive next credentials else if b then established_again_rows x f id timestamp else [])
@@ -288,8 +289,8 @@ each_message x f (negotiation_response id timestamp flow credentials) =
     own_within x f 2 id (is_negotiating f.connection.phase) _ (λ _. ending x f f 2 _ (λ k. k), λ _. (λ _. shaking x f, λ _. tt))
 each_message x f (negotiation_reject id timestamp code reason) =
     own_within x f 3 id (is_negotiating f.connection.phase) _ (λ _. shaking x f, λ _. (λ _. rejecting x f _, λ _. tt))
-each_message x f (establish id timestamp keepalive next credentials) = establish_all x f id timestamp keepalive next credentials
-each_message x f (establishment_ack id timestamp keepalive next) =
+each_message x f (establish id timestamp keepalive next expected credentials) = establish_all x f id timestamp keepalive next credentials
+each_message x f (establishment_ack id timestamp keepalive next expected) =
     let interval : ℕ = min 60000 (max 100 keepalive) in
     own_within x f 5 id (is_establishing f.connection.phase) _
     (announced_rows (Settles x f) x f 5 next (λ (a : Announced). goes_on x (skip_of a.skipped) (told_skip a.skipped) (established a.facts interval)) (refusing x f)

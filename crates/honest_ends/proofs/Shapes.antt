@@ -25,8 +25,8 @@ free_flows cfg (entry payload) f = absurd f
 free_flows cfg (said (negotiate id timestamp flow credentials)) f = absurd f
 free_flows cfg (said (negotiation_response id timestamp flow credentials)) f = absurd f
 free_flows cfg (said (negotiation_reject id timestamp code reason)) f = absurd f
-free_flows cfg (said (establish id timestamp keepalive next credentials)) f = absurd f
-free_flows cfg (said (establishment_ack id timestamp keepalive next)) f = absurd f
+free_flows cfg (said (establish id timestamp keepalive next expected credentials)) f = absurd f
+free_flows cfg (said (establishment_ack id timestamp keepalive next expected)) f = absurd f
 free_flows cfg (said (establishment_reject id timestamp code reason)) f = absurd f
 free_flows cfg (said (sequence next)) f = absurd f
 free_flows cfg (said unsequenced_heartbeat) f = tt
@@ -42,7 +42,7 @@ free_flows cfg (said (terminate id code reason)) f = f
 -- an initiator asks in this phase of the handshake
 abbrev pub IsAsk : EndConfig → Phase → Piece → Type 0
 IsAsk cfg phases.Negotiating (said (negotiate id timestamp flow credentials)) = (id ≡ cfg.session) × (flow ≡ flow_code cfg.own_flow) × (credentials ≡ cfg.credentials)
-IsAsk cfg phases.Establishing (said (establish id timestamp keepalive next credentials)) =
+IsAsk cfg phases.Establishing (said (establish id timestamp keepalive next expected credentials)) =
     (id ≡ cfg.session) × (keepalive ≡ cfg.keepalive) × (is_sequenced cfg.own_flow ≡ true → is_some next ≡ true) × (credentials ≡ cfg.credentials)
 IsAsk cfg phase _ = ⊥
 
@@ -54,7 +54,7 @@ IsAnswer cfg phases.Establishing (said (establishment_reject id timestamp code r
 IsAnswer cfg phase _ = ⊥
 
 abbrev pub IsAck : EndConfig → Piece → Type 0
-IsAck cfg (said (establishment_ack id timestamp keepalive next)) = (id ≡ cfg.session) × (is_sequenced cfg.own_flow ≡ true → is_some next ≡ true)
+IsAck cfg (said (establishment_ack id timestamp keepalive next expected)) = (id ≡ cfg.session) × (is_sequenced cfg.own_flow ≡ true → is_some next ≡ true)
 IsAck cfg _ = ⊥
 
 -- of some messages one at most is such a one, and the others are free

@@ -2,6 +2,7 @@
 -- messages under way bring a reader to.
 use Rattle.std.specs.Prelude.{List, [], ◌∷◌, Some, None}
 use Rattle.fixp_msgs.specs.declared.flow.Flow.TheVariants as flows
+use Rattle.fixp_msgs.specs.declared.messages.Expected.TheVariants as expects
 use Rattle.fixp_msgs.specs.Message.{establish, establishment_ack, sequence, unsequenced_heartbeat, retransmission}
 use Rattle.connection_laws.specs.Samples.{id, one}
 use Rattle.connection_laws.specs.Writing.{Piece, said, entry}
@@ -14,7 +15,7 @@ KnownSample = StartsKnown outbox [] beginning
 
 -- the acknowledgement announces 3, and two entries go live behind it before it is read
 abbrev pub acknowledged : List Piece
-acknowledged = said (establishment_ack id 0 1000 (Some 3)) ∷ entry one ∷ entry one ∷ []
+acknowledged = said (establishment_ack id 0 1000 (Some 3) expects.Absent) ∷ entry one ∷ entry one ∷ []
 
 -- an entry is live before a retransmission of one message, which a Sequence ends
 abbrev pub resent : List Piece
@@ -28,7 +29,7 @@ NumbersSample =
     Runs flows.Recoverable (at_most 1) None acknowledged 5 None
     × Runs flows.Recoverable (exactly 5) None resent 6 None
     × Runs flows.Recoverable (exactly 5) (Some 2) (entry one ∷ []) 5 (Some 1)
-    × Runs flows.Recoverable (at_most 3) None (said (establish id 0 1000 (Some 5) []) ∷ []) 5 None
+    × Runs flows.Recoverable (at_most 3) None (said (establish id 0 1000 (Some 5) expects.Absent []) ∷ []) 5 None
     × Runs flows.Idempotent (exactly 5) None (said (sequence 5) ∷ []) 5 None
     × (Runs flows.Idempotent (exactly 5) None (said (sequence 6) ∷ []) 6 None → ⊥)
     × Runs flows.Unsequenced (at_most 2) None (entry one ∷ said unsequenced_heartbeat ∷ []) 5 None

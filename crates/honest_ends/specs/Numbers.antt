@@ -35,8 +35,8 @@ IsFlowing cfg (entry payload) = is_absent cfg.own_flow ≡ false
 IsFlowing cfg (said (negotiate id timestamp flow credentials)) = ⊥
 IsFlowing cfg (said (negotiation_response id timestamp flow credentials)) = ⊥
 IsFlowing cfg (said (negotiation_reject id timestamp code reason)) = ⊥
-IsFlowing cfg (said (establish id timestamp keepalive next credentials)) = ⊥
-IsFlowing cfg (said (establishment_ack id timestamp keepalive next)) = ⊥
+IsFlowing cfg (said (establish id timestamp keepalive next expected credentials)) = ⊥
+IsFlowing cfg (said (establishment_ack id timestamp keepalive next expected)) = ⊥
 IsFlowing cfg (said (establishment_reject id timestamp code reason)) = ⊥
 IsFlowing cfg (said (sequence next)) = ⊤
 IsFlowing cfg (said unsequenced_heartbeat) = ⊤
@@ -63,8 +63,8 @@ Allows (at_most b) n = b ≤ n
 
 -- the number of the next live message that a message announces, where the flow of its writer has numbers
 abbrev pub announces : Flow → Piece → Option ℕ
-announces flow (said (establish id timestamp keepalive next credentials)) = if is_sequenced flow then next else None
-announces flow (said (establishment_ack id timestamp keepalive next)) = if is_sequenced flow then next else None
+announces flow (said (establish id timestamp keepalive next expected credentials)) = if is_sequenced flow then next else None
+announces flow (said (establishment_ack id timestamp keepalive next expected)) = if is_sequenced flow then next else None
 announces flow (said (sequence next)) = if is_sequenced flow then Some next else None
 announces flow p = None
 

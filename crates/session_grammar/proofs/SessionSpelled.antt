@@ -4,7 +4,7 @@ use Rattle.std.specs.Prelude.{◌==◌}
 use Rattle.std.proofs.lemmas.Bool.{false≢true, le-leb, and_from}
 use Rattle.std.proofs.lemmas.Bool.Decides.{nat_tests}
 use Rattle.std.proofs.lemmas.List.{drop_at, length-append}
-use Rattle.std.specs.List.{list_any}
+use Rattle.std.specs.List.{list_any, AllByRecursion}
 use Rattle.std.specs.Int.{w16, from_le_bytes}
 use Rattle.sbe_prim.specs.declared.Primitive.TheVariants.{UInt16}
 use Rattle.sbe_prim.specs.declared.Order.TheVariants.{Little}
@@ -20,19 +20,19 @@ use Rattle.sbe_grammar.specs.Parts.{Then, IsNumber}
 use Rattle.sbe_grammar.specs.Spelling.{SpellsGroups, SpellsData, SpellsBy}
 use Rattle.sbe_grammar.proofs.MessagesRead.{spelled_once}
 use Rattle.session_grammar.specs.SessionSchema as session
-use Rattle.fixp_msgs.specs.Header.{block_length_in, template_in, schema_in, session_schema}
+use Rattle.fixp_msgs.specs.Header.{block_length_in, template_in, schema_in, version_in, session_schema}
 use Rattle.fixp_msgs.specs.Message.{Message}
 use Rattle.fixp_msgs.specs.Table.{row_of, size_of, block_size, is_template}
 use Rattle.fixp_msgs.specs.Grammar.{Spells}
 use Rattle.fixp_msgs.specs.Spelled.{message_at, has_datum, message_in}
 use Rattle.fixp_msgs.proofs.Rows.{of_template}
-use Rattle.fixp_msgs.proofs.Found.{spelled_is_found}
+use Rattle.fixp_msgs.proofs.Found.{spelled_is_found, fields_at}
 use Rattle.session_grammar.specs.SessionTrees.{tree_of}
-use Rattle.session_grammar.specs.Laws.{SpellsTree, IsTreeOfSpelled}
+use Rattle.session_grammar.specs.Laws.{IsTreeOfSpelled}
 use Rattle.session_grammar.proofs.Cutting.{number_in_front, behind_front}
-use Rattle.session_grammar.proofs.Fields.{if_true, covered}
+use Rattle.session_grammar.proofs.Fields.{if_true, Timely, timely, covered}
 use Rattle.session_grammar.proofs.SessionRows.{DataFit, Fits, FitsFound, plans_at, fits, same_templates, HasTemplate, have_templates}
-use Rattle.session_grammar.proofs.TreeSpelled.{there, tree_spelled}
+use Rattle.session_grammar.proofs.TreeSpelled.{SpellsWith, there, tree_spelled}
 
 -- ---- the template
 
@@ -51,15 +51,15 @@ among [] id layout e = cc
 among (l ∷ ls) id layout e =
     among_by (l.template == id) l.template id (list_any (nat_eq id) (map (λ (x : MessagePlan). x.template) ls)) refl (λ other. among ls id layout (behind_first (l.template == id) l (plans.message_of id ls) layout e other))
 
-is_template_of_plan : (version id : ℕ) (layout : MessagePlan) → plans.message_of id (plans_at version) ≡ Some layout → is_template id ≡ true
-is_template_of_plan version id layout e = ap (list_any (nat_eq id)) (sym (same_templates version)) ∙ among (plans_at version) id layout e
+is_template_of_plan : (version id : ℕ) (layout : MessagePlan) → plans.message_of id (plans_at true version) ≡ Some layout → is_template id ≡ true
+is_template_of_plan version id layout e = ap (list_any (nat_eq id)) (sym (same_templates version)) ∙ among (plans_at true version) id layout e
 
 -- the plan that is found of a template fits the row of each message of that template
-fits_found : (version id : ℕ) (layout : MessagePlan) (block behind : List ℕ) → plans.message_of id (plans_at version) ≡ Some layout → Fits layout (row_of (message_at id block behind))
-fits_found version id layout block behind e =
-    let m = message_at id block behind in
-    let same : id ≡ (row_of m).template = of_template HasTemplate have_templates id (is_template_of_plan version id layout e) block behind in
-    let found : plans.message_of (row_of m).template (plans_at version) ≡ Some layout = ap (λ (n : ℕ). plans.message_of n (plans_at version)) (sym same) ∙ e in
+fits_found : (version told id : ℕ) (layout : MessagePlan) (block behind : List ℕ) → plans.message_of id (plans_at true version) ≡ Some layout → Fits layout (row_of (message_at told id block behind))
+fits_found version told id layout block behind e =
+    let m = message_at told id block behind in
+    let same : id ≡ (row_of m).template = of_template HasTemplate have_templates id (is_template_of_plan version id layout e) told block behind in
+    let found : plans.message_of (row_of m).template (plans_at true version) ≡ Some layout = ap (λ (n : ℕ). plans.message_of n (plans_at true version)) (sym same) ∙ e in
     let P : Option MessagePlan → Type 0 = λ x. FitsFound x (row_of m) in
     subst P found (fits version m)
 
@@ -105,7 +105,7 @@ abbrev behind_in : List ℕ → List ℕ
 behind_in bytes = drop (block_length_in bytes) (drop 8 bytes)
 
 abbrev message_here : List ℕ → Message
-message_here bytes = message_at (template_in bytes) (block_in bytes) (behind_in bytes)
+message_here bytes = message_at (version_in bytes) (template_in bytes) (block_in bytes) (behind_in bytes)
 
 -- what has to hold of bytes that spell that message
 record Stands (bytes : List ℕ) : Type 0 where
@@ -122,7 +122,7 @@ found bytes s =
     if_true _ (Some (message_here bytes)) None (and_from _ _ s.template (and_from _ _ s.schema (and_from _ _ (le-leb _ _ s.covers) (and_from _ _ (le-leb _ _ s.whole) s.datum))))
 
 -- and it holds of bytes that spell a tree
-stands : (version : ℕ) (bytes : List ℕ) (t : tree.Message) (layout : MessagePlan) → SpellsBy (plans.plan_of (session.session_schema version)) layout bytes t → Stands bytes
+stands : (version : ℕ) (bytes : List ℕ) (t : tree.Message) (layout : MessagePlan) → SpellsBy (plans.plan_of (session.schema_with true version)) layout bytes t → Stands bytes
 stands version bytes t layout by =
     let sizes = by.joined in
     let ids = sizes.is_behind in
@@ -138,8 +138,9 @@ stands version bytes t layout by =
     let size : block_length_in bytes ≡ by.size = ap (from_le_bytes w16) sizes.joined ∙ number_in_front sizes.front sizes.behind sizes.is_front.whole ∙ sizes.is_front.number in
     let id : template_in bytes ≡ t.template = ap (from_le_bytes w16) at_two ∙ number_in_front ids.front ids.behind ids.is_front.whole ∙ ids.is_front.number in
     let schema : schema_in bytes ≡ session_schema = ap (from_le_bytes w16) at_four ∙ number_in_front schemas.front schemas.behind schemas.is_front.whole ∙ schemas.is_front.number in
-    let found : plans.message_of (template_in bytes) (plans_at version) ≡ Some layout = ap (λ (n : ℕ). plans.message_of n (plans_at version)) id ∙ sym by.found in
-    let fit = fits_found version (template_in bytes) layout (block_in bytes) (behind_in bytes) found in
+    let found : plans.message_of (template_in bytes) (plans_at true version) ≡ Some layout = ap (λ (n : ℕ). plans.message_of n (plans_at true version)) id ∙ sym by.found in
+    let version_is : version_in bytes ≡ by.version = ap (from_le_bytes w16) at_six ∙ number_in_front versions.front versions.behind versions.is_front.whole ∙ versions.is_front.number in
+    let fit = fits_found version (version_in bytes) (template_in bytes) layout (block_in bytes) (behind_in bytes) found in
     let r = row_of (message_here bytes) in
     let nothing : groups.front ≡ [] = no_groups_there by.version t.root.groups layout.root.groups groups.front fit.groups groups.is_front in
     let after : behind_in bytes ≡ vars.front ++ vars.behind =
@@ -152,7 +153,10 @@ stands version bytes t layout by =
     ap length sizes.joined
     ∙ length-append sizes.front sizes.behind
     ∙ omega (arith, ap length ids.joined ∙ length-append ids.front ids.behind, ap length schemas.joined ∙ length-append schemas.front schemas.behind, ap length versions.joined ∙ length-append versions.front versions.behind, ap length blocks.joined ∙ length-append blocks.front blocks.behind, sizes.is_front.whole, ids.is_front.whole, schemas.is_front.whole, versions.is_front.whole, blocks.is_front.whole) in
-    let covers : 0 + sum_by size_of r.fields ≤ by.size = covered by.version by.size 0 r.fields layout.root.marks fit.marks (omega arith) blocks.is_front.fields_within in
+    let covers : 0 + sum_by size_of r.fields ≤ by.size = covered by.version by.size 0 r.fields layout.root.marks fit.lasts
+    (subst (λ (n : ℕ). AllByRecursion (Timely n) r.fields) version_is
+    (timely (version_in bytes) 0 (block_in bytes) r.fields (fields_at (version_in bytes) (template_in bytes) (block_in bytes) (behind_in bytes) (is_template_of_plan version (template_in bytes) layout found))))
+    fit.marks (omega arith) blocks.is_front.fields_within in
     record {
       template = is_template_of_plan version (template_in bytes) layout found;
       schema = ap (λ (n : ℕ). n == session_schema) schema;
@@ -161,12 +165,12 @@ stands version bytes t layout by =
       datum = datum_there by.version r.datum layout.root.vars t.root.vars vars.front vars.behind (behind_in bytes) fit.vars after vars.is_front;
     }
 
-pub session_spelled : (version : ℕ) (bytes : List ℕ) (t : tree.Message) → SpellsTree version bytes t → IsTreeOfSpelled bytes t
+pub session_spelled : (version : ℕ) (bytes : List ℕ) (t : tree.Message) → SpellsWith true version bytes t → IsTreeOfSpelled bytes t
 session_spelled version bytes t s =
     let m = message_here bytes in
     let here : Spells bytes m = (spelled_is_found bytes m).1 (found bytes (stands version bytes t s.0 s.1)) in
     record {
       message = m;
       spelled = here;
-      tree_is = spelled_once (plans.plan_of (session.session_schema version)) bytes t (tree_of m) s (tree_spelled version bytes m here);
+      tree_is = spelled_once (plans.plan_of (session.schema_with true version)) bytes t (tree_of m) s (tree_spelled version bytes m here);
     }

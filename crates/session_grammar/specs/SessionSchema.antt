@@ -1,5 +1,6 @@
 -- The session messages of FIXP 1.1 as a schema of SBE 1.0 (this project's profile): what each message's fields are, for any version of the schema.
-use Rattle.std.specs.Prelude.{ℕ, ◌-◌, ◌^◌, ℤ, pos, Option, Some, None, List, [], ◌∷◌, ◌++◌, codes}
+-- Version 1 adds one field to Establish and EstablishmentAck, the number that their writer expects.
+use Rattle.std.specs.Prelude.{ℕ, ◌-◌, ◌^◌, ℤ, pos, Bool, nat_le, if◌then◌else◌, Option, Some, None, List, [], ◌∷◌, ◌++◌, codes}
 use Rattle.sbe_prim.specs.declared.Order.TheVariants.{Little}
 use Rattle.sbe_prim.specs.declared.Primitive.{Primitive}
 use Rattle.sbe_prim.specs.declared.Primitive.TheVariants.{UInt8, UInt16, UInt32, UInt64}
@@ -55,6 +56,21 @@ u64_field id name = field id name (codes "u64") Required
 abbrev pub opt_field : ℕ → List ℕ → FieldDef
 opt_field id name = field id name (codes "opt") Optional
 
+-- the number that the writer of a handshake's message expects, which version 1 adds
+abbrev pub expected_field : FieldDef
+expected_field = record {
+  name = codes "expected_next";
+  id = 6;
+  type_name = codes "opt";
+  presence = Optional;
+  value = None;
+  offset = None;
+  since = pos 1;
+}
+
+abbrev pub expected_fields : Bool → List FieldDef
+expected_fields newer = if newer then expected_field ∷ [] else []
+
 abbrev pub data_field : ℕ → List ℕ → List DataDef
 data_field id name = record { name = name; id = id; length = UInt16; since = pos 0 } ∷ []
 
@@ -79,16 +95,17 @@ counted id name = message id name (u64_field 1 (codes "from_seq") ∷ u32_field 
 
 -- ---- the sixteen messages
 
-abbrev pub negotiation_messages : List MessageDef
-negotiation_messages =
+abbrev pub negotiation_messages : Bool → List MessageDef
+negotiation_messages newer =
     message 1 (codes "Negotiate") (session_id ∷ u64_field 2 (codes "timestamp") ∷ u8_field 3 (codes "client_flow") ∷ []) (data_field 4 (codes "credentials"))
     ∷ message 2 (codes "NegotiationResponse") (session_id ∷ u64_field 2 (codes "request_timestamp") ∷ u8_field 3 (codes "server_flow") ∷ [])
     (data_field 4 (codes "credentials"))
     ∷ coded 3 (codes "NegotiationReject")
-    ∷ message 4 (codes "Establish") (session_id ∷ u64_field 2 (codes "timestamp") ∷ u32_field 3 (codes "keepalive") ∷ opt_field 4 (codes "next_seq") ∷ [])
+    ∷ message 4 (codes "Establish") (session_id ∷ u64_field 2 (codes "timestamp") ∷ u32_field 3 (codes "keepalive") ∷ opt_field 4 (codes "next_seq")
+    ∷ expected_fields newer)
     (data_field 5 (codes "credentials"))
     ∷ message 5 (codes "EstablishmentAck") (session_id ∷ u64_field 2 (codes "request_timestamp") ∷ u32_field 3 (codes "keepalive")
-    ∷ opt_field 4 (codes "next_seq") ∷ []) []
+    ∷ opt_field 4 (codes "next_seq") ∷ expected_fields newer) []
     ∷ coded 6 (codes "EstablishmentReject")
     ∷ []
 
@@ -112,12 +129,15 @@ closing_messages =
     ∷ message 16 (codes "Terminate") (session_id ∷ u8_field 2 (codes "code") ∷ []) (data_field 3 (codes "reason"))
     ∷ []
 
--- all elements are there since version 0
-abbrev pub session_schema : ℕ → Schema
-session_schema version = record {
+-- with the elements of version 1, or those of version 0 alone
+abbrev pub schema_with : Bool → ℕ → Schema
+schema_with newer version = record {
   id = 61457;
   version = version;
   order = Little;
   types = session_types;
-  messages = negotiation_messages ++ (transfer_messages ++ closing_messages);
+  messages = negotiation_messages newer ++ (transfer_messages ++ closing_messages);
 }
+
+abbrev pub session_schema : ℕ → Schema
+session_schema version = schema_with (nat_le 1 version) version

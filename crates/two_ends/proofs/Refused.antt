@@ -7,6 +7,7 @@ use Rattle.flow_recover.specs.declared.receiver.Seen.TheVariants.{Deliver, Gap, 
 use Rattle.flow_recover.specs.Receiving as receiver_is
 use Rattle.flow_retrans.specs.declared.requester.BadStart.{BadStart}
 use Rattle.flow_retrans.specs.Requests as request_is
+use Rattle.fixp_msgs.specs.declared.messages.Expected.{Expected}
 use Rattle.fixp_msgs.specs.Message.{Message, negotiate, negotiation_response, negotiation_reject, establish, establishment_ack, establishment_reject, sequence, unsequenced_heartbeat, retransmit_request, retransmission, retransmit_reject, applied, not_applied, finished_sending, finished_receiving, terminate}
 use Rattle.fixp_shake.specs.declared.violation.Violation.{Violation}
 use Rattle.fixp_shake.specs.Phases.{is_establishing, is_established, is_closing}
@@ -45,12 +46,12 @@ announcing : (x : Around) (f g : Facts) (i : Incoming) (template : ℕ) (next : 
     → Refuses f i (follows (announced x g next)) → AllRows (Refuses f i) (announcement_rows x g template next follows)
 announcing x f g i template next follows on = (λ broken. refusing x f g i (announcement_fault x g template next) broken, λ _. (λ _. on, λ _. tt))
 
-establish_all : (x : Around) (f : Facts) (id : List ℕ) (timestamp keepalive : ℕ) (next : Option ℕ) (credentials : List ℕ)
-    → AllRows (Refuses f (session (establish id timestamp keepalive next credentials))) (establish_rows_in x f id timestamp keepalive next credentials)
-establish_all x f id timestamp keepalive next credentials = by_place (awaits_client x f) (serves_client x f)
+establish_all : (x : Around) (f : Facts) (id : List ℕ) (timestamp keepalive : ℕ) (next : Option ℕ) (expected : Expected) (credentials : List ℕ)
+    → AllRows (Refuses f (session (establish id timestamp keepalive next expected credentials))) (establish_rows_in x f id timestamp keepalive next credentials)
+establish_all x f id timestamp keepalive next expected credentials = by_place (awaits_client x f) (serves_client x f)
   where
     i : Incoming
-    i = session (establish id timestamp keepalive next credentials)
+    i = session (establish id timestamp keepalive next expected credentials)
 
     by_place : (p q : Bool) → AllRows (Refuses f i) (if p then establish_rows x f id timestamp keepalive next credentials else if q then established_again_rows x f id timestamp else [])
     by_place true q = (
@@ -108,9 +109,9 @@ quiet : (x : Around) (f : Facts) (i : Incoming) → event_of i ≡ None → AllR
 quiet x f i none = none_all f i (rows_of x f i) none
 
 session_rows : (x : Around) (f : Facts) (m : Message) → AllRows (Refuses f (session m)) (rows_of x f (session m))
-session_rows x f (establish id timestamp keepalive next credentials) = establish_all x f id timestamp keepalive next credentials
-session_rows x f (establishment_ack id timestamp keepalive next) =
-    let i : Incoming = session (establishment_ack id timestamp keepalive next) in
+session_rows x f (establish id timestamp keepalive next expected credentials) = establish_all x f id timestamp keepalive next expected credentials
+session_rows x f (establishment_ack id timestamp keepalive next expected) =
+    let i : Incoming = session (establishment_ack id timestamp keepalive next expected) in
     let interval : ℕ = min 60000 (max 100 keepalive) in
     own_rows (Refuses f i) x f 5 id _ (λ e _. ended refl) (all_within (Refuses f i) (is_establishing f.connection.phase) _ (λ _.
     announcing x f f i 5 next (λ (d : Announced). goes_on x (skip_of d.skipped) (told_skip d.skipped) (established d.facts interval)) (λ out. absurd (true≢false out))))
@@ -166,8 +167,8 @@ closing_is_deaf x f i c =
     ends_it (session (negotiate _ _ _ _)) t = absurd (true≢false (sym t))
     ends_it (session (negotiation_response _ _ _ _)) t = absurd (true≢false (sym t))
     ends_it (session (negotiation_reject _ _ _ _)) t = absurd (true≢false (sym t))
-    ends_it (session (establish _ _ _ _ _)) t = absurd (true≢false (sym t))
-    ends_it (session (establishment_ack _ _ _ _)) t = absurd (true≢false (sym t))
+    ends_it (session (establish _ _ _ _ _ _)) t = absurd (true≢false (sym t))
+    ends_it (session (establishment_ack _ _ _ _ _)) t = absurd (true≢false (sym t))
     ends_it (session (establishment_reject _ _ _ _)) t = absurd (true≢false (sym t))
     ends_it (session (sequence _)) t = absurd (true≢false (sym t))
     ends_it (session unsequenced_heartbeat) t = absurd (true≢false (sym t))

@@ -41,10 +41,10 @@ can_come (p ∷ pieces) [] reads = absurd reads
 can_come (p ∷ pieces) (f ∷ frames) reads = (reads.0.incoming, can_come pieces frames reads.1)
 
 pub opening_is_legal : IsLegal opening
-opening_is_legal = record { fields = (refl, (omega arith, (omega arith, (omega arith, tt)))); datum = omega arith }
+opening_is_legal = record { fields = (refl, (omega arith, (omega arith, (omega arith, (tt, tt))))); datum = omega arith }
 
 pub answer_is_legal : IsLegal answer
-answer_is_legal = record { fields = (refl, (omega arith, (omega arith, (omega arith, tt)))); datum = tt }
+answer_is_legal = record { fields = (refl, (omega arith, (omega arith, (omega arith, (tt, tt))))); datum = tt }
 
 comes : (m : Message) → IsLegal m → AreFirstOf (map incoming_of (said m ∷ [])) (frames_of (bytes_written (said m ∷ [])))
 comes m legal = can_come (said m ∷ []) (frames_of (bytes_written (said m ∷ []))) (all_is_read (said m ∷ []) (legal, tt))

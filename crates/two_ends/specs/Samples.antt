@@ -4,6 +4,7 @@ use Rattle.session_model.specs.Events.{announce, handshake}
 use Rattle.session_model.specs.Samples.{silence}
 use Rattle.fixp_msgs.specs.declared.flow.Flow.TheVariants as flows
 use Rattle.fixp_msgs.specs.Canonical.{frame_bytes}
+use Rattle.fixp_msgs.specs.declared.messages.Expected.TheVariants as expects
 use Rattle.fixp_msgs.specs.Message.{Message, establish, establishment_ack}
 use Rattle.fixp_shake.specs.declared.config.Role.TheVariants as roles
 use Rattle.fixp_shake.specs.declared.config.EndConfig.{EndConfig}
@@ -25,10 +26,10 @@ abbrev pub recorded : EndState
 recorded = record { negotiated = true; inbox_next = 1; peer_last = None; sent = 0; finish = None }
 
 abbrev pub opening : Message
-opening = establish id 0 1000 (Some 1) []
+opening = establish id 0 1000 (Some 1) expects.Absent []
 
 abbrev pub answer : Message
-answer = establishment_ack id 0 1000 (Some 1)
+answer = establishment_ack id 0 1000 (Some 1) expects.Absent
 
 abbrev pub leg_a : Leg
 leg_a = record { moment = 0; calls = taken (length (frame_bytes opening)) ∷ frame (session answer) 0 1 ∷ []; whole = said opening ∷ []; drained = true }

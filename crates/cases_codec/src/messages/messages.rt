@@ -5,11 +5,11 @@ ghost use Rattle.sbe_prim.specs.declared.Order.TheVariants.{Little};
 ghost use Rattle.fixp_msgs.specs.declared.frames.FrameKind.TheVariants.{Session};
 ghost use Rattle.fixp_msgs.specs.Header.{kind_of};
 ghost use Rattle.fixp_msgs.specs.Message.{message_of};
-ghost use Rattle.fixp_msgs.specs.Table.{null};
-ghost use Rattle.fixp_msgs.specs.Canonical.{IsWritable};
+ghost use Rattle.fixp_msgs.specs.Table.{Field, null};
+ghost use Rattle.fixp_msgs.specs.Canonical.{IsWritable, IsWritableField};
 
 use cases_words::bytes;
-use fixp_msgs::{FrameKind, SessionMsg, kind, read, size, write};
+use fixp_msgs::{Expected, FrameKind, SessionMsg, kind, read, size, write};
 use sbe_prim::Order;
 use std::alloc::{AllocError, Global};
 
@@ -51,6 +51,17 @@ fn is_not_null(number: Option<u64>) -> bool
     }
 }
 
+/// Whether an expected number can be written.
+fn is_written(expected: Expected) -> bool
+    ensures { IsTrue result → IsWritableField (Field.expected expected) }
+{
+    match expected {
+        Expected::Absent => true,
+        Expected::Null => true,
+        Expected::Number(number) => number != u64::MAX,
+    }
+}
+
 /// Whether a message can be written.
 fn is_writable(message: &SessionMsg<'_>) -> bool
     ensures { IsTrue result → IsWritable (message_of message.now) }
@@ -59,8 +70,10 @@ fn is_writable(message: &SessionMsg<'_>) -> bool
         SessionMsg::Negotiate(m) => is_short(m.credentials),
         SessionMsg::NegotiationResponse(m) => is_short(m.credentials),
         SessionMsg::NegotiationReject(m) => is_short(m.reason),
-        SessionMsg::Establish(m) => is_short(m.credentials) && is_not_null(m.next_seq),
-        SessionMsg::EstablishmentAck(m) => is_not_null(m.next_seq),
+        SessionMsg::Establish(m) => {
+            is_short(m.credentials) && is_not_null(m.next_seq) && is_written(m.expected_next)
+        }
+        SessionMsg::EstablishmentAck(m) => is_not_null(m.next_seq) && is_written(m.expected_next),
         SessionMsg::EstablishmentReject(m) => is_short(m.reason),
         SessionMsg::RetransmitReject(m) => is_short(m.reason),
         SessionMsg::FinishedSending(m) => is_not_null(m.last_seq),
@@ -81,7 +94,7 @@ fn back(message: &SessionMsg<'_>, frame: &[u8]) -> Option<(usize, bool)> {
         return None;
     }
     let size = size(message);
-    let mut out = [BEHIND; 2100];
+    let mut out = [BEHIND; 2108];
     let written = write(message, &mut out);
     let (front, behind) = out.split_at(written);
     let same = front == frame && behind.iter().all(|byte| *byte == BEHIND);

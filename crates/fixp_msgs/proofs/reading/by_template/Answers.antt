@@ -1,6 +1,8 @@
 -- Each arm hands on what the reader of its template found.
 use Rattle.std.proofs.Common.{true, false, refl, sym, ◌∙◌}
-use Rattle.fixp_msgs.proofs.Rows.{answers-ok_or}
+use Rattle.fixp_msgs.specs.Header.{version_in}
+use Rattle.fixp_msgs.specs.Table.{established_block}
+use Rattle.fixp_msgs.proofs.Rows.{answers-ok_or, establish-shape, ack-shape}
 use Rattle.fixp_msgs.proofs.reading.by_template.Goals as goal
 
 pub returns-in-1 : goal.returns-in-1
@@ -13,10 +15,14 @@ pub returns-in-3 : goal.returns-in-3
 returns-in-3 c = rw c.ok_or-in-3.ensures.value (answers-ok_or c.args.message.now 3 25 true c.negotiation_reject.result (sym c.u16_at.ensures ∙ c.in-3.is) c.requires.session refl refl c.negotiation_reject.ensures)
 
 pub returns-in-4 : goal.returns-in-4
-returns-in-4 c = rw c.ok_or-in-4.ensures.value (answers-ok_or c.args.message.now 4 36 true c.establish.result (sym c.u16_at.ensures ∙ c.in-4.is) c.requires.session refl refl c.establish.ensures)
+returns-in-4 c =
+    rw c.ok_or-in-4.ensures.value (answers-ok_or c.args.message.now 4 (established_block (version_in c.args.message.now)) true c.establish.result (sym c.u16_at.ensures ∙ c.in-4.is) c.requires.session
+    refl (establish-shape (version_in c.args.message.now)) c.establish.ensures)
 
 pub returns-in-5 : goal.returns-in-5
-returns-in-5 c = rw c.ok_or-in-5.ensures.value (answers-ok_or c.args.message.now 5 36 false c.establishment_ack.result (sym c.u16_at.ensures ∙ c.in-5.is) c.requires.session refl refl c.establishment_ack.ensures)
+returns-in-5 c =
+    rw c.ok_or-in-5.ensures.value (answers-ok_or c.args.message.now 5 (established_block (version_in c.args.message.now)) false c.establishment_ack.result (sym c.u16_at.ensures ∙ c.in-5.is) c.requires.session
+    refl (ack-shape (version_in c.args.message.now)) c.establishment_ack.ensures)
 
 pub returns-in-6 : goal.returns-in-6
 returns-in-6 c = rw c.ok_or-in-6.ensures.value (answers-ok_or c.args.message.now 6 25 true c.establishment_reject.result (sym c.u16_at.ensures ∙ c.in-6.is) c.requires.session refl refl c.establishment_reject.ensures)
