@@ -13,5 +13,8 @@ mod tally;
 
 pub use faults::{BoxFault, CloseFault, JournalCause, SubmitFault, Which};
 pub use inbox::Inbox;
+pub use messages::payload_of;
+pub use notes::Notes;
 pub use outbox::Outbox;
 pub use stable::Stable;
+pub use tally::Tally;

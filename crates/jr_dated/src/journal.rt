@@ -1,6 +1,6 @@
 //! What every journal with moments is to the layers above: a list of dated records that each stop leaves whole.
 
-ghost use Rattle.std.specs.Prelude.{◌≡◌, ◌≢◌, ◌↔◌, ℕ, ◌+◌, ◌<◌, ◌≤◌, ◌^◌, max, Bool, true, false, List, [], ◌∷◌, ◌++◌, length, slice_get, Option, Some, Err, IfOk, OnOk, OnErr, IsErrOf};
+ghost use Rattle.std.specs.Prelude.{◌≡◌, ◌≢◌, ◌↔◌, ℕ, ◌+◌, ◌<◌, ◌≤◌, ◌^◌, max, Bool, true, false, List, [], ◌∷◌, ◌++◌, length, slice_get, take, drop, Option, Some, Err, IfOk, OnOk, OnErr, IsErrOf};
 ghost use Rattle.std.specs.List.{AllByRecursion};
 ghost use Rattle.gw_outside.specs.Faults.{HasRisen};
 ghost use Rattle.jr_record.specs.Records.{IsRecord};
@@ -167,6 +167,10 @@ pub trait Journal {
 
     /// While its disk tells its content and no call of it has failed, it stands for one list.
     ghost one: { (j : Self) (h k : List Dated) → tells → is_broken j ≡ false → stands j h → stands j k → h ≡ k };
+
+    /// Where it stands for more lists than the one that its images hold, its disk tells no content. So it holds as well the
+    /// beginning of that list with the rest of any other: what records that were read one after another are together.
+    ghost crossed: { (j : Self) (h k : List Dated) (n : ℕ) → is_broken j ≡ false → Holds stands leaves j h [] → stands j k → Holds stands leaves j (take n h ++ drop n k) [] };
 
     /// While no call of its disk has failed, each image holds exactly a list that it stands for.
     ghost held: { (j : Self) → is_broken j ≡ false → ∥ ((h : List Dated) × Holds stands leaves j h []) ∥₁ };

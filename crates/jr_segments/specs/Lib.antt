@@ -1,4 +1,5 @@
 pub mod Adding
+pub mod Crossing
 pub mod Fronts
 pub mod Growing
 pub mod Journal

@@ -174,6 +174,7 @@ impl<D: Disk> Journal for SegJournal<D> {
     ghost use Rattle.std.specs.Prelude.{is_some, true};
     ghost use Rattle.std.proofs.Math.Logic.{∥∥₁_map};
     ghost use Rattle.jr_segments.specs.Lawful.{counted_by, few_by, one_by};
+    ghost use Rattle.jr_segments.specs.Crossing.{keeps_crossed, told_crossed, images_crossed};
     ghost use Rattle.jr_segments.specs.Settled.{closed_holds, settled};
 
     ghost stands = { StandsFor };
@@ -271,6 +272,14 @@ impl<D: Disk> Journal for SegJournal<D> {
     ghost few = { λ j. few_by (length (numbers_of j.places)) j.size j.counted j.small };
 
     ghost one = { λ j h k tells sound s t. one_by (D.told j.disk) h k (tells j.disk) (s.told (j.whole sound)) (t.told (j.whole sound)) };
+
+    ghost crossed = { λ j h k n sound held s. record {
+      stands_for = record {
+        keeps = keeps_crossed (numbers_of j.places) j.size j.moment n h k held.stands_for.keeps s.keeps;
+        told = λ whole. told_crossed (D.told j.disk) n h k (held.stands_for.told whole) (s.told whole);
+      };
+      images = images_crossed (D.told j.disk) (D.may_leave j.disk) n h k (D.untold j.disk) (held.stands_for.told (j.whole sound)) (s.told (j.whole sound)) held.images;
+    } };
 
     ghost held = { λ j sound. ∥∥₁_map (j.held sound) (λ found. (
       found.0,

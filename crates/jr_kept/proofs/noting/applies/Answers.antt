@@ -1,0 +1,18 @@
+use Rattle.std.proofs.Common.{◌≡◌, ◌++◌, List, [], ℕ, sym, ap, subst, ◌∙◌, arith}
+use Rattle.std.proofs.lemmas.List.{append-nil, nil_from_length}
+use Rattle.std.specs.List.{AllByRecursion}
+use Rattle.jr_record.specs.Records.{IsRecord}
+use Rattle.jr_boxes.specs.Inboxes.{records_of_inbox}
+use Rattle.jr_kept.specs.Notes.{applies}
+use Rattle.jr_kept.proofs.Keeping.{legal_applies}
+use Rattle.jr_kept.proofs.noting.applies.Goals as goal
+
+pub returns-clause-legal : goal.returns-clause-legal
+returns-clause-legal c =
+    let done : c.loop-rest.rest.now ≡ [] = nil_from_length c.loop-rest.rest.now (omega (arith, c.in_default.len_below)) in
+    let is : c.from.result ≡ records_of_inbox (applies c.args.first c.args.payloads.now) =
+    c.from.ensures
+    ∙ sym (append-nil c.loop-rest.records.items)
+    ∙ ap (λ (ps : List (List ℕ)). c.loop-rest.records.items ++ records_of_inbox (applies c.loop-rest.number ps)) (sym done)
+    ∙ c.loop-rest.invariant.written in
+    subst (AllByRecursion IsRecord) (sym is) (legal_applies c.args.first c.args.payloads.now c.requires.least c.requires.room c.requires.payloads)
