@@ -42,9 +42,10 @@ use Rattle.life_laws.proofs.Seen.{order_prop}
 use Rattle.life_laws.specs.Plans.{plan_in, GoesOnWith}
 use Rattle.life_laws.proofs.Lost.{plans_go_on, lost_few}
 use Rattle.life_laws.specs.PlanLives.{clocked, LivedBoxes, WasFull, FillsInbox}
+use Rattle.plan_outbox.specs.Behind.{GoesOnFrom}
 use Rattle.life_laws.proofs.Outboxes.{entries-outbox_of, plans_keep_outbox}
 use Rattle.cmd_base.specs.declared.status.Status.{Status}
-use Rattle.cmd_session.specs.Lived.{LeavesImages, FullInbox, limits, OpensOutbox, OpensInbox, LivedOver, LivedOn, Lived, over_boxes}
+use Rattle.cmd_session.specs.Lived.{LeavesImages, FullInbox, limits, OpensOutbox, OpensInbox, GoOn, LivedOver, LivedOn, Lived, over_boxes}
 use Rattle.cmd_session.specs.Outsides.{Sees, live_of}
 use Rattle.cmd_session.specs.declared.outside.SessionOutside.{SessionOutside}
 use Rattle.cmd_session.proofs.Kept.{outbox_kept, inbox_kept}
@@ -65,7 +66,7 @@ module _ {S K D N C J : Type 0} {H : Ghosts J} (outbox : Outbox J H) (sees : See
       (o : OpensOutbox (sees.told before.out_disk) outbox) (i : OpensInbox (sees.told before.in_disk) box) (limit : ((outboxes.limits_of outbox).entries ≡ 2 ^ 24) × ((outboxes.limits_of outbox).bytes ≡ 2 ^ 30))
       (in_limit : (inboxes.limits_of box).bytes ≡ 2 ^ 30) (now_out_is : after.out_disk ≡ disk_at (outboxes.journal_of closed)) (now_in_is : after.in_disk ≡ disk_at (inboxes.journal_of since))
       (out_least : sees.disk before.out_disk ≤ outboxes.faults_of outbox) (in_least : sees.disk before.in_disk ≤ inboxes.faults_of box) (out_count : sees.disk after.out_disk ≡ outboxes.faults_of closed) (in_count : sees.disk after.in_disk ≡ inboxes.faults_of since)
-      (l : LivedBoxes (clocked sees.links (sees.last before.clock) (sees.last after.clock)) config plans (beside (sees.carried before.dialer) (sees.taken before.out) box) (beside (sees.carried after.dialer) (sees.taken after.out) since) outbox closed result) where
+      (go : GoOn plans outbox) (l : LivedBoxes (clocked sees.links (sees.last before.clock) (sees.last after.clock)) config plans (beside (sees.carried before.dialer) (sees.taken before.out) box) (beside (sees.carried after.dialer) (sees.taken after.out) since) outbox closed result) where
     abbrev machine : State
     machine = fresh config (opened_state l.opening box) (2 ^ 24)
 
@@ -76,6 +77,10 @@ module _ {S K D N C J : Type 0} {H : Ghosts J} (outbox : Outbox J H) (sees : See
     same_records : records_of_history o.history ≡ records_of_history l.opening
     same_records = ∥∥₁_elim l.opened (records_prop (records_of_history o.history) (records_of_history l.opening))
         (λ h. only (outboxes.journal_of outbox) (records_of_history o.history) (records_of_history l.opening) o.holds.journal.stands_for h.journal.stands_for)
+
+    -- so the plans go on from it
+    goes_on_from : GoesOnFrom plans l.opening
+    goes_on_from = go l.opening (subst (λ (rs : List Record). H.stands (outboxes.journal_of outbox) rs) same_records o.holds.journal.stands_for)
 
     has : Has entries_then l.seen
     has = subst (λ (es : List Entry). Has es l.seen) (sym (entries-outbox_of l.closing)) (record { begins = l.begins.made; few = l.few })
@@ -153,10 +158,12 @@ module _ {S K D N C J : Type 0} {H : Ghosts J} (outbox : Outbox J H) (sees : See
       refused = l.refused;
       out_opened = subst (λ (rs : List Record). ForSome (sees.told before.out_disk) (λ content. IsJournal content rs)) same_records o.told;
       in_opened = i.told;
+      goes_on_from = goes_on_from;
       holds = i.holds;
       served = l.served;
       answer = l.answer;
       refusal = l.refusal;
+      begins = l.begins;
       lost = l.lost;
       loses = l.loses;
       whole = goes.whole;
@@ -202,7 +209,7 @@ module _ {S K D N C J : Type 0} {H : Ghosts J} (outbox : Outbox J H) (sees : See
           new = since;
           result = h.result;
           status_is = h.status_is;
-          over = lived_over config l.plans before after closed box since h.result o i limit in_limit now_out_is now_in_is out_least in_least out_count in_count h.boxes;
+          over = lived_over config l.plans before after closed box since h.result o i limit in_limit now_out_is now_in_is out_least in_least out_count in_count l.goes_on h.boxes;
         }))
         l.lived;
   }

@@ -1,5 +1,7 @@
 -- What a session reads before it begins (this project's profile).
 use Rattle.std.specs.Prelude.{◌≡◌, ℕ, ◌<◌, ◌≤◌, List, length, Option, Some, Result, Ok}
+use Rattle.std.specs.Option.{ForSome}
+use Rattle.session_model.specs.Journal.{History}
 use Rattle.fixp_msgs.specs.declared.flow.Flow.{Flow}
 use Rattle.fixp_shake.specs.declared.config.Role.{Role}
 use Rattle.fixp_shake.specs.declared.config.EndConfig.{EndConfig}
@@ -9,9 +11,12 @@ use Rattle.cmd_config.specs.declared.configuration.Link.{Link}
 use Rattle.cmd_config.specs.declared.configuration.Configuration.{Configuration}
 use Rattle.cmd_config.specs.Settings.{configuration_of_text, own_flow, peer_flow}
 use Rattle.plan_text.specs.Plans.{HasPlans, IsRefusedAt}
+use Rattle.plan_outbox.specs.Behind.{IsPastAt}
+use Rattle.jr_record.specs.Images.{IsJournal}
+use Rattle.jr_boxes.specs.Outboxes.{records_of_history}
 use Rattle.cmd_base.specs.Texts.{input_limit}
 use Rattle.cmd_base.specs.declared.status.Status.{Status}
-use Rattle.cmd_base.specs.declared.status.Status.TheVariants.{InputFault, Message, Memory}
+use Rattle.cmd_base.specs.declared.status.Status.TheVariants.{InputFault, JournalFault, Message, Memory}
 use Rattle.cmd_base.specs.declared.status.Bad.TheVariants.{Line, TooLong}
 
 -- what a text configures for an end of this role, or why it does not
@@ -53,3 +58,12 @@ RefusesInput senders told (Message TooLong) = (text : List ℕ) → told ≡ Som
 RefusesInput senders told InputFault = Unit {0}
 RefusesInput senders told Memory = Unit {0}
 RefusesInput senders told _ = ⊥
+
+-- What a status says of plans for so many senders that do not go on from an outbox: the first line of INPUT whose payload may not stand in its
+-- sender's plan beside the entries of the outbox; or the device of the outbox or memory failed
+abbrev pub RefusesPlans : ℕ → (input outbox : Option (List ℕ)) → Status → Type 0
+RefusesPlans senders input outbox (Message (Line line)) =
+    ForSome input (λ text. ForSome outbox (λ content. (h : History) → IsJournal content (records_of_history h) → IsPastAt h senders text line))
+RefusesPlans senders input outbox JournalFault = Unit {0}
+RefusesPlans senders input outbox Memory = Unit {0}
+RefusesPlans senders input outbox _ = ⊥

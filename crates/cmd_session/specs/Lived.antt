@@ -2,7 +2,7 @@
 use Rattle.std.specs.Prelude.{◌≡◌, ◌⊎◌, ℕ, ◌^◌, ◌<◌, true, List, [], ◌++◌, length, map, Option, IfSome, option_to_list, Result, Ok, Err, IsSomeAnd}
 use Rattle.std.specs.Option.{ForSome}
 use Rattle.gw_outside.specs.Faults.{HasRisen}
-use Rattle.session_model.specs.Journal.{History, OutboxRecord, InOrder}
+use Rattle.session_model.specs.Journal.{History, OutboxRecord, BeginsHistory, InOrder}
 use Rattle.session_model.specs.Inbox.{InboxRecord, applied}
 use Rattle.session_model.specs.Lives.{IsImage, KeepsContract}
 use Rattle.fixp_shake.specs.declared.config.EndConfig.{EndConfig}
@@ -35,6 +35,7 @@ use Rattle.conn_serve.specs.Opening.{opened_state, IsUnrefused}
 use Rattle.life_laws.specs.Lives.{LifeOfLoop}
 use Rattle.life_laws.specs.Plans.{plan_in, KeepsPlans, LosesNext}
 use Rattle.life_laws.specs.PlanLives.{IsOfSender, clocked, LivedBoxes, WasFull}
+use Rattle.plan_outbox.specs.Behind.{GoesOnFrom}
 use Rattle.cmd_session.specs.Inputs.{ArePlanned}
 use Rattle.cmd_session.specs.Outsides.{Sees, Hears, heard, live_of, disks_of}
 use Rattle.cmd_session.specs.declared.outside.Live.{Live}
@@ -112,12 +113,17 @@ module _ {J : Type 0} {G : Ghosts J} where
     pub told : ForSome content (λ bytes. IsJournal bytes (records_of_inbox inbox))
     pub holds : inboxes.HoldsBox box inbox []
 
+  -- plans go on from each history whose records an outbox has
+  abbrev pub GoOn : List (List (List ℕ)) → Outbox J G → Type 0
+  GoOn plans box = (h : History) → G.stands (outboxes.journal_of box) (records_of_history h) → GoesOnFrom plans h
+
   module _ {S K D N C : Type 0} where
-    -- One life over both journals. They held a history and a list; what serves its connections is a machine that is made of both; and it keeps
-    -- the contract of one end, by these plans. What is left are the records of the closing history and list, and behind them a beginning of
-    -- those refused by a failed call: in the outbox of the one that the plans have next, if its disk failed, with which the closing history
-    -- is one history in order, which keeps the plans too. Every record that the life added to its inbox had room, and so had the one whose
-    -- append the disk failed. Why it answers so: the connections and the refusal say it (`IsLifeAnswer`, `answer_of`), and the counts
+    -- One life over both journals. They held a history, from which these plans go on, and a list; what serves its connections is a machine that
+    -- is made of both; what it came to see of the outbox begins the closing history; and it keeps the contract of one end, by these plans. What
+    -- is left are the records of the closing history and list, and behind them a beginning of those refused by a failed call: in the outbox of
+    -- the one that the plans have next, if its disk failed, with which the closing history is one history in order, which keeps the plans too.
+    -- Every record that the life added to its inbox had room, and so had the one whose append the disk failed. Why it answers so: the
+    -- connections and the refusal say it (`IsLifeAnswer`, `answer_of`), and the counts
     pub record LivedOver (sees : Sees S K D N C) (config : EndConfig) (plans : List (List (List ℕ)))
         (before after : SessionOutside S K D N C) (old new : Inbox J G) (result : Result (Unit {0}) ServeFault) : Type 0 where
       pub opening : History
@@ -128,11 +134,13 @@ module _ {J : Type 0} {G : Ghosts J} where
       pub refused : Option ServeFault
       pub out_opened : ForSome (sees.told before.out_disk) (λ content. IsJournal content (records_of_history opening))
       pub in_opened : ForSome (sees.told before.in_disk) (λ content. IsJournal content (records_of_inbox inbox))
+      pub goes_on_from : GoesOnFrom plans opening
       pub holds : inboxes.HoldsBox old inbox []
       pub served : ServedOver sees.links (sees.last before.clock) (sees.last after.clock) (life_at (sees.carried before.dialer) (sees.taken before.out) opening old)
           (life_at (sees.carried after.dialer) (sees.taken after.out) seen new) (fresh config (opened_state opening old) (2 ^ 24)) connections
       pub answer : result ≡ answer_of connections refused
       pub refusal : IfSome refused IsOfSender
+      pub begins : BeginsHistory seen closing
       pub lost : List OutboxRecord
       pub loses : LosesNext plans opening closing lost
       pub whole : History
@@ -205,11 +213,12 @@ module _ {J : Type 0} {G : Ghosts J} {O : Type 0} {H : Ghosts O} where
           (beside (hears.carried after.live.dialer) (hears.taken after.live.out) after.inbox) before.outbox after.outbox result
 
   module _ {S K D N C : Type 0} where
-    -- INPUT has plans; OUT was begun; and no life began, or one was lived over the boxes
+    -- INPUT has plans, which go on from the outbox; OUT was begun; and no life began, or one was lived over the boxes
     pub record LivedOn (sees : Sees S K D N C) (senders : ℕ) (config : EndConfig) (input : S)
         (before after : OverBoxes K N C (Outbox O H) (Inbox J G)) (status : Status) : Type 0 where
       pub plans : List (List (List ℕ))
       pub life : IsPlannedLife sees senders plans input before.live after.live status
+      pub goes_on : GoOn plans before.outbox
       pub lived : BeganNone sees.sink before after status ⊎ HasLived (heard sees) config plans before after status
 
 module _ {S K D N C J : Type 0} where

@@ -1,5 +1,5 @@
--- The steps of a session: CONFIG, the outbox, the inbox, INPUT, and then OUT and the life. A run ends at one of them, and leaves all that
--- comes behind it as it was (this project's profile).
+-- The steps of a session: CONFIG, the outbox, the inbox, INPUT and its plans beside the outbox, and then OUT and the life. A run ends at one
+-- of them, and leaves all that comes behind it as it was (this project's profile).
 use Rattle.std.specs.Prelude.{◌≡◌, ◌⊎◌, ℕ, List, Option, Some}
 use Rattle.std.specs.Option.{ForSome}
 use Rattle.gw_outside.specs.Faults.{HasRisen}
@@ -12,19 +12,22 @@ use Rattle.cmd_base.specs.Contents.{Disks}
 use Rattle.cmd_base.specs.Texts.{IsUnconfigured, Refuses}
 use Rattle.cmd_base.specs.declared.status.Status.{Status}
 use Rattle.cmd_base.specs.declared.status.Status.TheVariants.{InputFault, JournalFault}
-use Rattle.cmd_session.specs.Inputs.{IsConfigured, configuration_at, flow_received, end_of, RefusesInput}
+use Rattle.cmd_session.specs.Inputs.{IsConfigured, configuration_at, flow_received, end_of, RefusesInput, RefusesPlans}
 use Rattle.cmd_session.specs.Boxes.{IsBox, IsNotOpened}
 use Rattle.cmd_session.specs.Lived.{KeepsRecords, IsKept, LeftBoth, Lived}
 use Rattle.cmd_session.specs.Outsides.{Sees, live_of, disks_of, KeepsLive, KeepsBehindInbox, KeepsBehindConfig}
-use Rattle.cmd_session.specs.declared.outside.Live.{Live}
 use Rattle.cmd_session.specs.declared.outside.SessionOutside.{SessionOutside}
 
-module _ {S K D N C : Type 0} where
-  -- INPUT was refused, with its fault, or could not be read; OUT, the dialer and the clock are as they were
-  pub record RefusedInput (sees : Sees S K D N C) (senders : ℕ) (old new : S) (before after : Live K N C) (status : Status) : Type 0 where
-    pub refused : RefusesInput senders (sees.left old) status
-    pub cause : status ≡ InputFault → HasRisen (sees.source old) (sees.source new)
-    pub live : KeepsLive before after
+-- INPUT was refused, with its fault, or could not be read
+pub record RefusedInput {S : Type 0} (senders : ℕ) (left : S → Option (List ℕ)) (source : S → ℕ) (old new : S) (status : Status) : Type 0 where
+  pub refused : RefusesInput senders (left old) status
+  pub cause : status ≡ InputFault → HasRisen (source old) (source new)
+
+-- the plans of INPUT do not go on from the outbox that this disk held, or it could not be read once more
+pub record RefusedPlans {D : Type 0} (senders : ℕ) (input : Option (List ℕ)) (told : D → Option (List ℕ)) (disk : D → ℕ) (before after : D)
+    (status : Status) : Type 0 where
+  pub refused : RefusesPlans senders input (told before) status
+  pub cause : status ≡ JournalFault → HasRisen (disk before) (disk after)
 
 -- the disk of the outbox holds none, or could not be opened, and is kept; that of the inbox is as it was
 pub record RefusedOutbox {D : Type 0} (told : D → Option (List ℕ)) (may_leave : D → List ℕ → Type 0) (disk : D → ℕ) (flow : Flow) (before after : Disks D)
@@ -67,9 +70,12 @@ module _ {S K D N C : Type 0} where
     pub refused : RefusedBoxes sees.told sees.may_leave sees.disk (flow_received role c.link) (disks_of before) (disks_of after) status
     pub kept : KeepsBehindInbox before after
 
-  -- INPUT was refused; both disks leave the records that they told
+  -- INPUT was refused, or its plans beside the outbox; OUT, the dialer and the clock are as they were, and both disks leave the records that
+  -- they told
   pub record StopsAtInput (sees : Sees S K D N C) (senders : ℕ) (before after : SessionOutside S K D N C) (status : Status) : Type 0 where
-    pub refused : RefusedInput sees senders before.input after.input (live_of before) (live_of after) status
+    pub refused : RefusedInput senders sees.left sees.source before.input after.input status
+        ⊎ RefusedPlans senders (sees.left before.input) sees.told sees.disk before.out_disk after.out_disk status
+    pub live : KeepsLive (live_of before) (live_of after)
     pub left : LeftBoth sees.told sees.may_leave (disks_of before) (disks_of after)
 
 module _ {S K D N C J : Type 0} where

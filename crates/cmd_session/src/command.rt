@@ -1,17 +1,21 @@
 //! The whole of `accept` and `connect`.
 
-ghost use Rattle.std.specs.Prelude.{◌≡◌, ◌+◌, ◌<◌, ◌≤◌, ◌^◌, ◌⊎◌, false, length, IfOk, IfErr};
+ghost use Rattle.std.specs.Prelude.{◌≡◌, ◌+◌, ◌<◌, ◌≤◌, ◌^◌, ◌⊎◌, false, map, length, vec_len, IfOk, IfErr};
+ghost use Rattle.gw_outside.specs.Faults.{HasRisen};
 ghost use Rattle.cmd_config.specs.Settings.{IsLinkInRange, IsTradeInRange};
 ghost use Rattle.fixp_msgs.specs.declared.flow.Flow.TheVariants as flows;
 ghost use Rattle.jr_boxes.specs.Outbox as outboxes;
 ghost use Rattle.jr_boxes.specs.Inbox as inboxes;
 ghost use Rattle.cmd_base.specs.Causes.{NoneFellInSession};
-ghost use Rattle.cmd_session.specs.Lived.{OpensOutbox, OpensInbox, LivedOn, over_boxes};
-ghost use Rattle.cmd_session.specs.Outsides.{sees, counts_of};
-ghost use Rattle.cmd_session.specs.Steps.{RefusedInput, HoldBoxes, RefusedBoxes, EndsBehindConfig, Steps};
+ghost use Rattle.plan_values.specs.Plans.{payloads_of};
+ghost use Rattle.cmd_session.specs.Inputs.{ArePlanned};
+ghost use Rattle.cmd_session.specs.Lived.{OpensOutbox, OpensInbox, GoOn, LeftBoth, IsOfLife, BeganNone, HasLived, over_boxes};
+ghost use Rattle.cmd_session.specs.Outsides.{hears, sees, counts_of};
+ghost use Rattle.cmd_session.specs.Steps.{RefusedInput, RefusedPlans, HoldBoxes, RefusedBoxes, EndsBehindConfig, Steps};
 
 use crate::boxes::{close_inbox, close_outbox, open_inbox, open_outbox};
-use crate::inputs::{end_config, read_input};
+use crate::going_on::plans_on;
+use crate::inputs::end_config;
 use crate::life::live;
 use crate::outside::{Live, SessionOutside};
 use cmd_base::{Status, begin, read_config};
@@ -22,6 +26,7 @@ use gw_outside::{Disk, Sink, Source};
 use jr_boxes::{Inbox, Outbox};
 use jr_log::LogJournal;
 use jr_record::Journal;
+use plan_values::Plan;
 use std::alloc::Global;
 use std::sync::Wait;
 use std::thread::Threads;
@@ -62,21 +67,58 @@ fn open_boxes<D: Disk>(
     }
 }
 
-/// Reads INPUT, which has the plans of so many senders, begins OUT, and lives over the boxes. The outbox comes back with the
-/// status.
-fn run_over_boxes<
-    S: Source,
-    K: Sink,
-    D: Disk + Send,
-    N: Dialer,
-    C: Clock,
-    R: Threads + Wait + Sync,
->(
+/// What a session lives on: its outbox, its inbox, and the plans of its senders, that of sender 1 first.
+type Opened<D> = (Outbox<LogJournal<D>>, Inbox<LogJournal<D>>, Vec<Plan>);
+
+/// Opens the boxes on their disks, and reads INPUT, whose plans, for so many senders, go on from the outbox.
+///
+/// # Errors
+/// The status, and both disks.
+fn open_session<S: Source, D: Disk>(
+    alloc: Global,
+    flow: Flow,
+    senders: u8,
+    input: &mut S,
+    out_disk: D,
+    in_disk: D,
+) -> Result<Opened<D>, (Status, D, D)>
+    ensures told { IfOk result (λ _. HoldBoxes D.told flow (record { outbox = out_disk; inbox = in_disk })) }
+    ensures opened { IfOk result (λ s. OpensOutbox (D.told out_disk) s.0 × OpensInbox (D.told in_disk) s.1) }
+    ensures planned { IfOk result (λ s. ArePlanned senders (S.left input.old) (map payloads_of s.2.items)) }
+    ensures many { IfOk result (λ s. vec_len s.2 ≡ senders) }
+    ensures goes_on { IfOk result (λ s. GoOn (map payloads_of s.2.items) s.0) }
+    ensures sound { IfOk result (λ s. outboxes.is_broken s.0 ≡ false) }
+    ensures in_sound { IfOk result (λ s. inboxes.is_broken s.1 ≡ false) }
+    ensures out_limit { IfOk result (λ s. ((outboxes.limits_of s.0).entries ≡ 2 ^ 24) × ((outboxes.limits_of s.0).bytes ≡ 2 ^ 30)) }
+    ensures flow { IfOk result (λ s. inboxes.flow_of s.1 ≡ flow) }
+    ensures limit { IfOk result (λ s. ((inboxes.limits_of s.1).entries ≡ 2 ^ 24) × ((inboxes.limits_of s.1).bytes ≡ 2 ^ 30)) }
+    ensures numbered { IfOk result (λ s. flow ≡ flows.Recoverable → inboxes.next_of s.1 + 1 < 2 ^ 64) }
+    ensures few { IfOk result (λ s. outboxes.front_of s.0 < 2 ^ 40) }
+    ensures never_falls { IfOk result (λ s. (D.faults out_disk ≤ outboxes.faults_of s.0) × (D.faults in_disk ≤ inboxes.faults_of s.1)) }
+    ensures refused { IfErr result (λ e.
+        (RefusedBoxes D.told D.may_leave D.faults flow (record { outbox = out_disk; inbox = in_disk }) (record { outbox = e.1; inbox = e.2 }) e.0 × (input.new ≡ input.old))
+        ⊎ (HoldBoxes D.told flow (record { outbox = out_disk; inbox = in_disk })
+        × (RefusedInput senders S.left S.faults input.old input.new e.0 ⊎ RefusedPlans senders (S.left input.old) D.told D.faults out_disk e.1 e.0)
+        × LeftBoth D.told D.may_leave (record { outbox = out_disk; inbox = in_disk }) (record { outbox = e.1; inbox = e.2 }))) }
+    ensures counted { S.faults input.old ≤ S.faults input.new }
+    ensures refused_never_falls { IfErr result (λ e. (D.faults out_disk ≤ D.faults e.1) × (D.faults in_disk ≤ D.faults e.2)) }
+{
+    let (outbox, inbox) = match open_boxes(alloc, flow, out_disk, in_disk) {
+        Ok(boxes) => boxes,
+        Err(refused) => return Err(refused),
+    };
+    match plans_on(alloc, senders, input, outbox) {
+        Ok((plans, outbox)) => Ok((outbox, inbox, plans)),
+        Err((status, disk)) => Err((status, disk, close_inbox(inbox))),
+    }
+}
+
+/// Begins OUT, and lives over the boxes by these plans. The outbox comes back with the status.
+fn run_over_boxes<K: Sink, D: Disk + Send, N: Dialer, C: Clock, R: Threads + Wait + Sync>(
     rt: &R,
     alloc: Global,
     config: EndConfig,
-    senders: u8,
-    input: &mut S,
+    plans: Vec<Plan>,
     devices: &mut Live<K, N, C>,
     outbox: Outbox<LogJournal<D>>,
     inbox: &mut Inbox<LogJournal<D>>,
@@ -84,7 +126,7 @@ fn run_over_boxes<
     requires least { 100 ≤ config.keepalive }
     requires greatest { config.keepalive ≤ 60000 }
     requires credentials { length config.credentials ≤ 2048 }
-    requires few { senders ≤ 16 }
+    requires few { vec_len plans ≤ 16 }
     requires sound { outboxes.is_broken outbox ≡ false }
     requires in_sound { inboxes.is_broken inbox.old ≡ false }
     requires lent { N.lent devices.old.dialer ≡ false }
@@ -92,16 +134,15 @@ fn run_over_boxes<
     requires limit { (inboxes.limits_of inbox.old).entries ≡ 2 ^ 24 }
     requires numbered { inboxes.flow_of inbox.old ≡ flows.Recoverable → inboxes.next_of inbox.old + 1 < 2 ^ 64 }
     requires few_entries { outboxes.front_of outbox < 2 ^ 40 }
-    ensures ended { (RefusedInput (sees S.Source K.Sink D.Disk N.Dialer N.Link.Link C.Clock) senders input.old input.new devices.old devices.new result.0 × (result.1 ≡ outbox) × (inbox.new ≡ inbox.old))
-        ⊎ LivedOn (sees S.Source K.Sink D.Disk N.Dialer N.Link.Link C.Clock) senders config input.old (over_boxes devices.old outbox inbox.old) (over_boxes devices.new result.1 inbox.new) result.0 }
+    ensures lived { BeganNone K.faults (over_boxes devices.old outbox inbox.old) (over_boxes devices.new result.1 inbox.new) result.0
+        ⊎ HasLived (hears K.Sink N.Dialer N.Link.Link C.Clock) config (map payloads_of plans.items) (over_boxes devices.old outbox inbox.old) (over_boxes devices.new result.1 inbox.new) result.0 }
+    ensures of_life { IsOfLife result.0 }
+    ensures output { result.0 ≡ Status.OutputFault → HasRisen (K.faults devices.old.out) (K.faults devices.new.out) }
+    ensures dial { result.0 ≡ Status.DialFault → HasRisen (N.faults devices.old.dialer) (N.faults devices.new.dialer) }
     ensures lent { N.lent devices.new.dialer ≡ false }
-    ensures never_falls { (S.faults input.old ≤ S.faults input.new) × (K.faults devices.old.out ≤ K.faults devices.new.out) × (N.faults devices.old.dialer ≤ N.faults devices.new.dialer) }
+    ensures never_falls { (K.faults devices.old.out ≤ K.faults devices.new.out) × (N.faults devices.old.dialer ≤ N.faults devices.new.dialer) }
     ensures boxes_never_fall { (outboxes.faults_of outbox ≤ outboxes.faults_of result.1) × (inboxes.faults_of inbox.old ≤ inboxes.faults_of inbox.new) }
 {
-    let plans = match read_input(alloc, u16::from(senders), input) {
-        Ok(plans) => plans,
-        Err(status) => return (status, outbox),
-    };
     match begin(&mut devices.out) {
         Ok(()) => {}
         Err(_) => return (Status::OutputFault, outbox),
@@ -109,7 +150,7 @@ fn run_over_boxes<
     live(rt, alloc, config, plans, devices, outbox, inbox)
 }
 
-/// Opens the boxes, and runs over them; the devices come back with the status. What is ensured of the run holds whatever CONFIG
+/// Opens the session on its disks and INPUT, and runs over it; the devices come back with the status. What is ensured of the run holds whatever CONFIG
 /// was before it was read.
 fn run_over_disks<
     S: Source,
@@ -145,15 +186,21 @@ fn run_over_disks<
         clock,
     } = outside;
     let mut devices = Live { out, dialer, clock };
-    let (status, out_disk, in_disk) = match open_boxes(alloc, end.peer_flow, out_disk, in_disk) {
-        Ok(boxes) => {
-            let (outbox, mut inbox) = boxes;
+    let (status, out_disk, in_disk) = match open_session(
+        alloc,
+        end.peer_flow,
+        trade.senders,
+        &mut input,
+        out_disk,
+        in_disk,
+    ) {
+        Ok(opened) => {
+            let (outbox, mut inbox, plans) = opened;
             let (status, outbox) = run_over_boxes(
                 rt,
                 alloc,
                 end,
-                trade.senders,
-                &mut input,
+                plans,
                 &mut devices,
                 outbox,
                 &mut inbox,
@@ -176,8 +223,8 @@ fn run_over_disks<
 }
 
 /// `accept` for an acceptor, and `connect` for an initiator: one life of the session that CONFIG configures, over the journals on the
-/// two disks, with the plans in INPUT. CONFIG comes first, then the journals, the outbox first, then INPUT, and then OUT is begun;
-/// where one of them is refused or fails, all behind it is left as it was.
+/// two disks, with the plans in INPUT, which have to go on from the outbox. CONFIG comes first, then the journals, the outbox first,
+/// then INPUT and its plans beside the outbox, and then OUT is begun; where one of them is refused or fails, all behind it is left as it was.
 pub fn run_session<
     S: Source,
     K: Sink,

@@ -52,7 +52,7 @@ find s place payload (g ∷ gifts) e = elim (g.sender == s) as (λ t. (g.sender 
     here again (suc k) same is x = found_later s k (suc k) payload g gifts (λ first j. ap (λ (t : Bool). length (if t then g.payload ∷ payloads_of_sender s first else payloads_of_sender s first)) is ∙ ap suc j) (again k x)
 
 -- the payload of a line stands at that place
-at_line : (s : ℕ) (first rest : List Gift) (g : Gift) → g.sender ≡ s → slice_get (payloads_of_sender s (first ++ g ∷ rest)) (length (payloads_of_sender s first)) ≡ Some g.payload
+pub at_line : (s : ℕ) (first rest : List Gift) (g : Gift) → g.sender ≡ s → slice_get (payloads_of_sender s (first ++ g ∷ rest)) (length (payloads_of_sender s first)) ≡ Some g.payload
 at_line s [] rest g same = elim (g.sender == s) as (λ t. (g.sender == s) ≡ t → slice_get (if t then g.payload ∷ payloads_of_sender s rest else payloads_of_sender s rest) 0 ≡ Some g.payload) [
   | true ↦ λ is. refl
   | false ↦ λ is. absurd (grind (arith, nat_tests))

@@ -2,3 +2,4 @@ mod Agreeing
 mod Taking
 mod Finding
 mod Finishing
+pub mod Excluding

@@ -3,7 +3,7 @@ use Rattle.std.specs.Prelude.{◌≡◌, ◌⊎◌, ℕ, ◌+◌, ◌≤◌, Boo
 use Rattle.sbe_text.specs.Lines.{lines_in}
 use Rattle.session_model.specs.Journal.{History}
 use Rattle.session_model.specs.Plans.{sent_by}
-use Rattle.plan_text.specs.Plans.{Gift, AreGiven, payloads_of_sender}
+use Rattle.plan_text.specs.Plans.{Gift, AreGiven, payloads_of_sender, HasPlans}
 
 -- Of a sender that has sent these payloads, this one may stand at a place of its plan, from 0 on: it was sent at this place; or nothing was
 -- sent there, and more may follow
@@ -30,3 +30,8 @@ pub record IsPastAt (h : History) (senders : ℕ) (text : List ℕ) (line : ℕ)
   pub stand : (first rest : List Gift) (g : Gift) → before ≡ first ++ g ∷ rest → StandsBehind h first g
   pub not : StandsBehind h before here → ⊥
   pub number : line ≡ length before + 1
+
+-- a text of which a line is past has plans that do not go on
+abbrev pub PastExcludes : Type 0
+PastExcludes = (h : History) (senders line : ℕ) (text : List ℕ) → IsPastAt h senders text line
+    → (plans : List (List (List ℕ))) × HasPlans senders text plans × (GoesOnFrom plans h → ⊥)

@@ -4,7 +4,9 @@
 
 mod front;
 mod fronts;
+mod laws;
 mod lines;
 mod past;
 
+pub use laws::past_excludes;
 pub use past::first_past;

@@ -12,11 +12,11 @@ use Rattle.conn_serve.specs.Answers.{answer_of}
 use Rattle.cmd_session.specs.Inputs.{configuration_at, flow_received, end_of}
 use Rattle.cmd_session.specs.Lived.{status_of, IsPlannedLife, HasLivedOver, Lived}
 use Rattle.cmd_session.specs.Outsides.{Sees, live_of, counts_of}
-use Rattle.cmd_session.specs.Steps.{RefusedInput, StopsAtConfig, StopsAtBoxes, EndsBehindConfig, Steps}
+use Rattle.cmd_session.specs.Steps.{StopsAtConfig, StopsAtBoxes, StopsAtInput, EndsBehindConfig, Steps}
 use Rattle.cmd_session.specs.declared.outside.SessionOutside.{SessionOutside}
 use Rattle.cmd_session.proofs.Reading.{many_plans}
 use Rattle.run_laws.specs.Completeness.{NoneRose, TellsPlans, IsSetUp, EndsAs, IsBehindFinish, IsOfConnections, WantsMemory, Completed, RunCompletes}
-use Rattle.run_laws.proofs.Refusing.{some_of, config_memory, box_memory, input_memory}
+use Rattle.run_laws.proofs.Refusing.{some_of, config_memory, box_memory, input_memory, plans_memory}
 use Rattle.run_laws.proofs.Ending.{BlamesNone, ends_as, behind_finish, unrefused, full_is}
 
 -- a text has a plan for each of its senders
@@ -42,8 +42,14 @@ module _ {S K D N C J : Type 0} (G : Ghosts J) (sees : Sees S K D N C)
       (λ i. wants_memory (box_memory Inbox (flow_received role c.link) (sees.told before.in_disk) status set_up.inbox i.refused (λ e. none.in_disk (i.cause e))) s.kept.live.dialer)
       s.refused
 
-  at_input : RefusedInput sees c.trade.senders before.input after.input (live_of before) (live_of after) status → LeftEnds
-  at_input r = wants_memory (input_memory c.trade.senders (sees.left before.input) status set_up.input r.refused (λ e. none.input (r.cause e))) r.live.dialer
+  at_input : StopsAtInput sees c.trade.senders before after status → LeftEnds
+  at_input s = ⊎_elim
+      (λ r. wants_memory (input_memory c.trade.senders (sees.left before.input) status set_up.input r.refused (λ e. none.input (r.cause e))) s.live.dialer)
+      (λ r.
+      wants_memory
+      (plans_memory (flow_received role c.link) c.trade.senders (sees.left before.input) (sees.told before.out_disk) status set_up.input set_up.outbox set_up.goes_on r.refused (λ e. none.out_disk (r.cause e)))
+      s.live.dialer)
+      s.refused
 
   module _ (plans : List (List (List ℕ))) (life : IsPlannedLife sees c.trade.senders plans before.input (live_of before) (live_of after) status)
       (h : HasLivedOver G sees (end_of role c.link) plans before after status) where
@@ -86,7 +92,7 @@ module _ {S K D N C J : Type 0} (G : Ghosts J) (sees : Sees S K D N C)
       l.lived
 
   behind_config : EndsBehindConfig G sees role c before after status → LeftEnds
-  behind_config e = ⊎_elim at_boxes (λ r. ⊎_elim (λ s. at_input s.refused) at_life r.ended) e
+  behind_config e = ⊎_elim at_boxes (λ r. ⊎_elim at_input at_life r.ended) e
 
   pub at_step : Steps G sees role before after status → LeftEnds
   at_step s = ⊎_elim

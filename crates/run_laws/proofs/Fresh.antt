@@ -1,8 +1,14 @@
 -- Journals without records and an INPUT without bytes.
-use Rattle.std.proofs.Common.{◌≡◌, ℕ, false, List, [], ◌∷◌, ◌++◌, length, Option, Some, None, IsSomeAnd, refl, sym, ap, subst, length-append, arith}
+use Rattle.std.proofs.Common.{◌≡◌, inr, ℕ, ◌+◌, ◌≤◌, Bool, true, false, List, [], ◌∷◌, ◌++◌, length, Option, Some, None, IsSomeAnd, refl, sym, ap, subst, length-append, arith}
+use Rattle.std.specs.Option.{ForSome}
+use Rattle.session_model.specs.Journal.{Entry}
+use Rattle.session_model.specs.Plans.{sent_by}
 use Rattle.session_model.specs.Inbox.{InboxRecord}
 use Rattle.fixp_msgs.specs.declared.flow.Flow.{Flow}
 use Rattle.jr_record.specs.Images.{IsJournal}
+use Rattle.jr_record.proofs.Verdicts.{at_most_one_verdict}
+use Rattle.jr_boxes.specs.Outboxes.{records_of_history}
+use Rattle.plan_outbox.specs.Behind.{GoesOnFrom}
 use Rattle.jr_boxes.specs.declared.faults.Which.{Which}
 use Rattle.jr_boxes.specs.declared.faults.Which.TheVariants.{Outbox, Inbox}
 use Rattle.plan_text.specs.Plans.{payloads_of_senders}
@@ -10,7 +16,7 @@ use Rattle.cmd_session.specs.Boxes.{IsBox}
 use Rattle.cmd_session.specs.Inputs.{flow_received}
 use Rattle.cmd_session.specs.Outsides.{Sees}
 use Rattle.cmd_session.specs.declared.outside.SessionOutside.{SessionOutside}
-use Rattle.run_laws.specs.Completeness.{TellsPlans, FreshIsSetUp}
+use Rattle.run_laws.specs.Completeness.{GoOnFrom, TellsPlans, FreshIsSetUp}
 
 -- what follows of the value that is told
 of_told : {A : Type 0} (o : Option A) (P Q : A → Type 0) → ((a : A) → P a → Q a) → IsSomeAnd o P → IsSomeAnd o Q
@@ -37,10 +43,32 @@ empty_box Inbox flow content j = record {
 no_lines : (senders : ℕ) → TellsPlans senders []
 no_lines senders = record { short = omega arith; plans = payloads_of_senders 1 senders []; has = record { gifts = []; given = tt; plans_are = refl } }
 
+-- plans go on from nothing
+pub goes_on_nothing : (plans : List (List (List ℕ))) (made : List Entry) (finished : Bool) → made ≡ [] → finished ≡ false → GoesOnFrom plans (record { made = made; finished = finished })
+goes_on_nothing plans made finished none open_is i place payload there =
+    inr (subst (λ (es : List Entry). length (sent_by es (i + 1)) ≤ place) (sym none) (omega arith), open_is)
+
+-- a journal without records is that of no other history
+only_nothing : (made : List Entry) (finished : Bool) → [] ≡ records_of_history (record { made = made; finished = finished }) → (made ≡ []) × (finished ≡ false)
+only_nothing [] true e = absurd (omega (arith, ap length e))
+only_nothing [] false e = (refl, refl)
+only_nothing (x ∷ made) finished e = absurd (omega (arith, ap length e))
+
+goes_on_fresh : (senders : ℕ) (content text : List ℕ) → IsJournal content [] → GoOnFrom senders content text
+goes_on_fresh senders content text empty h plans holds has =
+    let is = only_nothing h.made h.finished (at_most_one_verdict.one_list content [] (records_of_history h) empty holds) in
+    goes_on_nothing plans h.made h.finished is.0 is.1
+
+-- what is so of a value that is told
+so_told : {A : Type 0} (o : Option A) (P : A → Type 0) → IsSomeAnd o P → ForSome o P
+so_told None P h a e = absurd h
+so_told (Some b) P h a e = let same : b ≡ a = cc in subst P same h
+
 pub fresh_is_set_up : {S K D N C : Type 0} (sees : Sees S K D N C) (before : SessionOutside S K D N C) → FreshIsSetUp sees before
 fresh_is_set_up sees before role c config outbox inbox input = record {
   config = config;
   outbox = of_told (sees.told before.out_disk) (λ content. IsJournal content []) (IsBox Outbox (flow_received role c.link)) (empty_box Outbox (flow_received role c.link)) outbox;
   inbox = of_told (sees.told before.in_disk) (λ content. IsJournal content []) (IsBox Inbox (flow_received role c.link)) (empty_box Inbox (flow_received role c.link)) inbox;
   input = subst (λ (o : Option (List ℕ)). IsSomeAnd o (TellsPlans c.trade.senders)) (sym input) (no_lines c.trade.senders);
+  goes_on = λ content told text read. goes_on_fresh c.trade.senders content text (so_told (sees.told before.out_disk) (λ content. IsJournal content []) outbox content told);
 }

@@ -1,22 +1,23 @@
-mod Refusing
-mod Ending
-mod Completing
-mod Fresh
-mod Telling
-mod Ordered
-mod Sending
-mod Steady
-mod Bounded
-mod Joined
-mod Fitted
-mod Merely
-mod Ways
-mod Chaining
-mod Holding
-mod Lasting
-mod Submitted
-mod Promised
-mod Sampled
-mod Spelled
-mod Acknowledged
-mod Boxed
+pub mod Refusing
+pub mod Ending
+pub mod Completing
+pub mod Fresh
+pub mod Telling
+pub mod Ordered
+pub mod Sending
+pub mod Steady
+pub mod Bounded
+pub mod Joined
+pub mod Fitted
+pub mod Merely
+pub mod Ways
+pub mod Chaining
+pub mod Holding
+pub mod Lasting
+pub mod Submitted
+pub mod Gave
+pub mod Promised
+pub mod Sampled
+pub mod Spelled
+pub mod Acknowledged
+pub mod Boxed

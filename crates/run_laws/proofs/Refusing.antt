@@ -1,11 +1,17 @@
 -- Where what is read at a step is in order, a run that stops there wants memory.
 use Rattle.std.proofs.Common.{◌≡◌, ℕ, ◌+◌, ◌<◌, List, length, Option, Some, None, Result, Ok, IsSomeAnd, refl, subst, arith}
+use Rattle.std.specs.Option.{ForSome}
+use Rattle.session_model.specs.Journal.{History}
 use Rattle.fixp_msgs.specs.declared.flow.Flow.{Flow}
 use Rattle.schema_toml.specs.declared.fault.ConfigFault.{ConfigFault}
 use Rattle.cmd_config.specs.declared.configuration.Configuration.{Configuration}
 use Rattle.plan_text.specs.Plans.{AreGiven}
 use Rattle.plan_text.proofs.OneReading.{none_among}
+use Rattle.plan_outbox.specs.Behind.{IsPastAt}
+use Rattle.plan_outbox.proofs.Excluding.{past_excludes}
 use Rattle.jr_record.specs.declared.record.Record.{Record}
+use Rattle.jr_record.specs.Images.{IsJournal}
+use Rattle.jr_boxes.specs.Outboxes.{records_of_history}
 use Rattle.jr_record.proofs.Verdicts.{at_most_one_verdict}
 use Rattle.jr_boxes.specs.declared.faults.Which.{Which}
 use Rattle.jr_boxes.specs.declared.faults.Which.TheVariants.{Outbox, Inbox}
@@ -16,9 +22,9 @@ use Rattle.cmd_base.specs.Texts.{Refuses, input_limit}
 use Rattle.cmd_base.specs.declared.status.Bad.TheVariants.{Line, TooLong}
 use Rattle.cmd_base.specs.declared.status.Status.{Status}
 use Rattle.cmd_base.specs.declared.status.Status.TheVariants.{Config, InputFault, JournalFault, JournalBad, Message, Memory}
-use Rattle.cmd_session.specs.Inputs.{IsLineOf, RefusesInput}
+use Rattle.cmd_session.specs.Inputs.{IsLineOf, RefusesInput, RefusesPlans}
 use Rattle.cmd_session.specs.Boxes.{AreThoseOf, IsWrongIn, IsBox, IsNoBox, IsNotOpened}
-use Rattle.run_laws.specs.Completeness.{TellsPlans}
+use Rattle.run_laws.specs.Completeness.{GoOnFrom, TellsPlans}
 
 -- the value that is told, of which this is so
 pub some_of : {A : Type 0} (o : Option A) (P : A → Type 0) → IsSomeAnd o P → (a : A) × (o ≡ Some a) × P a
@@ -67,3 +73,22 @@ input_memory senders told (Message TooLong) is refused never = let t = some_of t
 input_memory senders told InputFault is refused never = absurd (never refl)
 input_memory senders told Memory is refused never = refl
 input_memory senders told _ is refused never = absurd refused
+
+-- plans that go on from an outbox are not refused beside it
+not_past : (flow : Flow) (senders line : ℕ) (content text : List ℕ) → IsBox Outbox flow content → GoOnFrom senders content text
+    → ((h : History) → IsJournal content (records_of_history h) → IsPastAt h senders text line) → ⊥
+not_past flow senders line content text box goes past =
+    let h : History = box.those.0 in
+    let holds : IsJournal content (records_of_history h) = subst (λ (rs : List Record). IsJournal content rs) box.those.1.spelled box.journal in
+    let found = past_excludes h senders line text (past h holds) in
+    found.2 (goes h found.0 holds found.1)
+
+pub plans_memory : (flow : Flow) (senders : ℕ) (input told : Option (List ℕ)) (status : Status) → IsSomeAnd input (TellsPlans senders) → IsSomeAnd told (IsBox Outbox flow) → ForSome told (λ content. ForSome input (GoOnFrom senders content))
+    → RefusesPlans senders input told status → (status ≡ JournalFault → ⊥) → status ≡ Memory
+plans_memory flow senders input told (Message (Line line)) is box goes refused never =
+    let t = some_of input (TellsPlans senders) is in
+    let c = some_of told (IsBox Outbox flow) box in
+    absurd (not_past flow senders line c.0 t.0 c.2 (goes c.0 c.1 t.0 t.1) (refused t.0 t.1 c.0 c.1))
+plans_memory flow senders input told JournalFault is box goes refused never = absurd (never refl)
+plans_memory flow senders input told Memory is box goes refused never = refl
+plans_memory flow senders input told _ is box goes refused never = absurd refused

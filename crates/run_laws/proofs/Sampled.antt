@@ -4,7 +4,7 @@ use Rattle.std.specs.Prelude.{option_to_list, IsSomeAnd, IfSome}
 use Rattle.sofh_frame.specs.Framing.{IsBytes}
 use Rattle.std.specs.Option.{ForSome}
 use Rattle.std.specs.List.{All}
-use Rattle.std.proofs.lemmas.Option.{same_Some}
+use Rattle.std.proofs.lemmas.Option.{none-some, same_Some}
 use Rattle.session_model.specs.Journal.{Entry, OutboxRecord, entry, entries, History, InOrder, counts_from}
 use Rattle.session_model.specs.Inbox.{InboxRecord}
 use Rattle.session_model.specs.Plans.{sent_by}
@@ -71,25 +71,26 @@ use Rattle.cmd_session.specs.Lived.{LeavesImages, IsOfLife, LivedOver, status_of
 use Rattle.run_laws.specs.Several.{HasFlows, IsEmptyJournal, IsAt, RunsOver, WasRun, HasRun}
 use Rattle.run_laws.specs.Linked.{no_more, paired}
 use Rattle.run_laws.specs.Samples.{configured, config_text, both_recoverable, message, submitted, nothing, with_one, journal_of, MemoryDisk, IsOneOf, memory_links, memory, settled, torn, one_left, MemoryOutside, MemoryRun, stopped_run, cut_run, of_initiator, of_acceptor, runs_of_initiator, runs_of_acceptor, RunsSample}
-use Rattle.run_laws.proofs.Fresh.{empty_box}
+use Rattle.plan_outbox.specs.Behind.{GoesOnFrom}
+use Rattle.run_laws.proofs.Fresh.{empty_box, goes_on_nothing}
 use Rattle.run_laws.proofs.Spelled.{spelled_initiator, spelled_acceptor}
 
 -- ---- journals
 
-is_application : IsApplication submitted.payload
+pub is_application : IsApplication submitted.payload
 is_application = record { frame = message; admissible = record { least = omega arith; most = omega arith }; application = refl; spelled = refl }
 
-in_order : InOrder (submitted ∷ [])
+pub in_order : InOrder (submitted ∷ [])
 in_order s = by_test (1 == s)
   where
     by_test : (b : Bool) → map (λ (e : Entry). e.own_number) (cond b (submitted ∷ []) []) ≡ counts_from 1 (length (cond b (submitted ∷ []) []))
     by_test true = refl
     by_test false = refl
 
-journal_nothing : IsJournal (journal_of nothing) (records_of_history nothing)
+pub journal_nothing : IsJournal (journal_of nothing) (records_of_history nothing)
 journal_nothing = record { legal = tt; closed = 0; is_closed = λ e. omega (arith, e); behind = []; whole = refl }
 
-journal_one : IsJournal (journal_of with_one) (records_of_history with_one)
+pub journal_one : IsJournal (journal_of with_one) (records_of_history with_one)
 journal_one = record {
   legal = (((omega arith, omega arith), (omega arith, omega arith), (omega arith, omega arith)), tt);
   closed = 0;
@@ -99,7 +100,7 @@ journal_one = record {
 }
 
 -- what a disk leaves that was settled, or torn, are journals of these
-settled_leaves : (h : History) → IsJournal (journal_of h) (records_of_history h) → LeavesImages (λ content. IsOneOf content (settled h).left) (records_of_history h) []
+pub settled_leaves : (h : History) → IsJournal (journal_of h) (records_of_history h) → LeavesImages (λ content. IsOneOf content (settled h).left) (records_of_history h) []
 settled_leaves h j None left = settled_none left.1
   where
     settled_none : IsOneOf left.0 (settled h).left → ⊥
@@ -115,7 +116,7 @@ settled_leaves h j (Some records) left = by_one left.1
     }
     by_one (inr none) = absurd none
 
-torn_leaves : LeavesImages (λ content. IsOneOf content torn.left) (records_of_history nothing) (map record_of (entry submitted ∷ []))
+pub torn_leaves : LeavesImages (λ content. IsOneOf content torn.left) (records_of_history nothing) (map record_of (entry submitted ∷ []))
 torn_leaves None left = torn_none left.1
   where
     torn_none : IsOneOf left.0 torn.left → ⊥
@@ -137,20 +138,20 @@ torn_leaves (Some records) left = by_one left.1
     }
     by_one (inr (inr none)) = absurd none
 
-from_one : (P : List ℕ → Type 0) (x content : List ℕ) → P x → IsOneOf content (x ∷ []) → P content
+pub from_one : (P : List ℕ → Type 0) (x content : List ℕ) → P x → IsOneOf content (x ∷ []) → P content
 from_one P x content p (inl same) = subst P (sym same) p
 from_one P x content p (inr none) = absurd none
 
-empty_at : IsAt memory IsEmptyJournal (settled nothing)
+pub empty_at : IsAt memory IsEmptyJournal (settled nothing)
 empty_at = record { tells = journal_nothing; leaves = λ content k. from_one IsEmptyJournal (journal_of nothing) content journal_nothing k }
 
-outbox_nothing : IsOutbox (records_of_history nothing) nothing
+pub outbox_nothing : IsOutbox (records_of_history nothing) nothing
 outbox_nothing = record { spelled = refl; senders = tt; payloads = tt; in_order = λ s. refl }
 
-outbox_one : IsOutbox (records_of_history with_one) with_one
+pub outbox_one : IsOutbox (records_of_history with_one) with_one
 outbox_one = record { spelled = refl; senders = ((omega arith, omega arith), tt); payloads = (is_application, tt); in_order = in_order }
 
-told_so : {A : Type 0} (P : A → Type 0) (x : A) → P x → ForSome (Some x) P
+pub told_so : {A : Type 0} (P : A → Type 0) (x : A) → P x → ForSome (Some x) P
 told_so P x p y e = subst P (same_Some x y e) p
 
 -- ---- lives that add nothing to either box
@@ -163,7 +164,7 @@ keeps_same plans h unmarked = record {
   none = λ e. refl;
 }
 
-module _ {J : Type 0} {G : Ghosts J} (box : Inbox J G) (held : HoldsBox box [] []) (config : EndConfig) (plans : List (List (List ℕ))) (h : History) (lost : List OutboxRecord) (loses : LosesNext plans h h lost)
+module _ {J : Type 0} {G : Ghosts J} (box : Inbox J G) (held : HoldsBox box [] []) (config : EndConfig) (plans : List (List (List ℕ))) (h : History) (from : GoesOnFrom plans h) (lost : List OutboxRecord) (loses : LosesNext plans h h lost)
     (order : InOrder h.made) (unmarked : h.finished ≡ false) (few : length h.made < 2 ^ 40)
     (j : IsJournal (journal_of h) (records_of_history h)) (before after : MemoryOutside) (out_is : before.out_disk ≡ settled h) (in_was : before.in_disk ≡ settled nothing) (in_is : after.in_disk ≡ settled nothing)
     (connections : Result LifeEnd ServeFault) (refused : Option ServeFault) (of_sender : IfSome refused IsOfSender) (result : Result (Unit {0}) ServeFault) (answer : result ≡ answer_of connections refused)
@@ -186,17 +187,17 @@ module _ {J : Type 0} {G : Ghosts J} (box : Inbox J G) (held : HoldsBox box [] [
   opens : Opens made made machine []
   opens = subst (λ (es : List Entry). Opens es made machine []) (sym (entries-outbox_of h)) (opened_opens box h config (2 ^ 24) made [] (prefix_equal h.made made (sym (entries-outbox_of h))) held)
 
-  life : LifeOfLoop (outbox_of h) (outbox_of h) lost machine [] (all_of served.life.ended served.life.given_up) (refused_of_all (option_to_list served.life.given_up))
+  pub life : LifeOfLoop (outbox_of h) (outbox_of h) lost machine [] (all_of served.life.ended served.life.given_up) (refused_of_all (option_to_list served.life.given_up))
   life = served_keeps box (life_at (memory.carried before.dialer) (memory.taken before.out) h box) (life_at (memory.carried after.dialer) (memory.taken after.out) h box) machine connections (outbox_of h) (outbox_of h) lost [] served.life has opens
 
-  keeps : KeepsConnections (model_flow config.own_flow) (model_flow config.peer_flow) (entries (life_in (machine_life life.life)).opening_outbox) (entries (life_in (machine_life life.life)).closing_outbox) (served_of life.life)
+  pub keeps : KeepsConnections (model_flow config.own_flow) (model_flow config.peer_flow) (entries (life_in (machine_life life.life)).opening_outbox) (entries (life_in (machine_life life.life)).closing_outbox) (served_of life.life)
   keeps = subst (λ (rs : List OutboxRecord). KeepsConnections (model_flow config.own_flow) (model_flow config.peer_flow) (entries rs) (entries life.life.closing_outbox) (served_of life.life)) (sym life.outboxes.0)
       (subst (λ (rs : List OutboxRecord). KeepsConnections (model_flow config.own_flow) (model_flow config.peer_flow) made (entries rs) (served_of life.life)) (sym life.outboxes.1) life.keeps)
 
-  goes : GoesOnWith plans h h lost
+  pub goes : GoesOnWith plans h h lost
   goes = plans_go_on plans h h lost (keeps_same plans h unmarked) loses
 
-  outbox_is_kept : KeepsOutbox (plan_in plans) (life_in (machine_life life.life))
+  pub outbox_is_kept : KeepsOutbox (plan_in plans) (life_in (machine_life life.life))
   outbox_is_kept = plans_keep_outbox plans h h goes.whole (life_in (machine_life life.life)) (keeps_same plans h unmarked) order goes.keeps (goes.in_order order) life.outboxes.0 life.outboxes.1
       (ap (λ (rs : List OutboxRecord). rs ++ life.life.refused_outbox) life.outboxes.1 ∙ (ap (λ (rs : List OutboxRecord). outbox_of h ++ rs) life.outboxes.2 ∙ goes.goes_on))
       (subst (λ (rs : List OutboxRecord). length rs ≤ 1) (sym life.outboxes.2) (lost_few plans h h lost loses))
@@ -212,10 +213,12 @@ module _ {J : Type 0} {G : Ghosts J} (box : Inbox J G) (held : HoldsBox box [] [
     refused = refused;
     out_opened = subst (λ (d : MemoryDisk). ForSome (memory.told d) (λ content. IsJournal content (records_of_history h))) (sym out_is) (told_so (λ content. IsJournal content (records_of_history h)) (journal_of h) j);
     in_opened = subst (λ (d : MemoryDisk). ForSome (memory.told d) (λ content. IsJournal content [])) (sym in_was) (told_so (λ content. IsJournal content []) (journal_of nothing) journal_nothing);
+    goes_on_from = from;
     holds = held;
     served = served;
     answer = answer;
     refusal = of_sender;
+    begins = begins_self h;
     lost = lost;
     loses = loses;
     whole = goes.whole;
@@ -237,19 +240,19 @@ module _ {J : Type 0} {G : Ghosts J} (box : Inbox J G) (held : HoldsBox box [] [
     full = λ es bytes e. absurd (not_full es bytes e);
   }
 
-journal_not_full : (es bytes : ℕ) → (◌≡◌ {A = Result (Unit {0}) ServeFault} (Err faults.Journal) (Err (faults.Full es bytes))) → ⊥
+pub journal_not_full : (es bytes : ℕ) → (◌≡◌ {A = Result (Unit {0}) ServeFault} (Err faults.Journal) (Err (faults.Full es bytes))) → ⊥
 journal_not_full es bytes e = cc
 
-cut_not_full : (es bytes : ℕ) → (◌≡◌ {A = Result (Unit {0}) ServeFault} (Err (faults.Unfinished Ended)) (Err (faults.Full es bytes))) → ⊥
+pub cut_not_full : (es bytes : ℕ) → (◌≡◌ {A = Result (Unit {0}) ServeFault} (Err (faults.Unfinished Ended)) (Err (faults.Full es bytes))) → ⊥
 cut_not_full es bytes e = cc
 
-cut_no_journal : (◌≡◌ {A = Result (Unit {0}) ServeFault} (Err (faults.Unfinished Ended)) (Err faults.Journal)) → ⊥
+pub cut_no_journal : (◌≡◌ {A = Result (Unit {0}) ServeFault} (Err (faults.Unfinished Ended)) (Err faults.Journal)) → ⊥
 cut_no_journal e = cc
 
-not_full_stopped : (es bytes : ℕ) → (◌≡◌ {A = Result LifeEnd ServeFault} (Ok ends.Stopped) (Err (faults.Full es bytes))) → ⊥
+pub not_full_stopped : (es bytes : ℕ) → (◌≡◌ {A = Result LifeEnd ServeFault} (Ok ends.Stopped) (Err (faults.Full es bytes))) → ⊥
 not_full_stopped es bytes e = cc
 
-not_full_cut : (es bytes : ℕ) → (◌≡◌ {A = Result LifeEnd ServeFault} (Err (faults.Unfinished Ended)) (Err (faults.Full es bytes))) → ⊥
+pub not_full_cut : (es bytes : ℕ) → (◌≡◌ {A = Result LifeEnd ServeFault} (Err (faults.Unfinished Ended)) (Err (faults.Full es bytes))) → ⊥
 not_full_cut es bytes e = cc
 
 -- ---- the first run of either end: no connection came, and the append of the entry failed
@@ -257,7 +260,7 @@ not_full_cut es bytes e = cc
 abbrev first_plans : List (List (List ℕ))
 first_plans = (submitted.payload ∷ []) ∷ []
 
-loses_first : LosesNext first_plans nothing nothing (entry submitted ∷ [])
+pub loses_first : LosesNext first_plans nothing nothing (entry submitted ∷ [])
 loses_first = inr (refl, inl (record { sender = 1; payload = submitted.payload; next = refl; is = refl }))
 
 module _ {J : Type 0} {G : Ghosts J} (box : Inbox J G) (held : HoldsBox box [] []) (role : Role) (text : List ℕ) where
@@ -283,11 +286,15 @@ module _ {J : Type 0} {G : Ghosts J} (box : Inbox J G) (held : HoldsBox box [] [
   }
 
   abbrev first_lived : LivedOver memory (end_of role configured.link) first_plans first.before first.after box box (Err faults.Journal)
-  first_lived = quiet box held (end_of role configured.link) first_plans nothing (entry submitted ∷ []) loses_first (λ s. refl) refl (omega arith) journal_nothing first.before first.after refl refl refl
+  first_lived = quiet box held (end_of role configured.link) first_plans nothing (goes_on_nothing first_plans [] false refl refl) (entry submitted ∷ []) loses_first (λ s. refl) refl (omega arith) journal_nothing first.before first.after refl refl refl
       (Ok ends.Stopped) (Some faults.Journal) tt (Err faults.Journal) refl (record { life = none_served; links = tt; clock = omega arith }) refl refl ∣ torn_leaves ∣₁ (λ never. absurd (never (omega arith))) (λ unrefused some. absurd (true≢false (sym unrefused)))
       (λ e. inl (omega arith)) journal_not_full
 
-one_of : (P : Connection → Type 0) (c : Connection) → P c → All P (c ∷ [])
+-- no plan goes on from anything
+pub no_plans : (h : History) → GoesOnFrom [] h
+no_plans h i place payload there = absurd (none-some payload there)
+
+pub one_of : (P : Connection → Type 0) (c : Connection) → P c → All P (c ∷ [])
 one_of P c p zero d lt = p
 one_of P c p (suc k) d lt = absurd (omega (arith, lt))
 
@@ -330,14 +337,14 @@ module _ {J : Type 0} {G : Ghosts J} (box : Inbox J G) (held : HoldsBox box [] [
     second = cut_run text h carried
 
     abbrev second_lived : LivedOver memory (end_of role configured.link) [] second.before second.after box box (Err (faults.Unfinished Ended))
-    second_lived = quiet box held (end_of role configured.link) [] h [] (inl refl) order unmarked few j second.before second.after refl refl refl (Err (faults.Unfinished Ended)) None tt (Err (faults.Unfinished Ended)) refl
+    second_lived = quiet box held (end_of role configured.link) [] h (no_plans h) [] (inl refl) order unmarked few j second.before second.after refl refl refl (Err (faults.Unfinished Ended)) None tt (Err (faults.Unfinished Ended)) refl
         (record { life = cut_served ended phase timely; links = (over, tt); clock = by_clock }) refl refl ∣ settled_leaves h j ∣₁ (λ never. refl) (λ unrefused some. absurd (omega (arith, some))) (λ e. absurd (cut_no_journal e)) cut_not_full
 
 -- what is recorded as a life opens on an inbox without records
 abbrev found_state : History → EndState
 found_state h = record { negotiated = false; inbox_next = 1; peer_last = None; sent = length h.made; finish = None }
 
-opened_is : {J : Type 0} {G : Ghosts J} (box : Inbox J G) → HoldsBox box [] [] → (es : List Entry) → found_state (record { made = es; finished = false }) ≡ opened_state (record { made = es; finished = false }) box
+pub opened_is : {J : Type 0} {G : Ghosts J} (box : Inbox J G) → HoldsBox box [] [] → (es : List Entry) → found_state (record { made = es; finished = false }) ≡ opened_state (record { made = es; finished = false }) box
 opened_is box held es =
     ap (λ (b : Bool). record { negotiated = b; inbox_next = 1; peer_last = None; sent = length es; finish = None }) (sym held.noticed.negotiated)
     ∙ (ap (λ (n : ℕ). record { negotiated = is_negotiated box; inbox_next = n; peer_last = None; sent = length es; finish = None }) (sym held.noticed.next)
@@ -355,7 +362,7 @@ abbrev failing : (first end : TurnAt) → LinkSeen
 failing first end = record { eager = true; first = first; end = end; faults_before = 0; faults_behind = 1 }
 
 -- such a link is one in memory
-over_memory : (first end : TurnAt) → IsOver memory_links (failing first end)
+pub over_memory : (first end : TurnAt) → IsOver memory_links (failing first end)
 over_memory first end = record {
   before = record { told = first.told; carried = first.carried; failed = 0 };
   behind = record { told = end.told; carried = end.carried; failed = 1 };
@@ -383,7 +390,7 @@ not_lost e = absurd (true≢false e)
 
 -- ---- the initiator's link took three bytes, and failed
 
-abbrev start_i : State
+abbrev pub start_i : State
 start_i = fresh (end_of Initiator configured.link) (found_state with_one) (2 ^ 24)
 
 abbrev ticked_i : Line
@@ -392,7 +399,7 @@ ticked_i = line_ticked (first_line start_i 0) 0
 abbrev last_i : Line
 last_i = record ticked_i { machine = run ticked_i.machine (sending_calls of_initiator.taken true) }
 
-abbrev leg_i : TurnedLeg
+abbrev pub leg_i : TurnedLeg
 leg_i = record { moment = 0; turns = only_sends 0 of_initiator.taken true ∷ []; cut = None }
 
 abbrev first_i : TurnAt
@@ -436,7 +443,7 @@ is_i = record {
   adds = refl;
 }
 
-ended_i : AllEnded with_one with_one start_i last_i.machine (connection_i ∷ [])
+pub ended_i : AllEnded with_one with_one start_i last_i.machine (connection_i ∷ [])
 ended_i = (
   with_one,
   last_i.machine,
@@ -446,7 +453,7 @@ ended_i = (
 
 -- ---- the acceptor's link gave two of them, and then it failed too
 
-abbrev start_a : State
+abbrev pub start_a : State
 start_a = fresh (end_of Acceptor configured.link) (found_state nothing) (2 ^ 24)
 
 abbrev begun_a : Line
@@ -514,7 +521,7 @@ ticked_a = line_ticked mid_a 0
 abbrev last_a : Line
 last_a = record ticked_a { machine = run ticked_a.machine (link_end ∷ []) }
 
-abbrev leg_a : TurnedLeg
+abbrev pub leg_a : TurnedLeg
 leg_a = record { moment = 0; turns = works heard ∷ link_lost 0 ∷ []; cut = None }
 
 abbrev first_a : TurnAt
@@ -572,7 +579,7 @@ is_a = record {
   adds = refl;
 }
 
-ended_a : AllEnded nothing nothing start_a last_a.machine (connection_a ∷ [])
+pub ended_a : AllEnded nothing nothing start_a last_a.machine (connection_a ∷ [])
 ended_a = (
   nothing,
   last_a.machine,
@@ -583,10 +590,10 @@ ended_a = (
 no_bytes : IsBytes []
 no_bytes k d lt = absurd (omega (arith, lt))
 
-timely_i : IsTimely leg_i
+pub timely_i : IsTimely leg_i
 timely_i = record { begins = omega arith; turns = (record { bytes = no_bytes; time = omega arith }, tt) }
 
-timely_a : IsTimely leg_a
+pub timely_a : IsTimely leg_a
 timely_a = record {
   begins = omega arith;
   turns = (
@@ -598,7 +605,7 @@ timely_a = record {
 -- ---- the runs of either end
 
 module _ {J : Type 0} {G : Ghosts J} (box : Inbox J G) (held : HoldsBox box [] []) (role : Role) (text : List ℕ) (spelled : configuration_at role text ≡ Ok configured) where
-  was : (r : MemoryRun) (h : History) (plans : List (List (List ℕ))) (result : Result (Unit {0}) ServeFault) → r.before.config ≡ Some text → r.before.input ≡ None → r.before.out_disk ≡ settled h → r.before.in_disk ≡ settled nothing
+  abbrev pub was : (r : MemoryRun) (h : History) (plans : List (List (List ℕ))) (result : Result (Unit {0}) ServeFault) → r.before.config ≡ Some text → r.before.input ≡ None → r.before.out_disk ≡ settled h → r.before.in_disk ≡ settled nothing
       → IsJournal (journal_of h) (records_of_history h) → IsOutbox (records_of_history h) h → r.status ≡ status_of result → IsOfLife r.status → (r.status ≡ OutputFault → ⊥) → (r.status ≡ DialFault → ⊥)
       → LivedOver memory (end_of role configured.link) plans r.before r.after box box result → WasRun G memory role both_recoverable r
   was r h plans result config input out_is in_is j outbox status of_life no_output no_dial life = record {
@@ -630,11 +637,11 @@ module _ {J : Type 0} {G : Ghosts J} (box : Inbox J G) (held : HoldsBox box [] [
   }
 
   -- the first run
-  first_was : WasRun G memory role both_recoverable (stopped_run text)
+  abbrev pub first_was : WasRun G memory role both_recoverable (stopped_run text)
   first_was = was (stopped_run text) nothing first_plans (Err faults.Journal) refl refl refl refl journal_nothing outbox_nothing refl tt (λ e. cc) (λ e. cc) (first_lived box held role text)
 
   -- both, where the second found this history
-  runs_over : (h : History) (carried : Carried) → IsOneOf (journal_of h) torn.left → WasRun G memory role both_recoverable (cut_run text h carried)
+  abbrev pub runs_over : (h : History) (carried : Carried) → IsOneOf (journal_of h) torn.left → WasRun G memory role both_recoverable (cut_run text h carried)
       → RunsOver memory (WasRun G memory role both_recoverable) (stopped_run text ∷ cut_run text h carried ∷ []) IsEmptyJournal IsEmptyJournal (journal_of h) (journal_of nothing)
   runs_over h carried among second = (
     empty_at,
@@ -649,7 +656,7 @@ module _ {J : Type 0} {G : Ghosts J} (box : Inbox J G) (held : HoldsBox box [] [
   )
 
 module _ {J : Type 0} {G : Ghosts J} (box : Inbox J G) where
-  ran_i : HoldsBox box [] [] → (text : List ℕ) → configuration_at Initiator text ≡ Ok configured → HasRun G memory Initiator both_recoverable (runs_of_initiator text) with_one []
+  abbrev pub ran_i : HoldsBox box [] [] → (text : List ℕ) → configuration_at Initiator text ≡ Ok configured → HasRun G memory Initiator both_recoverable (runs_of_initiator text) with_one []
   ran_i held text spelled =
       let ended : AllEnded with_one with_one (fresh (end_of Initiator configured.link) (opened_state with_one box) (2 ^ 24)) last_i.machine (connection_i ∷ []) =
       subst (λ (s : EndState). AllEnded with_one with_one (fresh (end_of Initiator configured.link) s (2 ^ 24)) last_i.machine (connection_i ∷ [])) (opened_is box held (submitted ∷ [])) ended_i in
@@ -664,7 +671,7 @@ module _ {J : Type 0} {G : Ghosts J} (box : Inbox J G) where
         payloads = (is_application, tt);
       }
 
-  ran_a : HoldsBox box [] [] → (text : List ℕ) → configuration_at Acceptor text ≡ Ok configured → HasRun G memory Acceptor both_recoverable (runs_of_acceptor text) nothing []
+  abbrev pub ran_a : HoldsBox box [] [] → (text : List ℕ) → configuration_at Acceptor text ≡ Ok configured → HasRun G memory Acceptor both_recoverable (runs_of_acceptor text) nothing []
   ran_a held text spelled =
       let ended : AllEnded nothing nothing (fresh (end_of Acceptor configured.link) (opened_state nothing box) (2 ^ 24)) last_a.machine (connection_a ∷ []) =
       subst (λ (s : EndState). AllEnded nothing nothing (fresh (end_of Acceptor configured.link) s (2 ^ 24)) last_a.machine (connection_a ∷ [])) (opened_is box held []) ended_a in

@@ -37,7 +37,7 @@ module _ {S K D N C : Type 0} (sees : Sees S K D N C) where
         by_box (inr i) = record { outbox = inr i.outbox_kept; inbox = i.inbox_kept; dialer_is = s.kept.live.dialer }
 
     pub input_kept : (senders : ℕ) → StopsAtInput sees senders before after status → Unlived before after
-    input_kept senders s = record { outbox = inr s.left.outbox; inbox = inr s.left.inbox; dialer_is = s.refused.live.dialer }
+    input_kept senders s = record { outbox = inr s.left.outbox; inbox = inr s.left.inbox; dialer_is = s.live.dialer }
 
     pub unbegun_kept : LeftAll sees before after status → Unlived before after
     unbegun_kept l = record { outbox = inr l.left.outbox; inbox = inr l.left.inbox; dialer_is = l.dialer_is }

@@ -1,6 +1,7 @@
 -- What a run of `accept` or `connect` ends with where all that it begins on is in order and told, and no call of a device failed (this
 -- project's profile).
 use Rattle.std.specs.Prelude.{⊤, ◌≡◌, ◌⊎◌, ℕ, ◌<◌, ◌≤◌, true, Contains, List, [], length, Option, Some, IsSomeAnd, Ok, Err}
+use Rattle.std.specs.Option.{ForSome}
 use Rattle.gw_outside.specs.Faults.{HasRisen}
 use Rattle.session_model.specs.Journal.{History}
 use Rattle.fixp_replies.specs.declared.act.Ending.TheVariants as endings
@@ -8,9 +9,11 @@ use Rattle.fixp_shake.specs.declared.config.Role.{Role}
 use Rattle.fixp_machine.specs.Machine.{State}
 use Rattle.cmd_config.specs.declared.configuration.Configuration.{Configuration}
 use Rattle.plan_text.specs.Plans.{HasPlans}
+use Rattle.plan_outbox.specs.Behind.{GoesOnFrom}
 use Rattle.gw_links.specs.Dialers.{DialerTold}
 use Rattle.jr_record.specs.declared.journal.Journal.{Ghosts}
 use Rattle.jr_record.specs.Images.{IsJournal}
+use Rattle.jr_boxes.specs.Outboxes.{records_of_history}
 use Rattle.jr_boxes.specs.declared.faults.Which.TheVariants.{Outbox, Inbox}
 use Rattle.conn_lines.specs.declared.close.Close.TheVariants as closes
 use Rattle.cmd_base.specs.Causes.{SessionCounts}
@@ -38,6 +41,11 @@ pub record NoneRose (before after : SessionCounts) : Type 0 where
   pub in_disk : HasRisen before.in_disk after.in_disk → ⊥
   pub dialer : HasRisen before.dialer after.dialer → ⊥
 
+-- whatever plans a text has for so many senders, they go on from whatever history a content is a journal of
+abbrev pub GoOnFrom : (senders : ℕ) (content text : List ℕ) → Type 0
+GoOnFrom senders content text = (h : History) (plans : List (List (List ℕ))) → IsJournal content (records_of_history h) → HasPlans senders text plans
+    → GoesOnFrom plans h
+
 -- a text is not too long, and has plans for so many senders
 pub record TellsPlans (senders : ℕ) (text : List ℕ) : Type 0 where
   pub short : length text ≤ input_limit
@@ -46,12 +54,13 @@ pub record TellsPlans (senders : ℕ) (text : List ℕ) : Type 0 where
 
 module _ {S K D N C : Type 0} where
   -- What a session begins on is told, and in order: CONFIG spells this configuration for an end of this role, the disks hold an outbox and an
-  -- inbox of the flow that it receives, and INPUT has plans for its senders
+  -- inbox of the flow that it receives, and INPUT has plans for its senders, which go on from the outbox
   pub record IsSetUp (sees : Sees S K D N C) (role : Role) (c : Configuration) (before : SessionOutside S K D N C) : Type 0 where
     pub config : IsSomeAnd (sees.left before.config) (λ text. configuration_at role text ≡ Ok c)
     pub outbox : IsSomeAnd (sees.told before.out_disk) (IsBox Outbox (flow_received role c.link))
     pub inbox : IsSomeAnd (sees.told before.in_disk) (IsBox Inbox (flow_received role c.link))
     pub input : IsSomeAnd (sees.left before.input) (TellsPlans c.trade.senders)
+    pub goes_on : ForSome (sees.told before.out_disk) (λ content. ForSome (sees.left before.input) (GoOnFrom c.trade.senders content))
 
 -- one of some connections ended as Finished
 pub record OneFinished (ended : List Connection) : Type 0 where

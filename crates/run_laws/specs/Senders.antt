@@ -1,5 +1,5 @@
 -- What the outbox of an end holds of its senders behind any runs, over INPUTs that go on from run to run.
-use Rattle.std.specs.Prelude.{◌≡◌, ℕ, true, Contains, List, [], IsSomeAnd}
+use Rattle.std.specs.Prelude.{◌≡◌, ℕ, true, Contains, List, [], slice_get, Some, IsSomeAnd, IsTrue, is_some}
 use mathlib.Core.List.{IsPrefix}
 use Rattle.session_model.specs.Journal.{History, InOrder}
 use Rattle.session_model.specs.Plans.{sent_by}
@@ -49,3 +49,36 @@ module _ {S K D N C J : Type 0} where
   SendersHold G sees = (role : Role) (plan : ℕ → List (List ℕ)) (runs : List (Run S K D N C)) (outbox inbox : List ℕ) (h : History)
       → RunsOver sees (SendsPart G sees role plan) runs IsEmptyJournal IsEmptyJournal outbox inbox → IsJournal outbox (records_of_history h)
       → HoldsSent sees plan runs h
+
+-- a text has plans, and this payload at a place of a sender, from 0 on
+pub record GivesAt (sender place : ℕ) (payload text : List ℕ) : Type 0 where
+  pub senders : ℕ
+  pub plans : List (List (List ℕ))
+  pub has : HasPlans senders text plans
+  pub at : slice_get (plan_in plans sender []) place ≡ Some payload
+
+module _ {S K D N C : Type 0} where
+  -- INPUT of one of some runs gave it
+  pub record SomeGave (sees : Sees S K D N C) (runs : List (Run S K D N C)) (sender place : ℕ) (payload : List ℕ) : Type 0 where
+    pub run : Run S K D N C
+    pub among : Contains runs run
+    pub gave : IsSomeAnd (sees.left run.before.input) (GivesAt sender place payload)
+
+  -- The outbox holds each sender's messages once and in order, each of which INPUT of one of the runs gave at its place; and where it has its
+  -- finish, all that INPUT of one of them had
+  pub record HoldsGiven (sees : Sees S K D N C) (runs : List (Run S K D N C)) (h : History) : Type 0 where
+    pub in_order : InOrder h.made
+    pub given : (sender place : ℕ) (payload : List ℕ) → slice_get (sent_by h.made sender) place ≡ Some payload → SomeGave sees runs sender place payload
+    pub finished : h.finished ≡ true → SomeSent sees runs h
+
+module _ {S K D N C J : Type 0} where
+  -- a run whose INPUT tells its text
+  pub record TellsInput (G : Ghosts J) (sees : Sees S K D N C) (role : Role) (r : Run S K D N C) : Type 0 where
+    pub input : IsTrue (is_some (sees.left r.before.input))
+    pub steps : IsRun G sees role r
+
+  -- So it is behind any runs of one end, from journals without records on, whatever INPUT each had
+  abbrev pub InputsHold : Ghosts J → Sees S K D N C → Type 0
+  InputsHold G sees = (role : Role) (runs : List (Run S K D N C)) (outbox inbox : List ℕ) (h : History)
+      → RunsOver sees (TellsInput G sees role) runs IsEmptyJournal IsEmptyJournal outbox inbox → IsJournal outbox (records_of_history h)
+      → HoldsGiven sees runs h

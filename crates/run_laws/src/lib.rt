@@ -10,5 +10,6 @@ mod several;
 pub use pieces::{boxes_tell, carried_are_linked, configurations_fit, images_within};
 pub use runs::{fresh_is_set_up, run_completes};
 pub use several::{
-    boxes_are_left, closings_stand, none_is_lost, run_keeps, runs_hold, runs_sample, senders_hold,
+    boxes_are_left, closings_stand, inputs_hold, none_is_lost, run_keeps, runs_hold, runs_sample,
+    senders_hold,
 };

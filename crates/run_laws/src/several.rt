@@ -4,7 +4,7 @@ ghost use Rattle.cmd_session.specs.Outsides.{sees};
 ghost use Rattle.run_laws.specs.Holding.{BoxesAreLeft, NoneIsLost, RunsHold};
 ghost use Rattle.run_laws.specs.Promise.{RunKeeps};
 ghost use Rattle.run_laws.specs.Samples.{RunsSample};
-ghost use Rattle.run_laws.specs.Senders.{SendersHold};
+ghost use Rattle.run_laws.specs.Senders.{InputsHold, SendersHold};
 ghost use Rattle.run_laws.specs.Standing.{ClosingsStand};
 
 use gw_links::{Clock, Dialer};
@@ -27,6 +27,12 @@ pub fn none_is_lost<S: Source, K: Sink, D: Disk, N: Dialer, C: Clock>()
 /// where it has its finish, all that one of them had.
 pub fn senders_hold<S: Source, K: Sink, D: Disk, N: Dialer, C: Clock>()
     ensures law { SendersHold ⟦<LogJournal<D> as Journal>⟧ (sees S.Source K.Sink D.Disk N.Dialer N.Link.Link C.Clock) }
+{}
+
+/// Behind any runs of an end, whatever INPUT each had, the outbox holds each sender's messages once and in order, each of which INPUT of one
+/// of them gave at its place; and where it has its finish, all that INPUT of one of them had.
+pub fn inputs_hold<S: Source, K: Sink, D: Disk, N: Dialer, C: Clock>()
+    ensures law { InputsHold ⟦<LogJournal<D> as Journal>⟧ (sees S.Source K.Sink D.Disk N.Dialer N.Link.Link C.Clock) }
 {}
 
 /// A run kept both journals, each by itself, or lived one life of the session model over them.
