@@ -35,7 +35,7 @@ use Rattle.honest_turns.proofs.Resting.{enough_behind}
 use Rattle.honest_turns.proofs.Living.{ready_behind, life_holds}
 
 -- the whole turns of a connection
-turns_of : (before after : History) (m : State) (last : Line) (c : Connection) → (k : IsConnection before after m last c) → AreTurns before k.behind.seen (first_line m c.leg.moment) last c.leg.turns
+pub turns_of : (before after : History) (m : State) (last : Line) (c : Connection) → (k : IsConnection before after m last c) → AreTurns before k.behind.seen (first_line m c.leg.moment) last c.leg.turns
 turns_of before after m last c k =
     subst (λ (h : History). AreTurns h k.behind.seen (first_line m c.leg.moment) last c.leg.turns) k.began.seen_is
     (subst (λ (l : Line). AreTurns c.link.first.seen k.behind.seen l last c.leg.turns) k.began.line
@@ -46,11 +46,11 @@ seen_over : (before after : History) (m : State) (last : Line) (c : Connection) 
 seen_over before after m last c k =
     begins_on before k.behind.seen after (all_seen before k.behind.seen (first_line m c.leg.moment) last c.leg.turns (turns_of before after m last c k)) k.grows
 
-seen_all : (before after : History) (m new : State) (cs : List Connection) → AllEnded before after m new cs → BeginsHistory before after
+pub seen_all : (before after : History) (m new : State) (cs : List Connection) → AllEnded before after m new cs → BeginsHistory before after
 seen_all before after m new [] k = subst (λ (h : History). BeginsHistory before h) (sym k.1) (begins_self before)
 seen_all before after m new (c ∷ later) k = begins_on before k.0 after (seen_over before k.0 m k.2.last c k.2.is) (seen_all k.0 after k.1 new later k.3)
 
-seen_given : (before after : History) (m : State) (c : Option Connection) → WasGivenUp before after m c → BeginsHistory before after
+pub seen_given : (before after : History) (m : State) (c : Option Connection) → WasGivenUp before after m c → BeginsHistory before after
 seen_given before after m None k = subst (λ (h : History). BeginsHistory before h) (sym k) (begins_self before)
 seen_given before after m (Some c) k = seen_over before after m k.0 c k.1
 
@@ -79,7 +79,7 @@ makes_turns e before between last c ready begins timely k =
     }
 
 -- the connections of a life that ended, from where they begin
-record EndedOn (e : End) (before after : History) (new : State) (cs : List Connection) : Type 0 where
+pub record EndedOn (e : End) (before after : History) (new : State) (cs : List Connection) : Type 0 where
   ready : IsReady e.outbox e.state e.inbox
   enough : e.state.facts.recorded.sent ≤ length e.outbox.made
   begins : BeginsHistory after e.outbox
@@ -137,26 +137,26 @@ closes_so e before between mid c k is ends v told = ends v (ap (λ (m : State). 
     by_close (closes.Ended x) e how = let same : x ≡ endings.Violation v = cc e in how ∙ ap (λ (y : Ending). Some y) same
     by_close closes.LinkFault e how = absurd (cc e)
 
-all_close : (e : End) (before after : History) (new : State) (cs : List Connection) (given : List TurnedLeg) → EndedOn e before after new cs
+pub all_close : (e : End) (before after : History) (new : State) (cs : List Connection) (given : List TurnedLeg) → EndedOn e before after new cs
     → EndInTime (sides e (turned cs ++ given)) → AllByRecursion ClosesInTime cs
 all_close e before after new [] given k ends = tt
 all_close e before after new (c ∷ later) given k ends =
     let x = first_on e before after new c later k in
     (closes_so e before x.between x.mid c x.ended x.is ends.0, all_close (end_behind e c.leg) x.between after new later given x.next ends.1)
 
-turned_append : (cs more : List Connection) → turned (cs ++ more) ≡ turned cs ++ turned more
+pub turned_append : (cs more : List Connection) → turned (cs ++ more) ≡ turned cs ++ turned more
 turned_append [] more = refl
 turned_append (c ∷ cs) more = ap (λ (ts : List TurnedLeg). c.leg ∷ ts) (turned_append cs more)
 
 module _ {J : Type 0} {G : Ghosts J} where
   -- of a served life
-  record ServedAs (old new : LifeAt J G) (e : End) (ended : List Connection) (given : Option Connection) : Type 0 where
-    behind : History
-    mid : State
-    on : EndedOn e old.seen behind mid ended
-    makes : AllByRecursion MakesTurns (sides e (turned (all_of ended given)))
+  pub record ServedAs (old new : LifeAt J G) (e : End) (ended : List Connection) (given : Option Connection) : Type 0 where
+    pub behind : History
+    pub mid : State
+    pub on : EndedOn e old.seen behind mid ended
+    pub makes : AllByRecursion MakesTurns (sides e (turned (all_of ended given)))
 
-  served_as : (old new : LifeAt J G) (e : End) (result : Result LifeEnd ServeFault) → (k : ServedLife old new e.state result) → IsReady e.outbox e.state e.inbox
+  pub served_as : (old new : LifeAt J G) (e : End) (result : Result LifeEnd ServeFault) → (k : ServedLife old new e.state result) → IsReady e.outbox e.state e.inbox
       → e.state.facts.recorded.sent ≤ length e.outbox.made → BeginsHistory new.seen e.outbox → ServedAs old new e k.ended k.given_up
   served_as old new e result k ready enough begins =
       let later : List TurnedLeg = turned (option_to_list k.given_up) in

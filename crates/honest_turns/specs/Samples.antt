@@ -1,6 +1,6 @@
 -- The premises of the laws can be met: by two ends without journals, and by two that shake hands over one link, turn by turn.
-use Rattle.std.specs.Prelude.{ℕ, ◌≤◌, false, List, [], ◌∷◌, length, None}
-use Rattle.session_model.specs.Journal.{Entry}
+use Rattle.std.specs.Prelude.{◌≡◌, ℕ, ◌≤◌, false, List, [], ◌∷◌, length, None}
+use Rattle.session_model.specs.Journal.{Entry, History}
 use Rattle.fixp_msgs.specs.Canonical.{frame_bytes}
 use Rattle.fixp_shake.specs.declared.config.EndConfig.{EndConfig}
 use Rattle.fixp_replies.specs.declared.facts.EndState.{EndState}
@@ -8,11 +8,13 @@ use Rattle.fixp_machine.specs.Machine.{fresh}
 use Rattle.conn_turns.specs.Turns.{only_sends, works}
 use Rattle.connection_laws.specs.Samples.{sample_config}
 use Rattle.two_ends.specs.Samples.{acceptor, opening, answer}
+use Rattle.two_ends.specs.Samples as ends
 use Rattle.two_ends.specs.LoopSamples.{nothing, hears, leg_a, leg_b, begins}
 use Rattle.honest_ends.specs.Worlds.{Match}
 use Rattle.honest_turns.specs.Links.{Move, initiator_turns, acceptor_turns, OverOneLink}
-use Rattle.honest_turns.specs.Sides.{Agree}
-use Rattle.honest_turns.specs.Lives.{End, AgreeAt, InTime}
+use Rattle.honest_turns.specs.Sides.{MakesTurns, Agree, AreAtRest}
+use Rattle.honest_turns.specs.Lives.{End, side_of, end_behind, AgreeAt, InTime}
+use Rattle.honest_turns.specs.Sessions.{Reopens}
 
 -- what an end has recorded that has no record in its journals
 abbrev pub unwritten : EndState
@@ -35,3 +37,21 @@ end_of config = record { outbox = nothing; state = begins config; inbox = [] }
 
 abbrev pub HandshakeSample : Type 0
 HandshakeSample = OverOneLink leg_a leg_b × InTime (leg_a ∷ []) (leg_b ∷ []) × AgreeAt (end_of sample_config) (end_of acceptor)
+
+-- either of them, on this outbox
+abbrev pub over : History → EndConfig → End
+over outbox config = record { outbox = outbox; state = begins config; inbox = [] }
+
+-- The two ends of that handshake, over outboxes without entries: they make these turns, and are at rest behind them, quiet. And a next life of the
+-- initiator, over what it has recorded, opens behind it
+pub record RestSample : Type 0 where
+  pub initiator : History
+  pub acceptor : History
+  pub empty_i : initiator.made ≡ []
+  pub empty_a : acceptor.made ≡ []
+  pub makes_i : MakesTurns (side_of (over initiator sample_config) leg_a)
+  pub makes_a : MakesTurns (side_of (over acceptor ends.acceptor) leg_b)
+  pub link : OverOneLink leg_a leg_b
+  pub agree : Agree initiator.made acceptor.made (begins sample_config) (begins ends.acceptor)
+  pub rest : AreAtRest (side_of (over initiator sample_config) leg_a) (side_of (over acceptor ends.acceptor) leg_b) makes_i.turns.last makes_a.turns.last
+  pub opens : Reopens (end_behind (over initiator sample_config) leg_a) (over initiator sample_config)

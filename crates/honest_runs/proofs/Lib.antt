@@ -1,0 +1,12 @@
+pub mod Noting
+pub mod Closing
+pub mod Keeping
+pub mod Counting
+pub mod Paths
+pub mod Leaving
+pub mod Living
+pub mod Chaining
+pub mod Carrying
+pub mod Holding
+pub mod Resting
+pub mod Sampled
