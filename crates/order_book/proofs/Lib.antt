@@ -9,3 +9,4 @@ mod Uncrossed
 mod Totals
 mod Maps
 mod Entering
+mod Ranges

@@ -1,14 +1,17 @@
 -- What the book keeps over any list of orders.
 use Rattle.std.specs.Prelude.{◌≡◌, ℕ, ◌+◌, ◌==◌, Bool, true, false, ◌&&◌, if◌then◌else◌, Option, Some, None, Ok, List, [], ◌∷◌, ◌++◌, ⊤, MatchOption}
-use Rattle.std.specs.List.{All, Contains}
+use Rattle.std.specs.List.{All, AllByRecursion, Contains}
+use Rattle.sbe_layout.specs.declared.plan.Plan.{Plan}
 use Rattle.order_desk.specs.declared.order.Order.{Order}
 use Rattle.order_desk.specs.declared.order.Order.TheVariants.{New}
 use Rattle.order_desk.specs.declared.order.NewOrder.{NewOrder}
 use Rattle.order_desk.specs.declared.report.Report.{Report}
 use Rattle.order_desk.specs.declared.report.ReportKind.{ReportKind}
 use Rattle.order_desk.specs.declared.report.ReportKind.TheVariants.{Accepted, Filled, Expired, Rejected}
+use Rattle.order_desk.specs.Orders.{order_in}
+use Rattle.order_desk.specs.Reports.{InRange}
 use Rattle.order_book.specs.declared.entries.BookOrder.{BookOrder}
-use Rattle.order_book.specs.Book.{meets, beats, best, order_with, told, admitted, reports_of, book_behind, reports_behind}
+use Rattle.order_book.specs.Book.{meets, beats, best, order_with, told, admitted, reports_of, book_after, book_behind, reports_behind}
 
 -- ---- the best order
 
@@ -114,3 +117,15 @@ AcceptedIsNew = (rs : List BookOrder) (new : NewOrder) (o : BookOrder) → admit
 abbrev pub ReportsGoOn : Type 0
 ReportsGoOn = (rs : List BookOrder) (earlier more : List (Option Order))
     → reports_behind rs (earlier ++ more) ≡ reports_behind rs earlier ++ reports_behind (book_behind rs earlier) more
+
+-- ---- ranges
+
+-- an order that rests lies within the ranges of a report on it
+abbrev pub IsRested : BookOrder → Type 0
+IsRested r = InRange (told Accepted r)
+
+-- where that is so of all that rest, it is so of them behind a payload too, and all that is reported of the payload lies within its ranges, whatever
+-- the payload and the plan by which it is read
+abbrev pub BookInRange : Type 0
+BookInRange = (p : Plan) (payload : List ℕ) (rs : List BookOrder) → AllByRecursion IsRested rs
+    → AllByRecursion InRange (reports_of rs (order_in p payload)) × AllByRecursion IsRested (book_after rs (order_in p payload))

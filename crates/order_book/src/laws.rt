@@ -1,6 +1,8 @@
-//! The laws of the book: facts about the definitions alone, each on a function without a body.
+//! The laws of the book: facts about the definitions alone, each on a function that does nothing.
 
-ghost use Rattle.order_book.specs.Laws.{BestIsUnbeaten, BookStaysUncrossed, MatchesAreEven, QuantitiesAreKept, AcceptedIsNew, ReportsGoOn};
+ghost use Rattle.order_book.specs.Laws.{BestIsUnbeaten, BookStaysUncrossed, MatchesAreEven, QuantitiesAreKept, AcceptedIsNew, ReportsGoOn, BookInRange};
+
+use order_desk::reports_in_range;
 
 /// The order that one that comes in meets is better than each that came before it, and no worse than each that came behind it.
 pub fn best_is_unbeaten()
@@ -27,3 +29,10 @@ pub fn quantities_are_kept()
 pub fn reports_go_on()
     ensures { ReportsGoOn }
 {}
+
+/// What the book reports of a payload lies within its ranges, and so do the orders that rest behind it.
+pub fn book_in_range()
+    ensures { BookInRange }
+{
+    reports_in_range();
+}

@@ -13,5 +13,6 @@ mod shelf;
 pub use book::Book;
 pub use entries::{BookOrder, Fill};
 pub use laws::{
-    best_is_unbeaten, book_stays_uncrossed, matches_are_even, quantities_are_kept, reports_go_on,
+    best_is_unbeaten, book_in_range, book_stays_uncrossed, matches_are_even, quantities_are_kept,
+    reports_go_on,
 };

@@ -1,0 +1,37 @@
+-- What a pass makes of the plan of its sender, and what it loses of it with a failed call (this project's profile).
+use Rattle.std.specs.Prelude.{◌≡◌, ℕ, true, List, [], ◌∷◌, ◌++◌, length, take, drop, slice_get, Some}
+use Rattle.session_model.specs.Journal.{Entry, entry}
+use Rattle.gate_turn.specs.Views.{Part}
+use Rattle.gate_turn.specs.Rule.{In}
+use Rattle.gate_senders.specs.Kept.{next_entry, IsFullAt}
+use Rattle.gate_senders.specs.Shown.{entry_after}
+use Rattle.gate_plans.specs.Sent.{entries_behind}
+
+-- behind the entries that a sender had it made messages of its plan, from there on: so many of them
+pub record MadeOf (had : List Entry) (sender : ℕ) (plan : List (List ℕ)) (mine : List Entry) : Type 0 where
+  pub count : ℕ
+  pub are : mine ≡ had ++ entries_behind sender (length had) (take count (drop (length had) plan))
+
+-- all of them
+abbrev pub IsAllMade : List Entry → ℕ → List (List ℕ) → List Entry → Type 0
+IsAllMade had sender plan mine = mine ≡ had ++ entries_behind sender (length had) (drop (length had) plan)
+
+-- what a pass was to add by a call that failed: the message of its sender's plan behind those that it made
+pub record LosesMessage (plan : List (List ℕ)) (p : Part) : Type 0 where
+  pub payload : List ℕ
+  pub next : slice_get plan (length p.mine) ≡ Some payload
+  pub is : p.lost ≡ entry (entry_after p payload) ∷ []
+
+-- a pass of a number from 1 to the count has seen the mark that nothing more comes
+pub record SeesMark (count : ℕ) (q : ℕ → Part) : Type 0 where
+  pub number : ℕ
+  pub inside : In count number
+  pub marked : (q number).seen.finished ≡ true
+
+-- of the next message of its plan, a pass was refused at a history that is at a limit
+pub record MetFull (plan : ℕ → List (List ℕ)) (count : ℕ) (q : ℕ → Part) (entries bytes : ℕ) : Type 0 where
+  pub number : ℕ
+  pub inside : In count number
+  pub payload : List ℕ
+  pub next : slice_get (plan number) (length (q number).mine) ≡ Some payload
+  pub full : IsFullAt (q number).opening.limits (q number).seen (next_entry (q number).seen (q number).number payload) entries bytes

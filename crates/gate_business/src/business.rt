@@ -1,0 +1,151 @@
+//! The trait of a business: it answers the messages of the peer that its own end has applied.
+ghost use Rattle.std.specs.Prelude.{◌≡◌, ◌≢◌, ◌↔◌, ℕ, ◌≤◌, Bool, true, false, List, ◌++◌, length, Err, OnOk, IsErrOf};
+ghost use Rattle.gw_outside.specs.Faults.{HasRisen};
+ghost use Rattle.session_model.specs.Inbox.{InboxRecord, applied, payloads_of, has_peer_finished};
+ghost use Rattle.session_model.specs.Plans.{GoesOn};
+ghost use Rattle.jr_record.specs.declared.faults.FetchFault.TheVariants as fetch;
+ghost use Rattle.jr_boxes.specs.Inbox.{StandsFor, SameContent, faults_of, is_broken, limits_of, flow_of};
+ghost use Rattle.jr_boxes.specs.declared.faults.SubmitFault.{SubmitFault};
+ghost use Rattle.jr_boxes.specs.declared.faults.SubmitFault.TheVariants as submit;
+ghost use Rattle.atomic_table.specs.Seated.{TableId};
+ghost use Rattle.gate_turn.specs.Views.{Part};
+ghost use Rattle.gate_turn.specs.Rule.{In};
+ghost use Rattle.gate_turn.specs.Listed.{known_at};
+ghost use Rattle.gate_senders.specs.Gate.{senders_of};
+ghost use Rattle.gate_business.specs.Made.{SeesMark, MetFull};
+ghost use Rattle.gate_business.specs.Business.{lock_of, HasThese, Grew, Whole, ShownByOne, StandsOn, StandsOnResume};
+ghost use Rattle.gate_business.specs.declared.business.ResumeFault.TheVariants as resuming;
+
+use gate_senders::Gate;
+use gate_turn::Passes;
+use jr_boxes::{Inbox, SubmitFault};
+use jr_record::{FetchFault, Journal};
+use sbe_value::Payloads;
+use std::sync::Wait;
+use std::thread::Threads;
+use thiserror::Error;
+
+/// Why a business does not stand behind its inbox.
+#[derive(Clone, Copy, Debug, PartialEq, Eq, Error)]
+pub enum ResumeFault {
+    /// An applied message was not read.
+    #[error("an applied message was not read")]
+    Fetch(FetchFault),
+    /// A message of its own was refused.
+    #[error("a message of the business was refused")]
+    Submit(SubmitFault),
+}
+
+/// A business of an end: it has the passes of the first numbers of a gate, and each of them has a plan, which says for every list of applied
+/// messages what its sender is to send. It stores no list of applied messages.
+pub trait Business<J: Journal> {
+    /// What the passes are of: the outbox of `J` that the gate keeps.
+    type Held;
+
+    /// How many passes it has, of the numbers from 1 on.
+    ghost count: { Self → ℕ };
+
+    /// What the pass of each number knows, while it has it.
+    ghost part: { Self → ℕ → Part };
+
+    /// It has its passes, which are of this lock and free.
+    ghost has: { Self → TableId → Type 0 };
+
+    /// How many entries of its own the pass of each number has, or had as it was lent.
+    ghost own: { Self → ℕ → ℕ };
+
+    /// Whether it has met the mark that nothing more comes, behind which it sends nothing.
+    ghost met: { Self → Bool };
+
+    /// What the sender of each number is to send, over the applied messages.
+    ghost plan: { Self → ℕ → List (List ℕ) → List (List ℕ) };
+
+    /// It stands behind this list of applied messages: what comes next is answered from there on.
+    ghost stands: { Self → List (List ℕ) → Type 0 };
+
+    /// Takes its place behind the messages that the inbox has: what its senders have not sent of their plans is sent, and where the peer's finish
+    /// is recorded, the Finish is added. It is called once, before the first connection of a life.
+    ///
+    /// # Errors
+    /// `Fetch` where an applied message was not read. `Submit` where a message or the Finish was refused; the Finish that stands already is none.
+    fn resume<I: Journal, R: Threads + Wait + Sync>(
+        &mut self,
+        inbox: &mut Inbox<I>,
+        gate: &Gate<J>,
+        rt: &R,
+    ) -> Result<(), ResumeFault>
+        requires own { has self.old (lock_of gate.now) }
+        requires few { count self.old ≤ senders_of gate.now }
+        requires sound { is_broken inbox.old ≡ false }
+        ensures own { has self.new (lock_of gate.now) }
+        ensures same { (count self.new ≡ count self.old) × (plan self.new ≡ plan self.old) }
+        ensures stands { (i : List InboxRecord) → StandsFor inbox.old i → StandsOnResume result (stands self.new (payloads_of (applied i))) }
+        ensures grew { (i : List InboxRecord) → StandsFor inbox.old i → Grew (λ n. plan self.old n (payloads_of (applied i))) (count self.old) (part self.old) (part self.new) (has_peer_finished i) }
+        ensures whole { (i : List InboxRecord) → StandsFor inbox.old i → OnOk result (Whole (λ n. plan self.old n (payloads_of (applied i))) (count self.old) (part self.old) (part self.new) (has_peer_finished i)) }
+        ensures full { (i : List InboxRecord) → StandsFor inbox.old i → (entries bytes : ℕ) → result ≡ Err (resuming.Submit (submit.Full entries bytes)) → MetFull (λ n. plan self.old n (payloads_of (applied i))) (count self.old) (part self.new) entries bytes }
+        ensures refused { (f : SubmitFault) → result ≡ Err (resuming.Submit f) → f ≢ submit.Memory → ShownByOne (count self.old) (part self.old) (part self.new) f }
+        ensures fetch { result ≡ Err (resuming.Fetch fetch.Fault) → HasRisen (faults_of inbox.old) (faults_of inbox.new) }
+        ensures sound { result ≢ Err (resuming.Fetch fetch.Broken) }
+        ensures content { SameContent inbox.old inbox.new }
+        ensures never_falls { faults_of inbox.old ≤ faults_of inbox.new }
+        ensures kind { (limits_of inbox.new ≡ limits_of inbox.old) × (flow_of inbox.new ≡ flow_of inbox.old) }
+        ensures unbroken { OnOk result (is_broken inbox.new ≡ false) };
+
+    /// Answers messages that were applied, in their order, behind those that it stands behind; and where `finished` says that the peer's finish
+    /// is recorded, adds the Finish once all is sent. It is called behind each turn with what that applied, at most 512 messages.
+    ///
+    /// # Errors
+    /// The refusal of a message or of the Finish; the Finish that stands already is none.
+    fn on_applied<R: Threads + Wait + Sync>(
+        &mut self,
+        payloads: &Payloads,
+        finished: bool,
+        gate: &Gate<J>,
+        rt: &R,
+    ) -> Result<(), SubmitFault>
+        requires own { has self.old (lock_of gate.now) }
+        requires few { count self.old ≤ senders_of gate.now }
+        requires most { length payloads.now ≤ 512 }
+        ensures own { has self.new (lock_of gate.now) }
+        ensures same { (count self.new ≡ count self.old) × (plan self.new ≡ plan self.old) }
+        ensures stands { (l : List (List ℕ)) → stands self.old l → StandsOn result (stands self.new (l ++ payloads.now)) }
+        ensures grew { (l : List (List ℕ)) → stands self.old l → Grew (λ n. plan self.old n (l ++ payloads.now)) (count self.old) (part self.old) (part self.new) finished }
+        ensures whole { (l : List (List ℕ)) → stands self.old l → OnOk result (Whole (λ n. plan self.old n (l ++ payloads.now)) (count self.old) (part self.old) (part self.new) finished) }
+        ensures full { (l : List (List ℕ)) → stands self.old l → (entries bytes : ℕ) → result ≡ Err (submit.Full entries bytes) → MetFull (λ n. plan self.old n (l ++ payloads.now)) (count self.old) (part self.new) entries bytes }
+        ensures refused { (f : SubmitFault) → result ≡ Err f → f ≢ submit.Memory → ShownByOne (count self.old) (part self.old) (part self.new) f };
+
+    /// Gives its passes out. Until they are back, nothing else is called.
+    fn lend(&mut self) -> Passes<Self::Held>
+        ensures these { (lock : TableId) → has self.old lock → HasThese lock result (count self.old) }
+        ensures known { (lock : TableId) → has self.old lock → (n : ℕ) → In (count self.old) n → known_at result n ≡ part self.old n }
+        ensures same { (count self.new ≡ count self.old) × (plan self.new ≡ plan self.old) }
+        ensures own { (own self.new ≡ own self.old) × (met self.new ≡ met self.old) }
+        ensures stands { (l : List (List ℕ)) → stands self.new l ↔ stands self.old l };
+
+    /// Takes passes back, of this gate or of one that was made anew: they have the same numbers, and as many entries of their own. Where it has
+    /// met the mark, one of them has seen it.
+    fn regain(&mut self, passes: Passes<Self::Held>)
+        requires these { (lock : TableId) × HasThese lock passes (count self.old) }
+        requires again { (n : ℕ) → In (count self.old) n → length (known_at passes n).mine ≡ own self.old n }
+        requires met { met self.old ≡ true → SeesMark (count self.old) (known_at passes) }
+        ensures own { (lock : TableId) → HasThese lock passes (count self.old) → has self.new lock }
+        ensures known { (n : ℕ) → In (count self.old) n → part self.new n ≡ known_at passes n }
+        ensures same { (count self.new ≡ count self.old) × (plan self.new ≡ plan self.old) }
+        ensures stands { (l : List (List ℕ)) → stands self.old l → stands self.new l };
+
+    /// Gives its passes back for good.
+    fn end(self) -> Passes<Self::Held>
+        ensures these { (lock : TableId) → has self lock → HasThese lock result (count self) }
+        ensures known { (lock : TableId) → has self lock → (n : ℕ) → In (count self) n → known_at result n ≡ part self n };
+
+    /// Over more applied messages each plan begins with what it was.
+    ghost goes_on: { (b : Self) → GoesOn (plan b) };
+
+    /// Each pass has its number.
+    ghost numbered: { (b : Self) (lock : TableId) → has b lock → (n : ℕ) → In (count b) n → (part b n).number ≡ n };
+
+    /// While it has its passes, `own` counts their entries, and where it has met the mark, one of them has seen it.
+    ghost owns: { (b : Self) (lock : TableId) → has b lock → (n : ℕ) → In (count b) n → length (part b n).mine ≡ own b n };
+
+    ghost meets: { (b : Self) (lock : TableId) → has b lock → met b ≡ true → SeesMark (count b) (part b) };
+}

@@ -1,0 +1,9 @@
+//! What an end does with the messages of its peer as they are applied: a business has passes of its own of a gate, and sends by them what its
+//! plans say. Relies on `gate_senders` for what a call on the gate does and tells, and on `jr_boxes` for the inbox.
+#![tactic(auto)]
+
+mod business;
+mod none;
+
+pub use business::{Business, ResumeFault};
+pub use none::NoBusiness;

@@ -1,0 +1,82 @@
+//! The business of an end that has none.
+ghost use Rattle.std.specs.Prelude.{⊤, ◌≡◌, ℕ, false, []};
+ghost use Rattle.atomic_table.specs.Seated.{TableId};
+ghost use Rattle.gate_turn.specs.Views.{new_part, nothing};
+ghost use Rattle.gate_turn.specs.Rule.{In};
+ghost use Rattle.gate_turn.specs.Listed.{known_at};
+ghost use Rattle.gate_business.specs.Business.{HasThese};
+
+use crate::business::{Business, ResumeFault};
+use gate_senders::{Gate, Kept};
+use gate_turn::Passes;
+use jr_boxes::{Inbox, SubmitFault};
+use jr_record::Journal;
+use sbe_value::Payloads;
+use std::sync::Wait;
+use std::thread::Threads;
+
+/// No business: it has no passes, and does nothing.
+#[derive(Clone, Copy, Debug, Drop)]
+pub struct NoBusiness;
+
+impl<J: Journal> Business<J> for NoBusiness {
+    ghost use Rattle.std.proofs.Common.{rules};
+
+    type Held = Kept<J>;
+
+    ghost count = { λ _. 0 };
+
+    ghost part = { λ _ n. new_part n 0 nothing };
+
+    ghost has = { λ _ lock. ⊤ };
+
+    ghost own = { λ _ n. 0 };
+
+    ghost met = { λ _. false };
+
+    ghost plan = { λ _ n applied. [] };
+
+    ghost stands = { λ _ applied. ⊤ };
+
+    fn resume<I: Journal, R: Threads + Wait + Sync>(
+        &mut self,
+        _inbox: &mut Inbox<I>,
+        _gate: &Gate<J>,
+        _rt: &R,
+    ) -> Result<(), ResumeFault> {
+        Ok(())
+    }
+
+    fn on_applied<R: Threads + Wait + Sync>(
+        &mut self,
+        _payloads: &Payloads,
+        _finished: bool,
+        _gate: &Gate<J>,
+        _rt: &R,
+    ) -> Result<(), SubmitFault> {
+        Ok(())
+    }
+
+    fn lend(&mut self) -> Passes<Kept<J>> {
+        Passes::new()
+    }
+
+    fn regain(&mut self, passes: Passes<Kept<J>>)
+        requires these { (lock : TableId) × HasThese lock passes 0 }
+        ensures known { (n : ℕ) → In 0 n → new_part n 0 nothing ≡ known_at passes n }
+    {
+        let _ = passes;
+    }
+
+    fn end(self) -> Passes<Kept<J>> {
+        Passes::new()
+    }
+
+    ghost goes_on = { Prim.search rules };
+
+    ghost numbered = { Prim.search rules };
+
+    ghost owns = { Prim.search rules };
+
+    ghost meets = { Prim.search rules };
+}

@@ -1,0 +1,4 @@
+pub mod Line
+pub mod Places
+pub mod Reported
+pub mod Desks

@@ -1,0 +1,9 @@
+//! Desks at a gate: the orders that a session delivers are answered by reports, each desk with its own share of them, and all at once. Relies
+//! on `order_desk` for what a desk answers, on `gate_senders` for how its reports are sent, and on `gate_business` for when it is called.
+#![tactic(auto)]
+
+mod call;
+mod desk;
+mod line;
+mod run;
+mod share;
