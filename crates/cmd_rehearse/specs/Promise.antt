@@ -1,0 +1,52 @@
+-- What a run of a rehearsal gives, and what its outcome says of the script (this project's profile).
+use Rattle.std.specs.Prelude.{◌≡◌, ◌⊎◌, ℕ, List, Option, Result, Err, IsOk}
+use Rattle.std.specs.Io.KnownBytes.{Appends, Keeps}
+use Rattle.gw_outside.specs.Faults.{TakesFront}
+use Rattle.schema_toml.specs.declared.fault.ConfigFault.{ConfigFault}
+use Rattle.cmd_script.specs.declared.script.Script.{Script}
+use Rattle.gw_rehearse.specs.declared.summary.EndSummary.{EndSummary}
+use Rattle.cmd_rehearse.specs.declared.outcome.Outcome.{Outcome}
+use Rattle.cmd_rehearse.specs.declared.outcome.Outcome.TheVariants as outcomes
+use Rattle.cmd_rehearse.specs.Lines.{summary_lines}
+
+-- the number of an outcome
+abbrev pub code_of : Outcome → ℕ
+code_of outcomes.Done = 0
+code_of (outcomes.Config fault) = 2
+code_of outcomes.InputFault = 3
+code_of outcomes.OutputFault = 4
+code_of (outcomes.Undrained initiator acceptor) = 13
+code_of outcomes.Memory = 14
+
+-- the text is refused with its fault exactly where it has one, unless a device or memory failed before
+abbrev pub Judges : Outcome → Result Script ConfigFault → Type 0
+Judges (outcomes.Config fault) told = told ≡ Err fault
+Judges outcomes.Done told = IsOk told
+Judges outcomes.OutputFault told = IsOk told
+Judges (outcomes.Undrained initiator acceptor) told = IsOk told
+Judges outcomes.InputFault told = Unit {0}
+Judges outcomes.Memory told = Unit {0}
+
+-- these are the lines of two ends, where the initiator's outbox has so many messages of each sender
+abbrev pub AreLines : List ℕ → List ℕ → Type 0
+AreLines messages lines =
+    (initiator : EndSummary) × (acceptor : EndSummary) × (initiator.entries ≡ messages) × (lines ≡ summary_lines initiator acceptor)
+
+-- OUT gained such lines; a front of such lines, or nothing, where it failed; and else nothing
+abbrev pub Gave : List ℕ → Option (List ℕ) → Option (List ℕ) → Outcome → Type 0
+Gave messages before after outcomes.Done = (lines : List ℕ) × AreLines messages lines × Appends before after lines
+Gave messages before after outcomes.OutputFault = Keeps before after ⊎ ((lines : List ℕ) × AreLines messages lines × TakesFront before after lines)
+Gave messages before after _ = Keeps before after
+
+-- the outcomes of a text that gives no script
+abbrev pub IsRefusal : Outcome → Type 0
+IsRefusal (outcomes.Config fault) = Unit {0}
+IsRefusal outcomes.InputFault = Unit {0}
+IsRefusal outcomes.Memory = Unit {0}
+IsRefusal _ = ⊥
+
+-- the outcomes of a script that was read
+abbrev pub IsEnd : Outcome → Type 0
+IsEnd (outcomes.Config fault) = ⊥
+IsEnd outcomes.InputFault = ⊥
+IsEnd _ = Unit {0}

@@ -1,0 +1,250 @@
+-- An end that is driven: where it stands behind a call, and who has its passes.
+use Rattle.std.proofs.Common.{◌≡◌, ◌≢◌, inl, inr, ℕ, zero, suc, ◌+◌, ◌*◌, ◌<◌, ◌≤◌, ◌^◌, true, false, Bool, if◌then◌else◌, [], ◌∷◌, List, length, Option, Some, None, Result, Ok, Err, refl, sym, ap, subst, ◌∙◌, arith}
+use Rattle.std.specs.Prelude.{All, slice_index_or, OnOk, IfOk, IfSome, IsSome, is_some}
+use Rattle.std.specs.Result.{result_ok}
+use Rattle.session_model.specs.Journal.{History, BeginsHistory}
+use Rattle.session_model.proofs.Lists.{prefix_length}
+use Rattle.std.proofs.lemmas.Bool.{false≢true}
+use Rattle.fixp_replies.specs.declared.act.Ending.{Ending}
+use Rattle.fixp_replies.specs.Events.{link_ending}
+use Rattle.fixp_machine.specs.Machine.{State, around, step, taken, fresh}
+use Rattle.jr_record.specs.declared.journal.Journal.{Ghosts}
+use Rattle.jr_boxes.specs.declared.inbox.Inbox.{Inbox}
+use Rattle.jr_boxes.specs.Inbox.{flow_of, limits_of, next_of, is_negotiated, peer_last_of}
+use Rattle.gate_turn.specs.Views.{Part}
+use Rattle.gate_turn.specs.Places.{known}
+use Rattle.gate_turn.specs.Listed.{pass_at, known_if, known_at}
+use Rattle.gate_turn.specs.Calls.{IsFree}
+use Rattle.gate_turn.specs.declared.pass.Pass.{Pass}
+use Rattle.gate_turn.specs.declared.passes.Passes.{Passes}
+use Rattle.gate_turn.proofs.Histories.{begins_self}
+use Rattle.gate_senders.specs.Gate.{IsPassAt, IsSenderAt, MadeAt, opening_of}
+use Rattle.gate_senders.specs.declared.gate.Gate.{Gate}
+use Rattle.gate_senders.specs.declared.kept.Kept.{Kept}
+use Rattle.gate_plans.specs.Runs.{IsReady}
+use Rattle.gate_plans.specs.Seats.{Seated, HasBehind}
+use Rattle.gate_plans.specs.declared.sender.Sender.{Sender}
+use Rattle.conn_turns.specs.Lines.{Line, TakenFrame, AreTaken, size_of, line_after, lines_after}
+use Rattle.conn_turns.specs.Exact.{line_ticked}
+use Rattle.conn_turns.specs.declared.answer.TurnEnd.{TurnEnd}
+use Rattle.conn_turns.specs.declared.answer.TurnEnd.TheVariants as ends
+use Rattle.conn_turns.specs.declared.answer.TurnFault.{TurnFault}
+use Rattle.conn_turns.specs.declared.answer.TurnFault.TheVariants as faults
+use Rattle.conn_steps.specs.Agreeing.{Agrees}
+use Rattle.conn_loop.specs.declared.conn.Conn.{Conn}
+use Rattle.conn_loop.specs.Conn.{line_of, new_line, line_begun, line_cut, answer_of, GoesOn, HasSeen}
+use Rattle.conn_loop.specs.Live.{EndAt}
+use Rattle.conn_loop.specs.Turned.{DidTurn, Exchanged, Leaves}
+use Rattle.fixp_shake.specs.declared.config.EndConfig.{EndConfig}
+use Rattle.conn_loop.proofs.Working.{seen_same}
+use Rattle.fixp_replies.specs.declared.facts.EndState.{EndState}
+use Rattle.gw_rehearse.specs.declared.standing.Standing.{Standing}
+use Rattle.gw_rehearse.specs.declared.standing.Standing.TheVariants as standings
+use Rattle.gw_rehearse.specs.Standing.{standing_of, HasSeats, KeepsPasses, UsesFirst, CanTurn, Rests, Stands}
+
+-- ---- the place
+
+place_after : (now : ℕ) (l : Line) (t : TakenFrame) → (line_after now l t).place ≡ l.place + size_of t.frame
+unfolding line_after
+place_after now l t = refl
+
+frames_place : (now : ℕ) (l : Line) (frames : List TakenFrame) → AreTaken now l frames → (lines_after now l frames).place ≤ l.place + length frames * 16390
+frames_place now l [] all = omega arith
+frames_place now l (t ∷ later) all = omega (arith, frames_place now (line_after now l t) later all.1, all.0.next.begins.admissible.most, place_after now l t)
+
+-- ---- what ended, and what is marked
+
+ended_some : (o : Option Ending) (e : Ending) → ends.Ended e ≡ answer_of o → IsSome o
+ended_some None e is = cc
+ended_some (Some x) e is = refl
+
+-- it ends by its link, where it has not ended
+abbrev link_as : State → Bool → State
+link_as s b = if b then s else record s { ending = Some (link_ending (around s 0 s.moment) s.facts); pending = None }
+
+-- the mark that stood is what a pass has seen
+mark : (h s : History) → BeginsHistory h s → (b : Bool) → h.finished ≡ b → IfSome (if b then Some (length h.made) else None) (λ n. (s.finished ≡ true) × (length s.made ≡ n))
+mark h s begins true e = (ap (λ (x : History). x.finished) (sym (begins.alone e)) ∙ e, ap (λ (x : History). length x.made) (sym (begins.alone e)))
+mark h s begins false e = tt
+
+module _ {J : Type 0} {G : Ghosts J} where
+  -- ---- where an end stands
+
+  -- what agrees with an inbox does so where the same is recorded
+  agrees_on : (m n : State) (box : Inbox J G) → n.config ≡ m.config → n.most ≡ m.most → n.facts.recorded ≡ m.facts.recorded → Agrees m box → Agrees n box
+  agrees_on m n box config most recorded a = record {
+    flow = a.flow ∙ sym (ap (λ (c : EndConfig). c.peer_flow) config);
+    most = let b = a.most in omega (arith, most, b);
+    next = a.next ∙ sym (ap (λ (r : EndState). r.inbox_next) recorded);
+    negotiated = a.negotiated ∙ sym (ap (λ (r : EndState). r.negotiated) recorded);
+    peer_last = a.peer_last ∙ sym (ap (λ (r : EndState). r.peer_last) recorded);
+  }
+
+  rests : (m : State) (p : Part) (box : Inbox J G) → IsSome m.ending → Leaves m p box → Rests m p box
+  rests m p box some l = record { over = λ _. some; time = l.time; sent = l.sent; credentials = l.credentials; seen = l.seen; agrees = l.agrees }
+
+  -- a turn moves the place by the bytes of at most 16 frames
+  worked_place : (now : ℕ) (eager : Bool) (old new : EndAt J G) (result : Result TurnEnd TurnFault) → Exchanged now eager old new result → new.line.place ≤ old.line.place + 262240
+  worked_place now eager old new result (inl w) =
+      omega (arith, ap (λ (x : Line). x.place) w.line, w.served.place, frames_place w.work.now _ w.work.frames w.served.frames, w.served.few)
+  worked_place now eager old new result (inr z) = omega (arith, ap (λ (x : Line). x.place) z.line)
+
+  pub turn_place : (now : ℕ) (eager : Bool) (old new : EndAt J G) (result : Result TurnEnd TurnFault) → DidTurn now eager old new result → new.line.place ≤ old.line.place + 262240
+  turn_place now eager old new result (inl x) = omega (arith, ap (λ (y : Line). y.place) x.sent.line)
+  turn_place now eager old new result (inr y) = worked_place now eager (record old { line = line_ticked old.line now }) new result y.exchanged
+
+  -- where it stands behind a turn
+  pub stands_behind : (r : Result TurnEnd TurnFault) (new : Line) (most : ℕ) (p : Part) (box : Inbox J G) → OnOk r (new.place ≤ most) → (r ≡ Ok ends.Go → GoesOn new.machine) → OnOk r (Leaves new.machine p box)
+      → (r ≡ Err faults.Link → Leaves new.machine p box) → IfOk r (λ end. end ≡ answer_of new.machine.ending) → (r ≡ Err faults.Link → is_some new.machine.ending ≡ true) → Stands (standing_of r) new most p box
+  stands_behind (Ok ends.Go) new most p box place goes leaves lost answer ended = record { turns = λ _. record { goes = goes refl; place = place; seen = leaves.seen; agrees = leaves.agrees }; begins = λ e. cc }
+  stands_behind (Ok (ends.Ended ending)) new most p box place goes leaves lost answer ended = record { turns = λ e. cc; begins = λ _. rests new.machine p box (ended_some new.machine.ending ending answer) leaves }
+  stands_behind (Err faults.Link) new most p box place goes leaves lost answer ended = record { turns = λ e. cc; begins = λ _. rests new.machine p box (ended refl) (lost refl) }
+  stands_behind (Err faults.Inbox) new most p box place goes leaves lost answer ended = record { turns = λ e. cc; begins = λ e. cc }
+  stands_behind (Err faults.Outbox) new most p box place goes leaves lost answer ended = record { turns = λ e. cc; begins = λ e. cc }
+  stands_behind (Err faults.Broken) new most p box place goes leaves lost answer ended = record { turns = λ e. cc; begins = λ e. cc }
+  stands_behind (Err (faults.Full entries bytes)) new most p box place goes leaves lost answer ended = record { turns = λ e. cc; begins = λ e. cc }
+  stands_behind (Err faults.Memory) new most p box place goes leaves lost answer ended = record { turns = λ e. cc; begins = λ e. cc }
+
+  -- the same with another bound and of a pass that knows the same
+  pub stands_at : (s : Standing) (l : Line) (most more : ℕ) (p q : Part) (box : Inbox J G) → most ≤ more → q ≡ p → Stands s l most p box → Stands s l more q box
+  stands_at s l most more p q box least same h = subst (λ (x : Part). Stands s l more x box) (sym same) (record {
+    turns = λ e. let c = h.turns e in record { goes = c.goes; place = let b = c.place in omega (arith, b, least); seen = c.seen; agrees = c.agrees };
+    begins = h.begins;
+  })
+
+  -- a connection that begins can turn
+  pub begun_stands : (l new : Line) (now : ℕ) (p : Part) (box : Inbox J G) → new ≡ line_begun l now → GoesOn new.machine → new.machine.facts.recorded ≡ l.machine.facts.recorded → new.machine.config ≡ l.machine.config
+      → new.machine.most ≡ l.machine.most → Rests l.machine p box → Stands standings.Open new 0 p box
+  begun_stands l new now p box is goes recorded config most may = record {
+    turns = λ _. record {
+      goes = goes;
+      place = let e = ap (λ (x : Line). x.place) is in omega (arith, e);
+      seen = seen_same l.machine new.machine p (ap (λ (r : EndState). r.sent) recorded) (ap (λ (r : EndState). r.finish) recorded) may.seen;
+      agrees = agrees_on l.machine new.machine box config most recorded may.agrees;
+    };
+    begins = λ e. cc;
+  }
+
+  cut_as : (m : State) (n : ℕ) (p : Part) (box : Inbox J G) (b : Bool) → GoesOn m → HasSeen m p → Agrees m box → IsSome (link_as (step m (taken n)) b).ending → Rests (link_as (step m (taken n)) b) p box
+  cut_as m n p box true c h a some = record {
+    over = λ _. some;
+    time = c.time;
+    sent = c.sent;
+    credentials = c.credentials;
+    seen = record { entries = h.entries; finish = h.finish };
+    agrees = record { flow = a.flow; most = a.most; next = a.next; negotiated = a.negotiated; peer_last = a.peer_last };
+  }
+  cut_as m n p box false c h a some = record {
+    over = λ _. some;
+    time = c.time;
+    sent = c.sent;
+    credentials = c.credentials;
+    seen = record { entries = h.entries; finish = h.finish };
+    agrees = record { flow = a.flow; most = a.most; next = a.next; negotiated = a.negotiated; peer_last = a.peer_last };
+  }
+
+  -- behind a connection that was cut the next one may begin
+  pub cut_stands : (l new : Line) (most more : ℕ) (p : Part) (box : Inbox J G) → new ≡ line_cut l → CanTurn l most p box → IsSome new.machine.ending → Stands standings.Over new more p box
+  cut_stands l new most more p box is c some = record {
+    turns = λ e. cc;
+    begins = λ _. subst (λ (x : Line). Rests x.machine p box) (sym is)
+        (cut_as l.machine (length l.machine.unsent) p box (is_some l.machine.ending) c.goes c.seen c.agrees (subst (λ (x : Line). IsSome x.machine.ending) is some));
+  }
+
+  -- where it is made of journals that stand, and a pass has seen what the outbox had
+  pub opened_rests : (config : EndConfig) (most : ℕ) (state : EndState) (h : History) (n : State) (p : Part) (box : Inbox J G) → n ≡ fresh config state most → BeginsHistory h p.seen
+      → state.sent ≡ length h.made → state.sent < 2 ^ 40 → state.finish ≡ (if h.finished then Some (length h.made) else None)
+      → length config.credentials ≤ 2048 → flow_of box ≡ config.peer_flow → most ≤ (limits_of box).entries
+      → next_of box ≡ state.inbox_next → is_negotiated box ≡ state.negotiated → peer_last_of box ≡ state.peer_last → Rests n p box
+  opened_rests config most state h n p box is begins sent few finish credentials flow within next negotiated last = subst (λ (s : State). Rests s p box) (sym is) (record {
+    over = λ e. absurd (false≢true e);
+    time = omega arith;
+    sent = few;
+    credentials = credentials;
+    seen = record {
+      entries = let b = prefix_length h.made p.seen.made begins.made in omega (arith, sent, b);
+      finish = subst (λ (o : Option ℕ). IfSome o (λ n. (p.seen.finished ≡ true) × (length p.seen.made ≡ n))) (sym finish) (mark h p.seen begins h.finished refl);
+    };
+    agrees = record { flow = flow; most = within; next = next; negotiated = negotiated; peer_last = last };
+  })
+
+  -- so does the connection that was made of them, if one was
+  pub conn_rests : {E : Type 0} (config : EndConfig) (most : ℕ) (state : EndState) (h : History) (box : Inbox J G) (r : Result Conn E) (o : Option Conn) → o ≡ result_ok r
+      → IfOk r (λ conn. line_of conn ≡ new_line (fresh config state most)) → state.sent ≡ length h.made → state.sent < 2 ^ 40 → state.finish ≡ (if h.finished then Some (length h.made) else None)
+      → length config.credentials ≤ 2048 → flow_of box ≡ config.peer_flow → most ≤ (limits_of box).entries
+      → next_of box ≡ state.inbox_next → is_negotiated box ≡ state.negotiated → peer_last_of box ≡ state.peer_last
+      → IfSome o (λ conn. (p : Part) → BeginsHistory h p.seen → Rests (line_of conn).machine p box)
+  conn_rests {E} config most state h box r o is made sent few finish credentials flow within next negotiated last =
+      subst (λ (x : Option Conn). IfSome x (λ conn. (p : Part) → BeginsHistory h p.seen → Rests (line_of conn).machine p box)) (sym is) (of_result r made)
+    where
+      of_result : (r : Result Conn E) → IfOk r (λ conn. line_of conn ≡ new_line (fresh config state most)) → IfSome (result_ok r) (λ conn. (p : Part) → BeginsHistory h p.seen → Rests (line_of conn).machine p box)
+      of_result (Ok conn) made = λ p begins. opened_rests config most state h (line_of conn).machine p box (ap (λ (l : Line). l.machine) made) begins sent few finish credentials flow within next negotiated last
+      of_result (Err e) made = tt
+
+  -- an end that has begun nothing stands so, whose pass has seen what the gate opened with
+  pub made_stands : (h : History) (most : ℕ) (l : Line) (p : Part) (box : Inbox J G) → ((p : Part) → BeginsHistory h p.seen → Rests l.machine p box) → BeginsHistory h p.seen → Stands standings.Over l most p box
+  made_stands h most l p box may begins = record { turns = λ e. cc; begins = λ _. may p begins }
+
+-- ---- who has the passes
+
+module _ {J : Type 0} {G : Ghosts J} where
+  -- the connection's pass that a gate was made with has seen what the gate opened with
+  pub last_seen : (gate : Gate J G) (old out : Passes (Kept J G)) (count : ℕ) (p : Pass (Kept J G)) → MadeAt gate old (count + 1) → ((n : ℕ) → count < n → pass_at out n ≡ pass_at old n) → pass_at out (count + 1) ≡ Some p
+      → BeginsHistory (opening_of gate).history (known p).seen
+  last_seen gate old out count p made others there =
+      let is = (made.each (count + 1) (record { from_one = omega arith; up_to = omega arith })).1 in
+      let at : pass_at old (count + 1) ≡ Some p = sym (others (count + 1) (omega arith)) ∙ there in
+      let knows : known_at old (count + 1) ≡ known p = ap (λ (o : Option (Pass (Kept J G))). known_if o) at in
+      subst (λ (h : History). BeginsHistory (opening_of gate).history h) (sym (ap (λ (x : Part). x.seen) is) ∙ ap (λ (x : Part). x.seen) knows) (begins_self (opening_of gate).history)
+
+  -- the seats that a gate is made with
+  pub made_seats : (gate : Gate J G) (passes : Passes (Kept J G)) (senders : List (Sender J G)) (n plans count : ℕ) (p : Pass (Kept J G)) → n ≡ plans → plans ≡ count → count ≤ 16 → Seated gate senders (plans + 1)
+      → HasBehind gate passes (count + 1) (count + 1) → IsPassAt gate p → IsFree p → (known p).number ≡ count + 1 → (count ≡ 0 → (known p).made ≡ 1) → HasSeats gate passes senders n p
+  made_seats gate passes senders n plans count p is many few seated behind own free number first = subst (λ (k : ℕ). HasSeats gate passes senders k p) (sym (is ∙ many)) (record {
+    few = few;
+    seated = subst (λ (k : ℕ). Seated gate senders (k + 1)) many seated;
+    behind = behind;
+    own = own;
+    free = free;
+    number = number;
+    first = first;
+  })
+
+  -- a pass that made the same numbers has the same seat
+  pub seats_kept : (gate : Gate J G) (passes : Passes (Kept J G)) (old new : List (Sender J G)) (count : ℕ) (p q : Pass (Kept J G)) → HasSeats gate passes old count p → Seated gate new (count + 1)
+      → IsPassAt gate q → IsFree q → (known q).number ≡ (known p).number → (known q).made ≡ (known p).made → HasSeats gate passes new count q
+  seats_kept gate passes old new count p q h seated own free number made = record {
+    few = h.few;
+    seated = seated;
+    behind = h.behind;
+    own = own;
+    free = free;
+    number = number ∙ h.number;
+    first = λ none. made ∙ h.first none;
+  }
+
+  -- senders that have the passes that they had keep their seats
+  pub kept_seated : (gate : Gate J G) (made : ℕ) (before after : List (Sender J G)) → KeepsPasses before after → Seated gate before made → Seated gate after made
+  kept_seated gate made before after k h = record {
+    ready = λ i d lt.
+        let was = h.ready i d (omega (arith, lt, k.long)) in
+        let same = k.each i d (omega (arith, lt, k.long)) in
+        record {
+          own = subst (λ (p : Pass (Kept J G)). IsSenderAt gate p) (sym same) was.own;
+          free = subst (λ (p : Pass (Kept J G)). IsFree p) (sym same) was.free;
+        };
+    numbers = λ i d lt. ap (λ (p : Pass (Kept J G)). (known p).number) (k.each i d (omega (arith, lt, k.long))) ∙ h.numbers i d (omega (arith, lt, k.long));
+    first = λ d some. ap (λ (p : Pass (Kept J G)). (known p).made) (k.each 0 d (omega (arith, some, k.long))) ∙ h.first d (omega (arith, some, k.long));
+  }
+
+  -- so do they where the first one's pass was used
+  pub used_seated : (gate : Gate J G) (made : ℕ) (before after : List (Sender J G)) → All (λ s. IsReady gate s) after → UsesFirst before after → Seated gate before made → Seated gate after made
+  used_seated gate made before after ready u h = record {
+    ready = ready;
+    numbers = numbers_at;
+    first = λ d some. u.made d ∙ h.first d (omega (arith, some, u.long));
+  }
+    where
+      numbers_at : (i : ℕ) (d : Sender J G) → i < length after → (known (slice_index_or after i d).pass).number ≡ i + 1
+      numbers_at zero d lt = u.number d ∙ h.numbers zero d (omega (arith, lt, u.long))
+      numbers_at (suc i) d lt = ap (λ (s : Sender J G). (known s.pass).number) (u.others (suc i) d (omega arith)) ∙ h.numbers (suc i) d (omega (arith, lt, u.long))

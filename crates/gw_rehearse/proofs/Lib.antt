@@ -1,0 +1,3 @@
+mod Driving
+mod Messages
+mod Sent

@@ -1,0 +1,88 @@
+-- What holds of an end between the calls that drive it (this project's profile).
+use Rattle.std.specs.Prelude.{◌≡◌, ℕ, ◌+◌, ◌<◌, ◌≤◌, ◌^◌, true, List, length, map, slice_index_or, IsSome, Result, Ok, Err}
+use Rattle.jr_record.specs.declared.journal.Journal.{Ghosts}
+use Rattle.jr_boxes.specs.declared.inbox.Inbox.{Inbox}
+use Rattle.gate_turn.specs.Views.{Part}
+use Rattle.gate_turn.specs.Places.{known}
+use Rattle.gate_turn.specs.Calls.{IsFree}
+use Rattle.gate_turn.specs.declared.pass.Pass.{Pass}
+use Rattle.gate_turn.specs.declared.passes.Passes.{Passes}
+use Rattle.gate_senders.specs.Gate.{IsPassAt}
+use Rattle.gate_senders.specs.declared.gate.Gate.{Gate}
+use Rattle.gate_senders.specs.declared.kept.Kept.{Kept}
+use Rattle.gate_plans.specs.Seats.{Seated, HasBehind}
+use Rattle.gate_plans.specs.declared.sender.Sender.{Sender}
+use Rattle.conn_turns.specs.Lines.{Line}
+use Rattle.conn_turns.specs.declared.answer.TurnEnd.{TurnEnd}
+use Rattle.conn_turns.specs.declared.answer.TurnEnd.TheVariants as ends
+use Rattle.conn_turns.specs.declared.answer.TurnFault.{TurnFault}
+use Rattle.conn_turns.specs.declared.answer.TurnFault.TheVariants as faults
+use Rattle.conn_steps.specs.Agreeing.{Agrees}
+use Rattle.conn_loop.specs.Conn.{GoesOn, HasSeen}
+use Rattle.fixp_machine.specs.Machine.{State}
+use Rattle.gw_rehearse.specs.declared.standing.Standing.{Standing}
+use Rattle.gw_rehearse.specs.declared.standing.Standing.TheVariants as standings
+
+-- where an end stands behind a turn that answered so
+abbrev pub standing_of : Result TurnEnd TurnFault → Standing
+standing_of (Ok ends.Go) = standings.Open
+standing_of (Ok (ends.Ended ending)) = standings.Over
+standing_of (Err faults.Link) = standings.Over
+standing_of (Err faults.Inbox) = standings.GivenUp
+standing_of (Err faults.Outbox) = standings.GivenUp
+standing_of (Err faults.Broken) = standings.GivenUp
+standing_of (Err (faults.Full entries bytes)) = standings.GivenUp
+standing_of (Err faults.Memory) = standings.GivenUp
+
+module _ {J : Type 0} {G : Ghosts J} where
+  -- of a gate for so many senders each sender has its pass, the connection has its own, and the list has none
+  pub record HasSeats (gate : Gate J G) (passes : Passes (Kept J G)) (senders : List (Sender J G)) (count : ℕ) (p : Pass (Kept J G)) : Type 0 where
+    pub few : count ≤ 16
+    pub seated : Seated gate senders (count + 1)
+    pub behind : HasBehind gate passes (count + 1) (count + 1)
+    pub own : IsPassAt gate p
+    pub free : IsFree p
+    pub number : (known p).number ≡ count + 1
+    pub first : count ≡ 0 → (known p).made ≡ 1
+
+  -- each sender has the pass that it had
+  pub record KeepsPasses (before after : List (Sender J G)) : Type 0 where
+    pub long : length after ≡ length before
+    pub each : (i : ℕ) (d : Sender J G) → i < length before → (slice_index_or after i d).pass ≡ (slice_index_or before i d).pass
+
+  -- how many messages each sender has submitted, as its pass shows
+  abbrev pub sent_by : List (Sender J G) → List ℕ
+  sent_by senders = map (λ (s : Sender J G). length (known s.pass).mine) senders
+
+  -- each sender has done so many
+  pub record AreDone (senders : List (Sender J G)) (messages : List ℕ) : Type 0 where
+    pub long : length messages ≡ length senders
+    pub each : (i : ℕ) (d : Sender J G) → i < length senders → slice_index_or messages i 0 ≡ (slice_index_or senders i d).done
+
+  -- the first sender's pass was used, and nothing else of the senders changed
+  pub record UsesFirst (before after : List (Sender J G)) : Type 0 where
+    pub long : length after ≡ length before
+    pub number : (d : Sender J G) → (known (slice_index_or after 0 d).pass).number ≡ (known (slice_index_or before 0 d).pass).number
+    pub made : (d : Sender J G) → (known (slice_index_or after 0 d).pass).made ≡ (known (slice_index_or before 0 d).pass).made
+    pub others : (i : ℕ) (d : Sender J G) → 0 < i → slice_index_or after i d ≡ slice_index_or before i d
+
+  -- the next turn may follow, and no more than so many bytes came before
+  pub record CanTurn (l : Line) (most : ℕ) (p : Part) (box : Inbox J G) : Type 0 where
+    pub goes : GoesOn l.machine
+    pub place : l.place ≤ most
+    pub seen : HasSeen l.machine p
+    pub agrees : Agrees l.machine box
+
+  -- no connection goes on, and the next one may begin
+  pub record Rests (m : State) (p : Part) (box : Inbox J G) : Type 0 where
+    pub over : m.begun ≡ true → IsSome m.ending
+    pub time : m.moment < 2 ^ 44
+    pub sent : m.facts.recorded.sent < 2 ^ 40
+    pub credentials : length m.config.credentials ≤ 2048
+    pub seen : HasSeen m p
+    pub agrees : Agrees m box
+
+  -- an open connection can turn, and behind one that is over the next one may begin
+  pub record Stands (standing : Standing) (l : Line) (most : ℕ) (p : Part) (box : Inbox J G) : Type 0 where
+    pub turns : standing ≡ standings.Open → CanTurn l most p box
+    pub begins : standing ≡ standings.Over → Rests l.machine p box

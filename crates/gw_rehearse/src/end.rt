@@ -1,0 +1,277 @@
+//! An end that is driven.
+
+ghost use Rattle.std.specs.Prelude.{◌≡◌, ◌+◌, ◌≤◌, ◌<◌, ◌^◌, All, length, vec_len, if◌then◌else◌, Some, None, IfOk, IfSome, IsTrue};
+ghost use Rattle.fixp_machine.specs.Machine.{fresh};
+ghost use Rattle.session_model.specs.Journal.{BeginsHistory};
+ghost use Rattle.jr_boxes.specs.Inbox.{flow_of, limits_of, next_of, is_negotiated, peer_last_of};
+ghost use Rattle.gate_turn.specs.Views.{Part};
+ghost use Rattle.gate_senders.specs.Gate.{opening_of};
+ghost use Rattle.conn_loop.specs.Conn.{line_of, new_line};
+ghost use Rattle.cmd_script.specs.Script.{IsCount};
+ghost use Rattle.gw_rehearse.specs.Standing.{Rests};
+ghost use Rattle.gw_rehearse.specs.Summaries.{counts_to};
+
+use crate::journals::{Journals, Log, MOST, new_inbox, new_outbox};
+use crate::senders::{finish, have_sent, submit_next};
+use crate::standing::Standing;
+use crate::turning::make_turn;
+use conn_loop::{Conn, News};
+use fixp_end::{End, EndConfig, EndState, Ending};
+use gate_plans::{Sender, give_last, seat, take_last, unseat};
+use gate_senders::{Gate, Kept};
+use gate_turn::{Pass, Passes};
+use gw_link_fakes::MemClock;
+use gw_links::Link;
+use jr_boxes::Inbox;
+use plan_values::Plan;
+use std::alloc::{AllocError, Global};
+use std::marker::Model;
+use std::sync::Wait;
+use std::thread::Threads;
+
+/// The most turns of a connection.
+const TURNS: u64 = 1 << 40;
+
+/// An end of a session. Its senders have their passes, and the connection has its own.
+pub(crate) struct DrivenEnd {
+    gate: Gate<Log>,
+    passes: Passes<Kept<Log>>,
+    senders: Vec<Sender<Log>>,
+    pass: Pass<Kept<Log>>,
+    inbox: Inbox<Log>,
+    conn: Conn,
+    news: News,
+    standing: Standing,
+    /// How many turns the connection has had.
+    turns: u64,
+    /// Whether a connection has ended with both finishes exchanged.
+    finished: bool,
+}
+
+impl Model for DrivenEnd {
+    ghost use Rattle.std.specs.Prelude.{◌*◌, ℕ, List, vec_len};
+    ghost use Rattle.gate_turn.specs.Places.{known};
+    ghost use Rattle.conn_loop.specs.Conn.{line_of};
+    ghost use Rattle.gw_rehearse.specs.Standing.{HasSeats, Stands, sent_by};
+
+    ghost Value = { List ℕ };
+
+    ghost view = { λ e. sent_by e.senders.items };
+
+    ghost invariant = { λ e. HasSeats e.gate e.passes e.senders.items (vec_len e.senders) e.pass × Stands e.standing (line_of e.conn) (e.turns * 262240) (known e.pass) e.inbox };
+}
+
+/// What the journals record.
+fn recorded(gate: &Gate<Log>, inbox: &Inbox<Log>) -> EndState
+    ensures first { 1 ≤ result.inbox_next }
+    ensures next { next_of inbox.now ≡ result.inbox_next }
+    ensures negotiated { is_negotiated inbox.now ≡ result.negotiated }
+    ensures peer_last { peer_last_of inbox.now ≡ result.peer_last }
+    ensures sent { result.sent ≡ length (opening_of gate.now).history.made }
+    ensures finish { result.finish ≡ (if (opening_of gate.now).history.finished then Some (length (opening_of gate.now).history.made) else None) }
+{
+    let (sent, finished) = gate.opened();
+    EndState {
+        negotiated: inbox.is_negotiated(),
+        inbox_next: inbox.next(),
+        peer_last: inbox.peer_last(),
+        sent,
+        finish: if finished { Some(sent) } else { None },
+    }
+}
+
+/// A connection that has not begun, of a new end.
+fn opened(alloc: Global, config: EndConfig, state: EndState) -> Result<Conn, AllocError>
+    requires keepalive { (100 ≤ config.keepalive) × (config.keepalive ≤ 60000) }
+    requires credentials { length config.credentials ≤ 2048 }
+    requires first { 1 ≤ state.inbox_next }
+    requires numbered { state.inbox_next + 1 < 2 ^ 64 }
+    requires sent { state.sent < 2 ^ 40 }
+    ensures { IfOk result (λ conn. line_of conn ≡ new_line (fresh config state (2 ^ 24))) }
+{
+    let end = End::new(alloc, config, state, MOST)?;
+    Conn::new(alloc, end)
+}
+
+/// A connection that has not begun, of an end that goes on where its journals stand; none where memory runs out, or the outbox
+/// has too many entries.
+fn new_conn(alloc: Global, gate: &Gate<Log>, inbox: &Inbox<Log>, config: EndConfig) -> Option<Conn>
+    requires keepalive { (100 ≤ config.keepalive) × (config.keepalive ≤ 60000) }
+    requires credentials { length config.credentials ≤ 2048 }
+    requires flow { flow_of inbox.now ≡ config.peer_flow }
+    requires limit { (limits_of inbox.now).entries ≡ 2 ^ 24 }
+    requires numbered { next_of inbox.now + 1 < 2 ^ 64 }
+    ensures may { IfSome result (λ conn. (p : Part) → BeginsHistory (opening_of gate.now).history p.seen → Rests (line_of conn).machine p inbox.now) }
+{
+    let state = recorded(gate, inbox);
+    if state.sent > MOST {
+        return None;
+    }
+    opened(alloc, config, state).ok()
+}
+
+/// A plan without messages for each of so many senders; none where memory runs out.
+fn empty_plans(alloc: Global, senders: u16) -> Option<Vec<Plan>>
+    requires { senders ≤ 16 }
+    ensures { IfSome result (λ plans. vec_len plans ≡ senders) }
+{
+    let mut plans = Vec::new(alloc);
+    for _ in 0..senders {
+        plans.push(Plan::new(alloc)).ok()?;
+    }
+    Some(plans)
+}
+
+impl DrivenEnd {
+    /// An end over new journals, with so many senders, which has begun no connection; none where memory runs out.
+    pub(crate) fn open(alloc: Global, config: EndConfig, senders: u16) -> Option<DrivenEnd>
+        requires keepalive { (100 ≤ config.keepalive) × (config.keepalive ≤ 60000) }
+        requires credentials { length config.credentials ≤ 2048 }
+        requires senders { senders ≤ 16 }
+    {
+        let outbox = new_outbox(alloc)?;
+        let inbox = new_inbox(alloc, config.peer_flow)?;
+        let plans = empty_plans(alloc, senders)?;
+        let seats = Vec::with_capacity(alloc, plans.len()).ok()?;
+        let Ok((gate, mut passes)) = Gate::new(alloc, outbox, senders) else {
+            return None;
+        };
+        let Some(conn) = new_conn(alloc, &gate, &inbox, config) else {
+            let _ = gate.close(passes);
+            return None;
+        };
+        let seated = seat(&gate, &mut passes, plans, seats);
+        let pass = take_last(&gate, &mut passes, senders);
+        Some(DrivenEnd {
+            gate,
+            passes,
+            senders: seated,
+            pass,
+            inbox,
+            conn,
+            news: News::new(alloc),
+            standing: Standing::Over,
+            turns: 0,
+            finished: false,
+        })
+    }
+
+    /// Whether a connection goes on.
+    pub(crate) fn is_open(&self) -> bool {
+        matches!(self.standing, Standing::Open)
+    }
+
+    /// Whether a turn failed otherwise than by its link, so that nothing follows.
+    pub(crate) fn is_given_up(&self) -> bool {
+        matches!(self.standing, Standing::GivenUp)
+    }
+
+    /// Whether a connection has ended with both finishes exchanged.
+    pub(crate) fn has_finished(&self) -> bool {
+        self.finished
+    }
+
+    /// The number that the inbox waits for.
+    pub(crate) fn next(&self) -> u64 {
+        self.inbox.next()
+    }
+
+    /// Each sender submits its next messages, `count` of them or what is left of those that it sends, all senders at once; and behind
+    /// the last of all the mark is added. Answers whether all was accepted.
+    ///
+    /// # Errors
+    /// Want of memory.
+    pub(crate) fn submit<R: Threads + Wait + Sync>(
+        &mut self,
+        alloc: Global,
+        messages: &[u64],
+        count: u64,
+        rt: &R,
+    ) -> Result<bool, AllocError>
+        requires { All IsCount messages.now }
+    {
+        if !submit_next(alloc, &self.gate, &mut self.senders, messages, count, rt)? {
+            return Ok(false);
+        }
+        if !have_sent(&self.gate, &mut self.senders, messages, rt) {
+            return Ok(true);
+        }
+        Ok(finish(&self.gate, &mut self.senders, rt))
+    }
+
+    /// Whether the outbox has all that each sender sends, and no more of it.
+    pub(crate) fn has_sent<R: Wait>(&mut self, messages: &[u64], rt: &R) -> bool
+        ensures { IsTrue result → self.new ≡ messages.now }
+    {
+        have_sent(&self.gate, &mut self.senders, messages, rt)
+    }
+
+    /// The next connection begins, where one may.
+    pub(crate) fn begin(&mut self, clock: &mut MemClock) {
+        let Standing::Over = self.standing else {
+            return;
+        };
+        self.conn.begin(clock);
+        self.turns = 0;
+        self.standing = Standing::Open;
+    }
+
+    /// A turn is made where a connection goes on.
+    pub(crate) fn turn<L: Link, R: Wait>(&mut self, link: &mut L, clock: &mut MemClock, rt: &R) {
+        let Standing::Open = self.standing else {
+            return;
+        };
+        if self.turns >= TURNS {
+            return;
+        }
+        self.standing = make_turn(
+            &mut self.conn,
+            link,
+            &self.gate,
+            &mut self.pass,
+            &mut self.inbox,
+            clock,
+            &mut self.news,
+            rt,
+        );
+        self.turns += 1;
+        if matches!(self.conn.end().ending(), Some(Ending::Finished)) {
+            self.finished = true;
+        }
+    }
+
+    /// The connection is given up, where one goes on: what is held and unsent is dropped.
+    pub(crate) fn cut(&mut self) {
+        let Standing::Open = self.standing else {
+            return;
+        };
+        let _ = self.conn.cut();
+        self.standing = Standing::Over;
+    }
+
+    /// Its journals.
+    pub(crate) fn close(self) -> Journals
+        ensures { counts_to result.outbox result.senders ≡ self }
+    {
+        let DrivenEnd {
+            gate,
+            mut passes,
+            senders,
+            pass,
+            inbox,
+            conn: _,
+            news: _,
+            standing: _,
+            turns: _,
+            finished: _,
+        } = self;
+        let count = senders.len() as u16;
+        give_last(&gate, &mut passes, count, pass);
+        unseat(&gate, senders, &mut passes);
+        Journals {
+            outbox: gate.close(passes),
+            inbox,
+            senders: count,
+        }
+    }
+}

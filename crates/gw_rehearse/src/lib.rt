@@ -1,0 +1,18 @@
+//! A rehearsal: the two ends of a session over journals and connections in memory, driven round by round as a script says, until
+//! both have finished. Relies on `conn_loop` for each turn, on `gate_plans` for the senders, on `cmd_script` for the script, and on the
+//! disks, links and clock in memory of `gw_fakes` and `gw_link_fakes`.
+#![tactic(auto)]
+
+mod end;
+mod journals;
+mod pair;
+mod payloads;
+mod rehearsal;
+mod senders;
+mod standing;
+mod summary;
+mod turning;
+
+pub use journals::{Journals, Log};
+pub use rehearsal::{Rehearsal, RehearseFault, rehearse};
+pub use summary::EndSummary;

@@ -1,0 +1,45 @@
+//! One turn, and where the end stands behind it.
+
+ghost use Rattle.std.specs.Prelude.{◌≡◌, ◌+◌, ◌<◌, ◌^◌};
+ghost use Rattle.gate_turn.specs.Places.{known};
+ghost use Rattle.gate_turn.specs.Calls.{IsFree};
+ghost use Rattle.gate_senders.specs.Gate.{IsPassAt};
+ghost use Rattle.conn_steps.specs.Agreeing.{Agrees};
+ghost use Rattle.conn_loop.specs.Conn.{line_of, GoesOn, HasSeen};
+ghost use Rattle.gw_rehearse.specs.Standing.{Stands};
+
+use crate::journals::Log;
+use crate::standing::Standing;
+use conn_loop::{Conn, News};
+use gate_senders::{Gate, Kept};
+use gate_turn::Pass;
+use gw_link_fakes::MemClock;
+use gw_links::Link;
+use jr_boxes::Inbox;
+use std::sync::Wait;
+
+/// Makes a turn, and answers where the end stands then.
+pub(crate) fn make_turn<L: Link, R: Wait>(
+    conn: &mut Conn,
+    link: &mut L,
+    gate: &Gate<Log>,
+    pass: &mut Pass<Kept<Log>>,
+    inbox: &mut Inbox<Log>,
+    clock: &mut MemClock,
+    news: &mut News,
+    rt: &R,
+) -> Standing
+    requires own { IsPassAt gate.now pass.old }
+    requires free { IsFree pass.old }
+    requires goes { GoesOn (line_of conn.old).machine }
+    requires place { (line_of conn.old).place < 2 ^ 63 }
+    requires seen { HasSeen (line_of conn.old).machine (known pass.old) }
+    requires agrees { Agrees (line_of conn.old).machine inbox.old }
+    ensures own { IsPassAt gate.now pass.new }
+    ensures free { IsFree pass.new }
+    ensures number { (known pass.new).number ≡ (known pass.old).number }
+    ensures made { (known pass.new).made ≡ (known pass.old).made }
+    ensures stands { Stands result (line_of conn.new) ((line_of conn.old).place + 262240) (known pass.new) inbox.new }
+{
+    Standing::behind(conn.turn(link, gate, pass, inbox, clock, news, rt))
+}
