@@ -19,6 +19,7 @@ use std::alloc::Global;
 pub fn check<S: Source, K: Sink, D: Disk>(alloc: Global, outside: &mut Outside<S, K, D>) -> Status
     ensures config_verdict { (text : List ℕ) → S.left outside.old.config ≡ Some text → Judges result (plan_of_text text) }
     ensures check_output { (text : List ℕ) → S.left outside.old.config ≡ Some text → GaveLayout (plan_of_text text) (K.taken outside.old.out) (K.taken outside.new.out) result }
+    ensures spared { result ≡ Status.InputFault → outside.new.out ≡ outside.old.out }
     ensures untouched_by_check { (outside.new.input ≡ outside.old.input) × (outside.new.wire ≡ outside.old.wire) × KeepsDisks outside.old outside.new }
     ensures refused { (fault : ConfigFault) → result ≡ Status.Config fault → KeepsBehindConfig outside.old outside.new }
     ensures config_first { (text : List ℕ) → S.left outside.old.config ≡ Some text → IsErr (plan_of_text text) → StopsAtConfig S.faults outside.old outside.new result }

@@ -2,12 +2,13 @@
 
 use crate::again::{place_of_frame, text_of_file};
 use crate::lines::{push_disk, push_input, push_journal, push_place, push_sink, push_source};
+use crate::missing::{push_made, push_other};
 use crate::report::Report;
 use cmd_config::Purpose;
-use cmd_run::{Bad, Command, Outside, Status, Which, command_of, run};
+use cmd_run::{Bad, Command, JournalCause, Outside, Status, Which, command_of, run};
 use gw_outside::{Disk, Sink, Source};
 use gw_real::{
-    DiskReason, FileDisk, FileSink, FileSource, Kept, Named, Opening, Reason, STANDARD_OUTPUT,
+    Begun, FileDisk, FileSink, FileSource, Kept, Named, Opening, Reason, STANDARD_OUTPUT,
 };
 use say_config::{Wanted, push_config_fault};
 use say_faults::{push_decode_fault, push_encode_fault, push_text_fault};
@@ -20,6 +21,12 @@ use std::fs::File;
 use std::io::{self, Printer};
 use std::rt::Files;
 use std::sync::Wait;
+
+/// How a journal begins: its magic, and behind it zeros up to the end of its header and the closed byte.
+const JOURNAL: Begun = Begun {
+    mark: b"FIXPJRN1",
+    length: 17,
+};
 
 /// The file that the word at a place names, from 1, behind the command; 0 is no file.
 fn named<'a>(role: &'static str, words: &'a [String], at: usize) -> Named<'a> {
@@ -103,7 +110,7 @@ impl<'a> Run<'a> {
     /// How the files of journals are opened.
     fn opening(&self) -> Opening {
         match self.command {
-            Command::Format => Opening::Make,
+            Command::Format => Opening::Make(JOURNAL),
             Command::Answer
             | Command::Check
             | Command::Decode
@@ -132,11 +139,10 @@ impl<'a> Run<'a> {
                 let out = outside.out.name();
                 self.push_unwritten(line, out, outside.out.reason(), outside.wire.reason())
             }
-            Status::JournalFault => {
-                self.push_failed(line, outside.out_disk.reason(), outside.in_disk.reason())
-            }
+            Status::JournalFault => { self.push_failed(line, &outside.out_disk, &outside.in_disk) }
             Status::JournalBad { which, cause } => {
-                push_journal(line, self.journal(*which), *which, *cause)
+                push_journal(line, self.journal(*which), *which, *cause)?;
+                self.push_unmade(rt, line, *which, *cause, outside.out_disk.is_new())
             }
             Status::Message(bad) => {
                 let config = outside.config.kept().bytes();
@@ -195,16 +201,39 @@ impl<'a> Run<'a> {
     }
 
     /// Adds which journal failed.
-    fn push_failed(
+    fn push_failed<R>(
         &self,
         line: &mut String,
-        outbox: Option<DiskReason<'_>>,
-        inbox: Option<DiskReason<'_>>,
+        outbox: &FileDisk<'_, R>,
+        inbox: &FileDisk<'_, R>,
     ) -> Result<(), AllocError> {
-        match (outbox, inbox) {
+        match (outbox.reason(), inbox.reason()) {
             (Some(reason), _) => push_disk(line, self.outbox, reason),
-            (None, Some(reason)) => push_disk(line, self.inbox, reason),
+            (None, Some(reason)) => {
+                push_disk(line, self.inbox, reason)?;
+                push_made(line, self.outbox, outbox.is_new())
+            }
             (None, None) => Ok(()),
+        }
+    }
+
+    /// Adds what becomes of the other journal, where this one was to be made and is one already.
+    fn push_unmade<R: Files>(
+        &self,
+        rt: &R,
+        line: &mut String,
+        which: Which,
+        cause: JournalCause,
+        is_outbox_new: bool,
+    ) -> Result<(), AllocError> {
+        match (cause, which) {
+            (JournalCause::Already, Which::Outbox) => {
+                push_other(rt, line, self.outbox, self.inbox, false)
+            }
+            (JournalCause::Already, Which::Inbox) => {
+                push_other(rt, line, self.inbox, self.outbox, is_outbox_new)
+            }
+            _ => Ok(()),
         }
     }
 
@@ -221,8 +250,9 @@ impl<'a> Run<'a> {
         match bad {
             Bad::Decode { frame, fault } => {
                 let place = place_of_frame(rt, alloc, self.input.path, *frame);
+                let plan = plan_of(alloc, config);
                 push_place(line, self.input)?;
-                push_decode_fault(line, *frame, place, *fault)
+                push_decode_fault(line, plan.as_ref(), *frame, place, *fault)
             }
             Bad::Encode { .. } | Bad::Line { .. } => {
                 match Again::read(rt, alloc, config, self.input.path) {

@@ -5,6 +5,7 @@
 mod again;
 mod files;
 mod lines;
+mod missing;
 mod plans;
 mod report;
 mod session;

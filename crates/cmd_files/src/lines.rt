@@ -63,6 +63,9 @@ pub fn push_disk(
         DiskReason::Locked => line.push_str("held by another process"),
         DiskReason::SameFile(other) => push_same(line, other),
         DiskReason::TooLong => line.push_str("longer than 2^40 bytes"),
+        DiskReason::Foreign => {
+            line.push_str("neither empty nor a journal, so it is left as it is")
+        }
     }
 }
 

@@ -2,6 +2,7 @@
 
 use crate::again::text_of_file;
 use crate::lines::{push_disk, push_input, push_journal, push_place, push_sink, push_source};
+use crate::missing::push_missing;
 use crate::plans::{PlanLine, plan_line};
 use crate::session::{Session, named};
 use crate::walk::{AtPlace, entry_at};
@@ -9,7 +10,7 @@ use cmd_config::{Purpose, Role, read_configuration};
 use cmd_run::{Bad, JournalCause, Which};
 use gw_real::{FileDisk, Kept, Named, Reason};
 use gw_sockets::{AcceptDialer, ConnectDialer, SocketReason};
-use say_config::{Wanted, push_config_fault, push_file};
+use say_config::{Wanted, push_config_fault};
 use say_faults::{push_plan_fault, push_rejected};
 use schema_toml::ConfigFault;
 use std::alloc::{AllocError, Global};
@@ -21,9 +22,6 @@ use std::time::Clock;
 
 /// How many bytes of a payload are shown.
 const SHOWN: usize = 64;
-
-/// The size of a journal without records, in bytes.
-const EMPTY: u64 = 17;
 
 /// What running a session again can bring.
 #[derive(Clone, Copy, Debug, PartialEq, Eq)]
@@ -50,36 +48,6 @@ impl Outlook {
             Outlook::Hopeless(why) => write!(line, "; running again cannot help: {why}"),
         }
     }
-}
-
-/// Whether there is no file at a path.
-fn is_missing<R: Files>(rt: &R, path: &str) -> bool {
-    matches!(rt.metadata(path), Err(error) if error.kind() == ErrorKind::NotFound)
-}
-
-/// Whether there is a file at a path that is longer than a journal without records.
-fn has_records<R: Files>(rt: &R, path: &str) -> bool {
-    matches!(rt.metadata(path), Ok(metadata) if metadata.len() > EMPTY)
-}
-
-/// Adds what to do where a journal is missing: both have to be made for a new session, and where the other one has records
-/// this is none.
-fn push_missing<R: Files>(
-    rt: &R,
-    line: &mut String,
-    name: Named<'_>,
-    other: Named<'_>,
-) -> Result<(), AllocError> {
-    if !is_missing(rt, name.path) {
-        return Ok(());
-    }
-    if !has_records(rt, other.path) {
-        return line.push_str(": for a new session run fixpgw format OUTBOX INBOX");
-    }
-    let role = name.role;
-    write!(line, ": only {role} is missing: ")?;
-    push_file(line, other.role, other.path)?;
-    line.push_str(" is there and has records, so this is no new session")
 }
 
 /// Adds that a session is not finished after so many connections, and what to do.

@@ -21,6 +21,7 @@ const USAGE: &str =
   fixpgw encode CONFIG INPUT WIRE       writes the messages in the text of INPUT as frames to WIRE
   fixpgw format OUTBOX INBOX            makes the two journals of a new session
   fixpgw journal OUTBOX INBOX OUT       prints both journals to OUT
+  fixpgw rehearse CONFIG OUT            runs two ends in memory by the script in CONFIG, and prints what both hold to OUT
   fixpgw COMMAND --help                 what a command takes and does
   fixpgw --help                         this text
   fixpgw --version                      the name and the version
@@ -28,7 +29,7 @@ const USAGE: &str =
 
 OUT may be -, which is standard output. The last line on standard output is `status N NAME`, and N is the
 exit status: 0 done, 1 words, 2 config, 3 input-fault, 4 output-fault, 5 journal-fault, 6 journal-bad,
-7 dial-fault, 8 unfinished, 9 rejected, 10 full, 11 turns, 12 message, 14 memory.";
+7 dial-fault, 8 unfinished, 9 rejected, 10 full, 11 turns, 12 message, 13 undrained, 14 memory.";
 
 const ACCEPT: &str = "usage: fixpgw accept ADDRESS N CONFIG INPUT OUTBOX INBOX OUT
 
@@ -105,6 +106,15 @@ Prints both journals of a session, a line for each record. Nothing is printed wh
   INBOX    the journal of what is received (likewise)
   OUT      the lines (written); - is standard output";
 
+const REHEARSE: &str = "usage: fixpgw rehearse CONFIG OUT
+
+Runs two ends of a session in memory, an initiator and an acceptor, as a script says: when messages are submitted, how many
+rounds run, when the connection is cut. Behind the last step it goes on until both ends have finished, and prints what their
+journals hold. No file is touched but these two, and no address is opened.
+
+  CONFIG   the script, as TOML (read)
+  OUT      a line for each sender, a line for each end, and `finished` (written); - is standard output";
+
 /// The usage of a command, if there is such a command.
 fn usage_of(command: &str) -> Option<&'static str> {
     match command {
@@ -116,6 +126,7 @@ fn usage_of(command: &str) -> Option<&'static str> {
         "encode" => Some(ENCODE),
         "format" => Some(FORMAT),
         "journal" => Some(JOURNAL),
+        "rehearse" => Some(REHEARSE),
         _ => None,
     }
 }
@@ -124,13 +135,13 @@ fn is_help(word: &str) -> bool {
     matches!(word, "--help" | "-h")
 }
 
-/// The text that words ask for which are no command to run, if they ask for one.
+/// The text that words ask for, if they do: at once, whatever stands beside that. A file of such a name is `./--help`.
 pub fn asked(words: &[String]) -> Option<&'static str> {
     let (command, rest) = words.split_first()?;
     if is_help(command.as_str()) {
         return Some(USAGE);
     }
-    if rest.is_empty() && command.as_str() == "--version" {
+    if command.as_str() == "--version" {
         return Some(VERSION);
     }
     for word in rest {

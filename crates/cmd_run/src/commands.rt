@@ -11,11 +11,11 @@ ghost use Rattle.cmd_base.specs.Texts.{ReadsWithin};
 ghost use Rattle.schema_toml.specs.declared.fault.ConfigFault.{ConfigFault};
 ghost use Rattle.cmd_base.specs.Causes.{NoneFell, IsCaused, faults_of};
 ghost use Rattle.cmd_base.specs.Contents.{content_of, disks_of};
-ghost use Rattle.cmd_base.specs.Order.{IsOfJournals, KeepsBehindConfig, KeepsBehindJournals, KeepsDisks, KeepsStreams, StopsAtConfig, FailsInOrder};
+ghost use Rattle.cmd_base.specs.Order.{IsOfJournals, KeepsBehindConfig, KeepsBehindJournals, KeepsDisks, KeepsStreams, StopsAtConfig, FailsInOrder, SparesOutputs};
 ghost use Rattle.cmd_answer.specs.Promise.{GaveBy};
 ghost use Rattle.cmd_check.specs.Layouts.{GaveLayout};
 ghost use Rattle.cmd_decode.specs.Promise.{GaveText};
-ghost use Rattle.cmd_encode.specs.Promise.{GaveWire};
+ghost use Rattle.cmd_encode.specs.Promise.{GaveWire, LeavesWire};
 ghost use Rattle.cmd_format.specs.Formats.{Formats, KeepsBehindHeader};
 ghost use Rattle.cmd_journal.specs.Prints.{Prints, journal_devices};
 ghost use Rattle.cmd_run.specs.Run.{IsRefused, JudgesBy};
@@ -72,10 +72,14 @@ pub fn run<R: Wait, S: Source, K: Sink, D: Disk>(
     ensures untouched_by_journal { command_of (bytes_of words.now) ≡ Some commands.Journal → (result.1.config ≡ outside.config) × (result.1.input ≡ outside.input) × (result.1.wire ≡ outside.wire) }
 
     // The order of refusals: the words are `untouched`; then the configuration, before anything behind it is touched; then the
-    // journals, of which `format_output` and `journal_output` say that the outbox comes first.
+    // journals, of which `format_output` and `journal_output` say that the outbox comes first; then the inputs, before an output is
+    // begun, as `spared` and its sisters say.
     ensures refused { (fault : ConfigFault) → result.0 ≡ Status.Config fault → KeepsBehindConfig outside result.1 }
     ensures config_first { (command : Command) → command_of (bytes_of words.now) ≡ Some command → (text : List ℕ) → S.left outside.config ≡ Some text → IsRefused command text → StopsAtConfig S.faults outside result.1 result.0 }
     ensures unread { result.0 ≡ Status.InputFault → FailsInOrder S.faults outside result.1 }
+    ensures spared { result.0 ≡ Status.InputFault → SparesOutputs S.left outside result.1 }
+    ensures spared_by_check { command_of (bytes_of words.now) ≡ Some commands.Check → result.0 ≡ Status.InputFault → result.1.out ≡ outside.out }
+    ensures spared_by_encode { command_of (bytes_of words.now) ≡ Some commands.Encode → LeavesWire result.0 → result.1.wire ≡ outside.wire }
     ensures journals_first { IsOfJournals result.0 → KeepsBehindJournals outside result.1 }
 
     ensures within { ReadsWithin (S.left outside.config) (S.left result.1.config) (text_limit + 1) }

@@ -2,18 +2,21 @@
 //! the command run over them, prints its status and exits with it. What is between is the crate `cmd_run`.
 #![tactic(auto)]
 
+mod rehearsals;
 mod session_said;
 mod sessions;
 
 use cmd_files::{Report, Session, VERSION, asked, finish, run_over_files, usage_fault};
 use cmd_run::{Status, command_of};
 use gw_real::{FileDisk, Opening};
+use rehearsals::{RehearsalFiles, rehearse_over_files};
 use sessions::{SessionFiles, run_over_sockets};
 use std::fs::File;
 use std::io;
 use std::process::ExitCode;
 use std::rt::{Env, Files};
 use std::sync::Wait;
+use std::thread::Threads;
 
 /// The words behind the program's name.
 fn words_of<R: Env + AllocGlobal>(rt: &R) -> io::Result<Vec<String>> {
@@ -57,17 +60,19 @@ fn unread(error: &io::Error) -> Report {
 }
 
 /// Runs words that are no session's.
-fn run_words<R: Wait + Files<File = File> + Print + Eprint + AllocGlobal>(
+fn run_words<R: Threads + Wait + Sync + Files<File = File> + Print + Eprint + AllocGlobal>(
     rt: &R,
     words: &[String],
 ) -> ExitCode {
-    if command_of(words).is_some() {
-        return finish(rt, run_over_files(rt, words));
+    if let Some(files) = RehearsalFiles::of(words) {
+        return rehearse_over_files(rt, files);
     }
-    match asked(words) {
-        Some(text) => show(rt, text),
-        None => finish(rt, usage_fault(rt, words)),
-    }
+    let report = if command_of(words).is_some() {
+        run_over_files(rt, words)
+    } else {
+        usage_fault(rt, words)
+    };
+    finish(rt, report)
 }
 
 fn main(rt: HostRuntime) -> ExitCode {
@@ -76,6 +81,9 @@ fn main(rt: HostRuntime) -> ExitCode {
         Err(error) => return finish(&rt, unread(&error)),
     };
     let (words, is_quiet) = behind_quiet(words.as_slice());
+    if let Some(text) = asked(words) {
+        return show(&rt, text);
+    }
     let Some(session) = Session::of(words) else {
         return run_words(&rt, words);
     };

@@ -40,7 +40,7 @@ pub struct SessionFiles<'a, D> {
 }
 
 /// The device for OUT; `-` is standard output.
-fn out_of<'a, R: Print>(
+pub fn out_of<'a, R: Print>(
     rt: &'a R,
     out: Named<'a>,
     others: &'a [Named<'a>],

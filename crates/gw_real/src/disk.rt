@@ -25,12 +25,24 @@ pub enum DiskReason<'a> {
     SameFile(Named<'a>),
     /// The file has, or would have, more than 2^40 bytes.
     TooLong,
+    /// The file is neither empty nor of the kind that was to be made: it is left as it is.
+    Foreign,
 }
 
 impl From<io::Error> for DiskReason<'_> {
     fn from(error: io::Error) -> Self {
         DiskReason::System(error)
     }
+}
+
+/// How the files of a kind begin, so that one of another kind is known before it is written over.
+#[derive(Clone, Copy, Debug, PartialEq, Eq)]
+pub struct Begun {
+    /// The bytes that each begins with.
+    pub mark: &'static [u8],
+    /// How many bytes are written when one is made: the mark, and zeros behind it. Where that was cut off, the file has no more
+    /// bytes than these, and each is zero or that of the mark.
+    pub length: usize,
 }
 
 /// How a file is opened.
@@ -40,8 +52,9 @@ pub enum Opening {
     Read,
     /// A file that stands there already, to be read and written.
     Write,
-    /// The same, and it is made where there is none; its folder is synced then, so that it is there after a power cut.
-    Make,
+    /// The same, and it is made where there is none; its folder is synced then, so that it is there after a power cut. One that
+    /// stands there is empty, begins so, or was cut off while it was made; every call fails over any other.
+    Make(Begun),
 }
 
 /// What stands behind a disk.
@@ -64,6 +77,8 @@ pub struct FileDisk<'a, R> {
     others: &'a [Named<'a>],
     opening: Opening,
     held: Held<'a>,
+    /// Whether there was no such file, and it was made.
+    is_new: bool,
     reason: Option<DiskReason<'a>>,
     faults: u64,
 }
@@ -119,16 +134,85 @@ fn made<'a, R: Files<File = File>>(
     locked(file)
 }
 
-/// A file, made where there is none.
+/// The most bytes that are looked at to know what a file is: more than are written when one is made.
+const FRONT: usize = 64;
+
+impl Begun {
+    /// Whether each of these bytes, which stand at the front of a file, is zero or that of the mark.
+    fn is_part(self, front: &[u8]) -> bool {
+        for (at, byte) in front.iter().enumerate() {
+            if *byte != 0 && !matches!(self.mark.get(at), Some(marked) if marked == byte) {
+                return false;
+            }
+        }
+        true
+    }
+
+    /// Whether a file whose first bytes are these, at most `FRONT`, is of the kind, or becomes it without a loss: it is empty, or was
+    /// cut off while it was made.
+    fn admits(self, front: &[u8]) -> bool {
+        front.starts_with(self.mark) || (front.len() <= self.length && self.is_part(front))
+    }
+}
+
+/// A file that stands there already and may be made one of this kind. A device keeps nothing that could be lost.
+fn of_kind<'a>(file: File, begun: Begun) -> Result<File, DiskReason<'a>> {
+    if !file.metadata()?.is_file() {
+        return Ok(file);
+    }
+    let mut front = [0; FRONT];
+    let count = read_some(&file, 0, &mut front)?;
+    let (front, _) = front.split_at(count);
+    if begun.admits(front) {
+        Ok(file)
+    } else {
+        Err(DiskReason::Foreign)
+    }
+}
+
+/// A file that was opened, or why it was not.
+#[derive(Drop)]
+struct Opened<'a> {
+    file: Result<File, DiskReason<'a>>,
+    /// Whether there was none, and it was made.
+    is_new: bool,
+}
+
+/// A file that stands there already.
+const fn standing<'a>(file: Result<File, DiskReason<'a>>) -> Opened<'a> {
+    Opened {
+        file,
+        is_new: false,
+    }
+}
+
+/// A file of this kind that stands there already.
+fn found_of_kind<'a, R: Files<File = File>>(
+    rt: &R,
+    name: Named<'a>,
+    others: &'a [Named<'a>],
+    begun: Begun,
+) -> Result<File, DiskReason<'a>> {
+    let file = found(rt, name, others, true)?;
+    of_kind(file, begun)
+}
+
+/// A file of this kind, made where there is none.
 fn found_or_made<'a, R: Files<File = File>>(
     rt: &R,
     name: Named<'a>,
     others: &'a [Named<'a>],
-) -> Result<File, DiskReason<'a>> {
+    begun: Begun,
+) -> Opened<'a> {
     match File::create_new(rt, name.path) {
-        Ok(file) => made(rt, name, others, file),
-        Err(error) if error.kind() == ErrorKind::AlreadyExists => found(rt, name, others, true),
-        Err(error) => Err(DiskReason::System(error)),
+        Ok(file) => Opened {
+            file: made(rt, name, others, file),
+            is_new: true,
+        },
+        Err(error) if error.kind() == ErrorKind::AlreadyExists => {
+            standing(found_of_kind(rt, name, others, begun))
+        }
+        Err(error) => standing(Err(DiskReason::System(error))),
     }
 }
 
@@ -195,6 +279,7 @@ impl<'a, R> FileDisk<'a, R> {
             others,
             opening,
             held: Held::Unopened,
+            is_new: false,
             reason: None,
             faults: 0,
         }
@@ -203,6 +288,11 @@ impl<'a, R> FileDisk<'a, R> {
     /// Why the last call that failed did, if one has.
     pub fn reason(&self) -> Option<DiskReason<'a>> {
         self.reason
+    }
+
+    /// Whether there was no such file, and one was made.
+    pub fn is_new(&self) -> bool {
+        self.is_new
     }
 
     /// The open file.
@@ -236,11 +326,12 @@ impl<'a, R: Files<File = File>> FileDisk<'a, R> {
         let Held::Unopened = &self.held else {
             return;
         };
-        let file = match self.opening {
-            Opening::Read => found(self.rt, self.name, self.others, false),
-            Opening::Write => found(self.rt, self.name, self.others, true),
-            Opening::Make => found_or_made(self.rt, self.name, self.others),
+        let Opened { file, is_new } = match self.opening {
+            Opening::Read => standing(found(self.rt, self.name, self.others, false)),
+            Opening::Write => standing(found(self.rt, self.name, self.others, true)),
+            Opening::Make(begun) => found_or_made(self.rt, self.name, self.others, begun),
         };
+        self.is_new = is_new;
         self.held = match file {
             Ok(file) => Held::File(file),
             Err(reason) => Held::Failing(reason),

@@ -9,7 +9,7 @@ mod named;
 mod sink;
 mod source;
 
-pub use disk::{DiskReason, FileDisk, Opening};
+pub use disk::{Begun, DiskReason, FileDisk, Opening};
 pub use kept::Kept;
 pub use named::{Named, Reason, STANDARD_OUTPUT};
 pub use sink::FileSink;

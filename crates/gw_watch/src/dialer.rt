@@ -59,7 +59,6 @@ pub struct WatchedDialer<'e, R, N, E> {
     pauses: Pauses,
     /// The pause before the next connection, in milliseconds.
     pause: u64,
-    has_begun: bool,
 }
 
 impl<'e, R, N, E> WatchedDialer<'e, R, N, E> {
@@ -80,7 +79,6 @@ impl<'e, R, N, E> WatchedDialer<'e, R, N, E> {
             ear,
             pauses,
             pause: 0,
-            has_begun: false,
         }
     }
 
@@ -100,7 +98,6 @@ impl<'e, R, N, E> WatchedDialer<'e, R, N, E> {
             ear: _,
             pauses: _,
             pause: _,
-            has_begun: _,
         } = self;
         inner
     }
@@ -141,10 +138,6 @@ where
         ensures lent { N.lent self.new.inner ≡ N.lent self.old.inner }
         ensures faults { N.faults self.new.inner ≡ N.faults self.old.inner }
     {
-        if !self.has_begun {
-            self.has_begun = true;
-            self.ear.hear(Heard::Begun);
-        }
         match self.inner.approach() {
             Approach::Listens => self.ear.hear(Heard::Listens),
             Approach::Connects => self.ear.hear(Heard::Connects),

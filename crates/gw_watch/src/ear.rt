@@ -6,7 +6,7 @@ use std::net::SocketAddr;
 /// What a watch sees.
 #[derive(Clone, Copy, Debug)]
 pub enum Heard<'a> {
-    /// The first connection is about to be asked for: CONFIG, both journals and INPUT are accepted, and OUT is begun.
+    /// OUT is begun: CONFIG, both journals and INPUT are accepted, and nothing is added to a journal yet.
     Begun,
     /// The dialer listens from now on.
     Listens,
@@ -24,8 +24,10 @@ pub enum Heard<'a> {
     Went(SessionMsg<'a>),
     /// An application message came in.
     MessageCame,
-    /// An application message went out.
+    /// An application message went out, at least its header.
     MessageWent,
+    /// What goes out over this connection is not followed any more, for want of memory.
+    WentUnseen,
     /// A line went to OUT: its first 64 bytes.
     Line(&'a [u8]),
     /// INPUT is long in being read.

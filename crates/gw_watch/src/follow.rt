@@ -38,6 +38,14 @@ impl Way {
             Way::Out => Heard::MessageWent,
         }
     }
+
+    /// That it is not followed any more; of what a peer writes that is not told.
+    fn unseen(self) -> Option<Heard<'static>> {
+        match self {
+            Way::In => None,
+            Way::Out => Some(Heard::WentUnseen),
+        }
+    }
 }
 
 /// How far the bytes of one way are followed.
@@ -90,6 +98,14 @@ impl Follower {
         self.is_established
     }
 
+    /// Follows no further.
+    fn lose<E: Ear>(&mut self, ear: &E) {
+        self.is_lost = true;
+        if let Some(unseen) = self.way.unseen() {
+            ear.hear(unseen);
+        }
+    }
+
     /// Follows on over these bytes.
     pub(crate) fn follow<E: Ear>(&mut self, bytes: &[u8], ear: &E) {
         let mut rest = bytes;
@@ -118,7 +134,7 @@ impl Follower {
         if self.skipped > 0 {
             self.skipped = self.skipped.saturating_sub(count);
         } else if count == 0 || self.front.extend_from_slice(taken).is_err() {
-            self.is_lost = true;
+            self.lose(ear);
         } else {
             self.look(ear);
         }
@@ -143,7 +159,7 @@ impl Follower {
         };
         self.size = size_of(head);
         if self.size < HEAD || self.size > MOST {
-            self.is_lost = true;
+            self.lose(ear);
             return;
         }
         if !is_session(head) {

@@ -32,11 +32,13 @@ impl Front {
     }
 }
 
-/// A sink whose lines an ear is told as soon as they are taken. All that is promised of it is what the sink inside promises.
+/// A sink of which an ear is told that it is begun, which its first push does, and each line as soon as it is taken. All that is promised of
+/// it is what the sink inside promises.
 pub struct WatchedSink<'e, K, E> {
     inner: K,
     ear: &'e E,
     front: Front,
+    has_begun: bool,
 }
 
 impl<'e, K, E> WatchedSink<'e, K, E> {
@@ -51,6 +53,7 @@ impl<'e, K, E> WatchedSink<'e, K, E> {
                 bytes: [0; FRONT],
                 count: 0,
             },
+            has_begun: false,
         }
     }
 
@@ -67,6 +70,7 @@ impl<'e, K, E> WatchedSink<'e, K, E> {
             inner,
             ear: _,
             front: _,
+            has_begun: _,
         } = self;
         inner
     }
@@ -91,6 +95,10 @@ impl<K: Sink, E: Ear> Sink for WatchedSink<'_, K, E> {
     fn push(&mut self, bytes: &[u8]) -> Result<usize, Failed> {
         let taken = self.inner.push(bytes);
         if let Ok(count) = taken {
+            if !self.has_begun {
+                self.has_begun = true;
+                self.ear.hear(Heard::Begun);
+            }
             let (lines, _) = bytes.split_at(count);
             follow(&mut self.front, lines, self.ear);
         }

@@ -18,7 +18,7 @@ pub struct WatchedSource<'e, R, S, E> {
     inner: S,
     rt: &'e R,
     ear: &'e E,
-    /// The moment of the first read, in milliseconds.
+    /// The moment before the first read, in milliseconds.
     start: Option<u64>,
     /// How many bytes came.
     count: usize,
@@ -75,13 +75,21 @@ fn is_long(took: u64, count: usize) -> bool {
 }
 
 impl<R: Clock, S: Source, E: Ear> WatchedSource<'_, R, S, E> {
+    /// Starts its clock where it does not go yet: the first read counts too, as of a pipe that nobody writes to.
+    fn start(&mut self)
+        ensures inner { self.new.inner ≡ self.old.inner }
+    {
+        if self.start.is_none() {
+            self.start = Some(moment(self.rt));
+        }
+    }
+
     /// Tells where the source is long in being read, once.
     fn look(&mut self, count: usize)
         ensures inner { self.new.inner ≡ self.old.inner }
     {
         let now = moment(self.rt);
         let start = self.start.unwrap_or(now);
-        self.start = Some(start);
         self.count = self.count.saturating_add(count);
         if !self.is_told && is_long(now.saturating_sub(start), self.count) {
             self.is_told = true;
@@ -96,6 +104,7 @@ impl<R: Clock, S: Source, E: Ear> Source for WatchedSource<'_, R, S, E> {
     ghost faults = { λ w. S.faults w.inner };
 
     fn pull(&mut self, into: &mut [u8]) -> Result<usize, Failed> {
+        self.start();
         let got = self.inner.pull(into);
         if let Ok(count) = got {
             self.look(count);

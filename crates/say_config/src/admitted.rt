@@ -1,8 +1,10 @@
 //! What the value at a key has to be.
 
+use crate::table::PRIMITIVES;
 use cmd_config::{
     DESKS, FLOW_WORDS, KEEPALIVE, ORDER_VERSION, Purpose, REFERENCE, Range, Role, SENDERS,
 };
+use cmd_script::{ACTION_WORDS, COUNT, MESSAGES};
 use std::alloc::AllocError;
 use toml::Value;
 
@@ -16,12 +18,6 @@ pub enum Admitted {
     /// What these words say.
     Other(&'static str),
 }
-
-/// The words of primitive types.
-const PRIMITIVES: &[&str] = &[
-    "char", "int8", "int16", "int32", "int64", "uint8", "uint16", "uint32", "uint64", "float",
-    "double",
-];
 
 /// What the value at each of some keys has to be.
 struct Row {
@@ -62,6 +58,37 @@ const SETTINGS: &[Row] = &[
     Row {
         keys: &["reference"],
         admitted: Admitted::Number(REFERENCE),
+    },
+];
+
+/// The keys of a script and of its steps, beside those that a session's configuration has too.
+const SCRIPT: &[Row] = &[
+    Row {
+        keys: &["senders"],
+        admitted: Admitted::Number(Range {
+            least: 1,
+            greatest: 16,
+        }),
+    },
+    Row {
+        keys: &["messages"],
+        admitted: Admitted::Number(MESSAGES),
+    },
+    Row {
+        keys: &["initiator_version", "desk_version"],
+        admitted: Admitted::Number(ORDER_VERSION),
+    },
+    Row {
+        keys: &["step"],
+        admitted: Admitted::Other("a list of tables"),
+    },
+    Row {
+        keys: &["do"],
+        admitted: Admitted::Words(ACTION_WORDS),
+    },
+    Row {
+        keys: &["count", "rounds"],
+        admitted: Admitted::Number(COUNT),
     },
 ];
 
@@ -146,6 +173,14 @@ pub fn in_settings(key: &str) -> Admitted {
     admitted_in(SETTINGS, key).unwrap_or(Admitted::Other("admitted here"))
 }
 
+/// What stands at a key of a script, or of a step; a step has no key.
+pub fn in_script(key: &str) -> Admitted {
+    if key.is_empty() {
+        return Admitted::Other("a table");
+    }
+    admitted_in(SCRIPT, key).unwrap_or(in_settings(key))
+}
+
 /// What a command asks of a key on top.
 #[derive(Clone, Copy)]
 pub struct Asked {
@@ -212,6 +247,39 @@ pub fn asked_by(purpose: Purpose, key: &str, found: Option<&Value>) -> Option<As
         Purpose::Recorded => asked_by_answer(key),
         Purpose::Live(Role::Acceptor) => asked_by_live(Role::Acceptor, "accept", key, found),
         Purpose::Live(Role::Initiator) => asked_by_live(Role::Initiator, "connect", key, found),
+    }
+}
+
+/// What `rehearse` asks of `desks`, at which this is found: none exactly where the acceptor sends nothing, which it does for now.
+fn asked_of_desks(found: Option<&Value>) -> Asked {
+    let is_zero = matches!(found, Some(Value::Integer(0)));
+    Asked {
+        by: "rehearse",
+        value: if is_zero {
+            "above 0 where server_flow is not \"none\""
+        } else {
+            "0"
+        },
+        condition: if is_zero {
+            "; there are no desks yet, so server_flow has to be \"none\""
+        } else {
+            "; there are no desks yet"
+        },
+        default: "",
+    }
+}
+
+/// What `rehearse` asks of a key of its script on top, at which this is found.
+pub fn asked_by_script(key: &str, found: Option<&Value>) -> Option<Asked> {
+    match key {
+        "client_flow" => Some(always("rehearse", "the flow of an end that sends", "")),
+        "messages" => Some(always(
+            "rehearse",
+            "so few that all senders together have at most 100000",
+            "",
+        )),
+        "desks" => Some(asked_of_desks(found)),
+        _ => None,
     }
 }
 

@@ -1,9 +1,12 @@
 //! What is wrong with CONFIG: the place, what was found there, and what would be right.
 
-use crate::admitted::{Admitted, Asked, asked_by, in_schema, in_settings};
+use crate::admitted::{
+    Admitted, Asked, asked_by, asked_by_script, in_schema, in_script, in_settings,
+};
 use crate::escape::push_path;
-use crate::schema::schema_fault;
-use crate::value::{found_at, last_key, push_value};
+use crate::schema::{Broken, schema_fault};
+use crate::table::push_where;
+use crate::value::{found_at, last_key, list_key, push_value};
 use cmd_config::Purpose;
 use sbe_schema::SchemaFault;
 use sbe_value::Path;
@@ -17,6 +20,8 @@ use toml_walk::TomlFault;
 pub enum Wanted {
     /// The configuration of a session, for this purpose.
     Session(Purpose),
+    /// The script of a rehearsal.
+    Script,
     /// A schema.
     Schema,
 }
@@ -25,6 +30,7 @@ pub enum Wanted {
 fn admitted_at(wanted: Wanted, key: &str, found: Option<&Value>) -> Admitted {
     match wanted {
         Wanted::Session(_) => in_settings(key),
+        Wanted::Script => in_script(key),
         Wanted::Schema => in_schema(key, found),
     }
 }
@@ -51,6 +57,7 @@ fn push_wrong_kind(
 fn asked_at(wanted: Wanted, key: &str, found: Option<&Value>) -> Option<Asked> {
     match wanted {
         Wanted::Session(purpose) => asked_by(purpose, key, found),
+        Wanted::Script => asked_by_script(key, found),
         Wanted::Schema => None,
     }
 }
@@ -203,17 +210,28 @@ fn found_in<'a>(table: Option<&'a Value>, path: &Path) -> Option<&'a Value> {
     }
 }
 
-/// Adds a place, and what is wrong there.
+/// Adds a place, its line and its names where it lies in a list, and what is wrong there.
 fn push_at(
+    alloc: Global,
     line: &mut String,
     wanted: Wanted,
     fault: &TomlFault,
     path: &Path,
-    table: Option<&Value>,
+    text: &[u8],
 ) -> Result<(), AllocError> {
+    let table = table_of(alloc, text);
     push_path(line, path)?;
     line.push_str(": ")?;
-    push_cause(line, wanted, fault, last_key(path), found_in(table, path))
+    if let Some(table) = &table {
+        push_where(alloc, line, table, path, text)?;
+    }
+    push_cause(
+        line,
+        wanted,
+        fault,
+        last_key(path),
+        found_in(table.as_ref(), path),
+    )
 }
 
 /// Adds what is wrong with a text, without the fault's name.
@@ -225,10 +243,7 @@ fn push_toml_cause(
     text: &[u8],
 ) -> Result<(), AllocError> {
     match place_of(fault) {
-        Some(path) => {
-            let table = table_of(alloc, text);
-            push_at(line, wanted, fault, path, table.as_ref())
-        }
+        Some(path) => push_at(alloc, line, wanted, fault, path, text),
         None => match fault {
             TomlFault::Memory => line.push_str("out of memory"),
             _ => push_text_fault(alloc, line, text),
@@ -236,14 +251,49 @@ fn push_toml_cause(
     }
 }
 
+/// Adds the rule that a table at this place breaks, whose text is not found again.
+fn push_rule(line: &mut String, fault: &SchemaFault) -> Result<(), AllocError> {
+    let (_, meaning) = schema_fault(fault.kind);
+    line.push_str(meaning)
+}
+
+/// Adds what a table has that breaks a rule, by the text of the schema.
+fn push_broken(
+    alloc: Global,
+    line: &mut String,
+    fault: &SchemaFault,
+    root: &Value,
+    text: &[u8],
+) -> Result<(), AllocError> {
+    push_where(alloc, line, root, &fault.path, text)?;
+    let Some(table) = found_at(root, &fault.path) else {
+        return push_rule(line, fault);
+    };
+    let broken = Broken {
+        root,
+        list: list_key(&fault.path),
+        table,
+    };
+    broken.push(line, fault.kind)
+}
+
 /// Adds the rule that a schema breaks, with its place, if it has one.
-fn push_schema_fault(line: &mut String, fault: &SchemaFault) -> Result<(), AllocError> {
-    let (name, meaning) = schema_fault(fault.kind);
+fn push_schema_fault(
+    alloc: Global,
+    line: &mut String,
+    fault: &SchemaFault,
+    text: &[u8],
+) -> Result<(), AllocError> {
+    let (name, _) = schema_fault(fault.kind);
     if !fault.path.is_empty() {
         push_path(line, &fault.path)?;
         line.push_str(": ")?;
     }
-    write!(line, "{meaning} ({name})")
+    match table_of(alloc, text) {
+        Some(root) => push_broken(alloc, line, fault, &root, text)?,
+        None => push_rule(line, fault)?,
+    }
+    write!(line, " ({name})")
 }
 
 /// Adds what is wrong with CONFIG, whose text this is: the place, what is wrong, and the fault's name.
@@ -262,7 +312,7 @@ pub fn push_config_fault(
             push_toml_cause(alloc, line, wanted, fault, text)?;
             line.push_str(name_of(fault))
         }
-        ConfigFault::Schema(fault) => push_schema_fault(line, fault),
+        ConfigFault::Schema(fault) => push_schema_fault(alloc, line, fault, text),
         ConfigFault::TooLong => write!(
             line,
             "the text is longer than {TEXT_LIMIT} bytes (TooLong)"

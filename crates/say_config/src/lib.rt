@@ -5,7 +5,9 @@
 mod admitted;
 mod config;
 mod escape;
+mod place;
 mod schema;
+mod table;
 mod value;
 
 pub use config::{Wanted, push_config_fault};

@@ -6,7 +6,7 @@ use std::alloc::AllocError;
 use toml::Value;
 
 /// What lies one step further.
-fn one_step<'a>(value: &'a Value, step: &Step) -> Option<&'a Value> {
+pub fn one_step<'a>(value: &'a Value, step: &Step) -> Option<&'a Value> {
     match step {
         Step::Key(key) => match std::str::from_utf8(key.as_slice()) {
             Ok(key) => value.get(key),
@@ -32,6 +32,16 @@ pub fn found_at<'a>(table: &'a Value, path: &Path) -> Option<&'a Value> {
 pub fn last_key(path: &Path) -> &str {
     match path.as_slice().last() {
         Some(Step::Key(key)) => std::str::from_utf8(key.as_slice()).unwrap_or(""),
+        _ => "",
+    }
+}
+
+/// The last key of a path, also in front of a place in a list.
+pub fn list_key(path: &Path) -> &str {
+    match path.as_slice() {
+        [.., Step::Key(key), Step::At(_)] | [.., Step::Key(key)] => {
+            std::str::from_utf8(key.as_slice()).unwrap_or("")
+        }
         _ => "",
     }
 }

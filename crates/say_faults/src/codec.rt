@@ -1,13 +1,14 @@
 //! What is wrong with a message of a schema: with its bytes, with its values, with its text.
 
+use crate::admitted::{push_form, push_listed, push_message_names, push_messages};
 use crate::filled::{Filled, plain, with_one, with_three, with_two};
-use crate::walk::{Found, found_at, push_awaited};
+use crate::walk::{Awaited, Found, found_at, push_awaited};
 use say_config::push_quoted;
 use sbe_encode::EncodeFault;
 use sbe_grammar::DecodeFault;
 use sbe_layout::{ItemKind, ItemPlan, Plan};
 use sbe_prim::{Primitive, default_greatest, default_least};
-use sbe_text::{first_line, first_message};
+use sbe_text::{count_lines, first_line, first_message};
 use sbe_value::{Item, Message, Path, text_of_path};
 use std::alloc::{AllocError, Global};
 
@@ -37,12 +38,39 @@ fn decode_fault(fault: DecodeFault) -> Filled {
     }
 }
 
-/// Adds the frame of this number, which stands at this place if that is known, and what is wrong with its message.
+/// The id of the schema of the session's own messages.
+const SESSION_SCHEMA: u16 = 0xF011;
+
+/// Adds which messages there are, where the fault is that this one is none of them.
+fn push_known(
+    line: &mut String,
+    plan: Option<&Plan>,
+    fault: DecodeFault,
+) -> Result<(), AllocError> {
+    match (fault, plan) {
+        (DecodeFault::OtherSchema { id: SESSION_SCHEMA }, _) => {
+            line.push_str(", which is that of the session's own messages")
+        }
+        (DecodeFault::OtherSchema { .. }, Some(plan)) => {
+            let id = plan.id;
+            write!(line, ", and CONFIG has {id}")
+        }
+        (DecodeFault::UnknownTemplate { .. }, Some(plan)) => {
+            line.push_str(": it has ")?;
+            push_messages(line, plan)
+        }
+        _ => Ok(()),
+    }
+}
+
+/// Adds the frame of this number, which stands at this place if that is known, and what is wrong with its message, by the layout of
+/// the messages if that is at hand.
 ///
 /// # Errors
 /// Want of memory.
 pub fn push_decode_fault(
     line: &mut String,
+    plan: Option<&Plan>,
     frame: u64,
     place: Option<u64>,
     fault: DecodeFault,
@@ -51,7 +79,8 @@ pub fn push_decode_fault(
         Some(place) => write!(line, "frame {frame} at byte {place}: ")?,
         None => write!(line, "frame {frame}: ")?,
     }
-    decode_fault(fault).push(line)
+    decode_fault(fault).push(line)?;
+    push_known(line, plan, fault)
 }
 
 /// What stands behind the first message of a text.
@@ -62,16 +91,36 @@ pub fn behind_message<'a>(alloc: Global, plan: &Plan, text: &'a [u8]) -> Option<
     }
 }
 
-/// The message of this number, from 1, in a text that can be read up to it.
-fn message_of(alloc: Global, plan: &Plan, text: &[u8], number: u64) -> Option<Message> {
+/// The text from the message of this number on, from 1, where it can be read up to it.
+fn from_message<'a>(alloc: Global, plan: &Plan, text: &'a [u8], number: u64) -> Option<&'a [u8]> {
     let mut left = text;
     for _ in 1..number {
         left = behind_message(alloc, plan, left)?;
     }
-    match first_message(alloc, plan, left) {
+    Some(left)
+}
+
+/// The message at the front of a text.
+fn message_in(alloc: Global, plan: &Plan, text: &[u8]) -> Option<Message> {
+    match first_message(alloc, plan, text) {
         Ok((message, _)) => Some(message),
         Err(_) => None,
     }
+}
+
+/// The number of the first line that has the element of this path, from 1; where there is none, of the first of all.
+fn line_with(text: &[u8], path: &[u8]) -> u64 {
+    let mut left = text;
+    for number in 1..=count_lines(text) {
+        let Some((line, rest)) = first_line(left) else {
+            return 1;
+        };
+        if has_path(line, path) {
+            return number;
+        }
+        left = rest;
+    }
+    1
 }
 
 /// Adds why a number is out of the range of its type.
@@ -93,17 +142,39 @@ fn push_out_of_range(
     }
 }
 
+/// Adds that a character is out of the range of its type.
+fn push_character_fault(line: &mut String, kind: ItemKind) -> Result<(), AllocError> {
+    line.push_str("a character is out of its range")?;
+    match kind {
+        ItemKind::Number { prim, min, max, .. } => {
+            let greatest = max.unwrap_or(default_greatest(prim));
+            let least = min.unwrap_or(default_least(prim));
+            write!(line, ", which is from {least} to {greatest}")
+        }
+        ItemKind::Enum { .. } | ItemKind::Set { .. } => Ok(()),
+    }
+}
+
 /// Adds why the value of an item is out of its range.
-fn push_range_fault(line: &mut String, plan: &ItemPlan, item: &Item) -> Result<(), AllocError> {
-    match (plan.kind, item) {
+fn push_range_fault(
+    line: &mut String,
+    plan: &Plan,
+    item_plan: &ItemPlan,
+    item: &Item,
+) -> Result<(), AllocError> {
+    match (item_plan.kind, item) {
         (ItemKind::Number { prim, min, max, .. }, Item::Num(value)) => {
             push_out_of_range(line, *value, prim, min, max)
         }
-        (ItemKind::Enum { .. }, Item::Num(value)) => write!(line, "{value} is none of its values"),
-        (ItemKind::Set { .. }, Item::Num(value)) => {
-            write!(line, "{value} has a bit that has no name")
+        (ItemKind::Enum { at, .. }, Item::Num(value)) => {
+            write!(line, "{value} is none of its values, ")?;
+            push_listed(line, plan, at)
         }
-        (_, Item::Text(_)) => line.push_str("a character is out of its range"),
+        (ItemKind::Set { at, .. }, Item::Num(value)) => {
+            write!(line, "{value} has a bit that has no name; its bits are ")?;
+            push_listed(line, plan, at)
+        }
+        (kind, Item::Text(_)) => push_character_fault(line, kind),
         (_, _) => line.push_str("this is out of its range"),
     }
 }
@@ -127,11 +198,14 @@ fn shape_fault(found: Option<Found<'_>>) -> Filled {
 
 fn push_found_fault(
     line: &mut String,
+    plan: &Plan,
     is_shape: bool,
     found: Option<Found<'_>>,
 ) -> Result<(), AllocError> {
     match found {
-        Some(Found::Item(plan, item)) if !is_shape => push_range_fault(line, plan, item),
+        Some(Found::Item(item_plan, item)) if !is_shape => {
+            push_range_fault(line, plan, item_plan, item)
+        }
         found => shape_fault(found).push(line),
     }
 }
@@ -144,22 +218,42 @@ fn element_at<'a>(plan: &'a Plan, message: Option<&'a Message>, path: &Path) -> 
     }
 }
 
-/// Adds a path, and a colon.
-fn push_place(alloc: Global, line: &mut String, path: &Path) -> Result<(), AllocError> {
-    let text = text_of_path(alloc, path)?;
-    let path = std::str::from_utf8(text.as_slice()).unwrap_or("?");
-    write!(line, "{path}: ")
+/// A message of a text, and the lines before it.
+#[derive(Clone, Copy)]
+struct Placed<'a> {
+    /// How many lines stand before it.
+    lines_before: u64,
+    /// The text from it on.
+    text: &'a [u8],
+}
+
+/// Adds the line of a message in which this element stands, in brackets.
+fn push_line_of(line: &mut String, placed: &Placed<'_>, name: &[u8]) -> Result<(), AllocError> {
+    let at = placed
+        .lines_before
+        .saturating_add(line_with(placed.text, name));
+    write!(line, " (line {at})")
 }
 
 fn push_path_fault(
     alloc: Global,
     line: &mut String,
+    plan: &Plan,
+    placed: &Placed<'_>,
     is_shape: bool,
     path: &Path,
-    found: Option<Found<'_>>,
 ) -> Result<(), AllocError> {
-    push_place(alloc, line, path)?;
-    push_found_fault(line, is_shape, found)
+    let text = text_of_path(alloc, path)?;
+    let name = std::str::from_utf8(text.as_slice()).unwrap_or("?");
+    write!(line, "{name}: ")?;
+    let message = message_in(alloc, plan, placed.text);
+    push_found_fault(
+        line,
+        plan,
+        is_shape,
+        element_at(plan, message.as_ref(), path),
+    )?;
+    push_line_of(line, placed, text.as_slice())
 }
 
 /// Adds why a message may not be written.
@@ -167,23 +261,20 @@ fn push_message_fault(
     alloc: Global,
     line: &mut String,
     plan: &Plan,
-    message: Option<&Message>,
+    placed: &Placed<'_>,
     fault: &EncodeFault,
 ) -> Result<(), AllocError> {
     match fault {
-        EncodeFault::Shape { path } => {
-            push_path_fault(alloc, line, true, path, element_at(plan, message, path))
-        }
-        EncodeFault::Range { path } => {
-            push_path_fault(alloc, line, false, path, element_at(plan, message, path))
-        }
+        EncodeFault::Shape { path } => push_path_fault(alloc, line, plan, placed, true, path),
+        EncodeFault::Range { path } => push_path_fault(alloc, line, plan, placed, false, path),
         EncodeFault::TooLong { length } => {
-            write!(line, "{length} bytes, and a message has at most 16384")
+            write!(line, "{length} bytes, and a message has at most 16384")?;
+            push_line_of(line, placed, b"")
         }
     }
 }
 
-/// Adds the message of this number in a text, and why it may not be written.
+/// Adds the message of this number in a text, why it may not be written, and its line that is at fault.
 ///
 /// # Errors
 /// Want of memory.
@@ -196,8 +287,12 @@ pub fn push_encode_fault(
     fault: &EncodeFault,
 ) -> Result<(), AllocError> {
     write!(line, "message {number}: ")?;
-    let message = message_of(alloc, plan, text, number);
-    push_message_fault(alloc, line, plan, message.as_ref(), fault)
+    let left = from_message(alloc, plan, text, number).unwrap_or(&[]);
+    let placed = Placed {
+        lines_before: count_lines(text).saturating_sub(count_lines(left)),
+        text: left,
+    };
+    push_message_fault(alloc, line, plan, &placed, fault)
 }
 
 /// The line of a number, from 1.
@@ -219,22 +314,57 @@ pub(crate) fn push_quoted_line(line: &mut String, quoted: &[u8]) -> Result<(), A
     }
 }
 
+/// Adds what the value of an element may be.
+fn push_awaited_form(
+    line: &mut String,
+    plan: &Plan,
+    awaited: Awaited<'_>,
+) -> Result<(), AllocError> {
+    match awaited {
+        Awaited::Item(item) => {
+            line.push_str(", which is ")?;
+            push_form(line, plan, item)
+        }
+        Awaited::Entries => line.push_str(", which is the number of its entries"),
+        Awaited::Datum => line.push_str(", which is x and hexadecimal digits in pairs"),
+        Awaited::Message | Awaited::End => Ok(()),
+    }
+}
+
+/// Adds which messages there are, where the first line of a message names none.
+fn push_awaited_message(
+    line: &mut String,
+    plan: &Plan,
+    awaited: Awaited<'_>,
+) -> Result<(), AllocError> {
+    match awaited {
+        Awaited::Message => {
+            line.push_str(": the schema has ")?;
+            push_message_names(line, plan)
+        }
+        _ => Ok(()),
+    }
+}
+
 /// Adds what has to stand at a line of a text, where the text has that line or ends before it.
 fn push_awaited_fault(
     line: &mut String,
+    plan: &Plan,
     found: Option<&[u8]>,
-    awaited: &[u8],
+    path: &[u8],
+    awaited: Awaited<'_>,
 ) -> Result<(), AllocError> {
-    let path = std::str::from_utf8(awaited).unwrap_or("?");
+    let name = std::str::from_utf8(path).unwrap_or("?");
     let Some(found) = found else {
-        return write!(line, "the text ends here, and {path} is awaited");
+        return write!(line, "the text ends here, and {name} is awaited");
     };
     push_quoted_line(line, found)?;
-    if has_path(found, awaited) {
-        write!(line, ": this is no value of {path}")
-    } else {
-        write!(line, ": {path} is awaited here")
+    if has_path(found, path) {
+        write!(line, ": this is no value of {name}")?;
+        return push_awaited_form(line, plan, awaited);
     }
+    write!(line, ": {name} is awaited here")?;
+    push_awaited_message(line, plan, awaited)
 }
 
 /// Adds the line of this number in a text, and what has to stand there.
@@ -249,9 +379,9 @@ pub fn push_text_fault(
     number: u64,
 ) -> Result<(), AllocError> {
     write!(line, "line {number}: ")?;
-    let mut awaited = Vec::new(alloc);
-    push_awaited(alloc, &mut awaited, plan, text, number)?;
-    push_awaited_fault(line, line_at(text, number), awaited.as_slice())
+    let mut path = Vec::new(alloc);
+    let awaited = push_awaited(alloc, &mut path, plan, text, number)?;
+    push_awaited_fault(line, plan, line_at(text, number), path.as_slice(), awaited)
 }
 
 /// Whether a line begins with a path and an equals sign.

@@ -1,6 +1,6 @@
 //! What is wrong with a frame.
 
-use crate::filled::{Filled, plain, with_one};
+use crate::session::message_name;
 use fixp_msgs::{FrameKind, MsgFault, kind, read};
 use sofh_frame::{FirstFrame, Order, next};
 use std::alloc::AllocError;
@@ -13,26 +13,32 @@ fn template_of(message: &[u8]) -> u16 {
     }
 }
 
-/// What is wrong with a session message that is too short.
-fn short_message(message: &[u8]) -> Filled {
-    with_one(
-        "the block or the data of the session message with template # are too short",
-        template_of(message) as u128,
+/// Adds that a session message is too short, behind a colon.
+fn push_short(line: &mut String, message: &[u8]) -> Result<(), AllocError> {
+    let template = template_of(message);
+    let name = message_name(template);
+    write!(
+        line,
+        ": the block or the data of {name}, template {template}, are too short"
     )
 }
 
-/// What is wrong with a whole frame.
-fn malformed_message(order: Order, message: &[u8]) -> Option<Filled> {
+/// Adds what is wrong with a whole frame, behind a colon, if that can be told.
+fn push_malformed_message(
+    line: &mut String,
+    order: Order,
+    message: &[u8],
+) -> Result<(), AllocError> {
     if message.len() < 8 {
-        return None;
+        return Ok(());
     }
     match kind(order, message) {
-        FrameKind::Wrong => Some(plain("a session message in big-endian order")),
+        FrameKind::Wrong => line.push_str(": a session message in big-endian order"),
         FrameKind::Session => match read(message) {
-            Err(MsgFault::Short) => Some(short_message(message)),
-            _ => None,
+            Err(MsgFault::Short) => push_short(line, message),
+            _ => Ok(()),
         },
-        FrameKind::App => None,
+        FrameKind::App => Ok(()),
     }
 }
 
@@ -62,19 +68,7 @@ pub fn push_malformed(line: &mut String, bytes: &[u8]) -> Result<(), AllocError>
             line,
             ": the frame's encoding type is 0x{encoding:04x}, neither 0xeb50 nor 0x5be0"
         ),
-        FirstFrame::Frame { order, message, .. } => {
-            push_behind_colon(line, malformed_message(order, message))
-        }
+        FirstFrame::Frame { order, message, .. } => push_malformed_message(line, order, message),
         FirstFrame::Rest => Ok(()),
-    }
-}
-
-fn push_behind_colon(line: &mut String, what: Option<Filled>) -> Result<(), AllocError> {
-    match what {
-        Some(what) => {
-            line.push_str(": ")?;
-            what.push(line)
-        }
-        None => Ok(()),
     }
 }

@@ -1,6 +1,7 @@
 //! What is wrong with INPUT, in lines for people: with a frame, with a message or a line, and with a session; and what a peer rejected.
 #![tactic(auto)]
 
+mod admitted;
 mod codec;
 mod filled;
 mod frame;

@@ -5,7 +5,7 @@ use fixp_shake::{Phase, Violation};
 use std::alloc::AllocError;
 
 /// A message by its template id; 0 stands for an application message.
-fn message_name(template: u16) -> &'static str {
+pub fn message_name(template: u16) -> &'static str {
     match template {
         0 => "an application message",
         1 => "Negotiate",

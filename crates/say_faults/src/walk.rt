@@ -9,6 +9,21 @@ use std::alloc::{AllocError, Global};
 /// How deep groups stand in one another at most.
 const DEEPEST: u8 = 8;
 
+/// What is awaited at a line of a text.
+#[derive(Clone, Copy)]
+pub enum Awaited<'a> {
+    /// The first line of a message.
+    Message,
+    /// An item.
+    Item(&'a ItemPlan),
+    /// The number of a group's entries.
+    Entries,
+    /// A datum.
+    Datum,
+    /// The last line of a message.
+    End,
+}
+
 /// An element of a message.
 #[derive(Clone, Copy)]
 pub enum Found<'a> {
@@ -118,11 +133,16 @@ impl<'a> Cursor<'a> {
     }
 }
 
-/// Adds the path of an element.
-fn push_path_to(path: &mut Vec<u8>, before: &[u8], name: &Bytes) -> Result<bool, AllocError> {
+/// Adds the path of an element, and says what it is.
+fn push_path_to<'a>(
+    path: &mut Vec<u8>,
+    before: &[u8],
+    name: &Bytes,
+    awaited: Awaited<'a>,
+) -> Result<Option<Awaited<'a>>, AllocError> {
     path.extend_from_slice(before)?;
     path.extend_from_slice(name.as_slice())?;
-    Ok(true)
+    Ok(Some(awaited))
 }
 
 /// The number of entries that the line of a group tells.
@@ -134,34 +154,34 @@ fn entries_on(line: &[u8]) -> u64 {
     }
 }
 
-/// Whether an item is awaited at the line that is looked for; adds its path.
-fn push_item(
+/// The item that is awaited at the line that is looked for, if it is one of these; adds its path.
+fn push_item<'a>(
     path: &mut Vec<u8>,
     before: &[u8],
-    items: &[ItemPlan],
+    items: &'a [ItemPlan],
     cursor: &mut Cursor<'_>,
-) -> Result<bool, AllocError> {
+) -> Result<Option<Awaited<'a>>, AllocError> {
     for item in items {
         if cursor.next().is_none() {
-            return push_path_to(path, before, &item.name);
+            return push_path_to(path, before, &item.name, Awaited::Item(item));
         }
     }
-    Ok(false)
+    Ok(None)
 }
 
 /// Whether a datum is awaited there; adds its path.
-fn push_datum(
+fn push_datum<'a>(
     path: &mut Vec<u8>,
     before: &[u8],
     vars: &[DataPlan],
     cursor: &mut Cursor<'_>,
-) -> Result<bool, AllocError> {
+) -> Result<Option<Awaited<'a>>, AllocError> {
     for datum in vars {
         if cursor.next().is_none() {
-            return push_path_to(path, before, &datum.name);
+            return push_path_to(path, before, &datum.name, Awaited::Datum);
         }
     }
-    Ok(false)
+    Ok(None)
 }
 
 /// Whether a block has any elements.
@@ -180,28 +200,28 @@ fn lined_entries(group: &GroupPlan, line: &[u8]) -> u64 {
     }
 }
 
-/// Whether an element of a block is awaited at the line that is looked for; adds its path.
-fn push_element(
+/// The element of a block that is awaited at the line that is looked for, if it is one; adds its path.
+fn push_element<'a>(
     alloc: Global,
     depth: u8,
     path: &mut Vec<u8>,
     before: &[u8],
-    plan: &BlockPlan,
+    plan: &'a BlockPlan,
     cursor: &mut Cursor<'_>,
-) -> Result<bool, AllocError> {
+) -> Result<Option<Awaited<'a>>, AllocError> {
     if depth == 0 {
-        return Ok(false);
+        return Ok(None);
     }
-    if push_item(path, before, plan.items.as_slice(), cursor)? {
-        return Ok(true);
+    if let Some(item) = push_item(path, before, plan.items.as_slice(), cursor)? {
+        return Ok(Some(item));
     }
     for group in plan.groups.as_slice() {
         let Some(line) = cursor.next() else {
-            return push_path_to(path, before, &group.name);
+            return push_path_to(path, before, &group.name, Awaited::Entries);
         };
         for at in 0..lined_entries(group, line) {
             let inner = names_begin(alloc, before, group, at as u128)?;
-            if push_element(
+            if let Some(element) = push_element(
                 alloc,
                 depth - 1,
                 path,
@@ -209,7 +229,7 @@ fn push_element(
                 &group.block,
                 cursor,
             )? {
-                return Ok(true);
+                return Ok(Some(element));
             }
         }
     }
@@ -237,15 +257,15 @@ fn layout_on<'a>(plan: &'a Plan, line: &[u8]) -> Option<&'a MessagePlan> {
         .find(|message| message.name.as_slice() == name)
 }
 
-/// Adds what is awaited at the line of this number, the first that is refused: an element by its path, `end`, or the line of a
-/// message.
-pub fn push_awaited(
+/// Says what is awaited at the line of this number, the first that is refused, and adds its path: an element's, `end`, or the form of
+/// a message's first line.
+pub fn push_awaited<'a>(
     alloc: Global,
     path: &mut Vec<u8>,
-    plan: &Plan,
+    plan: &'a Plan,
     text: &[u8],
     number: u64,
-) -> Result<(), AllocError> {
+) -> Result<Awaited<'a>, AllocError> {
     let refused = first_refused(alloc, plan, text);
     let lines_before = count_lines(text).saturating_sub(count_lines(refused));
     let mut cursor = Cursor {
@@ -257,10 +277,12 @@ pub fn push_awaited(
         None => None,
     };
     let Some(layout) = layout else {
-        return path.extend_from_slice(b"the name of a message, as message NAME,");
+        path.extend_from_slice(b"the name of a message, as message NAME,")?;
+        return Ok(Awaited::Message);
     };
-    if push_element(alloc, DEEPEST, path, b"", &layout.root, &mut cursor)? {
-        return Ok(());
+    if let Some(element) = push_element(alloc, DEEPEST, path, b"", &layout.root, &mut cursor)? {
+        return Ok(element);
     }
-    path.extend_from_slice(b"end")
+    path.extend_from_slice(b"end")?;
+    Ok(Awaited::End)
 }

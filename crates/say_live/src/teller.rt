@@ -51,8 +51,6 @@ struct Heed {
     theirs: Option<u64>,
     sent: Sent,
     delivered: u64,
-    /// How many messages OUTBOX had when the first connection was asked for.
-    stood_before: u64,
     /// Whether the peer said that it has all of this end's messages.
     has_peer_all: bool,
     /// Whether the peer's own flow is another one than in CONFIG.
@@ -89,9 +87,8 @@ impl<'a, R> Teller<'a, R> {
                 asked_keepalive: 0,
                 ours: None,
                 theirs: None,
-                sent: Sent::default(),
+                sent: Sent::new(),
                 delivered: 0,
-                stood_before: 0,
                 has_peer_all: false,
                 has_other_flow: false,
                 hopeless: None,
@@ -199,12 +196,13 @@ impl<'a, R: Clock + Eprint + Files<File = File>> Teller<'a, R> {
         Ok(line)
     }
 
-    /// The first connection is about to be asked for.
+    /// OUT is begun, and nothing is added to either journal yet.
     fn begin(&self) {
         let mut heed = self.heed.get();
         heed.has_begun = true;
-        if let Some(outbox) = walk_journal(self.rt, self.alloc, self.session.outbox.path) {
-            heed.stood_before = outbox.entries;
+        match walk_journal(self.rt, self.alloc, self.session.outbox.path) {
+            Some(outbox) => heed.sent.begin(outbox.entries),
+            None => heed.sent.doubt(),
         }
         self.heed.set(heed);
         if let Some(warning) = self.readable() {
@@ -529,31 +527,42 @@ impl<'a, R: Clock + Eprint + Files<File = File>> Teller<'a, R> {
         self.heed.set(heed);
     }
 
+    /// What goes out cannot be followed any more.
+    fn lose_sight(&self) {
+        let mut heed = self.heed.get();
+        heed.sent.doubt();
+        self.heed.set(heed);
+    }
+
     /// What came of OUTBOX and of the peer's messages.
     fn counted(&self, outbox: &Walked) -> Result<String, AllocError> {
         let heed = self.heed.get();
-        let before = heed.sent.stood_before().unwrap_or(heed.stood_before);
-        let (again, new) = (heed.sent.again(), heed.sent.new());
-        let sent = again.saturating_add(new);
-        let others = before.saturating_sub(again);
-        let none = outbox.entries.saturating_sub(before).saturating_sub(new);
-        let delivered = heed.delivered;
+        let (sent, stood, unsent) = (
+            heed.sent.sent(),
+            heed.sent.stood(),
+            heed.sent.unsent(outbox.entries),
+        );
         let mut line = self.begun()?;
         line.push_str("OUTBOX has ")?;
         push_messages(&mut line, outbox.entries)?;
-        write!(
-            line,
-            ": {sent} sent by this run, {others} that stood there before and were not sent again, {none} not sent; delivered: {delivered}"
-        )?;
+        if heed.sent.is_sure() {
+            write!(
+                line,
+                ": {sent} went to a connection of this run, {stood} stood there before and went to none, {unsent} were added and went to none"
+            )?;
+        } else {
+            line.push_str(": how many went to a connection of this run is not known")?;
+        }
+        let delivered = heed.delivered;
+        write!(line, "; delivered: {delivered}")?;
         Ok(line)
     }
 
     /// That messages will never be sent, where the own flow is one that is not sent again.
     fn lost(&self, outbox: &Walked) -> Option<Result<String, AllocError>> {
-        let heed = self.heed.get();
-        let sent = heed.sent.again().saturating_add(heed.sent.new());
-        let lost = outbox.entries.saturating_sub(sent);
-        if lost == 0 {
+        let sent = self.heed.get().sent;
+        let lost = sent.stood().saturating_add(sent.unsent(outbox.entries));
+        if lost == 0 || !sent.is_sure() {
             return None;
         }
         let configuration = self.configuration()?;
@@ -571,7 +580,7 @@ impl<'a, R: Clock + Eprint + Files<File = File>> Teller<'a, R> {
         let flow = flow_name(flow.code());
         write!(
             line,
-            " of OUTBOX were never sent on any connection of this run, and will not be: the flow is {flow}"
+            " of OUTBOX went to no connection of this run, and will not be sent: the flow is {flow}"
         )?;
         Ok(line)
     }
@@ -632,6 +641,7 @@ impl<R: Clock + Eprint + Files<File = File>> Ear for Teller<'_, R> {
             Heard::Came(message) => self.come(message),
             Heard::Went(message) => self.go(message),
             Heard::MessageWent => self.take_sent(),
+            Heard::WentUnseen => self.lose_sight(),
             Heard::Line(line) => self.take_line(line),
             Heard::Reads => self.say(self.reading()),
             Heard::Over | Heard::MessageCame => {}
