@@ -159,11 +159,13 @@ module _ {J : Type 0} {G : Ghosts J} where
   stands_behind (Err faults.Memory) new most p box place goes leaves lost answer ended = record { turns = λ e. cc; begins = λ e. cc }
 
   -- the same with another bound and of a pass that knows the same
+  pub can_turn_at : (l : Line) (most more : ℕ) (p q : Part) (box : Inbox J G) → most ≤ more → q ≡ p → CanTurn l most p box → CanTurn l more q box
+  can_turn_at l most more p q box least same c =
+      subst (λ (x : Part). CanTurn l more x box) (sym same) (record { goes = c.goes; place = let b = c.place in omega (arith, b, least); seen = c.seen; agrees = c.agrees })
+
   pub stands_at : (s : Standing) (l : Line) (most more : ℕ) (p q : Part) (box : Inbox J G) → most ≤ more → q ≡ p → Stands s l most p box → Stands s l more q box
-  stands_at s l most more p q box least same h = subst (λ (x : Part). Stands s l more x box) (sym same) (record {
-    turns = λ e. let c = h.turns e in record { goes = c.goes; place = let b = c.place in omega (arith, b, least); seen = c.seen; agrees = c.agrees };
-    begins = h.begins;
-  })
+  stands_at s l most more p q box least same h =
+      subst (λ (x : Part). Stands s l more x box) (sym same) (record { turns = λ e. can_turn_at l most more p p box least refl (h.turns e); begins = h.begins })
 
   -- a connection that begins can turn
   pub begun_stands : (l new : Line) (now : ℕ) (p : Part) (box : Inbox J G) → new ≡ line_begun l now → GoesOn new.machine → new.machine.facts.recorded ≡ l.machine.facts.recorded → new.machine.config ≡ l.machine.config

@@ -1,16 +1,16 @@
 //! One turn, and where the end stands behind it.
 
-ghost use Rattle.std.specs.Prelude.{◌≡◌, ◌+◌, ◌<◌, ◌^◌};
+ghost use Rattle.std.specs.Prelude.{◌≡◌, ◌+◌, ◌^◌};
 ghost use Rattle.gate_turn.specs.Places.{known};
 ghost use Rattle.gate_turn.specs.Calls.{IsFree};
 ghost use Rattle.gate_senders.specs.Gate.{IsPassAt};
-ghost use Rattle.conn_steps.specs.Agreeing.{Agrees};
-ghost use Rattle.conn_loop.specs.Conn.{line_of, GoesOn, HasSeen};
-ghost use Rattle.cases_made.specs.Driving.{Stands};
+ghost use Rattle.conn_loop.specs.Conn.{line_of, Looks};
+ghost use Rattle.conn_loop.specs.Ends.{line_in, pass_in, Stays};
+ghost use Rattle.cases_made.specs.Driving.{CanTurn, Stands};
 
 use crate::journals::Log;
 use crate::standing::Standing;
-use conn_loop::{Conn, News};
+use conn_loop::{Conn, LiveEnd, News};
 use gate_senders::{Gate, Kept};
 use gate_turn::Pass;
 use gw_link_fakes::MemClock;
@@ -18,7 +18,21 @@ use gw_links::Link;
 use jr_boxes::Inbox;
 use std::sync::Wait;
 
-/// Makes a turn, and answers where the end stands then.
+/// Makes a turn of a live end, and answers where it stands then.
+fn turn_of<L: Link, R: Wait>(
+    end: &mut LiveEnd<'_, Log, Log, MemClock>,
+    link: &mut L,
+    news: &mut News,
+    rt: &R,
+) -> Standing
+    requires can { CanTurn (line_in end.old) (2 ^ 62) (pass_in end.old) end.old.inbox.now }
+    ensures stays { Stays end.old end.new }
+    ensures stands { Stands result (line_in end.new) ((line_in end.old).place + 262240) (pass_in end.new) end.new.inbox.now }
+{
+    Standing::behind(end.turn(link, news, rt))
+}
+
+/// Makes a turn of the live end of these, and answers where it stands then.
 pub(crate) fn make_turn<L: Link, R: Wait>(
     conn: &mut Conn,
     link: &mut L,
@@ -31,15 +45,12 @@ pub(crate) fn make_turn<L: Link, R: Wait>(
 ) -> Standing
     requires own { IsPassAt gate.now pass.old }
     requires free { IsFree pass.old }
-    requires goes { GoesOn (line_of conn.old).machine }
-    requires place { (line_of conn.old).place < 2 ^ 63 }
-    requires seen { HasSeen (line_of conn.old).machine (known pass.old) }
-    requires agrees { Agrees (line_of conn.old).machine inbox.old }
+    requires can { CanTurn (line_of conn.old) (2 ^ 62) (known pass.old) inbox.old }
     ensures own { IsPassAt gate.now pass.new }
     ensures free { IsFree pass.new }
-    ensures number { (known pass.new).number ≡ (known pass.old).number }
-    ensures made { (known pass.new).made ≡ (known pass.old).made }
+    ensures looks { Looks (known pass.old) (known pass.new) }
     ensures stands { Stands result (line_of conn.new) ((line_of conn.old).place + 262240) (known pass.new) inbox.new }
 {
-    Standing::behind(conn.turn(link, gate, pass, inbox, clock, news, rt))
+    let mut end = LiveEnd::new(conn, gate, pass, inbox, clock);
+    turn_of(&mut end, link, news, rt)
 }

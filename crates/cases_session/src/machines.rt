@@ -2,14 +2,20 @@
 //! place, and what each end settles is judged by plain lists. What it has to print stands in `stdout`, worked out by hand.
 
 mod cuts;
-mod entries;
 mod judge;
 mod line;
 mod session;
 mod side;
 
+use crate::entries::entries;
 use fixp_end::Flow;
 use std::io;
+
+/// The templates of the entries that an end sends, each of which is the entry's number.
+const TEMPLATES: [u8; 10] = [1, 2, 3, 4, 5, 6, 7, 8, 9, 10];
+
+/// How many entries there are.
+const COUNT: u64 = 10;
 
 /// The flows of one direction.
 const FLOWS: [Flow; 4] = [
@@ -22,7 +28,7 @@ const FLOWS: [Flow; 4] = [
 /// Prints what the section shows.
 pub fn print<R: Print + AllocGlobal>(rt: &R) -> io::Result<()> {
     let alloc = rt.alloc();
-    let entries = entries::entries(alloc)?;
+    let entries = entries(alloc, &TEMPLATES)?;
     for initiator in FLOWS {
         for acceptor in FLOWS {
             rt.println(cuts::at_once(alloc, initiator, acceptor, entries.as_slice())?)?;

@@ -4,6 +4,8 @@
 #![tactic(auto)]
 
 mod commands;
+mod driven;
+mod entries;
 mod flows;
 mod machines;
 mod runs;

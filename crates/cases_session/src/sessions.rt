@@ -2,17 +2,19 @@
 //! `sessions.txt`, and prints what each case shows. What it has to print stands in `stdout`, worked out by hand.
 
 mod ends;
-mod entries;
 mod frames;
 mod named;
 mod words;
 
+use crate::entries::entries;
 use crate::sessions::ends::Sources;
-use crate::sessions::entries::entries;
 use crate::sessions::named::Named;
 use std::alloc::{AllocError, Global};
 use std::rt::Files;
 use std::{fs, io};
+
+/// The templates of the entries that an end may send.
+const TEMPLATES: [u8; 5] = [7; 5];
 
 /// Adds what a case shows.
 fn push_line(
@@ -58,7 +60,7 @@ fn print_cases<R: Print + AllocGlobal>(
 pub fn print<R: Files + Print + AllocGlobal>(rt: &R) -> io::Result<()> {
     let table = fs::read_to_string(rt, "frames.txt")?;
     let cases = fs::read_to_string(rt, "sessions.txt")?;
-    let entries = entries(rt.alloc())?;
+    let entries = entries(rt.alloc(), &TEMPLATES)?;
     let sources = Sources {
         named: Named::of(table.as_str()),
         entries: entries.as_slice(),

@@ -1,13 +1,16 @@
 //! Measurements: does what is measured so many times, and prints what came of it, so that no work can be left out.
 //! `codec COUNT` goes through all session messages; `write TEMPLATE COUNT` and `read TEMPLATE COUNT` through one.
 //! `senders SENDERS COUNT` has so many senders submit so many messages each at a gate, at once; `plans SENDERS COUNT` only makes
-//! their messages and the outbox. `turns COUNT SIZE` has so many messages of so many bytes go from one end's outbox into the other
+//! their messages and the outbox. `waits SENDERS COUNT` has them submit on a slow disk, while the connection fetches, and prints
+//! its longest wait too. `turns COUNT SIZE` has so many messages of so many bytes go from one end's outbox into the other
 //! end's inbox, turn by turn. `all COUNT` goes through all messages, has four senders submit, and makes turns for messages of 10 bytes.
 
 mod codec;
 mod messages;
 mod senders;
+mod slow_disk;
 mod turns;
+mod waits;
 
 use codec::{read_many, write_many};
 use senders::submitted;
@@ -16,7 +19,9 @@ use std::io;
 use std::rt::Env;
 use std::sync::Wait;
 use std::thread::Threads;
+use std::time::Clock;
 use turns::turned;
+use waits::waited;
 
 /// The bytes of a buffer of frames.
 const ROOM: usize = 65_536;
@@ -81,6 +86,7 @@ enum Task {
     Senders(u16, u64),
     Plans(u16, u64),
     Turns(u64, u64),
+    Waits(u16, u64),
     /// The words ask for nothing that there is.
     Usage,
 }
@@ -102,6 +108,7 @@ fn task_of_two(kind: &str, first: &str, count: &str) -> Task {
         "senders" => Task::Senders(small(first), number(count)),
         "plans" => Task::Plans(small(first), number(count)),
         "turns" => Task::Turns(number(first), number(count)),
+        "waits" => Task::Waits(small(first), number(count)),
         _ => Task::Usage,
     }
 }
@@ -185,7 +192,25 @@ fn print_turns<R: Print + Wait + AllocGlobal>(rt: &R, count: u64, size: u64) -> 
     }
 }
 
-/// Does all that there is.
+/// The line of so many senders at a slow disk, and of the connection's waits beside them: how many entries the outbox has then, how
+/// often the connection fetched, and how many turns of senders its longest wait took.
+fn print_waits<R: Print + Threads + Wait + Clock + Sync + AllocGlobal>(
+    rt: &R,
+    senders: u16,
+    count: u64,
+) -> io::Result<()> {
+    match waited(rt, senders, count) {
+        Some(waits) => {
+            let entries = waits.entries;
+            let fetches = waits.fetches;
+            let longest = waits.longest;
+            println!(rt; "{entries} {fetches} {longest}")
+        }
+        None => rt.println("no outbox"),
+    }
+}
+
+/// Does all that there is, but for what takes time.
 fn print_all<R: Print + Threads + Wait + Sync + AllocGlobal>(rt: &R, count: u64) -> io::Result<()> {
     print_all_codec(rt, count)?;
     print_senders(rt, 4, count, true)?;
@@ -193,7 +218,9 @@ fn print_all<R: Print + Threads + Wait + Sync + AllocGlobal>(rt: &R, count: u64)
 }
 
 /// Prints what the section shows.
-pub fn print<R: Print + Env + Threads + Wait + Sync + AllocGlobal>(rt: &R) -> io::Result<()> {
+pub fn print<R: Print + Env + Threads + Wait + Clock + Sync + AllocGlobal>(
+    rt: &R,
+) -> io::Result<()> {
     match asked(rt)? {
         Task::All(count) => print_all(rt, count),
         Task::Codec(count) => print_all_codec(rt, count),
@@ -202,8 +229,9 @@ pub fn print<R: Print + Env + Threads + Wait + Sync + AllocGlobal>(rt: &R) -> io
         Task::Senders(senders, count) => print_senders(rt, senders, count, true),
         Task::Plans(senders, count) => print_senders(rt, senders, count, false),
         Task::Turns(count, size) => print_turns(rt, count, size),
+        Task::Waits(senders, count) => print_waits(rt, senders, count),
         Task::Usage => rt.println(
-            "all COUNT, codec COUNT, write TEMPLATE COUNT, read TEMPLATE COUNT, senders SENDERS COUNT, plans SENDERS COUNT or turns COUNT SIZE",
+            "all COUNT, codec COUNT, write TEMPLATE COUNT, read TEMPLATE COUNT, senders SENDERS COUNT, plans SENDERS COUNT, turns COUNT SIZE or waits SENDERS COUNT",
         ),
     }
 }

@@ -4,6 +4,7 @@ ghost use Rattle.std.specs.Prelude.{◌≡◌, false, IfSome};
 ghost use Rattle.jr_boxes.specs.Outbox.{is_broken};
 
 use gw_fakes::MemDisk;
+use gw_outside::Disk;
 use jr_boxes::Outbox;
 use jr_log::{LogJournal, format};
 use jr_record::Limits;
@@ -26,7 +27,11 @@ pub fn formatted(alloc: Global, room: usize) -> Option<MemDisk> {
 }
 
 /// The outbox on a disk, with these limits; None where it is refused.
-pub fn opened(alloc: Global, disk: MemDisk, limits: Limits) -> Option<Outbox<Log>>
+pub fn opened<D: Disk + Drop>(
+    alloc: Global,
+    disk: D,
+    limits: Limits,
+) -> Option<Outbox<LogJournal<D>>>
     ensures sound { IfSome result (λ box. is_broken box ≡ false) }
 {
     let journal = LogJournal::open(alloc, disk, limits).ok()?;

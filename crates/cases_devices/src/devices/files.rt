@@ -2,7 +2,7 @@
 
 use cases_words::{digits, halves};
 use gw_outside::{Disk, Failed};
-use gw_real::{DiskReason, FileDisk, Named, Opening};
+use gw_real::{Begun, DiskReason, FileDisk, Named, Opening};
 use std::alloc::{AllocError, Global};
 use std::fs::{File, Files};
 
@@ -32,6 +32,7 @@ fn reason<R>(disk: &FileDisk<'_, R>) -> &'static str {
         Some(DiskReason::Locked) => "Locked",
         Some(DiskReason::SameFile(_)) => "SameFile",
         Some(DiskReason::TooLong) => "TooLong",
+        Some(DiskReason::Foreign) => "Foreign",
         None => "none",
     }
 }
@@ -66,18 +67,24 @@ fn add_worked<R: Files<File = File>>(
     )
 }
 
-/// Adds what a file that is made gives, written and read, and opened again while it is open.
+/// Adds what a file of the kind with this mark gives, which is made where it is missing, written and read, and opened again while
+/// it is open.
 fn add_kept<R: Files<File = File> + AllocGlobal>(
     rt: &R,
     file: &str,
+    mark: &'static [u8],
     line: &mut String,
 ) -> Result<(), AllocError> {
-    let mut disk = FileDisk::new(rt, outbox(file), &[], Opening::Make);
+    let begun = Begun {
+        mark,
+        length: mark.len(),
+    };
+    let mut disk = FileDisk::new(rt, outbox(file), &[], Opening::Make(begun));
     add_worked(rt.alloc(), &mut disk, line)?;
     add_opened(rt, file, line)
 }
 
-/// `open FILE`, or `keep FILE`.
+/// `open FILE`; or `keep FILE`, a file that begins with 01 02; or `spare FILE`, one that begins with 01 03.
 pub fn add_file<R: Files<File = File> + AllocGlobal>(
     rt: &R,
     rest: &str,
@@ -87,6 +94,7 @@ pub fn add_file<R: Files<File = File> + AllocGlobal>(
     write!(line, "file {file}: ")?;
     match kind {
         "open" => add_opened(rt, file, line),
-        _ => add_kept(rt, file, line),
+        "spare" => add_kept(rt, file, &[1, 3], line),
+        _ => add_kept(rt, file, &[1, 2], line),
     }
 }

@@ -6,7 +6,7 @@ ghost use Rattle.fixp_shake.specs.Handshake.{reply_step};
 
 use cases_words::{bytes, halves, number};
 use fixp_msgs::{
-    Establish, EstablishmentAck, EstablishmentReject, Flow, Negotiate, NegotiationReject,
+    Establish, EstablishmentAck, EstablishmentReject, Expected, Flow, Negotiate, NegotiationReject,
     NegotiationResponse, SessionMsg,
 };
 use fixp_shake::{EndConfig, Role, after_reply, judge_establish, judge_negotiate};
@@ -64,6 +64,7 @@ pub fn establish_line(alloc: Global, words: &str) -> Result<String, AllocError> 
         timestamp: 1,
         keepalive: u32::try_from(number(keepalive)).unwrap_or(0),
         next_seq: Some(1),
+        expected_next: Expected::Absent,
         credentials: credentials.as_slice(),
     };
     let config = end(alloc, Role::Acceptor)?;
@@ -95,6 +96,7 @@ fn reply<'a>(config: &EndConfig, name: &str, code: u8) -> SessionMsg<'a>
             request_timestamp: 1,
             keepalive: 1000,
             next_seq: Some(1),
+            expected_next: Expected::Absent,
         }),
         _ => SessionMsg::EstablishmentReject(EstablishmentReject {
             session_id,

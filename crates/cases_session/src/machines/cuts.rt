@@ -1,6 +1,6 @@
 //! The runs of a session with its connections cut at every place: two for each frame that a connection carries.
 
-use crate::machines::entries::COUNT;
+use crate::machines::COUNT;
 use crate::machines::judge::Moment;
 use crate::machines::line::Passage;
 use crate::machines::session::Session;

@@ -1,12 +1,12 @@
 //! What an end settled, judged by the plain lists: the records of its inbox, and its peer's entries.
 
-use crate::machines::entries::COUNT;
+use crate::machines::COUNT;
 use crate::machines::side::Settled;
 use fixp_end::Flow;
 use jr_boxes::Stable;
 
 /// When it is judged.
-#[derive(Clone, Copy, Debug, PartialEq, Eq)]
+#[derive(Clone, Copy, PartialEq, Eq)]
 pub enum Moment {
     /// After a connection that may have been cut.
     Cut,

@@ -1,32 +1,22 @@
 //! One end of the session, which is driven turn by turn, and what it has settled of the messages of its peer.
 
-ghost use Rattle.std.specs.Prelude.{◌≡◌, ◌≤◌, ◌<◌, ◌^◌, length, IfSome};
+ghost use Rattle.std.specs.Prelude.{◌≤◌, length};
 
-use crate::machines::entries::COUNT;
+use crate::driven::Driven;
+use crate::machines::COUNT;
 use crate::machines::line::{Line, Passage};
-use fixp_end::{Act, End, EndConfig, EndState, Ending, Flow, Role};
-use fixp_shake::{is_absent, is_established};
-use gw_outside::Bytes;
+use fixp_end::{Act, EndState, Ending, Flow, Role};
+use fixp_shake::is_absent;
 use jr_boxes::Stable;
 use sbe_prim::Order;
 use sofh_frame::{FirstFrame, next};
 use std::alloc::{AllocError, Global};
-use std::marker::Model;
-use std::slice::from_ref;
-
-/// The identifier of the session.
-const ID: [u8; 16] = [
-    0x00, 0x11, 0x22, 0x33, 0x44, 0x55, 0x66, 0x77, 0x88, 0x99, 0xAA, 0xBB, 0xCC, 0xDD, 0xEE, 0xFF,
-];
-
-/// The greatest moment that an end is told, in milliseconds.
-const LAST_MOMENT: u64 = 1_000_000;
 
 /// How many frames a turn takes at most.
 const FRAMES: u64 = 16;
 
 /// What an end has settled of its peer's messages.
-#[derive(Clone, Copy, Debug, PartialEq, Eq)]
+#[derive(Clone, Copy)]
 pub enum Settled {
     /// This message was applied under this number.
     Applied { number: u64, message: [u8; 8] },
@@ -34,58 +24,14 @@ pub enum Settled {
     Skipped { from: u64, count: u64 },
 }
 
-/// An end in a connection, which has no act left to do, and the records of its inbox.
+/// An end in a connection, and the records of its inbox.
 #[derive(Drop)]
 pub struct Side {
-    end: End,
+    driven: Driven,
     own_flow: Flow,
     /// How many messages it sends live in a turn, at most.
     pace: u64,
-    now: u64,
-    /// How many frames came since the last turn ended, at least.
-    heard: u64,
     inbox: Vec<Settled>,
-}
-
-impl Model for Side {
-    ghost use Rattle.std.specs.Prelude.{◌≡◌, ◌≤◌, length, true, None};
-    ghost use Rattle.fixp_machine.specs.Machine.{State};
-
-    ghost Value = { State };
-
-    ghost view = { λ s. s.end };
-
-    ghost invariant = { λ s. (s.end.begun ≡ true) × (s.end.pending ≡ None) × (s.end.moment ≤ s.now) × (s.now ≤ 1000000) × (s.end.config.own_flow ≡ s.own_flow) × (length s.end.untold ≤ s.heard) };
-}
-
-/// The configuration of an end that sends one flow and receives the other.
-fn config(alloc: Global, role: Role, own_flow: Flow, peer_flow: Flow) -> EndConfig
-    ensures keepalive { result.keepalive ≡ 1000 }
-    ensures credentials { length result.credentials ≡ 0 }
-    ensures own_flow { result.own_flow ≡ own_flow }
-{
-    EndConfig {
-        role,
-        session: ID,
-        own_flow,
-        peer_flow,
-        keepalive: 1000,
-        credentials: Bytes::from(Vec::new(alloc)),
-    }
-}
-
-/// The entry of this number, if there is one.
-fn entry_of(entries: &[Stable], wanted: u64) -> Option<&Stable>
-    ensures number { IfSome result (λ entry. entry.now.number ≡ wanted) }
-    ensures few { IfSome result (λ entry. wanted < 2 ^ 40) }
-    ensures short { IfSome result (λ entry. length entry.now.payload ≤ 100) }
-{
-    for entry in entries {
-        if entry.number() == wanted && entry.payload().len() <= 100 {
-            return Some(entry);
-        }
-    }
-    None
 }
 
 /// The first 8 bytes of a message, which is all of an entry's.
@@ -113,15 +59,11 @@ impl Side {
             sent: 0,
             finish: None,
         };
-        let config = config(alloc, role, own_flow, peer_flow);
-        let mut end = End::new(alloc, config, recorded, 1 << 24)?;
-        end.begin(0);
+        let driven = Driven::new(alloc, role, own_flow, peer_flow, recorded, 0)?;
         Ok(Side {
-            end,
+            driven,
             own_flow,
             pace,
-            now: 0,
-            heard: 0,
             inbox: Vec::new(alloc),
         })
     }
@@ -133,26 +75,23 @@ impl Side {
 
     /// How its connection ended, if it has.
     pub fn ending(&self) -> Option<Ending> {
-        self.end.ending()
+        self.driven.ending()
     }
 
     /// The next connection begins, where one has ended.
     pub fn begin(&mut self) {
-        if self.end.ending().is_some() {
-            self.end.begin(self.now);
-        }
+        self.driven.begin();
     }
 
     /// The connection is cut.
     pub fn cut(&mut self) {
-        self.end.on_link_end();
+        self.driven.cut();
     }
 
     /// The link takes everything that is written.
     pub fn send(&mut self, to: &mut Line) -> Result<(), AllocError> {
-        to.put(self.end.out())?;
-        let count = self.end.out().len();
-        self.end.taken(count);
+        to.put(self.driven.out())?;
+        self.driven.take();
         Ok(())
     }
 
@@ -164,22 +103,15 @@ impl Side {
         to: &mut Line,
         passage: &mut Passage,
     ) -> Result<(), AllocError> {
-        self.tick();
+        let moment = self.driven.now().saturating_add(1);
+        self.driven.tick(moment);
         self.take_frames(from, passage)?;
         if passage.is_seen_cut() {
             self.cut();
         }
-        self.turn_done();
+        self.driven.turn_done();
         self.serve(entries);
         self.send(to)
-    }
-
-    /// The clock ticks, a millisecond later.
-    fn tick(&mut self) {
-        if self.now < LAST_MOMENT && self.end.out().is_empty() {
-            self.now += 1;
-            self.end.on_tick(self.now);
-        }
     }
 
     /// Takes the frames that are under way, as far as they go and 16 at most.
@@ -192,7 +124,7 @@ impl Side {
 
     /// Takes the first frame that is under way, where one may be taken.
     fn take_frame(&mut self, from: &mut Line, passage: &mut Passage) -> Result<(), AllocError> {
-        if passage.is_cut() || self.end.ending().is_some() || self.end.serving().is_some() {
+        if passage.is_cut() || self.driven.ending().is_some() || self.driven.is_serving() {
             return Ok(());
         }
         let FirstFrame::Frame {
@@ -216,16 +148,10 @@ impl Side {
         requires header { 8 ≤ length message.now }
         requires most { length message.now ≤ 16384 }
     {
-        if self.end.ending().is_some() || self.end.out().len() > 100_000 || self.heard > 9_000 {
-            return Ok(());
+        match self.driven.act(order, message, 0)? {
+            Some((act, _)) => self.settle(act, message),
+            None => Ok(()),
         }
-        self.end.reserve()?;
-        self.heard += 1;
-        let act = self.end.on_frame(order, message, 0, self.now);
-        if act.is_record() {
-            self.end.did(self.now);
-        }
-        self.settle(act, message)
     }
 
     /// Records what an act settles.
@@ -245,54 +171,16 @@ impl Side {
         Ok(())
     }
 
-    /// The turn's frames are taken.
-    fn turn_done(&mut self) {
-        if self.end.out().len() <= 1_000_000 && self.heard <= 10_000 {
-            self.end.turn_done(self.now);
-        }
-    }
-
     /// Sends again what was asked for, then what was not sent yet, and tells the finish.
     fn serve(&mut self, entries: &[Stable]) {
         for _ in 0..COUNT {
-            self.send_again(entries);
+            self.driven.send_again(entries);
         }
         for _ in 0..self.pace {
-            self.send_live(entries);
+            self.driven.send_live(entries);
         }
-        if !is_absent(self.own_flow) && self.end.out().len() <= 1_000_000 {
-            self.end.closed(COUNT, self.now);
-        }
-    }
-
-    /// The next entry of the range that is served is sent again.
-    fn send_again(&mut self, entries: &[Stable]) {
-        let Some(range) = self.end.serving() else {
-            return;
-        };
-        let Some(entry) = entry_of(entries, range.from) else {
-            return;
-        };
-        let is_open = self.end.ending().is_none() && range.count > 0;
-        if is_open && self.end.out().len() <= 1_000_000 {
-            self.end.send_again(from_ref(entry), self.now);
-        }
-    }
-
-    /// The next entry is sent live, where that may be.
-    fn send_live(&mut self, entries: &[Stable]) {
-        let is_open = self.end.ending().is_none() && is_established(self.end.phase());
-        if !is_open || is_absent(self.own_flow) || self.end.serving().is_some() {
-            return;
-        }
-        let Some(next) = self.end.sent().checked_add(1) else {
-            return;
-        };
-        let Some(entry) = entry_of(entries, next) else {
-            return;
-        };
-        if self.end.out().len() <= 1_000_000 {
-            self.end.send_live(from_ref(entry), self.now);
+        if !is_absent(self.own_flow) {
+            self.driven.closed(COUNT);
         }
     }
 }

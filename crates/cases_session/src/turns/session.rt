@@ -21,7 +21,7 @@ const ROUNDS: u64 = 20_000;
 pub const EACH: u8 = 5;
 
 /// What a session is of.
-#[derive(Clone, Copy, Debug)]
+#[derive(Clone, Copy)]
 pub struct Plan {
     /// The flows of the initiator's messages and of the acceptor's.
     pub flows: [Flow; 2],

@@ -26,7 +26,7 @@ const CHANGES: [u8; 3] = [0x01, 0x10, 0x80];
 const MESSAGE: [u8; 10] = [0xEB, 0x50, 0, 0, 8, 0, 0x64, 0, 1, 0];
 
 /// What has to come of a change of a byte.
-#[derive(Clone, Copy, Debug, PartialEq, Eq)]
+#[derive(Clone, Copy, PartialEq, Eq)]
 enum Verdict {
     /// The same as without it: both finishes are exchanged.
     Same,
@@ -51,7 +51,7 @@ enum Verdict {
 }
 
 /// A byte of a tape.
-#[derive(Clone, Copy, Debug)]
+#[derive(Clone, Copy)]
 struct Place {
     verdict: Verdict,
     /// Where its frame begins in the tape.

@@ -11,7 +11,7 @@ use sbe_prim::Order;
 const DATA: [u8; 8] = [0x70, 0x61, 0x73, 0x73, 0x77, 0x6F, 0x72, 0x64];
 
 /// More than a frame has: where less is left of a buffer, the next frame stands at its front again.
-const MOST: usize = 2100;
+const MOST: usize = 2108;
 
 /// The bytes before a frame's message.
 const FRAMING: usize = 6;

@@ -7,8 +7,8 @@ ghost use Rattle.fixp_msgs.specs.Message.{message_of};
 ghost use Rattle.fixp_msgs.specs.Canonical.{IsWritable};
 
 use fixp_msgs::{
-    Applied, Establish, EstablishmentAck, EstablishmentReject, FinishedReceiving, FinishedSending,
-    Negotiate, NegotiationReject, NegotiationResponse, NotApplied, Retransmission,
+    Applied, Establish, EstablishmentAck, EstablishmentReject, Expected, FinishedReceiving,
+    FinishedSending, Negotiate, NegotiationReject, NegotiationResponse, NotApplied, Retransmission,
     RetransmitReject, RetransmitRequest, Sequence, SessionMsg, Terminate, UnsequencedHeartbeat,
 };
 
@@ -85,6 +85,7 @@ fn establish<'a>(id: &[u8; 16], number: u64, datum: &'a [u8]) -> SessionMsg<'a>
         timestamp: number,
         keepalive: (number % 0x1_0000_0000) as u32,
         next_seq: Some(number),
+        expected_next: Expected::Absent,
         credentials: datum,
     })
 }
@@ -98,6 +99,7 @@ fn establishment_ack(id: &[u8; 16], number: u64) -> SessionMsg<'static>
         request_timestamp: number,
         keepalive: (number % 0x1_0000_0000) as u32,
         next_seq: Some(number),
+        expected_next: Expected::Absent,
     })
 }
 

@@ -43,8 +43,8 @@ fn plan(alloc: Global, many: u64) -> Option<Plan> {
     Plan::of(payloads).ok()
 }
 
-/// A plan for each of so many senders. None where memory runs out.
-fn plans(alloc: Global, senders: u16, many: u64) -> Option<Vec<Plan>>
+/// A plan for each of so many senders, with so many messages. None where memory runs out.
+pub fn plans(alloc: Global, senders: u16, many: u64) -> Option<Vec<Plan>>
     ensures count { IfSome result (λ plans. vec_len plans ≡ senders) }
 {
     let mut plans = Vec::with_capacity(alloc, usize::from(senders)).ok()?;
@@ -54,14 +54,24 @@ fn plans(alloc: Global, senders: u16, many: u64) -> Option<Vec<Plan>>
     Some(plans)
 }
 
+/// The limits of an outbox for so many entries of such messages.
+pub fn limits_for(entries: u64) -> Limits
+    requires few { entries ≤ 2 ^ 23 }
+{
+    Limits {
+        entries,
+        bytes: 64 + entries * ENTRY,
+    }
+}
+
 /// An outbox on a formatted disk in memory with room for so many entries; none where it is not to be had.
 fn fresh(alloc: Global, entries: u64) -> Option<Outbox<Log>>
     requires few { entries ≤ 2 ^ 23 }
     ensures sound { IfSome result (λ box. is_broken box ≡ false) }
 {
-    let bytes = 64 + entries * ENTRY;
-    let disk = formatted(alloc, bytes as usize)?;
-    opened(alloc, disk, Limits { entries, bytes })
+    let limits = limits_for(entries);
+    let disk = formatted(alloc, limits.bytes as usize)?;
+    opened(alloc, disk, limits)
 }
 
 /// Makes the plans of so many senders, 16 at most, with so many messages each, and an outbox. Where they are to run, they submit
