@@ -22,8 +22,9 @@ pub record LosesMark (p q : Part) (refused : Option ServeFault) : Type 0 where
   pub unended : q.ended ≡ p.ended
   pub blamed : refused ≡ Some faults.Journal
 
--- The Finish was added, or refused so: the pass took one turn and made nothing, and it lost nothing but the mark. Where it was not refused, or only since the outbox is
--- closed, the pass has seen the mark; a journal is to blame only where a call of its disk failed, in this turn or since its opening
+-- The Finish was added, or refused so: the pass took one turn and made nothing, and it lost nothing but the mark. Where it was not refused, or
+-- only since the outbox is closed, the pass has seen the mark; a journal is to blame only where a call of its disk failed, in this turn
+-- or since its opening
 pub record Finishes (p q : Part) (refused : Option ServeFault) : Type 0 where
   pub turn : TakesTurn p q
   pub mine : q.mine ≡ p.mine

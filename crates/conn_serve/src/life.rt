@@ -124,8 +124,9 @@ fn serve_next<N: Dialer, K: Sink, O: Journal, I: Journal, C: Clock, R: Wait>(
 }
 
 /// Serves the connections that a dialer gives, one after another, until one ends with both finishes exchanged, or until `stop`
-/// is set, which is looked at before each turn and each connection, and by the dialer while it waits for one. The lines of each turn's news and of each connection's end
-/// stand on OUT as soon as they are known. Each link goes back to the dialer at its connection's end.
+/// is set, which is looked at before each turn and each connection, and by the dialer while it waits for one. The lines of each
+/// turn's news and of each connection's end stand on OUT as soon as they are known. Each link goes back to the dialer at its
+/// connection's end.
 ///
 /// # Errors
 /// `Unfinished` where no connection is left; `Rejected` where the last one ended so; `Turns` where one took 2^40 turns;
