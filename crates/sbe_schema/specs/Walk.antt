@@ -17,7 +17,9 @@ use Rattle.schema_types.specs.declared.types.MemberDef.{MemberDef}
 use Rattle.schema_types.specs.declared.messages.MessageDef.{MessageDef}
 use Rattle.schema_types.specs.declared.messages.FieldDef.{FieldDef}
 use Rattle.schema_types.specs.declared.messages.DataDef.{DataDef}
+use Rattle.schema_types.specs.declared.groups.GroupDef.{GroupDef}
 use Rattle.schema_types.specs.Groups.{GroupHead, GroupTree, no_groups, group}
+use Rattle.schema_types.specs.Views.{head_of}
 use Rattle.sbe_schema.specs.Names.{Names, Numbers}
 use Rattle.sbe_schema.specs.Offsets.{member_end, field_end}
 use Rattle.sbe_schema.specs.Places.{Table, whole, type_table, value_table, bit_table, member_table, message_table, field_table, group_table, data_table, Place}
@@ -143,10 +145,10 @@ abbrev pub ids_of_block : Numbers → List FieldDef → GroupTree → List DataD
 ids_of_block ids fields groups vars = ids_of_data (ids_of_groups (ids_of_fields ids fields) groups) vars
 
 -- a group and the elements of its entries
-abbrev pub walk_group : List TypeDef → List PathStep → Parent → Names → Numbers → ℤ → ℕ → GroupHead → GroupTree → List Place
-walk_group types base parent names ids least_since at g inner =
-    place base Groups at names ids (group_table parent least_since g)
-    ∷ walk_block types (base ++ path_step Groups at ∷ []) (entry_of parent g) (set.insert ids (pos g.id)) g.fields inner g.vars
+abbrev pub walk_group : List TypeDef → List PathStep → Parent → Names → Numbers → ℤ → ℕ → GroupDef → List Place
+walk_group types base parent names ids least_since at g =
+    place base Groups at names ids (group_table parent least_since (head_of g))
+    ∷ walk_block types (base ++ path_step Groups at ∷ []) (entry_of parent (head_of g)) (set.insert ids (pos g.id)) g.fields g.groups g.vars
 
 -- a message and the elements that lie in it
 abbrev pub walk_message : List TypeDef → Names → Numbers → ℕ → MessageDef → List Place

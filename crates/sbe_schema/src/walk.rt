@@ -4,7 +4,7 @@ ghost use Rattle.std.specs.Prelude.{◌≡◌, [], pos, OnOk};
 ghost use Rattle.std.specs.FinSet as set;
 ghost use Rattle.sbe_schema.specs.Indexed.{Indexes};
 ghost use Rattle.sbe_schema.specs.Search.{folded};
-ghost use Rattle.schema_types.specs.Views.{head_of, groups_of};
+ghost use Rattle.schema_types.specs.Views.{groups_of};
 ghost use Rattle.sbe_schema.specs.Walk.{walk_values, walk_bits, walk_members, walk_kind, walk_type, walk_types, walk_fields, walk_data, walk_groups, walk_group, walk_block, walk_message, walk_messages, names_of_fields, names_of_groups, ids_of_fields, ids_of_data, ids_of_groups, ids_of_block, lowest_since, lower};
 
 use crate::fault::{PathStep, TableArray};
@@ -148,7 +148,7 @@ fn walk_group(
     requires index { Indexes index.now }
     requires array { path_step.array ≡ TableArray.Groups }
     ensures fault { OnOk result (state.new.fault
-        ≡ folded index.now.schema.now state.old.fault (walk_group index.now.schema.now.types state.old.parent_path.items parent.now names.old state.old.ids least_since path_step.at (head_of g.now) g.now.groups)) }
+        ≡ folded index.now.schema.now state.old.fault (walk_group index.now.schema.now.types state.old.parent_path.items parent.now names.old state.old.ids least_since path_step.at g.now)) }
     ensures names { OnOk result (names.new ≡ set.insert names.old g.now.name) }
     ensures ids { OnOk result (state.new.ids ≡ ids_of_block (set.insert state.old.ids (pos g.now.id)) g.now.fields g.now.groups g.now.vars) }
     ensures parent_path { OnOk result (state.new.parent_path.items ≡ state.old.parent_path.items) }

@@ -348,15 +348,17 @@ sound_start : Sound newborn newborn
 sound_start = record { rising = tt; reads = tt; chained = (refl, refl) }
 
 pub history_is_session : HistoryIsSession
-history_is_session fa fb pa pb steps oa ob ia ib h may_a may_b ka kb =
+history_is_session steps a b h lives_a lives_b may_a may_b keeps_a keeps_b =
     let w = after steps beginning in
     let s = sound_after steps beginning (record { of_first = sound_start; of_second = sound_start }) h in
+    let linked = linked_by_links w.a.links (connections_of (lives_of w.a)) w.b.links (connections_of (lives_of w.b)) 0 0 s.of_first.rising s.of_second.rising s.of_first.reads s.of_second.reads in
     record {
-      chained_a = chained_now w.a w.b oa ia s.of_first may_a;
-      chained_b = chained_now w.b w.a ob ib s.of_second may_b;
-      contract_a = ka;
-      contract_b = kb;
-      linked = linked_by_links w.a.links (connections_of (lives_of w.a)) w.b.links (connections_of (lives_of w.b)) 0 0 s.of_first.rising s.of_second.rising s.of_first.reads s.of_second.reads;
+      chained_a = subst (λ (lives : List Life). Chained [] [] lives a.outbox a.inbox) (sym lives_a) (chained_now w.a w.b a.outbox a.inbox s.of_first may_a);
+      chained_b = subst (λ (lives : List Life). Chained [] [] lives b.outbox b.inbox) (sym lives_b) (chained_now w.b w.a b.outbox b.inbox s.of_second may_b);
+      contract_a = keeps_a;
+      contract_b = keeps_b;
+      linked = subst (λ (lives : List Life). Linked (connections_of lives) (connections_of b.lives)) (sym lives_a)
+          (subst (λ (lives : List Life). Linked (connections_of (lives_of w.a)) (connections_of lives)) (sym lives_b) linked);
     }
 
 -- what a connection comes to

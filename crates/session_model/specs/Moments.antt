@@ -8,7 +8,7 @@ use Rattle.session_model.specs.Inbox.{Range, InboxRecord}
 use Rattle.session_model.specs.Events.{Event}
 use Rattle.session_model.specs.Growth.{Flow}
 use Rattle.session_model.specs.Lives.{Connection, Life, IsImage, KeepsContract, TakenFrom, connections_of}
-use Rattle.session_model.specs.Guarantee.{Session}
+use Rattle.session_model.specs.Guarantee.{OneEnd, Session}
 
 -- What one end does: it takes up the link of this number; its outbox gains a record, or the append of some fails; it writes an
 -- event on its connection, or reports a range there; all of its output is taken there, or no longer is; it processes a frame
@@ -195,11 +195,9 @@ HistoryBegins = (first second : List Step) → SessionHistory (first ++ second)
 -- The lives and connections that a history comes to are chained and linked: where each life keeps its contract as far as it
 -- has come, they are a session, whatever a stop may leave now
 abbrev pub HistoryIsSession : Type 0
-HistoryIsSession = (flow_a flow_b : Flow) (plan_a plan_b : ℕ → List (List ℕ) → List (List ℕ)) (steps : List Step)
-    (outbox_a outbox_b : List OutboxRecord) (inbox_a inbox_b : List InboxRecord)
-    → SessionHistory steps
-    → May (stop outbox_a inbox_a) (after steps beginning).a (after steps beginning).b
-    → May (stop outbox_b inbox_b) (after steps beginning).b (after steps beginning).a
-    → AllByRecursion (KeepsContract flow_a flow_b plan_a) (lives_of (after steps beginning).a)
-    → AllByRecursion (KeepsContract flow_b flow_a plan_b) (lives_of (after steps beginning).b)
-    → Session flow_a flow_b plan_a plan_b (lives_of (after steps beginning).a) (lives_of (after steps beginning).b) outbox_a outbox_b inbox_a inbox_b
+HistoryIsSession = (steps : List Step) (a b : OneEnd Flow Life) → SessionHistory steps
+    → a.lives ≡ lives_of (after steps beginning).a → b.lives ≡ lives_of (after steps beginning).b
+    → May (stop a.outbox a.inbox) (after steps beginning).a (after steps beginning).b
+    → May (stop b.outbox b.inbox) (after steps beginning).b (after steps beginning).a
+    → AllByRecursion (KeepsContract a.flow b.flow a.plan) a.lives → AllByRecursion (KeepsContract b.flow a.flow b.plan) b.lives
+    → Session a b

@@ -5,10 +5,10 @@ use mathlib.Core.List.{IsPrefix}
 use Rattle.session_model.specs.Journal.{OutboxRecord, entry, finish, BeginsHistory}
 use Rattle.session_model.specs.Inbox.{Range, InboxRecord, apply, skip, negotiated, peer_finished}
 use Rattle.session_model.specs.Events.{Event, announce, handshake, in_flow, message}
-use Rattle.session_model.specs.Growth.{recoverable, idempotent, unsequenced, no_flow, Grown, GrownLater}
+use Rattle.session_model.specs.Growth.{Flow, recoverable, idempotent, unsequenced, no_flow, Grown, GrownLater}
 use Rattle.session_model.specs.Plans.{GoesOn, Completes}
 use Rattle.session_model.specs.Lives.{Connection, Life}
-use Rattle.session_model.specs.Guarantee.{Session}
+use Rattle.session_model.specs.Guarantee.{OneEnd, Session}
 use Rattle.session_model.specs.Moments.{Step, of_a, of_b, keep, connect, write, process, stop, opened_on, after, beginning, SessionHistory}
 
 -- three payloads
@@ -152,10 +152,28 @@ second_b sure = record {
   };
 }
 
--- the session, where end b's second life is to have processed so many events for sure
+-- both ends, where end b's second life is to have processed so many events for sure
+abbrev pub end_a : OneEnd Flow Life
+end_a = record {
+  flow = recoverable;
+  plan = orders;
+  lives = first_a ∷ second_a ∷ [];
+  outbox = second_a.closing_outbox;
+  inbox = second_a.served.closing_inbox;
+}
+
+abbrev pub end_b : ℕ → OneEnd Flow Life
+end_b sure = record {
+  flow = idempotent;
+  plan = replies;
+  lives = first_b ∷ second_b sure ∷ [];
+  outbox = (second_b sure).closing_outbox;
+  inbox = (second_b sure).served.closing_inbox;
+}
+
+-- the session
 abbrev pub SequencedSample : ℕ → Type 0
-SequencedSample sure = Session recoverable idempotent orders replies (first_a ∷ second_a ∷ []) (first_b ∷ second_b sure ∷ [])
-    second_a.closing_outbox (second_b sure).closing_outbox second_a.served.closing_inbox (second_b sure).served.closing_inbox
+SequencedSample sure = Session end_a (end_b sure)
 
 abbrev pub SamplePlansGoOn : Type 0
 SamplePlansGoOn = GoesOn orders × GoesOn replies
@@ -223,9 +241,20 @@ listener = record {
   };
 }
 
+abbrev pub publishing_end : OneEnd Flow Life
+publishing_end = record {
+  flow = unsequenced;
+  plan = news;
+  lives = first_publisher ∷ second_publisher ∷ [];
+  outbox = second_publisher.closing_outbox;
+  inbox = [];
+}
+
+abbrev pub listening_end : OneEnd Flow Life
+listening_end = record { flow = no_flow; plan = silence; lives = listener ∷ []; outbox = []; inbox = listener.served.closing_inbox }
+
 abbrev pub UnsequencedSample : Type 0
-UnsequencedSample = Session unsequenced no_flow news silence (first_publisher ∷ second_publisher ∷ []) (listener ∷ [])
-    second_publisher.closing_outbox [] [] listener.served.closing_inbox
+UnsequencedSample = Session publishing_end listening_end
 
 -- growth over one connection in two parts, the second behind a number that stands announced
 abbrev pub PartsSample : Type 0

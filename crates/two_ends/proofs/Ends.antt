@@ -30,7 +30,7 @@ use Rattle.turn_laws.specs.Legs.{TurnedLeg, IsTimely, calls_on, AreTurnsOf, give
 use Rattle.turn_laws.specs.Lives.{AllAreTurns, legs_of, state_after, inbox_after}
 use Rattle.turn_laws.proofs.Running.{leg_stands, turns_run, all_run}
 use Rattle.turn_laws.proofs.Sent.{sent_are_written}
-use Rattle.two_ends.specs.Loops.{RefusedLeg, LoopLife, refused_leg, machine_life, IsRefusedOn, MayTurn, last_leg, legs_in, ReadsOf, LinkedLinks, no_more, left_alone, right_alone, paired}
+use Rattle.two_ends.specs.Loops.{RefusedLeg, LoopLife, refused_leg, machine_life, IsRefusedOn, MayTurn, last_leg, legs_in, ReadsOf, LinkedLinks, machine_end, no_more, left_alone, right_alone, paired}
 use Rattle.two_ends.specs.LoopLaws.{LoopsAreEnds, LoopsAreASession, LoopsHold}
 use Rattle.two_ends.proofs.Given.{given_are_bytes, given_came, calls_fit}
 use Rattle.two_ends.proofs.Whole.{sent_are_whole}
@@ -150,23 +150,19 @@ all_runs own peer (l ∷ later) all =
     zip_append (runs_of (machine_life l)) (flat_map runs_of (map machine_life later)) (legs_in l) (flat_map legs_in later) (is_life own peer l all.0).runs (all_runs own peer later all.1)
 
 pub loops_are_ends : LoopsAreEnds
-loops_are_ends flow_a flow_b plan_a plan_b a b outbox_a outbox_b inbox_a inbox_b l = record {
-  lives_a = all_live flow_a flow_b a l.lives_a;
-  lives_b = all_live flow_b flow_a b l.lives_b;
+loops_are_ends a b l = record {
+  lives_a = all_live a.flow b.flow a.lives l.lives_a;
+  lives_b = all_live b.flow a.flow b.lives l.lives_b;
   chained_a = l.chained_a;
   chained_b = l.chained_b;
   outboxes_a = l.outboxes_a;
   outboxes_b = l.outboxes_b;
-  linked = links (flat_map runs_of (map machine_life a)) (flat_map runs_of (map machine_life b)) (flat_map legs_in a) (flat_map legs_in b)
-      (all_runs flow_a flow_b a l.lives_a) (all_runs flow_b flow_a b l.lives_b) l.linked;
+  linked = links (flat_map runs_of (map machine_life a.lives)) (flat_map runs_of (map machine_life b.lives)) (flat_map legs_in a.lives) (flat_map legs_in b.lives)
+      (all_runs a.flow b.flow a.lives l.lives_a) (all_runs b.flow a.flow b.lives l.lives_b) l.linked;
 }
 
 pub loops_are_a_session : LoopsAreASession
-loops_are_a_session flow_a flow_b plan_a plan_b a b outbox_a outbox_b inbox_a inbox_b l =
-    session_of_ends flow_a flow_b plan_a plan_b (map machine_life a) (map machine_life b) outbox_a outbox_b inbox_a inbox_b
-    (loops_are_ends flow_a flow_b plan_a plan_b a b outbox_a outbox_b inbox_a inbox_b l)
+loops_are_a_session a b l = session_of_ends (machine_end a) (machine_end b) (loops_are_ends a b l)
 
 pub loops_hold : LoopsHold
-loops_hold flow_a flow_b plan_a plan_b a b outbox_a outbox_b inbox_a inbox_b l =
-    ends_hold flow_a flow_b plan_a plan_b (map machine_life a) (map machine_life b) outbox_a outbox_b inbox_a inbox_b
-    (loops_are_ends flow_a flow_b plan_a plan_b a b outbox_a outbox_b inbox_a inbox_b l)
+loops_hold a b l = ends_hold (machine_end a) (machine_end b) (loops_are_ends a b l)

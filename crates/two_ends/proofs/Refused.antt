@@ -1,5 +1,5 @@
 -- What becomes of a connection at a frame that is not accepted, row by row.
-use Rattle.std.proofs.Common.{◌≡◌, ℕ, ◌&&◌, max, min, not, Bool, true, false, if◌then◌else◌, List, [], ◌∷◌, Option, Some, None, refl, sym, ap, ◌∙◌, true≢false}
+use Rattle.std.proofs.Common.{◌≡◌, ℕ, ◌&&◌, not, Bool, true, false, if◌then◌else◌, List, [], ◌∷◌, Option, Some, None, refl, sym, ap, ◌∙◌, true≢false}
 use Rattle.std.specs.Prelude.{is_some, unwrap_or}
 use Rattle.std.specs.Cmp.{first_so}
 use Rattle.flow_recover.specs.declared.receiver.Seen.{Seen}
@@ -16,7 +16,7 @@ use Rattle.fixp_replies.specs.Incoming.{Incoming, application, session, wrong_or
 use Rattle.fixp_replies.specs.Facts.{Around, requesting, awaits_gap}
 use Rattle.fixp_replies.specs.Outcomes.{Outcome, Row, goes_on, ignores, not_in_phase, skip_of, told_skip}
 use Rattle.fixp_replies.specs.Announcing.{Announced, announced, announcement_fault, refuses, announcement_rows}
-use Rattle.fixp_replies.specs.Handshake.{awaits_client, serves_client, established, acknowledges, establish_rows, established_again_rows, establish_rows_in}
+use Rattle.fixp_replies.specs.Handshake.{awaits_client, serves_client, acknowledges, establish_rows, established_again_rows, establish_rows_in, reached}
 use Rattle.fixp_replies.specs.Flowing.{bad_retransmission, counted, taken_as, answers_finish, is_filled, is_past_finish, sequence_taken, sequence_follows}
 use Rattle.fixp_replies.specs.Replies.{template_of, rows_of, answer_of, terminates}
 use Rattle.fixp_machine.proofs.Rows.{AllRows, by_row, all_rows, all_within, own_rows}
@@ -47,20 +47,20 @@ announcing : (x : Around) (f g : Facts) (i : Incoming) (template : ℕ) (next : 
 announcing x f g i template next follows on = (λ broken. refusing x f g i (announcement_fault x g template next) broken, λ _. (λ _. on, λ _. tt))
 
 establish_all : (x : Around) (f : Facts) (id : List ℕ) (timestamp keepalive : ℕ) (next : Option ℕ) (expected : Expected) (credentials : List ℕ)
-    → AllRows (Refuses f (session (establish id timestamp keepalive next expected credentials))) (establish_rows_in x f id timestamp keepalive next credentials)
+    → AllRows (Refuses f (session (establish id timestamp keepalive next expected credentials))) (establish_rows_in x f id timestamp keepalive next expected credentials)
 establish_all x f id timestamp keepalive next expected credentials = by_place (awaits_client x f) (serves_client x f)
   where
     i : Incoming
     i = session (establish id timestamp keepalive next expected credentials)
 
-    by_place : (p q : Bool) → AllRows (Refuses f i) (if p then establish_rows x f id timestamp keepalive next credentials else if q then established_again_rows x f id timestamp else [])
+    by_place : (p q : Bool) → AllRows (Refuses f i) (if p then establish_rows x f id timestamp keepalive next expected credentials else if q then established_again_rows x f id timestamp else [])
     by_place true q = (
       λ _ _. rejected next refl refl refl,
       λ _. (
         λ _ _. rejected next refl refl refl,
         λ _. (
           λ _ _. rejected next refl refl refl,
-          λ _. announcing x f f i 4 next (acknowledges x timestamp keepalive) (takes f i (acknowledges x timestamp keepalive (announced x f next)) refl),
+          λ _. announcing x f f i 4 next (acknowledges x timestamp keepalive expected) (takes f i (acknowledges x timestamp keepalive expected (announced x f next)) refl),
         ),
       ),
     )
@@ -112,9 +112,8 @@ session_rows : (x : Around) (f : Facts) (m : Message) → AllRows (Refuses f (se
 session_rows x f (establish id timestamp keepalive next expected credentials) = establish_all x f id timestamp keepalive next expected credentials
 session_rows x f (establishment_ack id timestamp keepalive next expected) =
     let i : Incoming = session (establishment_ack id timestamp keepalive next expected) in
-    let interval : ℕ = min 60000 (max 100 keepalive) in
     own_rows (Refuses f i) x f 5 id _ (λ e _. ended refl) (all_within (Refuses f i) (is_establishing f.connection.phase) _ (λ _.
-    announcing x f f i 5 next (λ (d : Announced). goes_on x (skip_of d.skipped) (told_skip d.skipped) (established d.facts interval)) (λ out. absurd (true≢false out))))
+    announcing x f f i 5 next (reached x keepalive expected) (λ out. absurd (true≢false out))))
 session_rows x f (sequence next) =
     let i : Incoming = session (sequence next) in
     let g : Facts = requesting f (request_is.after_sequence f.connection.requester) in

@@ -4,14 +4,14 @@ use Rattle.std.specs.Prelude.{flat_map}
 use Rattle.std.specs.List.{AllByRecursion}
 use Rattle.std.proofs.lemmas.List.{map-append}
 use Rattle.sofh_frame.specs.Splits.{frames_of}
-use Rattle.session_model.specs.Journal.{Entry, OutboxRecord, entries}
+use Rattle.session_model.specs.Journal.{Entry, entries}
 use Rattle.session_model.specs.Inbox.{InboxRecord}
 use Rattle.session_model.specs.Events.{Event}
 use Rattle.session_model.specs.Lives.{Connection, Served, Life, KeepsConnections, KeepsOutbox, KeepsContract, TakenFrom, rest_lost, taken, rejected, Linked}
 use Rattle.session_model.specs.Lives
 use Rattle.session_model.proofs.Lists.{prefix_trans, all_append}
 use Rattle.session_model.specs.Growth as model
-use Rattle.session_model.specs.Guarantee.{Session}
+use Rattle.session_model.specs.Guarantee.{OneEnd, Session}
 use Rattle.session_model.proofs.Guarantees.{session_turns_round, recoverable_guarantee, idempotent_guarantee, unsequenced_guarantee, no_flow_guarantee}
 use Rattle.fixp_msgs.specs.declared.flow.Flow.{Flow}
 use Rattle.fixp_msgs.specs.declared.flow.Flow.TheVariants as flows
@@ -23,7 +23,7 @@ use Rattle.connection_laws.specs.Living.{Leg, course_of, AllMayRun, state_behind
 use Rattle.connection_laws.proofs.Living.{ran, behind, life_serves, life_refused}
 use Rattle.two_ends.specs.Reading.{AreRead}
 use Rattle.two_ends.specs.Hearing.{came, AreFirstOf, TakesFrom}
-use Rattle.two_ends.specs.Meeting.{Run, course_in, accepted_in, connection_in, MayBegin, ReadsFrom, no_more, left_alone, right_alone, paired, LinksHold, Refused, MachineLife, served_with, life_in, runs_on, last_run, runs_of, MayRefuse, MayLive, SessionOfEnds, Holds, EndsHold}
+use Rattle.two_ends.specs.Meeting.{Run, course_in, accepted_in, connection_in, MayBegin, ReadsFrom, no_more, left_alone, right_alone, paired, LinksHold, Refused, MachineLife, served_with, life_in, runs_on, last_run, runs_of, MayRefuse, MayLive, end_in, SessionOfEnds, Holds, EndsHold}
 use Rattle.two_ends.proofs.Cutting.{written_is_read}
 use Rattle.two_ends.proofs.Heard.{events_begin, heard_from}
 
@@ -160,32 +160,27 @@ contracts own peer plan [] all outboxes = tt
 contracts own peer plan (l ∷ later) all outboxes = (record { connections = keeps own peer l all.0; outbox = outboxes.0 }, contracts own peer plan later all.1 outboxes.1)
 
 pub session_of_ends : SessionOfEnds
-session_of_ends flow_a flow_b plan_a plan_b a b outbox_a outbox_b inbox_a inbox_b e = record {
+session_of_ends a b e = record {
   chained_a = e.chained_a;
   chained_b = e.chained_b;
-  contract_a = contracts flow_a flow_b plan_a a e.lives_a e.outboxes_a;
-  contract_b = contracts flow_b flow_a plan_b b e.lives_b e.outboxes_b;
+  contract_a = contracts a.flow b.flow a.plan a.lives e.lives_a e.outboxes_a;
+  contract_b = contracts b.flow a.flow b.plan b.lives e.lives_b e.outboxes_b;
   linked =
-      subst (λ cs. Linked cs (flat_map (λ (life : Life). life.served.connections) (map life_in b))) (connections_of_all a)
-      (subst (λ cs. Linked (map connection_in (flat_map runs_of a)) cs) (connections_of_all b)
-      (links_hold (flat_map runs_of a) (flat_map runs_of b) (may_begin flow_a flow_b a e.lives_a) (may_begin flow_b flow_a b e.lives_b) e.linked));
+      subst (λ cs. Linked cs (flat_map (λ (life : Life). life.served.connections) (map life_in b.lives))) (connections_of_all a.lives)
+      (subst (λ cs. Linked (map connection_in (flat_map runs_of a.lives)) cs) (connections_of_all b.lives)
+      (links_hold (flat_map runs_of a.lives) (flat_map runs_of b.lives) (may_begin a.flow b.flow a.lives e.lives_a) (may_begin b.flow a.flow b.lives e.lives_b) e.linked));
 }
 
 -- by the guarantee of the sender's flow
-holds : (flow : Flow) (other : model.Flow) (plan_a plan_b : ℕ → List (List ℕ) → List (List ℕ)) (a b : List Life)
-    (outbox_a outbox_b : List OutboxRecord) (inbox_a inbox_b : List InboxRecord)
-    → Session (model_flow flow) other plan_a plan_b a b outbox_a outbox_b inbox_a inbox_b → Holds flow (entries outbox_a) inbox_b
-holds flows.Recoverable other plan_a plan_b a b outbox_a outbox_b inbox_a inbox_b s = (recoverable_guarantee other plan_a plan_b a b outbox_a outbox_b inbox_a inbox_b s).0
-holds flows.Idempotent other plan_a plan_b a b outbox_a outbox_b inbox_a inbox_b s = (idempotent_guarantee other plan_a plan_b a b outbox_a outbox_b inbox_a inbox_b s).0
-holds flows.Unsequenced other plan_a plan_b a b outbox_a outbox_b inbox_a inbox_b s = (unsequenced_guarantee other plan_a plan_b a b outbox_a outbox_b inbox_a inbox_b s).0
-holds flows.None other plan_a plan_b a b outbox_a outbox_b inbox_a inbox_b s = no_flow_guarantee other plan_a plan_b a b outbox_a outbox_b inbox_a inbox_b s
+holds : (flow : Flow) (a b : OneEnd model.Flow Life) → a.flow ≡ model_flow flow → Session a b → Holds flow (entries a.outbox) b.inbox
+holds flows.Recoverable a b is s = (recoverable_guarantee a b is s).0
+holds flows.Idempotent a b is s = (idempotent_guarantee a b is s).0
+holds flows.Unsequenced a b is s = (unsequenced_guarantee a b is s).0
+holds flows.None a b is s = no_flow_guarantee a b is s
 
 pub ends_hold : EndsHold
-ends_hold flow_a flow_b plan_a plan_b a b outbox_a outbox_b inbox_a inbox_b e =
-    let fa : model.Flow = model_flow flow_a in
-    let fb : model.Flow = model_flow flow_b in
-    let s = session_of_ends flow_a flow_b plan_a plan_b a b outbox_a outbox_b inbox_a inbox_b e in (
-      holds flow_a fb plan_a plan_b (map life_in a) (map life_in b) outbox_a outbox_b inbox_a inbox_b s,
-      holds flow_b fa plan_b plan_a (map life_in b) (map life_in a) outbox_b outbox_a inbox_b inbox_a
-          (session_turns_round fa fb plan_a plan_b (map life_in a) (map life_in b) outbox_a outbox_b inbox_a inbox_b s),
+ends_hold a b e =
+    let s = session_of_ends a b e in (
+      holds a.flow (end_in a) (end_in b) refl s,
+      holds b.flow (end_in b) (end_in a) refl (session_turns_round (end_in a) (end_in b) s),
     )

@@ -4,8 +4,9 @@ use Rattle.sbe_prim.specs.declared.Order.TheVariants.{Little}
 use Rattle.gw_links.specs.declared.link.Got.TheVariants as gots
 use Rattle.session_model.specs.Journal.{History}
 use Rattle.session_model.specs.Events.{announce, handshake}
+use Rattle.session_model.specs.Guarantee.{OneEnd}
 use Rattle.session_model.specs.Samples.{silence}
-use Rattle.fixp_msgs.specs.declared.flow.Flow.TheVariants as flows
+use Rattle.fixp_msgs.specs.declared.flow.Flow.{Flow}
 use Rattle.fixp_msgs.specs.Canonical.{message_bytes, frame_bytes}
 use Rattle.fixp_msgs.specs.Message.{Message}
 use Rattle.fixp_shake.specs.declared.config.EndConfig.{EndConfig}
@@ -67,8 +68,12 @@ life_on_leg config leg = record {
   last = None;
 }
 
+-- an end of that one life, whose senders send nothing
+abbrev pub end_on_leg : EndConfig → TurnedLeg → OneEnd Flow LoopLife
+end_on_leg config leg = record { flow = config.own_flow; plan = silence; lives = life_on_leg config leg ∷ []; outbox = []; inbox = [] }
+
 abbrev pub TurnsSample : Type 0
 TurnsSample =
-    TwoLoops flows.Recoverable flows.Idempotent silence silence (life_on_leg sample_config leg_a ∷ []) (life_on_leg acceptor leg_b ∷ []) [] [] [] []
+    TwoLoops (end_on_leg sample_config leg_a) (end_on_leg acceptor leg_b)
     × ((course_on (begins sample_config) [] leg_a).accepted ≡ announce handshake (Some 1) ∷ [])
     × ((course_on (begins acceptor) [] leg_b).accepted ≡ announce handshake (Some 1) ∷ [])

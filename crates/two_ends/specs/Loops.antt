@@ -1,11 +1,12 @@
 -- Two ends that run the connection loop over their lives, whose connections are linked by what the links gave and took.
-use Rattle.std.specs.Prelude.{◌≡◌, ℕ, List, [], ◌∷◌, ◌++◌, map, flat_map, Option, Some, None, option_map, IfSome}
+use Rattle.std.specs.Prelude.{◌≡◌, List, [], ◌∷◌, ◌++◌, map, flat_map, Option, Some, None, option_map, IfSome}
 use Rattle.std.specs.List.{AllByRecursion}
 use mathlib.Core.List.{IsPrefix}
 use Rattle.sofh_frame.specs.Splits.{frames_of}
 use Rattle.session_model.specs.Journal.{Entry, OutboxRecord, entries}
 use Rattle.session_model.specs.Inbox.{InboxRecord}
 use Rattle.session_model.specs.Lives.{Life, KeepsOutbox, Chained}
+use Rattle.session_model.specs.Guarantee.{OneEnd}
 use Rattle.fixp_msgs.specs.Payload.{IsApplication}
 use Rattle.fixp_msgs.specs.declared.flow.Flow.{Flow}
 use Rattle.fixp_machine.specs.Machine.{State}
@@ -89,12 +90,15 @@ pub data LinkedLinks : List TurnedLeg → List TurnedLeg → Type 0 where
 
 -- Two ends that run the loop: the flow that one sends the other receives; the lives of each are chained from empty journals, may
 -- leave these now, and keep their outboxes; and their connections are linked by what went over their links
-pub record TwoLoops (flow_a flow_b : Flow) (plan_a plan_b : ℕ → List (List ℕ) → List (List ℕ)) (a b : List LoopLife)
-    (outbox_a outbox_b : List OutboxRecord) (inbox_a inbox_b : List InboxRecord) : Type 0 where
-  pub lives_a : AllByRecursion (MayTurn flow_a flow_b) a
-  pub lives_b : AllByRecursion (MayTurn flow_b flow_a) b
-  pub chained_a : Chained [] [] (lives_of a) outbox_a inbox_a
-  pub chained_b : Chained [] [] (lives_of b) outbox_b inbox_b
-  pub outboxes_a : AllByRecursion (KeepsOutbox plan_a) (lives_of a)
-  pub outboxes_b : AllByRecursion (KeepsOutbox plan_b) (lives_of b)
-  pub linked : LinkedLinks (flat_map legs_in a) (flat_map legs_in b)
+pub record TwoLoops (a b : OneEnd Flow LoopLife) : Type 0 where
+  pub lives_a : AllByRecursion (MayTurn a.flow b.flow) a.lives
+  pub lives_b : AllByRecursion (MayTurn b.flow a.flow) b.lives
+  pub chained_a : Chained [] [] (lives_of a.lives) a.outbox a.inbox
+  pub chained_b : Chained [] [] (lives_of b.lives) b.outbox b.inbox
+  pub outboxes_a : AllByRecursion (KeepsOutbox a.plan) (lives_of a.lives)
+  pub outboxes_b : AllByRecursion (KeepsOutbox b.plan) (lives_of b.lives)
+  pub linked : LinkedLinks (flat_map legs_in a.lives) (flat_map legs_in b.lives)
+
+-- an end that runs the loop, as one of the machine
+abbrev pub machine_end : OneEnd Flow LoopLife → OneEnd Flow MachineLife
+machine_end e = record { flow = e.flow; plan = e.plan; lives = map machine_life e.lives; outbox = e.outbox; inbox = e.inbox }

@@ -5,9 +5,10 @@ use mathlib.Core.List.{IsPrefix}
 use Rattle.session_model.specs.Journal.{Entry, OutboxRecord, entries}
 use Rattle.session_model.specs.Inbox.{InboxRecord, next_number, applied, skips}
 use Rattle.session_model.specs.Events.{Event}
+use Rattle.session_model.specs.Growth as model
 use Rattle.session_model.specs.Growth.{AppliesPrefix, SettlesOnce, DeliversRising}
 use Rattle.session_model.specs.Lives.{Connection, Served, Life, served_on, KeepsOutbox, Chained, Linked}
-use Rattle.session_model.specs.Guarantee.{Session}
+use Rattle.session_model.specs.Guarantee.{OneEnd, Session}
 use Rattle.fixp_msgs.specs.declared.flow.Flow.{Flow}
 use Rattle.fixp_msgs.specs.declared.flow.Flow.TheVariants as flows
 use Rattle.fixp_machine.specs.Machine.{State}
@@ -135,22 +136,22 @@ pub record MayLive (own peer : Flow) (l : MachineLife) : Type 0 where
 
 -- Two ends of the machine: the flow that one sends the other receives; the lives of each are chained from empty journals, may
 -- leave these now, and keep their outboxes; and their connections are linked by bytes
-pub record TwoEnds (flow_a flow_b : Flow) (plan_a plan_b : ℕ → List (List ℕ) → List (List ℕ)) (a b : List MachineLife)
-    (outbox_a outbox_b : List OutboxRecord) (inbox_a inbox_b : List InboxRecord) : Type 0 where
-  pub lives_a : AllByRecursion (MayLive flow_a flow_b) a
-  pub lives_b : AllByRecursion (MayLive flow_b flow_a) b
-  pub chained_a : Chained [] [] (map life_in a) outbox_a inbox_a
-  pub chained_b : Chained [] [] (map life_in b) outbox_b inbox_b
-  pub outboxes_a : AllByRecursion (KeepsOutbox plan_a) (map life_in a)
-  pub outboxes_b : AllByRecursion (KeepsOutbox plan_b) (map life_in b)
-  pub linked : LinkedByBytes (flat_map runs_of a) (flat_map runs_of b)
+pub record TwoEnds (a b : OneEnd Flow MachineLife) : Type 0 where
+  pub lives_a : AllByRecursion (MayLive a.flow b.flow) a.lives
+  pub lives_b : AllByRecursion (MayLive b.flow a.flow) b.lives
+  pub chained_a : Chained [] [] (map life_in a.lives) a.outbox a.inbox
+  pub chained_b : Chained [] [] (map life_in b.lives) b.outbox b.inbox
+  pub outboxes_a : AllByRecursion (KeepsOutbox a.plan) (map life_in a.lives)
+  pub outboxes_b : AllByRecursion (KeepsOutbox b.plan) (map life_in b.lives)
+  pub linked : LinkedByBytes (flat_map runs_of a.lives) (flat_map runs_of b.lives)
+
+-- an end of the machine in the session model's words
+abbrev pub end_in : OneEnd Flow MachineLife → OneEnd model.Flow Life
+end_in e = record { flow = model_flow e.flow; plan = e.plan; lives = map life_in e.lives; outbox = e.outbox; inbox = e.inbox }
 
 -- they are a session of the session model
 abbrev pub SessionOfEnds : Type 0
-SessionOfEnds = (flow_a flow_b : Flow) (plan_a plan_b : ℕ → List (List ℕ) → List (List ℕ)) (a b : List MachineLife)
-    (outbox_a outbox_b : List OutboxRecord) (inbox_a inbox_b : List InboxRecord)
-    → TwoEnds flow_a flow_b plan_a plan_b a b outbox_a outbox_b inbox_a inbox_b
-    → Session (model_flow flow_a) (model_flow flow_b) plan_a plan_b (map life_in a) (map life_in b) outbox_a outbox_b inbox_a inbox_b
+SessionOfEnds = (a b : OneEnd Flow MachineLife) → TwoEnds a b → Session (end_in a) (end_in b)
 
 -- what an inbox holds of the outbox of the peer, by the kind of the peer's flow
 abbrev pub Holds : Flow → List Entry → List InboxRecord → Type 0
@@ -161,7 +162,4 @@ Holds flows.None outbox inbox = (applied inbox ≡ []) × (skips inbox ≡ [])
 
 -- so each inbox holds of the other's outbox what the session guarantee says
 abbrev pub EndsHold : Type 0
-EndsHold = (flow_a flow_b : Flow) (plan_a plan_b : ℕ → List (List ℕ) → List (List ℕ)) (a b : List MachineLife)
-    (outbox_a outbox_b : List OutboxRecord) (inbox_a inbox_b : List InboxRecord)
-    → TwoEnds flow_a flow_b plan_a plan_b a b outbox_a outbox_b inbox_a inbox_b
-    → Holds flow_a (entries outbox_a) inbox_b × Holds flow_b (entries outbox_b) inbox_a
+EndsHold = (a b : OneEnd Flow MachineLife) → TwoEnds a b → Holds a.flow (entries a.outbox) b.inbox × Holds b.flow (entries b.outbox) a.inbox

@@ -1,7 +1,9 @@
 -- Two ends that shake hands over one link: the premises of the laws can be met.
 use Rattle.std.specs.Prelude.{◌≡◌, true, [], ◌∷◌, length, Some, None}
 use Rattle.session_model.specs.Events.{announce, handshake}
+use Rattle.session_model.specs.Guarantee.{OneEnd}
 use Rattle.session_model.specs.Samples.{silence}
+use Rattle.fixp_msgs.specs.declared.flow.Flow.{Flow}
 use Rattle.fixp_msgs.specs.declared.flow.Flow.TheVariants as flows
 use Rattle.fixp_msgs.specs.Canonical.{frame_bytes}
 use Rattle.fixp_msgs.specs.declared.messages.Expected.TheVariants as expects
@@ -19,7 +21,15 @@ use Rattle.two_ends.specs.Meeting.{MachineLife, TwoEnds}
 
 -- the acceptor of that session, with the flows of the initiator turned round
 abbrev pub acceptor : EndConfig
-acceptor = record { role = roles.Acceptor; session = id; own_flow = flows.Idempotent; peer_flow = flows.Recoverable; keepalive = 1000; credentials = [] }
+acceptor = record {
+  role = roles.Acceptor;
+  session = id;
+  own_flow = flows.Idempotent;
+  peer_flow = flows.Recoverable;
+  keepalive = 1000;
+  credentials = [];
+  version = 0;
+}
 
 -- the session was negotiated, and nothing was sent or applied
 abbrev pub recorded : EndState
@@ -49,11 +59,15 @@ life_on_leg config leg = record {
   last = None;
 }
 
+-- an end of that one life, whose senders send nothing
+abbrev pub end_on_leg : EndConfig → Leg → OneEnd Flow MachineLife
+end_on_leg config leg = record { flow = config.own_flow; plan = silence; lives = life_on_leg config leg ∷ []; outbox = []; inbox = [] }
+
 abbrev pub course_on : EndConfig → Leg → Course
 course_on config leg = course_of (fresh config recorded 100) [] leg
 
 abbrev pub HandshakeSample : Type 0
 HandshakeSample =
-    TwoEnds flows.Recoverable flows.Idempotent silence silence (life_on_leg sample_config leg_a ∷ []) (life_on_leg acceptor leg_b ∷ []) [] [] [] []
+    TwoEnds (end_on_leg sample_config leg_a) (end_on_leg acceptor leg_b)
     × ((course_on sample_config leg_a).accepted ≡ announce handshake (Some 1) ∷ [])
     × ((course_on acceptor leg_b).accepted ≡ announce handshake (Some 1) ∷ [])
