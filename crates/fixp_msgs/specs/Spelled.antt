@@ -29,8 +29,10 @@ message_at version id block behind =
     if nat_eq id 1 then Message.negotiate (take 16 block) (u64_at 16 block) (u8_at 24 block) (datum_at behind)
     else if nat_eq id 2 then Message.negotiation_response (take 16 block) (u64_at 16 block) (u8_at 24 block) (datum_at behind)
     else if nat_eq id 3 then Message.negotiation_reject (take 16 block) (u64_at 16 block) (u8_at 24 block) (datum_at behind)
-    else if nat_eq id 4 then Message.establish (take 16 block) (u64_at 16 block) (u32_at 24 block) (optional_at 28 block) (expected_at version (u64_at 36 block)) (datum_at behind)
-    else if nat_eq id 5 then Message.establishment_ack (take 16 block) (u64_at 16 block) (u32_at 24 block) (optional_at 28 block) (expected_at version (u64_at 36 block))
+    else if nat_eq id 4 then Message.establish (take 16 block) (u64_at 16 block) (u32_at 24 block) (optional_at 28 block)
+    (expected_at version (u64_at 36 block)) (datum_at behind)
+    else if nat_eq id 5 then Message.establishment_ack (take 16 block) (u64_at 16 block) (u32_at 24 block) (optional_at 28 block)
+    (expected_at version (u64_at 36 block))
     else if nat_eq id 6 then Message.establishment_reject (take 16 block) (u64_at 16 block) (u8_at 24 block) (datum_at behind)
     else if nat_eq id 7 then Message.sequence (u64_at 0 block)
     else if nat_eq id 8 then Message.unsequenced_heartbeat

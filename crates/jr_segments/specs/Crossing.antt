@@ -11,7 +11,8 @@ use Rattle.jr_segments.specs.Resting.{Keeps, places_from}
 use Rattle.jr_segments.specs.Fronts.{all-append}
 
 -- the first of records that stand at the same places, and take as many bytes in all, takes as many
-same_first : (at : ℕ) (r s : Record) (rs ss : List Record) → places_from at (r ∷ rs) ≡ places_from at (s ∷ ss) → sizes (r ∷ rs) ≡ sizes (s ∷ ss) → record_size r ≡ record_size s
+same_first : (at : ℕ) (r s : Record) (rs ss : List Record) → places_from at (r ∷ rs) ≡ places_from at (s ∷ ss)
+    → sizes (r ∷ rs) ≡ sizes (s ∷ ss) → record_size r ≡ record_size s
 same_first at r s [] [] places all = omega (arith, all)
 same_first at r s [] (u ∷ ss) places all = absurd (cc)
 same_first at r s (t ∷ rs) [] places all = absurd (cc)
@@ -51,7 +52,8 @@ all_crossed : (P : Dated → Type 0) (n : ℕ) (h k : List Dated) → AllByRecur
 all_crossed P n h k all_h all_k = all-append P (take n h) (drop n k) (all_taken P n h all_h) (all_left P n k all_k)
 
 -- what is kept of both is kept of the two together
-pub keeps_crossed : (places : List ℕ) (size moment n : ℕ) (h k : List Dated) → Keeps places size moment h → Keeps places size moment k → Keeps places size moment (take n h ++ drop n k)
+pub keeps_crossed : (places : List ℕ) (size moment n : ℕ) (h k : List Dated) → Keeps places size moment h → Keeps places size moment k
+    → Keeps places size moment (take n h ++ drop n k)
 keeps_crossed places size moment n h k of_h of_k =
     let alike = crossed_alike n 16 h k (record { places = sym of_h.places_are ∙ of_k.places_are; bytes = omega (arith, of_h.sized, of_k.sized) }) in
     record {
@@ -66,13 +68,15 @@ crossed_same : (n : ℕ) (h k : List Dated) → h ≡ k → h ≡ take n h ++ dr
 crossed_same n h k same = sym (take-append-drop n h) ∙ ap (λ (ds : List Dated). take n h ++ drop n ds) same
 
 -- a content that is told is that of both
-pub told_crossed : (told : Option (List ℕ)) (n : ℕ) (h k : List Dated) → ForSome told (λ content. IsJournal content h) → ForSome told (λ content. IsJournal content k)
+pub told_crossed : (told : Option (List ℕ)) (n : ℕ) (h k : List Dated)
+    → ForSome told (λ content. IsJournal content h) → ForSome told (λ content. IsJournal content k)
     → ForSome told (λ content. IsJournal content (take n h ++ drop n k))
 told_crossed told n h k of_h of_k content is =
     subst (λ (ds : List Dated). IsJournal content ds) (crossed_same n h k (at_most_one_verdict.one_list content h k (of_h content is) (of_k content is))) (of_h content is)
 
 -- and where none is told, no image is left
-pub images_crossed : (told : Option (List ℕ)) (may_leave : List ℕ → Type 0) (n : ℕ) (h k : List Dated) → ((content : List ℕ) → told ≡ None → may_leave content → ⊥)
+pub images_crossed : (told : Option (List ℕ)) (may_leave : List ℕ → Type 0) (n : ℕ) (h k : List Dated)
+    → ((content : List ℕ) → told ≡ None → may_leave content → ⊥)
     → ForSome told (λ content. IsJournal content h) → ForSome told (λ content. IsJournal content k)
     → ((o : Option (List Dated)) → Leaves may_leave o → IsSomeAnd o (IsImage h []))
     → (o : Option (List Dated)) → Leaves may_leave o → IsSomeAnd o (IsImage (take n h ++ drop n k) [])

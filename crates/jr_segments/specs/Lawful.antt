@@ -10,13 +10,15 @@ use Rattle.jr_segments.specs.Resting.{Keeps}
 use Rattle.jr_segments.specs.Fronts.{length-places_from, length-undated}
 
 -- as many records as places, and its size
-pub counted_by : (places : List ℕ) (size moment : ℕ) (h : List Dated) → Keeps places size moment h → (length h ≡ length places) × (journal_size (undated h) ≡ size)
+pub counted_by : (places : List ℕ) (size moment : ℕ) (h : List Dated) → Keeps places size moment h
+    → (length h ≡ length places) × (journal_size (undated h) ≡ size)
 counted_by places size moment h keeps = (sym (ap length keeps.places_are ∙ length-places_from 16 (undated h) ∙ length-undated h), keeps.sized)
 
 pub few_by : (count size : ℕ) → 2 * count + 17 ≤ size → size ≤ 2 ^ 41 → count < 2 ^ 40
 few_by count size counted small = omega arith
 
 -- one list, where a content is told
-pub one_by : (told : Option (List ℕ)) (h k : List Dated) → is_some told ≡ true → ForSome told (λ content. IsJournal content h) → ForSome told (λ content. IsJournal content k) → h ≡ k
+pub one_by : (told : Option (List ℕ)) (h k : List Dated) → is_some told ≡ true
+    → ForSome told (λ content. IsJournal content h) → ForSome told (λ content. IsJournal content k) → h ≡ k
 one_by None h k some is_h is_k = absurd (false≢true some)
 one_by (Some content) h k some is_h is_k = at_most_one_verdict.one_list content h k (is_h content refl) (is_k content refl)

@@ -40,7 +40,8 @@ LacksHeader format first (Damaged at) = ⊥
 abbrev pub IsFront : Format → List ℕ → Front → Type 0
 IsFront format bytes front.Closed = IsClosed bytes
 IsFront format bytes front.Damaged = Breaks (LegalIn format) (spelled_in format) bytes
-IsFront format bytes (front.Found r moment) = LegalIn format (stamped moment r) × (behind : List ℕ) × (bytes ≡ 1 ∷ (spelled_in format (stamped moment r) ++ behind))
+IsFront format bytes (front.Found r moment) = LegalIn format (stamped moment r)
+    × (behind : List ℕ) × (bytes ≡ 1 ∷ (spelled_in format (stamped moment r) ++ behind))
 
 -- records were taken from the front of bytes at this place, and noted, and these are left
 pub record Takes (format : Format) (held : List ℕ) (at : ℕ) (old new : Index) (rest : List ℕ) : Type 0 where
