@@ -78,6 +78,7 @@ fn acceptor_config(settings: Settings) -> EndConfig
         peer_flow: Flow::Unsequenced,
         keepalive,
         credentials,
+        version: 0,
     }
 }
 

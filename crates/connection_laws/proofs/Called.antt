@@ -27,6 +27,7 @@ use Rattle.fixp_replies.specs.Outcomes.{Outcome, breaks}
 use Rattle.fixp_replies.specs.Replies.{reply_of}
 use Rattle.fixp_machine.specs.Sound.{WithinMost, KeepsSound}
 use Rattle.fixp_machine.specs.Machine.{State, Call, begin, frame, bad_frame, did, tick, turn_done, closed, link_end, live, again, taken, reserve, around, bytes_of, wrote, made, to_tell, reply_applied, broken_by, done_pending, served_again, rest_of, step, StaysSound}
+use Rattle.fixp_machine.proofs.Expecting.{kept}
 use Rattle.fixp_machine.proofs.Keeping.{sound_goes_on}
 use Rattle.connection_laws.specs.Framed.{IsLegalPiece}
 use Rattle.connection_laws.specs.Writing.{said_all, entries, said_with, said_breaking, range_closed, written_again, writes}
@@ -245,7 +246,7 @@ applied_ranged s base o now config most untold r k =
 
 -- a connection that ends as a rule is broken
 broken_ranged : (s : State) (v : Violation) (now : ℕ) → StaysSound s → KeepsSound s.config s.most s.facts (breaks (around s 0 now) s.facts v)
-broken_ranged s v now sound = record { next = sound.facts; sent = refl; advances = refl; within = tt; writes = (record { opening = λ t. absurd (true≢false (sym t)); writable = record { numbers = (tt, (tt, tt)); datum = omega arith } }, tt) }
+broken_ranged s v now sound = record { next = sound.facts; sent = kept s.config s.facts s.facts refl; advances = refl; within = tt; writes = (record { opening = λ t. absurd (true≢false (sym t)); writable = record { numbers = (tt, (tt, tt)); datum = omega arith } }, tt) }
 
 either : (P : State → Type 0) (b : Bool) (first second : State) → P first → P second → P (if b then first else second)
 either P true first second p q = p
@@ -264,7 +265,7 @@ ranged_step h s (begin now) sound r may fits = absurd may.comes
 ranged_step h s (frame i at now) sound r may fits =
     either Ranged (is_record o.act) (record s { moment = now; last_received = now; room = s.room - 1; pending = Some o }) (reply_applied got o now)
     (record { range = in_range s (record s { moment = now; last_received = now; room = s.room - 1; pending = Some o }) refl refl r.range r.range.next; untold = r.untold; pending = legal_reply (around s at now) s.facts i (ready s at now sound r fits.1) sound.facts fits.0 })
-    (applied_ranged s got o now refl refl refl r (sound_goes_on (around s at now) s.facts i sound.facts))
+    (applied_ranged s got o now refl refl refl r (sound_goes_on (around s at now) s.facts i sound.most sound.facts))
   where
     o : Outcome
     o = reply_of (around s at now) s.facts i
@@ -273,7 +274,7 @@ ranged_step h s (frame i at now) sound r may fits =
     got = record s { moment = now; last_received = now; room = s.room - 1 }
 ranged_step h s (bad_frame at now) sound r may fits =
     applied_ranged s (record s { moment = now; last_received = now }) (breaks (around s at now) s.facts (BadFrame at)) now refl refl refl r
-    (record { next = sound.facts; sent = refl; advances = refl; within = tt; writes = (record { opening = λ t. absurd (true≢false (sym t)); writable = record { numbers = (tt, (tt, tt)); datum = omega arith } }, tt) })
+    (record { next = sound.facts; sent = kept s.config s.facts s.facts refl; advances = refl; within = tt; writes = (record { opening = λ t. absurd (true≢false (sym t)); writable = record { numbers = (tt, (tt, tt)); datum = omega arith } }, tt) })
 ranged_step h s (did now) sound r may fits = by_pending s.pending sound.pending
   where
     by_pending : (p : Option Outcome) → IfSome p (λ o. KeepsSound s.config s.most s.facts o) → Ranged (done_pending s p now)

@@ -36,12 +36,13 @@ use Rattle.fixp_machine.proofs.Calls.{begun_as}
 use Rattle.fixp_machine.specs.Accepting as accepting
 use Rattle.fixp_machine.specs.Accepting.{model_flow, event_of, records_of, Agrees, GrowsBy, told_in, turn_end, outbox_finish}
 use Rattle.fixp_machine.proofs.Growing.{quiet_grows, unmoved}
-use Rattle.fixp_machine.proofs.Accepted.{accepted_frame_grows, refused_frame_spares, frame_tells, begins_agreeing, own_keeps_agreeing, alike, is_done}
-use Rattle.connection_laws.specs.Writing.{events_in, written_again, said_with, Piece, said, said_all, entries, bytes_written, events_written, ranges_told, said_breaking, range_closed, is_reached, SameOwn, nothing, shakes, resends, WritesOwn, HearsHandshake}
+use Rattle.fixp_machine.proofs.Accepted.{accepted_frame_grows, refused_frame_spares, frame_tells, begins_agreeing, own_keeps_agreeing, alike}
+use Rattle.fixp_machine.proofs.Tests.{is_done}
+use Rattle.connection_laws.specs.Writing.{events_in, written_again, said_with, Piece, said, said_all, entries, bytes_written, events_written, ranges_told, said_breaking, range_closed, is_reached, SameOwn, nothing, shakes, returns, resends, WritesOwn, HearsHandshake}
 use Rattle.connection_laws.specs.Courses.{Waiting, Course, inbox_of, reply_to, accepted_by, still_waiting, next_done, next_course}
 use Rattle.connection_laws.specs.Standing.{number_at, OwnFlow, Stands, AreEntries, IsOpen, MayGoLive, MayGoAgain, ConnectionBegins, BeginsAgain, CallKeeps, CallsKeep, StandsLonger, WaitingGrows}
 use Rattle.connection_laws.proofs.Replied.{still_own, frame_writes, frame_hears}
-use Rattle.connection_laws.proofs.Owned.{stays_own, shakes_own, announces_own, replies_own, entries_reach, entries_own, longer_own}
+use Rattle.connection_laws.proofs.Owned.{stays_own, shakes_own, announces_own, returning, replies_own, entries_reach, entries_own, longer_own}
 use Rattle.connection_laws.proofs.Pieces.{bytes_said, events_said, told_said, bytes_entries, events_entries, told_entries}
 
 -- the frame that waits stays, where its outcome stays pending
@@ -135,6 +136,7 @@ frame_grows s w c inbox a = by_test (reply_to s w).accepted refl
 stays_shaken : (x : Around) (f : Facts) (o : Outcome) → WritesOwn x f o → is_shaken f.connection.phase ≡ true → is_shaken o.next.connection.phase ≡ true
 stays_shaken x f o (nothing none same) t = same.stays t
 stays_shaken x f o (shakes s) t = absurd (true≢false (sym t ∙ s.before))
+stays_shaken x f o (returns r) t = (returning x f o.next r.may).done
 stays_shaken x f o (resends r) t = r.stays
 
 begins_more : (es more : List Event) → 1 ≤ length es → BeginsWithHandshake es → BeginsWithHandshake (es ++ more)
@@ -427,7 +429,7 @@ turns_quietly x f runs = by_test (is_initiator x.config.role) (is_established f.
         )
     by_closing true e =
         let q = applied_quietly runs in record {
-          own = record { sent = refl; serving = refl; stays = λ _. refl; reached = λ _. or_right (is_establishing f.connection.phase) (is_shaken f.connection.phase) (is_done f.connection.phase (e refl)) };
+          own = record { sent = refl; serving = refl; stays = λ _. refl; reached = λ _. or_right (is_establishing f.connection.phase) (is_shaken f.connection.phase) (is_done f.connection.phase (e refl)); idle = λ t. absurd (true≢false (sym t)) };
           same = sym (is_done f.connection.phase (e refl));
           events = flat_map-append _ (applied_runs runs) (terminate x.config.session 1 [] ∷ []) ∙ (append-nil (events_in (applied_runs runs)) ∙ q.0);
           told = flat_map-append _ (applied_runs runs) (terminate x.config.session 1 [] ∷ []) ∙ (append-nil (told_in (applied_runs runs)) ∙ q.1);
@@ -454,8 +456,8 @@ finishes_quietly x f last = by_test (tells_finish x f last)
         then record { written = finished_sending x.config.session (if is_sequenced x.config.own_flow then Some last else None) ∷ []; next = own_finishing (outbox_finished f last) finishes.Told }
         else record { written = []; next = outbox_finished f last }
         )
-    by_test true = record { own = record { sent = refl; serving = refl; stays = λ t. t; reached = λ t. t }; same = refl; events = refl; told = refl }
-    by_test false = record { own = record { sent = refl; serving = refl; stays = λ t. t; reached = λ t. t }; same = refl; events = refl; told = refl }
+    by_test true = record { own = record { sent = refl; serving = refl; stays = λ t. t; reached = λ t. t; idle = λ t. t }; same = refl; events = refl; told = refl }
+    by_test false = record { own = record { sent = refl; serving = refl; stays = λ t. t; reached = λ t. t; idle = λ t. t }; same = refl; events = refl; told = refl }
 
 -- what is made takes effect
 made_moves : (h : List Entry) (c : Course) (s : State) (m : Made) (now : ℕ) → Stands h c → c.state.pending ≡ None → Quiet c.state.facts m
@@ -517,7 +519,7 @@ finishing h c last now st none = moved h c (after_closed c.state last now) (stil
 
     by_test : (b : Bool) → Moves h c (if b then ended else told) (still_waiting (if b then ended else told).pending c.waiting) (if b then [] else said_all m.written)
     by_test true = made_moves h c ended (record { written = []; next = outbox_finished c.state.facts last }) now st none
-        (record { own = record { sent = refl; serving = refl; stays = λ t. t; reached = λ t. t }; same = refl; events = refl; told = refl })
+        (record { own = record { sent = refl; serving = refl; stays = λ t. t; reached = λ t. t; idle = λ t. t }; same = refl; events = refl; told = refl })
         (alike c.state.config.peer_flow (standing None c.accepted) c.state.facts (outbox_finished c.state.facts last) (inbox_of c) st.agrees refl refl refl refl refl)
         refl st.begun refl refl (sym (append-nil c.state.unsent))
     by_test false = made_moves h c told m now st none (finishes_quietly x c.state.facts last)
@@ -647,6 +649,7 @@ fresh_own own h recorded phase enough e = record {
   enough = enough;
   handshakes = tt;
   opening = λ _. tt;
+  unopened = λ _. refl;
   free = λ _. refl;
   reached = λ t. absurd (true≢false (sym t ∙ e));
   served = λ _. refl;
@@ -670,7 +673,7 @@ opens x h recorded enough = by_role (is_initiator x.config.role) recorded.negoti
     by_role false negotiated = record { own = fresh_own x.config.own_flow h recorded phases.Idle enough refl; told = refl; shaking = refl }
     by_role true false = record { own = fresh_own x.config.own_flow h recorded phases.Negotiating enough refl; told = refl; shaking = refl }
     by_role true true = record {
-      own = shakes_own x.config.own_flow h recorded.sent (connecting recorded phases.Negotiating) (connecting recorded phases.Establishing) [] refl refl refl
+      own = shakes_own x.config.own_flow h recorded.sent (connecting recorded phases.Negotiating) (connecting recorded phases.Establishing) [] refl refl refl refl
           (fresh_own x.config.own_flow h recorded phases.Negotiating enough refl);
       told = refl;
       shaking = refl;

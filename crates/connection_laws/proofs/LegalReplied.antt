@@ -1,5 +1,5 @@
 -- What a reply writes is legal, row by row.
-use Rattle.std.proofs.Common.{◌≡◌, ◌≤◌, ◌<◌, ◌+◌, ◌-◌, ◌*◌, ◌^◌, ℕ, min, max, nat_lt, Bool, true, false, ◌&&◌, not, if◌then◌else◌, List, [], ◌∷◌, length, Option, Some, None, IfSome, refl, sym, ap, subst, ◌∙◌, arith}
+use Rattle.std.proofs.Common.{◌≡◌, ◌≤◌, ◌<◌, ◌+◌, ◌-◌, ◌*◌, ◌^◌, ℕ, min, max, nat_lt, Bool, true, false, ◌&&◌, ◌||◌, ◌==◌, not, if◌then◌else◌, List, [], ◌∷◌, ◌++◌, length, Option, Some, None, IfSome, refl, sym, ap, subst, ◌∙◌, arith}
 use Rattle.std.specs.Prelude.{is_some, is_none, unwrap_or, Ok, Err}
 use Rattle.std.specs.List.{AllByRecursion}
 use Rattle.std.proofs.Math.Nat.{min-le_left}
@@ -7,7 +7,8 @@ use Rattle.std.proofs.lemmas.Bool.{ltb-true}
 use Rattle.session_model.proofs.Lists.{all_append}
 use Rattle.fixp_msgs.specs.Canonical.{IsLegal, FitsField}
 use Rattle.fixp_msgs.specs.Flow.{flow_code}
-use Rattle.fixp_msgs.specs.declared.messages.Expected.TheVariants as expects
+use Rattle.fixp_msgs.specs.declared.messages.Expected.{Expected}
+use Rattle.fixp_msgs.specs.declared.messages.Expected.TheVariants.{Absent, Null, Number}
 use Rattle.fixp_msgs.specs.Message.{Message, negotiate, negotiation_response, negotiation_reject, establish, establishment_ack, establishment_reject, sequence, unsequenced_heartbeat, retransmit_request, retransmission, retransmit_reject, applied, not_applied, finished_sending, finished_receiving, terminate}
 use Rattle.fixp_msgs.specs.Table.{Field, null}
 use Rattle.fixp_msgs.specs.declared.flow.Flow.{Flow}
@@ -29,6 +30,7 @@ use Rattle.fixp_replies.specs.declared.act.Act.{Act}
 use Rattle.fixp_replies.specs.declared.act.Act.TheVariants as acts
 use Rattle.fixp_replies.specs.declared.act.Ending.{Ending}
 use Rattle.fixp_replies.specs.declared.act.Ending.TheVariants as endings
+use Rattle.fixp_replies.specs.declared.facts.EndState.{EndState}
 use Rattle.fixp_replies.specs.declared.facts.Facts.{Facts}
 use Rattle.fixp_replies.specs.declared.facts.PeerFinish.TheVariants as peer
 use Rattle.fixp_replies.specs.declared.facts.OwnFinish.TheVariants as own
@@ -36,14 +38,17 @@ use Rattle.fixp_replies.specs.Incoming.{Incoming, application, session, wrong_or
 use Rattle.fixp_replies.specs.Facts.{Around, is_own, in_phase, requesting, serves, negotiated as as_negotiated, awaiting, gap_to_ask, having_asked, announced_number}
 use Rattle.fixp_replies.specs.Outcomes.{Outcome, row, goes_on, accepts, ignores, ends, breaks, not_in_phase, request_for, skip_of, told_skip, opening_negotiate, opening_establish}
 use Rattle.fixp_replies.specs.Announcing.{Announced, announced, refuses}
-use Rattle.fixp_replies.specs.Handshake.{awaits_client, serves_client, rejects_negotiate, rejects_establish, established, acknowledges, establish_rows, established_again_rows, establish_rows_in, shaken}
+use Rattle.fixp_replies.specs.Handshake.{awaits_client, serves_client, rejects_negotiate, rejects_establish, established, acknowledges, establish_rows, established_again_rows, establish_rows_in, shaken, reached}
+use Rattle.fixp_replies.specs.Expecting.{is_newer, is_present, number_in, told_next, answers_next, takes, returned, told_return, softened}
 use Rattle.fixp_replies.specs.Flowing.{bad_retransmission, counted, taken_as, finish_act, peer_finished, restarted, answers_finish, is_filled, is_past_finish, sequence_taken, sequence_follows, finished_last, finish_fault}
 use Rattle.fixp_replies.specs.Serving.{request_answered, own_finishing}
 use Rattle.fixp_replies.specs.Replies.{template_of, rows_of, answer_of, terminates, reply_of}
 use Rattle.fixp_machine.specs.Sound.{Sound, Advances, WithinMost, KeepsSound}
 use Rattle.fixp_machine.proofs.Rows.{AllRows, by_row, all_rows, all_within, announced_rows, own_rows}
 use Rattle.fixp_machine.proofs.Keeping.{sound_goes_on}
+use Rattle.fixp_machine.proofs.Expecting.{taken}
 use Rattle.connection_laws.specs.Ranges.{FitsMessage, FitsIncoming}
+use Rattle.connection_laws.proofs.Replied.{untouched}
 
 abbrev pub AllLegal : List Message → Type 0
 AllLegal ms = AllByRecursion IsLegal ms
@@ -69,6 +74,22 @@ fits_announced x f small = by_flow (is_sequenced x.config.own_flow)
     by_flow true = omega (arith, small)
     by_flow false = tt
 
+-- the number that it tells to expect
+fits_told : (x : Around) (f : Facts) → f.recorded.inbox_next ≤ x.most + 1 → x.most + 1 < 2 ^ 32 → FitsField (Field.expected (told_next x f))
+fits_told x f low small = by_tests (is_newer x.config) (is_recoverable x.config.peer_flow)
+  where
+    by_tests : (a b : Bool) → FitsField (Field.expected (if not a then Absent else if b then Number f.recorded.inbox_next else Null))
+    by_tests false b = tt
+    by_tests true true = omega (arith, low, small)
+    by_tests true false = tt
+
+fits_answer : (x : Around) (e : Expected) (f : Facts) → f.recorded.inbox_next ≤ x.most + 1 → x.most + 1 < 2 ^ 32 → FitsField (Field.expected (answers_next x e f))
+fits_answer x e f low small = by_test (is_present e)
+  where
+    by_test : (b : Bool) → FitsField (Field.expected (if b then told_next x f else Absent))
+    by_test true = fits_told x f low small
+    by_test false = tt
+
 fits_flow : (flow : Flow) → flow_code flow < 2 ^ 8
 fits_flow flows.Recoverable = omega arith
 fits_flow flows.Idempotent = omega arith
@@ -82,7 +103,7 @@ pub legal_negotiate : (x : Around) (f : Facts) → Ready x f → IsLegal (openin
 legal_negotiate x f r = record { fields = (r.session, (fits_moment x f r, (fits_flow x.config.own_flow, tt))); datum = r.credentials }
 
 pub legal_establish : (x : Around) (f : Facts) → Ready x f → IsLegal (opening_establish x f)
-legal_establish x f r = record { fields = (r.session, (fits_moment x f r, (r.keepalive, (fits_announced x f r.sent, (tt, tt))))); datum = r.credentials }
+legal_establish x f r = record { fields = (r.session, (fits_moment x f r, (r.keepalive, (fits_announced x f r.sent, (fits_told x f r.next r.most, tt))))); datum = r.credentials }
 
 legal_skip : (x : Around) (f : Facts) (s : Option Range) → Ready x f → WithinMost x.most (skip_of s) → AllLegal (told_skip s)
 legal_skip x f None r within = tt
@@ -108,7 +129,7 @@ few_asked c = omega (arith, min-le_left 256 c)
 
 legal_request : (x : Around) (f next : Facts) → Ready x f → Sound x.config (having_asked next (gap_to_ask next)) → (having_asked next (gap_to_ask next)).recorded.inbox_next ≤ x.most + 1
     → AllLegal (request_for x (gap_to_ask next))
-legal_request x f next r s bound = by_test (is_none (request_is.outstanding next.connection.requester)) (nat_lt v.next v.live) refl
+legal_request x f next r s bound = by_tests next.connection.soft (is_some (request_is.outstanding next.connection.requester)) (nat_lt v.next v.live) refl
   where
     v : receiver_is.Receiving
     v = next.connection.receiver
@@ -126,10 +147,11 @@ legal_request x f next r s bound = by_test (is_none (request_is.outstanding next
         by_flow true rec = omega (arith, ap (λ (w : receiver_is.Receiving). w.next) (sym same) ∙ s.waits rec, bound)
         by_flow false rec = absurd (omega (arith, ltb-true v.next v.live e, ap (λ (w : receiver_is.Receiving). w.live) (sym same) ∙ (s.even rec ∙ ap (λ (w : receiver_is.Receiving). w.next) same)))
 
-    by_test : (a b : Bool) → nat_lt v.next v.live ≡ b → AllLegal (request_for x (if a then (if b then Some (record { from = v.next; count = v.live - v.next }) else None) else None))
-    by_test true true e = (record { fields = (r.session, (fits_moment x f r, (omega (arith, low e, r.most), (few_asked (v.live - v.next), tt)))); datum = tt }, tt)
-    by_test true false e = tt
-    by_test false b e = tt
+    by_tests : (a b c : Bool) → nat_lt v.next v.live ≡ c → AllLegal (request_for x (if a || b then None else if c then Some (record { from = v.next; count = v.live - v.next }) else None))
+    by_tests false false true e = (record { fields = (r.session, (fits_moment x f r, (omega (arith, low e, r.most), (few_asked (v.live - v.next), tt)))); datum = tt }, tt)
+    by_tests false false false e = tt
+    by_tests false true c e = tt
+    by_tests true b c e = tt
 
 -- what an outcome writes is legal, where the law of sound facts holds of it
 abbrev Legal : Around → Facts → Outcome → Type 0
@@ -184,33 +206,54 @@ rejecting_negotiate x f id timestamp code own time small k = (record { fields = 
 rejecting_establish : (x : Around) (f : Facts) (id : List ℕ) (timestamp code : ℕ) → length id ≡ 16 → timestamp < 2 ^ 64 → code < 2 ^ 8 → Legal x f (rejects_establish f id timestamp code)
 rejecting_establish x f id timestamp code own time small k = (record { fields = (own, (time, (small, tt))); datum = omega arith }, tt)
 
-acknowledging : (x : Around) (f : Facts) (timestamp keepalive : ℕ) (a : Announced) → Ready x f → timestamp < 2 ^ 64 → Legal x f (acknowledges x timestamp keepalive a)
-acknowledging x f timestamp keepalive a r time =
-    goes x f (skip_of a.skipped) (establishment_ack x.config.session timestamp x.config.keepalive (announced_number x a.facts) expects.Absent ∷ told_skip a.skipped) (established a.facts keepalive) r (λ k. (
-      record { fields = (r.session, (time, (r.keepalive, (fits_announced x a.facts (small k), (tt, tt))))); datum = tt },
+acknowledging : (x : Around) (f : Facts) (timestamp keepalive : ℕ) (e : Expected) (a : Announced) → Ready x f → timestamp < 2 ^ 64 → Legal x f (acknowledges x timestamp keepalive e a)
+acknowledging x f timestamp keepalive e a r time =
+    goes x f (skip_of a.skipped) (establishment_ack x.config.session timestamp x.config.keepalive (announced_number x g) (answers_next x e g) ∷ told_skip a.skipped) after r (λ k. (
+      record { fields = (r.session, (time, (r.keepalive, (fits_announced x g (small k), (fits_answer x e g (low k) r.most, tt))))); datum = tt },
       legal_skip x f a.skipped r k.within,
     ))
   where
-    asked_sent : (g : Option Range) → (having_asked (established a.facts keepalive) g).recorded.sent ≡ a.facts.recorded.sent
-    asked_sent None = refl
-    asked_sent (Some g) = refl
+    g : Facts
+    g = returned x a.facts e
 
-    small : KeepsSound x.config x.most f (acknowledges x timestamp keepalive a) → a.facts.recorded.sent < 2 ^ 40
-    small k = subst (λ (n : ℕ). n < 2 ^ 40) (asked_sent (gap_to_ask (established a.facts keepalive))) k.next.sent
+    after : Facts
+    after = established (softened x e g) keepalive
 
-establish_all : (x : Around) (f : Facts) (id : List ℕ) (timestamp keepalive : ℕ) (next : Option ℕ) (credentials : List ℕ) → Ready x f → length id ≡ 16 → timestamp < 2 ^ 64
-    → AllRows (Legal x f) (establish_rows_in x f id timestamp keepalive next credentials)
-establish_all x f id timestamp keepalive next credentials r own time = by_place (awaits_client x f) (serves_client x f)
+    asked_recorded : (q : Option Range) → (having_asked after q).recorded ≡ g.recorded
+    asked_recorded None = refl
+    asked_recorded (Some q) = refl
+
+    small : KeepsSound x.config x.most f (acknowledges x timestamp keepalive e a) → g.recorded.sent < 2 ^ 40
+    small k = subst (λ (s : EndState). s.sent < 2 ^ 40) (asked_recorded (gap_to_ask after)) k.next.sent
+
+    low : KeepsSound x.config x.most f (acknowledges x timestamp keepalive e a) → g.recorded.inbox_next ≤ x.most + 1
+    low k = subst (λ (s : EndState). s.inbox_next ≤ x.most + 1) (asked_recorded (gap_to_ask after))
+        (advanced (skip_of a.skipped) x.most f.recorded.inbox_next (having_asked after (gap_to_ask after)).recorded.inbox_next r.next k.advances k.within)
+
+-- Establish was acknowledged: the number that the peer expects is one past what was sent at most
+reaching : (x : Around) (f : Facts) (keepalive : ℕ) (e : Expected) (a : Announced) → Ready x f → a.facts.recorded.sent ≡ f.recorded.sent → Legal x f (reached x keepalive e a)
+reaching x f keepalive e a r same =
+    goes x f (skip_of a.skipped) (told_skip a.skipped ++ told_return x a.facts e) (established (returned x a.facts e) (min 60000 (max 100 keepalive))) r (λ k.
+    all_append IsLegal (told_skip a.skipped) (told_return x a.facts e) (legal_skip x f a.skipped r k.within) (by_tests (takes x a.facts e) (number_in e == a.facts.recorded.sent + 1) refl))
+  where
+    by_tests : (t c : Bool) → takes x a.facts e ≡ t → AllLegal (if t && not c then sequence (number_in e) ∷ [] else [])
+    by_tests true false is = (record { fields = (omega (arith, (taken x a.facts e is).high, same, r.sent), tt); datum = tt }, tt)
+    by_tests true true is = tt
+    by_tests false c is = tt
+
+establish_all : (x : Around) (f : Facts) (id : List ℕ) (timestamp keepalive : ℕ) (next : Option ℕ) (expected : Expected) (credentials : List ℕ) → Ready x f → length id ≡ 16 → timestamp < 2 ^ 64
+    → AllRows (Legal x f) (establish_rows_in x f id timestamp keepalive next expected credentials)
+establish_all x f id timestamp keepalive next expected credentials r own time = by_place (awaits_client x f) (serves_client x f)
   where
     by_place : (a b : Bool)
-        → AllRows (Legal x f) (if a then establish_rows x f id timestamp keepalive next credentials else if b then established_again_rows x f id timestamp else [])
+        → AllRows (Legal x f) (if a then establish_rows x f id timestamp keepalive next expected credentials else if b then established_again_rows x f id timestamp else [])
     by_place true b = (
       λ _. rejecting_establish x f id timestamp 2 own time (omega arith),
       λ _. (
         λ _. rejecting_establish x f id timestamp 5 own time (omega arith),
         λ _. (
           λ _. rejecting_establish x f id timestamp 6 own time (omega arith),
-          λ _. announced_rows (Legal x f) x f 4 next (acknowledges x timestamp keepalive) (refusing x f f r) (λ _. acknowledging x f timestamp keepalive (announced x f next) r time),
+          λ _. announced_rows (Legal x f) x f 4 next (acknowledges x timestamp keepalive expected) (refusing x f f r) (λ _. acknowledging x f timestamp keepalive expected (announced x f next) r time),
         ),
       ),
     )
@@ -268,11 +311,11 @@ session_rows x f (negotiation_response id timestamp flow credentials) r m =
     own_rows (Legal x f) x f 2 id _ (λ e. ending x f f 2 e r (omega arith)) (all_within (Legal x f) (is_negotiating f.connection.phase) _ (λ _. (λ _. breaking x f f _ r, λ _. (λ _. shaking x f r, λ _. tt))))
 session_rows x f (negotiation_reject id timestamp code reason) r m =
     own_rows (Legal x f) x f 3 id _ (λ e. ending x f f 2 e r (omega arith)) (all_within (Legal x f) (is_negotiating f.connection.phase) _ (λ _. (λ _. shaking x f r, λ _. (λ _ _. tt, λ _. tt))))
-session_rows x f (establish id timestamp keepalive next expected credentials) r m = establish_all x f id timestamp keepalive next credentials r m.0 m.1.0
+session_rows x f (establish id timestamp keepalive next expected credentials) r m = establish_all x f id timestamp keepalive next expected credentials r m.0 m.1.0
 session_rows x f (establishment_ack id timestamp keepalive next expected) r m =
     own_rows (Legal x f) x f 5 id _ (λ e. ending x f f 2 e r (omega arith)) (all_within (Legal x f) (is_establishing f.connection.phase) _ (λ _.
-    announced_rows (Legal x f) x f 5 next (λ (a : Announced). goes_on x (skip_of a.skipped) (told_skip a.skipped) (established a.facts (min 60000 (max 100 keepalive)))) (refusing x f f r)
-    (λ _. skipping x f (announced x f next).skipped (established (announced x f next).facts (min 60000 (max 100 keepalive))) r)))
+    announced_rows (Legal x f) x f 5 next (reached x keepalive expected) (refusing x f f r)
+    (λ _. reaching x f keepalive expected (announced x f next) r (untouched x f next).sent)))
 session_rows x f (establishment_reject id timestamp code reason) r m =
     own_rows (Legal x f) x f 6 id _ (λ e. ending x f f 2 e r (omega arith)) (all_within (Legal x f) (is_establishing f.connection.phase) _ (λ _. (
       λ _. goes x f acts.Nothing (opening_negotiate x ∷ []) (in_phase f phases.Negotiating) r (λ _. (legal_negotiate x f r, tt)),
@@ -321,4 +364,4 @@ legal_reply x f i r s fits =
     by_row (Legal x f) (is_closing f.connection.phase && not (terminates x i)) (ignores f) (answer_of x f i)
     (λ _ _. tt)
     (λ _. all_rows (Legal x f) (not_in_phase x f (template_of i)) (rows_of x f i) (breaking x f f _ r) (each_row x f i r fits))
-    (sound_goes_on x f i s)
+    (sound_goes_on x f i (omega (arith, r.most)) s)

@@ -1,5 +1,5 @@
 -- What each piece that is written makes of the own flow.
-use Rattle.std.proofs.Common.{◌≡◌, ℕ, ◌+◌, ◌-◌, ◌≤◌, ◌<◌, ◌||◌, Bool, true, false, if◌then◌else◌, List, [], ◌∷◌, ◌++◌, map, length, take, get_or, slice_get, Option, Some, None, refl, sym, ap, subst, ◌∙◌, arith, append-nil, length-append, true≢false}
+use Rattle.std.proofs.Common.{◌≡◌, ℕ, ◌+◌, ◌-◌, ◌≤◌, ◌<◌, ◌||◌, ◌&&◌, not, Bool, true, false, if◌then◌else◌, List, [], ◌∷◌, ◌++◌, map, length, take, get_or, slice_get, Option, Some, None, refl, sym, ap, subst, ◌∙◌, arith, append-nil, length-append, true≢false}
 use Rattle.std.specs.List.{AllByRecursion}
 use Rattle.std.proofs.lemmas.List.{length-take, take-take, take-map, get_or-take, take-append-le}
 use Rattle.std.proofs.lemmas.Option.{slice_get_within, slice_get_read, get_or_from_slice_get}
@@ -14,11 +14,14 @@ use Rattle.session_model.proofs.Truth.{true_splits, true_stays_true, rising_goes
 use Rattle.fixp_msgs.specs.declared.flow.Flow.{Flow}
 use Rattle.fixp_msgs.specs.declared.flow.Flow.TheVariants as flows
 use Rattle.fixp_shake.specs.Flows.{is_recoverable, is_sequenced, is_absent}
-use Rattle.fixp_shake.specs.Phases.{is_establishing, is_shaken}
+use Rattle.fixp_shake.specs.Phases.{is_idle, is_establishing, is_shaken}
+use Rattle.fixp_machine.specs.Sound.{may_return}
+use Rattle.fixp_machine.proofs.Tests.{not_opened}
+use Rattle.fixp_replies.specs.Expecting.{is_newer}
 use Rattle.fixp_replies.specs.declared.facts.Facts.{Facts}
 use Rattle.fixp_replies.specs.Facts.{Around}
 use Rattle.fixp_replies.specs.Outcomes.{Outcome}
-use Rattle.connection_laws.specs.Writing.{events_in, SameOwn, WritesOwn, nothing, shakes, resends}
+use Rattle.connection_laws.specs.Writing.{events_in, SameOwn, Shakes, WritesOwn, nothing, shakes, returns, resends}
 use Rattle.connection_laws.specs.Standing.{number_told, number_at, next_written, to_stand, OwnFlow, AreEntries}
 
 same_next : (f g : Facts) → g.recorded.sent ≡ f.recorded.sent → g.connection.serving ≡ f.connection.serving → next_written g ≡ next_written f
@@ -48,6 +51,7 @@ stays_own own h before f g written same o = record {
   enough = subst (λ k. k ≤ length h) (sym same.sent) o.enough;
   handshakes = o.handshakes;
   opening = λ n. subst (λ k. AllByRecursion (λ (e : Event). e ≡ announce handshake k) written) (sym (told_same own f g same.sent)) (o.opening (not_yet f g same n));
+  unopened = λ t. o.unopened (same.idle t);
   free = λ n. same.serving ∙ o.free (not_yet f g same n);
   reached = λ t. o.reached (same.reached t);
   served = λ r. same.serving ∙ o.served r;
@@ -72,10 +76,10 @@ numbered_told : (own : Flow) (f : Facts) → is_sequenced own ≡ true → numbe
 numbered_told own f t = ap (λ (b : Bool). if b then Some (f.recorded.sent + 1) else None) t
 
 -- the handshake's announcement
-pub shakes_own : (own : Flow) (h : List Entry) (before : ℕ) (f g : Facts) (written : List Event) → is_shaken f.connection.phase ≡ false
+pub shakes_own : (own : Flow) (h : List Entry) (before : ℕ) (f g : Facts) (written : List Event) → is_shaken f.connection.phase ≡ false → is_idle g.connection.phase ≡ false
     → g.recorded.sent ≡ f.recorded.sent → g.connection.serving ≡ f.connection.serving → OwnFlow own h before f written
     → OwnFlow own h before g (written ++ announce handshake (number_told own f) ∷ [])
-shakes_own own h before f g written n sent serving o =
+shakes_own own h before f g written n begun sent serving o =
     let e : Event = announce handshake (number_told own f) in
     let copies = o.opening n in
     let none : g.connection.serving ≡ None = serving ∙ o.free n in
@@ -85,6 +89,7 @@ shakes_own own h before f g written n sent serving o =
       handshakes = (handshake_splits written (e ∷ [])).1 (o.handshakes, (tt, tt), all_weaker (λ (w : Event). w ≡ e) (λ (w : Event). OnlyHandshake w (e ∷ [])) (λ w same. (λ _. sym same, tt)) written copies);
       opening = λ _. subst (λ k. AllByRecursion (λ (w : Event). w ≡ announce handshake k) (written ++ e ∷ [])) (sym (told_same own f g sent))
           (all_append (λ (w : Event). w ≡ e) written (e ∷ []) copies (refl, tt));
+      unopened = λ t. absurd (true≢false (sym t ∙ begun));
       free = λ _. none;
       reached = λ _. begun_by written e;
       served = λ _. none;
@@ -97,6 +102,30 @@ shakes_own own h before f g written n sent serving o =
       grows = λ u. subst (λ k. before ≤ k) (sym sent) (o.grows u);
       rises = λ u. subst (λ ms. Rising (take g.recorded.sent h) before ms) (sym (no_messages written handshake (number_told own f))) (subst (λ k. Rising (take k h) before (messages written)) (sym sent) (o.rises u));
       absent = λ t. no_messages written handshake (number_told own f) ∙ o.absent t;
+    }
+
+-- the first announcement of the handshake, which ends it: fewer entries of a recoverable flow may count as sent from then on
+first_own : (own : Flow) (h : List Entry) (before : ℕ) (f g : Facts) → is_recoverable own ≡ true → is_shaken f.connection.phase ≡ false → is_shaken g.connection.phase ≡ true
+    → g.recorded.sent ≤ f.recorded.sent → g.connection.serving ≡ f.connection.serving → OwnFlow own h before f [] → OwnFlow own h before g (announce handshake (number_told own g) ∷ [])
+first_own own h before f g rec n done low serving o =
+    let e : Event = announce handshake (number_told own g) in
+    let none : g.connection.serving ≡ None = serving ∙ o.free n in
+    let next : next_written g ≡ g.recorded.sent + 1 = ap (λ s. number_at (g.recorded.sent + 1) s) none in
+    let few : g.recorded.sent ≤ length h = omega (arith, low, o.enough) in
+    record {
+      enough = few;
+      handshakes = (tt, tt);
+      opening = λ k. absurd (true≢false (sym done ∙ k));
+      unopened = λ t. absurd (true≢false (sym done ∙ not_opened g.connection.phase t));
+      free = λ _. none;
+      reached = λ _. begun_by [] e;
+      served = λ _. none;
+      true_of = λ t. subst (λ k. TrueOfJournal h None (announce handshake k ∷ [])) (sym (numbered_told own g t))
+          (announces_true h None handshake (g.recorded.sent + 1) (omega arith) (omega (arith, few)));
+      stands = λ t. numbered_told own g t ∙ ap Some (sym next);
+      grows = λ u. absurd (true≢false (sym rec ∙ ap (λ k. is_recoverable k) u));
+      rises = λ u. absurd (true≢false (sym rec ∙ ap (λ k. is_recoverable k) u));
+      absent = λ _. refl;
     }
 
 -- no announcement of the handshake stands behind
@@ -117,6 +146,7 @@ announces_own own h before n f g written done now sent served next low high o =
       enough = subst (λ k. k ≤ length h) (sym sent) o.enough;
       handshakes = later_first written (e ∷ []) o.handshakes (tt, tt) (λ w. (λ opens. absurd opens, tt));
       opening = λ k. absurd (true≢false (sym now ∙ k));
+      unopened = λ t. absurd (true≢false (sym now ∙ not_opened g.connection.phase t));
       free = λ k. absurd (true≢false (sym now ∙ k));
       reached = λ _. begun_by written e;
       served = served;
@@ -127,6 +157,65 @@ announces_own own h before n f g written done now sent served next low high o =
       absent = λ t. no_messages written in_flow (Some n) ∙ o.absent t;
     }
 
+-- the handshake is done, and the number is told from which a recoverable flow starts again
+returns_own : (own : Flow) (h : List Entry) (before : ℕ) (f g : Facts) (written : List Event) → is_recoverable own ≡ true → is_shaken f.connection.phase ≡ false → is_shaken g.connection.phase ≡ true
+    → g.recorded.sent < f.recorded.sent → g.connection.serving ≡ f.connection.serving → OwnFlow own h before f written → OwnFlow own h before g (written ++ announce in_flow (Some (g.recorded.sent + 1)) ∷ [])
+returns_own own h before f g written rec n done low serving o =
+    let e : Event = announce in_flow (Some (g.recorded.sent + 1)) in
+    let none : g.connection.serving ≡ None = serving ∙ o.free n in
+    let next : next_written g ≡ g.recorded.sent + 1 = ap (λ s. number_at (g.recorded.sent + 1) s) none in
+    let few : g.recorded.sent ≤ length h = omega (arith, low, o.enough) in
+    record {
+      enough = few;
+      handshakes = later_first written (e ∷ []) o.handshakes (tt, tt) (λ w. (λ opens. absurd opens, tt));
+      opening = λ k. absurd (true≢false (sym done ∙ k));
+      unopened = λ t. absurd (true≢false (sym done ∙ not_opened g.connection.phase t));
+      free = λ _. none;
+      reached = λ _. begun_by written e;
+      served = λ _. none;
+      true_of = λ t. (true_splits h None written (e ∷ [])).1 (o.true_of t, announces_true h (standing None written) in_flow (g.recorded.sent + 1) (omega arith) (omega (arith, few)));
+      stands = λ t. standing-append None written (e ∷ []) ∙ (ap Some (sym next) ∙ sym (stands_begun g (written ++ e ∷ []) (begun_by written e)));
+      grows = λ u. absurd (true≢false (sym rec ∙ ap (λ k. is_recoverable k) u));
+      rises = λ u. absurd (true≢false (sym rec ∙ ap (λ k. is_recoverable k) u));
+      absent = λ t. no_messages written in_flow (Some (g.recorded.sent + 1)) ∙ o.absent t;
+    }
+
+-- what a reply that may take back what was sent is: of a recoverable flow, as the handshake ends
+pub record MayReturn (x : Around) (f g : Facts) : Type 0 where
+  pub own : is_recoverable x.config.own_flow ≡ true
+  pub before : is_shaken f.connection.phase ≡ false
+  pub done : is_shaken g.connection.phase ≡ true
+
+pub returning : (x : Around) (f g : Facts) → may_return x.config f g ≡ true → MayReturn x f g
+returning x f g = by_tests (is_newer x.config) (is_recoverable x.config.own_flow) (is_shaken f.connection.phase) (is_shaken g.connection.phase) refl refl refl
+  where
+    by_tests : (a b c d : Bool) → is_recoverable x.config.own_flow ≡ b → is_shaken f.connection.phase ≡ c → is_shaken g.connection.phase ≡ d
+        → (a && b && not c && d) ≡ true → MayReturn x f g
+    by_tests true true false true own before done t = record { own = own; before = before; done = done }
+    by_tests false b c d own before done t = absurd (true≢false (sym t))
+    by_tests true false c d own before done t = absurd (true≢false (sym t))
+    by_tests true true true d own before done t = absurd (true≢false (sym t))
+    by_tests true true false false own before done t = absurd (true≢false (sym t))
+
+-- the handshake's announcement of the number from which the own flow goes on
+shaken_own : (x : Around) (h : List Entry) (before : ℕ) (f : Facts) (o : Outcome) (written : List Event) → Shakes x f o → OwnFlow x.config.own_flow h before f written
+    → OwnFlow x.config.own_flow h before o.next (written ++ announce handshake (number_told x.config.own_flow o.next) ∷ [])
+shaken_own x h before f o written s w = by_test (may_return x.config f o.next) refl
+  where
+    own : Flow
+    own = x.config.own_flow
+
+    by_test : (b : Bool) → may_return x.config f o.next ≡ b → OwnFlow own h before o.next (written ++ announce handshake (number_told own o.next) ∷ [])
+    by_test true may =
+        let r = returning x f o.next may in
+        let none : written ≡ [] = w.unopened (s.first may) in
+        subst (λ es. OwnFlow own h before o.next (es ++ announce handshake (number_told own o.next) ∷ [])) (sym none)
+        (first_own own h before f o.next r.own r.before r.done s.sent.most s.serving (subst (λ es. OwnFlow own h before f es) none w))
+    by_test false stays =
+        let same = s.sent.same stays in
+        subst (λ k. OwnFlow own h before o.next (written ++ announce handshake k ∷ [])) (sym (told_same own f o.next same))
+        (shakes_own own h before f o.next written s.before s.opened same s.serving w)
+
 -- what a reply writes
 pub replies_own : (x : Around) (h : List Entry) (before : ℕ) (f : Facts) (o : Outcome) (written : List Event) → WritesOwn x f o → OwnFlow x.config.own_flow h before f written
     → OwnFlow x.config.own_flow h before o.next (written ++ events_in o.written)
@@ -135,7 +224,11 @@ replies_own x h before f o written (nothing none same) w =
     (subst (λ es. OwnFlow x.config.own_flow h before o.next es) (sym (append-nil written)) (stays_own x.config.own_flow h before f o.next written same w))
 replies_own x h before f o written (shakes s) w =
     subst (λ es. OwnFlow x.config.own_flow h before o.next (written ++ es)) (sym s.tells)
-    (shakes_own x.config.own_flow h before f o.next written s.before s.sent s.serving w)
+    (shaken_own x h before f o written s w)
+replies_own x h before f o written (returns r) w =
+    let m = returning x f o.next r.may in
+    subst (λ es. OwnFlow x.config.own_flow h before o.next (written ++ es)) (sym r.tells)
+    (returns_own x.config.own_flow h before f o.next written m.own m.before m.done r.sent r.serving w)
 replies_own x h before f o written (resends r) w =
     subst (λ es. OwnFlow x.config.own_flow h before o.next (written ++ es)) (sym r.tells)
     (announces_own x.config.own_flow h before r.range.from f o.next written r.done r.stays r.sent (λ k. absurd (true≢false (sym r.own ∙ k)))
@@ -203,6 +296,7 @@ entries_own own h before n f g written ps done now at then_at present served eno
       enough = enough;
       handshakes = later_first written (map message ps) o.handshakes (messages_first ps) (λ w. no_handshake w ps);
       opening = λ k. absurd (true≢false (sym now ∙ k));
+      unopened = λ t. absurd (true≢false (sym now ∙ not_opened g.connection.phase t));
       free = λ k. absurd (true≢false (sym now ∙ k));
       reached = λ _. some;
       served = served;
@@ -242,6 +336,7 @@ longer_own own h longer before f written begins o = record {
   enough = let few = o.enough in omega (arith, prefix_length h longer begins);
   handshakes = o.handshakes;
   opening = o.opening;
+  unopened = o.unopened;
   free = o.free;
   reached = o.reached;
   served = o.served;

@@ -1,14 +1,13 @@
 -- What each reply writes of the own flow, and what it hears of the peer's before the handshake is done, row by row.
-use Rattle.std.proofs.Common.{◌≡◌, ℕ, ◌+◌, ◌≤◌, ◌==◌, ◌&&◌, ◌||◌, max, min, nat_lt, not, IsTrue, Bool, true, false, if◌then◌else◌, List, [], ◌∷◌, ◌++◌, Option, Some, None, option_to_list, refl, sym, ap, subst, ◌∙◌, arith, append-nil, true≢false}
+use Rattle.std.proofs.Common.{◌≡◌, ◌≢◌, ℕ, ◌+◌, ◌-◌, ◌≤◌, ◌==◌, ◌&&◌, ◌||◌, max, min, nat_lt, not, IsTrue, Bool, true, false, if◌then◌else◌, List, [], ◌∷◌, ◌++◌, Option, Some, None, option_to_list, refl, sym, ap, subst, ◌∙◌, arith, append-nil, eqb-true, eq-eqb, true≢false}
 use Rattle.std.specs.Prelude.{is_some, IsSome, unwrap_or, Result, Ok, Err}
 use Rattle.std.proofs.lemmas.Bool.{ltb-false}
 use Rattle.std.proofs.lemmas.Bool.Decides.{nat_tests}
 use Rattle.std.proofs.lemmas.Grind.{flat_map-append}
-use Rattle.session_model.specs.Events.{announce, handshake, BeginsWithHandshake}
+use Rattle.session_model.specs.Events.{announce, handshake, in_flow, BeginsWithHandshake}
 use Rattle.fixp_msgs.specs.declared.messages.Expected.{Expected}
 use Rattle.fixp_msgs.specs.declared.numbering.Range.{Range}
 use Rattle.fixp_msgs.specs.Flow.{flow_code}
-use Rattle.fixp_msgs.specs.declared.messages.Expected.TheVariants as expects
 use Rattle.fixp_msgs.specs.Message.{Message, negotiate, negotiation_response, negotiation_reject, establish, establishment_ack, establishment_reject, sequence, unsequenced_heartbeat, retransmit_request, retransmission, retransmit_reject, applied, not_applied, finished_sending, finished_receiving, terminate}
 use Rattle.flow_recover.specs.declared.receiver.Seen.{Seen}
 use Rattle.flow_recover.specs.declared.receiver.Seen.TheVariants.{Deliver, Gap, Repeat}
@@ -30,18 +29,19 @@ use Rattle.fixp_replies.specs.declared.facts.Facts.{Facts}
 use Rattle.fixp_replies.specs.declared.facts.PeerFinish.TheVariants as peer
 use Rattle.fixp_replies.specs.declared.facts.OwnFinish.TheVariants as own
 use Rattle.fixp_replies.specs.Incoming.{Incoming, application, session, wrong_order, too_short, unknown}
-use Rattle.fixp_replies.specs.Facts.{Around, is_initiator, is_own, in_phase, receiving, requesting, serves, negotiated as as_negotiated, awaiting, awaits_gap, gap_to_ask, having_asked, announced_number}
+use Rattle.fixp_replies.specs.Facts.{Around, is_initiator, is_own, in_phase, receiving, requesting, firm, serves, negotiated as as_negotiated, awaiting, awaits_gap, gap_to_ask, having_asked, announced_number}
 use Rattle.fixp_replies.specs.Outcomes.{Outcome, Row, row, goes_on, accepts, ignores, ends, not_in_phase, request_for, skip_of, told_skip, opening_negotiate, opening_establish}
 use Rattle.fixp_replies.specs.Announcing.{Announced, jumped_over, announced, refuses}
-use Rattle.fixp_replies.specs.Handshake.{awaits_client, serves_client, established, acknowledges, establish_rows, established_again_rows, establish_rows_in, shaken}
+use Rattle.fixp_replies.specs.Handshake.{awaits_client, serves_client, established, acknowledges, establish_rows, established_again_rows, establish_rows_in, shaken, reached}
+use Rattle.fixp_replies.specs.Expecting.{is_newer, number_in, answers_next, takes, returned, softened}
 use Rattle.fixp_replies.specs.Flowing.{bad_retransmission, counted, taken_as, finish_act, peer_finished, answers_finish, is_filled, is_past_finish, sequence_taken, sequence_follows, restarted, finished_last, finish_fault, finished}
 use Rattle.fixp_replies.specs.Serving.{request_answered, own_finishing}
 use Rattle.fixp_replies.specs.Replies.{reply_of, template_of, rows_of, answer_of, terminates}
 use Rattle.fixp_machine.proofs.Rows.{AllRows, by_row, all_rows, all_within, announced_rows, own_rows}
-use Rattle.fixp_machine.proofs.Tests.{some-none}
+use Rattle.fixp_machine.proofs.Tests.{some-none, is_done, not_negotiated, not_established, not_opened}
+use Rattle.fixp_machine.proofs.Expecting.{taken, returned_if, returned_stays, kept, returned_keeps}
 use Rattle.fixp_machine.specs.Accepting.{event_of}
-use Rattle.fixp_machine.proofs.Accepted.{is_done, not_negotiated, not_established}
-use Rattle.connection_laws.specs.Writing.{events_in, is_reached, SameOwn, WritesOwn, nothing, shakes, resends, HearsHandshake, FrameWrites, FrameHears}
+use Rattle.connection_laws.specs.Writing.{events_in, is_reached, SameOwn, WritesOwn, nothing, shakes, returns, resends, HearsHandshake, FrameWrites, FrameHears}
 
 -- what holds of each reply
 record Replies (x : Around) (f : Facts) (i : Incoming) (o : Outcome) : Type 0 where
@@ -60,23 +60,23 @@ skip_says_nothing None = refl
 skip_says_nothing (Some s) = refl
 
 -- nothing has changed that the own flow and the handshake rest on
-record Untouched (f g : Facts) : Type 0 where
-  sent : g.recorded.sent ≡ f.recorded.sent
-  serving : g.connection.serving ≡ f.connection.serving
-  phase : g.connection.phase ≡ f.connection.phase
+pub record Untouched (f g : Facts) : Type 0 where
+  pub sent : g.recorded.sent ≡ f.recorded.sent
+  pub serving : g.connection.serving ≡ f.connection.serving
+  pub phase : g.connection.phase ≡ f.connection.phase
 
 still : (f : Facts) → Untouched f f
 still f = record { sent = refl; serving = refl; phase = refl }
 
 untouched_own : (f g : Facts) → Untouched f g → SameOwn f g
-untouched_own f g u = record { sent = u.sent; serving = u.serving; stays = λ t. ap (λ p. is_shaken p) u.phase ∙ t; reached = λ t. ap (λ p. is_reached p) (sym u.phase) ∙ t }
+untouched_own f g u = record { sent = u.sent; serving = u.serving; stays = λ t. ap (λ p. is_shaken p) u.phase ∙ t; reached = λ t. ap (λ p. is_reached p) (sym u.phase) ∙ t; idle = λ t. ap (λ p. is_idle p) (sym u.phase) ∙ t }
 
 pub still_own : (f : Facts) → SameOwn f f
 still_own f = untouched_own f f (still f)
 
 asked_own : (f g : Facts) (r : Option Range) → SameOwn f g → SameOwn f (having_asked g r)
 asked_own f g None s = s
-asked_own f g (Some r) s = record { sent = s.sent; serving = s.serving; stays = s.stays; reached = s.reached }
+asked_own f g (Some r) s = record { sent = s.sent; serving = s.serving; stays = s.stays; reached = s.reached; idle = s.idle }
 
 asked_sent : (g : Facts) (r : Option Range) → (having_asked g r).recorded.sent ≡ g.recorded.sent
 asked_sent g None = refl
@@ -153,11 +153,11 @@ refusing x f g i same (Some v) = spares x f i (refuses x g (Some v)) refl refl s
 -- an announcement of the peer's leaves the own flow as it was
 abbrev chosen : Facts → ℕ → Bool → Bool → Announced
 chosen f n recoverable idempotent =
-    if recoverable then record { facts = receiving f (receiver_is.announced f.connection.receiver n); skipped = None }
+    if recoverable then record { facts = firm (receiving f (receiver_is.announced f.connection.receiver n)); skipped = None }
     else if idempotent then record { facts = awaiting f n; skipped = jumped_over f.recorded.inbox_next n }
     else record { facts = f; skipped = None }
 
-untouched : (x : Around) (f : Facts) (next : Option ℕ) → Untouched f (announced x f next).facts
+pub untouched : (x : Around) (f : Facts) (next : Option ℕ) → Untouched f (announced x f next).facts
 untouched x f next = by_flow (is_recoverable x.config.peer_flow) (is_idempotent x.config.peer_flow)
   where
     by_flow : (r i : Bool) → Untouched f (chosen f (unwrap_or next 0) r i).facts
@@ -165,56 +165,67 @@ untouched x f next = by_flow (is_recoverable x.config.peer_flow) (is_idempotent 
     by_flow false true = record { sent = refl; serving = refl; phase = refl }
     by_flow false false = record { sent = refl; serving = refl; phase = refl }
 
+announced_same : (x : Around) (f g : Facts) → g.recorded.sent ≡ f.recorded.sent → announced_number x g ≡ announced_number x f
+announced_same x f g e = ap (λ k. if is_sequenced x.config.own_flow then Some (k + 1) else None) e
+
+last_of : (a b c d : Bool) → (a && b && c && d) ≡ true → d ≡ true
+last_of true true true d t = t
+last_of false b c d t = absurd (true≢false (sym t))
+last_of true false c d t = absurd (true≢false (sym t))
+last_of true true false d t = absurd (true≢false (sym t))
+
 -- an initiator goes on with the handshake
 shaking : (x : Around) (f : Facts) (i : Incoming) → event_of i ≡ None → is_shaken f.connection.phase ≡ false → Replies x f i (shaken x f)
 shaking x f i none before =
     let g : Facts = in_phase (as_negotiated f) phases.Establishing in
+    let next : Facts = having_asked g (gap_to_ask g) in
+    let open_still : is_shaken next.connection.phase ≡ false = ap (λ p. is_shaken p) (asked_phase g (gap_to_ask g)) in
     record {
       writes = shakes (record {
-        tells = events_asking x (opening_establish x f ∷ []) (gap_to_ask g);
+        tells = events_asking x (opening_establish x f ∷ []) (gap_to_ask g) ∙ ap (λ k. announce handshake k ∷ []) (sym (announced_same x f next (asked_sent g (gap_to_ask g))));
         before = before;
-        sent = asked_sent g (gap_to_ask g);
+        opened = ap (λ p. is_idle p) (asked_phase g (gap_to_ask g));
+        sent = kept x.config f next (asked_sent g (gap_to_ask g));
+        first = λ may. absurd (true≢false (sym (last_of (is_newer x.config) (is_recoverable x.config.own_flow) (not (is_shaken f.connection.phase)) (is_shaken next.connection.phase) may) ∙ open_still));
         serving = asked_serving g (gap_to_ask g);
       });
       hears = hears_none f i (shaken x f) none (λ t. absurd (true≢false (sym t ∙ ap (λ p. is_shaken p) (asked_phase g (gap_to_ask g)))));
     }
 
--- an acceptor that waits for its client has not done the handshake
-awaiting_client : (x : Around) (f : Facts) → awaits_client x f ≡ true → is_shaken f.connection.phase ≡ false
-awaiting_client x f t = idle f.connection.phase (and_right (not (is_initiator x.config.role)) (is_idle f.connection.phase) t)
+-- an acceptor waits for its client before anything is written
+awaiting_client : (x : Around) (f : Facts) → awaits_client x f ≡ true → is_idle f.connection.phase ≡ true
+awaiting_client x f t = and_right (not (is_initiator x.config.role)) (is_idle f.connection.phase) t
   where
     and_right : (a b : Bool) → (a && b) ≡ true → b ≡ true
     and_right true b e = e
     and_right false b e = absurd (true≢false (sym e))
 
-    idle : (p : Phase) → is_idle p ≡ true → is_shaken p ≡ false
-    idle phases.Idle e = refl
-    idle phases.Negotiating e = absurd (true≢false (sym e))
-    idle phases.Establishing e = absurd (true≢false (sym e))
-    idle phases.Established e = absurd (true≢false (sym e))
-    idle phases.Closing e = absurd (true≢false (sym e))
-    idle phases.Ended e = absurd (true≢false (sym e))
-
 -- Establish is acknowledged
-acknowledging : (x : Around) (f : Facts) (i : Incoming) (timestamp keepalive : ℕ) (next : Option ℕ) (a : Announced) → Untouched f a.facts → event_of i ≡ Some (announce handshake next)
-    → is_shaken f.connection.phase ≡ false → Replies x f i (acknowledges x timestamp keepalive a)
-acknowledging x f i timestamp keepalive next a u e before =
-    let g : Facts = established a.facts keepalive in
-    let ack : Message = establishment_ack x.config.session timestamp x.config.keepalive (announced_number x a.facts) expects.Absent in
+acknowledging : (x : Around) (f : Facts) (i : Incoming) (timestamp keepalive : ℕ) (next : Option ℕ) (expected : Expected) (a : Announced) → Untouched f a.facts
+    → event_of i ≡ Some (announce handshake next) → is_idle f.connection.phase ≡ true → Replies x f i (acknowledges x timestamp keepalive expected a)
+acknowledging x f i timestamp keepalive next expected a u e idle =
+    let r : Facts = returned x a.facts expected in
+    let g : Facts = established (softened x expected r) keepalive in
+    let after : Facts = having_asked g (gap_to_ask g) in
+    let ack : Message = establishment_ack x.config.session timestamp x.config.keepalive (announced_number x r) (answers_next x expected r) in
+    let before : is_shaken f.connection.phase ≡ false = not_opened f.connection.phase idle in
+    let done : is_shaken after.connection.phase ≡ true = ap (λ p. is_shaken p) (asked_phase g (gap_to_ask g)) in
     record {
       writes = shakes (record {
         tells = events_asking x (ack ∷ told_skip a.skipped) (gap_to_ask g)
-            ∙ (ap (λ es. announce handshake (announced_number x a.facts) ∷ es) (skip_says_nothing a.skipped)
-            ∙ ap (λ k. announce handshake (if is_sequenced x.config.own_flow then Some (k + 1) else None) ∷ []) u.sent);
+            ∙ (ap (λ es. announce handshake (announced_number x r) ∷ es) (skip_says_nothing a.skipped)
+            ∙ ap (λ k. announce handshake k ∷ []) (sym (announced_same x r after (asked_sent g (gap_to_ask g)))));
         before = before;
-        sent = asked_sent g (gap_to_ask g) ∙ u.sent;
-        serving = asked_serving g (gap_to_ask g) ∙ u.serving;
+        opened = ap (λ p. is_idle p) (asked_phase g (gap_to_ask g));
+        sent = returned_keeps x f a.facts after expected before done u.sent (asked_sent g (gap_to_ask g));
+        first = λ _. idle;
+        serving = asked_serving g (gap_to_ask g) ∙ (ap (λ c. c.serving) (returned_stays x a.facts expected).connection ∙ u.serving);
       });
-      hears = hears_handshake f i (acknowledges x timestamp keepalive a) next e refl (ap (λ p. is_shaken p) (asked_phase g (gap_to_ask g)));
+      hears = hears_handshake f i (acknowledges x timestamp keepalive expected a) next e refl done;
     }
 
 establish_all : (x : Around) (f : Facts) (id : List ℕ) (timestamp keepalive : ℕ) (next : Option ℕ) (expected : Expected) (credentials : List ℕ)
-    → AllRows (Replies x f (session (establish id timestamp keepalive next expected credentials))) (establish_rows_in x f id timestamp keepalive next credentials)
+    → AllRows (Replies x f (session (establish id timestamp keepalive next expected credentials))) (establish_rows_in x f id timestamp keepalive next expected credentials)
 establish_all x f id timestamp keepalive next expected credentials = by_place (awaits_client x f) (serves_client x f) refl
   where
     i : Incoming
@@ -223,29 +234,83 @@ establish_all x f id timestamp keepalive next expected credentials = by_place (a
     P : Outcome → Type 0
     P = Replies x f i
 
-    by_place : (p q : Bool) → awaits_client x f ≡ p → AllRows P (if p then establish_rows x f id timestamp keepalive next credentials else if q then established_again_rows x f id timestamp else [])
+    by_place : (p q : Bool) → awaits_client x f ≡ p → AllRows P (if p then establish_rows x f id timestamp keepalive next expected credentials else if q then established_again_rows x f id timestamp else [])
     by_place true q waits = (
       λ _. spares x f i _ refl refl (still f),
       λ _. (
         λ _. spares x f i _ refl refl (still f),
         λ _. (
           λ _. spares x f i _ refl refl (still f),
-          λ _. announced_rows P x f 4 next (acknowledges x timestamp keepalive) (refusing x f f i (still f))
-              (λ _. acknowledging x f i timestamp keepalive next (announced x f next) (untouched x f next) refl (awaiting_client x f waits)),
+          λ _. announced_rows P x f 4 next (acknowledges x timestamp keepalive expected) (refusing x f f i (still f))
+              (λ _. acknowledging x f i timestamp keepalive next expected (announced x f next) (untouched x f next) refl (awaiting_client x f waits)),
         ),
       ),
     )
     by_place false true waits = (λ _. spares x f i _ refl refl (still f), λ _. (λ _. spares x f i _ refl refl (still f), λ _. tt))
     by_place false false waits = tt
 
--- Establish was acknowledged
-acknowledged : (x : Around) (f : Facts) (i : Incoming) (next : Option ℕ) (interval : ℕ) (a : Announced) → Untouched f a.facts → event_of i ≡ Some (announce handshake next)
-    → is_establishing f.connection.phase ≡ true → Replies x f i (goes_on x (skip_of a.skipped) (told_skip a.skipped) (established a.facts interval))
-acknowledged x f i next interval a u e phase =
-    let g : Facts = established a.facts interval in
-    goes x f i (skip_of a.skipped) (told_skip a.skipped) g (skip_says_nothing a.skipped)
-    (record { sent = u.sent; serving = u.serving; stays = λ _. refl; reached = λ _. ap (λ b. b || is_shaken f.connection.phase) phase })
-    (hears_handshake f i (goes_on x (skip_of a.skipped) (told_skip a.skipped) g) next e refl (ap (λ p. is_shaken p) (asked_phase g (gap_to_ask g))))
+-- the Sequence that tells where this end starts, by whether it is written
+abbrev told_if : Bool → Expected → List Message
+told_if b e = if b then sequence (number_in e) ∷ [] else []
+
+-- Establish was acknowledged: nothing is said of the own flow, but where fewer entries count as sent
+acknowledged : (x : Around) (f : Facts) (i : Incoming) (keepalive : ℕ) (next : Option ℕ) (expected : Expected) (a : Announced) → Untouched f a.facts → event_of i ≡ Some (announce handshake next)
+    → is_establishing f.connection.phase ≡ true → Replies x f i (reached x keepalive expected a)
+acknowledged x f i keepalive next expected a u e phase = by_tests (takes x a.facts expected) (number_in expected == a.facts.recorded.sent + 1) refl refl
+  where
+    interval : ℕ
+    interval = min 60000 (max 100 keepalive)
+
+    is_made : is_reached f.connection.phase ≡ true
+    is_made = ap (λ b. b || is_shaken f.connection.phase) phase
+
+    before : is_shaken f.connection.phase ≡ false
+    before = not_established f.connection.phase phase
+
+    told : Bool → Bool → List Message
+    told t same = told_skip a.skipped ++ told_if (t && not same) expected
+
+    after : Bool → Facts
+    after t = established (returned_if t a.facts expected) interval
+
+    hears : (t same : Bool) → HearsHandshake f i (goes_on x (skip_of a.skipped) (told t same) (after t))
+    hears t same = hears_handshake f i (goes_on x (skip_of a.skipped) (told t same) (after t)) next e refl (ap (λ p. is_shaken p) (asked_phase (after t) (gap_to_ask (after t))))
+
+    quiet : (t same : Bool) → (t && not same) ≡ false → (after t).recorded.sent ≡ f.recorded.sent → (after t).connection.serving ≡ f.connection.serving
+        → Replies x f i (goes_on x (skip_of a.skipped) (told t same) (after t))
+    quiet t same none sent serving =
+        goes x f i (skip_of a.skipped) (told t same) (after t)
+        (flat_map-append _ (told_skip a.skipped) (told_if (t && not same) expected)
+        ∙ (ap (λ es. es ++ events_in (told_if (t && not same) expected)) (skip_says_nothing a.skipped) ∙ ap (λ b. events_in (told_if b expected)) none))
+        (record { sent = sent; serving = serving; stays = λ _. refl; reached = λ _. is_made; idle = λ t. absurd (true≢false (sym t)) })
+        (hears t same)
+
+    by_tests : (t same : Bool) → takes x a.facts expected ≡ t → (number_in expected == a.facts.recorded.sent + 1) ≡ same
+        → Replies x f i (goes_on x (skip_of a.skipped) (told t same) (after t))
+    by_tests false same is eq = quiet false same refl u.sent u.serving
+    by_tests true true is eq = quiet true true refl (omega (arith, eqb-true (number_in expected) (a.facts.recorded.sent + 1) eq, u.sent)) u.serving
+    by_tests true false is eq =
+        let k = taken x a.facts expected is in
+        let g : Facts = after true in
+        let last : Facts = having_asked g (gap_to_ask g) in
+        let done : is_shaken last.connection.phase ≡ true = ap (λ p. is_shaken p) (asked_phase g (gap_to_ask g)) in
+        let sent : last.recorded.sent ≡ number_in expected - 1 = asked_sent g (gap_to_ask g) in
+        let number : number_in expected ≡ last.recorded.sent + 1 = omega (arith, sent, k.low) in
+        let other : number_in expected ≢ a.facts.recorded.sent + 1 = λ same. true≢false (sym (eq-eqb (number_in expected) (a.facts.recorded.sent + 1) same) ∙ eq) in
+        record {
+          writes = returns (record {
+            tells = events_asking x (told true false) (gap_to_ask g)
+                ∙ (flat_map-append _ (told_skip a.skipped) (sequence (number_in expected) ∷ [])
+                ∙ (ap (λ es. es ++ announce in_flow (Some (number_in expected)) ∷ []) (skip_says_nothing a.skipped) ∙ ap (λ n. announce in_flow (Some n) ∷ []) number));
+            may = ap (λ b. b && is_recoverable x.config.own_flow && not (is_shaken f.connection.phase) && is_shaken last.connection.phase) k.newer
+                ∙ (ap (λ b. b && not (is_shaken f.connection.phase) && is_shaken last.connection.phase) k.own
+                ∙ (ap (λ b. not b && is_shaken last.connection.phase) before ∙ done));
+            reached = is_made;
+            sent = omega (arith, number, k.high, other, u.sent);
+            serving = asked_serving g (gap_to_ask g) ∙ u.serving;
+          });
+          hears = hears true false;
+        }
 
 -- the peer's finish is answered
 answered_facts : (f h : Facts) (last : ℕ) → Untouched f h → Untouched f (peer_finished h (peer.Exchanged last) (Some (unwrap_or h.recorded.peer_last last)))
@@ -379,15 +444,14 @@ session_rows x f (negotiation_reject id timestamp code reason) =
 session_rows x f (establish id timestamp keepalive next expected credentials) = establish_all x f id timestamp keepalive next expected credentials
 session_rows x f (establishment_ack id timestamp keepalive next expected) =
     let i = session (establishment_ack id timestamp keepalive next expected) in
-    let interval : ℕ = min 60000 (max 100 keepalive) in
     own_rows (Replies x f i) x f 5 id _ (λ e. spares x f i _ refl refl (still f)) (all_within (Replies x f i) (is_establishing f.connection.phase) _ (λ n.
-    announced_rows (Replies x f i) x f 5 next (λ (d : Announced). goes_on x (skip_of d.skipped) (told_skip d.skipped) (established d.facts interval)) (refusing x f f i (still f))
-    (λ _. acknowledged x f i next interval (announced x f next) (untouched x f next) refl n)))
+    announced_rows (Replies x f i) x f 5 next (reached x keepalive expected) (refusing x f f i (still f))
+    (λ _. acknowledged x f i keepalive next expected (announced x f next) (untouched x f next) refl n)))
 session_rows x f (establishment_reject id timestamp code reason) =
     let i = session (establishment_reject id timestamp code reason) in
     own_rows (Replies x f i) x f 6 id _ (λ e. spares x f i _ refl refl (still f)) (all_within (Replies x f i) (is_establishing f.connection.phase) _ (λ n. (
       λ _. goes_unheard x f i acts.Nothing (opening_negotiate x ∷ []) (in_phase f phases.Negotiating) refl
-          (record { sent = refl; serving = refl; stays = λ t. absurd (true≢false (sym t ∙ not_established f.connection.phase n)); reached = λ t. absurd (true≢false (sym t)) })
+          (record { sent = refl; serving = refl; stays = λ t. absurd (true≢false (sym t ∙ not_established f.connection.phase n)); reached = λ t. absurd (true≢false (sym t)); idle = λ t. absurd (true≢false (sym t)) })
           (λ t. absurd (true≢false (sym t))) refl,
       λ _. (λ _. spares x f i _ refl refl (still f), λ _. tt),
     )))

@@ -1,5 +1,5 @@
 -- All that a machine in range writes on a connection is legal.
-use Rattle.std.proofs.Common.{◌≡◌, ◌≤◌, ◌<◌, ◌+◌, ◌^◌, ℕ, Bool, true, false, if◌then◌else◌, List, [], ◌∷◌, ◌++◌, Option, Some, None, refl, sym, subst, arith}
+use Rattle.std.proofs.Common.{◌≡◌, ◌≤◌, ◌<◌, ◌+◌, ◌^◌, ℕ, Bool, true, false, if◌then◌else◌, List, [], ◌∷◌, ◌++◌, Option, Some, None, refl, sym, subst, arith, true≢false}
 use Rattle.std.specs.List.{AllByRecursion}
 use Rattle.session_model.specs.Journal.{Entry}
 use Rattle.session_model.proofs.Lists.{all_append}
@@ -61,8 +61,18 @@ legal_calls h c (call ∷ later) payloads sound r legal all fits =
 begun_sound : (s : State) (now : ℕ) → IsInRange s → s.facts.recorded.sent < 2 ^ 40 → StaysSound (connected s now)
 begun_sound s now r small =
     let idle : Sound s.config (connecting s.facts.recorded phases.Idle) =
-    record { waits = λ _. refl; even = λ _. refl; unread = λ _. refl; credentials = r.credentials; sent = small; role = λ _. refl } in
-    calls_keep_sound (record s { facts = connecting s.facts.recorded phases.Idle; pending = None }) (begin now) (record { facts = idle; pending = tt }) tt
+    record {
+      waits = λ _. refl;
+      even = λ _. refl;
+      unread = λ _. refl;
+      credentials = r.credentials;
+      sent = small;
+      next = λ _. omega (arith, r.next, r.most);
+      opening = λ _. record { no_request = refl; no_gap = refl; no_range = refl; firm = refl };
+      soft = λ t. absurd (true≢false (sym t));
+      role = λ _. refl;
+    } in
+    calls_keep_sound (record s { facts = connecting s.facts.recorded phases.Idle; pending = None }) (begin now) (record { most = omega (arith, r.most); facts = idle; pending = tt }) tt
 
 begun_ranged : (s : State) (now : ℕ) → IsInRange s → Ranged (connected s now)
 begun_ranged s now r = record { range = in_range s (connected s now) refl refl r (by_case (is_initiator s.config.role) s.facts.recorded.negotiated); untold = tt; pending = tt }

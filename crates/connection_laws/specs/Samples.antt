@@ -19,7 +19,15 @@ abbrev pub id : List ℕ
 id = replicate 16 7
 
 abbrev pub sample_config : EndConfig
-sample_config = record { role = roles.Initiator; session = id; own_flow = flows.Recoverable; peer_flow = flows.Idempotent; keepalive = 1000; credentials = [] }
+sample_config = record {
+  role = roles.Initiator;
+  session = id;
+  own_flow = flows.Recoverable;
+  peer_flow = flows.Idempotent;
+  keepalive = 1000;
+  credentials = [];
+  version = 0;
+}
 
 -- the session was negotiated, the inbox awaits number 2, and two entries were sent
 abbrev pub recorded : EndState

@@ -10,7 +10,7 @@ use Rattle.fixp_msgs.specs.declared.numbering.Range.{Range}
 use Rattle.fixp_msgs.specs.declared.flow.Flow.{Flow}
 use Rattle.fixp_msgs.specs.declared.flow.Flow.TheVariants as flows
 use Rattle.fixp_shake.specs.Flows.{is_recoverable, is_sequenced, is_absent}
-use Rattle.fixp_shake.specs.Phases.{is_established, is_shaken}
+use Rattle.fixp_shake.specs.Phases.{is_idle, is_established, is_shaken}
 use Rattle.fixp_replies.specs.declared.facts.Facts.{Facts}
 use Rattle.fixp_replies.specs.Acts.{is_record}
 use Rattle.fixp_machine.specs.Machine.{State, Call, begin, frame, bad_frame, did, tick, turn_done, closed, link_end, live, again, taken, reserve, MayCall}
@@ -37,13 +37,14 @@ to_stand f [] = None
 to_stand f (e ∷ es) = Some (next_written f)
 
 -- What holds of the own flow, where the outbox has these entries, so many were sent when the connection began, and these events
--- were written. Until the handshake is done they are copies of its announcement, and there is one once it is awaited. A flow
--- with numbers is true of the outbox, and stands announced as it is to; one without rises through the entries sent; and on
--- none no message is written
+-- were written. Until the handshake is done they are copies of its announcement: none before the connection is opened, and there
+-- is one once it is awaited. A flow with numbers is true of the outbox, and stands announced as it is to; one without rises through
+-- the entries sent; and on none no message is written
 pub record OwnFlow (own : Flow) (h : List Entry) (before : ℕ) (f : Facts) (written : List Event) : Type 0 where
   pub enough : f.recorded.sent ≤ length h
   pub handshakes : HandshakeFirst written
   pub opening : is_shaken f.connection.phase ≡ false → AllByRecursion (λ (e : Event). e ≡ announce handshake (number_told own f)) written
+  pub unopened : is_idle f.connection.phase ≡ true → written ≡ []
   pub free : is_shaken f.connection.phase ≡ false → f.connection.serving ≡ None
   pub reached : is_reached f.connection.phase ≡ true → 1 ≤ length written
   pub served : is_recoverable own ≡ false → f.connection.serving ≡ None

@@ -1,5 +1,5 @@
 -- What an end writes on a connection: its session messages and entries of its outbox, and what these carry of its own flow.
-use Rattle.std.specs.Prelude.{◌≡◌, ℕ, ◌+◌, ◌≤◌, ◌||◌, Bool, true, false, if◌then◌else◌, List, [], ◌∷◌, ◌++◌, map, length, Option, Some, None, option_to_list, is_some, IsSome, IsTrue}
+use Rattle.std.specs.Prelude.{◌≡◌, ℕ, ◌+◌, ◌<◌, ◌≤◌, ◌||◌, Bool, true, false, if◌then◌else◌, List, [], ◌∷◌, ◌++◌, map, length, Option, Some, None, option_to_list, is_some, IsSome, IsTrue}
 use Rattle.std.specs.List.{flat_map}
 use Rattle.session_model.specs.Inbox.{Range}
 use Rattle.session_model.specs.Events.{Event, announce, handshake, in_flow, BeginsWithHandshake}
@@ -11,7 +11,7 @@ use Rattle.fixp_msgs.specs.Numbering.{announcement_of}
 use Rattle.fixp_shake.specs.declared.phase.Phase.{Phase}
 use Rattle.fixp_shake.specs.declared.violation.Violation.{Violation}
 use Rattle.fixp_shake.specs.Flows.{is_recoverable}
-use Rattle.fixp_shake.specs.Phases.{is_establishing, is_shaken}
+use Rattle.fixp_shake.specs.Phases.{is_idle, is_establishing, is_shaken}
 use Rattle.fixp_replies.specs.declared.facts.Facts.{Facts}
 use Rattle.fixp_replies.specs.Acts.{is_record}
 use Rattle.fixp_replies.specs.Events.{begun, heartbeats, lateness, turn_ended, finish_told}
@@ -20,6 +20,7 @@ use Rattle.fixp_replies.specs.Incoming.{Incoming}
 use Rattle.fixp_replies.specs.Outcomes.{Outcome, breaks}
 use Rattle.fixp_replies.specs.Replies.{reply_of, reply_to_bad_frame}
 use Rattle.fixp_machine.specs.Machine.{State, Call, begin, frame, bad_frame, did, tick, turn_done, closed, link_end, live, again, taken, reserve, around, payload_frame, rest_of}
+use Rattle.fixp_machine.specs.Sound.{may_return, KeepsSent}
 use Rattle.fixp_machine.specs.Accepting.{event_of, told_by}
 
 -- the events of the own flow that some session messages carry
@@ -97,18 +98,31 @@ writes s reserve = []
 abbrev pub is_reached : Phase → Bool
 is_reached phase = is_establishing phase || is_shaken phase
 
--- the own flow stands as it did: as many entries are sent, the same range is served, and the handshake is not undone
+-- the own flow stands as it did: as many entries are sent, the same range is served, the handshake is not undone, and the connection
+-- is opened where it was
 pub record SameOwn (f g : Facts) : Type 0 where
   pub sent : g.recorded.sent ≡ f.recorded.sent
   pub serving : g.connection.serving ≡ f.connection.serving
   pub stays : is_shaken f.connection.phase ≡ true → is_shaken g.connection.phase ≡ true
   pub reached : is_reached g.connection.phase ≡ true → is_reached f.connection.phase ≡ true
+  pub idle : is_idle g.connection.phase ≡ true → is_idle f.connection.phase ≡ true
 
--- the handshake's announcement is made, of the next number, before the handshake is done
+-- The handshake's announcement is made, of the next number, before the handshake is done. Entries count as sent no longer only where
+-- it is the first and ends the handshake
 pub record Shakes (x : Around) (f : Facts) (o : Outcome) : Type 0 where
-  pub tells : events_in o.written ≡ announce handshake (announced_number x f) ∷ []
+  pub tells : events_in o.written ≡ announce handshake (announced_number x o.next) ∷ []
   pub before : is_shaken f.connection.phase ≡ false
-  pub sent : o.next.recorded.sent ≡ f.recorded.sent
+  pub opened : is_idle o.next.connection.phase ≡ false
+  pub sent : KeepsSent x.config f o.next
+  pub first : may_return x.config f o.next ≡ true → is_idle f.connection.phase ≡ true
+  pub serving : o.next.connection.serving ≡ f.connection.serving
+
+-- The handshake is done, whose announcement was made, and fewer entries count as sent from then on: the next number is told
+pub record Returns (x : Around) (f : Facts) (o : Outcome) : Type 0 where
+  pub tells : events_in o.written ≡ announce in_flow (Some (o.next.recorded.sent + 1)) ∷ []
+  pub may : may_return x.config f o.next ≡ true
+  pub reached : is_reached f.connection.phase ≡ true
+  pub sent : o.next.recorded.sent < f.recorded.sent
   pub serving : o.next.connection.serving ≡ f.connection.serving
 
 -- a range of entries that were sent is served from then on, where none was: its first number is announced
@@ -124,10 +138,12 @@ pub record Resends (x : Around) (f : Facts) (o : Outcome) : Type 0 where
   pub from_one : 1 ≤ range.from
   pub within : range.from ≤ f.recorded.sent
 
--- what a reply writes of the own flow: nothing, the handshake's announcement, or that of a range that is served
+-- what a reply writes of the own flow: nothing, the handshake's announcement, that of the number from which it starts again, or that
+-- of a range that is served
 pub data WritesOwn (x : Around) (f : Facts) (o : Outcome) : Type 0 where
   nothing : events_in o.written ≡ [] → SameOwn f o.next → WritesOwn x f o
   shakes : Shakes x f o → WritesOwn x f o
+  returns : Returns x f o → WritesOwn x f o
   resends : Resends x f o → WritesOwn x f o
 
 -- Before the handshake is done nothing is heard of the peer's flow but its announcement, and with that the handshake is done

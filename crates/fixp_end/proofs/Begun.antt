@@ -13,7 +13,17 @@ use Rattle.fixp_machine.specs.Sound.{Sound}
 -- the facts of a connection that begins are sound where what is recorded is
 connecting_sound : (cfg : EndConfig) (f : Facts) (phase : Phase) → Sound cfg f → (is_initiator cfg.role ≡ false → (is_negotiating phase || is_establishing phase) ≡ false)
     → Sound cfg (connecting f.recorded phase)
-connecting_sound cfg f phase s role = record { waits = λ _. refl; even = λ _. refl; unread = λ _. refl; credentials = s.credentials; sent = s.sent; role = role }
+connecting_sound cfg f phase s role = record {
+  waits = λ _. refl;
+  even = λ _. refl;
+  unread = λ _. refl;
+  credentials = s.credentials;
+  sent = s.sent;
+  next = s.next;
+  opening = λ _. record { no_request = refl; no_gap = refl; no_range = refl; firm = refl };
+  soft = λ t. absurd (true≢false (sym t));
+  role = role;
+}
 
 abbrev begun_as : Around → Facts → Bool → Bool → Made
 begun_as x f i n =

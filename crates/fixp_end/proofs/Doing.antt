@@ -13,31 +13,20 @@ use Rattle.fixp_replies.specs.declared.facts.EndState.{EndState}
 use Rattle.fixp_replies.specs.declared.facts.Facts.{Facts}
 use Rattle.fixp_replies.specs.Incoming.{Incoming, IsIncoming, application, session, wrong_order, too_short, unknown}
 use Rattle.fixp_replies.specs.Outcomes.{Outcome}
-use Rattle.fixp_machine.specs.Fitting.{IsMessage, CanTake, WasSent, Fits, recorded_after}
+use Rattle.fixp_machine.specs.Fitting.{IsMessage, CanTake, WasSent, Fits}
 use Rattle.fixp_end.specs.Doing.{Serves}
-
--- the number of entries sent moves with no act
-still_sent : (act : Act) (r : EndState) → (recorded_after act r).sent ≡ r.sent
-still_sent acts.Nothing r = refl
-still_sent (acts.Apply number) r = refl
-still_sent (acts.Skip from count) r = refl
-still_sent acts.Negotiated r = refl
-still_sent (acts.PeerFinished last) r = refl
-still_sent (acts.Told from count) r = refl
-still_sent acts.Ended r = refl
-
-serves_as : (sent : ℕ) (before after : Option Range) → IfSome before (WasSent sent) → ((range : Range) → after ≡ Some range → (before ≡ Some range) ⊎ WasSent sent range) → IfSome after (WasSent sent)
-serves_as sent before None old new = tt
-serves_as sent before (Some range) old new = by_case (new range refl)
-  where
-    by_case : (before ≡ Some range) ⊎ WasSent sent range → WasSent sent range
-    by_case (inl same) = subst (λ (o : Option Range). IfSome o (WasSent sent)) same old
-    by_case (inr sent_now) = sent_now
 
 -- a range that is served was sent, also behind the outcome
 pub serves_next : (cfg : EndConfig) (most : ℕ) (f : Facts) (i : Incoming) (o : Outcome) → Serves f → Fits cfg most f i o → Serves o.next
-serves_next cfg most f i o s fits = subst (λ (n : ℕ). IfSome o.next.connection.serving (WasSent n)) (sym (ap (λ (r : EndState). r.sent) fits.recorded ∙ still_sent o.act f.recorded))
-    (serves_as f.recorded.sent f.connection.serving o.next.connection.serving s fits.served)
+serves_next cfg most f i o s fits = by_range o.next.connection.serving refl
+  where
+    by_case : (range : Range) → ((f.connection.serving ≡ Some range) × (o.next.recorded.sent ≡ f.recorded.sent)) ⊎ WasSent o.next.recorded.sent range → WasSent o.next.recorded.sent range
+    by_case range (inl same) = subst (λ (n : ℕ). WasSent n range) (sym same.1) (subst (λ (served : Option Range). IfSome served (WasSent f.recorded.sent)) same.0 s)
+    by_case range (inr was) = was
+
+    by_range : (served : Option Range) → o.next.connection.serving ≡ served → IfSome served (WasSent o.next.recorded.sent)
+    by_range None is = tt
+    by_range (Some range) is = by_case range (fits.served range is)
 
 is_payload : (order : Order) (message : List ℕ) (i : Incoming) → IsIncoming order message i → 8 ≤ length message → length message ≤ 16384 → IsMessage i
     → IsApplication (payload_of (record { order = order; message = message }))

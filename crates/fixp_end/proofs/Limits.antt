@@ -21,8 +21,8 @@ opens : (cfg : EndConfig) (m : Outgoing) → carries_credentials m ≡ is_openin
 opens cfg (outgoing.Negotiate timestamp) = refl
 opens cfg (outgoing.NegotiationResponse timestamp) = refl
 opens cfg (outgoing.NegotiationReject session timestamp code) = refl
-opens cfg (outgoing.Establish timestamp next) = refl
-opens cfg (outgoing.EstablishmentAck timestamp next) = refl
+opens cfg (outgoing.Establish timestamp next expected) = refl
+opens cfg (outgoing.EstablishmentAck timestamp next expected) = refl
 opens cfg (outgoing.EstablishmentReject session timestamp code) = refl
 opens cfg (outgoing.Sequence next) = refl
 opens cfg outgoing.UnsequencedHeartbeat = refl

@@ -19,8 +19,8 @@ pub told_sound : (x : Around) (f : Facts) (last : ℕ) → Sound x.config f → 
 told_sound x f last s = by_case (tells_finish x f last)
   where
     by_case : (b : Bool) → Sound x.config (told_as x f last b).next
-    by_case true = record { waits = s.waits; even = s.even; unread = s.unread; credentials = s.credentials; sent = s.sent; role = s.role }
-    by_case false = record { waits = s.waits; even = s.even; unread = s.unread; credentials = s.credentials; sent = s.sent; role = s.role }
+    by_case true = record { waits = s.waits; even = s.even; unread = s.unread; credentials = s.credentials; sent = s.sent; next = s.next; opening = s.opening; soft = s.soft; role = s.role }
+    by_case false = record { waits = s.waits; even = s.even; unread = s.unread; credentials = s.credentials; sent = s.sent; next = s.next; opening = s.opening; soft = s.soft; role = s.role }
 
 pub told_recorded : (x : Around) (f : Facts) (last : ℕ) → (finish_told x f last).next.recorded ≡ record f.recorded { finish = Some last }
 told_recorded x f last = by_case (tells_finish x f last)

@@ -23,7 +23,17 @@ pub turn_sound : (x : Around) (f : Facts) (runs : List Range) → Sound x.config
 turn_sound x f runs s = by_case (closes x f)
   where
     by_case : (b : Bool) → Sound x.config (turn_as x f runs b).next
-    by_case true = record { waits = s.waits; even = s.even; unread = s.unread; credentials = s.credentials; sent = s.sent; role = λ _. refl }
+    by_case true = record {
+      waits = s.waits;
+      even = s.even;
+      unread = s.unread;
+      credentials = s.credentials;
+      sent = s.sent;
+      next = s.next;
+      opening = λ n. absurd (true≢false n);
+      soft = s.soft;
+      role = λ _. refl;
+    }
     by_case false = s
 
 pub turn_recorded : (x : Around) (f : Facts) (runs : List Range) → (turn_ended x f runs).next.recorded ≡ f.recorded

@@ -14,6 +14,14 @@ recorded_with (Some outcome) recorded = outcome.next.recorded
 abbrev pub recorded_once_done : State → EndState
 recorded_once_done s = recorded_with s.pending s.facts.recorded
 
+-- and the facts
+abbrev pub facts_with : Option Outcome → Facts → Facts
+facts_with None f = f
+facts_with (Some outcome) f = outcome.next
+
+abbrev pub facts_once_done : State → Facts
+facts_once_done s = facts_with s.pending s.facts
+
 -- the end was told of no other configuration, greatest number or beginning, and this is the last moment that it was told
 pub record Stays (old new : State) (now : ℕ) : Type 0 where
   pub config : new.config ≡ old.config

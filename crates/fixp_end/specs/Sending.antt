@@ -15,4 +15,5 @@ AreFrom first messages = map (λ (m : Numbered). m.number) messages ≡ counts_f
 
 -- the frames of entries of a journal have at most 16,390 bytes each
 abbrev pub FramesFit : Type 0
-FramesFit = (entries : List Numbered) → All (λ (m : Numbered). IsPayload m.payload) entries → length (payload_frames (payloads_of entries)) ≤ 16390 * length entries
+FramesFit = (entries : List Numbered) → All (λ (m : Numbered). IsPayload m.payload) entries
+    → length (payload_frames (payloads_of entries)) ≤ 16390 * length entries

@@ -57,9 +57,10 @@ impl Model for End {
     ghost use Rattle.fixp_replies.specs.Outgoing.{outcome_of};
     ghost use Rattle.fixp_machine.specs.Machine.{State};
     ghost use Rattle.fixp_replies.specs.Outgoing.{reply_limit, written_limit};
-    ghost use Rattle.fixp_end.specs.Keeping.{Keeps};
 
     ghost Value = { State };
+
+    ghost use Rattle.fixp_end.specs.Keeping.{Keeps};
 
     ghost view = { λ e. record {
       config = e.config;
@@ -77,8 +78,7 @@ impl Model for End {
       untold = e.applied.untold;
     } };
 
-    ghost invariant = { λ e. Keeps e.config e.most e.moment e.facts (option_map (λ reply. outcome_of e.config reply e.next) e.pending) e.room e.start e.last_sent e.last_received e.applied
-        × IfSome e.pending (λ reply. written_limit e.config reply.written ≤ reply_limit e.config) };
+    ghost invariant = { λ e. Keeps e × IfSome e.pending (λ reply. written_limit e.config reply.written ≤ reply_limit e.config) };
 }
 
 impl End {
@@ -89,9 +89,10 @@ impl End {
     ghost use Rattle.fixp_shake.specs.Phases.{is_established};
     ghost use Rattle.fixp_msgs.specs.Numbering.{payload_of};
     ghost use Rattle.fixp_msgs.specs.Payload.{IsApplication};
-    ghost use Rattle.fixp_machine.specs.Fitting.{CanTake, WasSent, recorded_after};
+    ghost use Rattle.fixp_machine.specs.Fitting.{CanTake, WasSent, Records};
     ghost use Rattle.fixp_end.specs.Answers.{AnswersFrame};
-    ghost use Rattle.fixp_end.specs.Doing.{Stays, Waits, recorded_once_done};
+    ghost use Rattle.fixp_machine.specs.Sound.{KeepsSent};
+    ghost use Rattle.fixp_end.specs.Doing.{Stays, Waits, recorded_once_done, facts_once_done};
     ghost use Rattle.fixp_end.specs.Sending.{AreFrom, payloads_of};
 
     /// A new end that has begun no connection. `most` is the greatest number of an application message.
@@ -199,7 +200,9 @@ impl End {
         requires time { (self.old.moment ≤ now) × (now < 2 ^ 44) }
         ensures reply { AnswersFrame self.old self.new order message.now at now result }
         ensures takes { CanTake self.old.config.peer_flow self.old.most self.old.facts.recorded (IsApplication (payload_of (record { order = order; message = message.now }))) result }
-        ensures recorded { recorded_once_done self.new ≡ recorded_after result self.old.facts.recorded }
+        ensures recorded { Records result self.old.facts.recorded (recorded_once_done self.new) }
+        ensures sent { (recorded_once_done self.new).sent ≤ self.old.facts.recorded.sent }
+        ensures returns { KeepsSent self.old.config self.old.facts (facts_once_done self.new) }
         ensures waits { is_record result ≡ true → Waits self.old self.new }
         ensures pending { is_some self.new.pending ≡ is_record result }
         ensures stays { Stays self.old self.new now }

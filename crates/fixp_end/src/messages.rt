@@ -2,7 +2,6 @@
 
 ghost use Rattle.std.specs.Prelude.{◌≡◌, []};
 ghost use Rattle.fixp_msgs.specs.Flow.{flow_code};
-ghost use Rattle.fixp_msgs.specs.declared.messages.Expected.TheVariants as expects;
 ghost use Rattle.fixp_msgs.specs.Message.{message_of, negotiate, negotiation_response, establish, establishment_ack, retransmit_request, retransmission};
 ghost use Rattle.fixp_replies.specs.Outgoing.{outgoing_message};
 
@@ -36,15 +35,20 @@ fn negotiation_response(config: &EndConfig, request_timestamp: u64) -> SessionMs
     })
 }
 
-fn establish(config: &EndConfig, timestamp: u64, next_seq: Option<u64>) -> SessionMsg<'_>
-    ensures { message_of result ≡ establish config.now.session timestamp config.now.keepalive next_seq expects.Absent config.now.credentials }
+fn establish(
+    config: &EndConfig,
+    timestamp: u64,
+    next_seq: Option<u64>,
+    expected_next: Expected,
+) -> SessionMsg<'_>
+    ensures { message_of result ≡ establish config.now.session timestamp config.now.keepalive next_seq expected_next config.now.credentials }
 {
     SessionMsg::Establish(Establish {
         session_id: config.session,
         timestamp,
         keepalive: config.keepalive,
         next_seq,
-        expected_next: Expected::Absent,
+        expected_next,
         credentials: config.credentials.as_slice(),
     })
 }
@@ -53,15 +57,16 @@ fn establishment_ack(
     config: &EndConfig,
     request_timestamp: u64,
     next_seq: Option<u64>,
+    expected_next: Expected,
 ) -> SessionMsg<'static>
-    ensures { message_of result ≡ establishment_ack config.now.session request_timestamp config.now.keepalive next_seq expects.Absent }
+    ensures { message_of result ≡ establishment_ack config.now.session request_timestamp config.now.keepalive next_seq expected_next }
 {
     SessionMsg::EstablishmentAck(EstablishmentAck {
         session_id: config.session,
         request_timestamp,
         keepalive: config.keepalive,
         next_seq,
-        expected_next: Expected::Absent,
+        expected_next,
     })
 }
 
@@ -119,11 +124,16 @@ pub fn session_message(config: &EndConfig, message: Outgoing) -> SessionMsg<'_>
                 reason: &[],
             })
         }
-        Outgoing::Establish { timestamp, next } => establish(config, timestamp, next),
+        Outgoing::Establish {
+            timestamp,
+            next,
+            expected,
+        } => { establish(config, timestamp, next, expected) }
         Outgoing::EstablishmentAck {
             request_timestamp,
             next,
-        } => { establishment_ack(config, request_timestamp, next) }
+            expected,
+        } => { establishment_ack(config, request_timestamp, next, expected) }
         Outgoing::EstablishmentReject {
             session_id,
             request_timestamp,

@@ -9,7 +9,7 @@ ghost use Rattle.fixp_replies.specs.Incoming.{incoming_of};
 ghost use Rattle.fixp_replies.specs.Outcomes.{breaks};
 ghost use Rattle.fixp_replies.specs.Outgoing.{messages_of, outcome_of, place_limit, reply_limit, written_limit};
 ghost use Rattle.fixp_replies.specs.Replies.{reply_of, reply_to_bad_frame};
-ghost use Rattle.fixp_machine.specs.Fitting.{CanTake, IsMessage, recorded_after};
+ghost use Rattle.fixp_machine.specs.Fitting.{CanTake, IsMessage, Records};
 ghost use Rattle.fixp_machine.specs.Sound.{Sound, KeepsSound, MayWrite};
 ghost use Rattle.fixp_end.specs.Doing.{Serves};
 
@@ -30,7 +30,7 @@ pub fn reply_to_frame(around: &Around<'_>, facts: &mut Facts, incoming: &Incomin
     ensures keeps { KeepsSound around.now.config.now around.now.most facts.old (outcome_of around.now.config.now result facts.new) }
     ensures small { written_limit around.now.config.now result.written ≤ reply_limit around.now.config.now }
     ensures takes { CanTake around.now.config.now.peer_flow around.now.most facts.old.recorded (IsMessage (incoming_of incoming.now)) result.act }
-    ensures recorded { facts.new.recorded ≡ recorded_after result.act facts.old.recorded }
+    ensures recorded { Records result.act facts.old.recorded facts.new.recorded }
     ensures serves { Serves facts.new }
 {
     sound_goes_on();

@@ -11,7 +11,6 @@ use Rattle.fixp_msgs.specs.declared.numbering.Range.{Range}
 use Rattle.fixp_msgs.specs.declared.flow.Flow.{Flow}
 use Rattle.fixp_msgs.specs.declared.flow.Flow.TheVariants as flows
 use Rattle.fixp_msgs.specs.Flow.{flow_code}
-use Rattle.fixp_msgs.specs.declared.messages.Expected.TheVariants as expects
 use Rattle.fixp_msgs.specs.Message.{Message, negotiate, negotiation_response, negotiation_reject, establish, establishment_ack, establishment_reject, sequence, unsequenced_heartbeat, retransmit_request, retransmission, retransmit_reject, applied as applied_message, not_applied, finished_sending, finished_receiving, terminate}
 use Rattle.flow_recover.specs.declared.receiver.Seen.{Seen}
 use Rattle.flow_recover.specs.declared.receiver.Seen.TheVariants.{Deliver, Gap, Repeat}
@@ -38,15 +37,17 @@ use Rattle.fixp_replies.specs.Outcomes.{Outcome, Row, row, goes_on, accepts, ign
 use Rattle.fixp_replies.specs.Events.{Made, applied_runs, outbox_finished, tells_finish}
 use Rattle.fixp_machine.specs.Machine.{counted_sent}
 use Rattle.fixp_replies.specs.Announcing.{Announced, announced, announcement_fault, refuses}
-use Rattle.fixp_replies.specs.Handshake.{awaits_client, serves_client, established, acknowledges, establish_rows, established_again_rows, establish_rows_in, shaken}
+use Rattle.fixp_replies.specs.Handshake.{awaits_client, serves_client, established, acknowledges, establish_rows, established_again_rows, establish_rows_in, shaken, reached}
+use Rattle.fixp_replies.specs.Expecting.{number_in, answers_next, takes, returned, told_return, softened}
 use Rattle.fixp_replies.specs.Flowing.{bad_retransmission, counted, taken_as, finish_act, peer_finished, answers_finish, is_filled, is_past_finish, sequence_taken, sequence_follows, restarted, finished_last, finish_fault, finished}
 use Rattle.fixp_replies.specs.Serving.{request_answered, own_finishing}
 use Rattle.fixp_replies.specs.Replies.{reply_of, template_of, rows_of, answer_of, terminates}
 use Rattle.fixp_machine.proofs.Calls.{begun_as}
+use Rattle.fixp_machine.proofs.Expecting.{returned_stays}
 use Rattle.fixp_machine.proofs.Rows.{AllRows, by_row, all_rows, all_within, announced_rows, own_rows}
-use Rattle.fixp_machine.proofs.Tests.{not_true, not_false, none-some, delivers, passes}
+use Rattle.fixp_machine.proofs.Tests.{not_true, not_false, none-some, delivers, passes, is_done, not_negotiated, not_established}
 use Rattle.fixp_machine.specs.Accepting.{records_of, event_of, next_message, AsksNothing, Agrees, GrowsBy, told_in, AcceptedFrameGrows, RefusedFrameSpares, FrameTells, BeginsAgreeing, turn_end, outbox_finish, live, again, OwnKeepsAgreeing}
-use Rattle.fixp_machine.proofs.Growing.{announced_on, fault_on, in_order, gap_none, agrees_asked, quiet_grows, recoverable_announced, announced_grows, message_grows}
+use Rattle.fixp_machine.proofs.Growing.{announced_on, fault_on, in_order, gap_none, agrees_asked, Behind, quiet_grows, recoverable_announced, announced_grows, message_grows}
 
 -- what an outcome leaves: where it is accepted the inbox is grown, and else it stays; and what is skipped is told
 record Leaves (flow : Flow) (c : Option ℕ) (inbox : List InboxRecord) (i : Incoming) (o : Outcome) : Type 0 where
@@ -82,26 +83,6 @@ bad flow c inbox i x f (Some b) a = refused flow c inbox i (bad_retransmission x
 refusing : (flow : Flow) (c : Option ℕ) (inbox : List InboxRecord) (i : Incoming) (x : Around) (f : Facts) → Agrees flow c f inbox → (v : Option Violation) → Leaves flow c inbox i (refuses x f v)
 refusing flow c inbox i x f a None = refused flow c inbox i (refuses x f None) refl refl refl a
 refusing flow c inbox i x f a (Some v) = refused flow c inbox i (refuses x f (Some v)) refl refl refl a
-
--- phases
-pub is_done : (p : Phase) → is_established p ≡ true → is_shaken p ≡ true
-is_done p e = ap (λ b. b || is_closing p) e
-
-pub not_negotiated : (p : Phase) → is_negotiating p ≡ true → is_shaken p ≡ false
-not_negotiated phases.Idle e = absurd (true≢false (sym e))
-not_negotiated phases.Negotiating e = refl
-not_negotiated phases.Establishing e = absurd (true≢false (sym e))
-not_negotiated phases.Established e = absurd (true≢false (sym e))
-not_negotiated phases.Closing e = absurd (true≢false (sym e))
-not_negotiated phases.Ended e = absurd (true≢false (sym e))
-
-pub not_established : (p : Phase) → is_establishing p ≡ true → is_shaken p ≡ false
-not_established phases.Idle e = absurd (true≢false (sym e))
-not_established phases.Negotiating e = absurd (true≢false (sym e))
-not_established phases.Establishing e = refl
-not_established phases.Established e = absurd (true≢false (sym e))
-not_established phases.Closing e = absurd (true≢false (sym e))
-not_established phases.Ended e = absurd (true≢false (sym e))
 
 -- the handshake goes on, and nothing stands announced yet
 still_shaking : (flow : Flow) (c : Option ℕ) (f g : Facts) (inbox : List InboxRecord) → Agrees flow c f inbox → is_shaken f.connection.phase ≡ false → is_shaken g.connection.phase ≡ false
@@ -141,16 +122,44 @@ told_as None i = refl
 told_as (Some s) i = refl
 
 -- the handshake is done, behind an announcement
-handshaken : (x : Around) (f : Facts) (template : ℕ) (c : Option ℕ) (inbox : List InboxRecord) (i : Incoming) (next : Option ℕ) (interval : ℕ) → event_of i ≡ Some (announce handshake next)
-    → Agrees x.config.peer_flow c f inbox → announcement_fault x f template next ≡ None
-    → GrowsBy x.config.peer_flow c inbox (option_to_list (event_of i)) (records_of (skip_of (announced x f next).skipped) i) (established (announced x f next).facts interval)
-handshaken x f template c inbox i next interval e a none =
-    subst (λ k. GrowsBy x.config.peer_flow c inbox (option_to_list k) (records_of (skip_of (announced x f next).skipped) i) (established (announced x f next).facts interval)) (sym e)
-    (announced_grows x.config.peer_flow x.most template c inbox i handshake next f (established (announced x f next).facts interval) a none
-    (record { inbox_next = refl; receiver = refl; requester = refl; finish = refl; shaken = refl }))
+handshaken : (x : Around) (f : Facts) (template : ℕ) (c : Option ℕ) (inbox : List InboxRecord) (i : Incoming) (next : Option ℕ) (g : Facts) → event_of i ≡ Some (announce handshake next)
+    → Agrees x.config.peer_flow c f inbox → announcement_fault x f template next ≡ None → Behind (announced x f next).facts g
+    → GrowsBy x.config.peer_flow c inbox (option_to_list (event_of i)) (records_of (skip_of (announced x f next).skipped) i) g
+handshaken x f template c inbox i next g e a none b =
+    subst (λ k. GrowsBy x.config.peer_flow c inbox (option_to_list k) (records_of (skip_of (announced x f next).skipped) i) g) (sym e)
+    (announced_grows x.config.peer_flow x.most template c inbox i handshake next f g a none b)
+
+-- the number that the peer expects was taken, and the handshake is done
+behind_return : (x : Around) (f : Facts) (e : Expected) (interval : ℕ) → Behind f (established (returned x f e) interval)
+behind_return x f e interval = let r = returned_stays x f e in record {
+  inbox_next = r.inbox_next;
+  receiver = ap (λ c. c.receiver) r.connection;
+  requester = ap (λ c. c.requester) r.connection;
+  finish = ap (λ c. awaits_gap c.peer_finish) r.connection;
+  shaken = refl;
+}
+
+-- and no range is told
+return_tells_nothing : (x : Around) (f : Facts) (e : Expected) → told_in (told_return x f e) ≡ []
+return_tells_nothing x f e = by_test (takes x f e && not (number_in e == f.recorded.sent + 1))
+  where
+    by_test : (b : Bool) → told_in (if b then sequence (number_in e) ∷ [] else []) ≡ []
+    by_test true = refl
+    by_test false = refl
+
+-- Establish was acknowledged
+reaching : (x : Around) (f : Facts) (c : Option ℕ) (inbox : List InboxRecord) (i : Incoming) (keepalive : ℕ) (next : Option ℕ) (e : Expected) → event_of i ≡ Some (announce handshake next)
+    → Agrees x.config.peer_flow c f inbox → announcement_fault x f 5 next ≡ None → Leaves x.config.peer_flow c inbox i (reached x keepalive e (announced x f next))
+reaching x f c inbox i keepalive next e is a none =
+    let d : Announced = announced x f next in
+    let interval : ℕ = min 60000 (max 100 keepalive) in
+    going x.config.peer_flow c inbox i x (skip_of d.skipped) (told_skip d.skipped ++ told_return x d.facts e) (established (returned x d.facts e) interval)
+    (handshaken x f 5 c inbox i next (established (returned x d.facts e) interval) is a none (behind_return x d.facts e interval))
+    (flat_map-append _ (told_skip d.skipped) (told_return x d.facts e)
+    ∙ (ap (λ rs. told_in (told_skip d.skipped) ++ rs) (return_tells_nothing x d.facts e) ∙ (append-nil (told_in (told_skip d.skipped)) ∙ told_as d.skipped i)))
 
 establish_all : (x : Around) (f : Facts) (id : List ℕ) (timestamp keepalive : ℕ) (next : Option ℕ) (expected : Expected) (credentials : List ℕ) (c : Option ℕ) (inbox : List InboxRecord) → Agrees x.config.peer_flow c f inbox
-    → AllRows (Leaves x.config.peer_flow c inbox (session (establish id timestamp keepalive next expected credentials))) (establish_rows_in x f id timestamp keepalive next credentials)
+    → AllRows (Leaves x.config.peer_flow c inbox (session (establish id timestamp keepalive next expected credentials))) (establish_rows_in x f id timestamp keepalive next expected credentials)
 establish_all x f id timestamp keepalive next expected credentials c inbox a = by_place (awaits_client x f) (serves_client x f)
   where
     i : Incoming
@@ -159,21 +168,26 @@ establish_all x f id timestamp keepalive next expected credentials c inbox a = b
     P : Outcome → Type 0
     P = Leaves x.config.peer_flow c inbox i
 
-    acknowledged : announcement_fault x f 4 next ≡ None → P (acknowledges x timestamp keepalive (announced x f next))
+    acknowledged : announcement_fault x f 4 next ≡ None → P (acknowledges x timestamp keepalive expected (announced x f next))
     acknowledged none =
-        going x.config.peer_flow c inbox i x (skip_of (announced x f next).skipped)
-        (establishment_ack x.config.session timestamp x.config.keepalive (announced_number x (announced x f next).facts) expects.Absent ∷ told_skip (announced x f next).skipped)
-        (established (announced x f next).facts keepalive)
-        (handshaken x f 4 c inbox i next keepalive refl a none) (told_as (announced x f next).skipped i)
+        let d : Announced = announced x f next in
+        let g : Facts = returned x d.facts expected in
+        let b = behind_return x d.facts expected keepalive in
+        going x.config.peer_flow c inbox i x (skip_of d.skipped)
+        (establishment_ack x.config.session timestamp x.config.keepalive (announced_number x g) (answers_next x expected g) ∷ told_skip d.skipped)
+        (established (softened x expected g) keepalive)
+        (handshaken x f 4 c inbox i next (established (softened x expected g) keepalive) refl a none
+        (record { inbox_next = b.inbox_next; receiver = b.receiver; requester = b.requester; finish = b.finish; shaken = refl }))
+        (told_as d.skipped i)
 
-    by_place : (p q : Bool) → AllRows P (if p then establish_rows x f id timestamp keepalive next credentials else if q then established_again_rows x f id timestamp else [])
+    by_place : (p q : Bool) → AllRows P (if p then establish_rows x f id timestamp keepalive next expected credentials else if q then established_again_rows x f id timestamp else [])
     by_place true q = (
       λ _. refused x.config.peer_flow c inbox i _ refl refl refl a,
       λ _. (
         λ _. refused x.config.peer_flow c inbox i _ refl refl refl a,
         λ _. (
           λ _. refused x.config.peer_flow c inbox i _ refl refl refl a,
-          λ _. announced_rows P x f 4 next (acknowledges x timestamp keepalive) (refusing x.config.peer_flow c inbox i x f a) acknowledged,
+          λ _. announced_rows P x f 4 next (acknowledges x timestamp keepalive expected) (refusing x.config.peer_flow c inbox i x f a) acknowledged,
         ),
       ),
     )
@@ -437,11 +451,9 @@ session_rows x f (negotiation_reject id timestamp code reason) c inbox a =
 session_rows x f (establish id timestamp keepalive next expected credentials) c inbox a = establish_all x f id timestamp keepalive next expected credentials c inbox a
 session_rows x f (establishment_ack id timestamp keepalive next expected) c inbox a =
     let i = session (establishment_ack id timestamp keepalive next expected) in
-    let interval : ℕ = min 60000 (max 100 keepalive) in
     own_rows (Leaves x.config.peer_flow c inbox i) x f 5 id _ (λ e. refused x.config.peer_flow c inbox i _ refl refl refl a) (all_within (Leaves x.config.peer_flow c inbox i) (is_establishing f.connection.phase) _ (λ _.
-    announced_rows (Leaves x.config.peer_flow c inbox i) x f 5 next (λ (d : Announced). goes_on x (skip_of d.skipped) (told_skip d.skipped) (established d.facts interval)) (refusing x.config.peer_flow c inbox i x f a)
-    (λ none. going x.config.peer_flow c inbox i x (skip_of (announced x f next).skipped) (told_skip (announced x f next).skipped) (established (announced x f next).facts interval)
-    (handshaken x f 5 c inbox i next interval refl a none) (told_as (announced x f next).skipped i))))
+    announced_rows (Leaves x.config.peer_flow c inbox i) x f 5 next (reached x keepalive expected) (refusing x.config.peer_flow c inbox i x f a)
+    (λ none. reaching x f c inbox i keepalive next expected refl a none)))
 session_rows x f (establishment_reject id timestamp code reason) c inbox a =
     let i = session (establishment_reject id timestamp code reason) in
     own_rows (Leaves x.config.peer_flow c inbox i) x f 6 id _ (λ e. refused x.config.peer_flow c inbox i _ refl refl refl a) (all_within (Leaves x.config.peer_flow c inbox i) (is_establishing f.connection.phase) _ (λ n. (

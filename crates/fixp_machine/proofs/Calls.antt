@@ -1,5 +1,5 @@
 -- Each call of a session machine keeps its facts sound.
-use Rattle.std.proofs.Common.{◌≡◌, ℕ, ◌-◌, ◌||◌, Bool, true, false, not, if◌then◌else◌, List, [], ◌∷◌, Option, Some, None, refl, sym, subst, ◌∙◌, true≢false}
+use Rattle.std.proofs.Common.{◌≡◌, ℕ, ◌-◌, ◌<◌, ◌^◌, ◌||◌, Bool, true, false, not, if◌then◌else◌, List, [], ◌∷◌, Option, Some, None, refl, sym, subst, ◌∙◌, true≢false}
 use Rattle.std.specs.Prelude.{is_some, IfSome}
 use Rattle.fixp_msgs.specs.declared.numbering.Range.{Range}
 use Rattle.flow_idem.specs.Runs.{runs_of}
@@ -20,6 +20,7 @@ use Rattle.fixp_replies.specs.Serving.{own_finishing}
 use Rattle.fixp_machine.specs.Sound.{Sound, KeepsSound}
 use Rattle.fixp_machine.specs.Machine.{State, around, bytes_of, wrote, made, connected, reply_applied, after_bad_frame, after_act, broken_by, begin, frame, bad_frame, did, tick, turn_done, closed, link_end, live, again, taken, reserve, done_pending, served_again, step, StaysSound, CallsKeepSound}
 use Rattle.fixp_machine.proofs.Keeping.{sound_goes_on}
+use Rattle.fixp_machine.proofs.Tests.{none-some}
 
 -- one of two states
 either : (P : State → Type 0) (b : Bool) (first second : State) → (b ≡ true → P first) → (b ≡ false → P second) → P (if b then first else second)
@@ -27,13 +28,23 @@ either P true first second p q = p refl
 either P false first second p q = q refl
 
 -- nothing is pending
-none_pending : (s : State) → Sound s.config s.facts → s.pending ≡ None → StaysSound s
-none_pending s f none = record { facts = f; pending = subst (λ (p : Option Outcome). IfSome p (λ o. KeepsSound s.config s.most s.facts o)) (sym none) tt }
+none_pending : (s : State) → s.most < 2 ^ 40 → Sound s.config s.facts → s.pending ≡ None → StaysSound s
+none_pending s low f none = record { most = low; facts = f; pending = subst (λ (p : Option Outcome). IfSome p (λ o. KeepsSound s.config s.most s.facts o)) (sym none) tt }
 
 -- the facts of a connection that begins are sound where what is recorded is
 connecting_sound : (cfg : EndConfig) (f : Facts) (phase : Phase) → Sound cfg f → (is_initiator cfg.role ≡ false → (is_negotiating phase || is_establishing phase) ≡ false)
     → Sound cfg (connecting f.recorded phase)
-connecting_sound cfg f phase s role = record { waits = λ _. refl; even = λ _. refl; unread = λ _. refl; credentials = s.credentials; sent = s.sent; role = role }
+connecting_sound cfg f phase s role = record {
+  waits = λ _. refl;
+  even = λ _. refl;
+  unread = λ _. refl;
+  credentials = s.credentials;
+  sent = s.sent;
+  next = s.next;
+  opening = λ _. record { no_request = refl; no_gap = refl; no_range = refl; firm = refl };
+  soft = λ t. absurd (true≢false (sym t));
+  role = role;
+}
 
 -- how a connection begins, by the role and by whether the session was negotiated
 abbrev pub begun_as : Around → EndState → (initiates negotiated : Bool) → Made
@@ -51,10 +62,10 @@ begun_sound x f s = by_case (is_initiator x.config.role) f.recorded.negotiated r
     by_case true false e = connecting_sound x.config f phases.Negotiating s (λ t. absurd (true≢false (sym e ∙ t)))
 
 closed_sound : (cfg : EndConfig) (f : Facts) (last : ℕ) → Sound cfg f → Sound cfg (outbox_finished f last)
-closed_sound cfg f last s = record { waits = s.waits; even = s.even; unread = s.unread; credentials = s.credentials; sent = s.sent; role = s.role }
+closed_sound cfg f last s = record { waits = s.waits; even = s.even; unread = s.unread; credentials = s.credentials; sent = s.sent; next = s.next; opening = s.opening; soft = s.soft; role = s.role }
 
 told_sound : (cfg : EndConfig) (f : Facts) (last : ℕ) → Sound cfg f → Sound cfg (own_finishing (outbox_finished f last) own.Told)
-told_sound cfg f last s = record { waits = s.waits; even = s.even; unread = s.unread; credentials = s.credentials; sent = s.sent; role = s.role }
+told_sound cfg f last s = record { waits = s.waits; even = s.even; unread = s.unread; credentials = s.credentials; sent = s.sent; next = s.next; opening = s.opening; soft = s.soft; role = s.role }
 
 abbrev chosen : Bool → Made → Made → Made
 chosen b first second = if b then first else second
@@ -65,55 +76,85 @@ one_made P false first second p q = q
 
 done_sound : (s : State) (p : Option Outcome) (now : ℕ) → StaysSound s → IfSome p (λ o. KeepsSound s.config s.most s.facts o) → StaysSound (done_pending s p now)
 done_sound s None now h k = h
-done_sound s (Some o) now h k = none_pending (after_act s o now) k.next refl
+done_sound s (Some o) now h k = none_pending (after_act s o now) h.most k.next refl
 
 broken_sound : (s : State) (v : Option Violation) (now : ℕ) → StaysSound s → StaysSound (broken_by s v now)
 broken_sound s None now h = h
-broken_sound s (Some v) now h = none_pending (broken_by s (Some v) now) h.facts refl
+broken_sound s (Some v) now h = none_pending (broken_by s (Some v) now) h.most h.facts refl
 
-again_sound : (s : State) (r : Option Range) (payloads : List (List ℕ)) (now : ℕ) → StaysSound s → s.pending ≡ None → StaysSound (served_again s r payloads now)
-again_sound s None payloads now h done = h
-again_sound s (Some r) payloads now h done = none_pending (served_again s (Some r) payloads now)
-    (record { waits = h.facts.waits; even = h.facts.even; unread = h.facts.unread; credentials = h.facts.credentials; sent = h.facts.sent; role = h.facts.role }) done
+again_sound : (s : State) (r : Option Range) (payloads : List (List ℕ)) (now : ℕ) → s.facts.connection.serving ≡ r → StaysSound s → s.pending ≡ None → StaysSound (served_again s r payloads now)
+again_sound s None payloads now is h done = h
+again_sound s (Some r) payloads now is h done = none_pending (served_again s (Some r) payloads now) h.most
+    (record {
+      waits = h.facts.waits;
+      even = h.facts.even;
+      unread = h.facts.unread;
+      credentials = h.facts.credentials;
+      sent = h.facts.sent;
+      next = h.facts.next;
+      opening = λ n. absurd (none-some (Some r) refl (sym is ∙ (h.facts.opening n).no_range));
+      soft = h.facts.soft;
+      role = h.facts.role;
+    }) done
 
 pub calls_keep_sound : CallsKeepSound
-calls_keep_sound s (begin now) h may = none_pending (connected s now) (begun_sound (around s 0 now) s.facts h.facts) refl
+calls_keep_sound s (begin now) h may = none_pending (connected s now) h.most (begun_sound (around s 0 now) s.facts h.facts) refl
 calls_keep_sound s (frame incoming at now) h may =
     let o : Outcome = reply_of (around s at now) s.facts incoming in
-    let k : KeepsSound s.config s.most s.facts o = sound_goes_on (around s at now) s.facts incoming h.facts in
+    let k : KeepsSound s.config s.most s.facts o = sound_goes_on (around s at now) s.facts incoming h.most h.facts in
     either StaysSound (is_record o.act) (record s { moment = now; last_received = now; room = s.room - 1; pending = Some o })
     (reply_applied (record s { moment = now; last_received = now; room = s.room - 1 }) o now)
-    (λ _. record { facts = h.facts; pending = k })
-    (λ _. none_pending (reply_applied (record s { moment = now; last_received = now; room = s.room - 1 }) o now) k.next refl)
-calls_keep_sound s (bad_frame at now) h may = none_pending (after_bad_frame s at now) h.facts refl
+    (λ _. record { most = h.most; facts = h.facts; pending = k })
+    (λ _. none_pending (reply_applied (record s { moment = now; last_received = now; room = s.room - 1 }) o now) h.most k.next refl)
+calls_keep_sound s (bad_frame at now) h may = none_pending (after_bad_frame s at now) h.most h.facts refl
 calls_keep_sound s (did now) h may = done_sound s s.pending now h h.pending
 calls_keep_sound s (tick now) h may =
     let x : Around = around s 0 now in
     let beat : State = wrote (record s { moment = now }) (bytes_of (heartbeats x s.facts s.last_sent s.unsent)) now in
     either StaysSound (is_some s.ending) (record s { moment = now }) (broken_by beat (lateness x s.facts s.start s.last_received) now)
-    (λ _. record { facts = h.facts; pending = h.pending })
-    (λ _. broken_sound beat (lateness x s.facts s.start s.last_received) now (record { facts = h.facts; pending = h.pending }))
+    (λ _. record { most = h.most; facts = h.facts; pending = h.pending })
+    (λ _. broken_sound beat (lateness x s.facts s.start s.last_received) now (record { most = h.most; facts = h.facts; pending = h.pending }))
 calls_keep_sound s (turn_done now) h may =
     let x : Around = around s 0 now in
     let m : Made = turn_ended x s.facts (runs_of s.untold) in
     let next : Sound s.config m.next = one_made (λ f. Sound s.config f) (closes x s.facts) _ _
-    (record { waits = h.facts.waits; even = h.facts.even; unread = h.facts.unread; credentials = h.facts.credentials; sent = h.facts.sent; role = λ _. refl }) h.facts in
+    (record {
+      waits = h.facts.waits;
+      even = h.facts.even;
+      unread = h.facts.unread;
+      credentials = h.facts.credentials;
+      sent = h.facts.sent;
+      next = h.facts.next;
+      opening = λ n. absurd (true≢false n);
+      soft = h.facts.soft;
+      role = λ _. refl;
+    }) h.facts in
     either StaysSound (is_some s.ending) (record s { moment = now }) (record (made (record s { moment = now }) m now) { untold = [] })
-    (λ _. record { facts = h.facts; pending = h.pending })
-    (λ _. none_pending (record (made (record s { moment = now }) m now) { untold = [] }) next may)
+    (λ _. record { most = h.most; facts = h.facts; pending = h.pending })
+    (λ _. none_pending (record (made (record s { moment = now }) m now) { untold = [] }) h.most next may)
 calls_keep_sound s (closed last now) h may =
     let x : Around = around s 0 now in
     let m : Made = finish_told x s.facts last in
     let next : Sound s.config m.next = one_made (λ f. Sound s.config f) (tells_finish x s.facts last) _ _ (told_sound s.config s.facts last h.facts) (closed_sound s.config s.facts last h.facts) in
     either StaysSound (is_some s.ending) (record s { moment = now; facts = outbox_finished s.facts last }) (made (record s { moment = now }) m now)
-    (λ _. none_pending (record s { moment = now; facts = outbox_finished s.facts last }) (closed_sound s.config s.facts last h.facts) may)
-    (λ _. none_pending (made (record s { moment = now }) m now) next may)
+    (λ _. none_pending (record s { moment = now; facts = outbox_finished s.facts last }) h.most (closed_sound s.config s.facts last h.facts) may)
+    (λ _. none_pending (made (record s { moment = now }) m now) h.most next may)
 calls_keep_sound s link_end h may =
     either StaysSound (is_some s.ending) s (record s { ending = Some (link_ending (around s 0 s.moment) s.facts); pending = None })
-    (λ _. h) (λ _. none_pending (record s { ending = Some (link_ending (around s 0 s.moment) s.facts); pending = None }) h.facts refl)
+    (λ _. h) (λ _. none_pending (record s { ending = Some (link_ending (around s 0 s.moment) s.facts); pending = None }) h.most h.facts refl)
 calls_keep_sound s (live payloads now) h may =
-    none_pending (step s (live payloads now))
-    (record { waits = h.facts.waits; even = h.facts.even; unread = h.facts.unread; credentials = h.facts.credentials; sent = may.1; role = h.facts.role }) may.0
-calls_keep_sound s (again payloads now) h may = again_sound s s.facts.connection.serving payloads now h may
-calls_keep_sound s (taken count) h may = record { facts = h.facts; pending = h.pending }
-calls_keep_sound s reserve h may = record { facts = h.facts; pending = h.pending }
+    none_pending (step s (live payloads now)) h.most
+    (record {
+      waits = h.facts.waits;
+      even = h.facts.even;
+      unread = h.facts.unread;
+      credentials = h.facts.credentials;
+      sent = may.1;
+      next = h.facts.next;
+      opening = h.facts.opening;
+      soft = h.facts.soft;
+      role = h.facts.role;
+    }) may.0
+calls_keep_sound s (again payloads now) h may = again_sound s s.facts.connection.serving payloads now refl h may
+calls_keep_sound s (taken count) h may = record { most = h.most; facts = h.facts; pending = h.pending }
+calls_keep_sound s reserve h may = record { most = h.most; facts = h.facts; pending = h.pending }

@@ -1,5 +1,5 @@
 -- What an announcement and a message make of an inbox, for each kind of flow.
-use Rattle.std.proofs.Common.{◌≡◌, ℕ, ◌+◌, ◌-◌, ◌≤◌, max, nat_lt, not, Bool, true, false, if◌then◌else◌, List, [], ◌∷◌, ◌++◌, length, Option, Some, None, IfSome, option_map, refl, sym, ap, subst, ◌∙◌, arith, append-nil, true≢false}
+use Rattle.std.proofs.Common.{◌≡◌, ℕ, ◌+◌, ◌-◌, ◌≤◌, max, nat_lt, not, ◌||◌, Bool, true, false, if◌then◌else◌, List, [], ◌∷◌, ◌++◌, length, Option, Some, None, IfSome, option_map, refl, sym, ap, subst, ◌∙◌, arith, append-nil, true≢false}
 use Rattle.std.specs.Prelude.{is_some, is_none, unwrap_or}
 use Rattle.std.specs.List.{AllByRecursion}
 use Rattle.std.proofs.lemmas.Bool.{ltb-false}
@@ -20,7 +20,7 @@ use Rattle.fixp_shake.specs.Flows.{is_recoverable, is_idempotent, is_sequenced, 
 use Rattle.fixp_shake.specs.Phases.{is_shaken}
 use Rattle.fixp_replies.specs.declared.facts.Facts.{Facts}
 use Rattle.fixp_replies.specs.Incoming.{Incoming}
-use Rattle.fixp_replies.specs.Facts.{receiving, awaiting, awaits_gap, having_asked, gap_to_ask}
+use Rattle.fixp_replies.specs.Facts.{receiving, firm, awaiting, awaits_gap, having_asked, gap_to_ask}
 use Rattle.fixp_replies.specs.Outcomes.{skip_of}
 use Rattle.fixp_replies.specs.Announcing.{Announced, jumped_over}
 use Rattle.fixp_machine.proofs.Tests.{no_gap}
@@ -30,13 +30,14 @@ use Rattle.fixp_machine.specs.Accepting.{model_flow, records_of, next_message, A
 abbrev pub announced_on : Flow → Facts → Option ℕ → Announced
 announced_on flow f next =
     if is_recoverable flow
-    then record { facts = receiving f (receiver_is.announced f.connection.receiver (unwrap_or next 0)); skipped = None }
+    then record { facts = firm (receiving f (receiver_is.announced f.connection.receiver (unwrap_or next 0))); skipped = None }
     else if is_idempotent flow
     then record { facts = awaiting f (unwrap_or next 0); skipped = jumped_over f.recorded.inbox_next (unwrap_or next 0) }
     else record { facts = f; skipped = None }
 
 abbrev expected_on : Flow → Facts → ℕ
-expected_on flow f = if is_recoverable flow then receiver_is.expected f.connection.receiver else f.recorded.inbox_next
+expected_on flow f =
+    if is_recoverable flow then (if f.connection.soft then f.connection.receiver.next else receiver_is.expected f.connection.receiver) else f.recorded.inbox_next
 
 abbrev pub fault_on : Flow → (most : ℕ) → Facts → (template : ℕ) (next : Option ℕ) → Option Violation
 fault_on flow most f template next =
@@ -71,11 +72,12 @@ pub gap_none : (f : Facts) → AsksNothing f → receiver_is.gap f.connection.re
 gap_none f q = no_gap f.connection.receiver.next f.connection.receiver.live q.no_gap
 
 none_to_ask : (f : Facts) → AsksNothing f → gap_to_ask f ≡ None
-none_to_ask f q = by_test (is_none _)
+none_to_ask f q = by_tests f.connection.soft (is_some _)
   where
-    by_test : (b : Bool) → (if b then receiver_is.gap f.connection.receiver else None) ≡ None
-    by_test true = gap_none f q
-    by_test false = refl
+    by_tests : (a b : Bool) → (if a || b then None else receiver_is.gap f.connection.receiver) ≡ None
+    by_tests false false = gap_none f q
+    by_tests false true = refl
+    by_tests true b = refl
 
 asked_agrees : (flow : Flow) (c : Option ℕ) (f : Facts) (inbox : List InboxRecord) (g : Option Range) → (is_recoverable flow ≡ false → g ≡ None)
     → Agrees flow c f inbox → Agrees flow c (having_asked f g) inbox

@@ -5,7 +5,7 @@ use Rattle.std.specs.List.{AllByRecursion}
 use Rattle.std.proofs.lemmas.Bool.{ltb-false}
 use Rattle.fixp_msgs.specs.declared.numbering.Range.{Range}
 use Rattle.fixp_msgs.specs.Flow.{flow_code}
-use Rattle.fixp_msgs.specs.declared.messages.Expected.TheVariants as expects
+use Rattle.fixp_msgs.specs.declared.messages.Expected.{Expected}
 use Rattle.fixp_msgs.specs.Message.{Message, negotiate, negotiation_response, negotiation_reject, establish, establishment_ack, establishment_reject, sequence, unsequenced_heartbeat, retransmit_request, retransmission, retransmit_reject, applied, not_applied, finished_sending, finished_receiving, terminate}
 use Rattle.flow_recover.specs.declared.receiver.Seen.{Seen}
 use Rattle.flow_recover.specs.declared.receiver.Seen.TheVariants.{Deliver, Gap, Repeat}
@@ -15,14 +15,16 @@ use Rattle.flow_retrans.specs.declared.requester.BadStart.{BadStart}
 use Rattle.flow_retrans.specs.declared.judging.RetransmitCode.{RetransmitCode}
 use Rattle.flow_retrans.specs.Judging.{judged, code_of}
 use Rattle.flow_retrans.specs.Requests as request_is
-use Rattle.fixp_msgs.specs.Canonical.{IsWritable}
-use Rattle.fixp_msgs.specs.Table.{null}
+use Rattle.flow_retrans.specs.declared.request.Request.{Request}
+use Rattle.flow_retrans.specs.declared.request.Request.TheVariants as requests
+use Rattle.fixp_msgs.specs.Canonical.{IsWritable, IsWritableField}
+use Rattle.fixp_msgs.specs.Table.{Field, null}
 use Rattle.fixp_shake.specs.declared.config.EndConfig.{EndConfig}
 use Rattle.fixp_shake.specs.declared.phase.Phase.TheVariants as phases
 use Rattle.fixp_shake.specs.declared.violation.Violation.{Violation}
 use Rattle.fixp_shake.specs.declared.violation.Violation.TheVariants.{AfterFinish, MissingNext, NumberTooLarge, WentBack}
 use Rattle.fixp_shake.specs.Flows.{is_recoverable, is_idempotent, is_sequenced}
-use Rattle.fixp_shake.specs.Phases.{is_negotiating, is_establishing, is_established, is_closing}
+use Rattle.fixp_shake.specs.Phases.{is_idle, is_negotiating, is_establishing, is_established, is_closing, is_shaken}
 use Rattle.fixp_replies.specs.declared.act.Act.{Act}
 use Rattle.fixp_replies.specs.declared.act.Act.TheVariants as acts
 use Rattle.fixp_replies.specs.declared.act.Ending.{Ending}
@@ -31,16 +33,18 @@ use Rattle.fixp_replies.specs.declared.facts.Facts.{Facts}
 use Rattle.fixp_replies.specs.declared.facts.PeerFinish.TheVariants as peer
 use Rattle.fixp_replies.specs.declared.facts.OwnFinish.TheVariants as own
 use Rattle.fixp_replies.specs.Incoming.{Incoming, application, session, wrong_order, too_short, unknown}
-use Rattle.fixp_replies.specs.Facts.{Around, is_initiator, is_own, in_phase, receiving, requesting, serves, negotiated as as_negotiated, awaiting, gap_to_ask, having_asked, announced_number, expected_number, message_number, peer_last, awaits_gap}
+use Rattle.fixp_replies.specs.Facts.{Around, is_initiator, is_own, in_phase, receiving, requesting, firm, serves, negotiated as as_negotiated, awaiting, gap_to_ask, having_asked, announced_number, expected_number, message_number, peer_last, awaits_gap}
 use Rattle.fixp_replies.specs.Outcomes.{Outcome, Row, row, goes_on, accepts, rejects, ignores, ends_with, ends, breaks, not_in_phase, request_for, skip_of, told_skip, opening_negotiate, opening_establish}
 use Rattle.fixp_replies.specs.Announcing.{Announced, jumped_over, announced, announcement_fault, refuses, announcement_rows}
-use Rattle.fixp_replies.specs.Handshake.{awaits_client, serves_client, rejects_negotiate, rejects_establish, established, acknowledges, establish_rows, established_again_rows, establish_rows_in, shaken}
+use Rattle.fixp_replies.specs.Handshake.{awaits_client, serves_client, rejects_negotiate, rejects_establish, established, acknowledges, establish_rows, established_again_rows, establish_rows_in, shaken, reached}
+use Rattle.fixp_replies.specs.Expecting.{is_newer, is_present, number_in, told_next, answers_next, takes, returned, told_return, softens, softened}
 use Rattle.fixp_replies.specs.Flowing.{bad_retransmission, counted, taken_as, finish_act, peer_finished, answers_finish, is_filled, sequence_follows, restarted, finished_last, finish_fault, finished}
 use Rattle.fixp_replies.specs.Serving.{request_answered, own_finishing}
 use Rattle.fixp_replies.specs.Replies.{template_of, rows_of, answer_of, terminates}
-use Rattle.fixp_machine.specs.Sound.{Sound, Advances, is_opening, MayWrite, WithinMost, KeepsSound, SoundGoesOn}
+use Rattle.fixp_machine.specs.Sound.{IsOpening, IsSoft, Sound, Advances, is_opening, MayWrite, WithinMost, may_return, KeepsSent, KeepsSound, SoundGoesOn}
+use Rattle.fixp_machine.proofs.Expecting.{Stays, returned_stays, kept, returned_keeps, told_writable, answer_writable}
 use Rattle.fixp_machine.proofs.Rows.{AllRows, by_row, all_rows, all_within, announced_rows, own_rows}
-use Rattle.fixp_machine.proofs.Tests.{not_true, not_false, none-some, delivers, passes, no_gap}
+use Rattle.fixp_machine.proofs.Tests.{not_true, not_false, none-some, delivers, passes, no_gap, is_done, not_negotiated, not_established, not_opened}
 
 abbrev Writes : EndConfig → List Message → Type 0
 Writes cfg ms = AllByRecursion (MayWrite cfg) ms
@@ -63,9 +67,18 @@ not_null x f h = by_flow (is_sequenced x.config.own_flow)
 writes_terminate : (cfg : EndConfig) (code : ℕ) → Writes cfg (terminate cfg.session code [] ∷ [])
 writes_terminate cfg code = plain cfg (terminate cfg.session code []) refl (record { numbers = (tt, (tt, tt)); datum = omega arith })
 
-writes_ack : (x : Around) (f : Facts) (timestamp : ℕ) → f.recorded.sent < 2 ^ 40 → Writes x.config (establishment_ack x.config.session timestamp x.config.keepalive (announced_number x f) expects.Absent ∷ [])
-writes_ack x f timestamp h = plain x.config (establishment_ack x.config.session timestamp x.config.keepalive (announced_number x f) expects.Absent) refl
-    (record { numbers = (tt, (tt, (tt, (not_null x f h, (tt, tt))))); datum = tt })
+writes_ack : (x : Around) (f : Facts) (timestamp : ℕ) (e : Expected) → f.recorded.sent < 2 ^ 40 → (is_recoverable x.config.peer_flow ≡ true → f.recorded.inbox_next + 1 < 2 ^ 64)
+    → Writes x.config (establishment_ack x.config.session timestamp x.config.keepalive (announced_number x f) (answers_next x e f) ∷ [])
+writes_ack x f timestamp e h low = plain x.config (establishment_ack x.config.session timestamp x.config.keepalive (announced_number x f) (answers_next x e f)) refl
+    (record { numbers = (tt, (tt, (tt, (not_null x f h, (answer_writable x e f low, tt))))); datum = tt })
+
+-- the Sequence that tells where an end starts
+writes_return : (x : Around) (f : Facts) (e : Expected) → Writes x.config (told_return x f e)
+writes_return x f e = by_test (takes x f e && not (number_in e == f.recorded.sent + 1))
+  where
+    by_test : (b : Bool) → Writes x.config (if b then sequence (number_in e) ∷ [] else [])
+    by_test true = plain x.config (sequence (number_in e)) refl (record { numbers = (tt, tt); datum = tt })
+    by_test false = tt
 
 asks_not : (x : Around) (g : Option Range) → Writes x.config (request_for x g)
 asks_not x None = tt
@@ -83,35 +96,62 @@ writes_receiving cfg = plain cfg (finished_receiving cfg.session) refl (record {
 writes_negotiate : (x : Around) → is_initiator x.config.role ≡ true → length x.config.credentials ≤ 2048 → Writes x.config (opening_negotiate x ∷ [])
 writes_negotiate x i h = (record { opening = λ _. i; writable = record { numbers = (tt, (tt, (tt, tt))); datum = h } }, tt)
 
-writes_establish : (x : Around) (f : Facts) → is_initiator x.config.role ≡ true → length x.config.credentials ≤ 2048 → f.recorded.sent < 2 ^ 40 → Writes x.config (opening_establish x f ∷ [])
-writes_establish x f i h sent = (record { opening = λ _. i; writable = record { numbers = (tt, (tt, (tt, (not_null x f sent, (tt, tt))))); datum = h } }, tt)
+writes_establish : (x : Around) (f : Facts) → is_initiator x.config.role ≡ true → length x.config.credentials ≤ 2048 → f.recorded.sent < 2 ^ 40
+    → (is_recoverable x.config.peer_flow ≡ true → f.recorded.inbox_next + 1 < 2 ^ 64) → Writes x.config (opening_establish x f ∷ [])
+writes_establish x f i h sent low = (record { opening = λ _. i; writable = record { numbers = (tt, (tt, (tt, (not_null x f sent, (told_writable x f low, tt))))); datum = h } }, tt)
 
-asked_sound : (cfg : EndConfig) (f : Facts) (g : Option Range) → Sound cfg f → Sound cfg (having_asked f g)
-asked_sound cfg f None s = s
-asked_sound cfg f (Some g) s = record { waits = s.waits; even = s.even; unread = s.unread; credentials = s.credentials; sent = s.sent; role = s.role }
+-- a gap that is to be asked for is there, and the connection is not soft
+asks_gap : (f : Facts) (g : Range) → gap_to_ask f ≡ Some g → (f.connection.soft ≡ false) × (receiver_is.gap f.connection.receiver ≡ Some g)
+asks_gap f g = by_tests f.connection.soft (is_some (request_is.outstanding f.connection.requester))
+  where
+    by_tests : (a b : Bool) → (if a || b then None else receiver_is.gap f.connection.receiver) ≡ Some g → (a ≡ false) × (receiver_is.gap f.connection.receiver ≡ Some g)
+    by_tests false false e = (refl, e)
+    by_tests false true e = absurd cc
+    by_tests true b e = absurd cc
+
+asked_sound : (cfg : EndConfig) (f : Facts) (g : Option Range) → gap_to_ask f ≡ g → Sound cfg f → Sound cfg (having_asked f g)
+asked_sound cfg f None e s = s
+asked_sound cfg f (Some g) e s =
+    let a = asks_gap f g e in
+    record {
+      waits = s.waits;
+      even = s.even;
+      unread = s.unread;
+      credentials = s.credentials;
+      sent = s.sent;
+      next = s.next;
+      opening = λ n. absurd (none-some (receiver_is.gap f.connection.receiver) (ap is_some a.1) (no_gap f.connection.receiver.next f.connection.receiver.live (s.opening n).no_gap));
+      soft = λ t. absurd (true≢false (sym t ∙ a.0));
+      role = s.role;
+    }
 
 asked_awaits : (f : Facts) (g : Option Range) → (having_asked f g).recorded.inbox_next ≡ f.recorded.inbox_next
 asked_awaits f None = refl
 asked_awaits f (Some g) = refl
 
-asked_sent : (f : Facts) (g : Option Range) → (having_asked f g).recorded.sent ≡ f.recorded.sent
-asked_sent f None = refl
-asked_sent f (Some g) = refl
+asked_keeps : (cfg : EndConfig) (f next : Facts) (g : Option Range) → KeepsSent cfg f next → KeepsSent cfg f (having_asked next g)
+asked_keeps cfg f next None k = k
+asked_keeps cfg f next (Some g) k = record { most = k.most; same = k.same }
 
 -- the connection goes on with facts that are sound
-going : (x : Around) (f next : Facts) (act : Act) (written : List Message) → Sound x.config next → next.recorded.sent ≡ f.recorded.sent
+going_by : (x : Around) (f next : Facts) (act : Act) (written : List Message) → Sound x.config next → KeepsSent x.config f next
     → Advances act f.recorded.inbox_next next.recorded.inbox_next → WithinMost x.most act → Writes x.config written → KeepsSound x.config x.most f (goes_on x act written next)
-going x f next act written s same a w o = record {
-  next = asked_sound x.config next (gap_to_ask next) s;
-  sent = asked_sent next (gap_to_ask next) ∙ same;
+going_by x f next act written s same a w o = record {
+  next = asked_sound x.config next (gap_to_ask next) refl s;
+  sent = asked_keeps x.config f next (gap_to_ask next) same;
   advances = subst (λ n. Advances act f.recorded.inbox_next n) (sym (asked_awaits next (gap_to_ask next))) a;
   within = w;
   writes = writes_behind x.config written (request_for x (gap_to_ask next)) o (asks_not x (gap_to_ask next));
 }
 
+-- as many entries count as sent
+going : (x : Around) (f next : Facts) (act : Act) (written : List Message) → Sound x.config next → next.recorded.sent ≡ f.recorded.sent
+    → Advances act f.recorded.inbox_next next.recorded.inbox_next → WithinMost x.most act → Writes x.config written → KeepsSound x.config x.most f (goes_on x act written next)
+going x f next act written s same a w o = going_by x f next act written s (kept x.config f next same) a w o
+
 -- nothing changes
 staying : (x : Around) (f : Facts) (m : Message) → Sound x.config f → is_opening m ≡ false → IsWritable m → KeepsSound x.config x.most f (rejects (m ∷ []) f)
-staying x f m s e w = record { next = s; sent = refl; advances = refl; within = tt; writes = plain x.config m e w }
+staying x f m s e w = record { next = s; sent = kept x.config f f refl; advances = refl; within = tt; writes = plain x.config m e w }
 
 -- a reject without a reason
 rejecting_negotiate : (x : Around) (f : Facts) (id : List ℕ) (timestamp code : ℕ) → Sound x.config f → KeepsSound x.config x.most f (rejects_negotiate f id timestamp code)
@@ -121,13 +161,13 @@ rejecting_establish : (x : Around) (f : Facts) (id : List ℕ) (timestamp code :
 rejecting_establish x f id timestamp code s = staying x f (establishment_reject id timestamp code []) s refl (record { numbers = (tt, (tt, (tt, tt))); datum = omega arith })
 
 ignoring : (x : Around) (f : Facts) → Sound x.config f → KeepsSound x.config x.most f (ignores f)
-ignoring x f s = record { next = s; sent = refl; advances = refl; within = tt; writes = tt }
+ignoring x f s = record { next = s; sent = kept x.config f f refl; advances = refl; within = tt; writes = tt }
 
 ending : (x : Around) (f : Facts) (code : ℕ) (e : Ending) → Sound x.config f → KeepsSound x.config x.most f (ends x f code e)
-ending x f code e s = record { next = s; sent = refl; advances = refl; within = tt; writes = writes_terminate x.config code }
+ending x f code e s = record { next = s; sent = kept x.config f f refl; advances = refl; within = tt; writes = writes_terminate x.config code }
 
 rejecting : (x : Around) (f : Facts) (e : Ending) → Sound x.config f → KeepsSound x.config x.most f (ends_with x f [] e)
-rejecting x f e s = record { next = s; sent = refl; advances = refl; within = tt; writes = tt }
+rejecting x f e s = record { next = s; sent = kept x.config f f refl; advances = refl; within = tt; writes = tt }
 
 refusing : (x : Around) (f : Facts) → Sound x.config f → (v : Option Violation) → KeepsSound x.config x.most f (refuses x f v)
 refusing x f s None = ignoring x f s
@@ -137,9 +177,33 @@ bad : (x : Around) (f : Facts) (b : Option BadStart) → Sound x.config f → Ke
 bad x f None s = ignoring x f s
 bad x f (Some b) s = ending x f 2 _ s
 
--- what an announcement makes is sound, and skips exactly what lies before it
+-- sound facts, but for what holds before the handshake is done
+record Steady (cfg : EndConfig) (f : Facts) : Type 0 where
+  waits : is_recoverable cfg.peer_flow ≡ true → f.connection.receiver.next ≡ f.recorded.inbox_next
+  even : is_recoverable cfg.peer_flow ≡ false → f.connection.receiver.live ≡ f.connection.receiver.next
+  unread : is_recoverable cfg.peer_flow ≡ false → awaits_gap f.connection.peer_finish ≡ None
+  credentials : length cfg.credentials ≤ 2048
+  sent : f.recorded.sent < 2 ^ 40
+  next : is_recoverable cfg.peer_flow ≡ true → f.recorded.inbox_next + 1 < 2 ^ 64
+  soft : f.connection.soft ≡ true → IsSoft cfg f.connection.requester
+  role : is_initiator cfg.role ≡ false → (is_negotiating f.connection.phase || is_establishing f.connection.phase) ≡ false
+
+firmly : (cfg : EndConfig) (f : Facts) → is_shaken f.connection.phase ≡ true → Steady cfg f → Sound cfg f
+firmly cfg f done s = record {
+  waits = s.waits;
+  even = s.even;
+  unread = s.unread;
+  credentials = s.credentials;
+  sent = s.sent;
+  next = s.next;
+  opening = λ n. absurd (true≢false (sym done ∙ n));
+  soft = s.soft;
+  role = s.role;
+}
+
+-- what an announcement makes is steady, and skips exactly what lies before it
 record Fits (x : Around) (f : Facts) (a : Announced) : Type 0 where
-  sound : Sound x.config a.facts
+  steady : Steady x.config a.facts
   sent : a.facts.recorded.sent ≡ f.recorded.sent
   advances : Advances (skip_of a.skipped) f.recorded.inbox_next a.facts.recorded.inbox_next
   within : WithinMost x.most (skip_of a.skipped)
@@ -179,16 +243,29 @@ or_right false b e = e
 
 abbrev chosen : Around → Facts → ℕ → Bool → Bool → Announced
 chosen x f n recoverable idempotent =
-    if recoverable then record { facts = receiving f (receiver_is.announced f.connection.receiver n); skipped = None }
+    if recoverable then record { facts = firm (receiving f (receiver_is.announced f.connection.receiver n)); skipped = None }
     else if idempotent then record { facts = awaiting f n; skipped = jumped_over f.recorded.inbox_next n }
     else record { facts = f; skipped = None }
+
+abbrev pub expected_as : Facts → Bool → ℕ
+expected_as f recoverable =
+    if recoverable then (if f.connection.soft then f.connection.receiver.next else receiver_is.expected f.connection.receiver) else f.recorded.inbox_next
 
 announced_fits : (x : Around) (f : Facts) (template : ℕ) (next : Option ℕ) → Sound x.config f → announcement_fault x f template next ≡ None → Fits x f (announced x f next)
 announced_fits x f template next s e = by_flow (is_recoverable x.config.peer_flow) (is_idempotent x.config.peer_flow) refl refl
   where
     by_flow : (r i : Bool) → is_recoverable x.config.peer_flow ≡ r → is_idempotent x.config.peer_flow ≡ i → Fits x f (chosen x f (unwrap_or next 0) r i)
     by_flow true i rec idem = record {
-      sound = record { waits = λ _. s.waits rec; even = λ t. absurd (true≢false (sym rec ∙ t)); unread = s.unread; credentials = s.credentials; sent = s.sent; role = s.role };
+      steady = record {
+        waits = λ _. s.waits rec;
+        even = λ t. absurd (true≢false (sym rec ∙ t));
+        unread = s.unread;
+        credentials = s.credentials;
+        sent = s.sent;
+        next = s.next;
+        soft = λ t. absurd (true≢false (sym t));
+        role = s.role;
+      };
       sent = refl;
       advances = refl;
       within = tt;
@@ -196,15 +273,40 @@ announced_fits x f template next s e = by_flow (is_recoverable x.config.peer_flo
     by_flow false true rec idem =
         let b = in_bounds x f template next e (or_right (is_recoverable x.config.peer_flow) (is_idempotent x.config.peer_flow) idem) in
         let low : f.recorded.inbox_next ≤ unwrap_or next 0 =
-        subst (λ (r : Bool). (if r then receiver_is.expected f.connection.receiver else f.recorded.inbox_next) ≤ unwrap_or next 0) rec b.0 in
+        subst (λ (r : Bool). expected_as f r ≤ unwrap_or next 0) rec b.0 in
         let j = jumps x.most f.recorded.inbox_next (unwrap_or next 0) low b.1 in
         record {
-          sound = record { waits = λ t. absurd (true≢false (sym t ∙ rec)); even = s.even; unread = s.unread; credentials = s.credentials; sent = s.sent; role = s.role };
+          steady = record {
+            waits = λ t. absurd (true≢false (sym t ∙ rec));
+            even = s.even;
+            unread = s.unread;
+            credentials = s.credentials;
+            sent = s.sent;
+            next = λ t. absurd (true≢false (sym t ∙ rec));
+            soft = s.soft;
+            role = s.role;
+          };
           sent = refl;
           advances = j.0;
           within = j.1;
         }
-    by_flow false false rec idem = record { sound = s; sent = refl; advances = refl; within = tt }
+    by_flow false false rec idem = record {
+      steady = record { waits = s.waits; even = s.even; unread = s.unread; credentials = s.credentials; sent = s.sent; next = s.next; soft = s.soft; role = s.role };
+      sent = refl;
+      advances = refl;
+      within = tt;
+    }
+
+-- an announcement leaves the phase and what is asked for
+same_connection : (x : Around) (f : Facts) (next : Option ℕ)
+    → ((announced x f next).facts.connection.phase ≡ f.connection.phase) × ((announced x f next).facts.connection.requester ≡ f.connection.requester)
+same_connection x f next = by_flow (is_recoverable x.config.peer_flow) (is_idempotent x.config.peer_flow)
+  where
+    by_flow : (r i : Bool) → ((chosen x f (unwrap_or next 0) r i).facts.connection.phase ≡ f.connection.phase)
+        × ((chosen x f (unwrap_or next 0) r i).facts.connection.requester ≡ f.connection.requester)
+    by_flow true i = (refl, refl)
+    by_flow false true = (refl, refl)
+    by_flow false false = (refl, refl)
 
 -- a recoverable flow's announcement moves the inbox nowhere
 unmoved : (x : Around) (f : Facts) (next : Option ℕ) → is_recoverable x.config.peer_flow ≡ true → (announced x f next).facts.recorded.inbox_next ≡ f.recorded.inbox_next
@@ -214,17 +316,62 @@ unmoved x f next rec = by_flow (is_recoverable x.config.peer_flow) (is_idempoten
     by_flow true i e = refl
     by_flow false i e = absurd (true≢false (sym e))
 
--- the handshake is done
-done : (cfg : EndConfig) (f : Facts) (k : ℕ) → Sound cfg f → Sound cfg (established f k)
-done cfg f k s = record { waits = s.waits; even = s.even; unread = s.unread; credentials = s.credentials; sent = s.sent; role = λ _. refl }
+-- the handshake is done, and the number that the peer expects was taken
+done : (cfg : EndConfig) (f g : Facts) (k : ℕ) → Steady cfg f → Stays f g → Sound cfg (established g k)
+done cfg f g k s r = record {
+  waits = λ t. ap (λ c. c.receiver.next) r.connection ∙ (s.waits t ∙ sym r.inbox_next);
+  even = λ t. ap (λ c. c.receiver.live) r.connection ∙ (s.even t ∙ sym (ap (λ c. c.receiver.next) r.connection));
+  unread = λ t. ap (λ c. awaits_gap c.peer_finish) r.connection ∙ s.unread t;
+  credentials = s.credentials;
+  sent = omega (arith, s.sent, r.most);
+  next = λ t. omega (arith, s.next t, r.inbox_next);
+  opening = λ n. absurd (true≢false n);
+  soft = λ t. let same = ap (λ c. c.requester) r.connection in
+      let k = s.soft (sym (ap (λ c. c.soft) r.connection) ∙ t) in record { newer = k.newer; flow = k.flow; role = k.role; no_request = same ∙ k.no_request };
+  role = λ _. refl;
+}
 
--- the retransmission's requester is no part of it
-same_but_requests : (cfg : EndConfig) (f : Facts) (r : _) → Sound cfg f → Sound cfg (requesting f r)
-same_but_requests cfg f r s = record { waits = s.waits; even = s.even; unread = s.unread; credentials = s.credentials; sent = s.sent; role = s.role }
+-- and the connection is soft, at an acceptor
+done_softly : (x : Around) (f g : Facts) (e : Expected) (k : ℕ) → Steady x.config f → Stays f g → f.connection.requester ≡ requests.Nothing → is_initiator x.config.role ≡ false
+    → Sound x.config (established (softened x e g) k)
+done_softly x f g e k s r none role = let d = done x.config f g k s r in record {
+  waits = d.waits;
+  even = d.even;
+  unread = d.unread;
+  credentials = d.credentials;
+  sent = d.sent;
+  next = d.next;
+  opening = λ n. absurd (true≢false n);
+  soft = λ t. let b = softens_only (is_newer x.config) (is_present e) (is_recoverable x.config.peer_flow) t in
+      record { newer = b.0; flow = b.1; role = role; no_request = ap (λ c. c.requester) r.connection ∙ none };
+  role = λ _. refl;
+}
+  where
+    softens_only : (a b c : Bool) → (a && b && c) ≡ true → (a ≡ true) × (c ≡ true)
+    softens_only true true true t = (refl, refl)
+    softens_only true true false t = absurd (true≢false (sym t))
+    softens_only true false c t = absurd (true≢false (sym t))
+    softens_only false b c t = absurd (true≢false (sym t))
+
+-- a request is done, or goes on, where the handshake is done
+requests_on : (cfg : EndConfig) (f : Facts) (r : Request) → is_shaken f.connection.phase ≡ true → (f.connection.requester ≡ requests.Nothing → r ≡ requests.Nothing) → Sound cfg f
+    → Sound cfg (requesting f r)
+requests_on cfg f r shaken none s = record {
+  waits = s.waits;
+  even = s.even;
+  unread = s.unread;
+  credentials = s.credentials;
+  sent = s.sent;
+  next = s.next;
+  opening = λ n. absurd (true≢false (sym shaken ∙ n));
+  soft = λ t. let k = s.soft t in record { newer = k.newer; flow = k.flow; role = k.role; no_request = none k.no_request };
+  role = s.role;
+}
 
 -- a message of a recoverable flow
-left_out : (cfg : EndConfig) (f : Facts) → is_recoverable cfg.peer_flow ≡ true → Sound cfg f → (receiver_is.number f.connection.receiver == f.connection.receiver.next) ≡ false → Sound cfg (counted f)
-left_out cfg f rec s other =
+left_out : (cfg : EndConfig) (f : Facts) → is_recoverable cfg.peer_flow ≡ true → is_shaken f.connection.phase ≡ true → Sound cfg f
+    → (receiver_is.number f.connection.receiver == f.connection.receiver.next) ≡ false → Sound cfg (counted f)
+left_out cfg f rec shaken s other =
     let r = f.connection.receiver in
     record {
       waits = λ t. next_counted r.next r.live r.again ∙ (ap (λ b. if b then r.next + 1 else r.next) other ∙ s.waits t);
@@ -232,11 +379,15 @@ left_out cfg f rec s other =
       unread = s.unread;
       credentials = s.credentials;
       sent = s.sent;
+      next = s.next;
+      opening = λ n. absurd (true≢false (sym shaken ∙ n));
+      soft = λ t. absurd (true≢false (sym t));
       role = s.role;
     }
 
-taking : (x : Around) (f : Facts) → is_recoverable x.config.peer_flow ≡ true → Sound x.config f → receiver_is.number f.connection.receiver ≤ x.most → (s : Seen) → receiver_is.seen f.connection.receiver ≡ s → KeepsSound x.config x.most f (taken_as x (counted f) s)
-taking x f rec s top (Deliver n) is =
+taking : (x : Around) (f : Facts) → x.most < 2 ^ 40 → is_recoverable x.config.peer_flow ≡ true → is_shaken f.connection.phase ≡ true → Sound x.config f
+    → receiver_is.number f.connection.receiver ≤ x.most → (s : Seen) → receiver_is.seen f.connection.receiver ≡ s → KeepsSound x.config x.most f (taken_as x (counted f) s)
+taking x f small rec shaken s top (Deliver n) is =
     let r = f.connection.receiver in
     let d = delivers r.next (receiver_is.number r) n is in
     going x f (awaiting (counted f) (n + 1)) (acts.Apply n) []
@@ -246,15 +397,18 @@ taking x f rec s top (Deliver n) is =
       unread = s.unread;
       credentials = s.credentials;
       sent = s.sent;
+      next = λ _. omega (arith, d.0, top, small);
+      opening = λ n. absurd (true≢false (sym shaken ∙ n));
+      soft = λ t. absurd (true≢false (sym t));
       role = s.role;
     })
     refl (d.0 ∙ (d.1 ∙ s.waits rec), refl) (omega (arith, d.0, top)) tt
-taking x f rec s top (Gap n) is =
+taking x f small rec shaken s top (Gap n) is =
     let r = f.connection.receiver in
-    going x f (counted f) acts.Nothing [] (left_out x.config f rec s ((passes r.next (receiver_is.number r) n).0 is)) refl refl tt tt
-taking x f rec s top (Repeat n) is =
+    going x f (counted f) acts.Nothing [] (left_out x.config f rec shaken s ((passes r.next (receiver_is.number r) n).0 is)) refl refl tt tt
+taking x f small rec shaken s top (Repeat n) is =
     let r = f.connection.receiver in
-    going x f (counted f) acts.Nothing [] (left_out x.config f rec s ((passes r.next (receiver_is.number r) n).1 is)) refl refl tt tt
+    going x f (counted f) acts.Nothing [] (left_out x.config f rec shaken s ((passes r.next (receiver_is.number r) n).1 is)) refl refl tt tt
 
 -- the number of a message that is not too large
 number_of : (x : Around) (f : Facts) → is_recoverable x.config.peer_flow ≡ true → nat_lt x.most (message_number x f) ≡ false → receiver_is.number f.connection.receiver ≤ x.most
@@ -265,8 +419,8 @@ next_of : (x : Around) (f : Facts) → is_recoverable x.config.peer_flow ≡ fal
 next_of x f rec e =
     subst (λ (b : Bool). (if b then receiver_is.number f.connection.receiver else f.recorded.inbox_next) ≤ x.most) rec (ltb-false x.most (message_number x f) e)
 
-message_rows : (x : Around) (f : Facts) (p : List ℕ) → Sound x.config f → AllRows (KeepsSound x.config x.most f) (rows_of x f (application p))
-message_rows x f p s = all_within (KeepsSound x.config x.most f) (is_established f.connection.phase) _ (λ _. (
+message_rows : (x : Around) (f : Facts) (p : List ℕ) → x.most < 2 ^ 40 → Sound x.config f → AllRows (KeepsSound x.config x.most f) (rows_of x f (application p))
+message_rows x f p low s = all_within (KeepsSound x.config x.most f) (is_established f.connection.phase) _ (λ est. (
   λ _. ending x f 2 _ s,
   λ _. (
     λ _. ending x f 2 _ s,
@@ -274,12 +428,12 @@ message_rows x f p s = all_within (KeepsSound x.config x.most f) (is_established
       λ _. ending x f 2 _ s,
       λ small. (
         λ e. going x f (awaiting f (f.recorded.inbox_next + 1)) (acts.Apply f.recorded.inbox_next) []
-            (record { waits = λ t. absurd (true≢false (sym e ∙ ap not t)); even = s.even; unread = s.unread; credentials = s.credentials; sent = s.sent; role = s.role })
+            (record { waits = λ t. absurd (true≢false (sym e ∙ ap not t)); even = s.even; unread = s.unread; credentials = s.credentials; sent = s.sent; next = λ t. absurd (true≢false (sym e ∙ ap not t)); opening = s.opening; soft = s.soft; role = s.role })
             refl (refl, refl) (next_of x f (not_false (is_recoverable x.config.peer_flow) e) small) tt,
         λ e. (
           λ _. bad x f (request_is.message_fault f.connection.requester) s,
           λ _. (
-            λ _. taking x f (not_true (is_recoverable x.config.peer_flow) e) s (number_of x f (not_true (is_recoverable x.config.peer_flow) e) small) (receiver_is.seen f.connection.receiver) refl,
+            λ _. taking x f low (not_true (is_recoverable x.config.peer_flow) e) (is_done f.connection.phase est) s (number_of x f (not_true (is_recoverable x.config.peer_flow) e) small) (receiver_is.seen f.connection.receiver) refl,
             λ _. tt,
           ),
         ),
@@ -295,7 +449,7 @@ finish_still (Some _) last n = refl
 
 -- the finish is answered: the facts behind it
 finish_answered : (cfg : EndConfig) (f : Facts) (last : ℕ) (recorded : Option ℕ) → Sound cfg f → Sound cfg (peer_finished f (peer.Exchanged last) recorded)
-finish_answered cfg f last recorded s = record { waits = s.waits; even = s.even; unread = λ _. refl; credentials = s.credentials; sent = s.sent; role = s.role }
+finish_answered cfg f last recorded s = record { waits = s.waits; even = s.even; unread = λ _. refl; credentials = s.credentials; sent = s.sent; next = s.next; opening = s.opening; soft = s.soft; role = s.role }
 
 finish_within : (recorded : Option ℕ) (last most : ℕ) → WithinMost most (finish_act recorded last)
 finish_within None last most = tt
@@ -311,15 +465,15 @@ answering x f next last s kept same =
     (writes_receiving x.config)
 
 -- Sequence, where its announcement stands
-following : (x : Around) (f ended : Facts) (next : ℕ) (a : Announced) → Sound x.config ended → ended.recorded.sent ≡ f.recorded.sent → ended.recorded.inbox_next ≡ f.recorded.inbox_next
+following : (x : Around) (f ended : Facts) (next : ℕ) (a : Announced) → Sound x.config ended → is_shaken a.facts.connection.phase ≡ true → ended.recorded.sent ≡ f.recorded.sent → ended.recorded.inbox_next ≡ f.recorded.inbox_next
     → (is_recoverable x.config.peer_flow ≡ true → a.facts.recorded.inbox_next ≡ f.recorded.inbox_next) → Fits x f a → KeepsSound x.config x.most f (sequence_follows x ended next a)
-following x f ended next a e kept same still fits =
-    all_rows (KeepsSound x.config x.most f) (ignores ended) rows (record { next = e; sent = kept; advances = same; within = tt; writes = tt }) (
-      λ _. record { next = e; sent = kept; advances = same; within = tt; writes = writes_terminate x.config 2 },
+following x f ended next a e shaken count same still fits =
+    all_rows (KeepsSound x.config x.most f) (ignores ended) rows (record { next = e; sent = kept x.config f ended count; advances = same; within = tt; writes = tt }) (
+      λ _. record { next = e; sent = kept x.config f ended count; advances = same; within = tt; writes = writes_terminate x.config 2 },
       λ _. (
         λ filled. by_flow (is_recoverable x.config.peer_flow) refl (and_left (is_some (awaits_gap a.facts.connection.peer_finish)) (is_none (receiver_is.gap a.facts.connection.receiver)) filled),
         λ _. (
-          λ _. going x f a.facts (skip_of a.skipped) (told_skip a.skipped) fits.sound fits.sent fits.advances fits.within (tells_not x.config a.skipped),
+          λ _. going x f a.facts (skip_of a.skipped) (told_skip a.skipped) (firmly x.config a.facts shaken fits.steady) fits.sent fits.advances fits.within (tells_not x.config a.skipped),
           λ _. tt,
         ),
       ),
@@ -338,21 +492,22 @@ following x f ended next a e kept same still fits =
 
     by_flow : (b : Bool) → is_recoverable x.config.peer_flow ≡ b → is_some (awaits_gap a.facts.connection.peer_finish) ≡ true
         → KeepsSound x.config x.most f (answers_finish x a.facts (unwrap_or (awaits_gap a.facts.connection.peer_finish) 0))
-    by_flow true r t = answering x f a.facts (unwrap_or (awaits_gap a.facts.connection.peer_finish) 0) fits.sound fits.sent (still r)
-    by_flow false r t = absurd (none-some (awaits_gap a.facts.connection.peer_finish) t (fits.sound.unread r))
+    by_flow true r t = answering x f a.facts (unwrap_or (awaits_gap a.facts.connection.peer_finish) 0) (firmly x.config a.facts shaken fits.steady) fits.sent (still r)
+    by_flow false r t = absurd (none-some (awaits_gap a.facts.connection.peer_finish) t (fits.steady.unread r))
 
-answered : (x : Around) (f : Facts) (id : List ℕ) (timestamp : ℕ) (r : Result Range RetransmitCode) → Sound x.config f → KeepsSound x.config x.most f (request_answered x f id timestamp r)
-answered x f id timestamp (Ok range) s =
-    going x f (serves f (Some range)) acts.Nothing (retransmission x.config.session range.from timestamp range.count ∷ []) (record { waits = s.waits; even = s.even; unread = s.unread; credentials = s.credentials; sent = s.sent; role = s.role }) refl refl tt
+answered : (x : Around) (f : Facts) (id : List ℕ) (timestamp : ℕ) (r : Result Range RetransmitCode) → is_shaken f.connection.phase ≡ true → Sound x.config f → KeepsSound x.config x.most f (request_answered x f id timestamp r)
+answered x f id timestamp (Ok range) shaken s =
+    going x f (serves f (Some range)) acts.Nothing (retransmission x.config.session range.from timestamp range.count ∷ [])
+    (record { waits = s.waits; even = s.even; unread = s.unread; credentials = s.credentials; sent = s.sent; next = s.next; opening = λ n. absurd (true≢false (sym shaken ∙ n)); soft = s.soft; role = s.role }) refl refl tt
     (plain x.config (retransmission x.config.session range.from timestamp range.count) refl (record { numbers = (tt, (tt, (tt, (tt, tt)))); datum = tt }))
-answered x f id timestamp (Err code) s = staying x f (retransmit_reject id timestamp (code_of code) []) s refl (record { numbers = (tt, (tt, (tt, tt))); datum = omega arith })
+answered x f id timestamp (Err code) shaken s = staying x f (retransmit_reject id timestamp (code_of code) []) s refl (record { numbers = (tt, (tt, (tt, tt))); datum = omega arith })
 
 -- an initiator goes on with the handshake
-shaking : (x : Around) (f : Facts) → is_initiator x.config.role ≡ true → Sound x.config f → KeepsSound x.config x.most f (shaken x f)
-shaking x f i s =
+shaking : (x : Around) (f : Facts) → is_initiator x.config.role ≡ true → is_shaken f.connection.phase ≡ false → Sound x.config f → KeepsSound x.config x.most f (shaken x f)
+shaking x f i before s =
     going x f (in_phase (as_negotiated f) phases.Establishing) (if f.recorded.negotiated then acts.Nothing else acts.Negotiated) (opening_establish x f ∷ [])
-    (record { waits = s.waits; even = s.even; unread = s.unread; credentials = s.credentials; sent = s.sent; role = λ t. absurd (true≢false (sym i ∙ t)) })
-    refl (still f.recorded.negotiated) (within f.recorded.negotiated) (writes_establish x f i s.credentials s.sent)
+    (record { waits = s.waits; even = s.even; unread = s.unread; credentials = s.credentials; sent = s.sent; next = s.next; opening = λ _. s.opening before; soft = s.soft; role = λ t. absurd (true≢false (sym i ∙ t)) })
+    refl (still f.recorded.negotiated) (within f.recorded.negotiated) (writes_establish x f i s.credentials s.sent s.next)
   where
     still : (b : Bool) → Advances (if b then acts.Nothing else acts.Negotiated) f.recorded.inbox_next f.recorded.inbox_next
     still true = refl
@@ -370,28 +525,42 @@ awaits_as_initiator cfg f s t = by_role (is_initiator cfg.role) refl
     by_role true e = e
     by_role false e = absurd (true≢false (sym t ∙ s.role e))
 
-establish_all : (x : Around) (f : Facts) (id : List ℕ) (timestamp keepalive : ℕ) (next : Option ℕ) (credentials : List ℕ) → Sound x.config f
-    → AllRows (KeepsSound x.config x.most f) (establish_rows_in x f id timestamp keepalive next credentials)
-establish_all x f id timestamp keepalive next credentials s = by_place (awaits_client x f) (serves_client x f)
+establish_all : (x : Around) (f : Facts) (id : List ℕ) (timestamp keepalive : ℕ) (next : Option ℕ) (expected : Expected) (credentials : List ℕ) → Sound x.config f
+    → AllRows (KeepsSound x.config x.most f) (establish_rows_in x f id timestamp keepalive next expected credentials)
+establish_all x f id timestamp keepalive next expected credentials s = by_place (awaits_client x f) (serves_client x f) refl
   where
     P : Outcome → Type 0
     P = KeepsSound x.config x.most f
 
-    acknowledged : (a : Announced) → Fits x f a → P (acknowledges x timestamp keepalive a)
-    acknowledged a fits =
-        going x f (established a.facts keepalive) (skip_of a.skipped) (establishment_ack x.config.session timestamp x.config.keepalive (announced_number x a.facts) expects.Absent ∷ told_skip a.skipped)
-        (done x.config a.facts keepalive fits.sound) fits.sent fits.advances fits.within
-        (writes_behind x.config (establishment_ack x.config.session timestamp x.config.keepalive (announced_number x a.facts) expects.Absent ∷ []) (told_skip a.skipped)
-        (writes_ack x a.facts timestamp fits.sound.sent) (tells_not x.config a.skipped))
+    waits_idle : (i d : Bool) → (not i && d) ≡ true → (i ≡ false) × (d ≡ true)
+    waits_idle false true t = (refl, refl)
+    waits_idle false false t = absurd (true≢false (sym t))
+    waits_idle true d t = absurd (true≢false (sym t))
 
-    first : AllRows P (establish_rows x f id timestamp keepalive next credentials)
-    first = (
+    acknowledged : awaits_client x f ≡ true → (a : Announced) → Fits x f a → a.facts.connection.requester ≡ f.connection.requester → P (acknowledges x timestamp keepalive expected a)
+    acknowledged waits a fits requester =
+        let w = waits_idle (is_initiator x.config.role) (is_idle f.connection.phase) waits in
+        let before : is_shaken f.connection.phase ≡ false = not_opened f.connection.phase w.1 in
+        let g : Facts = returned x a.facts expected in
+        let r = returned_stays x a.facts expected in
+        let steady = fits.steady in
+        let low : is_recoverable x.config.peer_flow ≡ true → g.recorded.inbox_next + 1 < 2 ^ 64 = λ t. omega (arith, steady.next t, r.inbox_next) in
+        going_by x f (established (softened x expected g) keepalive) (skip_of a.skipped)
+        (establishment_ack x.config.session timestamp x.config.keepalive (announced_number x g) (answers_next x expected g) ∷ told_skip a.skipped)
+        (done_softly x a.facts g expected keepalive steady r (requester ∙ (s.opening before).no_request) w.0)
+        (returned_keeps x f a.facts (established (softened x expected g) keepalive) expected before refl fits.sent refl)
+        (subst (λ (n : ℕ). Advances (skip_of a.skipped) f.recorded.inbox_next n) (sym r.inbox_next) fits.advances) fits.within
+        (writes_behind x.config (establishment_ack x.config.session timestamp x.config.keepalive (announced_number x g) (answers_next x expected g) ∷ []) (told_skip a.skipped)
+        (writes_ack x g timestamp expected (omega (arith, steady.sent, r.most)) low) (tells_not x.config a.skipped))
+
+    first : awaits_client x f ≡ true → AllRows P (establish_rows x f id timestamp keepalive next expected credentials)
+    first waits = (
       λ _. rejecting_establish x f id timestamp 2 s,
       λ _. (
         λ _. rejecting_establish x f id timestamp 5 s,
         λ _. (
           λ _. rejecting_establish x f id timestamp 6 s,
-          λ _. announced_rows P x f 4 next (acknowledges x timestamp keepalive) (refusing x f s) (λ e. acknowledged (announced x f next) (announced_fits x f 4 next s e)),
+          λ _. announced_rows P x f 4 next (acknowledges x timestamp keepalive expected) (refusing x f s) (λ e. acknowledged waits (announced x f next) (announced_fits x f 4 next s e) (same_connection x f next).1),
         ),
       ),
     )
@@ -399,11 +568,23 @@ establish_all x f id timestamp keepalive next credentials s = by_place (awaits_c
     again : AllRows P (established_again_rows x f id timestamp)
     again = (λ _. rejecting_establish x f id timestamp 2 s, λ _. (λ _. rejecting_establish x f id timestamp 3 s, λ _. tt))
 
-    by_place : (a b : Bool)
-        → AllRows P (if a then establish_rows x f id timestamp keepalive next credentials else if b then established_again_rows x f id timestamp else [])
-    by_place true b = first
-    by_place false true = again
-    by_place false false = tt
+    by_place : (a b : Bool) → awaits_client x f ≡ a
+        → AllRows P (if a then establish_rows x f id timestamp keepalive next expected credentials else if b then established_again_rows x f id timestamp else [])
+    by_place true b waits = first waits
+    by_place false true waits = again
+    by_place false false waits = tt
+
+-- Establish was acknowledged
+reaching : (x : Around) (f : Facts) (keepalive : ℕ) (e : Expected) (a : Announced) → is_shaken f.connection.phase ≡ false → Fits x f a
+    → KeepsSound x.config x.most f (reached x keepalive e a)
+reaching x f keepalive e a before fits =
+    let g : Facts = returned x a.facts e in
+    let r = returned_stays x a.facts e in
+    let interval : ℕ = min 60000 (max 100 keepalive) in
+    going_by x f (established g interval) (skip_of a.skipped) (told_skip a.skipped ++ told_return x a.facts e)
+    (done x.config a.facts g interval fits.steady r) (returned_keeps x f a.facts (established g interval) e before refl fits.sent refl)
+    (subst (λ (n : ℕ). Advances (skip_of a.skipped) f.recorded.inbox_next n) (sym r.inbox_next) fits.advances) fits.within
+    (writes_behind x.config (told_skip a.skipped) (told_return x a.facts e) (tells_not x.config a.skipped) (writes_return x a.facts e))
 
 session_rows : (x : Around) (f : Facts) (m : Message) → Sound x.config f → AllRows (KeepsSound x.config x.most f) (rows_of x f (session m))
 session_rows x f (negotiate id timestamp flow credentials) s = all_within (KeepsSound x.config x.most f) (awaits_client x f) _ (λ _. (
@@ -416,7 +597,7 @@ session_rows x f (negotiate id timestamp flow credentials) s = all_within (Keeps
         λ _. rejecting_negotiate x f id timestamp 4 s,
         λ _. (
           λ _. going x f (as_negotiated f) acts.Negotiated (negotiation_response x.config.session timestamp (flow_code x.config.own_flow) [] ∷ [])
-              (record { waits = s.waits; even = s.even; unread = s.unread; credentials = s.credentials; sent = s.sent; role = s.role }) refl refl tt
+              (record { waits = s.waits; even = s.even; unread = s.unread; credentials = s.credentials; sent = s.sent; next = s.next; opening = s.opening; soft = s.soft; role = s.role }) refl refl tt
               (plain x.config (negotiation_response x.config.session timestamp (flow_code x.config.own_flow) []) refl (record { numbers = (tt, (tt, (tt, tt))); datum = omega arith })),
           λ _. tt,
         ),
@@ -427,60 +608,72 @@ session_rows x f (negotiate id timestamp flow credentials) s = all_within (Keeps
 session_rows x f (negotiation_response id timestamp flow credentials) s =
     own_rows (KeepsSound x.config x.most f) x f 2 id _ (λ e. ending x f 2 e s) (all_within (KeepsSound x.config x.most f) (is_negotiating f.connection.phase) _ (λ n. (
       λ _. ending x f 2 _ s,
-      λ _. (λ _. shaking x f (awaits_as_initiator x.config f s (or_left (is_negotiating f.connection.phase) (is_establishing f.connection.phase) n)) s, λ _. tt),
+      λ _. (λ _. shaking x f (awaits_as_initiator x.config f s (or_left (is_negotiating f.connection.phase) (is_establishing f.connection.phase) n)) (not_negotiated f.connection.phase n) s, λ _. tt),
     )))
 session_rows x f (negotiation_reject id timestamp code reason) s =
     own_rows (KeepsSound x.config x.most f) x f 3 id _ (λ e. ending x f 2 e s) (all_within (KeepsSound x.config x.most f) (is_negotiating f.connection.phase) _ (λ n. (
-      λ _. shaking x f (awaits_as_initiator x.config f s (or_left (is_negotiating f.connection.phase) (is_establishing f.connection.phase) n)) s,
+      λ _. shaking x f (awaits_as_initiator x.config f s (or_left (is_negotiating f.connection.phase) (is_establishing f.connection.phase) n)) (not_negotiated f.connection.phase n) s,
       λ _. (λ _. rejecting x f (endings.Rejected 3 code) s, λ _. tt),
     )))
-session_rows x f (establish id timestamp keepalive next expected credentials) s = establish_all x f id timestamp keepalive next credentials s
+session_rows x f (establish id timestamp keepalive next expected credentials) s = establish_all x f id timestamp keepalive next expected credentials s
 session_rows x f (establishment_ack id timestamp keepalive next expected) s =
-    let interval : ℕ = min 60000 (max 100 keepalive) in
-    own_rows (KeepsSound x.config x.most f) x f 5 id _ (λ e. ending x f 2 e s) (all_within (KeepsSound x.config x.most f) (is_establishing f.connection.phase) _ (λ _.
-    announced_rows (KeepsSound x.config x.most f) x f 5 next (λ (a : Announced). goes_on x (skip_of a.skipped) (told_skip a.skipped) (established a.facts interval)) (refusing x f s)
-    (λ e. let fits = announced_fits x f 5 next s e in
-    going x f (established (announced x f next).facts interval) (skip_of (announced x f next).skipped) (told_skip (announced x f next).skipped)
-    (done x.config (announced x f next).facts interval fits.sound) fits.sent fits.advances fits.within (tells_not x.config (announced x f next).skipped))))
+    own_rows (KeepsSound x.config x.most f) x f 5 id _ (λ e. ending x f 2 e s) (all_within (KeepsSound x.config x.most f) (is_establishing f.connection.phase) _ (λ n.
+    announced_rows (KeepsSound x.config x.most f) x f 5 next (reached x keepalive expected) (refusing x f s)
+    (λ e. reaching x f keepalive expected (announced x f next) (not_established f.connection.phase n) (announced_fits x f 5 next s e))))
 session_rows x f (establishment_reject id timestamp code reason) s =
     own_rows (KeepsSound x.config x.most f) x f 6 id _ (λ e. ending x f 2 e s) (all_within (KeepsSound x.config x.most f) (is_establishing f.connection.phase) _ (λ n. (
       λ _.
           let i = awaits_as_initiator x.config f s (or_right (is_negotiating f.connection.phase) (is_establishing f.connection.phase) n) in
           going x f (in_phase f phases.Negotiating) acts.Nothing (opening_negotiate x ∷ [])
-          (record { waits = s.waits; even = s.even; unread = s.unread; credentials = s.credentials; sent = s.sent; role = λ t. absurd (true≢false (sym i ∙ t)) }) refl refl tt (writes_negotiate x i s.credentials),
+          (record { waits = s.waits; even = s.even; unread = s.unread; credentials = s.credentials; sent = s.sent; next = s.next; opening = λ _. s.opening (not_established f.connection.phase n); soft = s.soft; role = λ t. absurd (true≢false (sym i ∙ t)) }) refl refl tt (writes_negotiate x i s.credentials),
       λ _. (λ _. rejecting x f (endings.Rejected 6 code) s, λ _. tt),
     )))
-session_rows x f (sequence next) s = all_within (KeepsSound x.config x.most f) (is_established f.connection.phase) _ (λ _. (
+session_rows x f (sequence next) s = all_within (KeepsSound x.config x.most f) (is_established f.connection.phase) _ (λ est. (
   λ _. bad x f (request_is.sequence_fault f.connection.requester) s,
-  λ _. after (requesting f (request_is.after_sequence f.connection.requester)) (same_but_requests x.config f (request_is.after_sequence f.connection.requester) s) refl refl,
+  λ _. after (requesting f (request_is.after_sequence f.connection.requester))
+      (requests_on x.config f (request_is.after_sequence f.connection.requester) (is_done f.connection.phase est) (λ none. ap request_is.after_sequence none) s)
+      (is_done f.connection.phase est) refl refl,
 ))
   where
     left : (ended : Facts) → Sound x.config ended → ended.recorded.sent ≡ f.recorded.sent → ended.recorded.inbox_next ≡ f.recorded.inbox_next → (v : Option Violation)
         → KeepsSound x.config x.most f (refuses x ended v)
-    left ended e kept same None = record { next = e; sent = kept; advances = same; within = tt; writes = tt }
-    left ended e kept same (Some v) = record { next = e; sent = kept; advances = same; within = tt; writes = writes_terminate x.config 2 }
+    left ended e count same None = record { next = e; sent = kept x.config f ended count; advances = same; within = tt; writes = tt }
+    left ended e count same (Some v) = record { next = e; sent = kept x.config f ended count; advances = same; within = tt; writes = writes_terminate x.config 2 }
 
-    after : (ended : Facts) → Sound x.config ended → ended.recorded.sent ≡ f.recorded.sent → ended.recorded.inbox_next ≡ f.recorded.inbox_next
+    after : (ended : Facts) → Sound x.config ended → is_shaken ended.connection.phase ≡ true → ended.recorded.sent ≡ f.recorded.sent → ended.recorded.inbox_next ≡ f.recorded.inbox_next
         → AllRows (KeepsSound x.config x.most f) (announcement_rows x ended 7 (Some next) (sequence_follows x ended next))
-    after ended e kept same =
+    after ended e shaken count same =
         announced_rows (KeepsSound x.config x.most f) x ended 7 (Some next) (sequence_follows x ended next)
-        (left ended e kept same)
+        (left ended e count same)
         (λ none. let fits = announced_fits x ended 7 (Some next) e none in
-        following x f ended next (announced x ended (Some next)) e kept same (λ r. unmoved x ended (Some next) r ∙ same) (record {
-          sound = fits.sound;
-          sent = fits.sent ∙ kept;
+        following x f ended next (announced x ended (Some next)) e (ap (λ p. is_shaken p) (same_connection x ended (Some next)).0 ∙ shaken) count same (λ r. unmoved x ended (Some next) r ∙ same) (record {
+          steady = fits.steady;
+          sent = fits.sent ∙ count;
           advances = subst (λ k. Advances (skip_of (announced x ended (Some next)).skipped) k (announced x ended (Some next)).facts.recorded.inbox_next) same fits.advances;
           within = fits.within;
         }))
 session_rows x f unsequenced_heartbeat s = (λ _. going x f f acts.Nothing [] s refl refl tt tt, λ _. tt)
-session_rows x f (retransmit_request id timestamp first count) s = all_within (KeepsSound x.config x.most f) (is_established f.connection.phase) _ (λ _. (
+session_rows x f (retransmit_request id timestamp first count) s = all_within (KeepsSound x.config x.most f) (is_established f.connection.phase) _ (λ est. (
   λ _. ending x f 4 _ s,
-  λ _. (λ _. answered x f id timestamp (judged (is_own x id) (is_recoverable x.config.own_flow) first count f.recorded.sent) s, λ _. tt),
+  λ _. (λ _. answered x f id timestamp (judged (is_own x id) (is_recoverable x.config.own_flow) first count f.recorded.sent) (is_done f.connection.phase est) s, λ _. tt),
 ))
 session_rows x f (retransmission id next timestamp count) s =
-    own_rows (KeepsSound x.config x.most f) x f 10 id _ (λ e. ending x f 2 e s) (all_within (KeepsSound x.config x.most f) (is_established f.connection.phase) _ (λ _. (
+    own_rows (KeepsSound x.config x.most f) x f 10 id _ (λ e. ending x f 2 e s) (all_within (KeepsSound x.config x.most f) (is_established f.connection.phase) _ (λ est. (
       λ _. bad x f (request_is.start_fault (request_is.outstanding f.connection.requester) next count) s,
-      λ _. (λ _. going x f (restarted f next count) acts.Nothing [] (record { waits = s.waits; even = s.even; unread = s.unread; credentials = s.credentials; sent = s.sent; role = s.role }) refl refl tt tt, λ _. tt),
+      λ _. (
+        λ _. going x f (restarted f next count) acts.Nothing [] (record {
+          waits = s.waits;
+          even = s.even;
+          unread = s.unread;
+          credentials = s.credentials;
+          sent = s.sent;
+          next = s.next;
+          opening = λ n. absurd (true≢false (sym (is_done f.connection.phase est) ∙ n));
+          soft = λ t. let k = s.soft t in record { newer = k.newer; flow = k.flow; role = k.role; no_request = ap (λ q. request_is.started q next count) k.no_request };
+          role = s.role;
+        }) refl refl tt tt,
+        λ _. tt,
+      ),
     )))
 session_rows x f (retransmit_reject id timestamp code reason) s =
     own_rows (KeepsSound x.config x.most f) x f 11 id _ (λ e. ending x f 2 e s) (all_within (KeepsSound x.config x.most f) (is_established f.connection.phase) _ (λ _. (λ _. ending x f 2 _ s, λ _. tt)))
@@ -495,11 +688,11 @@ session_rows x f (finished_sending id last) s =
     finishing : (n : ℕ) → KeepsSound x.config x.most f (finished x f n)
     finishing n = by_row (KeepsSound x.config x.most f) (is_some (receiver_is.gap f.connection.receiver)) (accepts x [] (peer_finished f (peer.Read n) f.recorded.peer_last)) (answers_finish x f n)
         (λ g. going x f (peer_finished f (peer.Read n) f.recorded.peer_last) acts.Nothing []
-        (record { waits = s.waits; even = s.even; unread = λ t. absurd (none-some (receiver_is.gap f.connection.receiver) g (no_gap f.connection.receiver.next f.connection.receiver.live (s.even t))); credentials = s.credentials; sent = s.sent; role = s.role }) refl refl tt tt)
+        (record { waits = s.waits; even = s.even; unread = λ t. absurd (none-some (receiver_is.gap f.connection.receiver) g (no_gap f.connection.receiver.next f.connection.receiver.live (s.even t))); credentials = s.credentials; sent = s.sent; next = s.next; opening = s.opening; soft = s.soft; role = s.role }) refl refl tt tt)
         (λ _. answering x f f n s refl refl)
 session_rows x f (finished_receiving id) s =
     own_rows (KeepsSound x.config x.most f) x f 15 id _ (λ e. ending x f 2 e s) (all_within (KeepsSound x.config x.most f) (is_established f.connection.phase) _ (λ _. (
-      λ _. going x f (own_finishing f own.Exchanged) acts.Nothing [] (record { waits = s.waits; even = s.even; unread = s.unread; credentials = s.credentials; sent = s.sent; role = s.role }) refl refl tt tt,
+      λ _. going x f (own_finishing f own.Exchanged) acts.Nothing [] (record { waits = s.waits; even = s.even; unread = s.unread; credentials = s.credentials; sent = s.sent; next = s.next; opening = s.opening; soft = s.soft; role = s.role }) refl refl tt tt,
       λ _. tt,
     )))
 session_rows x f (terminate id code reason) s =
@@ -507,15 +700,15 @@ session_rows x f (terminate id code reason) s =
     let rest : AllRows (KeepsSound x.config x.most f) (answer ∷ []) = (λ _. ending x f 1 _ s, λ _. tt) in
     own_rows (KeepsSound x.config x.most f) x f 16 id (answer ∷ []) (λ e. ending x f 2 e s) rest
 
-each_row : (x : Around) (f : Facts) (i : Incoming) → Sound x.config f → AllRows (KeepsSound x.config x.most f) (rows_of x f i)
-each_row x f (application p) s = message_rows x f p s
-each_row x f (session m) s = session_rows x f m s
-each_row x f wrong_order s = (λ _. ending x f 2 _ s, λ _. tt)
-each_row x f too_short s = (λ _. ending x f 2 _ s, λ _. tt)
-each_row x f (unknown template) s = (λ _. ending x f 2 _ s, λ _. tt)
+each_row : (x : Around) (f : Facts) (i : Incoming) → x.most < 2 ^ 40 → Sound x.config f → AllRows (KeepsSound x.config x.most f) (rows_of x f i)
+each_row x f (application p) low s = message_rows x f p low s
+each_row x f (session m) low s = session_rows x f m s
+each_row x f wrong_order low s = (λ _. ending x f 2 _ s, λ _. tt)
+each_row x f too_short low s = (λ _. ending x f 2 _ s, λ _. tt)
+each_row x f (unknown template) low s = (λ _. ending x f 2 _ s, λ _. tt)
 
 pub sound_goes_on : SoundGoesOn
-sound_goes_on x f i s =
+sound_goes_on x f i low s =
     by_row (KeepsSound x.config x.most f) (is_closing f.connection.phase && not (terminates x i)) (ignores f) (answer_of x f i)
     (λ _. ignoring x f s)
-    (λ _. all_rows (KeepsSound x.config x.most f) (not_in_phase x f (template_of i)) (rows_of x f i) (ending x f 2 _ s) (each_row x f i s))
+    (λ _. all_rows (KeepsSound x.config x.most f) (not_in_phase x f (template_of i)) (rows_of x f i) (ending x f 2 _ s) (each_row x f i low s))

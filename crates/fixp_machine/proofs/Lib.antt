@@ -1,5 +1,6 @@
 pub mod Tests
 pub mod Rows
+pub mod Expecting
 pub mod Keeping
 pub mod Calls
 pub mod Moving

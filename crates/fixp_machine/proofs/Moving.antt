@@ -1,5 +1,5 @@
 -- The act of each reply is one that the inbox can take, and what is recorded moves with it, row by row.
-use Rattle.std.proofs.Common.{◌≡◌, ◌⊎◌, inl, inr, ℕ, ◌+◌, ◌-◌, ◌≤◌, ◌==◌, ◌&&◌, ◌||◌, max, min, nat_lt, not, Bool, true, false, if◌then◌else◌, List, [], ◌∷◌, Option, Some, None, refl, sym, ap, subst, ◌∙◌, arith, true≢false}
+use Rattle.std.proofs.Common.{◌≡◌, ◌⊎◌, inl, inr, ℕ, ◌+◌, ◌-◌, ◌<◌, ◌≤◌, ◌^◌, ◌==◌, ◌&&◌, ◌||◌, max, min, nat_lt, not, Bool, true, false, if◌then◌else◌, List, [], ◌∷◌, ◌++◌, Option, Some, None, refl, sym, ap, subst, ◌∙◌, arith, true≢false}
 use Rattle.std.specs.Prelude.{⊤, is_some, is_none, unwrap_or, Result, Ok, Err}
 use Rattle.std.proofs.lemmas.Bool.{ltb-true, ltb-false}
 use Rattle.std.proofs.lemmas.Bool.Decides.{nat_tests}
@@ -7,7 +7,7 @@ use Rattle.fixp_msgs.specs.declared.flow.Flow.{Flow}
 use Rattle.fixp_msgs.specs.declared.flow.Flow.TheVariants as flows
 use Rattle.fixp_msgs.specs.declared.numbering.Range.{Range}
 use Rattle.fixp_msgs.specs.Flow.{flow_code}
-use Rattle.fixp_msgs.specs.declared.messages.Expected.TheVariants as expects
+use Rattle.fixp_msgs.specs.declared.messages.Expected.{Expected}
 use Rattle.fixp_msgs.specs.Message.{Message, negotiate, negotiation_response, negotiation_reject, establish, establishment_ack, establishment_reject, sequence, unsequenced_heartbeat, retransmit_request, retransmission, retransmit_reject, applied, not_applied, finished_sending, finished_receiving, terminate}
 use Rattle.flow_recover.specs.declared.receiver.Seen.{Seen}
 use Rattle.flow_recover.specs.declared.receiver.Seen.TheVariants.{Deliver, Gap, Repeat}
@@ -20,7 +20,7 @@ use Rattle.fixp_shake.specs.declared.phase.Phase.TheVariants as phases
 use Rattle.fixp_shake.specs.declared.violation.Violation.{Violation}
 use Rattle.fixp_shake.specs.declared.violation.Violation.TheVariants.{AfterFinish}
 use Rattle.fixp_shake.specs.Flows.{is_recoverable, is_idempotent, is_sequenced}
-use Rattle.fixp_shake.specs.Phases.{is_negotiating, is_establishing, is_established, is_closing}
+use Rattle.fixp_shake.specs.Phases.{is_idle, is_negotiating, is_establishing, is_established, is_closing}
 use Rattle.fixp_replies.specs.declared.act.Act.{Act}
 use Rattle.fixp_replies.specs.declared.act.Act.TheVariants as acts
 use Rattle.fixp_replies.specs.declared.act.Ending.{Ending}
@@ -30,18 +30,20 @@ use Rattle.fixp_replies.specs.declared.facts.Facts.{Facts}
 use Rattle.fixp_replies.specs.declared.facts.PeerFinish.TheVariants as peer
 use Rattle.fixp_replies.specs.declared.facts.OwnFinish.TheVariants as own
 use Rattle.fixp_replies.specs.Incoming.{Incoming, application, session, wrong_order, too_short, unknown}
-use Rattle.fixp_replies.specs.Facts.{Around, is_own, in_phase, receiving, requesting, serves, negotiated as as_negotiated, awaiting, gap_to_ask, having_asked, announced_number, peer_last, awaits_gap}
+use Rattle.fixp_replies.specs.Facts.{Around, is_initiator, is_own, in_phase, receiving, requesting, firm, serves, negotiated as as_negotiated, awaiting, gap_to_ask, having_asked, announced_number, peer_last, awaits_gap}
 use Rattle.fixp_replies.specs.Outcomes.{Outcome, Row, row, goes_on, accepts, rejects, ignores, ends_with, ends, not_in_phase, skip_of, told_skip, opening_negotiate, opening_establish, breaks}
 use Rattle.fixp_replies.specs.Announcing.{Announced, jumped_over, announced, announcement_fault, refuses, announcement_rows}
-use Rattle.fixp_replies.specs.Handshake.{awaits_client, serves_client, established, acknowledges, establish_rows, established_again_rows, establish_rows_in, shaken}
+use Rattle.fixp_replies.specs.Handshake.{awaits_client, serves_client, established, acknowledges, establish_rows, established_again_rows, establish_rows_in, shaken, reached}
+use Rattle.fixp_replies.specs.Expecting.{answers_next, returned, told_return, softened}
 use Rattle.fixp_replies.specs.Flowing.{bad_retransmission, counted, taken_as, finish_act, peer_finished, answers_finish, is_filled, sequence_follows, restarted, finished_last, finish_fault, finished}
 use Rattle.fixp_replies.specs.Serving.{request_answered, own_finishing}
 use Rattle.fixp_replies.specs.Replies.{template_of, rows_of, answer_of, terminates, reply_of}
 use Rattle.fixp_machine.specs.Sound.{Sound, Advances, WithinMost}
-use Rattle.fixp_machine.specs.Fitting.{IsMessage, CanTake, recorded_after, WasSent, Fits, ActsFit}
+use Rattle.fixp_machine.specs.Fitting.{IsMessage, CanTake, recorded_after, WasSent, Records, Fits, ActsFit}
+use Rattle.fixp_machine.proofs.Expecting.{returned_stays}
 use Rattle.fixp_machine.proofs.Rows.{AllRows, by_row, all_rows, all_within, announced_rows, own_rows}
-use Rattle.fixp_machine.proofs.Keeping.{in_bounds, or_right, sound_goes_on}
-use Rattle.fixp_machine.proofs.Tests.{none-some}
+use Rattle.fixp_machine.proofs.Keeping.{in_bounds, or_right, expected_as, sound_goes_on}
+use Rattle.fixp_machine.proofs.Tests.{none-some, not_opened, not_established}
 
 -- what an inbox asks of an act beside its numbers
 abbrev Allows : Flow → EndState → Incoming → Act → Type 0
@@ -53,17 +55,32 @@ Allows flow recorded i (acts.PeerFinished last) = recorded.peer_last ≡ None
 Allows flow recorded i (acts.Told from count) = ⊤
 Allows flow recorded i acts.Ended = ⊤
 
-abbrev Served : Facts → Option Range → Type 0
-Served f serving = (range : Range) → serving ≡ Some range → (f.connection.serving ≡ Some range) ⊎ WasSent f.recorded.sent range
+abbrev Served : (f g : Facts) → Type 0
+Served f g = (range : Range) → g.connection.serving ≡ Some range
+    → ((f.connection.serving ≡ Some range) × (g.recorded.sent ≡ f.recorded.sent)) ⊎ WasSent g.recorded.sent range
 
 record Moves (x : Around) (f : Facts) (i : Incoming) (o : Outcome) : Type 0 where
   allows : Allows x.config.peer_flow f.recorded i o.act
-  recorded : o.next.recorded ≡ recorded_after o.act f.recorded
-  served : Served f o.next.connection.serving
+  recorded : Records o.act f.recorded o.next.recorded
+  served : Served f o.next
+
+-- the number of entries sent moves with no act
+still_sent : (act : Act) (r : EndState) → (recorded_after act r).sent ≡ r.sent
+still_sent acts.Nothing r = refl
+still_sent (acts.Apply number) r = refl
+still_sent (acts.Skip from count) r = refl
+still_sent acts.Negotiated r = refl
+still_sent (acts.PeerFinished last) r = refl
+still_sent (acts.Told from count) r = refl
+still_sent acts.Ended r = refl
+
+-- what is recorded is what the act makes of it, with as many entries sent
+exactly : (act : Act) (before after : EndState) → after ≡ recorded_after act before → Records act before after
+exactly act before after e = e ∙ ap (λ (n : ℕ). record (recorded_after act before) { sent = n }) (sym (ap (λ (r : EndState). r.sent) e))
 
 -- the range that was served is served still
-still : (f : Facts) (serving : Option Range) → serving ≡ f.connection.serving → Served f serving
-still f serving e range is = inl (sym e ∙ is)
+still : (f g : Facts) → g.connection.serving ≡ f.connection.serving → g.recorded.sent ≡ f.recorded.sent → Served f g
+still f g e sent range is = inl (sym e ∙ is, sent)
 
 asked_recorded : (f : Facts) (g : Option Range) → (having_asked f g).recorded ≡ f.recorded
 asked_recorded f None = refl
@@ -74,29 +91,39 @@ asked_serving f None = refl
 asked_serving f (Some g) = refl
 
 -- the connection goes on
-going : (x : Around) (f next : Facts) (i : Incoming) (act : Act) (written : List Message) → Allows x.config.peer_flow f.recorded i act
-    → next.recorded ≡ recorded_after act f.recorded → Served f next.connection.serving → Moves x f i (goes_on x act written next)
-going x f next i act written a r s = record {
+asked_served : (f next : Facts) (g : Option Range) → Served f next → Served f (having_asked next g)
+asked_served f next None s = s
+asked_served f next (Some g) s = s
+
+going_by : (x : Around) (f next : Facts) (i : Incoming) (act : Act) (written : List Message) → Allows x.config.peer_flow f.recorded i act
+    → Records act f.recorded next.recorded → Served f next → Moves x f i (goes_on x act written next)
+going_by x f next i act written a r s = record {
   allows = a;
-  recorded = asked_recorded next (gap_to_ask next) ∙ r;
-  served = subst (Served f) (sym (asked_serving next (gap_to_ask next))) s;
+  recorded = subst (Records act f.recorded) (sym (asked_recorded next (gap_to_ask next))) r;
+  served = asked_served f next (gap_to_ask next) s;
 }
+
+-- as many entries count as sent, and the range that was served is served still
+going : (x : Around) (f next : Facts) (i : Incoming) (act : Act) (written : List Message) → Allows x.config.peer_flow f.recorded i act
+    → next.recorded ≡ recorded_after act f.recorded → next.connection.serving ≡ f.connection.serving → Moves x f i (goes_on x act written next)
+going x f next i act written a r s = going_by x f next i act written a (exactly act f.recorded next.recorded r)
+    (still f next s (ap (λ (e : EndState). e.sent) r ∙ still_sent act f.recorded))
 
 -- it goes on with nothing to be done, and what is recorded stays
 accepting : (x : Around) (f next : Facts) (i : Incoming) (written : List Message) → next.recorded ≡ f.recorded → next.connection.serving ≡ f.connection.serving → Moves x f i (accepts x written next)
-accepting x f next i written r s = going x f next i acts.Nothing written tt r (still f next.connection.serving s)
+accepting x f next i written r s = going x f next i acts.Nothing written tt r s
 
 -- nothing changes
 staying : (x : Around) (f : Facts) (i : Incoming) (written : List Message) → Moves x f i (rejects written f)
-staying x f i written = record { allows = tt; recorded = refl; served = still f f.connection.serving refl }
+staying x f i written = record { allows = tt; recorded = refl; served = still f f refl refl }
 
 ending : (x : Around) (f : Facts) (i : Incoming) (written : List Message) (e : Ending) → Moves x f i (ends_with x f written e)
-ending x f i written e = record { allows = tt; recorded = refl; served = still f f.connection.serving refl }
+ending x f i written e = record { allows = tt; recorded = refl; served = still f f refl refl }
 
 -- the same of facts with other requests
 ending_of : (x : Around) (f next : Facts) (i : Incoming) (written : List Message) (e : Ending) → next.recorded ≡ f.recorded → next.connection.serving ≡ f.connection.serving
     → Moves x f i (ends_with x next written e)
-ending_of x f next i written e r s = record { allows = tt; recorded = r; served = still f next.connection.serving s }
+ending_of x f next i written e r s = record { allows = tt; recorded = exactly acts.Nothing f.recorded next.recorded r; served = still f next s (ap (λ (e : EndState). e.sent) r) }
 
 refusing : (x : Around) (f : Facts) (i : Incoming) (v : Option Violation) → Moves x f i (refuses x f v)
 refusing x f i None = staying x f i []
@@ -104,7 +131,7 @@ refusing x f i (Some v) = ending x f i _ _
 
 refusing_of : (x : Around) (f next : Facts) (i : Incoming) → next.recorded ≡ f.recorded → next.connection.serving ≡ f.connection.serving → (v : Option Violation)
     → Moves x f i (refuses x next v)
-refusing_of x f next i r s None = record { allows = tt; recorded = r; served = still f next.connection.serving s }
+refusing_of x f next i r s None = record { allows = tt; recorded = exactly acts.Nothing f.recorded next.recorded r; served = still f next s (ap (λ (e : EndState). e.sent) r) }
 refusing_of x f next i r s (Some v) = ending_of x f next i _ _ r s
 
 bad : (x : Around) (f : Facts) (i : Incoming) (b : Option BadStart) → Moves x f i (bad_retransmission x f b)
@@ -148,7 +175,7 @@ jumps x f n flow low = by_test (nat_lt f.recorded.inbox_next n) refl
 
 abbrev chosen : Around → Facts → ℕ → Bool → Bool → Announced
 chosen x f n recoverable idempotent =
-    if recoverable then record { facts = receiving f (receiver_is.announced f.connection.receiver n); skipped = None }
+    if recoverable then record { facts = firm (receiving f (receiver_is.announced f.connection.receiver n)); skipped = None }
     else if idempotent then record { facts = awaiting f n; skipped = jumped_over f.recorded.inbox_next n }
     else record { facts = f; skipped = None }
 
@@ -160,15 +187,22 @@ announces x f template next e = by_flow (is_recoverable x.config.peer_flow) (is_
     by_flow false true rec idem =
         let b = in_bounds x f template next e (or_right (is_recoverable x.config.peer_flow) (is_idempotent x.config.peer_flow) idem) in
         let low : f.recorded.inbox_next ≤ unwrap_or next 0 =
-        subst (λ (r : Bool). (if r then receiver_is.expected f.connection.receiver else f.recorded.inbox_next) ≤ unwrap_or next 0) rec b.0 in
+        subst (λ (r : Bool). expected_as f r ≤ unwrap_or next 0) rec b.0 in
         let j = jumps x f (unwrap_or next 0) (idempotent x.config.peer_flow idem) low in
         record { allows = j.0; recorded = j.1; serving = refl; finish = refl; unmoved = λ t. absurd (true≢false (sym t ∙ rec)) }
     by_flow false false rec idem = record { allows = λ _. tt; recorded = refl; serving = refl; finish = refl; unmoved = λ _. refl }
 
--- an announcement is followed by what goes on from its facts
-follows : (x : Around) (f : Facts) (i : Incoming) (a : Announced) (next : Facts) (written : List Message) → Announces x f a → next.recorded ≡ a.facts.recorded
-    → next.connection.serving ≡ a.facts.connection.serving → Moves x f i (goes_on x (skip_of a.skipped) written next)
-follows x f i a next written is r s = going x f next i (skip_of a.skipped) written (is.allows i) (r ∙ is.recorded) (still f next.connection.serving (s ∙ is.serving))
+-- an announcement is followed by what goes on from its facts, where the number that the peer expects is taken, and nothing is served
+follows_return : (x : Around) (f : Facts) (i : Incoming) (e : Expected) (a : Announced) (next : Facts) (written : List Message) → Announces x f a → f.connection.serving ≡ None
+    → next.recorded ≡ (returned x a.facts e).recorded → next.connection.serving ≡ (returned x a.facts e).connection.serving → Moves x f i (goes_on x (skip_of a.skipped) written next)
+follows_return x f i e a next written is free r s =
+    let t = returned_stays x a.facts e in
+    let none : next.connection.serving ≡ None = s ∙ (ap (λ c. c.serving) t.connection ∙ (is.serving ∙ free)) in
+    let moved : next.recorded ≡ record a.facts.recorded { sent = next.recorded.sent } =
+    r ∙ (t.recorded ∙ ap (λ (n : ℕ). record a.facts.recorded { sent = n }) (sym (ap (λ (k : EndState). k.sent) r))) in
+    going_by x f next i (skip_of a.skipped) written (is.allows i)
+    (moved ∙ ap (λ (k : EndState). record k { sent = next.recorded.sent }) is.recorded)
+    (λ range serves_it. absurd (none-some (Some range) refl (sym serves_it ∙ none)))
 
 -- the peer's finish is answered, and recorded where it was not
 finishes : (r : EndState) (p : Option ℕ) (last : ℕ) → r.peer_last ≡ p → record r { peer_last = Some (unwrap_or p last) } ≡ recorded_after (finish_act p last) r
@@ -184,19 +218,19 @@ answering x f next i last r s =
     going x f (peer_finished next (peer.Exchanged last) (Some (unwrap_or next.recorded.peer_last last))) i (finish_act next.recorded.peer_last last) (finished_receiving x.config.session ∷ [])
     (subst (λ (e : EndState). Allows x.config.peer_flow e i (finish_act next.recorded.peer_last last)) r (allows_finish x next.recorded i next.recorded.peer_last last refl))
     (subst (λ (e : EndState). record next.recorded { peer_last = Some (unwrap_or next.recorded.peer_last last) } ≡ recorded_after (finish_act next.recorded.peer_last last) e) r (finishes next.recorded next.recorded.peer_last last refl))
-    (still f next.connection.serving s)
+    s
 
 -- Sequence, where its announcement stands
 following : (x : Around) (f ended : Facts) (i : Incoming) (next : ℕ) (a : Announced) → Sound x.config f → ended.recorded ≡ f.recorded → ended.connection.serving ≡ f.connection.serving
     → ended.connection.peer_finish ≡ f.connection.peer_finish → Announces x ended a → Moves x f i (sequence_follows x ended next a)
 following x f ended i next a s r serving finish is =
-    all_rows (Moves x f i) (ignores ended) rows (record { allows = tt; recorded = r; served = still f ended.connection.serving serving }) (
+    all_rows (Moves x f i) (ignores ended) rows (refusing_of x f ended i r serving None) (
       λ _. ending_of x f ended i _ _ r serving,
       λ _. (
         λ filled. by_flow (is_recoverable x.config.peer_flow) refl (and_left (is_some (awaits_gap a.facts.connection.peer_finish)) (is_none (receiver_is.gap a.facts.connection.receiver)) filled),
         λ _. (
           λ _. going x f a.facts i (skip_of a.skipped) (told_skip a.skipped) (subst (λ (e : EndState). Allows x.config.peer_flow e i (skip_of a.skipped)) r (is.allows i))
-              (is.recorded ∙ ap (λ (e : EndState). recorded_after (skip_of a.skipped) e) r) (still f a.facts.connection.serving (is.serving ∙ serving)),
+              (is.recorded ∙ ap (λ (e : EndState). recorded_after (skip_of a.skipped) e) r) (is.serving ∙ serving),
           λ _. tt,
         ),
       ),
@@ -258,7 +292,7 @@ judged_sent own recoverable from count sent range e =
 answered : (x : Around) (f : Facts) (i : Incoming) (id : List ℕ) (timestamp : ℕ) (r : Result Range RetransmitCode)
     → ((range : Range) → r ≡ Ok range → WasSent f.recorded.sent range) → Moves x f i (request_answered x f id timestamp r)
 answered x f i id timestamp (Ok range) sent =
-    going x f (serves f (Some range)) i acts.Nothing (retransmission x.config.session range.from timestamp range.count ∷ []) tt refl (λ other is. let same : range ≡ other = cc in inr (subst (WasSent f.recorded.sent) same (sent range refl)))
+    going_by x f (serves f (Some range)) i acts.Nothing (retransmission x.config.session range.from timestamp range.count ∷ []) tt refl (λ other is. let same : range ≡ other = cc in inr (subst (WasSent f.recorded.sent) same (sent range refl)))
 answered x f i id timestamp (Err code) sent = staying x f i _
 
 -- an initiator goes on with the handshake
@@ -272,7 +306,7 @@ allows_negotiated x r i false e = e
 
 shaking : (x : Around) (f : Facts) (i : Incoming) → Moves x f i (shaken x f)
 shaking x f i = going x f (in_phase (as_negotiated f) phases.Establishing) i (if f.recorded.negotiated then acts.Nothing else acts.Negotiated) (opening_establish x f ∷ [])
-    (allows_negotiated x f.recorded i f.recorded.negotiated refl) (set_negotiated f.recorded f.recorded.negotiated refl) (still f f.connection.serving refl)
+    (allows_negotiated x f.recorded i f.recorded.negotiated refl) (set_negotiated f.recorded f.recorded.negotiated refl) refl
 
 message_rows : (x : Around) (f : Facts) (p : List ℕ) → AllRows (Moves x f (application p)) (rows_of x f (application p))
 message_rows x f p = all_within (Moves x f (application p)) (is_established f.connection.phase) _ (λ _. (
@@ -282,7 +316,7 @@ message_rows x f p = all_within (Moves x f (application p)) (is_established f.co
     λ _. (
       λ _. ending x f (application p) _ _,
       λ _. (
-        λ _. going x f (awaiting f (f.recorded.inbox_next + 1)) (application p) (acts.Apply f.recorded.inbox_next) [] tt refl (still f f.connection.serving refl),
+        λ _. going x f (awaiting f (f.recorded.inbox_next + 1)) (application p) (acts.Apply f.recorded.inbox_next) [] tt refl refl,
         λ _. (
           λ _. bad x f (application p) (request_is.message_fault f.connection.requester),
           λ _. (λ _. taking (receiver_is.seen f.connection.receiver), λ _. tt),
@@ -293,25 +327,31 @@ message_rows x f p = all_within (Moves x f (application p)) (is_established f.co
 ))
   where
     taking : (s : Seen) → Moves x f (application p) (taken_as x (counted f) s)
-    taking (Deliver n) = going x f (awaiting (counted f) (n + 1)) (application p) (acts.Apply n) [] tt refl (still f f.connection.serving refl)
+    taking (Deliver n) = going x f (awaiting (counted f) (n + 1)) (application p) (acts.Apply n) [] tt refl refl
     taking (Gap n) = accepting x f (counted f) (application p) [] refl refl
     taking (Repeat n) = accepting x f (counted f) (application p) [] refl refl
 
-establish_all : (x : Around) (f : Facts) (i : Incoming) (id : List ℕ) (timestamp keepalive : ℕ) (next : Option ℕ) (credentials : List ℕ)
-    → AllRows (Moves x f i) (establish_rows_in x f id timestamp keepalive next credentials)
-establish_all x f i id timestamp keepalive next credentials = by_place (awaits_client x f) (serves_client x f)
+establish_all : (x : Around) (f : Facts) (i : Incoming) (id : List ℕ) (timestamp keepalive : ℕ) (next : Option ℕ) (expected : Expected) (credentials : List ℕ) → Sound x.config f
+    → AllRows (Moves x f i) (establish_rows_in x f id timestamp keepalive next expected credentials)
+establish_all x f i id timestamp keepalive next expected credentials s = by_place (awaits_client x f) (serves_client x f) refl
   where
-    acknowledged : (a : Announced) → Announces x f a → Moves x f i (acknowledges x timestamp keepalive a)
-    acknowledged a is = follows x f i a (established a.facts keepalive) (establishment_ack x.config.session timestamp x.config.keepalive (announced_number x a.facts) expects.Absent ∷ told_skip a.skipped) is refl refl
+    idle : (i d : Bool) → (not i && d) ≡ true → d ≡ true
+    idle false d t = t
+    idle true d t = absurd (true≢false (sym t))
 
-    first : AllRows (Moves x f i) (establish_rows x f id timestamp keepalive next credentials)
-    first = (
+    acknowledged : awaits_client x f ≡ true → (a : Announced) → Announces x f a → Moves x f i (acknowledges x timestamp keepalive expected a)
+    acknowledged waits a is = follows_return x f i expected a (established (softened x expected (returned x a.facts expected)) keepalive)
+        (establishment_ack x.config.session timestamp x.config.keepalive (announced_number x (returned x a.facts expected)) (answers_next x expected (returned x a.facts expected)) ∷ told_skip a.skipped)
+        is (s.opening (not_opened f.connection.phase (idle (is_initiator x.config.role) (is_idle f.connection.phase) waits))).no_range refl refl
+
+    first : awaits_client x f ≡ true → AllRows (Moves x f i) (establish_rows x f id timestamp keepalive next expected credentials)
+    first waits = (
       λ _. staying x f i _,
       λ _. (
         λ _. staying x f i _,
         λ _. (
           λ _. staying x f i _,
-          λ _. announced_rows (Moves x f i) x f 4 next (acknowledges x timestamp keepalive) (refusing x f i) (λ e. acknowledged (announced x f next) (announces x f 4 next e)),
+          λ _. announced_rows (Moves x f i) x f 4 next (acknowledges x timestamp keepalive expected) (refusing x f i) (λ e. acknowledged waits (announced x f next) (announces x f 4 next e)),
         ),
       ),
     )
@@ -319,11 +359,11 @@ establish_all x f i id timestamp keepalive next credentials = by_place (awaits_c
     again : AllRows (Moves x f i) (established_again_rows x f id timestamp)
     again = (λ _. staying x f i _, λ _. (λ _. staying x f i _, λ _. tt))
 
-    by_place : (a b : Bool)
-        → AllRows (Moves x f i) (if a then establish_rows x f id timestamp keepalive next credentials else if b then established_again_rows x f id timestamp else [])
-    by_place true b = first
-    by_place false true = again
-    by_place false false = tt
+    by_place : (a b : Bool) → awaits_client x f ≡ a
+        → AllRows (Moves x f i) (if a then establish_rows x f id timestamp keepalive next expected credentials else if b then established_again_rows x f id timestamp else [])
+    by_place true b waits = first waits
+    by_place false true waits = again
+    by_place false false waits = tt
 
 session_rows : (x : Around) (f : Facts) (m : Message) → Sound x.config f → AllRows (Moves x f (session m)) (rows_of x f (session m))
 session_rows x f (negotiate id timestamp flow credentials) s =
@@ -336,7 +376,7 @@ session_rows x f (negotiate id timestamp flow credentials) s =
           λ _. staying x f i _,
           λ _. (
             λ _. staying x f i _,
-            λ fresh. (λ _. going x f (as_negotiated f) i acts.Negotiated (negotiation_response x.config.session timestamp (flow_code x.config.own_flow) [] ∷ []) fresh refl (still f f.connection.serving refl), λ _. tt),
+            λ fresh. (λ _. going x f (as_negotiated f) i acts.Negotiated (negotiation_response x.config.session timestamp (flow_code x.config.own_flow) [] ∷ []) fresh refl refl, λ _. tt),
           ),
         ),
       ),
@@ -347,13 +387,14 @@ session_rows x f (negotiation_response id timestamp flow credentials) s =
 session_rows x f (negotiation_reject id timestamp code reason) s =
     let i : Incoming = session (negotiation_reject id timestamp code reason) in
     own_rows (Moves x f i) x f 3 id _ (λ e. ending x f i _ e) (all_within (Moves x f i) (is_negotiating f.connection.phase) _ (λ _. (λ _. shaking x f i, λ _. (λ _. ending x f i _ _, λ _. tt))))
-session_rows x f (establish id timestamp keepalive next expected credentials) s = establish_all x f (session (establish id timestamp keepalive next expected credentials)) id timestamp keepalive next credentials
+session_rows x f (establish id timestamp keepalive next expected credentials) s = establish_all x f (session (establish id timestamp keepalive next expected credentials)) id timestamp keepalive next expected credentials s
 session_rows x f (establishment_ack id timestamp keepalive next expected) s =
     let i : Incoming = session (establishment_ack id timestamp keepalive next expected) in
-    let interval : ℕ = min 60000 (max 100 keepalive) in
-    own_rows (Moves x f i) x f 5 id _ (λ e. ending x f i _ e) (all_within (Moves x f i) (is_establishing f.connection.phase) _ (λ _.
-    announced_rows (Moves x f i) x f 5 next (λ (a : Announced). goes_on x (skip_of a.skipped) (told_skip a.skipped) (established a.facts interval)) (refusing x f i)
-    (λ e. follows x f i (announced x f next) (established (announced x f next).facts interval) (told_skip (announced x f next).skipped) (announces x f 5 next e) refl refl)))
+    let a : Announced = announced x f next in
+    own_rows (Moves x f i) x f 5 id _ (λ e. ending x f i _ e) (all_within (Moves x f i) (is_establishing f.connection.phase) _ (λ n.
+    announced_rows (Moves x f i) x f 5 next (reached x keepalive expected) (refusing x f i)
+    (λ e. follows_return x f i expected a (established (returned x a.facts expected) (min 60000 (max 100 keepalive))) (told_skip a.skipped ++ told_return x a.facts expected)
+    (announces x f 5 next e) (s.opening (not_established f.connection.phase n)).no_range refl refl)))
 session_rows x f (establishment_reject id timestamp code reason) s =
     let i : Incoming = session (establishment_reject id timestamp code reason) in
     own_rows (Moves x f i) x f 6 id _ (λ e. ending x f i _ e) (all_within (Moves x f i) (is_establishing f.connection.phase) _ (λ _. (
@@ -395,7 +436,7 @@ session_rows x f (retransmit_reject id timestamp code reason) s =
 session_rows x f (applied first count) s = (λ _. accepting x f f (session (applied first count)) [] refl refl, λ _. tt)
 session_rows x f (not_applied first count) s =
     let i : Incoming = session (not_applied first count) in
-    (λ _. going x f f i (acts.Told first count) [] tt refl (still f f.connection.serving refl), λ _. (λ _. accepting x f f i [] refl refl, λ _. tt))
+    (λ _. going x f f i (acts.Told first count) [] tt refl refl, λ _. (λ _. accepting x f f i [] refl refl, λ _. tt))
 session_rows x f (finished_sending id last) s =
     let i : Incoming = session (finished_sending id last) in
     own_rows (Moves x f i) x f 14 id _ (λ e. ending x f i _ e) (all_within (Moves x f i) (is_established f.connection.phase) _ (λ _. (
@@ -447,10 +488,10 @@ can_take flow most r i (acts.PeerFinished last) after a n w = a
 can_take flow most r i (acts.Told from count) after a n w = tt
 can_take flow most r i acts.Ended after a n w = tt
 
-frame_fits : (x : Around) (f : Facts) (i : Incoming) → Sound x.config f → Fits x.config x.most f i (reply_of x f i)
-frame_fits x f i s =
+frame_fits : (x : Around) (f : Facts) (i : Incoming) → x.most < 2 ^ 40 → Sound x.config f → Fits x.config x.most f i (reply_of x f i)
+frame_fits x f i low s =
     let o : Outcome = reply_of x f i in
-    let k = sound_goes_on x f i s in
+    let k = sound_goes_on x f i low s in
     let m = moves x f i s in
     record {
       takes = can_take x.config.peer_flow x.most f.recorded i o.act o.next.recorded.inbox_next m.allows k.advances k.within;
@@ -461,5 +502,5 @@ frame_fits x f i s =
 pub acts_fit : ActsFit
 acts_fit = record {
   frames = frame_fits;
-  bad_frames = λ x f i. record { takes = tt; recorded = refl; served = still f f.connection.serving refl };
+  bad_frames = λ x f i. record { takes = tt; recorded = refl; served = still f f refl refl };
 }

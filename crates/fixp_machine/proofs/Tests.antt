@@ -1,10 +1,13 @@
 -- What the tests of the rows mean.
-use Rattle.std.proofs.Common.{◌≡◌, ℕ, ◌-◌, ◌==◌, nat_lt, not, Bool, true, false, if◌then◌else◌, Option, Some, None, refl, sym, ap, ◌∙◌, arith, eqb-true, true≢false}
+use Rattle.std.proofs.Common.{◌≡◌, ℕ, ◌-◌, ◌==◌, ◌||◌, nat_lt, not, Bool, true, false, if◌then◌else◌, Option, Some, None, refl, sym, ap, ◌∙◌, arith, eqb-true, true≢false}
 use Rattle.std.specs.Prelude.{is_some}
 use Rattle.std.proofs.lemmas.Bool.Decides.{nat_tests}
 use Rattle.fixp_msgs.specs.declared.numbering.Range.{Range}
 use Rattle.flow_recover.specs.declared.receiver.Seen.TheVariants.{Deliver, Gap, Repeat}
 use Rattle.flow_recover.specs.Receiving as receiver_is
+use Rattle.fixp_shake.specs.declared.phase.Phase.{Phase}
+use Rattle.fixp_shake.specs.declared.phase.Phase.TheVariants as phases
+use Rattle.fixp_shake.specs.Phases.{is_idle, is_negotiating, is_establishing, is_established, is_closing, is_shaken}
 
 pub not_true : (b : Bool) → not b ≡ false → b ≡ true
 not_true true e = refl
@@ -51,3 +54,31 @@ no_gap next live e = by_test (nat_lt next live) refl
     by_test : (b : Bool) → nat_lt next live ≡ b → gap_if b (record { from = next; count = live - next }) ≡ None
     by_test true t = let no : ⊥ = grind (arith, nat_tests) in absurd no
     by_test false t = refl
+
+-- where the handshake is done, and where it is not
+pub is_done : (p : Phase) → is_established p ≡ true → is_shaken p ≡ true
+is_done p e = ap (λ b. b || is_closing p) e
+
+pub not_negotiated : (p : Phase) → is_negotiating p ≡ true → is_shaken p ≡ false
+not_negotiated phases.Idle e = absurd (true≢false (sym e))
+not_negotiated phases.Negotiating e = refl
+not_negotiated phases.Establishing e = absurd (true≢false (sym e))
+not_negotiated phases.Established e = absurd (true≢false (sym e))
+not_negotiated phases.Closing e = absurd (true≢false (sym e))
+not_negotiated phases.Ended e = absurd (true≢false (sym e))
+
+pub not_established : (p : Phase) → is_establishing p ≡ true → is_shaken p ≡ false
+not_established phases.Idle e = absurd (true≢false (sym e))
+not_established phases.Negotiating e = absurd (true≢false (sym e))
+not_established phases.Establishing e = refl
+not_established phases.Established e = absurd (true≢false (sym e))
+not_established phases.Closing e = absurd (true≢false (sym e))
+not_established phases.Ended e = absurd (true≢false (sym e))
+
+pub not_opened : (p : Phase) → is_idle p ≡ true → is_shaken p ≡ false
+not_opened phases.Idle e = refl
+not_opened phases.Negotiating e = absurd (true≢false (sym e))
+not_opened phases.Establishing e = absurd (true≢false (sym e))
+not_opened phases.Established e = absurd (true≢false (sym e))
+not_opened phases.Closing e = absurd (true≢false (sym e))
+not_opened phases.Ended e = absurd (true≢false (sym e))

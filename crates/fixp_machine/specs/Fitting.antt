@@ -1,6 +1,6 @@
 -- What the act of a reply is to an inbox: the inbox can take it, and what is recorded moves with it. And which ranges are
 -- served (FIXP 1.1, RetransmitRequest; the limit of one request is this project's profile).
-use Rattle.std.specs.Prelude.{◌≡◌, ⊤, ◌⊎◌, ℕ, ◌+◌, ◌≤◌, true, false, Some, None}
+use Rattle.std.specs.Prelude.{◌≡◌, ⊤, ◌⊎◌, ℕ, ◌+◌, ◌<◌, ◌≤◌, ◌^◌, true, false, Some, None}
 use Rattle.fixp_msgs.specs.declared.flow.Flow.{Flow}
 use Rattle.fixp_msgs.specs.declared.flow.Flow.TheVariants as flows
 use Rattle.fixp_msgs.specs.declared.numbering.Range.{Range}
@@ -53,12 +53,17 @@ pub record WasSent (sent : ℕ) (range : Range) : Type 0 where
   pub few : range.count ≤ request_limit
   pub last : range.from + range.count ≤ sent + 1
 
+-- an act moves what is recorded from this to that, but for the number of entries sent
+abbrev pub Records : Act → (before after : EndState) → Type 0
+Records act before after = after ≡ record (recorded_after act before) { sent = after.sent }
+
 -- what an outcome keeps to, at a frame with this message
 pub record Fits (cfg : EndConfig) (most : ℕ) (f : Facts) (i : Incoming) (o : Outcome) : Type 0 where
   pub takes : CanTake cfg.peer_flow most f.recorded (IsMessage i) o.act
-  pub recorded : o.next.recorded ≡ recorded_after o.act f.recorded
-  pub served : (range : Range) → o.next.connection.serving ≡ Some range → (f.connection.serving ≡ Some range) ⊎ WasSent f.recorded.sent range
+  pub recorded : Records o.act f.recorded o.next.recorded
+  pub served : (range : Range) → o.next.connection.serving ≡ Some range
+      → ((f.connection.serving ≡ Some range) × (o.next.recorded.sent ≡ f.recorded.sent)) ⊎ WasSent o.next.recorded.sent range
 
 pub record ActsFit : Type 0 where
-  pub frames : (x : Around) (f : Facts) (i : Incoming) → Sound x.config f → Fits x.config x.most f i (reply_of x f i)
+  pub frames : (x : Around) (f : Facts) (i : Incoming) → x.most < 2 ^ 40 → Sound x.config f → Fits x.config x.most f i (reply_of x f i)
   pub bad_frames : (x : Around) (f : Facts) (i : Incoming) → Fits x.config x.most f i (reply_to_bad_frame x f)

@@ -223,8 +223,9 @@ abbrev pub run : State → List Call → State
 run s [] = s
 run s (call ∷ later) = run (step s call) later
 
--- What a state keeps to: sound facts, and a pending outcome that keeps them so
+-- What a state keeps to: a greatest number below 2^40, sound facts, and a pending outcome that keeps them so
 pub record StaysSound (s : State) : Type 0 where
+  pub most : s.most < 2 ^ 40
   pub facts : Sound s.config s.facts
   pub pending : IfSome s.pending (λ o. KeepsSound s.config s.most s.facts o)
 

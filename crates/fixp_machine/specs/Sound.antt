@@ -1,19 +1,39 @@
 -- What the facts of a connection keep to: the receiver and the inbox wait for the same number, only a recoverable flow has gaps
--- and a finish that waits for one, and only an initiator waits for the answers of a handshake.
-use Rattle.std.specs.Prelude.{◌≡◌, ⊤, ℕ, ◌+◌, ◌<◌, ◌≤◌, ◌^◌, ◌||◌, Bool, true, false, length, None}
+-- and a finish that waits for one, only an initiator waits for the answers of a handshake, and before that is done nothing is asked
+-- for, missing or served.
+use Rattle.std.specs.Prelude.{◌≡◌, ⊤, ℕ, ◌+◌, ◌<◌, ◌≤◌, ◌^◌, ◌||◌, ◌&&◌, Bool, true, false, not, length, Option, None}
 use Rattle.std.specs.List.{AllByRecursion}
 use Rattle.fixp_msgs.specs.Message.{Message, negotiate, negotiation_response, negotiation_reject, establish, establishment_ack, establishment_reject, sequence, unsequenced_heartbeat, retransmit_request, retransmission, retransmit_reject, applied, not_applied, finished_sending, finished_receiving, terminate}
 use Rattle.fixp_msgs.specs.Canonical.{IsWritable}
 use Rattle.fixp_shake.specs.declared.config.EndConfig.{EndConfig}
 use Rattle.fixp_shake.specs.Flows.{is_recoverable}
-use Rattle.fixp_shake.specs.Phases.{is_negotiating, is_establishing}
+use Rattle.fixp_shake.specs.Phases.{is_negotiating, is_establishing, is_shaken}
+use Rattle.fixp_msgs.specs.declared.numbering.Range.{Range}
+use Rattle.flow_recover.specs.Receiving.{Receiving}
+use Rattle.flow_retrans.specs.declared.request.Request.{Request}
+use Rattle.flow_retrans.specs.declared.request.Request.TheVariants as requests
 use Rattle.fixp_replies.specs.declared.act.Act.{Act}
 use Rattle.fixp_replies.specs.declared.act.Act.TheVariants as acts
 use Rattle.fixp_replies.specs.declared.facts.Facts.{Facts}
+use Rattle.fixp_replies.specs.Expecting.{is_newer}
 use Rattle.fixp_replies.specs.Incoming.{Incoming}
 use Rattle.fixp_replies.specs.Facts.{Around, is_initiator, awaits_gap}
 use Rattle.fixp_replies.specs.Outcomes.{Outcome}
 use Rattle.fixp_replies.specs.Replies.{reply_of}
+
+-- nothing was asked for or served yet, no number is missing, and the connection is not soft
+pub record IsOpening (requester : Request) (receiver : Receiving) (serving : Option Range) (soft : Bool) : Type 0 where
+  pub no_request : requester ≡ requests.Nothing
+  pub no_gap : receiver.live ≡ receiver.next
+  pub no_range : serving ≡ None
+  pub firm : soft ≡ false
+
+-- a connection is soft at an acceptor of version 1 alone, on a recoverable flow, and as long as it is, nothing is asked for
+pub record IsSoft (cfg : EndConfig) (requester : Request) : Type 0 where
+  pub newer : is_newer cfg ≡ true
+  pub flow : is_recoverable cfg.peer_flow ≡ true
+  pub role : is_initiator cfg.role ≡ false
+  pub no_request : requester ≡ requests.Nothing
 
 pub record Sound (cfg : EndConfig) (f : Facts) : Type 0 where
   pub waits : is_recoverable cfg.peer_flow ≡ true → f.connection.receiver.next ≡ f.recorded.inbox_next
@@ -21,6 +41,10 @@ pub record Sound (cfg : EndConfig) (f : Facts) : Type 0 where
   pub unread : is_recoverable cfg.peer_flow ≡ false → awaits_gap f.connection.peer_finish ≡ None
   pub credentials : length cfg.credentials ≤ 2048
   pub sent : f.recorded.sent < 2 ^ 40
+  pub next : is_recoverable cfg.peer_flow ≡ true → f.recorded.inbox_next + 1 < 2 ^ 64
+  pub opening : is_shaken f.connection.phase ≡ false
+      → IsOpening f.connection.requester f.connection.receiver f.connection.serving f.connection.soft
+  pub soft : f.connection.soft ≡ true → IsSoft cfg f.connection.requester
   pub role : is_initiator cfg.role ≡ false → (is_negotiating f.connection.phase || is_establishing f.connection.phase) ≡ false
 
 -- the number that the inbox awaits, once an act is done: an Apply and a Skip begin at it, and move it behind themselves
@@ -67,13 +91,23 @@ WithinMost most (acts.PeerFinished last) = ⊤
 WithinMost most (acts.Told from count) = ⊤
 WithinMost most acts.Ended = ⊤
 
+-- entries may count as sent no longer as the handshake ends, where the own flow is recoverable, at an end of version 1
+abbrev pub may_return : EndConfig → (f g : Facts) → Bool
+may_return cfg f g = is_newer cfg && is_recoverable cfg.own_flow && not (is_shaken f.connection.phase) && is_shaken g.connection.phase
+
+-- as many entries count as sent as before; there there may be fewer
+pub record KeepsSent (cfg : EndConfig) (f g : Facts) : Type 0 where
+  pub most : g.recorded.sent ≤ f.recorded.sent
+  pub same : may_return cfg f g ≡ false → g.recorded.sent ≡ f.recorded.sent
+
 -- what an outcome keeps to
 pub record KeepsSound (cfg : EndConfig) (most : ℕ) (f : Facts) (o : Outcome) : Type 0 where
   pub next : Sound cfg o.next
-  pub sent : o.next.recorded.sent ≡ f.recorded.sent
+  pub sent : KeepsSent cfg f o.next
   pub advances : Advances o.act f.recorded.inbox_next o.next.recorded.inbox_next
   pub within : WithinMost most o.act
   pub writes : AllByRecursion (MayWrite cfg) o.written
 
+-- of an end whose greatest number is below 2^40
 abbrev pub SoundGoesOn : Type 0
-SoundGoesOn = (x : Around) (f : Facts) (i : Incoming) → Sound x.config f → KeepsSound x.config x.most f (reply_of x f i)
+SoundGoesOn = (x : Around) (f : Facts) (i : Incoming) → x.most < 2 ^ 40 → Sound x.config f → KeepsSound x.config x.most f (reply_of x f i)

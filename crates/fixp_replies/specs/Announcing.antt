@@ -6,7 +6,7 @@ use Rattle.fixp_shake.specs.declared.violation.Violation.{Violation}
 use Rattle.fixp_shake.specs.declared.violation.Violation.TheVariants.{WentBack, MissingNext, NumberTooLarge}
 use Rattle.fixp_shake.specs.Flows.{is_recoverable, is_idempotent, is_sequenced}
 use Rattle.fixp_replies.specs.declared.facts.Facts.{Facts}
-use Rattle.fixp_replies.specs.Facts.{Around, receiving, awaiting, expected_number}
+use Rattle.fixp_replies.specs.Facts.{Around, receiving, firm, awaiting, expected_number}
 use Rattle.fixp_replies.specs.Outcomes.{Outcome, Row, row, breaks, ignores}
 
 -- what an announcement makes of the facts, and the numbers that it jumps over
@@ -18,11 +18,11 @@ pub record Announced : Type 0 where
 abbrev pub jumped_over : ℕ → ℕ → Option Range
 jumped_over next announced = if nat_lt next announced then Some (record { from = next; count = announced - next }) else None
 
--- A recoverable flow waits for what is missing, an idempotent one goes on behind it, and another one has no numbers
+-- A recoverable flow waits for what is missing, and has started, an idempotent one goes on behind it, and another one has no numbers
 abbrev pub announced : Around → Facts → (next : Option ℕ) → Announced
 announced x f next =
     if is_recoverable x.config.peer_flow
-    then record { facts = receiving f (receiver_is.announced f.connection.receiver (unwrap_or next 0)); skipped = None }
+    then record { facts = firm (receiving f (receiver_is.announced f.connection.receiver (unwrap_or next 0))); skipped = None }
     else if is_idempotent x.config.peer_flow
     then record { facts = awaiting f (unwrap_or next 0); skipped = jumped_over f.recorded.inbox_next (unwrap_or next 0) }
     else record { facts = f; skipped = None }

@@ -1,5 +1,5 @@
 -- What a reply depends on: what stands around it, what is recorded, and what is known of the connection.
-use Rattle.std.specs.Prelude.{ℕ, ◌+◌, ◌&&◌, ◌||◌, Bool, true, false, List, Option, Some, None, is_none, if◌then◌else◌}
+use Rattle.std.specs.Prelude.{ℕ, ◌+◌, ◌&&◌, ◌||◌, Bool, true, false, List, Option, Some, None, is_some, if◌then◌else◌}
 use Rattle.std.specs.Str.{bytes_eq}
 use Rattle.fixp_msgs.specs.declared.numbering.Range.{Range}
 use Rattle.flow_recover.specs.Receiving as receiver_is
@@ -43,7 +43,7 @@ abbrev pub is_own : Around → List ℕ → Bool
 is_own x id = bytes_eq id x.config.session
 
 -- what is known of a connection that begins in this phase: no number is announced but the one that the inbox awaits, nothing
--- is asked for or served, and no finish was told
+-- is asked for or served, no finish was told, and it is not soft
 abbrev pub new_connection : EndState → Phase → Connection
 new_connection recorded phase = record {
   phase = phase;
@@ -53,6 +53,7 @@ new_connection recorded phase = record {
   own_finish = own.Open;
   peer_finish = peer.Open;
   peer_interval = 0;
+  soft = false;
 }
 
 -- a connection begins in this phase: what is recorded stays
@@ -66,6 +67,10 @@ in_phase f phase = record f { connection = record f.connection { phase = phase }
 -- this is expected of the peer's flow from then on
 abbrev pub receiving : Facts → Receiving → Facts
 receiving f r = record f { connection = record f.connection { receiver = r } }
+
+-- the connection is not soft from then on: the peer has started
+abbrev pub firm : Facts → Facts
+firm f = record f { connection = record f.connection { soft = false } }
 
 -- this is asked for from then on
 abbrev pub requesting : Facts → Request → Facts
@@ -88,9 +93,12 @@ abbrev pub live_number : Around → Facts → ℕ
 live_number x f = if is_recoverable x.config.peer_flow then f.connection.receiver.live else f.recorded.inbox_next
 
 -- the number that an announcement does not go below: on a recoverable flow the greater of the inbox's next, which the receiver
--- waits for, and the live number
+-- waits for, and the live number; while it is soft, the inbox's next alone
 abbrev pub expected_number : Around → Facts → ℕ
-expected_number x f = if is_recoverable x.config.peer_flow then receiver_is.expected f.connection.receiver else f.recorded.inbox_next
+expected_number x f =
+    if is_recoverable x.config.peer_flow
+    then (if f.connection.soft then f.connection.receiver.next else receiver_is.expected f.connection.receiver)
+    else f.recorded.inbox_next
 
 -- the number of the next application message, which inside a retransmission is the retransmission's
 abbrev pub message_number : Around → Facts → ℕ
@@ -100,9 +108,9 @@ message_number x f = if is_recoverable x.config.peer_flow then receiver_is.numbe
 abbrev pub announced_number : Around → Facts → Option ℕ
 announced_number x f = if is_sequenced x.config.own_flow then Some (f.recorded.sent + 1) else None
 
--- the gap that is to be asked for: there is one, and nothing is asked for
+-- the gap that is to be asked for: there is one, nothing is asked for, and the peer has started
 abbrev pub gap_to_ask : Facts → Option Range
-gap_to_ask f = if is_none (outstanding f.connection.requester) then receiver_is.gap f.connection.receiver else None
+gap_to_ask f = if f.connection.soft || is_some (outstanding f.connection.requester) then None else receiver_is.gap f.connection.receiver
 
 -- the facts once it is asked for
 abbrev pub having_asked : Facts → Option Range → Facts

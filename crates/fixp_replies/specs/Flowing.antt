@@ -16,7 +16,7 @@ use Rattle.fixp_replies.specs.declared.act.Act.TheVariants.{Nothing, Apply, Peer
 use Rattle.fixp_replies.specs.declared.facts.Facts.{Facts}
 use Rattle.fixp_replies.specs.declared.facts.PeerFinish.{PeerFinish}
 use Rattle.fixp_replies.specs.declared.facts.PeerFinish.TheVariants as peer
-use Rattle.fixp_replies.specs.Facts.{Around, receiving, requesting, awaiting, live_number, message_number, peer_last, awaits_gap}
+use Rattle.fixp_replies.specs.Facts.{Around, receiving, requesting, firm, awaiting, live_number, message_number, peer_last, awaits_gap}
 use Rattle.fixp_replies.specs.Outcomes.{Outcome, Row, row, goes_on, accepts, breaks, ignores, skip_of, told_skip}
 use Rattle.fixp_replies.specs.Announcing.{Announced, announcement_rows, refuses}
 
@@ -25,9 +25,9 @@ abbrev pub bad_retransmission : Around → Facts → Option BadStart → Outcome
 bad_retransmission x f None = ignores f
 bad_retransmission x f (Some bad) = breaks x f (BadRetransmission bad.expected bad.found)
 
--- a message was counted, by the receiver and by the retransmission that it may belong to
+-- a message was counted, by the receiver and by the retransmission that it may belong to: the peer has started
 abbrev pub counted : Facts → Facts
-counted f = requesting (receiving f (receiver_is.after_message f.connection.receiver)) (request_is.after_message f.connection.requester)
+counted f = firm (requesting (receiving f (receiver_is.after_message f.connection.receiver)) (request_is.after_message f.connection.requester))
 
 -- a message of a recoverable flow: it is applied where it is the next one
 abbrev pub taken_as : Around → Facts → Seen → Outcome

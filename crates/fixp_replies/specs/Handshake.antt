@@ -1,9 +1,10 @@
 -- The rows of the handshake (FIXP 1.1, "Session negotiation" and "Session establishment"; the order of the checks and the
 -- codes are this project's profile).
-use Rattle.std.specs.Prelude.{ℕ, ◌==◌, ◌&&◌, ◌||◌, Bool, true, not, min, max, nat_lt, if◌then◌else◌, List, [], ◌∷◌, Option}
+use Rattle.std.specs.Prelude.{ℕ, ◌==◌, ◌&&◌, ◌||◌, Bool, true, not, min, max, nat_lt, if◌then◌else◌, List, [], ◌∷◌, ◌++◌, Option}
 use Rattle.std.specs.Str.{bytes_eq}
 use Rattle.fixp_msgs.specs.Flow.{flow_code}
-use Rattle.fixp_msgs.specs.declared.messages.Expected.TheVariants as expects
+use Rattle.fixp_msgs.specs.declared.messages.Expected.{Expected}
+use Rattle.fixp_msgs.specs.declared.numbering.Range.{Range}
 use Rattle.fixp_msgs.specs.Message.{negotiation_response, negotiation_reject, establishment_ack, establishment_reject}
 use Rattle.fixp_shake.specs.declared.phase.Phase.TheVariants.{Negotiating, Establishing, Established}
 use Rattle.fixp_shake.specs.declared.violation.Violation.TheVariants.{OtherSession}
@@ -14,6 +15,7 @@ use Rattle.fixp_replies.specs.declared.facts.Facts.{Facts}
 use Rattle.fixp_replies.specs.Facts.{Around, is_initiator, is_own, in_phase, negotiated, announced_number}
 use Rattle.fixp_replies.specs.Outcomes.{Outcome, Row, row, goes_on, rejects, ends_with, breaks, skip_of, told_skip, opening_negotiate, opening_establish}
 use Rattle.fixp_replies.specs.Announcing.{Announced, announcement_rows}
+use Rattle.fixp_replies.specs.Expecting.{answers_next, returned, softened, told_return}
 
 -- an acceptor waits for its client to open the connection
 abbrev pub awaits_client : Around → Facts → Bool
@@ -45,20 +47,24 @@ abbrev pub established : Facts → (interval : ℕ) → Facts
 established f interval = record f { connection = record f.connection { phase = Established; peer_interval = interval } }
 
 -- the acknowledgement of an Establish, and behind it what was skipped
-abbrev pub acknowledges : Around → (timestamp keepalive : ℕ) → Announced → Outcome
-acknowledges x timestamp keepalive a =
-    goes_on x (skip_of a.skipped)
-    (establishment_ack x.config.session timestamp x.config.keepalive (announced_number x a.facts) expects.Absent ∷ told_skip a.skipped)
-    (established a.facts keepalive)
+abbrev pub acknowledged_by : Around → (timestamp keepalive : ℕ) → Expected → Option Range → Facts → Outcome
+acknowledged_by x timestamp keepalive expected skipped f =
+    goes_on x (skip_of skipped)
+    (establishment_ack x.config.session timestamp x.config.keepalive (announced_number x f) (answers_next x expected f) ∷ told_skip skipped)
+    (established (softened x expected f) keepalive)
+
+-- the number that it tells is taken before the acknowledgement announces the own one
+abbrev pub acknowledges : Around → (timestamp keepalive : ℕ) → Expected → Announced → Outcome
+acknowledges x timestamp keepalive expected a = acknowledged_by x timestamp keepalive expected a.skipped (returned x a.facts expected)
 
 -- Establish, at an acceptor that waits for its client: 2 unnegotiated, 5 keepalive interval, 6 credentials, and then its
 -- announcement
-abbrev pub establish_rows : Around → Facts → (id : List ℕ) (timestamp keepalive : ℕ) (next : Option ℕ) (credentials : List ℕ) → List Row
-establish_rows x f id timestamp keepalive next credentials =
+abbrev pub establish_rows : Around → Facts → (id : List ℕ) (timestamp keepalive : ℕ) (next : Option ℕ) (expected : Expected) (credentials : List ℕ) → List Row
+establish_rows x f id timestamp keepalive next expected credentials =
     row (not (is_own x id) || not f.recorded.negotiated) (rejects_establish f id timestamp 2)
     ∷ row (nat_lt keepalive 100 || nat_lt 60000 keepalive) (rejects_establish f id timestamp 5)
     ∷ row (not (bytes_eq credentials x.config.credentials)) (rejects_establish f id timestamp 6)
-    ∷ announcement_rows x f 4 next (acknowledges x timestamp keepalive)
+    ∷ announcement_rows x f 4 next (acknowledges x timestamp keepalive expected)
 
 -- a further Establish, once it is established: 2 for another session, else 3 already established
 abbrev pub established_again_rows : Around → Facts → (id : List ℕ) (timestamp : ℕ) → List Row
@@ -67,9 +73,10 @@ established_again_rows x f id timestamp =
     ∷ row true (rejects_establish f id timestamp 3)
     ∷ []
 
-abbrev pub establish_rows_in : Around → Facts → (id : List ℕ) (timestamp keepalive : ℕ) (next : Option ℕ) (credentials : List ℕ) → List Row
-establish_rows_in x f id timestamp keepalive next credentials =
-    if awaits_client x f then establish_rows x f id timestamp keepalive next credentials
+abbrev pub establish_rows_in : Around → Facts → (id : List ℕ) (timestamp keepalive : ℕ) (next : Option ℕ) (expected : Expected) (credentials : List ℕ)
+    → List Row
+establish_rows_in x f id timestamp keepalive next expected credentials =
+    if awaits_client x f then establish_rows x f id timestamp keepalive next expected credentials
     else if serves_client x f then established_again_rows x f id timestamp
     else []
 
@@ -95,10 +102,15 @@ negotiation_reject_rows x f code =
     ∷ row true (rejected x f 3 code)
     ∷ []
 
--- EstablishmentAck, where it is awaited. An interval out of range is taken as the nearest one in it
-abbrev pub establishment_ack_rows : Around → Facts → (keepalive : ℕ) (next : Option ℕ) → List Row
-establishment_ack_rows x f keepalive next =
-    announcement_rows x f 5 next (λ a. goes_on x (skip_of a.skipped) (told_skip a.skipped) (established a.facts (min 60000 (max 100 keepalive))))
+-- EstablishmentAck, where it is awaited: the number that it tells is taken. An interval out of range is taken as the nearest one
+-- in it
+abbrev pub reached : Around → (keepalive : ℕ) → Expected → Announced → Outcome
+reached x keepalive expected a =
+    goes_on x (skip_of a.skipped) (told_skip a.skipped ++ told_return x a.facts expected)
+    (established (returned x a.facts expected) (min 60000 (max 100 keepalive)))
+
+abbrev pub establishment_ack_rows : Around → Facts → (keepalive : ℕ) (next : Option ℕ) (expected : Expected) → List Row
+establishment_ack_rows x f keepalive next expected = announcement_rows x f 5 next (reached x keepalive expected)
 
 -- EstablishmentReject, where an acknowledgement is awaited: code 2 tells that the session is to be negotiated first
 abbrev pub establishment_reject_rows : Around → Facts → (code : ℕ) → List Row

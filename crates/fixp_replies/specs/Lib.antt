@@ -1,6 +1,7 @@
 pub mod Acts
 pub mod Incoming
 pub mod Facts
+pub mod Expecting
 pub mod Outcomes
 pub mod Announcing
 pub mod Handshake

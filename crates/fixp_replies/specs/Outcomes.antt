@@ -1,7 +1,6 @@
 -- Outcomes of an event, and rows of the reply table.
 use Rattle.std.specs.Prelude.{ℕ, ◌*◌, Bool, true, false, if◌then◌else◌, List, [], ◌∷◌, ◌++◌, Option, Some, None}
 use Rattle.fixp_msgs.specs.Flow.{flow_code}
-use Rattle.fixp_msgs.specs.declared.messages.Expected.TheVariants as expects
 use Rattle.fixp_msgs.specs.Message.{Message, negotiate, establish, retransmit_request, not_applied, terminate}
 use Rattle.fixp_msgs.specs.declared.numbering.Range.{Range}
 use Rattle.flow_retrans.specs.Requests.{first_of_gap}
@@ -13,6 +12,7 @@ use Rattle.fixp_replies.specs.declared.act.Ending.{Ending}
 use Rattle.fixp_replies.specs.declared.act.Ending.TheVariants as endings
 use Rattle.fixp_replies.specs.declared.facts.Facts.{Facts}
 use Rattle.fixp_replies.specs.Facts.{Around, gap_to_ask, having_asked, finishes_exchanged, announced_number}
+use Rattle.fixp_replies.specs.Expecting.{told_next}
 
 -- what an end does at an event: the act of its caller, the messages written once it is done, the facts from then on, the
 -- connection's ending, if this is it, and whether the frame is accepted as one of its flow: it neither ends the connection
@@ -108,4 +108,4 @@ abbrev pub opening_negotiate : Around → Message
 opening_negotiate x = negotiate x.config.session (timestamp x) (flow_code x.config.own_flow) x.config.credentials
 
 abbrev pub opening_establish : Around → Facts → Message
-opening_establish x f = establish x.config.session (timestamp x) x.config.keepalive (announced_number x f) expects.Absent x.config.credentials
+opening_establish x f = establish x.config.session (timestamp x) x.config.keepalive (announced_number x f) (told_next x f) x.config.credentials

@@ -1,7 +1,6 @@
 -- A reply of the code as an outcome of the reply table.
 use Rattle.std.specs.Prelude.{ℕ, Bool, true, false, ◌+◌, length, if◌then◌else◌, List, [], ◌∷◌, Option, Some, None}
 use Rattle.fixp_msgs.specs.Flow.{flow_code}
-use Rattle.fixp_msgs.specs.declared.messages.Expected.TheVariants as expects
 use Rattle.fixp_msgs.specs.Message.{Message, negotiate, negotiation_response, negotiation_reject, establish, establishment_ack, establishment_reject, sequence, unsequenced_heartbeat, retransmit_request, retransmission, retransmit_reject, applied, not_applied, finished_sending, finished_receiving, terminate}
 use Rattle.fixp_shake.specs.declared.config.EndConfig.{EndConfig}
 use Rattle.fixp_replies.specs.declared.reply.Outgoing.{Outgoing}
@@ -15,8 +14,8 @@ abbrev pub outgoing_message : EndConfig → Outgoing → Message
 outgoing_message cfg (outgoing.Negotiate timestamp) = negotiate cfg.session timestamp (flow_code cfg.own_flow) cfg.credentials
 outgoing_message cfg (outgoing.NegotiationResponse timestamp) = negotiation_response cfg.session timestamp (flow_code cfg.own_flow) []
 outgoing_message cfg (outgoing.NegotiationReject session timestamp code) = negotiation_reject session timestamp code []
-outgoing_message cfg (outgoing.Establish timestamp next) = establish cfg.session timestamp cfg.keepalive next expects.Absent cfg.credentials
-outgoing_message cfg (outgoing.EstablishmentAck timestamp next) = establishment_ack cfg.session timestamp cfg.keepalive next expects.Absent
+outgoing_message cfg (outgoing.Establish timestamp next expected) = establish cfg.session timestamp cfg.keepalive next expected cfg.credentials
+outgoing_message cfg (outgoing.EstablishmentAck timestamp next expected) = establishment_ack cfg.session timestamp cfg.keepalive next expected
 outgoing_message cfg (outgoing.EstablishmentReject session timestamp code) = establishment_reject session timestamp code []
 outgoing_message cfg (outgoing.Sequence next) = sequence next
 outgoing_message cfg outgoing.UnsequencedHeartbeat = unsequenced_heartbeat
@@ -42,7 +41,7 @@ outcome_of cfg reply next = record { act = reply.act; written = messages_of cfg 
 -- the messages that carry the credentials
 abbrev pub carries_credentials : Outgoing → Bool
 carries_credentials (outgoing.Negotiate timestamp) = true
-carries_credentials (outgoing.Establish timestamp next) = true
+carries_credentials (outgoing.Establish timestamp next expected) = true
 carries_credentials _ = false
 
 -- how many bytes the frame of a message has at most

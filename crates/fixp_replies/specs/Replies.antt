@@ -61,9 +61,9 @@ rows_of x f (session (negotiation_response id timestamp flow credentials)) =
     of_session x f 2 id (within (is_negotiating f.connection.phase) (negotiation_response_rows x f flow))
 rows_of x f (session (negotiation_reject id timestamp code reason)) =
     of_session x f 3 id (within (is_negotiating f.connection.phase) (negotiation_reject_rows x f code))
-rows_of x f (session (establish id timestamp keepalive next expected credentials)) = establish_rows_in x f id timestamp keepalive next credentials
+rows_of x f (session (establish id timestamp keepalive next expected credentials)) = establish_rows_in x f id timestamp keepalive next expected credentials
 rows_of x f (session (establishment_ack id timestamp keepalive next expected)) =
-    of_session x f 5 id (within (is_establishing f.connection.phase) (establishment_ack_rows x f keepalive next))
+    of_session x f 5 id (within (is_establishing f.connection.phase) (establishment_ack_rows x f keepalive next expected))
 rows_of x f (session (establishment_reject id timestamp code reason)) =
     of_session x f 6 id (within (is_establishing f.connection.phase) (establishment_reject_rows x f code))
 rows_of x f (session (sequence next)) = within (is_established f.connection.phase) (sequence_rows x f next)

@@ -1,7 +1,8 @@
 //! Announcements of the peer's next number.
 
-ghost use Rattle.std.specs.Prelude.{◌≡◌, ◌<◌, ◌≤◌, ◌^◌, IsNone, IfSome};
-ghost use Rattle.fixp_replies.specs.Facts.{around_of, awaiting};
+ghost use Rattle.std.specs.Prelude.{◌≡◌, ◌<◌, ◌≤◌, ◌^◌, if◌then◌else◌, IsNone, IfSome};
+ghost use Rattle.flow_recover.specs.Receiving as receiver_is;
+ghost use Rattle.fixp_replies.specs.Facts.{around_of, receiving, firm, awaiting};
 ghost use Rattle.fixp_replies.specs.Announcing.{jumped_over, announced, announcement_fault, Fits};
 
 use crate::facts::{Around, Facts};
@@ -57,6 +58,23 @@ fn jump(facts: &mut Facts, announced: u64) -> Option<Range>
     }
 }
 
+/// A recoverable flow goes on at this number, and has started.
+fn announce_start(facts: &mut Facts, announced: u64)
+    requires { (if facts.old.connection.soft then facts.old.connection.receiver.next else receiver_is.expected facts.old.connection.receiver) ≤ announced }
+    ensures facts { facts.new ≡ firm (receiving facts.old (receiver_is.announced facts.old.connection.receiver announced)) }
+{
+    if facts.connection.soft {
+        match facts.connection.receiver.announce_soft(announced) {
+            Ok(()) | Err(_) => {}
+        }
+        facts.connection.soft = false;
+    } else {
+        match facts.connection.receiver.announce(announced) {
+            Ok(()) | Err(_) => {}
+        }
+    }
+}
+
 /// Takes an announcement that breaks no rule: the numbers that it jumps over.
 pub fn announce(around: &Around<'_>, facts: &mut Facts, next: Option<u64>) -> Option<Range>
     requires most { around.now.most ≤ 2 ^ 24 }
@@ -67,9 +85,8 @@ pub fn announce(around: &Around<'_>, facts: &mut Facts, next: Option<u64>) -> Op
 {
     let announced = next.unwrap_or(0);
     if is_recoverable(around.config.peer_flow) {
-        match facts.connection.receiver.announce(announced) {
-            Ok(()) | Err(_) => None,
-        }
+        announce_start(facts, announced);
+        None
     } else if is_idempotent(around.config.peer_flow) {
         jump(facts, announced)
     } else {

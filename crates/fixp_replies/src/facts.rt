@@ -59,6 +59,8 @@ pub struct Connection {
     pub peer_finish: PeerFinish,
     /// The peer's heartbeat interval in milliseconds, 100 to 60,000; 0 as long as the handshake is not done.
     pub peer_interval: u32,
+    /// The peer was told which number is expected, and has not started: it may announce one below what it announced.
+    pub soft: bool,
 }
 
 impl Connection {
@@ -74,6 +76,7 @@ impl Connection {
             own_finish: OwnFinish::Open,
             peer_finish: PeerFinish::Open,
             peer_interval: 0,
+            soft: false,
         }
     }
 }

@@ -44,6 +44,7 @@ fn take_numbered(around: &Around<'_>, facts: &mut Facts) -> Reply
     if let Err(bad) = facts.connection.requester.on_app() {
         return break_retransmission(around, facts, bad);
     }
+    facts.connection.soft = false;
     match facts.connection.receiver.on_app() {
         Seen::Deliver(number) => {
             facts.recorded.inbox_next = number + 1;

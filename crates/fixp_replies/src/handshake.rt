@@ -11,6 +11,7 @@ ghost use Rattle.fixp_replies.specs.Outgoing.{messages_of, outgoing_message, out
 
 use crate::act::{Act, Ending};
 use crate::announcing::{announce, announcement_fault};
+use crate::expecting::{answers_next, soften, take_expected, told_next};
 use crate::facts::{Around, Facts};
 use crate::guards::out_of_place;
 use crate::reply::{Outgoing, Reply, timestamp};
@@ -54,6 +55,7 @@ pub fn opening_establish(around: &Around<'_>, facts: &Facts) -> Outgoing
     Outgoing::Establish {
         timestamp: timestamp(around),
         next: announced_number(around, facts),
+        expected: told_next(around, facts),
     }
 }
 
@@ -132,7 +134,7 @@ fn establish(facts: &mut Facts, interval: u32)
     facts.connection.peer_interval = interval;
 }
 
-/// An Establish is acknowledged, and what its announcement jumped over is told.
+/// An Establish is acknowledged, whose number is taken, and what its announcement jumped over is told.
 fn acknowledge(
     around: &Around<'_>,
     facts: &mut Facts,
@@ -143,14 +145,17 @@ fn acknowledge(
     requires sent { facts.old.recorded.sent < 2 ^ 40 }
     requires count { IfSome skipped (λ range. range.count < 2 ^ 32) }
     ensures reply { outcome_of around.now.config.now result facts.new
-        ≡ acknowledges (around_of around.now) m.now.timestamp m.now.keepalive (record { facts = facts.old; skipped = skipped }) }
-    ensures sent { facts.new.recorded.sent ≡ facts.old.recorded.sent }
+        ≡ acknowledges (around_of around.now) m.now.timestamp m.now.keepalive m.now.expected_next (record { facts = facts.old; skipped = skipped }) }
+    ensures sent { facts.new.recorded.sent ≤ facts.old.recorded.sent }
     ensures small { written_limit around.now.config.now result.written ≤ reply_limit around.now.config.now }
 {
+    take_expected(around, facts, m.expected_next);
     let acknowledgement = Outgoing::EstablishmentAck {
         request_timestamp: m.timestamp,
         next: announced_number(around, facts),
+        expected: answers_next(around, m.expected_next, facts),
     };
+    soften(around, facts, m.expected_next);
     establish(facts, m.keepalive);
     Reply::skips(around, facts, Some(acknowledgement), skipped)
 }
@@ -161,8 +166,8 @@ fn judge_establish(around: &Around<'_>, facts: &mut Facts, m: &Establish<'_>) ->
     requires most { around.now.most ≤ 2 ^ 24 }
     requires sent { facts.old.recorded.sent < 2 ^ 40 }
     ensures reply { outcome_of around.now.config.now result facts.new
-        ≡ first_row (not_in_phase (around_of around.now) facts.old 4) (establish_rows (around_of around.now) facts.old m.now.session_id m.now.timestamp m.now.keepalive m.now.next_seq m.now.credentials.now) }
-    ensures sent { facts.new.recorded.sent ≡ facts.old.recorded.sent }
+        ≡ first_row (not_in_phase (around_of around.now) facts.old 4) (establish_rows (around_of around.now) facts.old m.now.session_id m.now.timestamp m.now.keepalive m.now.next_seq m.now.expected_next m.now.credentials.now) }
+    ensures sent { facts.new.recorded.sent ≤ facts.old.recorded.sent }
     ensures small { written_limit around.now.config.now result.written ≤ reply_limit around.now.config.now }
 {
     if !is_own(around, &m.session_id) || !facts.recorded.negotiated {
@@ -200,7 +205,7 @@ pub fn on_establish(around: &Around<'_>, facts: &mut Facts, m: &Establish<'_>) -
     requires sent { facts.old.recorded.sent < 2 ^ 40 }
     ensures reply { outcome_of around.now.config.now result facts.new
         ≡ answer_of (around_of around.now) facts.old (session (establish m.now.session_id m.now.timestamp m.now.keepalive m.now.next_seq m.now.expected_next m.now.credentials.now)) }
-    ensures sent { facts.new.recorded.sent ≡ facts.old.recorded.sent }
+    ensures sent { facts.new.recorded.sent ≤ facts.old.recorded.sent }
     ensures small { written_limit around.now.config.now result.written ≤ reply_limit around.now.config.now }
 {
     if awaits_client(around, facts) {
@@ -288,9 +293,10 @@ pub fn on_negotiation_reject(
 pub fn on_establishment_ack(around: &Around<'_>, facts: &mut Facts, m: &EstablishmentAck) -> Reply
     requires moment { around.now.moment < 2 ^ 44 }
     requires most { around.now.most ≤ 2 ^ 24 }
+    requires sent { facts.old.recorded.sent < 2 ^ 40 }
     ensures reply { outcome_of around.now.config.now result facts.new
         ≡ answer_of (around_of around.now) facts.old (session (establishment_ack m.now.session_id m.now.request_timestamp m.now.keepalive m.now.next_seq m.now.expected_next)) }
-    ensures sent { facts.new.recorded.sent ≡ facts.old.recorded.sent }
+    ensures sent { facts.new.recorded.sent ≤ facts.old.recorded.sent }
     ensures small { written_limit around.now.config.now result.written ≤ reply_limit around.now.config.now }
 {
     let awaited = is_establishing(facts.connection.phase);
@@ -301,8 +307,9 @@ pub fn on_establishment_ack(around: &Around<'_>, facts: &mut Facts, m: &Establis
         return Reply::breaks(around, facts, violation);
     }
     let skipped = announce(around, facts, m.next_seq);
+    let started = take_expected(around, facts, m.expected_next);
     establish(facts, m.keepalive.max(100).min(60000));
-    Reply::skips(around, facts, None, skipped)
+    Reply::starts(around, facts, skipped, started)
 }
 
 pub fn on_establishment_reject(

@@ -5,6 +5,7 @@
 mod act;
 mod announcing;
 mod events;
+mod expecting;
 mod facts;
 mod flowing;
 mod guards;

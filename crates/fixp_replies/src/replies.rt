@@ -40,7 +40,7 @@ fn on_session(around: &Around<'_>, facts: &mut Facts, m: &SessionMsg<'_>) -> Rep
     requires most { around.now.most ≤ 2 ^ 24 }
     requires sent { facts.old.recorded.sent < 2 ^ 40 }
     ensures reply { outcome_of around.now.config.now result facts.new ≡ answer_of (around_of around.now) facts.old (session (message_of m.now)) }
-    ensures sent { facts.new.recorded.sent ≡ facts.old.recorded.sent }
+    ensures sent { facts.new.recorded.sent ≤ facts.old.recorded.sent }
     ensures small { written_limit around.now.config.now result.written ≤ reply_limit around.now.config.now }
 {
     match m {
@@ -80,7 +80,7 @@ fn answer(around: &Around<'_>, facts: &mut Facts, incoming: &Incoming<'_>) -> Re
     requires most { around.now.most ≤ 2 ^ 24 }
     requires sent { facts.old.recorded.sent < 2 ^ 40 }
     ensures reply { outcome_of around.now.config.now result facts.new ≡ answer_of (around_of around.now) facts.old (incoming_of incoming.now) }
-    ensures sent { facts.new.recorded.sent ≡ facts.old.recorded.sent }
+    ensures sent { facts.new.recorded.sent ≤ facts.old.recorded.sent }
     ensures small { written_limit around.now.config.now result.written ≤ reply_limit around.now.config.now }
 {
     match incoming {
@@ -101,7 +101,7 @@ pub fn reply_to(around: &Around<'_>, facts: &mut Facts, incoming: &Incoming<'_>)
     requires most { around.now.most ≤ 2 ^ 24 }
     requires sent { facts.old.recorded.sent < 2 ^ 40 }
     ensures reply { outcome_of around.now.config.now result facts.new ≡ reply_of (around_of around.now) facts.old (incoming_of incoming.now) }
-    ensures sent { facts.new.recorded.sent ≡ facts.old.recorded.sent }
+    ensures sent { facts.new.recorded.sent ≤ facts.old.recorded.sent }
     ensures small { written_limit around.now.config.now result.written ≤ reply_limit around.now.config.now }
 {
     if is_closing(facts.connection.phase) && !terminates(around, incoming) {

@@ -1,14 +1,15 @@
 //! What an end does at one event, and how such replies are made.
 
 ghost use Rattle.std.specs.Prelude.{◌≡◌, [], ◌∷◌, ◌++◌, ◌+◌, ◌<◌, ◌≤◌, ◌^◌, Some, IfSome};
+ghost use Rattle.fixp_msgs.specs.Message.{not_applied};
 ghost use Rattle.fixp_replies.specs.Facts.{around_of, gap_to_ask, having_asked};
 ghost use Rattle.fixp_replies.specs.Outcomes.{timestamp, request_for, goes_on, accepts, rejects, ignores, ends_with, ends, breaks, not_in_phase, skip_of, told_skip};
-ghost use Rattle.fixp_replies.specs.Outgoing.{messages_of, outgoing_message, place_limit, written_limit, outcome_of};
+ghost use Rattle.fixp_replies.specs.Outgoing.{messages_of, outgoing_message, frame_limit, place_limit, written_limit, outcome_of};
 
 use crate::act::{Act, Ending};
 use crate::facts::{Around, Facts};
 use crate::standing::ends_as;
-use fixp_msgs::Range;
+use fixp_msgs::{Expected, Range};
 use fixp_shake::Violation;
 
 /// A message that an end writes, of its session where it names none. Timestamps are the clock's milliseconds times 1,000,000,
@@ -30,10 +31,12 @@ pub enum Outgoing {
     Establish {
         timestamp: u64,
         next: Option<u64>,
+        expected: Expected,
     },
     EstablishmentAck {
         request_timestamp: u64,
         next: Option<u64>,
+        expected: Expected,
     },
     /// It names the session of the request that it rejects.
     EstablishmentReject {
@@ -94,7 +97,7 @@ pub struct Reply {
     pub accepted: bool,
 }
 
-/// A gap is asked for where there is one and no request is open: the request.
+/// A gap is asked for where there is one, no request is open, and the peer has started: the request.
 fn ask(around: &Around<'_>, facts: &mut Facts) -> Option<Outgoing>
     requires { around.now.moment < 2 ^ 44 }
     ensures request { messages_of around.now.config.now (result ∷ []) ≡ request_for (around_of around.now) (gap_to_ask facts.old) }
@@ -102,6 +105,9 @@ fn ask(around: &Around<'_>, facts: &mut Facts) -> Option<Outgoing>
     ensures recorded { facts.new.recorded ≡ facts.old.recorded }
     ensures small { place_limit around.now.config.now result ≤ 64 }
 {
+    if facts.connection.soft {
+        return None;
+    }
     let Some(gap) = facts.connection.receiver.gap() else {
         return None;
     };
@@ -113,6 +119,18 @@ fn ask(around: &Around<'_>, facts: &mut Facts) -> Option<Outgoing>
         from: range.from,
         count: range.count as u32,
     })
+}
+
+/// These numbers are told to be not applied.
+fn not_applied(range: Range) -> Outgoing
+    requires { range.count < 2 ^ 32 }
+    ensures message { (cfg : _) → outgoing_message cfg result ≡ not_applied range.from range.count }
+    ensures small { (cfg : _) → frame_limit cfg result ≤ 64 }
+{
+    Outgoing::NotApplied {
+        from: range.from,
+        count: range.count as u32,
+    }
 }
 
 /// The timestamp of a message that is written now.
@@ -172,10 +190,7 @@ impl Reply {
         let Some(range) = skipped else {
             return Reply::accepts(around, facts, message);
         };
-        let told = Outgoing::NotApplied {
-            from: range.from,
-            count: range.count as u32,
-        };
+        let told = not_applied(range);
         let request = ask(around, facts);
         Reply {
             act: Act::Skip {
@@ -183,6 +198,36 @@ impl Reply {
                 count: range.count,
             },
             written: [message, Some(told), request],
+            ending: None,
+            accepted: true,
+        }
+    }
+
+    /// The handshake is done: what its announcement jumps over is skipped and told, and behind it stands this message.
+    pub fn starts(
+        around: &Around<'_>,
+        facts: &mut Facts,
+        skipped: Option<Range>,
+        message: Option<Outgoing>,
+    ) -> Reply
+        requires moment { around.now.moment < 2 ^ 44 }
+        requires count { IfSome skipped (λ range. range.count < 2 ^ 32) }
+        ensures reply { outcome_of around.now.config.now result facts.new
+            ≡ goes_on (around_of around.now) (skip_of skipped) (told_skip skipped ++ messages_of around.now.config.now (message ∷ [])) facts.old }
+        ensures recorded { facts.new.recorded ≡ facts.old.recorded }
+        ensures small { written_limit around.now.config.now result.written ≤ place_limit around.now.config.now message + 128 }
+    {
+        let Some(range) = skipped else {
+            return Reply::accepts(around, facts, message);
+        };
+        let told = not_applied(range);
+        let request = ask(around, facts);
+        Reply {
+            act: Act::Skip {
+                from: range.from,
+                count: range.count,
+            },
+            written: [Some(told), message, request],
             ending: None,
             accepted: true,
         }

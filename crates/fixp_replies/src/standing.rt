@@ -38,7 +38,11 @@ pub fn expected_number(around: &Around<'_>, facts: &Facts) -> u64
     ensures { result ≡ expected_number (around_of around.now) facts.now }
 {
     if is_recoverable(around.config.peer_flow) {
-        facts.connection.receiver.expected()
+        if facts.connection.soft {
+            facts.connection.receiver.next()
+        } else {
+            facts.connection.receiver.expected()
+        }
     } else {
         facts.recorded.inbox_next
     }

@@ -26,4 +26,7 @@ pub struct EndConfig {
     pub keepalive: u32,
     /// At most 2,048 bytes, equal at both ends.
     pub credentials: Bytes,
+    /// The version of the session schema, 0 or 1. From version 1 on an end tells which number it expects, and its peer starts
+    /// there.
+    pub version: u16,
 }

@@ -70,16 +70,21 @@ impl Receiver {
         ensures back { IfErr result (λ back. back ≡ record { announced = next_seq; expected = expected self.old }) }
         ensures same { OnErr result (self.new ≡ self.old) }
     {
-        let expected = self.expected();
-        if next_seq < expected {
-            return Err(Back {
-                announced: next_seq,
-                expected,
-            });
-        }
-        self.live = next_seq;
-        self.again = None;
-        Ok(())
+        self.announce_from(self.expected(), next_seq)
+    }
+
+    /// The same where the peer may go back behind the live number: it was told which number the inbox waits for, and starts
+    /// there.
+    ///
+    /// # Errors
+    /// The number is below the one that the inbox waits for. Nothing has changed then.
+    pub fn announce_soft(&mut self, next_seq: u64) -> Result<(), Back>
+        ensures taken { IsOk result ↔ (self.old.next ≤ next_seq) }
+        ensures live { OnOk result (self.new ≡ announced self.old next_seq) }
+        ensures back { IfErr result (λ back. back ≡ record { announced = next_seq; expected = self.old.next }) }
+        ensures same { OnErr result (self.new ≡ self.old) }
+    {
+        self.announce_from(self.next, next_seq)
     }
 
     /// A retransmission begins with the number `first`. The messages up to the next announcement are numbered from there.
@@ -87,6 +92,13 @@ impl Receiver {
         ensures { self.new ≡ retransmitted self.old first }
     {
         self.again = Some(first);
+    }
+
+    /// The number that the inbox waits for.
+    pub fn next(&self) -> u64
+        ensures { result ≡ self.now.next }
+    {
+        self.next
     }
 
     /// The least number that may be announced: the greater of the number that the inbox waits for and the live number.
@@ -141,6 +153,24 @@ impl Receiver {
         } else {
             None
         }
+    }
+
+    /// The next number is announced, and `lowest` is the least that may be.
+    fn announce_from(&mut self, lowest: u64, next_seq: u64) -> Result<(), Back>
+        ensures taken { IsOk result ↔ (lowest ≤ next_seq) }
+        ensures live { OnOk result (self.new ≡ announced self.old next_seq) }
+        ensures back { IfErr result (λ back. back ≡ record { announced = next_seq; expected = lowest }) }
+        ensures same { OnErr result (self.new ≡ self.old) }
+    {
+        if next_seq < lowest {
+            return Err(Back {
+                announced: next_seq,
+                expected: lowest,
+            });
+        }
+        self.live = next_seq;
+        self.again = None;
+        Ok(())
     }
 
     /// Counts the next message, under the retransmission's number inside one and else under the live one.

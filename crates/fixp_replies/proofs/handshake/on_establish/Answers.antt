@@ -12,7 +12,7 @@ returns-then-awaits_client-clause-reply c =
     let m = c.args.m.now in
     c.judge_establish.ensures.reply
     ∙ first_of_two (awaits_client x f) (serves_client x f) (not_in_phase x f 4)
-    (establish_rows x f m.session_id m.timestamp m.keepalive m.next_seq m.credentials.now) (established_again_rows x f m.session_id m.timestamp)
+    (establish_rows x f m.session_id m.timestamp m.keepalive m.next_seq m.expected_next m.credentials.now) (established_again_rows x f m.session_id m.timestamp)
     (sym c.awaits_client.ensures ∙ c.if-awaits_client.true)
 
 pub returns-then-serves_client-clause-reply : goal.returns-then-serves_client-clause-reply
@@ -22,5 +22,5 @@ returns-then-serves_client-clause-reply c =
     let m = c.args.m.now in
     c.reject_again.ensures.reply
     ∙ second_of_two (awaits_client x f) (serves_client x f) (not_in_phase x f 4)
-    (establish_rows x f m.session_id m.timestamp m.keepalive m.next_seq m.credentials.now) (established_again_rows x f m.session_id m.timestamp)
+    (establish_rows x f m.session_id m.timestamp m.keepalive m.next_seq m.expected_next m.credentials.now) (established_again_rows x f m.session_id m.timestamp)
     (sym c.awaits_client.ensures ∙ c.if-awaits_client.false) (sym c.serves_client.ensures ∙ c.if-serves_client.true)
