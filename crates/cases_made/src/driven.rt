@@ -84,6 +84,7 @@ fn config(alloc: Global, setup: Setup) -> EndConfig
         peer_flow: setup.peer_flow,
         keepalive: 1000,
         credentials: Bytes::from(Vec::new(alloc)),
+        version: 0,
     }
 }
 

@@ -50,10 +50,10 @@ in_turn_less m now more fewer less h = record {
 }
 
 pub keeps_self : (m : State) → KeepsOwn m m
-keeps_self m = record { config = refl; most = refl; sent = refl; finish = refl }
+keeps_self m = record { config = refl; most = refl; sent = omega arith; finish = refl }
 
 pub keeps_on : (a b c : State) → KeepsOwn a b → KeepsOwn b c → KeepsOwn a c
-keeps_on a b c first second = record { config = second.config ∙ first.config; most = second.most ∙ first.most; sent = second.sent ∙ first.sent; finish = second.finish ∙ first.finish }
+keeps_on a b c first second = record { config = second.config ∙ first.config; most = second.most ∙ first.most; sent = omega (arith, second.sent, first.sent); finish = second.finish ∙ first.finish }
 
 module _ {J : Type 0} {G : Ghosts J} where
   -- a frame that was answered, once its bytes are dropped

@@ -1,6 +1,6 @@
 -- How a reply moves the requests for what is missing and the ranges that are sent again, row by row: one request is open at a time, and a
 -- range is served in answer to one.
-use Rattle.std.proofs.Common.{◌≡◌, ◌⊎◌, inl, inr, ℕ, ◌+◌, ◌-◌, ◌≤◌, ◌&&◌, nat_lt, min, max, not, Bool, true, false, if◌then◌else◌, List, [], ◌∷◌, ◌++◌, Option, Some, None, refl, sym, ap, subst, ◌∙◌, arith, true≢false}
+use Rattle.std.proofs.Common.{◌≡◌, ◌⊎◌, inl, inr, ℕ, ◌+◌, ◌-◌, ◌≤◌, ◌&&◌, ◌||◌, nat_lt, min, max, not, Bool, true, false, if◌then◌else◌, List, [], ◌∷◌, ◌++◌, Option, Some, None, refl, sym, ap, subst, ◌∙◌, arith, true≢false}
 use Rattle.std.specs.Prelude.{⊤, is_some, is_none, unwrap_or, IfSome, Result, Ok, Err}
 use Rattle.std.specs.List.{AllByRecursion}
 use Rattle.std.proofs.lemmas.Bool.{ltb-true}
@@ -31,10 +31,10 @@ use Rattle.flow_retrans.specs.declared.request.Request.{Request}
 use Rattle.flow_retrans.specs.declared.request.Request.TheVariants as requests
 use Rattle.fixp_replies.specs.declared.facts.PeerFinish.TheVariants as peer
 use Rattle.fixp_replies.specs.Incoming.{application, session}
-use Rattle.fixp_replies.specs.Facts.{Around, is_own, in_phase, receiving, requesting, serves, negotiated as as_negotiated, awaiting, gap_to_ask, having_asked, announced_number, peer_last, awaits_gap}
+use Rattle.fixp_replies.specs.Facts.{Around, is_own, in_phase, receiving, requesting, firm, serves, negotiated as as_negotiated, awaiting, gap_to_ask, having_asked, announced_number, peer_last, awaits_gap}
 use Rattle.fixp_replies.specs.Outcomes.{Outcome, Row, row, goes_on, accepts, rejects, ignores, ends_with, ends, breaks, not_in_phase, request_for, skip_of, told_skip, opening_negotiate, opening_establish}
 use Rattle.fixp_replies.specs.Announcing.{Announced, jumped_over, announced, announcement_fault, refuses}
-use Rattle.fixp_replies.specs.Handshake.{awaits_client, serves_client, established, acknowledges, negotiate_rows, establish_rows, established_again_rows, shaken, negotiation_response_rows, negotiation_reject_rows, establishment_ack_rows, establishment_reject_rows}
+use Rattle.fixp_replies.specs.Handshake.{awaits_client, serves_client, established, acknowledges, negotiate_rows, establish_rows, established_again_rows, shaken, negotiation_response_rows, negotiation_reject_rows, establishment_ack_rows, reached, establishment_reject_rows}
 use Rattle.fixp_replies.specs.Flowing.{bad_retransmission, counted, taken_as, peer_finished, answers_finish, is_filled, is_past_finish, sequence_follows, sequence_taken, restarted, finished_last, finish_fault, finished, application_rows, sequence_rows, retransmission_rows, retransmit_reject_rows, finished_sending_rows}
 use Rattle.fixp_replies.specs.Serving.{request_answered, own_finishing, retransmit_request_rows, finished_receiving_rows}
 use Rattle.fixp_replies.specs.Replies.{reply_of, rows_of, answer_of, of_session, terminates, template_of}
@@ -42,6 +42,8 @@ use Rattle.fixp_machine.proofs.Rows.{AllRows, by_row, all_rows, all_within, own_
 use Rattle.connection_laws.specs.Writing.{Piece, said, entry, said_all}
 use Rattle.two_ends.specs.Reading.{incoming_of}
 use Rattle.honest_ends.proofs.Deciding.{announced_all}
+use Rattle.fixp_replies.specs.Expecting.{is_newer}
+use Rattle.honest_ends.proofs.Older.{acknowledges_older, acknowledges_so, reached_so}
 use Rattle.honest_ends.proofs.Finishing.{total}
 use Rattle.honest_ends.specs.Numbers.{exactly, Allows, Runs, RunsBetween, served}
 
@@ -152,9 +154,11 @@ IsGap g r = (r.from ≡ g.connection.receiver.next) × (1 ≤ r.count)
 first_few : (n : ℕ) → 1 ≤ n → (1 ≤ min request_limit n) × (min request_limit n ≤ request_limit)
 first_few n h = (omega (arith, h), omega arith)
 
-gap_of : (x : Around) (g : Facts) (q : Request) (gap : Option Range) → g.connection.requester ≡ q → IfSome gap (IsGap g) → AsksGap x g (if is_none (request_is.outstanding q) then gap else None)
-gap_of x g requests.Nothing None e is = record { sum = omega arith; same = refl; few = omega arith; serving = refl; sent = refl; receiver = refl; names = tt; keeps = λ _. refl }
-gap_of x g requests.Nothing (Some r) e is =
+gap_of : (x : Around) (g : Facts) (soft : Bool) (q : Request) (gap : Option Range) → g.connection.requester ≡ q → IfSome gap (IsGap g)
+    → AsksGap x g (if soft || is_some (request_is.outstanding q) then None else gap)
+gap_of x g true q gap e is = record { sum = omega arith; same = refl; few = omega arith; serving = refl; sent = refl; receiver = refl; names = tt; keeps = λ _. refl }
+gap_of x g false requests.Nothing None e is = record { sum = omega arith; same = refl; few = omega arith; serving = refl; sent = refl; receiver = refl; names = tt; keeps = λ _. refl }
+gap_of x g false requests.Nothing (Some r) e is =
     let z = ap unanswered_of e in
     let k = first_few r.count is.1 in
     record {
@@ -167,8 +171,8 @@ gap_of x g requests.Nothing (Some r) e is =
       names = ((refl, is.0, k.0, k.1), tt);
       keeps = λ one. absurd (omega (arith, z, one));
     }
-gap_of x g (requests.Asked range) gap e is = record { sum = omega arith; same = refl; few = omega arith; serving = refl; sent = refl; receiver = refl; names = tt; keeps = λ _. refl }
-gap_of x g (requests.Coming range next left) gap e is = record { sum = omega arith; same = refl; few = omega arith; serving = refl; sent = refl; receiver = refl; names = tt; keeps = λ _. refl }
+gap_of x g false (requests.Asked range) gap e is = record { sum = omega arith; same = refl; few = omega arith; serving = refl; sent = refl; receiver = refl; names = tt; keeps = λ _. refl }
+gap_of x g false (requests.Coming range next left) gap e is = record { sum = omega arith; same = refl; few = omega arith; serving = refl; sent = refl; receiver = refl; names = tt; keeps = λ _. refl }
 
 gap_is : (g : Facts) (b : Bool) → nat_lt g.connection.receiver.next g.connection.receiver.live ≡ b
     → IfSome (if b then Some (record { from = g.connection.receiver.next; count = g.connection.receiver.live - g.connection.receiver.next }) else None) (IsGap g)
@@ -209,7 +213,7 @@ going : (x : Around) (f g : Facts) (requested restarted : ℕ) (turn : Bool → 
     → Asks x f requested restarted turn (goes_on x act written g)
 going x f g requested restarted turn act written none u keeps resent comes serving runs =
     let gap = gap_to_ask g in
-    let q : AsksGap x g (gap_to_ask g) = gap_of x g g.connection.requester (receiver_is.gap g.connection.receiver) refl (gap_is g (nat_lt g.connection.receiver.next g.connection.receiver.live) refl) in
+    let q : AsksGap x g (gap_to_ask g) = gap_of x g g.connection.soft g.connection.requester (receiver_is.gap g.connection.receiver) refl (gap_is g (nat_lt g.connection.receiver.next g.connection.receiver.live) refl) in
     let sum = q.sum in
     let few = q.few in
     let e = asking_behind x written gap in
@@ -319,7 +323,7 @@ announced_allowed false c = (tt, refl)
 
 abbrev chosen : Facts → ℕ → Bool → Bool → Announced
 chosen f n recoverable idempotent =
-    if recoverable then record { facts = receiving f (receiver_is.announced f.connection.receiver n); skipped = None }
+    if recoverable then record { facts = firm (receiving f (receiver_is.announced f.connection.receiver n)); skipped = None }
     else if idempotent then record { facts = awaiting f n; skipped = jumped_over f.recorded.inbox_next n }
     else record { facts = f; skipped = None }
 
@@ -419,7 +423,7 @@ finishing x f n = by_row (Asks x f 0 0 Same) (is_some (receiver_is.gap f.connect
     (λ _. passing x f (peer_finished f (peer.Read n) f.recorded.peer_last) 0 acts.Nothing [] (record { requester = refl; serving = refl; sent = refl }) (nothing x.config.own_flow (f.recorded.sent + 1)))
     (λ _. passing x f (peer_finished f _ _) 0 _ (finished_receiving x.config.session ∷ []) (record { requester = refl; serving = refl; sent = refl }) (receiving_plain x f))
 
-acknowledging : (x : Around) (f : Facts) (next : Option ℕ) (timestamp keepalive : ℕ) → Asks x f 0 0 Same (acknowledges x timestamp keepalive (announced x f next))
+acknowledging : (x : Around) (f : Facts) (next : Option ℕ) (timestamp keepalive : ℕ) → Asks x f 0 0 Same (acknowledges_older x timestamp keepalive (announced x f next))
 acknowledging x f next timestamp keepalive =
     let a = announced x f next in
     let u = untouched x f next in
@@ -427,7 +431,7 @@ acknowledging x f next timestamp keepalive =
     let n = p.no_request in
     let k = p.no_restart in
     let w = announced_allowed (is_sequenced x.config.own_flow) (f.recorded.sent + 1) in
-    passing x f (established a.facts keepalive) 0 (skip_of a.skipped) (establishment_ack x.config.session timestamp x.config.keepalive (announced_number x a.facts) expects.Absent ∷ told_skip a.skipped)
+    passing x f (established (firm a.facts) keepalive) 0 (skip_of a.skipped) (establishment_ack x.config.session timestamp x.config.keepalive (announced_number x a.facts) expects.Absent ∷ told_skip a.skipped)
     (record { requester = u.requester; serving = u.serving; sent = u.sent })
     (record { no_request = omega (arith, n); no_restart = omega (arith, k); no_turn = p.no_turn; no_number = λ l. begins a.facts u.sent l w p.no_number })
   where
@@ -487,8 +491,8 @@ asks_again : (x : Around) (f g : Facts) (act : Act) (m : Message) → Untouched 
     → ((l : Option ℕ) → Runs x.config.own_flow (exactly (f.recorded.sent + 1)) l (said_all (m ∷ [])) (f.recorded.sent + 1) l) → Asks x f 0 0 Same (goes_on x act (m ∷ []) g)
 asks_again x f g act m u a r t n = passing x f g 0 act (m ∷ []) u (alone x.config.own_flow (f.recorded.sent + 1) m a r t n)
 
-session_rows : (x : Around) (f : Facts) (m : Message) → AllRows (Asks x f (request_in m) (restart_in m) (turns_in m)) (rows_of x f (session m))
-session_rows x f (negotiate id timestamp flow credentials) = all_within (Asks x f 0 0 Same) (awaits_client x f) (negotiate_rows x f id timestamp flow credentials) (λ _. (
+session_rows : (x : Around) (f : Facts) (m : Message) → is_newer x.config ≡ false → AllRows (Asks x f (request_in m) (restart_in m) (turns_in m)) (rows_of x f (session m))
+session_rows x f (negotiate id timestamp flow credentials) old = all_within (Asks x f 0 0 Same) (awaits_client x f) (negotiate_rows x f id timestamp flow credentials) (λ _. (
   λ _. replies x f _ refl refl (λ b. refl) (λ l. same_number (f.recorded.sent + 1) l),
   λ _. (
     λ _. replies x f _ refl refl (λ b. refl) (λ l. same_number (f.recorded.sent + 1) l),
@@ -501,36 +505,36 @@ session_rows x f (negotiate id timestamp flow credentials) = all_within (Asks x 
     ),
   ),
 ))
-session_rows x f (negotiation_response id timestamp flow credentials) = in_session x f 0 0 Same 2 id _ (all_within (Asks x f 0 0 Same) (is_negotiating f.connection.phase) (negotiation_response_rows x f flow) (λ _. (
+session_rows x f (negotiation_response id timestamp flow credentials) old = in_session x f 0 0 Same 2 id _ (all_within (Asks x f 0 0 Same) (is_negotiating f.connection.phase) (negotiation_response_rows x f flow) (λ _. (
   λ _. ending_here x f 0 0 Same 2 _,
   λ _. (λ _. establishing x f, λ _. tt),
 )))
-session_rows x f (negotiation_reject id timestamp code reason) = in_session x f 0 0 Same 3 id _ (all_within (Asks x f 0 0 Same) (is_negotiating f.connection.phase) (negotiation_reject_rows x f code) (λ _. (
+session_rows x f (negotiation_reject id timestamp code reason) old = in_session x f 0 0 Same 3 id _ (all_within (Asks x f 0 0 Same) (is_negotiating f.connection.phase) (negotiation_reject_rows x f code) (λ _. (
   λ _. establishing x f,
   λ _. (λ _. rejecting x f 0 0 Same _, λ _. tt),
 )))
-session_rows x f (establish id timestamp keepalive next expected credentials) =
-    choosing (Asks x f 0 0 Same) (awaits_client x f) (serves_client x f) (establish_rows x f id timestamp keepalive next credentials) (established_again_rows x f id timestamp) (
+session_rows x f (establish id timestamp keepalive next expected credentials) old =
+    choosing (Asks x f 0 0 Same) (awaits_client x f) (serves_client x f) (establish_rows x f id timestamp keepalive next expected credentials) (established_again_rows x f id timestamp) (
       λ _. replies x f _ refl refl (λ b. refl) (λ l. same_number (f.recorded.sent + 1) l),
       λ _. (
         λ _. replies x f _ refl refl (λ b. refl) (λ l. same_number (f.recorded.sent + 1) l),
         λ _. (
           λ _. replies x f _ refl refl (λ b. refl) (λ l. same_number (f.recorded.sent + 1) l),
-          λ _. announced_all (Asks x f 0 0 Same) x f 4 next (acknowledges x timestamp keepalive) (λ some. refusing x f f 0 0 Same (announcement_fault x f 4 next) some (omega arith) (λ _ _. refl) refl refl) (acknowledging x f next timestamp keepalive),
+          λ _. announced_all (Asks x f 0 0 Same) x f 4 next (acknowledges x timestamp keepalive expected) (λ some. refusing x f f 0 0 Same (announcement_fault x f 4 next) some (omega arith) (λ _ _. refl) refl refl) (subst (Asks x f 0 0 Same) (sym (acknowledges_so x timestamp keepalive expected (announced x f next) old)) (acknowledging x f next timestamp keepalive)),
         ),
       ),
     )
     (λ _. replies x f _ refl refl (λ b. refl) (λ l. same_number (f.recorded.sent + 1) l), λ _. (λ _. replies x f _ refl refl (λ b. refl) (λ l. same_number (f.recorded.sent + 1) l), λ _. tt))
-session_rows x f (establishment_ack id timestamp keepalive next expected) = in_session x f 0 0 Same 5 id _ (all_within (Asks x f 0 0 Same) (is_establishing f.connection.phase) (establishment_ack_rows x f keepalive next) (λ _.
-    announced_all (Asks x f 0 0 Same) x f 5 next (λ (a : Announced). goes_on x (skip_of a.skipped) (told_skip a.skipped) (established a.facts (min 60000 (max 100 keepalive))))
+session_rows x f (establishment_ack id timestamp keepalive next expected) old = in_session x f 0 0 Same 5 id _ (all_within (Asks x f 0 0 Same) (is_establishing f.connection.phase) (establishment_ack_rows x f keepalive next expected) (λ _.
+    announced_all (Asks x f 0 0 Same) x f 5 next (reached x keepalive expected)
     (λ some. refusing x f f 0 0 Same (announcement_fault x f 5 next) some (omega arith) (λ _ _. refl) refl refl)
     (let a = announced x f next in let u = untouched x f next in
-    passing x f (established a.facts (min 60000 (max 100 keepalive))) 0 (skip_of a.skipped) (told_skip a.skipped) (record { requester = u.requester; serving = u.serving; sent = u.sent }) (skip_plain x.config.own_flow (f.recorded.sent + 1) a.skipped))))
-session_rows x f (establishment_reject id timestamp code reason) = in_session x f 0 0 Same 6 id _ (all_within (Asks x f 0 0 Same) (is_establishing f.connection.phase) (establishment_reject_rows x f code) (λ _. (
+    subst (Asks x f 0 0 Same) (sym (reached_so x keepalive expected a old)) (passing x f (established a.facts (min 60000 (max 100 keepalive))) 0 (skip_of a.skipped) (told_skip a.skipped) (record { requester = u.requester; serving = u.serving; sent = u.sent }) (skip_plain x.config.own_flow (f.recorded.sent + 1) a.skipped)))))
+session_rows x f (establishment_reject id timestamp code reason) old = in_session x f 0 0 Same 6 id _ (all_within (Asks x f 0 0 Same) (is_establishing f.connection.phase) (establishment_reject_rows x f code) (λ _. (
   λ _. asks_again x f (in_phase f phases.Negotiating) acts.Nothing (opening_negotiate x) (same_parts f (in_phase f phases.Negotiating) refl refl refl) refl refl (λ b. refl) (λ l. same_number (f.recorded.sent + 1) l),
   λ _. (λ _. rejecting x f 0 0 Same _, λ _. tt),
 )))
-session_rows x f (sequence next) =
+session_rows x f (sequence next) old =
     let g : Facts = requesting f (request_is.after_sequence f.connection.requester) in
     let e = after_end f.connection.requester in
     let same = e.count in
@@ -539,34 +543,34 @@ session_rows x f (sequence next) =
       λ _. announced_all (Asks x f 0 0 Never) x g 7 (Some next) (sequence_follows x g next) (λ some. refusing x f g 0 0 Never (announcement_fault x g 7 (Some next)) some (omega (arith, same)) (λ _ one. e.keeps one) refl refl)
           (following x f next (announced x g (Some next)) (untouched x g (Some next))),
     ))
-session_rows x f unsequenced_heartbeat = (λ _. passing x f f 0 acts.Nothing [] (still f) (nothing x.config.own_flow (f.recorded.sent + 1)), λ _. tt)
-session_rows x f (retransmit_request id timestamp first count) = all_within (Asks x f 1 0 Same) (is_established f.connection.phase) (retransmit_request_rows x f id timestamp first count) (λ _. (
+session_rows x f unsequenced_heartbeat old = (λ _. passing x f f 0 acts.Nothing [] (still f) (nothing x.config.own_flow (f.recorded.sent + 1)), λ _. tt)
+session_rows x f (retransmit_request id timestamp first count) old = all_within (Asks x f 1 0 Same) (is_established f.connection.phase) (retransmit_request_rows x f id timestamp first count) (λ _. (
   λ _. ending_here x f 1 0 Same 4 _,
   λ free. (λ _. answered x f free id timestamp (judged (is_own x id) (is_recoverable x.config.own_flow) first count f.recorded.sent), λ _. tt),
 ))
-session_rows x f (retransmission id next timestamp count) = in_session x f 0 1 Always 10 id _ (all_within (Asks x f 0 1 Always) (is_established f.connection.phase) (retransmission_rows x f next count) (λ _. (
+session_rows x f (retransmission id next timestamp count) old = in_session x f 0 1 Always 10 id _ (all_within (Asks x f 0 1 Always) (is_established f.connection.phase) (retransmission_rows x f next count) (λ _. (
   λ some. bad x f 0 1 Always (request_is.start_fault (request_is.outstanding f.connection.requester) next count) some,
   λ fits. (λ _. let one = at_most_one f.connection.requester in going x f (restarted f next count) 0 1 Always acts.Nothing [] refl (omega (arith, one)) (λ none _. absurd (omega (arith, none))) (omega arith) (starts f.connection.requester next count fits) refl (refl, refl), λ _. tt),
 )))
-session_rows x f (retransmit_reject id timestamp code reason) = in_session x f 0 1 Same 11 id _ (all_within (Asks x f 0 1 Same) (is_established f.connection.phase) (retransmit_reject_rows x f) (λ _. (
+session_rows x f (retransmit_reject id timestamp code reason) old = in_session x f 0 1 Same 11 id _ (all_within (Asks x f 0 1 Same) (is_established f.connection.phase) (retransmit_reject_rows x f) (λ _. (
   λ _. ending_here x f 0 1 Same 2 _,
   λ _. tt,
 )))
-session_rows x f (applied first count) = (λ _. passing x f f 0 acts.Nothing [] (still f) (nothing x.config.own_flow (f.recorded.sent + 1)), λ _. tt)
-session_rows x f (not_applied first count) = (λ _. passing x f f 0 (acts.Told first count) [] (still f) (nothing x.config.own_flow (f.recorded.sent + 1)), λ _. (λ _. passing x f f 0 acts.Nothing [] (still f) (nothing x.config.own_flow (f.recorded.sent + 1)), λ _. tt))
-session_rows x f (finished_sending id last) = in_session x f 0 0 Same 14 id _ (all_within (Asks x f 0 0 Same) (is_established f.connection.phase) (finished_sending_rows x f last) (λ _. (
+session_rows x f (applied first count) old = (λ _. passing x f f 0 acts.Nothing [] (still f) (nothing x.config.own_flow (f.recorded.sent + 1)), λ _. tt)
+session_rows x f (not_applied first count) old = (λ _. passing x f f 0 (acts.Told first count) [] (still f) (nothing x.config.own_flow (f.recorded.sent + 1)), λ _. (λ _. passing x f f 0 acts.Nothing [] (still f) (nothing x.config.own_flow (f.recorded.sent + 1)), λ _. tt))
+session_rows x f (finished_sending id last) old = in_session x f 0 0 Same 14 id _ (all_within (Asks x f 0 0 Same) (is_established f.connection.phase) (finished_sending_rows x f last) (λ _. (
   λ some. refusing x f f 0 0 Same (finish_fault x f last) some (omega arith) (λ _ _. refl) refl refl,
   λ _. (λ _. finishing x f (finished_last x last), λ _. tt),
 )))
-session_rows x f (finished_receiving id) = in_session x f 0 0 Same 15 id _ (all_within (Asks x f 0 0 Same) (is_established f.connection.phase) (finished_receiving_rows x f) (λ _. (
+session_rows x f (finished_receiving id) old = in_session x f 0 0 Same 15 id _ (all_within (Asks x f 0 0 Same) (is_established f.connection.phase) (finished_receiving_rows x f) (λ _. (
   λ _. passing x f (own_finishing f own.Exchanged) 0 acts.Nothing [] (same_parts f (own_finishing f own.Exchanged) refl refl refl) (nothing x.config.own_flow (f.recorded.sent + 1)),
   λ _. tt,
 )))
-session_rows x f (terminate id code reason) = in_session x f 0 0 Same 16 id (row true (ends x f 1 (endings.PeerTerminated code)) ∷ []) (λ _. ending_here x f 0 0 Same 1 _, λ _. tt)
+session_rows x f (terminate id code reason) old = in_session x f 0 0 Same 16 id (row true (ends x f 1 (endings.PeerTerminated code)) ∷ []) (λ _. ending_here x f 0 0 Same 1 _, λ _. tt)
 
 -- of each reply to a message that may be under way
-pub asks_of : (x : Around) (f : Facts) (p : Piece) → Asks x f (asks p) (restarts p) (turns p) (reply_of x f (incoming_of p))
-asks_of x f p =
+pub asks_of : (x : Around) (f : Facts) (p : Piece) → is_newer x.config ≡ false → Asks x f (asks p) (restarts p) (turns p) (reply_of x f (incoming_of p))
+asks_of x f p old =
     by_row (Asks x f (asks p) (restarts p) (turns p)) (is_closing f.connection.phase && not (terminates x (incoming_of p))) (ignores f) (answer_of x f (incoming_of p))
     (λ e. record { once = omega arith; asked = omega arith; resent = omega arith; comes = λ _ n. absurd (true≢false (sym (and_left (is_closing f.connection.phase) (not (terminates x (incoming_of p))) e) ∙ n)); serves = refl; goes = inl refl; runs = (refl, refl); names = tt; keeps = λ _ _. refl })
     (λ _. all_rows (Asks x f (asks p) (restarts p) (turns p)) (not_in_phase x f (template_of (incoming_of p))) (rows_of x f (incoming_of p)) (ending_here x f (asks p) (restarts p) (turns p) 2 _) (by_piece p))
@@ -576,7 +580,7 @@ asks_of x f p =
     and_left false b e = absurd (true≢false (sym e))
 
     by_piece : (q : Piece) → AllRows (Asks x f (asks q) (restarts q) (turns q)) (rows_of x f (incoming_of q))
-    by_piece (said m) = session_rows x f m
+    by_piece (said m) = session_rows x f m old
     by_piece (entry payload) = message_rows x f payload
 
 -- in Closing a message is ignored, but for a Terminate

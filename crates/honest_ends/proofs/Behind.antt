@@ -27,6 +27,7 @@ use Rattle.connection_laws.specs.Writing.{Piece, said, entry, said_all}
 use Rattle.two_ends.specs.Reading.{incoming_of}
 use Rattle.two_ends.proofs.Refused.{closing_is_deaf}
 use Rattle.honest_ends.specs.Numbers.{exactly, Runs, served, to_come}
+use Rattle.fixp_replies.specs.Expecting.{is_newer}
 use Rattle.honest_ends.proofs.Finishing.{finishes, Learned, IsLate, ComesLate, Moves, moves, last_in, sendings, total, total_append}
 use Rattle.honest_ends.proofs.Telling.{Complete, NamesLast, none_names, Tells}
 use Rattle.honest_ends.proofs.Asking.{inside, coming, is_serving, asks_of}
@@ -87,15 +88,15 @@ named x own h (said (finished_sending id l)) last flow names e =
 named x own h _ last flow names e = absurd cc
 
 -- the reader replies to a message
-pub heard_by_reader : (own : Flow) (h : List Entry) (writer : Facts) (x : Around) (reader : Facts) (over : Option Ending) (p : Piece) (left : List Piece) → x.config.peer_flow ≡ own → over ≡ None
+pub heard_by_reader : (own : Flow) (h : List Entry) (writer : Facts) (x : Around) (reader : Facts) (over : Option Ending) (p : Piece) (left : List Piece) → is_newer x.config ≡ false → x.config.peer_flow ≡ own → over ≡ None
     → Behind own h writer reader over (p ∷ left) → Behind own h writer (reply_of x reader (incoming_of p)).next (reply_of x reader (incoming_of p)).ending left
-heard_by_reader own h writer x reader over p left flow going a = record { finish = a.finish; learned = learned; told = λ some. a.told (omega (arith, some)); names = a.names.1; none_live = none_live }
+heard_by_reader own h writer x reader over p left old flow going a = record { finish = a.finish; learned = learned; told = λ some. a.told (omega (arith, some)); names = a.names.1; none_live = none_live }
   where
     o : Outcome
     o = reply_of x reader (incoming_of p)
 
     m : Moves x reader p o
-    m = moves x reader p
+    m = moves x reader p old
 
     by_source : (last : ℕ) → Learned (finishes reader) last ⊎ (last_in x p ≡ Some last) → Complete (length h) writer × (last ≡ last_told own h)
     by_source last (inl l) = a.learned last l
@@ -114,7 +115,7 @@ heard_by_reader own h writer x reader over p left flow going a = record { finish
     -- it was not closing
     live_after : o.ending ≡ None → is_closing reader.connection.phase ≡ false → NoneLive (known (peer_last o.next)) (coming o.next) left
     live_after none yet = behind_fewer left (known (peer_last o.next)) (known (peer_last reader) + sendings p) (coming o.next) was_known
-        (subst (λ (b : Bool). NoneLive (known (peer_last reader) + sendings p) b left) (sym ((asks_of x reader p).comes none yet)) (a.none_live going yet).1)
+        (subst (λ (b : Bool). NoneLive (known (peer_last reader) + sendings p) b left) (sym ((asks_of x reader p old).comes none yet)) (a.none_live going yet).1)
 
     none_live : o.ending ≡ None → is_closing o.next.connection.phase ≡ false → NoneLive (known (peer_last o.next)) (coming o.next) left
     none_live none yet = by_bool (NoneLive (known (peer_last o.next)) (coming o.next) left) (is_closing reader.connection.phase)
@@ -122,9 +123,9 @@ heard_by_reader own h writer x reader over p left flow going a = record { finish
         (λ n. live_after none n)
 
 -- the writer replies to a message that came back
-pub heard_by_writer : (own : Flow) (h : List Entry) (x : Around) (writer reader : Facts) (over : Option Ending) (p : Piece) (way : List Piece) → Behind own h writer reader over way
+pub heard_by_writer : (own : Flow) (h : List Entry) (x : Around) (writer reader : Facts) (over : Option Ending) (p : Piece) (way : List Piece) → is_newer x.config ≡ false → Behind own h writer reader over way
     → Behind own h (reply_of x writer (incoming_of p)).next reader over (way ++ said_all (reply_of x writer (incoming_of p)).written)
-heard_by_writer own h x writer reader over p way a = record {
+heard_by_writer own h x writer reader over p way old a = record {
   finish = subst (λ (k : Option ℕ). IfSome k (λ n. n ≡ length h)) (sym m.finish) a.finish;
   learned = λ last l. let k = a.learned last l in (completes k.0, k.1);
   told = λ some. completes (a.told (omega (arith, e, quiet, some)));
@@ -136,7 +137,7 @@ heard_by_writer own h x writer reader over p way a = record {
     o = reply_of x writer (incoming_of p)
 
     m : Moves x writer p o
-    m = moves x writer p
+    m = moves x writer p old
 
     completes : Complete (length h) writer → Complete (length h) o.next
     completes c = record { finish = m.finish ∙ c.finish; sent = m.sent ∙ c.sent }

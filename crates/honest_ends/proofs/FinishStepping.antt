@@ -1,7 +1,7 @@
 -- The finishes of both flows, kept by each step of two ends.
 use Rattle.std.proofs.Common.{◌≡◌, ℕ, ◌+◌, ◌&&◌, Bool, true, false, List, [], ◌∷◌, ◌++◌, Option, Some, None, refl, sym, ap, subst, ◌∙◌, true≢false}
 use Rattle.session_model.specs.Journal.{Entry}
-use Rattle.fixp_machine.proofs.Accepted.{is_done}
+use Rattle.fixp_machine.proofs.Tests.{is_done}
 use Rattle.fixp_shake.specs.declared.config.EndConfig.{EndConfig}
 use Rattle.fixp_shake.specs.declared.violation.Violation.{Violation}
 use Rattle.fixp_shake.specs.declared.violation.Violation.TheVariants.{BadFrame, UnknownTemplate, NotInPhase, OtherSession, WentBack, MissingNext, NumberTooLarge, BadRetransmission, AfterFinish, FlowNone, Silent, HandshakeLate}
@@ -17,6 +17,8 @@ use Rattle.two_ends.specs.Reading.{incoming_of}
 use Rattle.honest_ends.specs.PhaseLaws.{IsOfTime, EndsBy}
 use Rattle.honest_ends.specs.Numbers.{Awaited, exactly, Runs, served, to_come}
 use Rattle.honest_ends.specs.Worlds.{World, Step, meets, initiator_reads, acceptor_reads, initiator_does, acceptor_does, written, initiator_read, acceptor_read, after, world_after, MayStep, AllMayStep}
+use Rattle.fixp_replies.specs.Expecting.{is_newer}
+use Rattle.honest_ends.proofs.Older.{older_initiator, older_acceptor}
 use Rattle.honest_ends.proofs.Finishing.{moves}
 use Rattle.honest_ends.proofs.Telling.{tells_as}
 use Rattle.honest_ends.proofs.Serving.{serves_as, was_none}
@@ -105,13 +107,13 @@ time_fine (Silent last now) h = tt
 time_fine (HandshakeLate start now) h = tt
 
 -- an end reads a message
-reads_fine : (h : List Entry) (writer s : State) (p : Piece) (left back : List Piece) (at now : ℕ) → s.config.peer_flow ≡ writer.config.own_flow → s.ending ≡ None
+reads_fine : (h : List Entry) (writer s : State) (p : Piece) (left back : List Piece) (at now : ℕ) → is_newer s.config ≡ false → s.config.peer_flow ≡ writer.config.own_flow → s.ending ≡ None
     → Behind writer.config.own_flow h writer.facts s.facts s.ending (p ∷ left) → Follows h writer s (p ∷ left) back
     → (v : Violation) → (reply_of (around s at now) s.facts (incoming_of p)).ending ≡ Some (endings.Violation v) → NoFinish v
-reads_fine h writer s p left back at now flow none behind follows =
+reads_fine h writer s p left back at now old flow none behind follows =
     no_finish (reply_of (around s at now) s.facts (incoming_of p)).ending
     (λ last found e. none_late writer.config.own_flow h writer.facts (around s at now) s.facts s.ending p left flow none behind (exact_of h writer s (p ∷ left) back at now flow none follows)
-    ((moves (around s at now) s.facts p).late last found e))
+    ((moves (around s at now) s.facts p old).late last found e))
 
 initiator_reading : (hi ha : List Entry) (w : World) (way : List Piece) (at now : ℕ) → w.homeward ≡ way → Holds w → Follows ha w.acceptor w.initiator w.homeward w.outward → Ends hi ha w → IsOpen w.initiator
     → Ends hi ha (initiator_read w way at now)
@@ -121,14 +123,15 @@ initiator_reading hi ha w (p ∷ left) at now e holds follows h going =
     let x = around s at now in
     let rd = reads_as s p at now in
     let flow = holds.matches.homeward in
+    let old = older_initiator s.config w.acceptor.config holds.matches in
     let behind = subst (λ (way : List Piece). Behind w.acceptor.config.own_flow ha w.acceptor.facts s.facts s.ending way) e h.homeward in
     let number = subst (λ (way : List Piece). Follows ha w.acceptor s way w.outward) e follows in
     record {
       outward = carried (λ c f g out. Behind c.own_flow hi f w.acceptor.facts w.acceptor.ending (w.outward ++ out)) rd.config rd.facts rd.ending rd.writes
-          (heard_by_writer s.config.own_flow hi x s.facts w.acceptor.facts w.acceptor.ending p w.outward h.outward);
+          (heard_by_writer s.config.own_flow hi x s.facts w.acceptor.facts w.acceptor.ending p w.outward old h.outward);
       homeward = carried (λ c f g out. Behind w.acceptor.config.own_flow ha w.acceptor.facts f g left) rd.config rd.facts rd.ending rd.writes
-          (heard_by_reader w.acceptor.config.own_flow ha w.acceptor.facts x s.facts s.ending p left flow going.going behind);
-      initiator = λ v is. reads_fine ha w.acceptor s p left w.outward at now flow going.going behind number v (sym rd.ending ∙ is);
+          (heard_by_reader w.acceptor.config.own_flow ha w.acceptor.facts x s.facts s.ending p left old flow going.going behind);
+      initiator = λ v is. reads_fine ha w.acceptor s p left w.outward at now old flow going.going behind number v (sym rd.ending ∙ is);
       acceptor = h.acceptor;
     }
 
@@ -140,15 +143,16 @@ acceptor_reading hi ha w (p ∷ left) at now e holds follows h going =
     let x = around s at now in
     let rd = reads_as s p at now in
     let flow = holds.matches.outward in
+    let old = older_acceptor w.initiator.config s.config holds.matches in
     let behind = subst (λ (way : List Piece). Behind w.initiator.config.own_flow hi w.initiator.facts s.facts s.ending way) e h.outward in
     let number = subst (λ (way : List Piece). Follows hi w.initiator s way w.homeward) e follows in
     record {
       outward = carried (λ c f g out. Behind w.initiator.config.own_flow hi w.initiator.facts f g left) rd.config rd.facts rd.ending rd.writes
-          (heard_by_reader w.initiator.config.own_flow hi w.initiator.facts x s.facts s.ending p left flow going.going behind);
+          (heard_by_reader w.initiator.config.own_flow hi w.initiator.facts x s.facts s.ending p left old flow going.going behind);
       homeward = carried (λ c f g out. Behind c.own_flow ha f w.initiator.facts w.initiator.ending (w.homeward ++ out)) rd.config rd.facts rd.ending rd.writes
-          (heard_by_writer s.config.own_flow ha x s.facts w.initiator.facts w.initiator.ending p w.homeward h.homeward);
+          (heard_by_writer s.config.own_flow ha x s.facts w.initiator.facts w.initiator.ending p w.homeward old h.homeward);
       initiator = h.initiator;
-      acceptor = λ v is. reads_fine hi w.initiator s p left w.homeward at now flow going.going behind number v (sym rd.ending ∙ is);
+      acceptor = λ v is. reads_fine hi w.initiator s p left w.homeward at now old flow going.going behind number v (sym rd.ending ∙ is);
     }
 
 ends_step : (hi ha : List Entry) (w : World) (step : Step) → Holds w → Numbered hi ha w → Ends hi ha w → MayStep hi ha w step → Ends hi ha (after w step)

@@ -28,13 +28,15 @@ use Rattle.fixp_replies.specs.declared.facts.OwnFinish.TheVariants as own
 use Rattle.fixp_replies.specs.declared.facts.PeerFinish.{PeerFinish}
 use Rattle.fixp_replies.specs.declared.facts.PeerFinish.TheVariants as peer
 use Rattle.fixp_replies.specs.Incoming.{application, session}
-use Rattle.fixp_replies.specs.Facts.{Around, is_own, in_phase, receiving, requesting, serves, negotiated as as_negotiated, awaiting, gap_to_ask, having_asked, announced_number, peer_last, last_among, awaits_gap, is_told, expected_number, live_number, message_number, finishes_exchanged}
+use Rattle.fixp_replies.specs.Facts.{Around, is_own, in_phase, receiving, requesting, firm, serves, negotiated as as_negotiated, awaiting, gap_to_ask, having_asked, announced_number, peer_last, last_among, awaits_gap, is_told, expected_number, live_number, message_number, finishes_exchanged}
 use Rattle.fixp_replies.specs.Outcomes.{Outcome, Row, row, goes_on, accepts, rejects, ignores, ends_with, ends, breaks, not_in_phase, request_for, skip_of, told_skip, opening_negotiate, opening_establish}
 use Rattle.fixp_replies.specs.Announcing.{Announced, jumped_over, announced, announcement_fault, announcement_rows, refuses}
-use Rattle.fixp_replies.specs.Handshake.{awaits_client, serves_client, established, acknowledges, negotiate_rows, establish_rows, established_again_rows, negotiation_response_rows, negotiation_reject_rows, establishment_ack_rows, establishment_reject_rows}
+use Rattle.fixp_replies.specs.Handshake.{awaits_client, serves_client, established, acknowledges, negotiate_rows, establish_rows, established_again_rows, negotiation_response_rows, negotiation_reject_rows, establishment_ack_rows, reached, establishment_reject_rows}
 use Rattle.fixp_replies.specs.Flowing.{bad_retransmission, counted, taken_as, finish_act, peer_finished, answers_finish, is_filled, is_after_finish, is_past_finish, is_last, sequence_follows, sequence_taken, restarted, first_asked, finished_last, finish_fault, finished, application_rows, sequence_rows, retransmission_rows, retransmit_reject_rows, finished_sending_rows}
 use Rattle.fixp_replies.specs.Serving.{request_answered, own_finishing, retransmit_request_rows, finished_receiving_rows}
 use Rattle.fixp_replies.specs.Replies.{reply_of, rows_of, answer_of, of_session, terminates, template_of}
+use Rattle.fixp_replies.specs.Expecting.{is_newer}
+use Rattle.honest_ends.proofs.Older.{acknowledges_older, acknowledges_so, reached_so}
 use Rattle.fixp_machine.proofs.Rows.{AllRows, by_row, all_rows, all_within}
 use Rattle.connection_laws.specs.Writing.{Piece, said, entry, said_all}
 use Rattle.two_ends.specs.Reading.{incoming_of}
@@ -227,7 +229,7 @@ skip_sends (Some s) = refl
 
 abbrev chosen : Facts → ℕ → Bool → Bool → Announced
 chosen f n recoverable idempotent =
-    if recoverable then record { facts = receiving f (receiver_is.announced f.connection.receiver n); skipped = None }
+    if recoverable then record { facts = firm (receiving f (receiver_is.announced f.connection.receiver n)); skipped = None }
     else if idempotent then record { facts = awaiting f n; skipped = jumped_over f.recorded.inbox_next n }
     else record { facts = f; skipped = None }
 
@@ -342,12 +344,12 @@ finishing x f id last =
     learns n (inl e) = inl (inl e)
     learns n (inr e) = inr e
 
-acknowledging : (x : Around) (f : Facts) (next : Option ℕ) (timestamp keepalive : ℕ) {p : Piece} → Moves x f p (acknowledges x timestamp keepalive (announced x f next))
+acknowledging : (x : Around) (f : Facts) (next : Option ℕ) (timestamp keepalive : ℕ) {p : Piece} → Moves x f p (acknowledges_older x timestamp keepalive (announced x f next))
 acknowledging x f next timestamp keepalive =
     let a = announced x f next in
     let none = skip_answers a.skipped in
     let quiet = skip_sends a.skipped in
-    passing x f (established a.facts keepalive) (skip_of a.skipped) (establishment_ack x.config.session timestamp x.config.keepalive (announced_number x a.facts) expects.Absent ∷ told_skip a.skipped)
+    passing x f (established (firm a.facts) keepalive) (skip_of a.skipped) (establishment_ack x.config.session timestamp x.config.keepalive (announced_number x a.facts) expects.Absent ∷ told_skip a.skipped)
     (unmoved x f next) (omega (arith, none)) (omega (arith, quiet))
 
 -- all rows of all messages
@@ -377,8 +379,8 @@ choosing P true c first second p q = p
 choosing P false true first second p q = q
 choosing P false false first second p q = tt
 
-session_rows : (x : Around) (f : Facts) (m : Message) → AllRows (Moves x f (said m)) (rows_of x f (session m))
-session_rows x f (negotiate id timestamp flow credentials) = all_within (Moves x f (said (negotiate id timestamp flow credentials))) (awaits_client x f) (negotiate_rows x f id timestamp flow credentials) (λ _. (
+session_rows : (x : Around) (f : Facts) (m : Message) → is_newer x.config ≡ false → AllRows (Moves x f (said m)) (rows_of x f (session m))
+session_rows x f (negotiate id timestamp flow credentials) old = all_within (Moves x f (said (negotiate id timestamp flow credentials))) (awaits_client x f) (negotiate_rows x f id timestamp flow credentials) (λ _. (
   λ _. staying x f _ refl refl,
   λ _. (
     λ _. staying x f _ refl refl,
@@ -391,96 +393,97 @@ session_rows x f (negotiate id timestamp flow credentials) = all_within (Moves x
     ),
   ),
 ))
-session_rows x f (negotiation_response id timestamp flow credentials) =
+session_rows x f (negotiation_response id timestamp flow credentials) old =
     let p = said (negotiation_response id timestamp flow credentials) in
     in_session x f p 2 id _ (all_within (Moves x f p) (is_negotiating f.connection.phase) (negotiation_response_rows x f flow) (λ _. (
       λ _. ending x f f 2 (endings.Violation (OtherSession 2)) refl (λ _ _ e. absurd cc),
       λ _. (λ _. passing x f (in_phase (as_negotiated f) phases.Establishing) _ (opening_establish x f ∷ []) refl refl refl, λ _. tt),
     )))
-session_rows x f (negotiation_reject id timestamp code reason) =
+session_rows x f (negotiation_reject id timestamp code reason) old =
     let p = said (negotiation_reject id timestamp code reason) in
     in_session x f p 3 id _ (all_within (Moves x f p) (is_negotiating f.connection.phase) (negotiation_reject_rows x f code) (λ _. (
       λ _. passing x f (in_phase (as_negotiated f) phases.Establishing) _ (opening_establish x f ∷ []) refl refl refl,
       λ _. (λ _. rejecting x f 3 code, λ _. tt),
     )))
-session_rows x f (establish id timestamp keepalive next expected credentials) =
+session_rows x f (establish id timestamp keepalive next expected credentials) old =
     let P = Moves x f (said (establish id timestamp keepalive next expected credentials)) in
-    choosing P (awaits_client x f) (serves_client x f) (establish_rows x f id timestamp keepalive next credentials) (established_again_rows x f id timestamp) (
+    choosing P (awaits_client x f) (serves_client x f) (establish_rows x f id timestamp keepalive next expected credentials) (established_again_rows x f id timestamp) (
       λ _. staying x f _ refl refl,
       λ _. (
         λ _. staying x f _ refl refl,
         λ _. (
           λ _. staying x f _ refl refl,
-          λ _. announcing x f f 4 next (acknowledges x timestamp keepalive) refl (acknowledging x f next timestamp keepalive),
+          λ _. announcing x f f 4 next (acknowledges x timestamp keepalive expected) refl (subst P (sym (acknowledges_so x timestamp keepalive expected (announced x f next) old)) (acknowledging x f next timestamp keepalive)),
         ),
       ),
     )
     (λ _. staying x f _ refl refl, λ _. (λ _. staying x f _ refl refl, λ _. tt))
-session_rows x f (establishment_ack id timestamp keepalive next expected) =
+session_rows x f (establishment_ack id timestamp keepalive next expected) old =
     let p = said (establishment_ack id timestamp keepalive next expected) in
-    in_session x f p 5 id _ (all_within (Moves x f p) (is_establishing f.connection.phase) (establishment_ack_rows x f keepalive next) (λ _.
-    announcing x f f 5 next (λ (a : Announced). goes_on x (skip_of a.skipped) (told_skip a.skipped) (established a.facts (min 60000 (max 100 keepalive)))) refl
+    in_session x f p 5 id _ (all_within (Moves x f p) (is_establishing f.connection.phase) (establishment_ack_rows x f keepalive next expected) (λ _.
+    announcing x f f 5 next (reached x keepalive expected) refl
     (let a = announced x f next in
-    passing x f (established a.facts (min 60000 (max 100 keepalive))) (skip_of a.skipped) (told_skip a.skipped) (unmoved x f next) (skip_answers a.skipped) (skip_sends a.skipped))))
-session_rows x f (establishment_reject id timestamp code reason) =
+    subst (Moves x f p) (sym (reached_so x keepalive expected a old))
+    (passing x f (established a.facts (min 60000 (max 100 keepalive))) (skip_of a.skipped) (told_skip a.skipped) (unmoved x f next) (skip_answers a.skipped) (skip_sends a.skipped)))))
+session_rows x f (establishment_reject id timestamp code reason) old =
     let p = said (establishment_reject id timestamp code reason) in
     in_session x f p 6 id _ (all_within (Moves x f p) (is_establishing f.connection.phase) (establishment_reject_rows x f code) (λ _. (
       λ _. passing x f (in_phase f phases.Negotiating) acts.Nothing (opening_negotiate x ∷ []) refl refl refl,
       λ _. (λ _. rejecting x f 6 code, λ _. tt),
     )))
-session_rows x f (sequence next) =
+session_rows x f (sequence next) old =
     let p = said (sequence next) in
     let g : Facts = requesting f (request_is.after_sequence f.connection.requester) in
     all_within (Moves x f p) (is_established f.connection.phase) (sequence_rows x f next) (λ now. (
       λ _. bad x f (request_is.sequence_fault f.connection.requester),
       λ _. announcing x f g 7 (Some next) (sequence_follows x g next) refl (following x f g next (announced x g (Some next)) refl (unmoved x g (Some next)) (λ past. (now, past))),
     ))
-session_rows x f unsequenced_heartbeat = (λ _. passing x f f acts.Nothing [] refl refl refl, λ _. tt)
-session_rows x f (retransmit_request id timestamp first count) =
+session_rows x f unsequenced_heartbeat old = (λ _. passing x f f acts.Nothing [] refl refl refl, λ _. tt)
+session_rows x f (retransmit_request id timestamp first count) old =
     all_within (Moves x f (said (retransmit_request id timestamp first count))) (is_established f.connection.phase) (retransmit_request_rows x f id timestamp first count) (λ _. (
       λ _. ending x f f 4 (endings.Violation (NotInPhase 9 f.connection.phase)) refl (λ _ _ e. absurd cc),
       λ _. (λ _. requested x f id timestamp (judged (is_own x id) (is_recoverable x.config.own_flow) first count f.recorded.sent), λ _. tt),
     ))
-session_rows x f (retransmission id next timestamp count) =
+session_rows x f (retransmission id next timestamp count) old =
     let p = said (retransmission id next timestamp count) in
     in_session x f p 10 id _ (all_within (Moves x f p) (is_established f.connection.phase) (retransmission_rows x f next count) (λ _. (
       λ _. bad x f (request_is.start_fault (request_is.outstanding f.connection.requester) next count),
       λ _. (λ _. passing x f (restarted f next count) acts.Nothing [] refl refl refl, λ _. tt),
     )))
-session_rows x f (retransmit_reject id timestamp code reason) =
+session_rows x f (retransmit_reject id timestamp code reason) old =
     let p = said (retransmit_reject id timestamp code reason) in
     in_session x f p 11 id _ (all_within (Moves x f p) (is_established f.connection.phase) (retransmit_reject_rows x f) (λ _. (
       λ _. ending x f f 2 (endings.Violation (BadRetransmission (first_asked (request_is.outstanding f.connection.requester)) 0)) refl (λ _ _ e. absurd cc),
       λ _. tt,
     )))
-session_rows x f (applied first count) = (λ _. passing x f f acts.Nothing [] refl refl refl, λ _. tt)
-session_rows x f (not_applied first count) = (λ _. passing x f f (acts.Told first count) [] refl refl refl, λ _. (λ _. passing x f f acts.Nothing [] refl refl refl, λ _. tt))
-session_rows x f (finished_sending id last) =
+session_rows x f (applied first count) old = (λ _. passing x f f acts.Nothing [] refl refl refl, λ _. tt)
+session_rows x f (not_applied first count) old = (λ _. passing x f f (acts.Told first count) [] refl refl refl, λ _. (λ _. passing x f f acts.Nothing [] refl refl refl, λ _. tt))
+session_rows x f (finished_sending id last) old =
     let p = said (finished_sending id last) in
     in_session x f p 14 id _ (all_within (Moves x f p) (is_established f.connection.phase) (finished_sending_rows x f last) (λ now. (
       λ _. refusing x f f (finish_fault x f last) refl (λ l found e. (now, finish_late x f last l found e)),
       λ _. (λ _. finishing x f id last, λ _. tt),
     )))
-session_rows x f (finished_receiving id) =
+session_rows x f (finished_receiving id) old =
     let p = said (finished_receiving id) in
     in_session x f p 15 id _ (all_within (Moves x f p) (is_established f.connection.phase) (finished_receiving_rows x f) (λ _. (
       λ _. let one = at_most_one f.connection.own_finish in going x f (own_finishing f own.Exchanged) acts.Nothing [] (omega arith) (omega (arith, one)) refl (λ n l. inl l) refl refl,
       λ _. tt,
     )))
-session_rows x f (terminate id code reason) =
+session_rows x f (terminate id code reason) old =
     in_session x f (said (terminate id code reason)) 16 id (row true (ends x f 1 (endings.PeerTerminated code)) ∷ []) (λ _. ending x f f 1 (endings.PeerTerminated code) refl (λ _ _ e. absurd cc), λ _. tt)
 
 -- of each reply to a message that may be under way
-pub moves : (x : Around) (f : Facts) (p : Piece) → Moves x f p (reply_of x f (incoming_of p))
-moves x f p =
+pub moves : (x : Around) (f : Facts) (p : Piece) → is_newer x.config ≡ false → Moves x f p (reply_of x f (incoming_of p))
+moves x f p old =
     by_row (Moves x f p) (is_closing f.connection.phase && not (terminates x (incoming_of p))) (ignores f) (answer_of x f (incoming_of p))
     (λ _. ignoring x f f refl)
     (λ _. all_rows (Moves x f p) (not_in_phase x f (template_of (incoming_of p))) (rows_of x f (incoming_of p))
     (ending x f f 2 (endings.Violation (NotInPhase (template_of (incoming_of p)) f.connection.phase)) refl (λ _ _ e. absurd cc)) (by_piece p))
   where
     by_piece : (q : Piece) → AllRows (Moves x f q) (rows_of x f (incoming_of q))
-    by_piece (said m) = session_rows x f m
+    by_piece (said m) = session_rows x f m old
     by_piece (entry payload) = message_rows x f payload
 
-pub counts : (x : Around) (f : Facts) (p : Piece) → Counts f (sendings p) (answers p) (reply_of x f (incoming_of p))
-counts x f p = (moves x f p).counts
+pub counts : (x : Around) (f : Facts) (p : Piece) → is_newer x.config ≡ false → Counts f (sendings p) (answers p) (reply_of x f (incoming_of p))
+counts x f p old = (moves x f p old).counts

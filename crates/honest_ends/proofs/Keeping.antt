@@ -23,8 +23,10 @@ use Rattle.fixp_replies.specs.Facts.{Around}
 use Rattle.fixp_replies.specs.Outcomes.{Outcome}
 use Rattle.fixp_replies.specs.Replies.{reply_of}
 use Rattle.fixp_machine.specs.Machine.{State}
+use Rattle.fixp_replies.specs.Expecting.{is_newer}
 use Rattle.fixp_machine.proofs.Tests.{no_gap}
-use Rattle.connection_laws.specs.Writing.{Piece, said_all, WritesOwn, nothing, shakes, resends}
+use Rattle.honest_ends.proofs.Older.{returns_never}
+use Rattle.connection_laws.specs.Writing.{Piece, said_all, WritesOwn, nothing, shakes, returns, resends}
 use Rattle.connection_laws.proofs.Replied.{frame_writes}
 use Rattle.two_ends.specs.Reading.{incoming_of}
 use Rattle.two_ends.proofs.Refused.{closing_is_deaf}
@@ -59,11 +61,11 @@ closing_fine : (x : Around) (f : Facts) (p : Piece) → is_closing f.connection.
 closing_fine x f p e = in_closing Fine x f p e (λ v k. absurd cc) (breaking x f p 2 (OtherSession 16) tt).fine (λ code. (ended x f p (terminate x.config.session 1 [] ∷ []) (endings.PeerTerminated code) (λ v k. absurd cc)).fine)
 
 -- the reader replies to the first message under way
-pub reader_replies : (h : List Entry) (writer : Facts) (x : Around) (reader : Facts) (theirs : EndConfig) (p : Piece) (left back : List Piece) → Peer x.config theirs
+pub reader_replies : (h : List Entry) (writer : Facts) (x : Around) (reader : Facts) (theirs : EndConfig) (p : Piece) (left back : List Piece) → is_newer x.config ≡ false → Peer x.config theirs
     → (is_shaken reader.connection.phase ≡ true → IsFlowing theirs p) → total asks back + total restarts (p ∷ left) ≤ unanswered reader → Between h writer x.config x.most reader None (p ∷ left) back
     → Between h writer x.config x.most (reply_of x reader (incoming_of p)).next (reply_of x reader (incoming_of p)).ending left (back ++ said_all (reply_of x reader (incoming_of p)).written)
     × ((v : Violation) → (reply_of x reader (incoming_of p)).ending ≡ Some (endings.Violation v) → NoNumber v)
-reader_replies h writer x reader theirs p left back are flows once b = by_bool _ (is_closing reader.connection.phase) closing going
+reader_replies h writer x reader theirs p left back old are flows once b = by_bool _ (is_closing reader.connection.phase) closing going
   where
     o : Outcome
     o = reply_of x reader (incoming_of p)
@@ -94,8 +96,8 @@ reader_replies h writer x reader theirs p left back are flows once b = by_bool _
         let g = b.goes refl yet in
         let sent = b.sent in
         let most = b.most in
-        let r : Heard x.config reader left k m o = reads x reader theirs p left k m are yet flows g.0 g.1.answers.0 (omega (arith, sent, most)) b.next in
-        let c = asks_of x reader p in
+        let r : Heard x.config reader left k m o = reads x reader theirs p left k m old are yet flows g.0 g.1.answers.0 (omega (arith, sent, most)) b.next in
+        let c = asks_of x reader p old in
         let a = agrees_behind x reader p left back o (turns p) once c g.1 in
         (record { sent = b.sent; most = b.most; one = λ rec. r.one rec (b.one rec); next = r.top; goes = λ none _. (r.goes none, agrees none r c.names a) }, r.fine)
       where
@@ -111,12 +113,13 @@ reader_replies h writer x reader theirs p left back are flows once b = by_bool _
             by_flow false other = all_weaker (Requested o.next) (Names o.next.connection.requester) (idle_names o.next ((r.goes none).idle other)) (said_all o.written) names
 
 -- a reply sends nothing live
-sent_same : (x : Around) (f : Facts) (p : Piece) → (reply_of x f (incoming_of p)).next.recorded.sent ≡ f.recorded.sent
-sent_same x f p = by_case (frame_writes x f (incoming_of p))
+sent_same : (x : Around) (f : Facts) (p : Piece) → is_newer x.config ≡ false → (reply_of x f (incoming_of p)).next.recorded.sent ≡ f.recorded.sent
+sent_same x f p old = by_case (frame_writes x f (incoming_of p))
   where
     by_case : WritesOwn x f (reply_of x f (incoming_of p)) → (reply_of x f (incoming_of p)).next.recorded.sent ≡ f.recorded.sent
     by_case (nothing n s) = s.sent
-    by_case (shakes s) = s.sent
+    by_case (shakes s) = s.sent.same (returns_never x.config f (reply_of x f (incoming_of p)).next old)
+    by_case (returns r) = absurd (true≢false (sym r.may ∙ returns_never x.config f (reply_of x f (incoming_of p)).next old))
     by_case (resends r) = r.sent
 
 -- what the writer writes then is under way too
@@ -144,13 +147,13 @@ asked_sent c reader way k m r ready e = by_flow (is_recoverable c.peer_flow) ref
     by_flow false other = absurd (cc ((ready.idle other).none, e))
 
 -- the writer replies to a message that came back
-pub writer_replies : (h : List Entry) (x : Around) (writer : Facts) (theirs c : EndConfig) (limit : ℕ) (reader : Facts) (over : Option Ending) (p : Piece) (way left : List Piece) → Peer x.config theirs
+pub writer_replies : (h : List Entry) (x : Around) (writer : Facts) (theirs c : EndConfig) (limit : ℕ) (reader : Facts) (over : Option Ending) (p : Piece) (way left : List Piece) → is_newer x.config ≡ false → Peer x.config theirs
     → (is_shaken writer.connection.phase ≡ true → IsFlowing theirs p) → c.peer_flow ≡ x.config.own_flow → Between h writer c limit reader over way (p ∷ left)
     → Between h (reply_of x writer (incoming_of p)).next c limit reader over (way ++ said_all (reply_of x writer (incoming_of p)).written) left
-writer_replies h x writer theirs c limit reader over p way left are flows same b =
+writer_replies h x writer theirs c limit reader over p way left old are flows same b =
     let sent = b.sent in
     let next = b.next in
-    let e = sent_same x writer p in
+    let e = sent_same x writer p old in
     record {
       sent = omega (arith, e, sent);
       most = b.most;
@@ -165,7 +168,7 @@ writer_replies h x writer theirs c limit reader over p way left are flows same b
     more : Ready c reader way (writer.recorded.sent + 1) (served writer.connection.serving) × Agrees reader.connection.requester way (p ∷ left)
         → Ready c reader (way ++ said_all o.written) (o.next.recorded.sent + 1) (served o.next.connection.serving) × Agrees reader.connection.requester (way ++ said_all o.written) left
     more g =
-        let k = asks_of x writer p in (
+        let k = asks_of x writer p old in (
           ready_more c reader x.config.own_flow writer o.next way (said_all o.written) same k.runs g.0,
           record {
             asks = g.1.asks.1;

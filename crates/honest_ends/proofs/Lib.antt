@@ -1,3 +1,4 @@
+pub mod Older
 pub mod Shapes
 pub mod Deciding
 pub mod Finishing

@@ -25,12 +25,13 @@ use Rattle.flow_retrans.specs.declared.request.Request.{Request}
 use Rattle.flow_retrans.specs.declared.request.Request.TheVariants as requests
 use Rattle.fixp_replies.specs.declared.facts.PeerFinish.TheVariants as peer
 use Rattle.fixp_replies.specs.Incoming.{application, session}
-use Rattle.fixp_replies.specs.Facts.{Around, is_own, receiving, requesting, serves, awaiting, gap_to_ask, having_asked, expected_number, message_number, live_number, finishes_exchanged, peer_last, awaits_gap}
+use Rattle.fixp_replies.specs.Facts.{Around, is_own, receiving, requesting, firm, serves, awaiting, gap_to_ask, having_asked, expected_number, message_number, live_number, finishes_exchanged, peer_last, awaits_gap}
 use Rattle.fixp_replies.specs.Outcomes.{Outcome, goes_on, accepts, ends, breaks, not_in_phase, skip_of, told_skip}
 use Rattle.fixp_replies.specs.Announcing.{Announced, jumped_over, announced, announcement_fault, refuses}
 use Rattle.fixp_replies.specs.Flowing.{bad_retransmission, counted, taken_as, peer_finished, answers_finish, is_filled, is_past_finish, sequence_follows, sequence_taken, restarted, finished_last, finish_fault, finished, is_last, application_rows, sequence_rows, retransmission_rows, retransmit_reject_rows, finished_sending_rows}
 use Rattle.fixp_replies.specs.Serving.{request_answered, own_finishing, retransmit_request_rows, finished_receiving_rows}
 use Rattle.fixp_replies.specs.Replies.{rows_of, answer_of}
+use Rattle.honest_ends.proofs.Older.{expected_most}
 use Rattle.fixp_machine.proofs.Rows.{by_row, all_rows, all_within}
 use Rattle.connection_laws.specs.Writing.{Piece, said, entry}
 use Rattle.two_ends.specs.Reading.{incoming_of}
@@ -54,19 +55,20 @@ terminated_fine A true code w e = absurd cc
 terminated_fine A false code w e = absurd cc
 
 -- a gap that is asked for ends at the live number
-asked_line : (f : Facts) (q : Request) → f.connection.requester ≡ q → Line f
+asked_line : (f : Facts) (soft : Bool) (q : Request) → f.connection.requester ≡ q → Line f
     → (b : Bool) → nat_lt f.connection.receiver.next f.connection.receiver.live ≡ b
-    → Line (having_asked f (if is_none (request_is.outstanding q) then (if b then Some (record { from = f.connection.receiver.next; count = f.connection.receiver.live - f.connection.receiver.next }) else None) else None))
-    × (to_come (having_asked f (if is_none (request_is.outstanding q) then (if b then Some (record { from = f.connection.receiver.next; count = f.connection.receiver.live - f.connection.receiver.next }) else None) else None)).connection.requester ≡ to_come f.connection.requester)
-asked_line f requests.Nothing e line true t =
+    → Line (having_asked f (if soft || is_some (request_is.outstanding q) then None else if b then Some (record { from = f.connection.receiver.next; count = f.connection.receiver.live - f.connection.receiver.next }) else None))
+    × (to_come (having_asked f (if soft || is_some (request_is.outstanding q) then None else if b then Some (record { from = f.connection.receiver.next; count = f.connection.receiver.live - f.connection.receiver.next }) else None)).connection.requester ≡ to_come f.connection.requester)
+asked_line f true q e line b t = (line, refl)
+asked_line f false requests.Nothing e line true t =
     let none : f.connection.receiver.again ≡ None = subst (λ (q : Request). Matches f.connection.receiver q) e line.matches in
     let low = line.low in
     (record { waits = line.waits; low = low; matches = (none, omega (arith, low)) }, sym (ap to_come e))
-asked_line f requests.Nothing e line false t = (line, refl)
-asked_line f (requests.Asked range) e line b t = (line, refl)
-asked_line f (requests.Coming range next left) e line b t = (line, refl)
+asked_line f false requests.Nothing e line false t = (line, refl)
+asked_line f false (requests.Asked range) e line b t = (line, refl)
+asked_line f false (requests.Coming range next left) e line b t = (line, refl)
 
-same_receiver : (f g : Facts) (least b : ℕ) (l : Option ℕ) → g.connection.receiver ≡ f.connection.receiver → g.connection.requester ≡ f.connection.requester → g.recorded.inbox_next ≡ f.recorded.inbox_next
+pub same_receiver : (f g : Facts) (least b : ℕ) (l : Option ℕ) → g.connection.receiver ≡ f.connection.receiver → g.connection.requester ≡ f.connection.requester → g.recorded.inbox_next ≡ f.recorded.inbox_next
     → Reaches f least b l → Reaches g least b l
 same_receiver f g least b l r q n h = record {
   line = record {
@@ -87,7 +89,7 @@ asked_receiver g (Some r) = (refl, refl)
 -- the connection goes on
 pub going : (x : Around) (A : Type 0) (f g : Facts) (act : Act) (written : List Message) (b : ℕ) (l : Option ℕ) → Reaches g f.recorded.inbox_next b l → Lined A f b l (goes_on x act written g)
 going x A f g act written b l h =
-    let a = asked_line g g.connection.requester refl h.line (nat_lt g.connection.receiver.next g.connection.receiver.live) refl in
+    let a = asked_line g g.connection.soft g.connection.requester refl h.line (nat_lt g.connection.receiver.next g.connection.receiver.live) refl in
     let same = asked_receiver g (gap_to_ask g) in
     record {
       fine = no_violation A;
@@ -254,15 +256,15 @@ sequenced_of flow e = ap (λ b. b || is_idempotent flow) e
 
 -- what an announcement makes of a reader of a recoverable flow
 pub announced_is : (x : Around) (f : Facts) (next : Option ℕ) → is_recoverable x.config.peer_flow ≡ true
-    → announced x f next ≡ record { facts = receiving f (receiver_is.announced f.connection.receiver (unwrap_or next 0)); skipped = None }
+    → announced x f next ≡ record { facts = firm (receiving f (receiver_is.announced f.connection.receiver (unwrap_or next 0))); skipped = None }
 announced_is x f next rec = by_flow (is_recoverable x.config.peer_flow) (is_idempotent x.config.peer_flow) rec
   where
     chosen : (r i : Bool) → Announced
-    chosen r i = if r then record { facts = receiving f (receiver_is.announced f.connection.receiver (unwrap_or next 0)); skipped = None }
+    chosen r i = if r then record { facts = firm (receiving f (receiver_is.announced f.connection.receiver (unwrap_or next 0))); skipped = None }
         else if i then record { facts = awaiting f (unwrap_or next 0); skipped = jumped_over f.recorded.inbox_next (unwrap_or next 0) }
         else record { facts = f; skipped = None }
 
-    by_flow : (r i : Bool) → r ≡ true → chosen r i ≡ record { facts = receiving f (receiver_is.announced f.connection.receiver (unwrap_or next 0)); skipped = None }
+    by_flow : (r i : Bool) → r ≡ true → chosen r i ≡ record { facts = firm (receiving f (receiver_is.announced f.connection.receiver (unwrap_or next 0))); skipped = None }
     by_flow true i e = refl
     by_flow false i e = absurd (true≢false (sym e))
 
@@ -343,8 +345,12 @@ sequence_lined x f next k = subst (λ (b : ℕ). Decides (Lined ⊤ f b None) (s
     enough = told_low x.config.peer_flow next f.connection.receiver.live (sequenced_of x.config.peer_flow k.recoverable) k.fits.0
 
     high : expected_number x g ≤ next
-    high = subst (λ (r : Bool). (if r then receiver_is.expected f.connection.receiver else f.recorded.inbox_next) ≤ next) (sym k.recoverable)
-        (let low = k.line.low in let fits = enough in omega (arith, low, fits))
+    high = omega (
+      arith,
+      expected_most x g,
+      subst (λ (r : Bool). (if r then receiver_is.expected f.connection.receiver else f.recorded.inbox_next) ≤ next) (sym k.recoverable)
+          (let low = k.line.low in let fits = enough in omega (arith, low, fits)),
+    )
 
     reached : Reaches (announced x g (Some next)).facts f.recorded.inbox_next next None
     reached =
@@ -521,7 +527,7 @@ pub announced_rests : (x : Around) (g : Facts) (next : Option ℕ) (b : ℕ) →
 announced_rests x g next b other idle stays moves = by_flow (is_recoverable x.config.peer_flow) (is_idempotent x.config.peer_flow) other stays moves
   where
     chosen : (r i : Bool) → Announced
-    chosen r i = if r then record { facts = receiving g (receiver_is.announced g.connection.receiver (unwrap_or next 0)); skipped = None }
+    chosen r i = if r then record { facts = firm (receiving g (receiver_is.announced g.connection.receiver (unwrap_or next 0))); skipped = None }
         else if i then record { facts = awaiting g (unwrap_or next 0); skipped = jumped_over g.recorded.inbox_next (unwrap_or next 0) }
         else record { facts = g; skipped = None }
 
@@ -566,7 +572,7 @@ sequence_rests x f next k = (
     low numbered = let t = told flow next f.recorded.inbox_next numbered in let top = k.top in omega (arith, t, top)
 
     high : is_sequenced flow ≡ true → expected_number x g ≤ next
-    high numbered = subst (λ (r : Bool). (if r then receiver_is.expected f.connection.receiver else f.recorded.inbox_next) ≤ next) (sym k.other) (told_low flow next f.recorded.inbox_next numbered k.fits.0)
+    high numbered = omega (arith, expected_most x g, subst (λ (r : Bool). (if r then receiver_is.expected f.connection.receiver else f.recorded.inbox_next) ≤ next) (sym k.other) (told_low flow next f.recorded.inbox_next numbered k.fits.0))
 
 passing_other : (x : Around) (A : Type 0) (f g : Facts) (act : Act) (written : List Message) → Idle f → g.connection.receiver ≡ f.connection.receiver → g.connection.requester ≡ f.connection.requester
     → g.recorded.inbox_next ≡ f.recorded.inbox_next → StaysOther A f (goes_on x act written g)

@@ -7,7 +7,7 @@ use Rattle.session_model.proofs.Lists.{all_append}
 use Rattle.fixp_msgs.specs.declared.numbering.Range.{Range}
 use Rattle.fixp_msgs.specs.Message.{Message, sequence, unsequenced_heartbeat, terminate, finished_sending}
 use Rattle.flow_idem.specs.Runs.{runs_of}
-use Rattle.fixp_machine.proofs.Accepted.{is_done}
+use Rattle.fixp_machine.proofs.Tests.{is_done}
 use Rattle.fixp_msgs.specs.declared.flow.Flow.{Flow}
 use Rattle.fixp_msgs.specs.declared.flow.Flow.TheVariants as flows
 use Rattle.fixp_shake.specs.declared.config.EndConfig.{EndConfig}

@@ -19,12 +19,14 @@ use Rattle.fixp_replies.specs.declared.act.Act.{Act}
 use Rattle.fixp_replies.specs.declared.act.Ending.{Ending}
 use Rattle.fixp_replies.specs.declared.act.Ending.TheVariants as endings
 use Rattle.fixp_replies.specs.declared.facts.Facts.{Facts}
-use Rattle.fixp_replies.specs.Facts.{Around, in_phase, negotiated as as_negotiated, having_asked, expected_number, finishes_exchanged, gap_to_ask, announced_number}
+use Rattle.fixp_replies.specs.Facts.{Around, in_phase, firm, negotiated as as_negotiated, having_asked, expected_number, finishes_exchanged, gap_to_ask, announced_number}
 use Rattle.fixp_replies.specs.Incoming.{session}
 use Rattle.fixp_replies.specs.Outcomes.{Outcome, Row, row, goes_on, rejects, ignores, ends_with, ends, not_in_phase, skip_of, told_skip, opening_negotiate, opening_establish}
 use Rattle.fixp_replies.specs.Announcing.{Announced, announced, announcement_fault, refuses, announcement_rows}
-use Rattle.fixp_replies.specs.Handshake.{awaits_client, serves_client, established, acknowledges, negotiate_rows, establish_rows, established_again_rows, negotiation_response_rows, negotiation_reject_rows, establishment_ack_rows, establishment_reject_rows}
+use Rattle.fixp_replies.specs.Handshake.{awaits_client, serves_client, established, acknowledges, negotiate_rows, establish_rows, established_again_rows, negotiation_response_rows, negotiation_reject_rows, establishment_ack_rows, reached, establishment_reject_rows}
 use Rattle.fixp_replies.specs.Replies.{reply_of, rows_of, answer_of, of_session, terminates, template_of}
+use Rattle.fixp_replies.specs.Expecting.{is_newer}
+use Rattle.honest_ends.proofs.Older.{acknowledges_so, reached_so, expected_most}
 use Rattle.fixp_machine.proofs.Rows.{AllRows, by_row, all_rows, all_within}
 use Rattle.fixp_machine.proofs.Tests.{some-none}
 use Rattle.connection_laws.specs.Writing.{Piece, said, entry}
@@ -34,7 +36,7 @@ use Rattle.honest_ends.specs.Numbers.{at_most, announces, live_after, left_after
 use Rattle.honest_ends.proofs.Replying.{asked_phase}
 use Rattle.honest_ends.proofs.PhaseOpening.{asks_none}
 use Rattle.honest_ends.proofs.Moving.{not_over}
-use Rattle.honest_ends.proofs.Lining.{going as goes_lined, rests, announced_is, announced_rests, number_fault, not_less, other_sequenced, sequenced_of}
+use Rattle.honest_ends.proofs.Lining.{going as goes_lined, rests, announced_is, announced_rests, same_receiver, number_fault, not_less, other_sequenced, sequenced_of}
 use Rattle.honest_ends.specs.Numbered.{next_live}
 use Rattle.honest_ends.specs.NumberLaws.{NoNumber}
 use Rattle.honest_ends.proofs.Awaiting.{not_number, Moves, lined_moves, other_moves, live_is}
@@ -112,7 +114,7 @@ live_untold : (x : Around) (m : Message) (next : Option ℕ) (b : ℕ) → Tells
 live_untold x m next b t numbered = ap (λ (o : Option ℕ). unwrap_or o b) t.told ∙ ap (λ s. unwrap_or (if s then next else None) b) numbered
 
 expected_low : (x : Around) (f : Facts) → (is_recoverable x.config.peer_flow ≡ true → Line f) → expected_number x f ≤ next_live x.config f
-expected_low x f line = by_flow (is_recoverable x.config.peer_flow) (λ e. (line e).low)
+expected_low x f line = omega (arith, expected_most x f, by_flow (is_recoverable x.config.peer_flow) (λ e. (line e).low))
   where
     by_flow : (b : Bool) → (b ≡ true → f.connection.receiver.next ≤ f.connection.receiver.live)
         → (if b then receiver_is.expected f.connection.receiver else f.recorded.inbox_next) ≤ (if b then f.connection.receiver.live else f.recorded.inbox_next)
@@ -146,15 +148,19 @@ some_told flow m next t some = ap (λ (o : Option ℕ). is_some o) t.told ∙ by
     by_flow true h = h refl
     by_flow false h = refl
 
-taking : (x : Around) (f : Facts) (m : Message) (next : Option ℕ) (act : Act) (written : List Message) (interval : ℕ) → Unheard x f (said m) → Tells x.config.peer_flow m next
-    → (is_sequenced x.config.peer_flow ≡ true → is_some next ≡ true) → Opens x.config f (said m) (goes_on x act written (established (announced x f next).facts interval))
-taking x f m next act written interval u t some = by_flow (is_recoverable x.config.peer_flow) refl
+-- the handshake is done, and of these facts nothing else has changed that the flow rests on
+record IsDone (f g : Facts) : Type 0 where
+  shaken : is_shaken g.connection.phase ≡ true
+  receiver : g.connection.receiver ≡ f.connection.receiver
+  requester : g.connection.requester ≡ f.connection.requester
+  inbox_next : g.recorded.inbox_next ≡ f.recorded.inbox_next
+
+taking : (x : Around) (f : Facts) (m : Message) (next : Option ℕ) (act : Act) (written : List Message) (g : Facts) → IsDone (announced x f next).facts g → Unheard x f (said m) → Tells x.config.peer_flow m next
+    → (is_sequenced x.config.peer_flow ≡ true → is_some next ≡ true) → Opens x.config f (said m) (goes_on x act written g)
+taking x f m next act written g d u t some = by_flow (is_recoverable x.config.peer_flow) refl
   where
     flow : Flow
     flow = x.config.peer_flow
-
-    g : Facts
-    g = established (announced x f next).facts interval
 
     o : Outcome
     o = goes_on x act written g
@@ -163,7 +169,7 @@ taking x f m next act written interval u t some = by_flow (is_recoverable x.conf
     no_left = ap to_come u.idle.none
 
     shaken_then : is_shaken o.next.connection.phase ≡ true
-    shaken_then = ap (λ k. is_shaken k) (asked_phase g (gap_to_ask g))
+    shaken_then = ap (λ k. is_shaken k) (asked_phase g (gap_to_ask g)) ∙ d.shaken
 
     opens : Moves x.config (said m) f o.next → Opens x.config f (said m) o
     opens v = record { fine = λ w e. absurd cc; over = λ e. not_over {A = Ending} None refl e; next = λ _. done shaken_then (some_told flow m next t some) v }
@@ -175,7 +181,8 @@ taking x f m next act written interval u t some = by_flow (is_recoverable x.conf
         let same = live_is x.config f rec in
         let line = u.line rec in
         let below = line.low in
-        subst (λ (a : Announced). Reaches (established a.facts interval) f.recorded.inbox_next (unwrap_or next 0) None) (sym (announced_is x f next rec))
+        same_receiver (announced x f next).facts g f.recorded.inbox_next (unwrap_or next 0) None d.receiver d.requester d.inbox_next
+        (subst (λ (a : Announced). Reaches a.facts f.recorded.inbox_next (unwrap_or next 0) None) (sym (announced_is x f next rec))
         (record {
           line = record {
             waits = line.waits;
@@ -185,7 +192,7 @@ taking x f m next act written interval u t some = by_flow (is_recoverable x.conf
           rises = omega arith;
           live = refl;
           left = no_left;
-        })
+        }))
 
     lined : is_recoverable flow ≡ true → Lined ⊤ f (live_after flow (said m) f.connection.receiver.live (to_come f.connection.requester)) (left_after (said m) (to_come f.connection.requester)) o
     lined rec =
@@ -198,7 +205,7 @@ taking x f m next act written interval u t some = by_flow (is_recoverable x.conf
         let r = announced_rests x f next (live_after flow (said m) f.recorded.inbox_next None) other u.idle
         (λ e. sym (live_untold x m next f.recorded.inbox_next t (other_sequenced flow false other e)))
         (λ e. let numbered = other_sequenced flow true other e in sym (live_told x f m next f.recorded.inbox_next t numbered (some numbered))) in
-        record { idle = record { even = r.idle.even; none = r.idle.none }; next = r.next }
+        record { idle = record { even = ap (λ k. receiver_is.gap k) d.receiver ∙ r.idle.even; none = d.requester ∙ r.idle.none }; next = d.inbox_next ∙ r.next }
 
     by_flow : (b : Bool) → is_recoverable flow ≡ b → Opens x.config f (said m) o
     by_flow true rec = opens (lined_moves x f (said m) ⊤ o rec (lined rec) refl)
@@ -234,8 +241,8 @@ choosing P false true first second p q = q refl
 choosing P false false first second p q = tt
 
 -- all rows of all messages
-session_opens : (x : Around) (f : Facts) (m : Message) → Unheard x f (said m) → AllRows (Opens x.config f (said m)) (rows_of x f (session m))
-session_opens x f (negotiate id timestamp flow credentials) u =
+session_opens : (x : Around) (f : Facts) (m : Message) → is_newer x.config ≡ false → Unheard x f (said m) → AllRows (Opens x.config f (said m)) (rows_of x f (session m))
+session_opens x f (negotiate id timestamp flow credentials) old u =
     let p = said (negotiate id timestamp flow credentials) in
     all_within (Opens x.config f p) (awaits_client x f) (negotiate_rows x f id timestamp flow credentials) (λ _. (
       λ _. rejecting x f p _ u.before refl,
@@ -250,74 +257,78 @@ session_opens x f (negotiate id timestamp flow credentials) u =
         ),
       ),
     ))
-session_opens x f (negotiation_response id timestamp flow credentials) u =
+session_opens x f (negotiation_response id timestamp flow credentials) old u =
     let p = said (negotiation_response id timestamp flow credentials) in
     in_session x f p 2 id _ (all_within (Opens x.config f p) (is_negotiating f.connection.phase) (negotiation_response_rows x f flow) (λ _. (
       λ _. breaking x f p 2 (OtherSession 2) tt,
       λ _. (λ _. keeping x f (in_phase (as_negotiated f) phases.Establishing) p _ (opening_establish x f ∷ []) u.idle refl refl refl refl refl, λ _. tt),
     )))
-session_opens x f (negotiation_reject id timestamp code reason) u =
+session_opens x f (negotiation_reject id timestamp code reason) old u =
     let p = said (negotiation_reject id timestamp code reason) in
     in_session x f p 3 id _ (all_within (Opens x.config f p) (is_negotiating f.connection.phase) (negotiation_reject_rows x f code) (λ _. (
       λ _. keeping x f (in_phase (as_negotiated f) phases.Establishing) p _ (opening_establish x f ∷ []) u.idle refl refl refl refl refl,
       λ _. (λ _. ending x f p [] (endings.Rejected 3 code) (rejected_fine 3 code), λ _. tt),
     )))
-session_opens x f (establish id timestamp keepalive next expected credentials) u =
+session_opens x f (establish id timestamp keepalive next expected credentials) old u =
     let m = establish id timestamp keepalive next expected credentials in
     let p = said m in
-    choosing (Opens x.config f p) (awaits_client x f) (serves_client x f) (establish_rows x f id timestamp keepalive next credentials) (established_again_rows x f id timestamp)
+    choosing (Opens x.config f p) (awaits_client x f) (serves_client x f) (establish_rows x f id timestamp keepalive next expected credentials) (established_again_rows x f id timestamp)
     (λ _. (
       λ _. rejecting x f p _ u.before refl,
       λ _. (
         λ _. rejecting x f p _ u.before refl,
         λ _. (
           λ _. rejecting x f p _ u.before refl,
-          λ _. announcing x f m 4 next (acknowledges x timestamp keepalive) u (record { told = refl; none = refl; plain = λ q. tt })
-              (λ some. taking x f m next _ (establishment_ack x.config.session timestamp x.config.keepalive (announced_number x (announced x f next).facts) expects.Absent ∷ told_skip (announced x f next).skipped) keepalive u (record { told = refl; none = refl; plain = λ q. tt }) some),
+          λ _. announcing x f m 4 next (acknowledges x timestamp keepalive expected) u (record { told = refl; none = refl; plain = λ q. tt })
+              (λ some. subst (Opens x.config f p) (sym (acknowledges_so x timestamp keepalive expected (announced x f next) old))
+              (taking x f m next _ (establishment_ack x.config.session timestamp x.config.keepalive (announced_number x (announced x f next).facts) expects.Absent ∷ told_skip (announced x f next).skipped)
+              (established (firm (announced x f next).facts) keepalive) (record { shaken = refl; receiver = refl; requester = refl; inbox_next = refl }) u (record { told = refl; none = refl; plain = λ q. tt }) some)),
         ),
       ),
     ))
     (λ _. (λ _. rejecting x f p _ u.before refl, λ _. (λ _. rejecting x f p _ u.before refl, λ _. tt)))
-session_opens x f (establishment_ack id timestamp keepalive next expected) u =
+session_opens x f (establishment_ack id timestamp keepalive next expected) old u =
     let m = establishment_ack id timestamp keepalive next expected in
     let p = said m in
-    in_session x f p 5 id _ (all_within (Opens x.config f p) (is_establishing f.connection.phase) (establishment_ack_rows x f keepalive next) (λ _.
-    announcing x f m 5 next (λ (a : Announced). goes_on x (skip_of a.skipped) (told_skip a.skipped) (established a.facts (min 60000 (max 100 keepalive)))) u (record { told = refl; none = refl; plain = λ q. tt })
-    (λ some. taking x f m next _ (told_skip (announced x f next).skipped) (min 60000 (max 100 keepalive)) u (record { told = refl; none = refl; plain = λ q. tt }) some)))
-session_opens x f (establishment_reject id timestamp code reason) u =
+    in_session x f p 5 id _ (all_within (Opens x.config f p) (is_establishing f.connection.phase) (establishment_ack_rows x f keepalive next expected) (λ _.
+    announcing x f m 5 next (reached x keepalive expected) u (record { told = refl; none = refl; plain = λ q. tt })
+    (λ some. subst (Opens x.config f p) (sym (reached_so x keepalive expected (announced x f next) old))
+    (taking x f m next _ (told_skip (announced x f next).skipped) (established (announced x f next).facts (min 60000 (max 100 keepalive)))
+    (record { shaken = refl; receiver = refl; requester = refl; inbox_next = refl }) u (record { told = refl; none = refl; plain = λ q. tt }) some))))
+session_opens x f (establishment_reject id timestamp code reason) old u =
     let p = said (establishment_reject id timestamp code reason) in
     in_session x f p 6 id _ (all_within (Opens x.config f p) (is_establishing f.connection.phase) (establishment_reject_rows x f code) (λ _. (
       λ _. keeping x f (in_phase f phases.Negotiating) p _ (opening_negotiate x ∷ []) u.idle refl refl refl refl refl,
       λ _. (λ _. ending x f p [] (endings.Rejected 6 code) (rejected_fine 6 code), λ _. tt),
     )))
-session_opens x f (sequence next) u = not_yet (Opens x.config f (said (sequence next))) f _ u.before
-session_opens x f unsequenced_heartbeat u = (λ _. keeping x f f (said unsequenced_heartbeat) _ [] u.idle u.before refl refl refl refl, λ _. tt)
-session_opens x f (retransmit_request id timestamp first count) u = not_yet (Opens x.config f (said (retransmit_request id timestamp first count))) f _ u.before
-session_opens x f (retransmission id next timestamp count) u =
+session_opens x f (sequence next) old u = not_yet (Opens x.config f (said (sequence next))) f _ u.before
+session_opens x f unsequenced_heartbeat old u = (λ _. keeping x f f (said unsequenced_heartbeat) _ [] u.idle u.before refl refl refl refl, λ _. tt)
+session_opens x f (retransmit_request id timestamp first count) old u = not_yet (Opens x.config f (said (retransmit_request id timestamp first count))) f _ u.before
+session_opens x f (retransmission id next timestamp count) old u =
     let p = said (retransmission id next timestamp count) in in_session x f p 10 id _ (not_yet (Opens x.config f p) f _ u.before)
-session_opens x f (retransmit_reject id timestamp code reason) u =
+session_opens x f (retransmit_reject id timestamp code reason) old u =
     let p = said (retransmit_reject id timestamp code reason) in in_session x f p 11 id _ (not_yet (Opens x.config f p) f _ u.before)
-session_opens x f (applied first count) u = (λ _. keeping x f f (said (applied first count)) _ [] u.idle u.before refl refl refl refl, λ _. tt)
-session_opens x f (not_applied first count) u =
+session_opens x f (applied first count) old u = (λ _. keeping x f f (said (applied first count)) _ [] u.idle u.before refl refl refl refl, λ _. tt)
+session_opens x f (not_applied first count) old u =
     let p = said (not_applied first count) in
     (λ _. keeping x f f p _ [] u.idle u.before refl refl refl refl, λ _. (λ _. keeping x f f p _ [] u.idle u.before refl refl refl refl, λ _. tt))
-session_opens x f (finished_sending id last) u = let p = said (finished_sending id last) in in_session x f p 14 id _ (not_yet (Opens x.config f p) f _ u.before)
-session_opens x f (finished_receiving id) u = let p = said (finished_receiving id) in in_session x f p 15 id _ (not_yet (Opens x.config f p) f _ u.before)
-session_opens x f (terminate id code reason) u =
+session_opens x f (finished_sending id last) old u = let p = said (finished_sending id last) in in_session x f p 14 id _ (not_yet (Opens x.config f p) f _ u.before)
+session_opens x f (finished_receiving id) old u = let p = said (finished_receiving id) in in_session x f p 15 id _ (not_yet (Opens x.config f p) f _ u.before)
+session_opens x f (terminate id code reason) old u =
     let p = said (terminate id code reason) in in_session x f p 16 id (row true (ends x f 1 (endings.PeerTerminated code)) ∷ []) (λ _. ending x f p _ (endings.PeerTerminated code) (terminated_fine code), λ _. tt)
 
-rows_open : (x : Around) (f : Facts) (p : Piece) → Unheard x f p → AllRows (Opens x.config f p) (rows_of x f (incoming_of p))
-rows_open x f (said m) u = session_opens x f m u
-rows_open x f (entry payload) u = not_yet (Opens x.config f (entry payload)) f _ u.before
+rows_open : (x : Around) (f : Facts) (p : Piece) → is_newer x.config ≡ false → Unheard x f p → AllRows (Opens x.config f p) (rows_of x f (incoming_of p))
+rows_open x f (said m) old u = session_opens x f m old u
+rows_open x f (entry payload) old u = not_yet (Opens x.config f (entry payload)) f _ u.before
 
 -- the reply to a message before the handshake is done
-pub opening_reply : (x : Around) (f : Facts) (p : Piece) → is_shaken f.connection.phase ≡ false → Idle f → (is_recoverable x.config.peer_flow ≡ true → Line f)
+pub opening_reply : (x : Around) (f : Facts) (p : Piece) → is_newer x.config ≡ false → is_shaken f.connection.phase ≡ false → Idle f → (is_recoverable x.config.peer_flow ≡ true → Line f)
     → Fits x.config.peer_flow p (at_most (next_live x.config f)) None → live_after x.config.peer_flow p (next_live x.config f) None ≤ x.most + 1 → Opens x.config f p (reply_of x f (incoming_of p))
-opening_reply x f p before idle line fits top =
+opening_reply x f p old before idle line fits top =
     by_row (Opens x.config f p) (is_closing f.connection.phase && not (terminates x (incoming_of p))) (ignores f) (answer_of x f (incoming_of p))
     (λ e. absurd (closes (is_established f.connection.phase) (is_closing f.connection.phase) (not (terminates x (incoming_of p))) before e))
     (λ _. all_rows (Opens x.config f p) (not_in_phase x f (template_of (incoming_of p))) (rows_of x f (incoming_of p)) (breaking x f p 2 _ tt)
-    (rows_open x f p (record { before = before; idle = idle; line = line; fits = fits; top = top })))
+    (rows_open x f p old (record { before = before; idle = idle; line = line; fits = fits; top = top })))
   where
     closes : (a b c : Bool) → (a || b) ≡ false → (b && c) ≡ true → ⊥
     closes true b c n e = true≢false n

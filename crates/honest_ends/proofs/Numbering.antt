@@ -18,6 +18,8 @@ use Rattle.connection_laws.specs.Writing.{Piece, said_all}
 use Rattle.connection_laws.specs.Standing.{IsOpen, MayStand}
 use Rattle.two_ends.specs.Reading.{incoming_of}
 use Rattle.fixp_shake.specs.Flows.{is_recoverable}
+use Rattle.fixp_replies.specs.Expecting.{is_newer}
+use Rattle.honest_ends.proofs.Older.{older_initiator, older_acceptor}
 use Rattle.honest_ends.proofs.PhaseOpening.{Quiet}
 use Rattle.honest_ends.specs.PhaseLaws.{IsOfTime, EndsBy}
 use Rattle.honest_ends.specs.Numbers.{exactly, Runs, served, Answers, IsFlowing, to_come, Peer}
@@ -73,16 +75,16 @@ time_fine : (v : Violation) → IsOfTime v → NoNumber v
 time_fine = each_of_time NoNumber (λ last now. tt) (λ start now. tt)
 
 -- an end reads the first message under way to it: both flows are as they have to be, and it breaks no rule of numbers
-end_reads : (own theirs : List Entry) (s other : State) (p : Piece) (left outgoing : List Piece) (at now : ℕ) → Peer s.config other.config → other.config.peer_flow ≡ s.config.own_flow
+end_reads : (own theirs : List Entry) (s other : State) (p : Piece) (left outgoing : List Piece) (at now : ℕ) → is_newer s.config ≡ false → Peer s.config other.config → other.config.peer_flow ≡ s.config.own_flow
     → (is_shaken s.facts.connection.phase ≡ true → IsFlowing other.config p) → s.ending ≡ None → Requests other.facts s.facts s.ending (p ∷ left) outgoing → Flowing own s other outgoing (p ∷ left) → Flowing theirs other s (p ∷ left) outgoing
     → Flowing own (run s (reading p at now)) other (outgoing ++ written s (reading p at now)) left × Flowing theirs other (run s (reading p at now)) left (outgoing ++ written s (reading p at now)) × EndsBy NoNumber (run s (reading p at now))
-end_reads own theirs s other p left outgoing at now peer flow flows going asked out home =
+end_reads own theirs s other p left outgoing at now old peer flow flows going asked out home =
     let x = around s at now in
     let o : Outcome = reply_of x s.facts (incoming_of p) in
     let rd = reads_as s p at now in
-    let r = reader_replies theirs other.facts x s.facts other.config p left outgoing peer flows asked.once (going_on theirs other.facts s.config s.most s.facts s.ending (p ∷ left) outgoing going home) in (
+    let r = reader_replies theirs other.facts x s.facts other.config p left outgoing old peer flows asked.once (going_on theirs other.facts s.config s.most s.facts s.ending (p ∷ left) outgoing going home) in (
       written_by own s (run s (reading p at now)) o other.config other.most other.facts other.ending outgoing left (written s (reading p at now)) rd
-          (writer_replies own x s.facts other.config other.config other.most other.facts other.ending p outgoing left peer flows flow out),
+          (writer_replies own x s.facts other.config other.config other.most other.facts other.ending p outgoing left old peer flows flow out),
       read_by theirs other.facts s (run s (reading p at now)) o left outgoing (written s (reading p at now)) rd r.0,
       λ v is. r.1 v (sym rd.ending ∙ is),
     )
@@ -94,7 +96,7 @@ initiator_reading hi ha w (p ∷ left) at now e n going h =
     let m = n.holds.matches in
     let flows : is_shaken s.facts.connection.phase ≡ true → IsFlowing w.acceptor.config p = λ shaken.
     (subst (λ (ps : List Piece). AllByRecursion (IsFlowing w.acceptor.config) ps) e (initiator_flows s.config w.acceptor.config s.facts s.ending w.acceptor.facts w.outward w.homeward n.holds.shaking shaken)).0 in
-    let r = end_reads hi ha s w.acceptor p left w.outward at now (to_initiator s.config w.acceptor.config m) m.outward flows going.going
+    let r = end_reads hi ha s w.acceptor p left w.outward at now (older_initiator s.config w.acceptor.config m) (to_initiator s.config w.acceptor.config m) m.outward flows going.going
     (subst (λ (ps : List Piece). Requests w.acceptor.facts s.facts s.ending ps w.outward) e n.holds.homeward_requests)
     (subst (λ (ps : List Piece). Flowing hi s w.acceptor w.outward ps) e n.outward) (subst (λ (ps : List Piece). Flowing ha w.acceptor s ps w.outward) e n.homeward) in
     record { holds = h; outward = r.0; homeward = r.1; initiator = r.2; acceptor = n.acceptor }
@@ -106,7 +108,7 @@ acceptor_reading hi ha w (p ∷ left) at now e n going h =
     let m = n.holds.matches in
     let flows : is_shaken s.facts.connection.phase ≡ true → IsFlowing w.initiator.config p = λ shaken.
     (subst (λ (ps : List Piece). AllByRecursion (IsFlowing w.initiator.config) ps) e (acceptor_flows w.initiator.config s.config w.initiator.facts w.initiator.ending s.facts w.outward w.homeward n.holds.shaking shaken)).0 in
-    let r = end_reads ha hi s w.initiator p left w.homeward at now (to_acceptor w.initiator.config s.config m) m.homeward flows going.going
+    let r = end_reads ha hi s w.initiator p left w.homeward at now (older_acceptor w.initiator.config s.config m) (to_acceptor w.initiator.config s.config m) m.homeward flows going.going
     (subst (λ (ps : List Piece). Requests w.initiator.facts s.facts s.ending ps w.homeward) e n.holds.outward_requests)
     (subst (λ (ps : List Piece). Flowing ha s w.initiator w.homeward ps) e n.homeward) (subst (λ (ps : List Piece). Flowing hi w.initiator s ps w.homeward) e n.outward) in
     record { holds = h; outward = r.1; homeward = r.0; initiator = n.initiator; acceptor = r.2 }

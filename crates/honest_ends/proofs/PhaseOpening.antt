@@ -19,12 +19,14 @@ use Rattle.fixp_shake.specs.Phases.{is_negotiating, is_establishing, is_closing,
 use Rattle.fixp_replies.specs.declared.act.Act.{Act}
 use Rattle.fixp_replies.specs.declared.act.Act.TheVariants as acts
 use Rattle.fixp_replies.specs.declared.facts.Facts.{Facts}
-use Rattle.fixp_replies.specs.Facts.{Around, is_own, in_phase, negotiated as as_negotiated, gap_to_ask, having_asked, finishes_exchanged}
+use Rattle.fixp_replies.specs.Facts.{Around, is_own, in_phase, firm, negotiated as as_negotiated, gap_to_ask, having_asked, finishes_exchanged}
 use Rattle.fixp_replies.specs.Incoming.{Incoming, session}
 use Rattle.fixp_replies.specs.Outcomes.{Outcome, Row, goes_on, accepts, ignores, request_for, skip_of, told_skip, opening_negotiate, opening_establish}
 use Rattle.fixp_replies.specs.Announcing.{Announced, announced, announcement_fault, refuses}
-use Rattle.fixp_replies.specs.Handshake.{awaits_client, established, acknowledges, negotiate_rows, establish_rows, shaken, negotiation_response_rows, negotiation_reject_rows, establishment_ack_rows, establishment_reject_rows}
+use Rattle.fixp_replies.specs.Handshake.{awaits_client, established, acknowledges, negotiate_rows, establish_rows, shaken, negotiation_response_rows, negotiation_reject_rows, establishment_ack_rows, reached, establishment_reject_rows}
 use Rattle.fixp_replies.specs.Replies.{reply_of, answer_of, terminates}
+use Rattle.fixp_replies.specs.Expecting.{is_newer}
+use Rattle.honest_ends.proofs.Older.{acknowledges_so, reached_so}
 use Rattle.fixp_machine.proofs.Rows.{by_row}
 use Rattle.connection_laws.specs.Writing.{Piece, said, entry, said_all}
 use Rattle.two_ends.specs.Reading.{incoming_of}
@@ -40,11 +42,12 @@ pub record Quiet (f : Facts) : Type 0 where
   pub free : f.connection.serving ≡ None
 
 pub asks_none : (f : Facts) → receiver_is.gap f.connection.receiver ≡ None → gap_to_ask f ≡ None
-asks_none f e = by_test (is_none (request_is.outstanding f.connection.requester))
+asks_none f e = by_tests f.connection.soft (is_some (request_is.outstanding f.connection.requester))
   where
-    by_test : (b : Bool) → (if b then receiver_is.gap f.connection.receiver else None) ≡ None
-    by_test true = e
-    by_test false = refl
+    by_tests : (a b : Bool) → (if a || b then None else receiver_is.gap f.connection.receiver) ≡ None
+    by_tests false false = e
+    by_tests false true = refl
+    by_tests true b = refl
 
 pub quiet_same : (f g : Facts) → g.connection ≡ f.connection → Quiet f → Quiet g
 quiet_same f g e q = record { even = ap (λ c. receiver_is.gap c.receiver) e ∙ q.even; free = ap (λ c. c.serving) e ∙ q.free }
@@ -151,14 +154,14 @@ in_range k low high = grind (arith, nat_tests)
 
 establish_asked : (x : Around) (f : Facts) (theirs : EndConfig) (id : List ℕ) (timestamp keepalive : ℕ) (next : Option ℕ) (expected : Expected) (credentials : List ℕ)
     → Peer x.config theirs → theirs.credentials ≡ x.config.credentials → (100 ≤ theirs.keepalive) × (theirs.keepalive ≤ 60000) → Quiet f
-    → IsAsk theirs phases.Establishing (said (establish id timestamp keepalive next expected credentials)) → Decides (Asked x.config phases.Establishing f) (establish_rows x f id timestamp keepalive next credentials)
-establish_asked x f theirs id timestamp keepalive next expected credentials are same range quiet asks = (
+    → IsAsk theirs phases.Establishing (said (establish id timestamp keepalive next expected credentials)) → is_newer x.config ≡ false → Decides (Asked x.config phases.Establishing f) (establish_rows x f id timestamp keepalive next expected credentials)
+establish_asked x f theirs id timestamp keepalive next expected credentials are same range quiet asks old = (
   λ _. answers refl quiet (inl ((asks.0 ∙ are.session, refl), tt)) none_left,
   λ _. (
     λ out. absurd (true≢false (sym out ∙ in_range keepalive (subst (λ (k : ℕ). 100 ≤ k) (sym asks.1) range.0) (subst (λ (k : ℕ). k ≤ 60000) (sym asks.1) range.1))),
     λ _. (
       λ n. never (bytes_eq credentials x.config.credentials) (same_bytes credentials x.config.credentials (asks.3 ∙ same)) n,
-      λ _. announced_decides (Asked x.config phases.Establishing f) x f 4 next (acknowledges x timestamp keepalive)
+      λ _. announced_decides (Asked x.config phases.Establishing f) x f 4 next (acknowledges x timestamp keepalive expected)
           (λ some. refused (announcement_fault x f 4 next) (fault_left x f 4 next (λ n. asks.2 (ap (λ k. is_sequenced k) (sym are.flow) ∙ n))))
           (acknowledging (announced x f next)),
     ),
@@ -169,12 +172,12 @@ establish_asked x f theirs id timestamp keepalive next expected credentials are 
     refused None h = answers refl quiet tt none_left
     refused (Some v) h = answers refl quiet (inr (refl, tt)) (λ w e. ended_by IsLeft (finishes_exchanged x f) v w e (h v refl))
 
-    acknowledging : (a : Announced) → Asked x.config phases.Establishing f (acknowledges x timestamp keepalive a)
+    acknowledging : (a : Announced) → Asked x.config phases.Establishing f (acknowledges x timestamp keepalive expected a)
     acknowledging a =
-        let g : Facts = established a.facts keepalive in
-        acknowledged refl (asked_phase g (gap_to_ask g))
+        let g : Facts = established (firm a.facts) keepalive in
+        subst (Asked x.config phases.Establishing f) (sym (acknowledges_so x timestamp keepalive expected a old)) (acknowledged refl (asked_phase g (gap_to_ask g))
         (inl ((refl, λ n. number_given (is_sequenced x.config.own_flow) (a.facts.recorded.sent + 1) n), asked_flows x (told_skip a.skipped) (gap_to_ask g) (skip_flows x.config a.skipped)))
-        none_left
+        none_left)
 
 decides_first : (P : Outcome → Type 0) (b : Bool) (first second : List Row) → b ≡ true → Decides P first → Decides P (if b then first else second)
 decides_first P true first second e d = d
@@ -182,15 +185,15 @@ decides_first P false first second e d = absurd (true≢false (sym e))
 
 -- an acceptor that waits for its client reads what this asks for
 pub ask_reply : (x : Around) (f : Facts) (theirs : EndConfig) (ph : Phase) (p : Piece) → Peer x.config theirs → theirs.credentials ≡ x.config.credentials
-    → (100 ≤ theirs.keepalive) × (theirs.keepalive ≤ 60000) → awaits_client x f ≡ true → is_shaken f.connection.phase ≡ false → Quiet f → IsAsk theirs ph p → Asked x.config ph f (reply_of x f (incoming_of p))
-ask_reply x f theirs phases.Negotiating (said (negotiate id timestamp flow credentials)) are same range waits before quiet asks =
+    → (100 ≤ theirs.keepalive) × (theirs.keepalive ≤ 60000) → awaits_client x f ≡ true → is_shaken f.connection.phase ≡ false → Quiet f → IsAsk theirs ph p → is_newer x.config ≡ false → Asked x.config ph f (reply_of x f (incoming_of p))
+ask_reply x f theirs phases.Negotiating (said (negotiate id timestamp flow credentials)) are same range waits before quiet asks old =
     open_before (Asked x.config phases.Negotiating f) x f (session (negotiate id timestamp flow credentials)) before (heard (Asked x.config phases.Negotiating f) x f (session (negotiate id timestamp flow credentials))
     (decides_within (Asked x.config phases.Negotiating f) (awaits_client x f) (negotiate_rows x f id timestamp flow credentials) waits (negotiate_asked x f theirs id timestamp flow credentials are same quiet asks)))
-ask_reply x f theirs phases.Establishing (said (establish id timestamp keepalive next expected credentials)) are same range waits before quiet asks =
+ask_reply x f theirs phases.Establishing (said (establish id timestamp keepalive next expected credentials)) are same range waits before quiet asks old =
     open_before (Asked x.config phases.Establishing f) x f (session (establish id timestamp keepalive next expected credentials)) before (heard (Asked x.config phases.Establishing f) x f (session (establish id timestamp keepalive next expected credentials))
-    (decides_first (Asked x.config phases.Establishing f) (awaits_client x f) (establish_rows x f id timestamp keepalive next credentials) _ waits
-    (establish_asked x f theirs id timestamp keepalive next expected credentials are same range quiet asks)))
-ask_reply x f theirs _ _ are same range waits before quiet asks = absurd asks
+    (decides_first (Asked x.config phases.Establishing f) (awaits_client x f) (establish_rows x f id timestamp keepalive next expected credentials) _ waits
+    (establish_asked x f theirs id timestamp keepalive next expected credentials are same range quiet asks old)))
+ask_reply x f theirs _ _ are same range waits before quiet asks old = absurd asks
 
 -- what an initiator makes of an answer: it asks again, in this phase
 pub record AsksAgain (cfg : EndConfig) (o : Outcome) : Type 0 where
@@ -251,15 +254,15 @@ pub data Acknowledged (cfg : EndConfig) (f : Facts) (o : Outcome) : Type 0 where
   stands : o.next.connection.phase ≡ phases.Established → AllByRecursion (IsFlowing cfg) (said_all o.written) → Left o → Acknowledged cfg f o
   lost : IsSome o.ending → o.next ≡ f → AllByRecursion (IsFree cfg) (said_all o.written) → Left o → Acknowledged cfg f o
 
-pub ack_reply : (x : Around) (f : Facts) (theirs : EndConfig) (p : Piece) → Peer x.config theirs → f.connection.phase ≡ phases.Establishing → is_shaken f.connection.phase ≡ false → IsAck theirs p
+pub ack_reply : (x : Around) (f : Facts) (theirs : EndConfig) (p : Piece) → Peer x.config theirs → f.connection.phase ≡ phases.Establishing → is_shaken f.connection.phase ≡ false → IsAck theirs p → is_newer x.config ≡ false
     → Acknowledged x.config f (reply_of x f (incoming_of p))
-ack_reply x f theirs (said (establishment_ack id timestamp keepalive next expected)) are is before ack =
+ack_reply x f theirs (said (establishment_ack id timestamp keepalive next expected)) are is before ack old =
     open_before (Acknowledged x.config f) x f (session (establishment_ack id timestamp keepalive next expected)) before (heard (Acknowledged x.config f) x f (session (establishment_ack id timestamp keepalive next expected)) (
       foreign x id (ack.0 ∙ are.session),
-      λ _. (decides_within (Acknowledged x.config f) (is_establishing f.connection.phase) (establishment_ack_rows x f keepalive next) (is_it_establishing f.connection.phase is)
-          (announced_decides (Acknowledged x.config f) x f 5 next (λ (a : Announced). goes_on x (skip_of a.skipped) (told_skip a.skipped) (established a.facts (min 60000 (max 100 keepalive))))
+      λ _. (decides_within (Acknowledged x.config f) (is_establishing f.connection.phase) (establishment_ack_rows x f keepalive next expected) (is_it_establishing f.connection.phase is)
+          (announced_decides (Acknowledged x.config f) x f 5 next (reached x keepalive expected)
           (λ some. refused (announcement_fault x f 5 next) some (fault_left x f 5 next (λ n. ack.1 (ap (λ k. is_sequenced k) (sym are.flow) ∙ n))))
-          (standing (announced x f next) (min 60000 (max 100 keepalive))))),
+          (subst (Acknowledged x.config f) (sym (reached_so x keepalive expected (announced x f next) old)) (standing (announced x f next) (min 60000 (max 100 keepalive)))))),
     ))
   where
     refused : (v : Option Violation) → is_some v ≡ true → ((w : Violation) → v ≡ Some w → IsLeft w) → Acknowledged x.config f (refuses x f v)
@@ -270,4 +273,4 @@ ack_reply x f theirs (said (establishment_ack id timestamp keepalive next expect
     standing a interval =
         let g : Facts = established a.facts interval in
         stands (asked_phase g (gap_to_ask g)) (asked_flows x (told_skip a.skipped) (gap_to_ask g) (skip_flows x.config a.skipped)) none_left
-ack_reply x f theirs _ are is before ack = absurd ack
+ack_reply x f theirs _ are is before ack old = absurd ack

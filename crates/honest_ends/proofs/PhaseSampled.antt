@@ -5,7 +5,7 @@ use Rattle.honest_ends.specs.PhaseSamples.{outbox, beginning, lost, again_sent, 
 
 starts : Starts beginning
 starts = record {
-  matches = record { initiates = refl; accepts = refl; session = refl; credentials = refl; outward = refl; homeward = refl; keepalive = (omega arith, omega arith) };
+  matches = record { initiates = refl; accepts = refl; session = refl; credentials = refl; outward = refl; homeward = refl; keepalive = (omega arith, omega arith); versions = (refl, refl) };
   initiator = refl;
   acceptor = refl;
   outward = refl;

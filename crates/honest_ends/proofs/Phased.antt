@@ -24,7 +24,7 @@ use Rattle.fixp_replies.specs.Replies.{reply_of}
 use Rattle.fixp_replies.specs.Events.{Made, begun}
 use Rattle.fixp_machine.specs.Machine.{State, around, step, run}
 use Rattle.fixp_machine.proofs.Tests.{no_gap}
-use Rattle.connection_laws.specs.Writing.{Piece, said_all, WritesOwn, nothing, shakes, resends}
+use Rattle.connection_laws.specs.Writing.{Piece, said_all, WritesOwn, nothing, shakes, returns, resends}
 use Rattle.connection_laws.specs.Standing.{IsOpen}
 use Rattle.connection_laws.proofs.Replied.{frame_writes}
 use Rattle.two_ends.specs.Reading.{incoming_of}
@@ -32,6 +32,7 @@ use Rattle.honest_ends.specs.PhaseLaws.{IsLeft, IsOfTime, PhasesHold}
 use Rattle.honest_ends.specs.Worlds.{World, Step, meets, initiator_reads, acceptor_reads, initiator_does, acceptor_does, written, after, initiator_read, acceptor_read, MayStep, world_after, AllMayStep, Match, Starts}
 use Rattle.honest_ends.proofs.Shapes.{IsFree, IsAsk, IsAnswer, OneAtMost, AckFirst, one_behind, one_before, ack_behind, ack_before, all_free_flow, free_flows}
 use Rattle.honest_ends.proofs.Replying.{Left, shaken_reply}
+use Rattle.honest_ends.proofs.Older.{older_initiator, older_acceptor}
 use Rattle.honest_ends.proofs.PhaseOpening.{Quiet, quiet_same, number_given, free_reply, Asked, answers, acknowledged, ask_reply, answer_reply, Acknowledged, stands, lost, ack_reply}
 use Rattle.honest_ends.proofs.Asking.{asks, restarts, inside, coming, is_serving}
 use Rattle.honest_ends.proofs.Serving.{Requests, asked_by_reader, asked_by_writer, free_for, served_by_writer, served_by_reader, serves_as}
@@ -82,6 +83,7 @@ serves_none x f i n h = by_case (frame_writes x f i)
     by_case : WritesOwn x f (reply_of x f i) → (reply_of x f i).next.connection.serving ≡ None
     by_case (nothing e s) = s.serving ∙ h
     by_case (shakes s) = s.serving ∙ h
+    by_case (returns r) = r.serving ∙ h
     by_case (resends r) = absurd (true≢false (sym r.own ∙ n))
 
 -- a reply, as far as one end goes
@@ -101,7 +103,7 @@ Replied ci fi ei left homeward ca o = Shaking ci ca fi ei o.next left (homeward 
 acceptor_hears : (ci : EndConfig) (fi : Facts) (ei : Option Ending) (x : Around) (fa : Facts) (p : Piece) (left homeward : List Piece) → Match ci x.config → answer_count p ≤ tells fa → (1 ≤ asks p → is_serving fa ≡ false)
     → Shaking ci x.config fi ei fa (p ∷ left) homeward → Replied ci fi ei left homeward x.config (reply_of x fa (incoming_of p))
 acceptor_hears ci fi ei x fa p left homeward m told unserved (opens bi qi idle qa (inl one) free) =
-    by_reply (ask_reply x fa ci fi.connection.phase p (to_acceptor ci x.config m) (sym m.credentials) m.keepalive (waits_for_client x.config.role fa.connection.phase m.accepts idle) (unshaken fa.connection.phase phases.Idle idle refl) qa one.0)
+    by_reply (ask_reply x fa ci fi.connection.phase p (to_acceptor ci x.config m) (sym m.credentials) m.keepalive (waits_for_client x.config.role fa.connection.phase m.accepts idle) (unshaken fa.connection.phase phases.Idle idle refl) qa one.0 (older_acceptor ci x.config m))
   where
     by_reply : Asked x.config fi.connection.phase fa (reply_of x fa (incoming_of p)) → Replied ci fi ei left homeward x.config (reply_of x fa (incoming_of p))
     by_reply (answers same quiet some l) = (answering bi qi (same ∙ idle) quiet one.1 (one_behind x.config (IsAnswer x.config fi.connection.phase) homeward _ free some), l)
@@ -148,7 +150,7 @@ initiator_hears x fi ei ca fa p outward left m told unserved going (answering bi
       r.ends,
     )
 initiator_hears x fi ei ca fa p outward left m told unserved going (acknowledging e qi est free (inl first)) =
-    by_reply (ack_reply x fi ca p (to_initiator x.config ca m) e (unshaken fi.connection.phase phases.Establishing e refl) first.0)
+    by_reply (ack_reply x fi ca p (to_initiator x.config ca m) e (unshaken fi.connection.phase phases.Establishing e refl) first.0 (older_initiator x.config ca m))
   where
     by_reply : Acknowledged x.config fi (reply_of x fi (incoming_of p)) → Resolved ca fa outward left x.config (reply_of x fi (incoming_of p))
     by_reply (stands now w l) = (standing (ap (λ q. is_shaken q) now) est (all_append (IsFlowing x.config) outward _ (all_free_flow x.config outward free) w) first.1, l)
@@ -301,7 +303,8 @@ initiator_reading w (p ∷ left) at now e h going =
     let home_asks = subst (λ (way : List Piece). Requests w.acceptor.facts s.facts s.ending way w.outward) e h.homeward_requests in
     let out_way = subst (λ (way : List Piece). Awaits s.facts w.acceptor.facts w.outward way) e h.outward_finish in
     let home_way = subst (λ (way : List Piece). Awaits w.acceptor.facts s.facts way w.outward) e h.homeward_finish in
-    let c = counts (around s at now) s.facts p in
+    let old = older_initiator s.config w.acceptor.config h.matches in
+    let c = counts (around s at now) s.facts p old in
     let r = initiator_hears (around s at now) s.facts s.ending w.acceptor.config w.acceptor.facts p w.outward left h.matches (due s.facts w.acceptor.facts p w.outward left out_way) (free_for s.facts w.acceptor.facts w.acceptor.ending p w.outward left out_asks) going.going sh in
     let k = keeps_replying (around s at now) s.facts s.ending (incoming_of p) h.initiator r.1 in
     record {
@@ -312,9 +315,9 @@ initiator_reading w (p ∷ left) at now e h going =
       outward_finish = carried (λ c f g out. Awaits f w.acceptor.facts (w.outward ++ out) left) rd.config rd.facts rd.ending rd.writes (read_by_writer s.facts w.acceptor.facts p w.outward left o out_way c);
       homeward_finish = carried (λ c f g out. Awaits w.acceptor.facts f left (w.outward ++ out)) rd.config rd.facts rd.ending rd.writes (read_by_reader w.acceptor.facts s.facts p left w.outward o home_way c);
       outward_requests = carried (λ c f g out. Requests f w.acceptor.facts w.acceptor.ending (w.outward ++ out) left) rd.config rd.facts rd.ending rd.writes
-          (asked_by_writer (around s at now) s.facts w.acceptor.facts w.acceptor.ending p w.outward left out_asks);
+          (asked_by_writer (around s at now) s.facts w.acceptor.facts w.acceptor.ending p w.outward left old out_asks);
       homeward_requests = carried (λ c f g out. Requests w.acceptor.facts f g left (w.outward ++ out)) rd.config rd.facts rd.ending rd.writes
-          (asked_by_reader w.acceptor.facts (around s at now) s.facts s.ending p left w.outward going.going home_asks);
+          (asked_by_reader w.acceptor.facts (around s at now) s.facts s.ending p left w.outward old going.going home_asks);
     }
 
 pub acceptor_reading : (w : World) (way : List Piece) (at now : ℕ) → w.outward ≡ way → Holds w → IsOpen w.acceptor → Holds (acceptor_read w way at now)
@@ -328,7 +331,8 @@ acceptor_reading w (p ∷ left) at now e h going =
     let home_asks = subst (λ (way : List Piece). Requests s.facts w.initiator.facts w.initiator.ending w.homeward way) e h.homeward_requests in
     let out_way = subst (λ (way : List Piece). Awaits w.initiator.facts s.facts way w.homeward) e h.outward_finish in
     let home_way = subst (λ (way : List Piece). Awaits s.facts w.initiator.facts w.homeward way) e h.homeward_finish in
-    let c = counts (around s at now) s.facts p in
+    let old = older_acceptor w.initiator.config s.config h.matches in
+    let c = counts (around s at now) s.facts p old in
     let r = acceptor_hears w.initiator.config w.initiator.facts w.initiator.ending (around s at now) s.facts p left w.homeward h.matches (due s.facts w.initiator.facts p w.homeward left home_way) (free_for s.facts w.initiator.facts w.initiator.ending p w.homeward left home_asks) sh in
     let k = keeps_replying (around s at now) s.facts s.ending (incoming_of p) h.acceptor r.1 in
     record {
@@ -339,9 +343,9 @@ acceptor_reading w (p ∷ left) at now e h going =
       outward_finish = carried (λ c f g out. Awaits w.initiator.facts f left (w.homeward ++ out)) rd.config rd.facts rd.ending rd.writes (read_by_reader w.initiator.facts s.facts p left w.homeward o out_way c);
       homeward_finish = carried (λ c f g out. Awaits f w.initiator.facts (w.homeward ++ out) left) rd.config rd.facts rd.ending rd.writes (read_by_writer s.facts w.initiator.facts p w.homeward left o home_way c);
       outward_requests = carried (λ c f g out. Requests w.initiator.facts f g left (w.homeward ++ out)) rd.config rd.facts rd.ending rd.writes
-          (asked_by_reader w.initiator.facts (around s at now) s.facts s.ending p left w.homeward going.going out_asks);
+          (asked_by_reader w.initiator.facts (around s at now) s.facts s.ending p left w.homeward old going.going out_asks);
       homeward_requests = carried (λ c f g out. Requests f w.initiator.facts w.initiator.ending (w.homeward ++ out) left) rd.config rd.facts rd.ending rd.writes
-          (asked_by_writer (around s at now) s.facts w.initiator.facts w.initiator.ending p w.homeward left home_asks);
+          (asked_by_writer (around s at now) s.facts w.initiator.facts w.initiator.ending p w.homeward left old home_asks);
     }
 
 pub holds_step : (hi ha : List Entry) (w : World) (step : Step) → Holds w → MayStep hi ha w step → Holds (after w step)

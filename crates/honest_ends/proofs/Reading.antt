@@ -11,10 +11,12 @@ use Rattle.fixp_replies.specs.declared.facts.Facts.{Facts}
 use Rattle.fixp_replies.specs.Facts.{Around}
 use Rattle.fixp_replies.specs.Outcomes.{Outcome}
 use Rattle.fixp_replies.specs.Replies.{reply_of}
-use Rattle.connection_laws.specs.Writing.{Piece, WritesOwn, nothing, shakes, resends}
+use Rattle.connection_laws.specs.Writing.{Piece, WritesOwn, nothing, shakes, returns, resends}
+use Rattle.connection_laws.proofs.Owned.{returning}
 use Rattle.connection_laws.proofs.Replied.{frame_writes}
 use Rattle.two_ends.specs.Reading.{incoming_of}
 use Rattle.honest_ends.specs.Numbers.{Awaited, at_most, live_after, awaited_after, left_after, Fits, Runs, Answers, Idle, Before, After, BeforeOther, AfterOther, Peer, IsFlowing, to_come}
+use Rattle.fixp_replies.specs.Expecting.{is_newer}
 use Rattle.honest_ends.proofs.Expected.{reader_expects}
 use Rattle.honest_ends.proofs.Running.{Below, fits_below, lower, number_after, grows, runs_top}
 use Rattle.honest_ends.specs.Numbered.{next_live, awaits, awaited}
@@ -41,6 +43,7 @@ stays_shaken x f p e = by_case (frame_writes x f (incoming_of p))
     by_case : WritesOwn x f (reply_of x f (incoming_of p)) → is_shaken (reply_of x f (incoming_of p)).next.connection.phase ≡ true
     by_case (nothing n s) = s.stays e
     by_case (shakes s) = absurd (true≢false (sym e ∙ s.before))
+    by_case (returns r) = (returning x f (reply_of x f (incoming_of p)).next r.may).done
     by_case (resends r) = r.stays
 
 heard_of : (c : EndConfig) (f : Facts) (p : Piece) (left : List Piece) (k : ℕ) (m : Option ℕ) (o : Outcome) → f.recorded.inbox_next ≤ k → ((v : Violation) → o.ending ≡ Some (endings.Violation v) → NoNumber v)
@@ -128,9 +131,9 @@ established_reads x f theirs p left k m are now shaken flows r answers high top 
         (λ e. let v = other_moves x f p (Answers f.connection.requester p) o other idle answers h e in (ready_moved c f o.next p left k m v (stays_shaken x f p shaken) after r, v.rises))
 
 -- before the handshake is done
-opening_reads : (x : Around) (f : Facts) (p : Piece) (left : List Piece) (k : ℕ) (m : Option ℕ) → is_shaken f.connection.phase ≡ false → Ready x.config f (p ∷ left) k m → k ≤ x.most + 1 → f.recorded.inbox_next ≤ k
+opening_reads : (x : Around) (f : Facts) (p : Piece) (left : List Piece) (k : ℕ) (m : Option ℕ) → is_newer x.config ≡ false → is_shaken f.connection.phase ≡ false → Ready x.config f (p ∷ left) k m → k ≤ x.most + 1 → f.recorded.inbox_next ≤ k
     → Heard x.config f left k m (reply_of x f (incoming_of p))
-opening_reads x f p left k m before r high top =
+opening_reads x f p left k m old before r high top =
     heard_of c f p left k m o top h.fine h.over (λ e. by_hearing (h.next e))
   where
     c : EndConfig
@@ -155,7 +158,7 @@ opening_reads x f p left k m before r high top =
     within = subst (λ (l : Option ℕ). live_after c.peer_flow p (next_live c f) l ≤ x.most + 1) none (first_within c f p left k (x.most + 1) m r.runs high)
 
     h : Opens c f p o
-    h = opening_reply x f p before idle r.line fits within
+    h = opening_reply x f p old before idle r.line fits within
 
     more : Runs c.peer_flow (awaited_after c.peer_flow p (at_most (next_live c f)) None) (left_after p None) left k m
     more = subst (λ (l : Option ℕ). Runs c.peer_flow (awaited_after c.peer_flow p (at_most (next_live c f)) l) (left_after p l) left k m) none
@@ -182,13 +185,13 @@ opening_reads x f p left k m before r high top =
         (ready_moved c f o.next p left k m v shaken after r, v.rises)
 
 -- the reply of a reader that has not begun to close its connection
-pub reads : (x : Around) (f : Facts) (theirs : EndConfig) (p : Piece) (left : List Piece) (k : ℕ) (m : Option ℕ) → Peer x.config theirs → is_closing f.connection.phase ≡ false
+pub reads : (x : Around) (f : Facts) (theirs : EndConfig) (p : Piece) (left : List Piece) (k : ℕ) (m : Option ℕ) → is_newer x.config ≡ false → Peer x.config theirs → is_closing f.connection.phase ≡ false
     → (is_shaken f.connection.phase ≡ true → IsFlowing theirs p) → Ready x.config f (p ∷ left) k m → Answers f.connection.requester p → k ≤ x.most + 1 → f.recorded.inbox_next ≤ k
     → Heard x.config f left k m (reply_of x f (incoming_of p))
-reads x f theirs p left k m are yet flows r answers high top = by_phase (is_established f.connection.phase) refl
+reads x f theirs p left k m old are yet flows r answers high top = by_phase (is_established f.connection.phase) refl
   where
     by_phase : (b : Bool) → is_established f.connection.phase ≡ b → Heard x.config f left k m (reply_of x f (incoming_of p))
     by_phase true now =
         let shaken : is_shaken f.connection.phase ≡ true = ap (λ b. b || is_closing f.connection.phase) now in
         established_reads x f theirs p left k m are now shaken (flows shaken) r answers high top
-    by_phase false not_now = opening_reads x f p left k m (ap (λ b. b || is_closing f.connection.phase) not_now ∙ yet) r high top
+    by_phase false not_now = opening_reads x f p left k m old (ap (λ b. b || is_closing f.connection.phase) not_now ∙ yet) r high top

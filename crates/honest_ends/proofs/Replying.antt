@@ -26,7 +26,7 @@ use Rattle.fixp_replies.specs.declared.facts.PeerFinish.TheVariants as peer
 use Rattle.fixp_replies.specs.declared.facts.OwnFinish.{OwnFinish}
 use Rattle.fixp_replies.specs.declared.facts.OwnFinish.TheVariants as own
 use Rattle.fixp_replies.specs.Incoming.{Incoming, application, session}
-use Rattle.fixp_replies.specs.Facts.{Around, is_own, receiving, requesting, serves, awaiting, gap_to_ask, having_asked, expected_number, peer_last, awaits_gap, finishes_exchanged, live_number, is_told}
+use Rattle.fixp_replies.specs.Facts.{Around, is_own, receiving, requesting, firm, serves, awaiting, gap_to_ask, having_asked, expected_number, peer_last, awaits_gap, finishes_exchanged, live_number, is_told}
 use Rattle.fixp_replies.specs.Outcomes.{Outcome, goes_on, accepts, ignores, ends, breaks, not_in_phase, request_for, skip_of, told_skip}
 use Rattle.fixp_replies.specs.Announcing.{Announced, jumped_over, announced, announcement_fault, refuses, announcement_rows}
 use Rattle.fixp_replies.specs.Flowing.{bad_retransmission, counted, taken_as, finish_act, peer_finished, answers_finish, is_filled, is_past_finish, sequence_follows, sequence_taken, restarted, finished_last, finish_fault, finished, is_last, application_rows, sequence_rows, retransmission_rows, retransmit_reject_rows, finished_sending_rows}
@@ -128,7 +128,7 @@ heard P x f i d = decided P (not_in_phase x f (template_of i)) (rows_of x f i) d
 
 abbrev chosen : Facts → ℕ → Bool → Bool → Announced
 chosen f n recoverable idempotent =
-    if recoverable then record { facts = receiving f (receiver_is.announced f.connection.receiver n); skipped = None }
+    if recoverable then record { facts = firm (receiving f (receiver_is.announced f.connection.receiver n)); skipped = None }
     else if idempotent then record { facts = awaiting f n; skipped = jumped_over f.recorded.inbox_next n }
     else record { facts = f; skipped = None }
 

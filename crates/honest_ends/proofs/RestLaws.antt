@@ -19,7 +19,7 @@ use Rattle.fixp_replies.specs.declared.facts.Facts.{Facts}
 use Rattle.fixp_replies.specs.Facts.{gap_to_ask, finishes_exchanged, own_is_exchanged, peer_is_exchanged}
 use Rattle.fixp_machine.specs.Machine.{State, around, fresh}
 use Rattle.fixp_machine.proofs.Tests.{no_gap}
-use Rattle.fixp_machine.proofs.Accepted.{is_done}
+use Rattle.fixp_machine.proofs.Tests.{is_done}
 use Rattle.connection_laws.specs.Writing.{Piece}
 use Rattle.honest_ends.specs.Numbers.{Awaited, exactly, Allows, Runs, served, to_come}
 use Rattle.honest_ends.specs.Worlds.{World, Step, world_after, AllMayStep}
@@ -50,13 +50,14 @@ first_ends s new last = record {
     below (Some n) h = omega (arith, h)
 
 -- where nothing is asked for, a gap would be to be asked for
-unasked_gap : (f : Facts) → f.connection.requester ≡ requests.Nothing → gap_to_ask f ≡ None → receiver_is.gap f.connection.receiver ≡ None
-unasked_gap f e none = subst (λ (q : Request). (if is_none (outstanding q) then receiver_is.gap f.connection.receiver else None) ≡ None) e none
+unasked_gap : (f : Facts) → f.connection.soft ≡ false → f.connection.requester ≡ requests.Nothing → gap_to_ask f ≡ None → receiver_is.gap f.connection.receiver ≡ None
+unasked_gap f firm e none = subst (λ (q : Request). (if is_some (outstanding q) then None else receiver_is.gap f.connection.receiver) ≡ None) e
+    (subst (λ (b : Bool). (if b || is_some (outstanding f.connection.requester) then None else receiver_is.gap f.connection.receiver) ≡ None) firm none)
 
 -- one flow whose reader is idle, where nothing is under way to it
 quiet_one : (own h : List Entry) (writer reader : State) (way back : List Piece) → Follows h writer reader way back → way ≡ [] → writer.facts.recorded.sent ≡ length h → IsIdle own reader
-    → gap_to_ask reader.facts ≡ None → HasAll h reader
-quiet_one own h writer reader way back follows none sent idle gap numbered = by_flow (is_recoverable reader.config.peer_flow) refl
+    → reader.facts.connection.soft ≡ false → gap_to_ask reader.facts ≡ None → HasAll h reader
+quiet_one own h writer reader way back follows none sent idle firm gap numbered = by_flow (is_recoverable reader.config.peer_flow) refl
   where
     f : Facts
     f = reader.facts
@@ -79,7 +80,7 @@ quiet_one own h writer reader way back follows none sent idle gap numbered = by_
         let line = expects.line rec in
         let waits = line.waits in
         let low = line.low in
-        let high = no_gap_live f.connection.receiver (unasked_gap f idle.unasked gap) in
+        let high = no_gap_live f.connection.receiver (unasked_gap f firm idle.unasked gap) in
         let is = live_is reader.config f rec in
         let all = live in
         omega (arith, waits, low, high, is, all, sent)
@@ -95,9 +96,9 @@ quiet_has_all hi ha w steps known may quiet =
     let numbers = numbered_of hi ha now (counted_after hi ha w steps n may) in
     let keeps = keep_after hi ha w steps n may in (
       quiet_one hi ha now.acceptor now.initiator now.homeward now.outward numbers.homeward quiet.homeward quiet.acceptor.sent quiet.initiator
-          (keeps.initiator.asked (λ _. first_gap w.initiator known.0.initiator) quiet.initiator.going),
+          (keeps.initiator.firm (ap (λ (s : State). s.facts.connection.soft) known.0.initiator)) (keeps.initiator.asked (λ _. first_gap w.initiator known.0.initiator) quiet.initiator.going),
       quiet_one ha hi now.initiator now.acceptor now.outward now.homeward numbers.outward quiet.outward quiet.initiator.sent quiet.acceptor
-          (keeps.acceptor.asked (λ _. first_gap w.acceptor known.0.acceptor) quiet.acceptor.going),
+          (keeps.acceptor.firm (ap (λ (s : State). s.facts.connection.soft) known.0.acceptor)) (keeps.acceptor.asked (λ _. first_gap w.acceptor known.0.acceptor) quiet.acceptor.going),
     )
 
 -- what holds of one flow, where a finish that was recorded at first came behind all of it

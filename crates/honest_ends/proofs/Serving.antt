@@ -25,6 +25,7 @@ use Rattle.two_ends.proofs.Refused.{closing_is_deaf}
 use Rattle.connection_laws.specs.Standing.{MayStand}
 use Rattle.connection_laws.proofs.Owned.{entries_reach}
 use Rattle.honest_ends.specs.Worlds.{written, IsOther}
+use Rattle.fixp_replies.specs.Expecting.{is_newer}
 use Rattle.honest_ends.proofs.Finishing.{total, total_append}
 use Rattle.honest_ends.proofs.Asking.{asks, restarts, turns, inside, unanswered_of, unanswered, coming, is_serving, Asks, asks_of, closing_asks, at_most_one}
 use Rattle.honest_ends.proofs.Running.{runs_append, live_run, again_run}
@@ -64,15 +65,15 @@ by_bool P true t f = t refl
 by_bool P false t f = f refl
 
 -- the reader replies to a message
-pub asked_by_reader : (writer : Facts) (x : Around) (reader : Facts) (over : Option Ending) (p : Piece) (left back : List Piece) → over ≡ None → Requests writer reader over (p ∷ left) back
+pub asked_by_reader : (writer : Facts) (x : Around) (reader : Facts) (over : Option Ending) (p : Piece) (left back : List Piece) → is_newer x.config ≡ false → over ≡ None → Requests writer reader over (p ∷ left) back
     → Requests writer (reply_of x reader (incoming_of p)).next (reply_of x reader (incoming_of p)).ending left (back ++ said_all (reply_of x reader (incoming_of p)).written)
-asked_by_reader writer x reader over p left back goes a = record { once = once; free = free; even = even }
+asked_by_reader writer x reader over p left back old goes a = record { once = once; free = free; even = even }
   where
     o : Outcome
     o = reply_of x reader (incoming_of p)
 
     c : Asks x reader (asks p) (restarts p) (turns p) o
-    c = asks_of x reader p
+    c = asks_of x reader p old
 
     more : total asks (back ++ said_all o.written) ≡ total asks back + total asks (said_all o.written)
     more = total_append asks back (said_all o.written)
@@ -111,11 +112,11 @@ pub free_for : (writer reader : Facts) (over : Option Ending) (p : Piece) (way l
 free_for writer reader over p way left a some = a.free (omega (arith, some))
 
 -- the writer replies to a message that came back
-pub asked_by_writer : (x : Around) (writer reader : Facts) (over : Option Ending) (p : Piece) (way left : List Piece) → Requests writer reader over way (p ∷ left)
+pub asked_by_writer : (x : Around) (writer reader : Facts) (over : Option Ending) (p : Piece) (way left : List Piece) → is_newer x.config ≡ false → Requests writer reader over way (p ∷ left)
     → Requests (reply_of x writer (incoming_of p)).next reader over (way ++ said_all (reply_of x writer (incoming_of p)).written) left
-asked_by_writer x writer reader over p way left a =
+asked_by_writer x writer reader over p way left old a =
     let o : Outcome = reply_of x writer (incoming_of p) in
-    let c = asks_of x writer p in
+    let c = asks_of x writer p old in
     let e = total_append restarts way (said_all o.written) in
     let once = a.once in
     let resent = c.resent in
@@ -135,6 +136,7 @@ pub record Serves (h : List Entry) (s t : State) (out : List Piece) : Type 0 whe
   pub closing : is_closing t.facts.connection.phase ≡ false → is_closing s.facts.connection.phase ≡ false
   pub receiver : t.facts.connection.receiver ≡ s.facts.connection.receiver
   pub inbox : t.facts.recorded.inbox_next ≡ s.facts.recorded.inbox_next
+  pub soft : t.facts.connection.soft ≡ s.facts.connection.soft
   pub runs : RunsBetween s.config.own_flow s.facts out t.facts
   pub most : t.most ≡ s.most
   pub sent : s.facts.recorded.sent ≤ length h → t.facts.recorded.sent ≤ length h
@@ -207,6 +209,7 @@ serves_silent h s t out most sent e n r a = record {
   closing = λ n. ap (λ c. is_closing c.phase) (sym e) ∙ n;
   receiver = ap (λ c. c.receiver) e;
   inbox = n;
+  soft = ap (λ c. c.soft) e;
   runs = r;
   most = most;
   sent = sent;
@@ -297,6 +300,7 @@ ticking h s now = by_end (is_some s.ending)
           closing = λ n. ap (λ f. is_closing f.connection.phase) (sym same) ∙ n;
           receiver = ap (λ f. f.connection.receiver) same;
           inbox = ap (λ f. f.recorded.inbox_next) same;
+          soft = ap (λ f. f.connection.soft) same;
           runs = subst (λ (g : Facts). RunsBetween s.config.own_flow s.facts (said_all (h ++ q)) g) (sym same)
               (subst (λ (ps : List Piece). RunsBetween s.config.own_flow s.facts ps s.facts) (sym (map_more h q))
               (runs_append s.config.own_flow (exactly (s.facts.recorded.sent + 1)) (served s.facts.connection.serving) (said_all h) (said_all q) (s.facts.recorded.sent + 1) (served s.facts.connection.serving)
@@ -342,6 +346,7 @@ turning h s now = by_end (is_some s.ending)
           closing = λ n. absurd (true≢false n);
           receiver = refl;
           inbox = refl;
+          soft = refl;
           runs = closing_plain (applied_runs (runs_of s.untold)) (terminate s.config.session 1 []) (applied_plain (runs_of s.untold)) (λ flow b l. ((tt, tt), (refl, refl))) s.config.own_flow (s.facts.recorded.sent + 1) (served s.facts.connection.serving);
           most = refl;
           sent = λ k. k;
@@ -362,7 +367,7 @@ finishing h s last now = by_end (is_some s.ending)
     behind m = made (record s { moment = now }) m now
 
     by_test : (b : Bool) → Serves h s (behind (told b x s.facts last)) (said_all (told b x s.facts last).written)
-    by_test true = record { asks_none = refl; begins_none = refl; serves = refl; requester = refl; closing = λ n. n; receiver = refl; inbox = refl; runs = ((tt, tt), (refl, refl)); most = refl; sent = λ k. k }
+    by_test true = record { asks_none = refl; begins_none = refl; serves = refl; requester = refl; closing = λ n. n; receiver = refl; inbox = refl; soft = refl; runs = ((tt, tt), (refl, refl)); most = refl; sent = λ k. k }
     by_test false = serves_silent h s (behind (told false x s.facts last)) [] refl (λ k. k) refl refl (refl, refl) none_silent
 
     by_end : (b : Bool)
@@ -418,6 +423,7 @@ resending h s (Some r) payloads now within same =
       closing = λ n. n;
       receiver = refl;
       inbox = refl;
+      soft = refl;
       runs = subst (λ (k : Option Range). Runs s.config.own_flow (exactly (s.facts.recorded.sent + 1)) (served k) (entries payloads ++ range_closed s.facts rest) (s.facts.recorded.sent + 1) (served rest)) (sym same)
           (runs_append s.config.own_flow (exactly (s.facts.recorded.sent + 1)) (Some r.count) (entries payloads) (range_closed s.facts rest) (s.facts.recorded.sent + 1) (Some (r.count - length payloads))
           (s.facts.recorded.sent + 1) (served rest) (again_run s.config.own_flow (s.facts.recorded.sent + 1) r.count payloads (within r refl)) (again_closed s.config.own_flow s.facts r (length payloads) (within r refl)));

@@ -223,10 +223,10 @@ ReaderExpects = (x : Around) (f : Facts) (theirs : EndConfig) (p : Piece) → Pe
 abbrev pub RunsBetween : Flow → Facts → List Piece → Facts → Type 0
 RunsBetween flow f ps g = Runs flow (exactly (f.recorded.sent + 1)) (served f.connection.serving) ps (g.recorded.sent + 1) (served g.connection.serving)
 
--- what each reply writes, and each other call where it may come, brings the reader from the one to the other
+-- what each reply of an end of version 0 writes, and each other call where it may come, brings the reader from the one to the other
 abbrev pub WriterKeeps : Type 0
 WriterKeeps =
-    ((x : Around) (f : Facts) (p : Piece) → RunsBetween x.config.own_flow f (said_all (reply_of x f (incoming_of p)).written)
+    ((x : Around) (f : Facts) (p : Piece) → x.config.version ≡ 0 → RunsBetween x.config.own_flow f (said_all (reply_of x f (incoming_of p)).written)
     (reply_of x f (incoming_of p)).next)
     × ((h : List Entry) (s : State) (call : Call) → IsOther h call → MayStand h s call
     → RunsBetween s.config.own_flow s.facts (written s (call ∷ [])) (run s (call ∷ [])).facts)

@@ -54,7 +54,7 @@ handshake_sample = (
     initiator = ready sample_config turns_sample.0.lives_a.0.range;
     acceptor = ready acceptor turns_sample.0.lives_b.0.range;
     agree = record {
-      matches = record { initiates = refl; accepts = refl; session = refl; credentials = refl; outward = refl; homeward = refl; keepalive = (omega arith, omega arith) };
+      matches = record { initiates = refl; accepts = refl; session = refl; credentials = refl; outward = refl; homeward = refl; keepalive = (omega arith, omega arith); versions = (refl, refl) };
       outward = record { sent = omega arith; most = omega arith; one = λ _. omega arith; next = omega arith; finish = tt; last = tt };
       homeward = record { sent = omega arith; most = omega arith; one = λ _. omega arith; next = omega arith; finish = tt; last = tt };
       last_i = λ _. tt;
@@ -183,7 +183,7 @@ rest_sample = record {
       let e : length turns_i.after.made ≡ 0 = ap length none_i in
       let f : length turns_a.after.made ≡ 0 = ap length none_a in
       record {
-        matches = record { initiates = refl; accepts = refl; session = refl; credentials = refl; outward = refl; homeward = refl; keepalive = (omega arith, omega arith) };
+        matches = record { initiates = refl; accepts = refl; session = refl; credentials = refl; outward = refl; homeward = refl; keepalive = (omega arith, omega arith); versions = (refl, refl) };
         outward = record { sent = omega arith; most = omega (arith, e); one = λ _. omega arith; next = omega arith; finish = tt; last = tt };
         homeward = record { sent = omega arith; most = omega (arith, f); one = λ _. omega arith; next = omega arith; finish = tt; last = tt };
         last_i = λ _. tt;
