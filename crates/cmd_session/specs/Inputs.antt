@@ -31,7 +31,7 @@ IsConfigured role told c = (text : List ℕ) → told ≡ Some text → configur
 abbrev pub flow_received : Role → Link → Flow
 flow_received role link = peer_flow role link.client_flow link.server_flow
 
--- an end of this role, as its configuration has it
+-- an end of this role, as its configuration has it; it has version 0 of the session schema
 abbrev pub end_of : Role → Link → EndConfig
 end_of role link = record {
   role = role;
@@ -40,6 +40,7 @@ end_of role link = record {
   peer_flow = flow_received role link;
   keepalive = link.keepalive;
   credentials = link.credentials;
+  version = 0;
 }
 
 -- INPUT, where it tells its content, has these plans for so many senders, and is not too long

@@ -136,7 +136,8 @@ module _ {J : Type 0} {G : Ghosts J} where
       pub in_opened : ForSome (sees.told before.in_disk) (λ content. IsJournal content (records_of_inbox inbox))
       pub goes_on_from : GoesOnFrom plans opening
       pub holds : inboxes.HoldsBox old inbox []
-      pub served : ServedOver sees.links (sees.last before.clock) (sees.last after.clock) (life_at (sees.carried before.dialer) (sees.taken before.out) opening old)
+      pub served : ServedOver sees.links (sees.last before.clock) (sees.last after.clock)
+          (life_at (sees.carried before.dialer) (sees.taken before.out) opening old)
           (life_at (sees.carried after.dialer) (sees.taken after.out) seen new) (fresh config (opened_state opening old) (2 ^ 24)) connections
       pub answer : result ≡ answer_of connections refused
       pub refusal : IfSome refused IsOfSender

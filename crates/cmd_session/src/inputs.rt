@@ -33,6 +33,7 @@ pub fn end_config(role: Role, link: Link) -> EndConfig
         peer_flow: peer_flow(role, client_flow, server_flow),
         keepalive,
         credentials,
+        version: 0,
     }
 }
 

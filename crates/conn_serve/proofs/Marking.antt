@@ -9,7 +9,7 @@ use Rattle.jr_boxes.specs.declared.faults.SubmitFault.TheVariants as submit
 use Rattle.fixp_machine.specs.Machine.{State}
 use Rattle.gate_turn.specs.Places.{known}
 use Rattle.gate_senders.specs.declared.gate.Gate.{Gate}
-use Rattle.gate_plans.specs.Runs.{IsReady, HasNone}
+use Rattle.gate_plans.specs.Runs.{IsReady, HasNone, IsAdmitted, IsThrough}
 use Rattle.gate_plans.specs.Seats.{Seated}
 use Rattle.gate_plans.proofs.Seating.{seated_still}
 use Rattle.gate_plans.specs.declared.sender.Sender.{Sender}
@@ -17,9 +17,10 @@ use Rattle.conn_serve.specs.declared.answer.ServeFault.{ServeFault}
 use Rattle.conn_serve.specs.declared.answer.ServeFault.TheVariants as faults
 use Rattle.conn_serve.specs.declared.answer.LifeEnd.{LifeEnd}
 use Rattle.conn_serve.specs.declared.answer.LifeEnd.TheVariants as ends
-use Rattle.conn_serve.specs.Answers.{answer_of, yields, yields_to}
+use Rattle.conn_serve.specs.Answers.{answer_of, late_answer, yields, yields_to}
 use Rattle.conn_serve.specs.Senders.{refusal_of, OnlyClosed, IsRefusal, FinishedFirst, SubmittedAll, SomeMarked}
-use Rattle.conn_serve.specs.Opening.{ServedBy, IsUnrefused}
+use Rattle.gw_links.specs.declared.link.Link.{Ghosts as LinkGhosts}
+use Rattle.conn_serve.specs.Opening.{EndedSo, ServedBy, ServedThrough, IsUnrefused}
 use Rattle.conn_serve.specs.Moments.{ServingAt}
 
 closed_of : (o : Option SubmitFault) (f : SubmitFault) → refusal_of o ≡ None → o ≡ Some f → f ≡ submit.Closed
@@ -65,15 +66,16 @@ module _ {O : Type 0} {H : Ghosts O} where
       same (y ∷ ys) zero lt d e = refl
       same (y ∷ ys) (suc k) lt d e = same ys k (omega (arith, lt)) d e
 
-  pub marked_of : (gate : Gate O H) (before after : List (Sender O H)) → SubmittedAll gate before after None → 0 < length before → SomeMarked after
-  marked_of gate before after s many = by_kind s.finished
+  pub marked_of : (gate : Gate O H) (before after : List (Sender O H)) → SubmittedAll gate before after None → All IsAdmitted after → 0 < length before → SomeMarked after
+  marked_of gate before after s admitted many = by_kind s.finished
     where
       ran_many : 0 < length s.ran
       ran_many = omega (arith, many, s.each.long)
 
-      by_kind : ((after ≡ s.ran) × IsRefusal s.ran None × (0 < length s.ran → (All HasNone s.ran → ⊥))) ⊎ (All HasNone s.ran × (0 < length s.ran) × FinishedFirst s.ran after None) → SomeMarked after
+      by_kind : ((after ≡ s.ran) × IsRefusal s.ran None × (0 < length s.ran → (All IsThrough s.ran → ⊥))) ⊎ (All IsThrough s.ran × (0 < length s.ran) × FinishedFirst s.ran after None) → SomeMarked after
       by_kind (inl x) =
-          let found = find_closed s.ran x.1 (x.2 ran_many) in
+          let in_ran : All IsAdmitted s.ran = subst (All IsAdmitted) x.0 admitted in
+          let found = find_closed s.ran x.1 (λ none. x.2 ran_many (λ i d lt. (none i d lt, in_ran i d lt))) in
           subst SomeMarked (sym x.0)
           (marked_at s.ran found.at found.within (λ d. ((s.each.each found.at d (omega (arith, found.within, s.each.long))).refused submit.Closed (found.is d)).shown.closed refl))
       by_kind (inr x) = marked_at after zero (omega (arith, x.1, x.2.long)) (λ d. (x.2.first d).marked refl)
@@ -85,7 +87,7 @@ module _ {O : Type 0} {H : Ghosts O} where
       by_few (inl e) = ap yields e
       by_few (inr e) = ap yields e
 
-      by_kind : ((after ≡ s.ran) × IsRefusal s.ran (Some f) × (0 < length s.ran → (All HasNone s.ran → ⊥))) ⊎ (All HasNone s.ran × (0 < length s.ran) × FinishedFirst s.ran after (Some f)) → yields f ≡ false
+      by_kind : ((after ≡ s.ran) × IsRefusal s.ran (Some f) × (0 < length s.ran → (All IsThrough s.ran → ⊥))) ⊎ (All IsThrough s.ran × (0 < length s.ran) × FinishedFirst s.ran after (Some f)) → yields f ≡ false
       by_kind (inl x) = firm_submit x.1.sender.refused f x.1.is
       by_kind (inr x) = by_few ((x.2.first (any s.ran x.1)).few f refl)
         where
@@ -112,7 +114,7 @@ module _ {O : Type 0} {H : Ghosts O} where
       ran_seated : Seated gate s.ran made
       ran_seated = seated_still gate made before s.ran s.each h
 
-      by_kind : ((after ≡ s.ran) × IsRefusal s.ran refused × (0 < length s.ran → (All HasNone s.ran → ⊥))) ⊎ (All HasNone s.ran × (0 < length s.ran) × FinishedFirst s.ran after refused) → Seated gate after made
+      by_kind : ((after ≡ s.ran) × IsRefusal s.ran refused × (0 < length s.ran → (All IsThrough s.ran → ⊥))) ⊎ (All IsThrough s.ran × (0 < length s.ran) × FinishedFirst s.ran after refused) → Seated gate after made
       by_kind (inl x) = subst (λ (l : List (Sender O H)). Seated gate l made) (sym x.0) ran_seated
       by_kind (inr x) = finished_seated gate made s.ran after refused s.ready x.2 ran_seated
 
@@ -136,16 +138,75 @@ unanswered (Err e) f firm u = by_kind (yields_to e f) refl u
     by_kind true is u = false≢true (sym firm ∙ u)
     by_kind false is u = false≢true (sym (firm_to e f is) ∙ u)
 
+-- where no refusal is answered, and nothing failed, there was none
+none_met : {O : Type 0} {H : Ghosts O} (gate : Gate O H) (before after : List (Sender O H)) (connections : Result LifeEnd ServeFault) (refused : Option ServeFault) → SubmittedAll gate before after refused
+    → IsUnrefused (answer_of connections refused) → refused ≡ None
+none_met gate before after connections None s u = refl
+none_met gate before after connections (Some f) s u = absurd (unanswered connections f (firm_of gate before after f s) u)
+
+-- a late refusal is answered where none was
+late_is : (connections : Result LifeEnd ServeFault) (f : ServeFault) → IsUnrefused (answer_of connections None) → answer_of connections (Some f) ≡ Err f
+late_is (Ok ends.Finished) f u = refl
+late_is (Ok ends.Stopped) f u = refl
+late_is (Err faults.Output) f u = absurd (false≢true u)
+late_is (Err faults.Journal) f u = absurd (false≢true u)
+late_is (Err faults.Dial) f u = absurd (false≢true u)
+late_is (Err (faults.Unfinished phase)) f u = refl
+late_is (Err (faults.Rejected template code)) f u = refl
+late_is (Err (faults.Full entries bytes)) f u = absurd (false≢true u)
+late_is (Err faults.Turns) f u = refl
+late_is (Err faults.Memory) f u = absurd (false≢true u)
+
+module _ {O : Type 0} {H : Ghosts O} (gate : Gate O H) (before middle after : List (Sender O H)) (connections : Result LifeEnd ServeFault) (refused : Option ServeFault) (answer : Result (Unit {0}) ServeFault)
+    (s : SubmittedAll gate before middle refused) (is : answer ≡ answer_of connections refused) where
+  pub ended_kept : (IsUnrefused answer → ⊥) → EndedSo gate before middle connections answer
+  ended_kept never = record { refused = refused; submitted = s; answer = is; admitted = λ u. absurd (never u) }
+
+  pub ended_late : (late : Option ServeFault) (result : Result (Unit {0}) ServeFault) → IsUnrefused answer → (SubmittedAll gate before middle None → SubmittedAll gate before after late) → (late ≡ None → All IsAdmitted after)
+      → result ≡ late_answer answer late → EndedSo gate before after connections result
+  ended_late late result u goes admitted ends_so = by_late late refl
+    where
+      none : refused ≡ None
+      none = none_met gate before middle connections refused s (subst IsUnrefused is u)
+
+      was : answer ≡ answer_of connections None
+      was = is ∙ ap (answer_of connections) none
+
+      more : SubmittedAll gate before after late
+      more = goes (subst (SubmittedAll gate before middle) none s)
+
+      by_late : (o : Option ServeFault) → late ≡ o → EndedSo gate before after connections result
+      by_late None e = record {
+        refused = None;
+        submitted = subst (SubmittedAll gate before after) e more;
+        answer = ends_so ∙ (ap (late_answer answer) e ∙ was);
+        admitted = λ _. admitted e;
+      }
+      by_late (Some f) e =
+          let refusal : result ≡ Err f = ends_so ∙ ap (late_answer answer) e in
+          let all : SubmittedAll gate before after (Some f) = subst (SubmittedAll gate before after) e more in
+          record {
+            refused = Some f;
+            submitted = all;
+            answer = refusal ∙ sym (late_is connections f (subst IsUnrefused was u));
+            admitted = λ v. let y : yields f ≡ true = subst IsUnrefused refusal v in absurd (false≢true (sym (firm_of gate before after f all) ∙ y));
+          }
+
+not_memory : (connections : Result LifeEnd ServeFault) (refused : Option ServeFault) (answer : Result (Unit {0}) ServeFault) → refused ≡ None → connections ≡ Err faults.Memory → answer ≡ answer_of connections refused
+    → IsUnrefused answer → ⊥
+not_memory connections refused answer none memory is u =
+    false≢true (subst IsUnrefused (is ∙ (ap (answer_of connections) none ∙ ap (λ (c : Result LifeEnd ServeFault). answer_of c None) memory)) u)
+
 module _ {J : Type 0} {G : Ghosts J} {O : Type 0} {H : Ghosts O} where
   pub marked_by : (gate : Gate O H) (old new : ServingAt J G O H) (m : State) (result : Result (Unit {0}) ServeFault)
-      → ServedBy gate old new m result → IsUnrefused result → 0 < length old.senders → SomeMarked new.senders
-  marked_by gate old new m result s u many = by_kind s.senders s.refused refl
+      → ServedBy gate old new m result → (IsUnrefused result → All IsAdmitted new.senders) → IsUnrefused result → 0 < length old.senders → SomeMarked new.senders
+  marked_by gate old new m result s admitted u many = by_kind s.senders s.refused refl
     where
       answered : (o : Option ServeFault) → s.refused ≡ o → IsUnrefused (answer_of s.connections o)
       answered o e = subst IsUnrefused (s.answer ∙ ap (answer_of s.connections) e) u
 
       by_kind : SubmittedAll gate old.senders new.senders s.refused ⊎ ((new.senders ≡ old.senders) × (s.refused ≡ None) × (s.connections ≡ Err faults.Memory)) → (o : Option ServeFault) → s.refused ≡ o → SomeMarked new.senders
-      by_kind (inl x) None e = marked_of gate old.senders new.senders (subst (SubmittedAll gate old.senders new.senders) e x) many
+      by_kind (inl x) None e = marked_of gate old.senders new.senders (subst (SubmittedAll gate old.senders new.senders) e x) (admitted u) many
       by_kind (inl x) (Some f) e = absurd (unanswered s.connections f (firm_of gate old.senders new.senders f (subst (SubmittedAll gate old.senders new.senders) e x)) (answered (Some f) e))
       by_kind (inr x) o e = absurd (false≢true (subst (λ (r : Result LifeEnd ServeFault). IsUnrefused (answer_of r None)) x.2 (answered None x.1)))
 
@@ -156,3 +217,30 @@ module _ {J : Type 0} {G : Ghosts J} {O : Type 0} {H : Ghosts O} where
       by_kind : SubmittedAll gate old.senders new.senders s.refused ⊎ ((new.senders ≡ old.senders) × (s.refused ≡ None) × (s.connections ≡ Err faults.Memory)) → Seated gate new.senders made
       by_kind (inl x) = seated_after gate made old.senders new.senders s.refused x h
       by_kind (inr x) = subst (λ (l : List (Sender O H)). Seated gate l made) (sym x.0) h
+
+  -- a life whose senders went on behind it, where it was to
+  pub went_on : {L : Type 0} {links : LinkGhosts L} {first last : ℕ} (gate : Gate O H) (old mid : ServingAt J G O H) (after : List (Sender O H)) (m : State) (answer result : Result (Unit {0}) ServeFault)
+      → ServedThrough links first last gate old mid m answer → ((IsUnrefused answer → ⊥) → (after ≡ mid.senders) × (result ≡ answer))
+      → ((connections : Result LifeEnd ServeFault) (refused : Option ServeFault) → SubmittedAll gate old.senders mid.senders refused → answer ≡ answer_of connections refused → EndedSo gate old.senders after connections result)
+      → ServedThrough links first last gate old (record mid { senders = after }) m result
+  went_on {links = links} {first = first} {last = last} gate old mid after m answer result s kept behind = by_kind s.senders
+    where
+      by_kind : SubmittedAll gate old.senders mid.senders s.refused ⊎ ((mid.senders ≡ old.senders) × (s.refused ≡ None) × (s.connections ≡ Err faults.Memory)) → ServedThrough links first last gate old (record mid { senders = after }) m result
+      by_kind (inl x) =
+          let e = behind s.connections s.refused x s.answer in
+          record { connections = s.connections; refused = e.refused; life = s.life; blamed = s.blamed; senders = inl e.submitted; answer = e.answer }
+      by_kind (inr x) =
+          let k = kept (not_memory s.connections s.refused answer x.1 x.2 s.answer) in
+          record { connections = s.connections; refused = s.refused; life = s.life; blamed = s.blamed; senders = inr (k.0 ∙ x.0, x.1, x.2); answer = k.1 ∙ s.answer }
+
+  pub all_admitted : {L : Type 0} {links : LinkGhosts L} {first last : ℕ} (gate : Gate O H) (old mid : ServingAt J G O H) (after : List (Sender O H)) (m : State) (answer result : Result (Unit {0}) ServeFault)
+      → ServedThrough links first last gate old mid m answer → ((IsUnrefused answer → ⊥) → (after ≡ mid.senders) × (result ≡ answer))
+      → ((connections : Result LifeEnd ServeFault) (refused : Option ServeFault) → SubmittedAll gate old.senders mid.senders refused → answer ≡ answer_of connections refused → EndedSo gate old.senders after connections result)
+      → IsUnrefused result → All IsAdmitted after
+  all_admitted gate old mid after m answer result s kept behind u = by_kind s.senders
+    where
+      by_kind : SubmittedAll gate old.senders mid.senders s.refused ⊎ ((mid.senders ≡ old.senders) × (s.refused ≡ None) × (s.connections ≡ Err faults.Memory)) → All IsAdmitted after
+      by_kind (inl x) = (behind s.connections s.refused x s.answer).admitted u
+      by_kind (inr x) =
+          let never = not_memory s.connections s.refused answer x.1 x.2 s.answer in
+          absurd (never (subst IsUnrefused (kept never).1 u))

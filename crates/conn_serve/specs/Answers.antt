@@ -113,3 +113,8 @@ answer_of (Ok ends.Stopped) None = Err faults.Memory
 answer_of (Ok ends.Stopped) (Some refusal) = Err refusal
 answer_of (Err fault) None = Err fault
 answer_of (Err fault) (Some refusal) = if yields_to fault refusal then Err refusal else Err fault
+
+-- what is answered behind an answer, where senders that went on were refused so, if they were
+abbrev pub late_answer : Result (Unit {0}) ServeFault → Option ServeFault → Result (Unit {0}) ServeFault
+late_answer answer None = answer
+late_answer answer (Some fault) = Err fault

@@ -7,7 +7,7 @@ use Rattle.gate_turn.specs.Views.{HasFailed, Part}
 use Rattle.gate_turn.specs.Places.{known}
 use Rattle.gate_senders.specs.Shown.{TakesTurn}
 use Rattle.gate_senders.specs.declared.gate.Gate.{Gate}
-use Rattle.gate_plans.specs.Runs.{IsReady, RanEach, HasNone}
+use Rattle.gate_plans.specs.Runs.{IsReady, RanEach, IsThrough}
 use Rattle.gate_plans.specs.declared.sender.Sender.{Sender}
 use Rattle.conn_serve.specs.declared.answer.ServeFault.{ServeFault}
 use Rattle.conn_serve.specs.declared.answer.ServeFault.TheVariants as faults
@@ -58,15 +58,17 @@ module _ {J : Type 0} {G : Ghosts J} where
   pub record FinishedFirst (ran after : List (Sender J G)) (refused : Option ServeFault) : Type 0 where
     pub long : length after ≡ length ran
     pub first : (d : Sender J G) → Finishes (known (slice_index_or ran 0 d).pass) (known (slice_index_or after 0 d).pass) refused
+    pub turned : (d : Sender J G) → (slice_index_or after 0 d).turned ≡ (slice_index_or ran 0 d).turned
     pub others : (i : ℕ) (d : Sender J G) → 0 < i → slice_index_or after i d ≡ slice_index_or ran i d
 
-  -- behind their plans: where all are submitted and there are senders, the Finish was added or refused; else nothing more was done
+  -- behind their plans: where all are submitted and there are senders, the Finish was added or refused; else, since one was refused or
+  -- turned away, nothing more was done
   abbrev pub IsFinished : (ran after : List (Sender J G)) → Option ServeFault → Type 0
   IsFinished ran after refused =
-      ((after ≡ ran) × IsRefusal ran refused × (0 < length ran → (All HasNone ran → ⊥)))
-      ⊎ (All HasNone ran × (0 < length ran) × FinishedFirst ran after refused)
+      ((after ≡ ran) × IsRefusal ran refused × (0 < length ran → (All IsThrough ran → ⊥)))
+      ⊎ (All IsThrough ran × (0 < length ran) × FinishedFirst ran after refused)
 
-  -- each sender submitted its plan until it was done or refused, and then came the Finish
+  -- each sender submitted its plan until it was done or refused, or was turned away, and then came the Finish
   pub record SubmittedAll (gate : Gate J G) (before after : List (Sender J G)) (refused : Option ServeFault) : Type 0 where
     pub ran : List (Sender J G)
     pub each : RanEach gate before ran

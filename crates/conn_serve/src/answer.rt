@@ -1,7 +1,8 @@
 //! How a life of connections ends.
 
-ghost use Rattle.std.specs.Prelude.{◌≡◌};
-ghost use Rattle.conn_serve.specs.Answers.{close_of, submit_fault, finish_fault, yields_to, answer_of};
+ghost use Rattle.std.specs.Prelude.{◌≡◌, IsTrue, IsFalse};
+ghost use Rattle.conn_serve.specs.Answers.{close_of, submit_fault, finish_fault, yields_to, late_answer, answer_of};
+ghost use Rattle.conn_serve.specs.Opening.{IsUnrefused};
 
 use conn_lines::Close;
 use conn_turns::{TurnEnd, TurnFault};
@@ -94,6 +95,31 @@ fn yields_to(fault: ServeFault, refusal: ServeFault) -> bool
         ServeFault::Dial => matches!(refusal, ServeFault::Journal),
         ServeFault::Output | ServeFault::Journal | ServeFault::Full { .. } | ServeFault::Memory =>
             false,
+    }
+}
+
+/// Whether a life answers no refusal, and nothing failed.
+pub(crate) fn is_unrefused(answer: Result<(), ServeFault>) -> bool
+    ensures yes { IsTrue result → IsUnrefused answer }
+    ensures no { IsFalse result → IsUnrefused answer → ⊥ }
+{
+    matches!(
+        answer,
+        Ok(())
+            | Err(ServeFault::Unfinished { .. } | ServeFault::Rejected { .. } | ServeFault::Turns)
+    )
+}
+
+/// The answer of a life that answered so, behind which senders were refused so, if they were.
+pub(crate) fn late_answer(
+    answer: Result<(), ServeFault>,
+    late: Option<ServeFault>,
+) -> Result<(), ServeFault>
+    ensures { result ≡ late_answer answer late }
+{
+    match late {
+        Some(fault) => Err(fault),
+        None => answer,
     }
 }
 

@@ -24,6 +24,7 @@ ghost use Rattle.conn_serve.specs.Moments.{connection_at, faults_at};
 
 use crate::answer::{ServeFault, close_of};
 use crate::news::Teller;
+use crate::signals::Signals;
 use conn_lines::Close;
 use conn_loop::{Conn, LiveEnd};
 use conn_turns::News;
@@ -34,7 +35,7 @@ use gw_outside::Sink;
 use jr_boxes::Inbox;
 use jr_record::Journal;
 use std::sync::Wait;
-use std::sync::atomic::{AtomicBool, Ordering};
+use std::sync::atomic::Ordering;
 
 /// The most turns of a connection.
 const TURNS: u64 = 1 << 40;
@@ -104,7 +105,7 @@ fn one_connection<L: Link, K: Sink, O: Journal, I: Journal, C: Clock, R: Wait>(
     link: &mut L,
     out: &mut K,
     teller: &mut Teller,
-    stop: &AtomicBool,
+    signals: &Signals,
     rt: &R,
 ) -> Result<Option<Close>, ServeFault>
     requires may { MayBegin (line_in end.old).machine (pass_in end.old) end.old.inbox.now }
@@ -123,12 +124,12 @@ fn one_connection<L: Link, K: Sink, O: Journal, I: Journal, C: Clock, R: Wait>(
 {
     end.begin();
     for _ in 0..TURNS {
-        if stop.load(Ordering::SeqCst) {
+        if signals.stop.load(Ordering::SeqCst) {
             let _ = end.cut();
             return Ok(None);
         }
         match turn_once(end, link, out, teller, rt) {
-            Ok(None) => {}
+            Ok(None) => signals.turned(end.end(), rt),
             Ok(Some(close)) => return Ok(Some(close)),
             Err(fault) => return Err(fault),
         }
@@ -147,7 +148,7 @@ pub(crate) fn lent_connection<L: Link, K: Sink, O: Journal, I: Journal, C: Clock
     inbox: &mut Inbox<I>,
     clock: &mut C,
     teller: &mut Teller,
-    stop: &AtomicBool,
+    signals: &Signals,
     rt: &R,
 ) -> Result<Option<Close>, ServeFault>
     requires own { IsPassAt gate.now pass.old }
@@ -172,5 +173,5 @@ pub(crate) fn lent_connection<L: Link, K: Sink, O: Journal, I: Journal, C: Clock
     ensures failed { L.faults link.old ≤ L.faults link.new }
 {
     let mut end = LiveEnd::new(conn, gate, pass, inbox, clock);
-    one_connection(&mut end, link, out, teller, stop, rt)
+    one_connection(&mut end, link, out, teller, signals, rt)
 }

@@ -10,8 +10,10 @@ mod life;
 mod news;
 mod senders;
 mod serving;
+mod signals;
 
 pub use answer::{LifeEnd, ServeFault};
 pub use laws::were_are_turns;
 pub use life::serve_connections;
 pub use serving::serve;
+pub use signals::Signals;

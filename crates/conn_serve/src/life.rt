@@ -19,6 +19,7 @@ ghost use Rattle.conn_serve.specs.Moments.{life_at, faults_at};
 use crate::answer::{LifeEnd, ServeFault};
 use crate::connection::lent_connection;
 use crate::news::Teller;
+use crate::signals::Signals;
 use conn_lines::Close;
 use conn_loop::Conn;
 use fixp_replies::Ending;
@@ -30,13 +31,13 @@ use jr_boxes::Inbox;
 use jr_record::Journal;
 use std::alloc::Global;
 use std::sync::Wait;
-use std::sync::atomic::{AtomicBool, Ordering};
+use std::sync::atomic::Ordering;
 
 /// The next link, or `None` where the dialer was told to stop before one came; it is a fault where none is left.
 fn next_link<N: Dialer>(
     dialer: &mut N,
     conn: &Conn,
-    stop: &AtomicBool,
+    signals: &Signals,
 ) -> Result<Option<N::Link>, ServeFault>
     requires lent { N.lent dialer.old ≡ false }
     ensures next { IsNext N.Link.carried (N.told dialer.old) (N.told dialer.new) result }
@@ -46,7 +47,7 @@ fn next_link<N: Dialer>(
     ensures dial { result ≡ Err faults.Dial → HasRisen (N.faults dialer.old) (N.faults dialer.new) }
     ensures never_falls { N.faults dialer.old ≤ N.faults dialer.new }
 {
-    match dialer.next(stop) {
+    match dialer.next(&signals.stop) {
         Ok(Next::Link(link)) => Ok(Some(link)),
         Ok(Next::NoneLeft) => Err(ServeFault::Unfinished {
             phase: conn.end().phase(),
@@ -82,7 +83,7 @@ fn serve_next<N: Dialer, K: Sink, O: Journal, I: Journal, C: Clock, R: Wait>(
     conn: &mut Conn,
     teller: &mut Teller,
     number: u64,
-    stop: &AtomicBool,
+    signals: &Signals,
     rt: &R,
 ) -> Result<Option<LifeEnd>, ServeFault>
     requires own { IsPassAt gate.now pass.old }
@@ -101,14 +102,15 @@ fn serve_next<N: Dialer, K: Sink, O: Journal, I: Journal, C: Clock, R: Wait>(
     ensures told { C.told clock.new ≡ C.told clock.old }
     ensures ticks { C.last clock.old ≤ C.last clock.new }
 {
-    let mut link = match next_link(dialer, conn, stop) {
+    let mut link = match next_link(dialer, conn, signals) {
         Ok(Some(link)) => link,
         Ok(None) => return Ok(Some(LifeEnd::Stopped)),
         Err(fault) => return Err(fault),
     };
     let answer = lent_connection(
-        conn, &mut link, out, gate, pass, inbox, clock, teller, stop, rt,
+        conn, &mut link, out, gate, pass, inbox, clock, teller, signals, rt,
     );
+    signals.lost(conn.end(), rt);
     dialer.back(link);
     let ended = match answer {
         Ok(ended) => ended,
@@ -123,8 +125,9 @@ fn serve_next<N: Dialer, K: Sink, O: Journal, I: Journal, C: Clock, R: Wait>(
     end_behind(close)
 }
 
-/// Serves the connections that a dialer gives, one after another, until one ends with both finishes exchanged, or until `stop`
-/// is set, which is looked at before each turn and each connection, and by the dialer while it waits for one. The lines of each
+/// Serves the connections that a dialer gives, one after another, until one ends with both finishes exchanged, or until the signals
+/// say that they are to stop, which is looked at before each turn and each connection, and by the dialer while it waits for one. The
+/// signals are told how far each turn came. The lines of each
 /// turn's news and of each connection's end stand on OUT as soon as they are known. Each link goes back to the dialer at its
 /// connection's end.
 ///
@@ -140,7 +143,7 @@ pub fn serve_connections<N: Dialer, K: Sink, O: Journal, I: Journal, C: Clock, R
     inbox: &mut Inbox<I>,
     clock: &mut C,
     conn: &mut Conn,
-    stop: &AtomicBool,
+    signals: &Signals,
     rt: &R,
 ) -> Result<LifeEnd, ServeFault>
     requires own { IsPassAt gate.now pass.old }
@@ -160,7 +163,7 @@ pub fn serve_connections<N: Dialer, K: Sink, O: Journal, I: Journal, C: Clock, R
 {
     let mut teller = Teller::new(alloc);
     for number in 1..u64::MAX {
-        if stop.load(Ordering::SeqCst) {
+        if signals.stop.load(Ordering::SeqCst) {
             return Ok(LifeEnd::Stopped);
         }
         let answer = serve_next(
@@ -173,7 +176,7 @@ pub fn serve_connections<N: Dialer, K: Sink, O: Journal, I: Journal, C: Clock, R
             conn,
             &mut teller,
             number,
-            stop,
+            signals,
             rt,
         );
         let ended = match answer {
@@ -187,4 +190,39 @@ pub fn serve_connections<N: Dialer, K: Sink, O: Journal, I: Journal, C: Clock, R
     // No dialer gives so many connections.
     for _ in rt.forever() {}
     unreachable!()
+}
+
+/// Serves the connections, as `serve_connections` does, and lets no sender's message in behind them.
+pub(crate) fn serve_then_shut<N: Dialer, K: Sink, O: Journal, I: Journal, C: Clock, R: Wait>(
+    alloc: Global,
+    dialer: &mut N,
+    out: &mut K,
+    gate: &Gate<O>,
+    pass: &mut Pass<Kept<O>>,
+    inbox: &mut Inbox<I>,
+    clock: &mut C,
+    conn: &mut Conn,
+    signals: &Signals,
+    rt: &R,
+) -> Result<LifeEnd, ServeFault>
+    requires own { IsPassAt gate.now pass.old }
+    requires free { IsFree pass.old }
+    requires may { MayBegin (line_of conn.old).machine (known pass.old) inbox.old }
+    requires lent { N.lent dialer.old ≡ false }
+    ensures own { IsPassAt gate.now pass.new }
+    ensures free { IsFree pass.new }
+    ensures looks { Looks (known pass.old) (known pass.new) }
+    ensures lent { N.lent dialer.new ≡ false }
+    ensures served { ServedOver N.Link.Link (C.last clock.old) (C.last clock.new) (life_at (N.told dialer.old) (K.taken out.old) (known pass.old).seen inbox.old) (life_at (N.told dialer.new) (K.taken out.new) (known pass.new).seen inbox.new) (line_of conn.old).machine result }
+    ensures blamed { IfErr result (IsBlamed (faults_at (K.faults out.old) (N.faults dialer.old) (known pass.old) inbox.old) (faults_at (K.faults out.new) (N.faults dialer.new) (known pass.new) inbox.new)) }
+    ensures kind { SameKind inbox.old inbox.new }
+    ensures never_falls { (faults_of inbox.old ≤ faults_of inbox.new) × (K.faults out.old ≤ K.faults out.new) × (N.faults dialer.old ≤ N.faults dialer.new) }
+    ensures told { C.told clock.new ≡ C.told clock.old }
+    ensures ticks { C.last clock.old ≤ C.last clock.new }
+{
+    let answer = serve_connections(
+        alloc, dialer, out, gate, pass, inbox, clock, conn, signals, rt,
+    );
+    signals.shut(rt);
+    answer
 }

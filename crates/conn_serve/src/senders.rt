@@ -1,20 +1,22 @@
 //! The senders of a life: all plans at once, and the Finish behind them.
 
-ghost use Rattle.std.specs.Prelude.{◌≡◌, All, Ok, Err, IfOk, IfErr, ◌<◌, length};
+ghost use Rattle.std.specs.Prelude.{◌≡◌, ◌<◌, All, List, length, None, Ok, Err, IfOk, IfErr, IsTrue, IsFalse};
 ghost use Rattle.gate_turn.specs.Places.{known};
 ghost use Rattle.gate_turn.specs.Calls.{IsFree};
 ghost use Rattle.gate_senders.specs.Gate.{IsPassAt};
-ghost use Rattle.gate_plans.specs.Runs.{IsReady, RanEach, IsLowest};
+ghost use Rattle.gate_plans.specs.Runs.{IsReady, RanEach, IsAdmitted, IsLowest};
+ghost use Rattle.gate_plans.specs.declared.sender.Sender.{Sender};
 ghost use Rattle.conn_serve.specs.Senders.{refusal_of, Finishes, IsRefusal, FinishedFirst, SubmittedAll};
 
 use crate::answer::{ServeFault, refused_finish, refused_submit};
-use gate_plans::{OpenDoor, Sender, run_senders};
+use crate::signals::Signals;
+use gate_plans::{Sender, resume_turned, run_senders};
 use gate_senders::{Gate, Kept};
 use gate_turn::Pass;
 use jr_boxes::SubmitFault;
 use jr_record::Journal;
 use std::sync::Wait;
-use std::sync::atomic::{AtomicBool, Ordering};
+use std::sync::atomic::Ordering;
 use std::thread::Threads;
 
 /// What the refusal that a sender met, if it met one, is to the life.
@@ -71,10 +73,24 @@ fn finish<O: Journal, R: Wait>(
     finish_by(gate, &mut senders[0].pass, rt)
 }
 
-/// Submits all plans.
+/// Whether the door turned a sender away.
+fn any_turned<O: Journal>(senders: &[Sender<O>]) -> bool
+    ensures none { IsFalse result → All IsAdmitted senders.now }
+    ensures some { IsTrue result → All IsAdmitted senders.now → ⊥ }
+{
+    for sender in senders {
+        if sender.turned {
+            return true;
+        }
+    }
+    false
+}
+
+/// Submits all plans, through the door that the connections keep.
 fn submit_plans<O: Journal + Send, R: Threads + Wait + Sync>(
     gate: &Gate<O>,
     senders: &mut [Sender<O>],
+    signals: &Signals,
     rt: &R,
 ) -> Result<(), SubmitFault>
     requires ready { All (λ s. IsReady gate.now s) senders.old }
@@ -82,7 +98,7 @@ fn submit_plans<O: Journal + Send, R: Threads + Wait + Sync>(
     ensures lowest { IsLowest senders.new result }
     ensures ready { All (λ s. IsReady gate.now s) senders.new }
 {
-    run_senders(gate, senders, &OpenDoor, rt)
+    run_senders(gate, senders, signals, rt)
 }
 
 /// Submits all plans, and adds the Finish where all are submitted and there are senders. Answers the refusal that was met, if one
@@ -90,31 +106,55 @@ fn submit_plans<O: Journal + Send, R: Threads + Wait + Sync>(
 fn submit_and_finish<O: Journal + Send, R: Threads + Wait + Sync>(
     gate: &Gate<O>,
     senders: &mut [Sender<O>],
+    signals: &Signals,
     rt: &R,
 ) -> Option<ServeFault>
     requires ready { All (λ s. IsReady gate.now s) senders.old }
     ensures submitted { SubmittedAll gate.now senders.old senders.new result }
 {
-    match submit_plans(gate, senders, rt) {
-        Ok(()) if !senders.is_empty() => finish(gate, senders, rt),
+    match submit_plans(gate, senders, signals, rt) {
+        Ok(()) if !senders.is_empty() && !any_turned(senders) => finish(gate, senders, rt),
         _ => first_refusal(senders),
     }
 }
 
-/// Submits the plans and adds the Finish behind them, and sets `stop` where a refusal was met.
+/// Submits the plans and adds the Finish behind them, and tells the connections to stop where a refusal was met.
 pub(crate) fn submit_all<O: Journal + Send, R: Threads + Wait + Sync>(
     gate: &Gate<O>,
     senders: &mut [Sender<O>],
-    stop: &AtomicBool,
+    signals: &Signals,
     rt: &R,
 ) -> Option<ServeFault>
     requires ready { All (λ s. IsReady gate.now s) senders.old }
     ensures ready { All (λ s. IsReady gate.now s) senders.new }
     ensures submitted { SubmittedAll gate.now senders.old senders.new result }
 {
-    let refused = submit_and_finish(gate, senders, rt);
+    let refused = submit_and_finish(gate, senders, signals, rt);
     if refused.is_some() {
-        stop.store(true, Ordering::SeqCst);
+        signals.stop.store(true, Ordering::SeqCst);
     }
     refused
+}
+
+/// Behind the connections, submits what is left of the plans of the senders that were turned away, and adds the Finish where all are
+/// submitted. What was refused before is answered, and nothing is done then. Answers the refusal that was met, if one was other than
+/// that the outbox is closed.
+pub(crate) fn submit_turned<O: Journal + Send, R: Threads + Wait + Sync>(
+    gate: &Gate<O>,
+    senders: &mut [Sender<O>],
+    refused: Option<ServeFault>,
+    rt: &R,
+) -> Option<ServeFault>
+    requires ready { All (λ s. IsReady gate.now s) senders.old }
+    ensures ready { All (λ s. IsReady gate.now s) senders.new }
+    ensures one_run { (before : List (Sender _ _)) → SubmittedAll gate.now before senders.old refused → SubmittedAll gate.now before senders.new result }
+    ensures admitted { result ≡ None → All IsAdmitted senders.new }
+{
+    if refused.is_some() || !any_turned(senders) {
+        return refused;
+    }
+    match resume_turned(gate, senders, rt) {
+        Ok(()) => finish(gate, senders, rt),
+        Err(_) => first_refusal(senders),
+    }
 }

@@ -1,6 +1,6 @@
 //! A whole life: the connections, and the senders beside them.
 
-ghost use Rattle.std.specs.Prelude.{◌≡◌, ℕ, ◌≤◌, ◌<◌, ◌^◌, ◌+◌, false, All, IfOk, IfErr, if◌then◌else◌, Some, None, length};
+ghost use Rattle.std.specs.Prelude.{◌≡◌, ℕ, ◌≤◌, ◌<◌, ◌^◌, ◌+◌, false, All, List, IfOk, IfErr, if◌then◌else◌, Some, None, length};
 ghost use Rattle.session_model.specs.Journal.{BeginsHistory};
 ghost use Rattle.fixp_msgs.specs.declared.flow.Flow.TheVariants.{Recoverable};
 ghost use Rattle.fixp_machine.specs.Machine.{fresh};
@@ -8,18 +8,21 @@ ghost use Rattle.jr_boxes.specs.Inbox.{faults_of, flow_of, next_of, is_negotiate
 ghost use Rattle.gate_turn.specs.Places.{known};
 ghost use Rattle.gate_turn.specs.Calls.{IsFree};
 ghost use Rattle.gate_senders.specs.Gate.{IsPassAt, opening_of};
-ghost use Rattle.gate_plans.specs.Runs.{IsReady};
+ghost use Rattle.gate_plans.specs.Runs.{IsReady, IsAdmitted};
+ghost use Rattle.conn_serve.specs.Answers.{answer_of};
 ghost use Rattle.gate_plans.specs.Seats.{Seated};
 ghost use Rattle.conn_steps.specs.Settling.{SameKind};
 ghost use Rattle.conn_loop.specs.Conn.{line_of, new_line, Looks};
 ghost use Rattle.conn_serve.specs.Turned.{MayBegin};
-ghost use Rattle.conn_serve.specs.Senders.{SomeMarked};
-ghost use Rattle.conn_serve.specs.Opening.{opened_state, ServedBy, ServedThrough, IsUnrefused};
+ghost use Rattle.gate_plans.specs.declared.sender.Sender.{Sender};
+ghost use Rattle.conn_serve.specs.Senders.{SubmittedAll, SomeMarked};
+ghost use Rattle.conn_serve.specs.Opening.{opened_state, EndedSo, ServedBy, ServedThrough, IsUnrefused};
 ghost use Rattle.conn_serve.specs.Moments.{serving_at};
 
-use crate::answer::{LifeEnd, ServeFault, answer_of};
-use crate::life::serve_connections;
-use crate::senders::submit_all;
+use crate::answer::{LifeEnd, ServeFault, answer_of, is_unrefused, late_answer};
+use crate::life::serve_then_shut;
+use crate::senders::{submit_all, submit_turned};
+use crate::signals::Signals;
 use conn_loop::Conn;
 use fixp_end::{End, EndConfig, EndState};
 use gate_plans::Sender;
@@ -31,7 +34,6 @@ use jr_boxes::Inbox;
 use jr_record::Journal;
 use std::alloc::{AllocError, Global};
 use std::sync::Wait;
-use std::sync::atomic::AtomicBool;
 use std::thread::{Threads, join_mut};
 
 /// What the journals record as the life opens: what the inbox has, and how many entries the outbox had.
@@ -85,6 +87,7 @@ fn serve_beside<
     clock: &mut C,
     conn: &mut Conn,
     senders: &mut [Sender<O>],
+    signals: &Signals,
     rt: &R,
 ) -> Result<(), ServeFault>
     requires own { IsPassAt gate.now pass.old }
@@ -102,27 +105,50 @@ fn serve_beside<
     ensures never_falls { (faults_of inbox.old ≤ faults_of inbox.new) × (K.faults out.old ≤ K.faults out.new) × (N.faults dialer.old ≤ N.faults dialer.new) }
     ensures told { C.told clock.new ≡ C.told clock.old }
 {
-    let stop = AtomicBool::new(false);
     let (refused, connections) = join_mut(
         rt,
         &mut || -> Option<ServeFault>
             requires { All (λ s. IsReady gate.now s) senders.now }
-        { submit_all(gate, senders, &stop, rt) },
+        { submit_all(gate, senders, signals, rt) },
         &mut || -> Result<LifeEnd, ServeFault>
             requires { IsPassAt gate.now pass.now × IsFree pass.now × MayBegin (line_of conn.now).machine (known pass.now) inbox.now × (N.lent dialer.now ≡ false) }
         {
-            serve_connections(
-                alloc, dialer, out, gate, pass, inbox, clock, conn, &stop, rt,
+            serve_then_shut(
+                alloc, dialer, out, gate, pass, inbox, clock, conn, signals, rt,
             )
         },
     );
     answer_of(connections, refused)
 }
 
+/// What a life answers that answered so for its connections and the senders beside them. Where no refusal is answered, and nothing failed, the
+/// senders that were turned away go on first.
+fn submit_behind<O: Journal + Send, R: Threads + Wait + Sync>(
+    gate: &Gate<O>,
+    senders: &mut [Sender<O>],
+    answer: Result<(), ServeFault>,
+    rt: &R,
+) -> Result<(), ServeFault>
+    requires ready { All (λ s. IsReady gate.now s) senders.old }
+    ensures ready { All (λ s. IsReady gate.now s) senders.new }
+    ensures kept { (IsUnrefused answer → ⊥) → (senders.new ≡ senders.old) × (result ≡ answer) }
+    ensures behind { (before : List (Sender _ _)) (connections : _) (refused : _) → SubmittedAll gate.now before senders.old refused → answer ≡ answer_of connections refused → EndedSo gate.now before senders.new connections result }
+{
+    if !is_unrefused(answer) {
+        return answer;
+    }
+    let late = submit_turned(gate, senders, None, rt);
+    late_answer(answer, late)
+}
+
 /// Serves one life: the connections of the dialer, one after another, and beside them the senders, each of which submits its plan;
 /// once all are submitted, the Finish is added. It ends with the first connection on which both finishes are exchanged. A
 /// refusal of a sender or of the Finish, other than that the outbox is closed, ends it before the turn or the connection that
 /// would follow.
+///
+/// Where the own flow is not sent again, idempotent or unsequenced, a message is submitted only while a connection is established and fewer
+/// than 64 wait to be sent. Where the connections ended without a fault that is answered, what was kept back is submitted behind them,
+/// and the Finish; else it is left to the next life.
 ///
 /// # Errors
 /// Those of `serve_connections`; and `Journal`, `Full` and `Memory` where a sender or the Finish was refused so, in place of all
@@ -160,6 +186,7 @@ pub fn serve<N: Dialer, K: Sink, O: Journal + Send, I: Journal, C: Clock, R: Thr
     ensures served { ServedBy gate.now (serving_at (N.told dialer.old) (K.taken out.old) (K.faults out.old) (N.faults dialer.old) (known pass.old) inbox.old senders.old) (serving_at (N.told dialer.new) (K.taken out.new) (K.faults out.new) (N.faults dialer.new) (known pass.new) inbox.new senders.new) (fresh config (opened_state (opening_of gate.now).history inbox.old) most) result }
     ensures through { ServedThrough N.Link.Link (C.last clock.old) (C.last clock.new) gate.now (serving_at (N.told dialer.old) (K.taken out.old) (K.faults out.old) (N.faults dialer.old) (known pass.old) inbox.old senders.old) (serving_at (N.told dialer.new) (K.taken out.new) (K.faults out.new) (N.faults dialer.new) (known pass.new) inbox.new senders.new) (fresh config (opened_state (opening_of gate.now).history inbox.old) most) result }
     ensures seated { (made : ℕ) → Seated gate.now senders.old made → Seated gate.now senders.new made }
+    ensures admitted { IsUnrefused result → All IsAdmitted senders.new }
     ensures marked { IsUnrefused result → 0 < length senders.old → SomeMarked senders.new }
     ensures kind { SameKind inbox.old inbox.new }
     ensures never_falls { (faults_of inbox.old ≤ faults_of inbox.new) × (K.faults out.old ≤ K.faults out.new) × (N.faults dialer.old ≤ N.faults dialer.new) }
@@ -168,7 +195,9 @@ pub fn serve<N: Dialer, K: Sink, O: Journal + Send, I: Journal, C: Clock, R: Thr
     let Ok(mut conn) = opened(alloc, gate, inbox, config, most) else {
         return Err(ServeFault::Memory);
     };
-    serve_beside(
-        alloc, dialer, out, gate, pass, inbox, clock, &mut conn, senders, rt,
-    )
+    let signals = Signals::new(conn.end());
+    let answer = serve_beside(
+        alloc, dialer, out, gate, pass, inbox, clock, &mut conn, senders, &signals, rt,
+    );
+    submit_behind(gate, senders, answer, rt)
 }

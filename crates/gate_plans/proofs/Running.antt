@@ -1,10 +1,13 @@
 -- A run of one sender, put together from its first message and the rest.
-use Rattle.std.proofs.Common.{◌≡◌, inl, inr, ⊎_elim, ℕ, zero, suc, ◌+◌, ◌-◌, ◌≤◌, List, [], ◌∷◌, ◌++◌, length, take, drop, slice_get, Some, None, refl, sym, ap, ◌∙◌, subst, arith, append-nil, append_assoc, length-append}
+use Rattle.std.proofs.Common.{◌≡◌, inl, inr, ⊎_elim, ℕ, zero, suc, ◌+◌, ◌-◌, ◌<◌, ◌≤◌, Bool, true, false, List, [], ◌∷◌, ◌++◌, length, take, drop, slice_get, slice_index_or, Some, None, refl, sym, ap, ◌∙◌, subst, arith, append-nil, append_assoc, length-append, take-add, drop-drop}
+use Rattle.std.proofs.lemmas.Bool.{false≢true}
 use Rattle.std.proofs.lemmas.Option.{none-some, same_Some, slice_get_within}
 use Rattle.session_model.specs.Journal.{Entry}
 use Rattle.session_model.proofs.Lists.{prefix_get, prefix_length}
+use mathlib.Core.List.{IsPrefix}
 use Rattle.jr_record.specs.declared.journal.Journal.{Ghosts}
 use Rattle.jr_boxes.specs.declared.faults.SubmitFault.{SubmitFault}
+use Rattle.jr_boxes.specs.declared.faults.SubmitFault.TheVariants as submit
 use Rattle.gate_turn.specs.Views.{Part}
 use Rattle.gate_turn.specs.Places.{known}
 use Rattle.gate_turn.proofs.Histories.{begins_self, begins_on}
@@ -14,7 +17,7 @@ use Rattle.gate_turn.specs.Calls.{IsFree}
 use Rattle.gate_senders.specs.Gate.{IsPassAt}
 use Rattle.gate_senders.specs.declared.gate.Gate.{Gate}
 use Rattle.gate_plans.specs.Sent.{entries_behind, StandAt, GoesOn, Sent, IsShown, refusals}
-use Rattle.gate_plans.specs.Runs.{plan_of, IsReady, WasRefused, Ran, Counted, Accepted, Refused}
+use Rattle.gate_plans.specs.Runs.{plan_of, IsReady, WasRefused, Ran, RanEach, Resumed, ResumedEach, Counted, Accepted, Refused}
 use Rattle.gate_plans.specs.declared.sender.Sender.{Sender}
 
 -- the part of a list from a place on, by its first element
@@ -84,29 +87,83 @@ sent_on p q z payload n rest numbers turn did on sent = record {
     here : slice_get q.seen.made (n - 1) ≡ Some e
     here = ap (λ k. slice_get q.seen.made k) place ∙ (ap (λ (es : List Entry). slice_get es (length did.before)) did.last ∙ at_end did.before e)
 
+-- the entries of some payloads, and of those behind them
+behind_long : (sender own : ℕ) (xs : List (List ℕ)) → length (entries_behind sender own xs) ≡ length xs
+behind_long sender own [] = refl
+behind_long sender own (x ∷ xs) = ap suc (behind_long sender (own + 1) xs)
+
+behind_append : (sender own : ℕ) (xs ys : List (List ℕ)) → entries_behind sender own (xs ++ ys) ≡ entries_behind sender own xs ++ entries_behind sender (own + length xs) ys
+behind_append sender own [] ys = ap (λ k. entries_behind sender k ys) (omega arith)
+behind_append sender own (x ∷ xs) ys =
+    ap (λ (es : List Entry). record { sender = sender; own_number = own + 1; payload = x } ∷ es)
+    (behind_append sender (own + 1) xs ys ∙ ap (λ k. entries_behind sender (own + 1) xs ++ entries_behind sender k ys) (omega arith))
+
+stand_lower : (made : List Entry) (n m : ℕ) (ks : List ℕ) (es : List Entry) → n ≤ m → StandAt made m ks es → StandAt made n ks es
+stand_lower made n m [] [] least h = tt
+stand_lower made n m [] (e ∷ es) least h = absurd h
+stand_lower made n m (k ∷ ks) [] least h = absurd h
+stand_lower made n m (k ∷ ks) (e ∷ es) least h = (omega (arith, least, h.0), h.1, h.2)
+
+stand_append : (made more : List Entry) (n : ℕ) (ks ls : List ℕ) (es fs : List Entry) → IsPrefix made more → n ≤ length made → StandAt made n ks es → StandAt more (length made) ls fs
+    → StandAt more n (ks ++ ls) (es ++ fs)
+stand_append made more n [] ls [] fs begins least h g = stand_lower more n (length made) ls fs least g
+stand_append made more n [] ls (e ∷ es) fs begins least h g = absurd h
+stand_append made more n (k ∷ ks) ls [] fs begins least h g = absurd h
+stand_append made more n (k ∷ ks) ls (e ∷ es) fs begins least h g =
+    let inside = slice_get_within made (k - 1) e h.1 in (
+      h.0,
+      prefix_get made more (k - 1) e begins h.1,
+      stand_append made more k ks ls es fs begins (omega (arith, inside)) h.2 g,
+    )
+
+-- some messages, and those behind them
+sent_after : (p q z : Part) (xs ys : List (List ℕ)) (ks ls : List ℕ) → GoesOn p q → GoesOn q z → Sent p q xs ks → Sent q z ys ls → Sent p z (xs ++ ys) (ks ++ ls)
+sent_after p q z xs ys ks ls first on a b = record {
+  mine = b.mine ∙ ap (λ (es : List Entry). es ++ entries_behind q.number (length q.mine) ys) a.mine
+      ∙ append_assoc p.mine (entries_behind p.number (length p.mine) xs) (entries_behind q.number (length q.mine) ys) ∙ ap (λ (es : List Entry). p.mine ++ es) joined;
+  stand = subst (λ (es : List Entry). StandAt z.seen.made (length p.seen.made) (ks ++ ls) es) joined
+      (stand_append q.seen.made z.seen.made (length p.seen.made) ks ls (entries_behind p.number (length p.mine) xs) (entries_behind q.number (length q.mine) ys) on.seen.made
+      (prefix_length p.seen.made q.seen.made first.seen.made) a.stand b.stand);
+}
+  where
+    longer : length q.mine ≡ length p.mine + length xs
+    longer = ap length a.mine ∙ length-append p.mine (entries_behind p.number (length p.mine) xs) ∙ ap (λ k. length p.mine + k) (behind_long p.number (length p.mine) xs)
+
+    joined : entries_behind p.number (length p.mine) xs ++ entries_behind q.number (length q.mine) ys ≡ entries_behind p.number (length p.mine) (xs ++ ys)
+    joined = ap (λ (es : List Entry). entries_behind p.number (length p.mine) xs ++ es) (ap (λ k. entries_behind k (length q.mine) ys) first.number ∙ ap (λ k. entries_behind p.number k ys) longer)
+        ∙ sym (behind_append p.number (length p.mine) xs ys)
+
 module _ {J : Type 0} {G : Ghosts J} (gate : Gate J G) where
-  -- nothing is left
-  pub ran_out : (s : Sender J G) → IsReady gate s → s.refused ≡ None → length (plan_of s) ≤ s.done → Ran gate s s
-  ran_out s ready unrefused whole =
-      let nothing : s.done - s.done ≡ 0 = omega arith in
+  -- nothing more is submitted: all is done, or the door turned it away
+  pub ran_still : (s t : Sender J G) → IsReady gate t → t.pass ≡ s.pass → plan_of t ≡ plan_of s → t.done ≡ s.done → t.refused ≡ None → (t.turned ≡ false → length (plan_of s) ≤ s.done)
+      → (t.turned ≡ true → s.done < length (plan_of s)) → Ran gate s t
+  ran_still s t ready pass plan done unrefused whole turned =
+      let nothing : t.done - s.done ≡ 0 = omega (arith, done) in
+      let same : known t.pass ≡ known s.pass = ap known pass in
       record {
         ready = ready;
-        plan = refl;
-        pass = goes_self (known s.pass);
-        done = omega arith;
-        within = inl refl;
+        plan = plan;
+        pass = subst (λ (q : Part). GoesOn (known s.pass) q) (sym same) (goes_self (known s.pass));
+        done = omega (arith, done);
+        within = inl done;
         numbers = [];
         each = sym nothing;
-        sent = subst (λ k. Sent (known s.pass) (known s.pass) (take k (drop s.done (plan_of s))) []) (sym nothing) (record { mine = sym (append-nil _); stand = tt });
-        turns = omega (arith, ap refusals unrefused);
-        whole = λ _. whole;
+        sent = subst (λ k. Sent (known s.pass) (known t.pass) (take k (drop s.done (plan_of s))) []) (sym nothing)
+            (subst (λ (q : Part). Sent (known s.pass) q [] []) (sym same) (record { mine = sym (append-nil _); stand = tt }));
+        turns = omega (arith, ap refusals unrefused, ap (λ (q : Part). q.turns) same, nothing);
+        whole = λ _ e. omega (arith, whole e, done);
+        turned = λ e. (unrefused, omega (arith, turned e, done));
         refused = λ f e. absurd (none-some f (sym unrefused ∙ e));
-        unlost = λ _. refl;
+        unlost = λ _. ap (λ (q : Part). q.lost) same;
       }
 
+  -- nothing is left
+  pub ran_out : (s : Sender J G) → IsReady gate s → s.refused ≡ None → s.turned ≡ false → length (plan_of s) ≤ s.done → Ran gate s s
+  ran_out s ready unrefused unturned whole = ran_still s s ready refl refl refl unrefused (λ _. whole) (λ e. absurd (false≢true (sym unturned ∙ e)))
+
   -- the next message was refused
-  pub ran_refused : (s t : Sender J G) → Refused gate s t → Ran gate s t
-  ran_refused s t r =
+  pub ran_refused : (s t : Sender J G) → s.turned ≡ false → Refused gate s t → Ran gate s t
+  ran_refused s t unturned r =
       let nothing : t.done - s.done ≡ 0 = omega (arith, r.done) in
       record {
         ready = r.ready;
@@ -118,7 +175,8 @@ module _ {J : Type 0} {G : Ghosts J} (gate : Gate J G) where
         each = sym nothing;
         sent = subst (λ k. Sent (known s.pass) (known t.pass) (take k (drop s.done (plan_of s))) []) (sym nothing) (record { mine = r.mine ∙ sym (append-nil _); stand = tt });
         turns = omega (arith, nothing, r.turn.turns, ap refusals r.refused);
-        whole = λ e. absurd (none-some r.fault (sym e ∙ r.refused));
+        whole = λ e _. absurd (none-some r.fault (sym e ∙ r.refused));
+        turned = λ e. absurd (false≢true (sym unturned ∙ (sym r.turned ∙ e)));
         refused = λ f e. subst (λ (g : SubmitFault). WasRefused s t g) (same_Some r.fault f (sym r.refused ∙ e)) r.was;
         unlost = λ never. r.unlost (λ e. never (r.refused ∙ ap Some e));
       }
@@ -148,13 +206,58 @@ module _ {J : Type 0} {G : Ghosts J} (gate : Gate J G) where
         each = omega (arith, r.each, fewer);
         sent = subst (λ (xs : List (List ℕ)). Sent p z xs (a.number ∷ r.numbers)) parts (sent_on p q z a.payload a.number _ r.numbers a.turn a.submitted r.pass r.sent);
         turns = omega (arith, r.turns, fewer, a.turn.turns);
-        whole = λ e. omega (arith, r.whole e, long);
+        whole = λ e n. omega (arith, r.whole e n, long);
+        turned = λ e. let x = r.turned e in (x.0, omega (arith, x.1, long));
         refused = λ f e. let w = r.refused f e in record { payload = w.payload; next = w.next; shown = shown_before p q z w.payload f first.faults w.shown; lost = w.lost };
         unlost = λ never. r.unlost never ∙ a.lost;
       }
 
-  -- a run forgets what was refused before
-  pub ran_anew : (s t : Sender J G) → Ran gate (record s { refused = None }) t → Ran gate s t
+  -- a run that ended at the door, and one that went on behind it, are one run
+  ran_after : (s m t : Sender J G) → m.turned ≡ true → Ran gate s m → Ran gate m t → Ran gate s t
+  ran_after s m t away a r =
+      let p = known s.pass in
+      let q = known m.pass in
+      let z = known t.pass in
+      let unrefused : m.refused ≡ None = (a.turned away).0 in
+      let inside : m.done < length (plan_of s) = (a.turned away).1 in
+      let long : length (plan_of m) ≡ length (plan_of s) = ap length a.plan in
+      let more : t.done - s.done ≡ (m.done - s.done) + (t.done - m.done) = omega (arith, a.done, r.done) in
+      let behind : s.done + (m.done - s.done) ≡ m.done = omega (arith, a.done) in
+      let parts : take (m.done - s.done) (drop s.done (plan_of s)) ++ take (t.done - m.done) (drop m.done (plan_of m)) ≡ take (t.done - s.done) (drop s.done (plan_of s)) =
+      ap (λ (xs : List (List ℕ)). take (m.done - s.done) (drop s.done (plan_of s)) ++ take (t.done - m.done) xs)
+      (ap (drop m.done) a.plan ∙ ap (λ k. drop k (plan_of s)) (sym behind) ∙ sym (drop-drop (m.done - s.done) s.done (plan_of s)))
+      ∙ sym (take-add (m.done - s.done) (t.done - m.done) (drop s.done (plan_of s))) ∙ ap (λ k. take k (drop s.done (plan_of s))) (sym more) in
+      record {
+        ready = r.ready;
+        plan = r.plan ∙ a.plan;
+        pass = goes_on p q z a.pass r.pass;
+        done = omega (arith, a.done, r.done);
+        within = inr (⊎_elim (λ (e : t.done ≡ m.done). omega (arith, e, inside)) (λ (e : t.done ≤ length (plan_of m)). omega (arith, e, long)) r.within);
+        numbers = a.numbers ++ r.numbers;
+        each = omega (arith, length-append a.numbers r.numbers, a.each, r.each, more);
+        sent = subst (λ (xs : List (List ℕ)). Sent p z xs (a.numbers ++ r.numbers)) parts (sent_after p q z _ _ a.numbers r.numbers a.pass r.pass a.sent r.sent);
+        turns = omega (arith, r.turns, a.turns, ap refusals unrefused, more);
+        whole = λ e n. omega (arith, r.whole e n, long);
+        turned = λ e. let x = r.turned e in (x.0, omega (arith, x.1, long));
+        refused = λ f e. let w = r.refused f e in record { payload = w.payload; next = w.next; shown = shown_before p q z w.payload f a.pass.faults w.shown; lost = w.lost };
+        unlost = λ never. r.unlost never ∙ a.unlost (λ e. none-some submit.Fault (sym unrefused ∙ e));
+      }
+
+  ran_resumed : (s m t : Sender J G) → Ran gate s m → Resumed gate m t → Ran gate s t
+  ran_resumed s m t a r = by_door m.turned refl
+    where
+      by_door : (b : Bool) → m.turned ≡ b → Ran gate s t
+      by_door true e = ran_after s m t e a (r.ran e)
+      by_door false e = subst (λ (x : Sender J G). Ran gate s x) (sym (r.same e)) a
+
+  pub each_resumed : (before middle after : List (Sender J G)) → RanEach gate before middle → ResumedEach gate middle after → RanEach gate before after
+  each_resumed before middle after a r = record {
+    long = r.long ∙ a.long;
+    each = λ i d lt. ran_resumed (slice_index_or before i d) (slice_index_or middle i d) (slice_index_or after i d) (a.each i d lt) (r.each i d (omega (arith, lt, a.long)));
+  }
+
+  -- a run forgets what was refused before, and that the door turned it away
+  pub ran_anew : (s t : Sender J G) → Ran gate (record s { refused = None; turned = false }) t → Ran gate s t
   ran_anew s t r = record {
     ready = r.ready;
     plan = r.plan;
@@ -166,6 +269,7 @@ module _ {J : Type 0} {G : Ghosts J} (gate : Gate J G) where
     sent = r.sent;
     turns = r.turns;
     whole = r.whole;
+    turned = r.turned;
     refused = λ f e. let w = r.refused f e in record { payload = w.payload; next = w.next; shown = w.shown; lost = w.lost };
     unlost = r.unlost;
   }

@@ -1,5 +1,5 @@
 -- What becomes of a sender while its plan is submitted: s before, t behind it. Plans are this project's profile.
-use Rattle.std.specs.Prelude.{◌≡◌, ◌⊎◌, ℕ, ◌+◌, ◌-◌, ◌<◌, ◌≤◌, List, All, Contains, length, take, drop, slice_get, slice_index_or, Some, None, Result, Ok, Err}
+use Rattle.std.specs.Prelude.{◌≡◌, ◌⊎◌, ℕ, ◌+◌, ◌-◌, ◌<◌, ◌≤◌, true, false, List, All, Contains, length, take, drop, slice_get, slice_index_or, Some, None, Result, Ok, Err}
 use Rattle.jr_record.specs.declared.journal.Journal.{Ghosts}
 use Rattle.jr_boxes.specs.declared.faults.SubmitFault.{SubmitFault}
 use Rattle.jr_boxes.specs.declared.faults.SubmitFault.TheVariants as submit
@@ -30,7 +30,8 @@ module _ {J : Type 0} {G : Ghosts J} where
     pub lost : f ≡ submit.Fault → HasLost (known t.pass) payload
 
   -- It submitted its plan from `done` on. The messages accepted are those of the plan from the old `done` to the new one; it took
-  -- a turn for each of them and for a refusal; it stopped at the plan's end or at a refusal; and it lost nothing but at a failed call
+  -- a turn for each of them and for a refusal; it stopped at the plan's end, or at a refusal, or before its next message where the door
+  -- turned it away; and it lost nothing but at a failed call
   pub record Ran (gate : Gate J G) (s t : Sender J G) : Type 0 where
     pub ready : IsReady gate t
     pub plan : plan_of t ≡ plan_of s
@@ -41,7 +42,8 @@ module _ {J : Type 0} {G : Ghosts J} where
     pub each : length numbers ≡ t.done - s.done
     pub sent : Sent (known s.pass) (known t.pass) (take (t.done - s.done) (drop s.done (plan_of s))) numbers
     pub turns : (known t.pass).turns ≡ (known s.pass).turns + (t.done - s.done) + refusals t.refused
-    pub whole : t.refused ≡ None → length (plan_of s) ≤ t.done
+    pub whole : t.refused ≡ None → t.turned ≡ false → length (plan_of s) ≤ t.done
+    pub turned : t.turned ≡ true → (t.refused ≡ None) × (t.done < length (plan_of s))
     pub refused : (f : SubmitFault) → t.refused ≡ Some f → WasRefused s t f
     pub unlost : (t.refused ≡ Some submit.Fault → ⊥) → (known t.pass).lost ≡ (known s.pass).lost
 
@@ -65,6 +67,7 @@ module _ {J : Type 0} {G : Ghosts J} where
     pub plan : plan_of t ≡ plan_of s
     pub done : t.done ≡ s.done + 1
     pub refused : t.refused ≡ s.refused
+    pub turned : t.turned ≡ s.turned
     pub payload : List ℕ
     pub next : slice_get (plan_of s) s.done ≡ Some payload
     pub turn : TakesTurn (known s.pass) (known t.pass)
@@ -84,6 +87,7 @@ module _ {J : Type 0} {G : Ghosts J} where
     pub fault : SubmitFault
     pub unlost : (fault ≡ submit.Fault → ⊥) → (known t.pass).lost ≡ (known s.pass).lost
     pub refused : t.refused ≡ Some fault
+    pub turned : t.turned ≡ s.turned
     pub was : WasRefused s t fault
 
   -- each sender ran, in its place
@@ -91,9 +95,31 @@ module _ {J : Type 0} {G : Ghosts J} where
     pub long : length after ≡ length before
     pub each : (i : ℕ) (d : Sender J G) → i < length before → Ran gate (slice_index_or before i d) (slice_index_or after i d)
 
+  -- it ran on where it was turned away, and else it is as it was
+  pub record Resumed (gate : Gate J G) (s t : Sender J G) : Type 0 where
+    pub ran : s.turned ≡ true → Ran gate s t
+    pub same : s.turned ≡ false → t ≡ s
+
+  -- each sender did, in its place
+  pub record ResumedEach (gate : Gate J G) (before after : List (Sender J G)) : Type 0 where
+    pub long : length after ≡ length before
+    pub each : (i : ℕ) (d : Sender J G) → i < length before → Resumed gate (slice_index_or before i d) (slice_index_or after i d)
+
   -- it met no refusal
   abbrev pub HasNone : Sender J G → Type 0
   HasNone t = t.refused ≡ None
+
+  -- it was not turned away
+  abbrev pub IsAdmitted : Sender J G → Type 0
+  IsAdmitted t = t.turned ≡ false
+
+  -- it met no refusal and was not turned away, so that it submitted all
+  abbrev pub IsThrough : Sender J G → Type 0
+  IsThrough t = HasNone t × IsAdmitted t
+
+  -- all of its plan is done, or it was turned away
+  abbrev pub IsWhole : Sender J G → Type 0
+  IsWhole t = (length (plan_of t) ≤ t.done) ⊎ (t.turned ≡ true)
 
   -- where it met a refusal, its number is not below n
   abbrev pub IsNotBelow : ℕ → Sender J G → Type 0

@@ -9,6 +9,6 @@ mod sender;
 
 pub use door::{Door, OpenDoor};
 pub use plan_values::Plan;
-pub use run::run_senders;
+pub use run::{resume_turned, run_senders};
 pub use seats::{count_done, give_last, run_seated, seat, take_last, unseat};
 pub use sender::Sender;

@@ -1,10 +1,10 @@
 //! The senders of a gate, made of its passes, run, and the passes given back.
-ghost use Rattle.std.specs.Prelude.{◌≡◌, ◌≢◌, ℕ, ◌+◌, ◌<◌, ◌≤◌, All, [], length, vec_len, vec_capacity, None, Some, OnOk};
+ghost use Rattle.std.specs.Prelude.{◌≡◌, ◌≢◌, ℕ, ◌+◌, ◌<◌, ◌≤◌, false, All, [], vec_len, vec_capacity, None, Some, OnOk};
 ghost use Rattle.gate_turn.specs.Places.{known};
 ghost use Rattle.gate_turn.specs.Listed.{pass_at};
 ghost use Rattle.gate_turn.specs.Calls.{IsFree};
 ghost use Rattle.gate_senders.specs.Gate.{senders_of, IsPassAt, HasBackAt, MadeAt, AllBackAt};
-ghost use Rattle.gate_plans.specs.Runs.{IsReady, plan_of, RanEach, IsLowest, CountedEach};
+ghost use Rattle.gate_plans.specs.Runs.{IsReady, RanEach, IsWhole, IsAdmitted, IsLowest, CountedEach};
 ghost use Rattle.gate_plans.specs.Seats.{Seated, SeatedFrom, HasTheirs, HasBehind};
 
 use crate::door::Door;
@@ -42,6 +42,7 @@ fn seated<J: Journal>(
         plan,
         done: 0,
         refused: None,
+        turned: false,
     }
 }
 
@@ -106,7 +107,8 @@ pub fn run_seated<J: Journal + Send, D: Door + Sync, R: Threads + Wait + Sync>(
     ensures seated { Seated gate.now senders.new.items (vec_len senders.new + 1) }
     ensures count { vec_len senders.new ≡ vec_len senders.old }
     ensures each { RanEach gate.now senders.old.items senders.new.items }
-    ensures whole { OnOk result (All (λ s. length (plan_of s) ≤ s.done) senders.new.items) }
+    ensures whole { OnOk result (All IsWhole senders.new.items) }
+    ensures admits { D.turns ≡ false → All IsAdmitted senders.new.items }
     ensures lowest { IsLowest senders.new.items result }
 {
     run_senders(gate, senders.as_mut_slice(), door, rt)
@@ -174,6 +176,7 @@ pub fn unseat<J: Journal>(gate: &Gate<J>, mut senders: Vec<Sender<J>>, passes: &
             plan: _,
             done: _,
             refused: _,
+            turned: _,
         } = sender;
         passes.give(pass);
     }

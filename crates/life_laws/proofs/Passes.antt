@@ -22,7 +22,7 @@ use Rattle.gate_turn.proofs.Failing.{failed_before}
 use Rattle.gate_senders.specs.declared.gate.Gate.{Gate}
 use Rattle.gate_senders.specs.declared.kept.Kept.{Kept}
 use Rattle.conn_loop.specs.Conn.{Looks}
-use Rattle.gate_plans.specs.Runs.{HasNone, CountedEach, WasRefused}
+use Rattle.gate_plans.specs.Runs.{IsThrough, CountedEach, WasRefused}
 use Rattle.gate_plans.specs.Seats.{Seated, HasTheirs}
 use Rattle.gate_plans.specs.declared.sender.Sender.{Sender}
 use Rattle.conn_serve.specs.declared.answer.ServeFault.{ServeFault}
@@ -265,7 +265,7 @@ module _ {J : Type 0} {G : Ghosts J} (gate : Gate J G) (a : Account) (plans : Li
     refused_as : (fault : ServeFault) → refused ≡ Some fault → ((after ≡ s.ran) × MetRefusal s.ran fault) ⊎ ((0 < length s.ran) × FinishedFirst s.ran after (Some fault))
     refused_as fault e = by_kind s.finished
       where
-        by_kind : ((after ≡ s.ran) × IsRefusal s.ran refused × (0 < length s.ran → (All HasNone s.ran → ⊥))) ⊎ (All HasNone s.ran × (0 < length s.ran) × FinishedFirst s.ran after refused)
+        by_kind : ((after ≡ s.ran) × IsRefusal s.ran refused × (0 < length s.ran → (All IsThrough s.ran → ⊥))) ⊎ (All IsThrough s.ran × (0 < length s.ran) × FinishedFirst s.ran after refused)
             → ((after ≡ s.ran) × MetRefusal s.ran fault) ⊎ ((0 < length s.ran) × FinishedFirst s.ran after (Some fault))
         by_kind (inl h) = inl (h.0, subst (IsRefusal s.ran) e h.1)
         by_kind (inr h) = inr (h.1, subst (λ (r : Option ServeFault). FinishedFirst s.ran after r) e h.2)

@@ -24,7 +24,7 @@ use Rattle.gate_senders.proofs.Keeping.{submit_failed}
 use Rattle.plan_values.specs.Plans.{payloads_of}
 use Rattle.plan_values.specs.declared.plan.Plan.{Plan}
 use Rattle.gate_plans.specs.Sent.{entries_behind}
-use Rattle.gate_plans.specs.Runs.{plan_of, HasNone, Counted, CountedEach, Ran, WasRefused}
+use Rattle.gate_plans.specs.Runs.{plan_of, IsThrough, Counted, CountedEach, Ran, WasRefused}
 use Rattle.gate_plans.specs.Seats.{SeatedFrom}
 use Rattle.gate_plans.specs.declared.sender.Sender.{Sender}
 use Rattle.conn_serve.specs.declared.answer.ServeFault.{ServeFault}
@@ -96,13 +96,13 @@ module _ {J : Type 0} {G : Ghosts J} (gate : Gate J G) (a : Account) where
         of = record { count = t.done - c.done; are = ran_mine n plan s c t f k r };
       }
 
-  -- all of the plan, where it met no refusal
-  ran_all : (n : ℕ) (plan : List (List ℕ)) (s c t : Sender J G) → Fresh n plan s → Counted gate s c → Ran gate c t → t.refused ≡ None → IsAllMade (entries_of a.history.made n) n plan (known t.pass).mine
-  ran_all n plan s c t f k r none =
+  -- all of the plan, where it met no refusal and was not turned away
+  ran_all : (n : ℕ) (plan : List (List ℕ)) (s c t : Sender J G) → Fresh n plan s → Counted gate s c → Ran gate c t → IsThrough t → IsAllMade (entries_of a.history.made n) n plan (known t.pass).mine
+  ran_all n plan s c t f k r through =
       let had : List Entry = entries_of a.history.made n in
       let done : c.done ≡ length had = k.done ∙ ap length (counted_had n plan s c f k) in
       let long : length (plan_of c) ≡ length plan = ap length (k.plan ∙ f.plan_is) in
-      let whole : length (plan_of c) ≤ t.done = r.whole none in
+      let whole : length (plan_of c) ≤ t.done = r.whole through.0 through.1 in
       let within : length (drop (length had) plan) ≤ t.done - c.done = omega (arith, length-drop (length had) plan, done, long, whole) in
       ran_mine n plan s c t f k r ∙ ap (λ (ps : List (List ℕ)). had ++ entries_behind n (length had) ps) (take_all (t.done - c.done) (drop (length had) plan) within)
 
@@ -217,17 +217,17 @@ module _ {J : Type 0} {G : Ghosts J} (gate : Gate J G) (a : Account) (plans : Li
       ran_unended i d lt = (ran_at i d lt).pass.ended
           ∙ counted_unended gate a (suc i) (plan_in plans (suc i) []) (slice_index_or seated i d) (slice_index_or counted i d) (fresh.each i d (ran_within i lt)) (count.each i d (ran_within i lt))
 
-      ran_whole : All HasNone s.ran → (i : ℕ) (d : Sender J G) → i < length s.ran → IsAllMade (entries_of a.history.made (suc i)) (suc i) (plan_in plans (suc i) []) (known (slice_index_or s.ran i d).pass).mine
-      ran_whole none i d lt = ran_all gate a (suc i) (plan_in plans (suc i) []) (slice_index_or seated i d) (slice_index_or counted i d) (slice_index_or s.ran i d)
-          (fresh.each i d (ran_within i lt)) (count.each i d (ran_within i lt)) (ran_at i d lt) (none i d lt)
+      ran_whole : All IsThrough s.ran → (i : ℕ) (d : Sender J G) → i < length s.ran → IsAllMade (entries_of a.history.made (suc i)) (suc i) (plan_in plans (suc i) []) (known (slice_index_or s.ran i d).pass).mine
+      ran_whole through i d lt = ran_all gate a (suc i) (plan_in plans (suc i) []) (slice_index_or seated i d) (slice_index_or counted i d) (slice_index_or s.ran i d)
+          (fresh.each i d (ran_within i lt)) (count.each i d (ran_within i lt)) (ran_at i d lt) (through i d lt)
 
       lost_at : (i : ℕ) (d : Sender J G) (r : Option SubmitFault) → i < length s.ran → (slice_index_or s.ran i d).refused ≡ r
           → ((known (slice_index_or s.ran i d).pass).lost ≡ []) ⊎ (LosesMessage (plan_in plans (suc i) []) (known (slice_index_or s.ran i d).pass) × (a.history.finished ≢ true))
       lost_at i d r lt is = ran_loses gate a (suc i) (plan_in plans (suc i) []) (slice_index_or seated i d) (slice_index_or counted i d) (slice_index_or s.ran i d)
           (fresh.each i d (ran_within i lt)) (count.each i d (ran_within i lt)) (ran_at i d lt) r is
 
-      ran_unlost : All HasNone s.ran → (i : ℕ) (d : Sender J G) → i < length s.ran → (known (slice_index_or s.ran i d).pass).lost ≡ []
-      ran_unlost none i d lt = (ran_at i d lt).unlost (λ e. none-some submit.Fault (sym (none i d lt) ∙ e))
+      ran_unlost : All IsThrough s.ran → (i : ℕ) (d : Sender J G) → i < length s.ran → (known (slice_index_or s.ran i d).pass).lost ≡ []
+      ran_unlost through i d lt = (ran_at i d lt).unlost (λ e. none-some submit.Fault (sym (through i d lt).0 ∙ e))
           ∙ counted_unlost gate a (suc i) (plan_in plans (suc i) []) (slice_index_or seated i d) (slice_index_or counted i d) (fresh.each i d (ran_within i lt)) (count.each i d (ran_within i lt))
 
       ran_many : length s.ran ≡ length plans
@@ -241,16 +241,16 @@ module _ {J : Type 0} {G : Ghosts J} (gate : Gate J G) (a : Account) (plans : Li
         lost = λ i d lt. ⊎_elim (λ e. inl e) (λ l. inr (record { opened = l.1; unended = ran_unended; what = inl l.0 })) (lost_at i d (slice_index_or s.ran i d).refused lt refl);
       }
 
-      with_finish : All HasNone s.ran → FinishedFirst s.ran after refused → SendersMade after
-      with_finish none f = record { long = f.long ∙ ran_many; each = each_at; ended = inr all_at; lost = finish_lost }
+      with_finish : All IsThrough s.ran → FinishedFirst s.ran after refused → SendersMade after
+      with_finish through f = record { long = f.long ∙ ran_many; each = each_at; ended = inr all_at; lost = finish_lost }
         where
           each_at : (i : ℕ) (d : Sender J G) → i < length after → PartMade a (suc i) (plan_in plans (suc i) []) (known (slice_index_or after i d).pass)
           each_at zero d lt = part_still a 1 (plan_in plans 1 []) (known (slice_index_or s.ran 0 d).pass) (known (slice_index_or after 0 d).pass) (ran_part 0 d (omega (arith, lt, f.long))) (f.first d).turn (f.first d).mine
           each_at (suc i) d lt = subst (λ (t : Sender J G). PartMade a (suc (suc i)) (plan_in plans (suc (suc i)) []) (known t.pass)) (sym (f.others (suc i) d (omega arith))) (ran_part (suc i) d (omega (arith, lt, f.long)))
 
           all_at : (i : ℕ) (d : Sender J G) → i < length after → IsAllMade (entries_of a.history.made (suc i)) (suc i) (plan_in plans (suc i) []) (known (slice_index_or after i d).pass).mine
-          all_at zero d lt = (f.first d).mine ∙ ran_whole none 0 d (omega (arith, lt, f.long))
-          all_at (suc i) d lt = ap (λ (t : Sender J G). (known t.pass).mine) (f.others (suc i) d (omega arith)) ∙ ran_whole none (suc i) d (omega (arith, lt, f.long))
+          all_at zero d lt = (f.first d).mine ∙ ran_whole through 0 d (omega (arith, lt, f.long))
+          all_at (suc i) d lt = ap (λ (t : Sender J G). (known t.pass).mine) (f.others (suc i) d (omega arith)) ∙ ran_whole through (suc i) d (omega (arith, lt, f.long))
 
           -- the first one lost the mark
           loses_mark : (d : Sender J G) → 0 < length after → LosesMark (known (slice_index_or s.ran 0 d).pass) (known (slice_index_or after 0 d).pass) refused
@@ -266,13 +266,13 @@ module _ {J : Type 0} {G : Ghosts J} (gate : Gate J G) (a : Account) (plans : Li
               unended_at (suc i) e within = ap (λ (t : Sender J G). (known t.pass).ended) (f.others (suc i) e (omega arith)) ∙ ran_unended (suc i) e (omega (arith, within, f.long))
 
           finish_lost : (i : ℕ) (d : Sender J G) → i < length after → ((known (slice_index_or after i d).pass).lost ≡ []) ⊎ PartLoses after i (known (slice_index_or after i d).pass)
-          finish_lost zero d lt = ⊎_elim (λ same. inl (same ∙ ran_unlost none 0 d (omega (arith, lt, f.long)))) (λ m. inr (loses_mark d lt m)) (f.first d).lost
-          finish_lost (suc i) d lt = inl (ap (λ (t : Sender J G). (known t.pass).lost) (f.others (suc i) d (omega arith)) ∙ ran_unlost none (suc i) d (omega (arith, lt, f.long)))
+          finish_lost zero d lt = ⊎_elim (λ same. inl (same ∙ ran_unlost through 0 d (omega (arith, lt, f.long)))) (λ m. inr (loses_mark d lt m)) (f.first d).lost
+          finish_lost (suc i) d lt = inl (ap (λ (t : Sender J G). (known t.pass).lost) (f.others (suc i) d (omega arith)) ∙ ran_unlost through (suc i) d (omega (arith, lt, f.long)))
 
       submitted_made : SendersMade after
       submitted_made = by_kind s.finished
         where
-          by_kind : ((after ≡ s.ran) × IsRefusal s.ran refused × (0 < length s.ran → (All HasNone s.ran → ⊥))) ⊎ (All HasNone s.ran × (0 < length s.ran) × FinishedFirst s.ran after refused) → SendersMade after
+          by_kind : ((after ≡ s.ran) × IsRefusal s.ran refused × (0 < length s.ran → (All IsThrough s.ran → ⊥))) ⊎ (All IsThrough s.ran × (0 < length s.ran) × FinishedFirst s.ran after refused) → SendersMade after
           by_kind (inl h) = subst SendersMade (sym h.0) ran_only
           by_kind (inr h) = with_finish h.0 h.2
 

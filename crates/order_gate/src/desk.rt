@@ -62,7 +62,8 @@ impl<J: Journal> Desk<J> {
         let Some(pass) = &mut self.pass else {
             unreachable!()
         };
-        door.before(self.number, made, rt);
+        // A desk has no answer for being turned away, so its door only makes it wait.
+        let _ = door.before(self.number, made, rt);
         match gate.submit(pass, payload, rt) {
             Ok(_) => {
                 self.made = made;

@@ -1,4 +1,4 @@
-use Rattle.std.proofs.Common.{◌≡◌, None}
+use Rattle.std.proofs.Common.{◌≡◌, false, None}
 use Rattle.gate_plans.specs.Runs.{IsReady, plan_of, Ran}
 use Rattle.gate_plans.proofs.sender.Sender.submit_rest.Given as goal
 
@@ -8,5 +8,6 @@ invariant-loop-done g l = record {
   at : l.self.done ≡ l.done;
   plan : plan_of l.self ≡ plan_of l.fn.self;
   unrefused : l.self.refused ≡ None;
+  unturned : l.self.turned ≡ false;
   goes : (t : _) → Ran l.gate l.self t → Ran l.gate l.fn.self t;
 }
