@@ -1,5 +1,5 @@
 //! The trait of a business: it answers the messages of the peer that its own end has applied.
-ghost use Rattle.std.specs.Prelude.{◌≡◌, ◌≢◌, ◌↔◌, ℕ, ◌≤◌, Bool, true, false, List, ◌++◌, length, Err, OnOk, IsErrOf};
+ghost use Rattle.std.specs.Prelude.{◌≡◌, ◌≢◌, ◌↔◌, ℕ, ◌≤◌, Bool, true, false, List, ◌++◌, length, Option, Some, Err, OnOk, IsErrOf};
 ghost use Rattle.gw_outside.specs.Faults.{HasRisen};
 ghost use Rattle.session_model.specs.Inbox.{InboxRecord, applied, payloads_of, has_peer_finished};
 ghost use Rattle.session_model.specs.Plans.{GoesOn};
@@ -51,8 +51,8 @@ pub trait Business<J: Journal> {
     /// It has its passes, which are of this lock and free.
     ghost has: { Self → TableId → Type 0 };
 
-    /// How many entries of its own the pass of each number has, or had as it was lent.
-    ghost own: { Self → ℕ → ℕ };
+    /// How many entries of its own the pass of each number has, or had as it was lent; None where it has not counted them.
+    ghost own: { Self → ℕ → Option ℕ };
 
     /// Whether it has met the mark that nothing more comes, behind which it sends nothing.
     ghost met: { Self → Bool };
@@ -122,11 +122,11 @@ pub trait Business<J: Journal> {
         ensures own { (own self.new ≡ own self.old) × (met self.new ≡ met self.old) }
         ensures stands { (l : List (List ℕ)) → stands self.new l ↔ stands self.old l };
 
-    /// Takes passes back, of this gate or of one that was made anew: they have the same numbers, and as many entries of their own. Where it has
-    /// met the mark, one of them has seen it.
+    /// Takes passes back, of this gate or of one that was made anew: they have the same numbers, and as many entries of their own as it counted. Where it
+    /// has met the mark, one of them has seen it.
     fn regain(&mut self, passes: Passes<Self::Held>)
         requires these { (lock : TableId) × HasThese lock passes (count self.old) }
-        requires again { (n : ℕ) → In (count self.old) n → length (known_at passes n).mine ≡ own self.old n }
+        requires again { (n k : ℕ) → In (count self.old) n → own self.old n ≡ Some k → length (known_at passes n).mine ≡ k }
         requires met { met self.old ≡ true → SeesMark (count self.old) (known_at passes) }
         ensures own { (lock : TableId) → HasThese lock passes (count self.old) → has self.new lock }
         ensures known { (n : ℕ) → In (count self.old) n → part self.new n ≡ known_at passes n }
@@ -144,8 +144,8 @@ pub trait Business<J: Journal> {
     /// Each pass has its number.
     ghost numbered: { (b : Self) (lock : TableId) → has b lock → (n : ℕ) → In (count b) n → (part b n).number ≡ n };
 
-    /// While it has its passes, `own` counts their entries, and where it has met the mark, one of them has seen it.
-    ghost owns: { (b : Self) (lock : TableId) → has b lock → (n : ℕ) → In (count b) n → length (part b n).mine ≡ own b n };
+    /// While it has its passes, `own` counts their entries where it counts any, and where it has met the mark, one of them has seen it.
+    ghost owns: { (b : Self) (lock : TableId) → has b lock → (n k : ℕ) → In (count b) n → own b n ≡ Some k → length (part b n).mine ≡ k };
 
     ghost meets: { (b : Self) (lock : TableId) → has b lock → met b ≡ true → SeesMark (count b) (part b) };
 }

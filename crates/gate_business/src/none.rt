@@ -1,5 +1,5 @@
 //! The business of an end that has none.
-ghost use Rattle.std.specs.Prelude.{⊤, ◌≡◌, ℕ, false, []};
+ghost use Rattle.std.specs.Prelude.{⊤, ◌≡◌, ℕ, false, [], None};
 ghost use Rattle.atomic_table.specs.Seated.{TableId};
 ghost use Rattle.gate_turn.specs.Views.{new_part, nothing};
 ghost use Rattle.gate_turn.specs.Rule.{In};
@@ -30,7 +30,7 @@ impl<J: Journal> Business<J> for NoBusiness {
 
     ghost has = { λ _ lock. ⊤ };
 
-    ghost own = { λ _ n. 0 };
+    ghost own = { λ _ n. None };
 
     ghost met = { λ _. false };
 
