@@ -1,5 +1,5 @@
 -- An end that is driven: where it stands behind a call, and who has its passes.
-use Rattle.std.proofs.Common.{◌≡◌, ◌≢◌, inl, inr, ℕ, zero, suc, ◌+◌, ◌*◌, ◌<◌, ◌≤◌, ◌^◌, true, false, Bool, if◌then◌else◌, [], ◌∷◌, List, length, Option, Some, None, Result, Ok, Err, refl, sym, ap, subst, ◌∙◌, arith}
+use Rattle.std.proofs.Common.{◌≡◌, inl, inr, ℕ, zero, suc, ◌+◌, ◌*◌, ◌<◌, ◌≤◌, ◌^◌, true, false, Bool, if◌then◌else◌, [], ◌∷◌, List, length, Option, Some, None, Result, Ok, Err, refl, sym, ap, subst, ◌∙◌, arith, true≢false}
 use Rattle.std.specs.Prelude.{All, slice_index_or, OnOk, IfOk, IfSome, IsSome, is_some}
 use Rattle.std.specs.Result.{result_ok}
 use Rattle.session_model.specs.Journal.{History, BeginsHistory}
@@ -40,7 +40,8 @@ use Rattle.conn_loop.proofs.Working.{seen_same}
 use Rattle.fixp_replies.specs.declared.facts.EndState.{EndState}
 use Rattle.gw_rehearse.specs.declared.standing.Standing.{Standing}
 use Rattle.gw_rehearse.specs.declared.standing.Standing.TheVariants as standings
-use Rattle.gw_rehearse.specs.Standing.{standing_of, HasSeats, KeepsPasses, UsesFirst, CanTurn, Rests, Stands}
+use Rattle.gw_rehearse.specs.Driven.{IsMadeOf}
+use Rattle.gw_rehearse.specs.Standing.{standing_of, is_given, HasSeats, KeepsPasses, UsesFirst, CanTurn, Rests, Stands}
 
 -- ---- the place
 
@@ -66,6 +67,28 @@ link_as s b = if b then s else record s { ending = Some (link_ending (around s 0
 mark : (h s : History) → BeginsHistory h s → (b : Bool) → h.finished ≡ b → IfSome (if b then Some (length h.made) else None) (λ n. (s.finished ≡ true) × (length s.made ≡ n))
 mark h s begins true e = (ap (λ (x : History). x.finished) (sym (begins.alone e)) ∙ e, ap (λ (x : History). length x.made) (sym (begins.alone e)))
 mark h s begins false e = tt
+
+-- what holds of a turn that answers, or whose link failed, holds where its end was not given up
+pub whole_behind : (P : Type 0) (r : Result TurnEnd TurnFault) (s : Standing) → s ≡ standing_of r → OnOk r P → (r ≡ Err faults.Link → P) → is_given s ≡ false → P
+whole_behind P r s is ok lost sound = by_answer r (ap is_given (sym is) ∙ sound) ok lost
+  where
+    by_answer : (r : Result TurnEnd TurnFault) → is_given (standing_of r) ≡ false → OnOk r P → (r ≡ Err faults.Link → P) → P
+    by_answer (Ok end) sound ok lost = ok
+    by_answer (Err faults.Link) sound ok lost = lost refl
+    by_answer (Err faults.Inbox) sound ok lost = absurd (true≢false sound)
+    by_answer (Err faults.Outbox) sound ok lost = absurd (true≢false sound)
+    by_answer (Err faults.Broken) sound ok lost = absurd (true≢false sound)
+    by_answer (Err (faults.Full entries bytes)) sound ok lost = absurd (true≢false sound)
+    by_answer (Err faults.Memory) sound ok lost = absurd (true≢false sound)
+
+-- a connection that was made of a new machine, if one was
+pub conn_made : {E : Type 0} (config : EndConfig) (state : EndState) (next sent : ℕ) (r : Result Conn E) (o : Option Conn) → o ≡ result_ok r
+    → IfOk r (λ conn. line_of conn ≡ new_line (fresh config state (2 ^ 24))) → state.inbox_next ≡ next → state.sent ≡ sent → IfSome o (λ conn. IsMadeOf config next sent conn)
+conn_made {E} config state next sent r o is made next_is sent_is = subst (λ (x : Option Conn). IfSome x (λ conn. IsMadeOf config next sent conn)) (sym is) (of_result r made)
+  where
+    of_result : (r : Result Conn E) → IfOk r (λ conn. line_of conn ≡ new_line (fresh config state (2 ^ 24))) → IfSome (result_ok r) (λ conn. IsMadeOf config next sent conn)
+    of_result (Ok conn) made = record { state = state; next_is = next_is; sent_is = sent_is; line = made }
+    of_result (Err e) made = tt
 
 module _ {J : Type 0} {G : Ghosts J} where
   -- ---- where an end stands

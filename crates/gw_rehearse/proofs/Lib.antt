@@ -1,3 +1,8 @@
 mod Driving
 mod Messages
 mod Sent
+mod Opening
+mod Stories
+mod Together
+mod Closing
+mod Arriving

@@ -1,11 +1,11 @@
 -- What each sender has submitted, as it is counted and as the outbox has it.
-use Rattle.std.proofs.Common.{◌≡◌, ℕ, zero, suc, ◌+◌, ◌<◌, ◌≤◌, List, [], ◌∷◌, ◌++◌, length, map, take, Option, refl, sym, ap, ◌∙◌, subst, arith}
+use Rattle.std.proofs.Common.{◌≡◌, ℕ, zero, suc, ◌+◌, ◌<◌, ◌≤◌, List, [], ◌∷◌, ◌++◌, length, take, Option, Some, refl, sym, ap, ◌∙◌, subst, arith}
 use Rattle.std.specs.Prelude.{slice_index_or}
 use Rattle.std.proofs.lemmas.List.{ext_get_or, get_or-map, length-map, take_all}
 use Rattle.std.proofs.Math.Seq.{take-suc}
 use Rattle.std.proofs.Math.Logic.{∥∥₁_elim}
 use native.Mathlib.Nat.{ℕ_set}
-use Rattle.session_model.specs.Journal.{Entry, entries_of}
+use Rattle.session_model.specs.Journal.{entries_of, BeginsHistory}
 use Rattle.jr_record.specs.declared.journal.Journal.{Ghosts}
 use Rattle.jr_boxes.specs.declared.outbox.Outbox.{Outbox}
 use Rattle.jr_boxes.specs.Outbox.{mine_of}
@@ -71,3 +71,20 @@ module _ {J : Type 0} {G : Ghosts J} where
           let counted : mine_of box (i + 1) ≡ length (entries_of closed.history.made (i + 1)) =
           ∥∥₁_elim closed.holds (ℕ_set _ _) (λ h. h.tallied.each (i + 1) (omega arith, omega (arith, within, many, few))) in
           counted ∙ (ap length (sym mine) ∙ sym (get_or-map made senders i d 0 within))
+
+  -- the connection's pass has seen a beginning of the history that the outbox holds then
+  pub last_found : (gate : Gate J G) (given out : Passes (Kept J G)) (senders : List (Sender J G)) (count : ℕ) (box : Outbox J G) (p : Pass (Kept J G)) → count ≡ length senders → Seated gate senders (count + 1)
+      → (count ≡ 0 → (known p).made ≡ 1) → pass_at given (count + 1) ≡ Some p → HasTheirs given out senders → (k : ClosedWith gate out box) → BeginsHistory (known p).seen k.history
+  last_found gate given out senders count box p many seated alone there theirs k =
+      subst (λ (x : Part). BeginsHistory x.seen k.history) knows (k.closed.found (count + 1) (record { from_one = omega arith; up_to = omega (arith, made senders refl) })).seen
+    where
+      knows : known_at out (count + 1) ≡ known p
+      knows = ap (λ (o : Option (Pass (Kept J G))). known_if o) (theirs.others (count + 1) (omega (arith, many)) ∙ there)
+
+      made : (xs : List (Sender J G)) → xs ≡ senders → (known_at out 1).made ≡ count + 1
+      made [] e =
+          let none : count ≡ 0 = many ∙ sym (ap length e) in
+          ap (λ (x : Part). x.made) (subst (λ (n : ℕ). known_at out (n + 1) ≡ known p) none knows) ∙ (alone none ∙ omega (arith, none))
+      made (x ∷ xs) e =
+          let some : 0 < length senders = omega (arith, ap length e) in
+          ap (λ (y : Part). y.made) (ap (λ (o : Option (Pass (Kept J G))). known_if o) (theirs.theirs 0 x some)) ∙ seated.first x some

@@ -1,3 +1,5 @@
+pub mod Driven
 pub mod Payloads
 pub mod Standing
 pub mod Summaries
+pub mod Together

@@ -1,5 +1,5 @@
 -- What holds of an end between the calls that drive it (this project's profile).
-use Rattle.std.specs.Prelude.{◌≡◌, ℕ, ◌+◌, ◌<◌, ◌≤◌, ◌^◌, true, List, length, map, slice_index_or, IsSome, Result, Ok, Err}
+use Rattle.std.specs.Prelude.{◌≡◌, ℕ, ◌+◌, ◌<◌, ◌≤◌, ◌^◌, Bool, true, false, List, length, map, slice_index_or, IsSome, Result, Ok, Err}
 use Rattle.jr_record.specs.declared.journal.Journal.{Ghosts}
 use Rattle.jr_boxes.specs.declared.inbox.Inbox.{Inbox}
 use Rattle.gate_turn.specs.Views.{Part}
@@ -33,6 +33,17 @@ standing_of (Err faults.Outbox) = standings.GivenUp
 standing_of (Err faults.Broken) = standings.GivenUp
 standing_of (Err (faults.Full entries bytes)) = standings.GivenUp
 standing_of (Err faults.Memory) = standings.GivenUp
+
+-- whether a connection goes on, and whether nothing follows
+abbrev pub is_going : Standing → Bool
+is_going standings.Over = false
+is_going standings.Open = true
+is_going standings.GivenUp = false
+
+abbrev pub is_given : Standing → Bool
+is_given standings.Over = false
+is_given standings.Open = false
+is_given standings.GivenUp = true
 
 module _ {J : Type 0} {G : Ghosts J} where
   -- of a gate for so many senders each sender has its pass, the connection has its own, and the list has none

@@ -1,15 +1,19 @@
 //! An end that is driven.
 
-ghost use Rattle.std.specs.Prelude.{◌≡◌, ◌+◌, ◌≤◌, ◌<◌, ◌^◌, All, length, vec_len, if◌then◌else◌, Some, None, IfOk, IfSome, IsTrue};
-ghost use Rattle.fixp_machine.specs.Machine.{fresh};
+ghost use Rattle.std.specs.Prelude.{◌≡◌, ℕ, ◌+◌, ◌≤◌, ◌<◌, ◌^◌, All, List, [], ◌∷◌, ◌++◌, length, vec_len, false, if◌then◌else◌, Some, None, IfOk, IfSome, IsTrue};
+ghost use Rattle.fixp_machine.specs.Machine.{State, fresh};
 ghost use Rattle.session_model.specs.Journal.{BeginsHistory};
-ghost use Rattle.jr_boxes.specs.Inbox.{flow_of, limits_of, next_of, is_negotiated, peer_last_of};
+ghost use Rattle.jr_boxes.specs.Inbox.{HoldsBox, flow_of, limits_of, next_of, is_negotiated, peer_last_of};
 ghost use Rattle.gate_turn.specs.Views.{Part};
 ghost use Rattle.gate_senders.specs.Gate.{opening_of};
 ghost use Rattle.conn_loop.specs.Conn.{line_of, new_line};
+ghost use Rattle.turn_laws.specs.Legs.{TurnedLeg};
+ghost use Rattle.pair_laws.specs.Driving.{IsFirst, begun_leg};
 ghost use Rattle.cmd_script.specs.Script.{IsCount};
-ghost use Rattle.gw_rehearse.specs.Standing.{Rests};
+ghost use Rattle.gw_rehearse.specs.Standing.{Rests, is_given, is_going, sent_by};
+ghost use Rattle.gw_rehearse.specs.Driven.{ClosedOn, IsDriven, IsMadeOf, IsNew, RunsOver, StandsBehind, TurnsOn};
 ghost use Rattle.gw_rehearse.specs.Summaries.{counts_to};
+ghost use Rattle.gw_rehearse.specs.declared.standing.Standing.TheVariants as standings;
 
 use crate::journals::{Journals, Log, MOST, new_inbox, new_outbox};
 use crate::senders::{finish, have_sent, submit_next};
@@ -25,7 +29,6 @@ use gw_links::Link;
 use jr_boxes::Inbox;
 use plan_values::Plan;
 use std::alloc::{AllocError, Global};
-use std::marker::Model;
 use std::sync::Wait;
 use std::thread::Threads;
 
@@ -46,19 +49,6 @@ pub(crate) struct DrivenEnd {
     turns: u64,
     /// Whether a connection has ended with both finishes exchanged.
     finished: bool,
-}
-
-impl Model for DrivenEnd {
-    ghost use Rattle.std.specs.Prelude.{◌*◌, ℕ, List, vec_len};
-    ghost use Rattle.gate_turn.specs.Places.{known};
-    ghost use Rattle.conn_loop.specs.Conn.{line_of};
-    ghost use Rattle.gw_rehearse.specs.Standing.{HasSeats, Stands, sent_by};
-
-    ghost Value = { List ℕ };
-
-    ghost view = { λ e. sent_by e.senders.items };
-
-    ghost invariant = { λ e. HasSeats e.gate e.passes e.senders.items (vec_len e.senders) e.pass × Stands e.standing (line_of e.conn) (e.turns * 262240) (known e.pass) e.inbox };
 }
 
 /// What the journals record.
@@ -102,6 +92,7 @@ fn new_conn(alloc: Global, gate: &Gate<Log>, inbox: &Inbox<Log>, config: EndConf
     requires limit { (limits_of inbox.now).entries ≡ 2 ^ 24 }
     requires numbered { next_of inbox.now + 1 < 2 ^ 64 }
     ensures may { IfSome result (λ conn. (p : Part) → BeginsHistory (opening_of gate.now).history p.seen → Rests (line_of conn).machine p inbox.now) }
+    ensures made { IfSome result (λ conn. IsMadeOf config (next_of inbox.now) (length (opening_of gate.now).history.made) conn) }
 {
     let state = recorded(gate, inbox);
     if state.sent > MOST {
@@ -128,6 +119,10 @@ impl DrivenEnd {
         requires keepalive { (100 ≤ config.keepalive) × (config.keepalive ≤ 60000) }
         requires credentials { length config.credentials ≤ 2048 }
         requires senders { senders ≤ 16 }
+        requires session { length config.session ≡ 16 }
+        ensures driven { IfSome result (λ end. IsDriven end) }
+        ensures flow { IfSome result (λ end. flow_of end.inbox ≡ config.peer_flow) }
+        ensures first { IfSome result (λ end. IsNew config.own_flow config.peer_flow end) }
     {
         let outbox = new_outbox(alloc)?;
         let inbox = new_inbox(alloc, config.peer_flow)?;
@@ -157,12 +152,16 @@ impl DrivenEnd {
     }
 
     /// Whether a connection goes on.
-    pub(crate) fn is_open(&self) -> bool {
+    pub(crate) fn is_open(&self) -> bool
+        ensures { result ≡ is_going self.now.standing }
+    {
         matches!(self.standing, Standing::Open)
     }
 
     /// Whether a turn failed otherwise than by its link, so that nothing follows.
-    pub(crate) fn is_given_up(&self) -> bool {
+    pub(crate) fn is_given_up(&self) -> bool
+        ensures { result ≡ is_given self.now.standing }
+    {
         matches!(self.standing, Standing::GivenUp)
     }
 
@@ -172,7 +171,9 @@ impl DrivenEnd {
     }
 
     /// The number that the inbox waits for.
-    pub(crate) fn next(&self) -> u64 {
+    pub(crate) fn next(&self) -> u64
+        ensures { result ≡ next_of self.now.inbox }
+    {
         self.inbox.next()
     }
 
@@ -188,7 +189,10 @@ impl DrivenEnd {
         count: u64,
         rt: &R,
     ) -> Result<bool, AllocError>
-        requires { All IsCount messages.now }
+        requires counts { All IsCount messages.now }
+        requires driven { IsDriven self.old }
+        ensures driven { IsDriven self.new }
+        ensures same { self.new ≡ record self.old { senders = self.new.senders } }
     {
         if !submit_next(alloc, &self.gate, &mut self.senders, messages, count, rt)? {
             return Ok(false);
@@ -201,13 +205,22 @@ impl DrivenEnd {
 
     /// Whether the outbox has all that each sender sends, and no more of it.
     pub(crate) fn has_sent<R: Wait>(&mut self, messages: &[u64], rt: &R) -> bool
-        ensures { IsTrue result → self.new ≡ messages.now }
+        requires driven { IsDriven self.old }
+        ensures driven { IsDriven self.new }
+        ensures same { self.new ≡ record self.old { senders = self.new.senders } }
+        ensures sent { IsTrue result → sent_by self.new.senders.items ≡ messages.now }
     {
         have_sent(&self.gate, &mut self.senders, messages, rt)
     }
 
     /// The next connection begins, where one may.
-    pub(crate) fn begin(&mut self, clock: &mut MemClock) {
+    pub(crate) fn begin(&mut self, clock: &mut MemClock)
+        requires driven { IsDriven self.old }
+        ensures driven { IsDriven self.new }
+        ensures inbox { self.new.inbox ≡ self.old.inbox }
+        ensures given { is_given self.new.standing ≡ is_given self.old.standing }
+        ensures begun { (m : State) (legs : List TurnedLeg) → StandsBehind m legs self.old → (now : ℕ) × RunsOver m legs (begun_leg now) self.new }
+    {
         let Standing::Over = self.standing else {
             return;
         };
@@ -217,7 +230,14 @@ impl DrivenEnd {
     }
 
     /// A turn is made where a connection goes on.
-    pub(crate) fn turn<L: Link, R: Wait>(&mut self, link: &mut L, clock: &mut MemClock, rt: &R) {
+    pub(crate) fn turn<L: Link, R: Wait>(&mut self, link: &mut L, clock: &mut MemClock, rt: &R)
+        requires driven { IsDriven self.old }
+        ensures driven { IsDriven self.new }
+        ensures flow { flow_of self.new.inbox ≡ flow_of self.old.inbox }
+        ensures sound { is_given self.new.standing ≡ false → is_given self.old.standing ≡ false }
+        ensures turned { TurnsOn self.old self.new (L.told link.old) (L.told link.new) }
+        ensures place { L.place link.new ≡ L.place link.old }
+    {
         let Standing::Open = self.standing else {
             return;
         };
@@ -241,7 +261,14 @@ impl DrivenEnd {
     }
 
     /// The connection is given up, where one goes on: what is held and unsent is dropped.
-    pub(crate) fn cut(&mut self) {
+    pub(crate) fn cut(&mut self)
+        requires driven { IsDriven self.old }
+        ensures driven { IsDriven self.new }
+        ensures inbox { self.new.inbox ≡ self.old.inbox }
+        ensures given { is_given self.new.standing ≡ is_given self.old.standing }
+        ensures over { (m : State) (past : List TurnedLeg) (leg : TurnedLeg) → IsFirst m → RunsOver m past leg self.old → is_given self.old.standing ≡ false → StandsBehind m (past ++ leg ∷ []) self.new }
+        ensures rests { self.old.standing ≡ standings.Over → self.new ≡ self.old }
+    {
         let Standing::Open = self.standing else {
             return;
         };
@@ -251,7 +278,9 @@ impl DrivenEnd {
 
     /// Its journals.
     pub(crate) fn close(self) -> Journals
-        ensures { counts_to result.outbox result.senders ≡ self }
+        requires driven { IsDriven self }
+        ensures counts { counts_to result.outbox result.senders ≡ sent_by self.senders.items }
+        ensures closed { ClosedOn self result }
     {
         let DrivenEnd {
             gate,

@@ -1,6 +1,10 @@
 //! The journals of an end, on disks in memory.
 
-ghost use Rattle.std.specs.Prelude.{◌≡◌, ◌+◌, ◌<◌, ◌≤◌, ◌^◌, false, IfSome};
+ghost use Rattle.std.specs.Prelude.{◌≡◌, ◌+◌, ◌<◌, ◌≤◌, ◌^◌, false, [], IfSome};
+ghost use Rattle.gw_fakes.specs.MemDisks.{state_of};
+ghost use Rattle.jr_record.specs.Images.{IsJournal};
+ghost use Rattle.jr_record.specs.Journals.{Holds};
+ghost use Rattle.jr_log.specs.Log.{MayLeave, StandsFor, broken_of, limits_of};
 ghost use Rattle.jr_boxes.specs.Outbox as outboxes;
 ghost use Rattle.jr_boxes.specs.Inbox as inboxes;
 
@@ -8,7 +12,7 @@ use fixp_msgs::Flow;
 use gw_fakes::MemDisk;
 use jr_boxes::{Inbox, Outbox};
 use jr_log::{LogJournal, format};
-use jr_record::Limits;
+use jr_record::{Limits, one_verdict};
 use std::alloc::Global;
 
 /// A journal on a disk in memory.
@@ -35,20 +39,34 @@ pub struct Journals {
     ghost few: { senders ≤ 16 },
 }
 
-/// A formatted journal without records; none where memory runs out.
-fn formatted(alloc: Global) -> Option<MemDisk> {
+/// A disk that has a journal without records; none where memory runs out.
+fn formatted(alloc: Global) -> Option<MemDisk>
+    ensures { IfSome result (λ disk. IsJournal (state_of disk).content []) }
+{
     let mut disk = MemDisk::without_faults(alloc, ROOM).ok()?;
     format(&mut disk).ok()?;
     Some(disk)
 }
 
+/// A journal of these limits without records; none where memory runs out.
+fn new_journal(alloc: Global, limits: Limits) -> Option<Log>
+    ensures holds { IfSome result (λ j. Holds StandsFor MayLeave j [] []) }
+    ensures sound { IfSome result (λ j. broken_of j ≡ false) }
+    ensures limits { IfSome result (λ j. limits_of j ≡ limits) }
+{
+    // A disk has one list of records at most.
+    one_verdict();
+    let disk = formatted(alloc)?;
+    LogJournal::open(alloc, disk, limits).ok()
+}
+
 /// An outbox without entries; none where memory runs out.
 pub(crate) fn new_outbox(alloc: Global) -> Option<Outbox<Log>>
     ensures sound { IfSome result (λ box. outboxes.is_broken box ≡ false) }
+    ensures empty { IfSome result (λ box. outboxes.front_of box ≡ 0) }
 {
-    let disk = formatted(alloc)?;
     let limits = LIMITS;
-    let journal = LogJournal::open(alloc, disk, limits).ok()?;
+    let journal = new_journal(alloc, limits)?;
     Outbox::open(alloc, journal, limits).ok()
 }
 
@@ -57,10 +75,9 @@ pub(crate) fn new_inbox(alloc: Global, flow: Flow) -> Option<Inbox<Log>>
     ensures flow { IfSome result (λ box. inboxes.flow_of box ≡ flow) }
     ensures limit { IfSome result (λ box. (inboxes.limits_of box).entries ≡ 2 ^ 24) }
     ensures numbered { IfSome result (λ box. inboxes.next_of box + 1 < 2 ^ 64) }
+    ensures empty { IfSome result (λ box. inboxes.HoldsBox box [] []) }
 {
-    let disk = formatted(alloc)?;
     let limits = LIMITS;
-    let journal = LogJournal::open(alloc, disk, limits).ok()?;
-    let inbox = Inbox::open(alloc, journal, limits, flow).ok()?;
-    (inbox.next() <= MOST + 1).then_some(inbox)
+    let journal = new_journal(alloc, limits)?;
+    Inbox::open(alloc, journal, limits, flow).ok()
 }

@@ -1,12 +1,15 @@
 //! The whole of a rehearsal: the steps, the rounds behind them, and what both journals hold then.
 
-ghost use Rattle.std.specs.Prelude.{◌≡◌, IfOk, OnOk};
+ghost use Rattle.std.specs.Prelude.{◌≡◌, ℕ, Err, IfOk, IsTrue, OnOk};
 ghost use Rattle.cmd_script.specs.Script.{IsScript};
-ghost use Rattle.gw_rehearse.specs.Summaries.{sent_in};
+ghost use Rattle.gw_rehearse.specs.Together.{Arrives, CountsAll, KeepsSession, StaysSound, StoppedAt};
+ghost use Rattle.gw_rehearse.specs.Summaries.{counts_to, sent_in};
+ghost use Rattle.gw_rehearse.specs.declared.rehearsal.RehearseFault.TheVariants as faults;
 
 use crate::journals::Journals;
-use crate::pair::Pair;
+use crate::pair::{Pair, Spent};
 use cmd_script::Script;
+use fixp_msgs::Flow;
 use std::alloc::Global;
 use std::sync::Wait;
 use std::thread::Threads;
@@ -19,7 +22,8 @@ const ROUNDS_EACH: u64 = 16;
 /// Why a rehearsal did not come to its end.
 #[derive(Clone, Copy, Debug, PartialEq, Eq)]
 pub enum RehearseFault {
-    /// Both finishes were not exchanged within the rounds behind the last step, with all messages sent; the inboxes wait for these numbers.
+    /// Both finishes were not exchanged within the rounds behind the last step, with all messages sent, and those of a recoverable flow applied; the
+    /// inboxes wait for these numbers.
     Undrained {
         initiator_next: u64,
         acceptor_next: u64,
@@ -44,38 +48,73 @@ fn total(messages: &[u64]) -> u64 {
     sum
 }
 
-/// Runs a script over two ends, which are not closed.
-fn run<R: Threads + Wait + Sync>(
-    pair: &mut Pair,
-    script: &Script,
-    rt: &R,
-) -> Result<(), RehearseFault>
-    requires { IsScript script.now }
-    ensures { OnOk result (pair.new ≡ script.now.load.messages) }
+/// Runs a script over two ends, which are not closed. Answers whether both have finished, with all messages sent.
+///
+/// # Errors
+/// Want of memory.
+#[tactic(auto, using(crate::proofs::Together::stays_on))]
+fn run<R: Threads + Wait + Sync>(pair: &mut Pair, script: &Script, rt: &R) -> Result<bool, Spent>
+    requires script { IsScript script.now }
+    ensures sent { IfOk result (λ done. IsTrue done → pair.new.sent ≡ script.now.load.messages) }
+    ensures stays { OnOk result (StaysSound pair.old pair.new) }
 {
     let messages = script.load.messages.as_slice();
     let total = total(messages);
     let most = ROUNDS.saturating_add(total.saturating_mul(ROUNDS_EACH));
-    let Ok(()) = pair.steps(script, rt) else {
-        return Err(RehearseFault::Memory);
-    };
-    let Ok(()) = pair.drain(most, rt) else {
-        return Err(RehearseFault::Memory);
-    };
-    if pair.is_over() && pair.has_sent(messages, rt) {
-        return Ok(());
+    pair.steps(script, rt)?;
+    pair.drain(most, rt)?;
+    if !pair.is_over() {
+        return Ok(false);
     }
-    let (initiator_next, acceptor_next) = pair.nexts();
+    Ok(pair.has_sent(messages, rt))
+}
+
+/// Whether as many messages were applied as stand in an outbox, where its flow is recoverable.
+fn has_arrived(flow: Flow, writer: &Journals, reader: &Journals) -> bool
+    ensures counts { IsTrue result → CountsAll flow writer.now reader.now }
+{
+    match flow {
+        Flow::Recoverable => reader.inbox.count() == writer.outbox.front(),
+        Flow::Idempotent | Flow::Unsequenced | Flow::None => true,
+    }
+}
+
+/// What a rehearsal came to that was not given up: its journals, where all is done and has arrived.
+///
+/// # Errors
+/// `Undrained` in any other case.
+fn judged(
+    script: &Script,
+    done: bool,
+    initiator: Journals,
+    acceptor: Journals,
+) -> Result<Rehearsal, RehearseFault>
+    requires keeps { ∥ KeepsSession script.now.link.client_flow script.now.link.server_flow initiator acceptor ∥₁ }
+    requires sent { IsTrue done → counts_to initiator.outbox initiator.senders ≡ script.now.load.messages }
+    ensures sent { IfOk result (λ r. sent_in r ≡ script.now.load.messages) }
+    ensures keeps { IfOk result (λ r. ∥ KeepsSession script.now.link.client_flow script.now.link.server_flow r.initiator r.acceptor ∥₁) }
+    ensures outward { IfOk result (λ r. Arrives script.now.link.client_flow r.initiator r.acceptor) }
+    ensures homeward { IfOk result (λ r. Arrives script.now.link.server_flow r.acceptor r.initiator) }
+    ensures undrained { (m n : ℕ) → result ≡ Err (faults.Undrained m n) → ∥ StoppedAt script.now.link.client_flow script.now.link.server_flow m n ∥₁ }
+{
+    let outward = has_arrived(script.link.client_flow, &initiator, &acceptor);
+    let homeward = has_arrived(script.link.server_flow, &acceptor, &initiator);
+    if done && outward && homeward {
+        return Ok(Rehearsal {
+            initiator,
+            acceptor,
+        });
+    }
     Err(RehearseFault::Undrained {
-        initiator_next,
-        acceptor_next,
+        initiator_next: initiator.inbox.next(),
+        acceptor_next: acceptor.inbox.next(),
     })
 }
 
 /// Runs a script over two new ends, and behind its last step rounds until both have finished: 64, and 16 for each message, at most.
 ///
 /// # Errors
-/// `Undrained` where they have not finished then, with all messages sent; and want of memory.
+/// `Undrained` where they have not finished then, with all messages sent, and those of a recoverable flow applied; and want of memory.
 pub fn rehearse<R: Threads + Wait + Sync>(
     alloc: Global,
     script: &Script,
@@ -83,6 +122,10 @@ pub fn rehearse<R: Threads + Wait + Sync>(
 ) -> Result<Rehearsal, RehearseFault>
     requires script { IsScript script.now }
     ensures sent { IfOk result (λ r. sent_in r ≡ script.now.load.messages) }
+    ensures keeps { IfOk result (λ r. ∥ KeepsSession script.now.link.client_flow script.now.link.server_flow r.initiator r.acceptor ∥₁) }
+    ensures outward { IfOk result (λ r. Arrives script.now.link.client_flow r.initiator r.acceptor) }
+    ensures homeward { IfOk result (λ r. Arrives script.now.link.server_flow r.acceptor r.initiator) }
+    ensures undrained { (m n : ℕ) → result ≡ Err (faults.Undrained m n) → ∥ StoppedAt script.now.link.client_flow script.now.link.server_flow m n ∥₁ }
 {
     let Some(mut pair) = Pair::open(alloc, script) else {
         return Err(RehearseFault::Memory);
@@ -90,10 +133,7 @@ pub fn rehearse<R: Threads + Wait + Sync>(
     let answer = run(&mut pair, script, rt);
     let (initiator, acceptor) = pair.close();
     match answer {
-        Ok(()) => Ok(Rehearsal {
-            initiator,
-            acceptor,
-        }),
-        Err(fault) => Err(fault),
+        Ok(done) => judged(script, done, initiator, acceptor),
+        Err(Spent) => Err(RehearseFault::Memory),
     }
 }

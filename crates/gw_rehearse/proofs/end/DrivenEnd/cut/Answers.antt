@@ -1,9 +1,15 @@
-use Rattle.std.proofs.Common.{ap}
-use Rattle.std.specs.Prelude.{is_some}
-use Rattle.conn_loop.specs.Conn.{line_of}
-use Rattle.gw_rehearse.proofs.Driving.{cut_stands}
+use Rattle.std.proofs.Common.{refl}
+use Rattle.gw_rehearse.proofs.Stories.{cut_over, ended_over, not_open}
 use Rattle.gw_rehearse.proofs.end.DrivenEnd.cut.Goals as goal
 
-pub invariant_of-self : goal.invariant_of-self
-invariant_of-self c =
-    (c.self.invariant.0, cut_stands (line_of c.self.inside.conn) (line_of c.cut.new.self) _ _ _ c.self.inside.inbox c.cut.ensures.cut (c.self.invariant.1.turns c.in-Open.is) (ap is_some c.cut.ensures.ending))
+pub returns-in_default : goal.returns-in_default
+returns-in_default c = record {
+  driven = c.requires.driven;
+  inbox = refl;
+  given = refl;
+  over = λ m past leg first k sound. ended_over m past leg c.args.self.now (not_open c.args.self.now.standing c.in_default.not-Open sound) k;
+  rests = λ _. refl;
+}
+
+pub returns-clause-over : goal.returns-clause-over
+returns-clause-over c = λ m past leg first k sound. cut_over m past leg c.args.self.now _ first c.in-Open.is refl c.cut.ensures.cut refl refl k

@@ -1,0 +1,247 @@
+-- Both ends together, behind each call of a pair.
+use Rattle.std.proofs.Common.{◌≡◌, ℕ, true, false, ◌||◌, if◌then◌else◌, Bool, List, [], ◌∷◌, ◌++◌, Option, Some, None, refl, sym, ap, subst, ◌∙◌, true≢false}
+use Rattle.std.proofs.Math.Logic.{∥∥₁_map}
+use Rattle.session_model.specs.Inbox.{InboxRecord}
+use Rattle.jr_boxes.specs.Inbox.{HoldsBox}
+use Rattle.gate_turn.specs.Places.{known}
+use Rattle.conn_loop.specs.Conn.{line_of}
+use Rattle.std.proofs.lemmas.List.Elements.{AllZip-push}
+use Rattle.fixp_msgs.specs.declared.flow.Flow.{Flow}
+use Rattle.fixp_machine.specs.Machine.{State}
+use Rattle.gw_link_fakes.specs.Pipes.{Held, new_pipe, told_at}
+use Rattle.gw_link_fakes.specs.declared.pipe.Side.TheVariants.{Left, Right}
+use Rattle.turn_laws.specs.Legs.{TurnedLeg}
+use Rattle.pair_laws.specs.Driving.{EndNow, IsFirst, begun_leg, Between, During}
+use Rattle.pair_laws.specs.Pairing.{ReadEachOther, UnderWay}
+use Rattle.pair_laws.proofs.Moving.{bytes_move, turned_round}
+use Rattle.gw_rehearse.specs.declared.end.DrivenEnd.{DrivenEnd}
+use Rattle.gw_rehearse.specs.declared.standing.Standing.{Standing}
+use Rattle.gw_rehearse.specs.declared.standing.Standing.TheVariants as standings
+use Rattle.gw_rehearse.specs.Standing.{is_given, is_going}
+use Rattle.gw_rehearse.specs.Driven.{now_of, StandsBehind, RunsOver, TurnsOn, IsNew}
+use Rattle.gw_rehearse.specs.Together.{Together, is_lost, PairNow, StaysSound}
+use Rattle.gw_rehearse.proofs.Stories.{ended_over}
+
+pub neither : (a b : Bool) → (a || b) ≡ false → (a ≡ false) × (b ≡ false)
+neither true b e = absurd (true≢false e)
+neither false b e = (refl, e)
+
+pub lost_back : (a b a' b' : Bool) → (a' ≡ false → a ≡ false) → (b' ≡ false → b ≡ false) → (a' || b') ≡ false → (a || b) ≡ false
+lost_back a b a' b' left right e =
+    let parts = neither a' b' e in
+    ap (λ (x : Bool). x || b) (left parts.0) ∙ right parts.1
+
+-- one that neither goes on nor was given up is over
+pub is_over : (s : Standing) → is_going s ≡ false → is_given s ≡ false → s ≡ standings.Over
+is_over standings.Over going given = refl
+is_over standings.Open going given = absurd (true≢false going)
+is_over standings.GivenUp going given = absurd (true≢false given)
+
+-- it stays so over several calls
+pub stays_self : (p : PairNow) → StaysSound p p
+stays_self p = record { client = refl; server = refl; sound = λ e. e }
+
+pub stays_on : (p q r : PairNow) → StaysSound p q → StaysSound q r → StaysSound p r
+stays_on p q r s t = record { client = t.client ∙ s.client; server = t.server ∙ s.server; sound = λ e. t.sound (s.sound e) }
+
+-- an end whose connection, pass and inbox are the same
+record SameEnd (e e' : DrivenEnd) : Type 0 where
+  standing : e'.standing ≡ e.standing
+  conn : e'.conn ≡ e.conn
+  pass : e'.pass ≡ e.pass
+  inbox : e'.inbox ≡ e.inbox
+
+same_of : (e e' : DrivenEnd) → e' ≡ record e { senders = e'.senders } → SameEnd e e'
+same_of e e' same = record {
+  standing = ap (λ (x : DrivenEnd). x.standing) same;
+  conn = ap (λ (x : DrivenEnd). x.conn) same;
+  pass = ap (λ (x : DrivenEnd). x.pass) same;
+  inbox = ap (λ (x : DrivenEnd). x.inbox) same;
+}
+
+now_same : (e e' : DrivenEnd) (i : List InboxRecord) → SameEnd e e' → now_of e i ≡ now_of e' i
+now_same e e' i s =
+    ap (λ c. record { line = line_of c; seen = (known e.pass).seen; inbox = i }) (sym s.conn) ∙ ap (λ p. record { line = line_of e'.conn; seen = (known p).seen; inbox = i }) (sym s.pass)
+
+stands_same : (m : State) (legs : List TurnedLeg) (e e' : DrivenEnd) → SameEnd e e' → StandsBehind m legs e → StandsBehind m legs e'
+stands_same m legs e e' s k = record {
+  over = s.standing ∙ k.over;
+  inbox = k.inbox;
+  holds = subst (λ box. HoldsBox box k.inbox []) (sym s.inbox) k.holds;
+  between = subst (λ (x : EndNow). Between m legs x) (now_same e e' k.inbox s) k.between;
+}
+
+runs_same : (m : State) (past : List TurnedLeg) (leg : TurnedLeg) (e e' : DrivenEnd) → SameEnd e e' → RunsOver m past leg e → RunsOver m past leg e'
+runs_same m past leg e e' s k = record {
+  uncut = k.uncut;
+  inbox = k.inbox;
+  holds = subst (λ box. HoldsBox box k.inbox []) (sym s.inbox) k.holds;
+  during = λ going. subst (λ (x : EndNow). During m past leg x) (now_same e e' k.inbox s) (k.during (sym s.standing ∙ going));
+  between = λ over. subst (λ (x : EndNow). Between m (past ++ leg ∷ []) x) (now_same e e' k.inbox s) (k.between (sym s.standing ∙ over));
+}
+
+module _ (client server : Flow) where
+  -- what its senders submit changes nothing of an end's connections
+  together_same : (i i' a : DrivenEnd) (pipe : Option Held) → SameEnd i i' → Together client server i a pipe → Together client server i' a pipe
+  together_same i i' a None s t = record {
+    machine = t.machine;
+    machine_a = t.machine_a;
+    began = t.began;
+    began_a = t.began_a;
+    past = t.past;
+    past_a = t.past_a;
+    paired = t.paired;
+    meet = (stands_same t.machine t.past i i' s t.meet.0, t.meet.1);
+  }
+  together_same i i' a (Some p) s t = record {
+    machine = t.machine;
+    machine_a = t.machine_a;
+    began = t.began;
+    began_a = t.began_a;
+    past = t.past;
+    past_a = t.past_a;
+    paired = t.paired;
+    meet = record { leg = t.meet.leg; leg_a = t.meet.leg_a; way = t.meet.way; runs = runs_same t.machine t.past t.meet.leg i i' s t.meet.runs; runs_a = t.meet.runs_a };
+  }
+
+  pub submitted : (i i' a : DrivenEnd) (pipe : Option Held) → i' ≡ record i { senders = i'.senders } → (is_lost i a ≡ false → ∥ Together client server i a pipe ∥₁)
+      → is_lost i' a ≡ false → ∥ Together client server i' a pipe ∥₁
+  submitted i i' a pipe same k sound =
+      let s = same_of i i' same in
+      ∥∥₁_map (k (ap (λ x. is_given x || is_given a.standing) (sym s.standing) ∙ sound)) (λ t. together_same i i' a pipe s t)
+
+  -- two new ends
+  pub new_pair : (i a : DrivenEnd) → IsNew client server i → IsNew server client a → Together client server i a None
+  new_pair i a k l = record {
+    machine = k.machine;
+    machine_a = l.machine;
+    began = k.began;
+    began_a = l.began;
+    past = [];
+    past_a = [];
+    paired = tt;
+    meet = (k.stands, l.stands);
+  }
+
+  -- both begin a connection
+  pub both_begin : (i a i' a' : DrivenEnd) (room : ℕ) → ((m : State) (legs : List TurnedLeg) → StandsBehind m legs i → (now : ℕ) × RunsOver m legs (begun_leg now) i')
+      → ((m : State) (legs : List TurnedLeg) → StandsBehind m legs a → (now : ℕ) × RunsOver m legs (begun_leg now) a') → Together client server i a None → Together client server i' a' (Some (new_pipe room))
+  both_begin i a i' a' room begins begins_a t =
+      let x = begins t.machine t.past t.meet.0 in
+      let y = begins_a t.machine_a t.past_a t.meet.1 in
+      record {
+        machine = t.machine;
+        machine_a = t.machine_a;
+        began = t.began;
+        began_a = t.began_a;
+        past = t.past;
+        past_a = t.past_a;
+        paired = t.paired;
+        meet = record { leg = begun_leg x.0; leg_a = begun_leg y.0; way = record { homeward = refl; outward = refl }; runs = x.1; runs_a = y.1 };
+      }
+
+  -- the initiator makes a turn
+  pub left_turns : (i i' a : DrivenEnd) (p q : Held) → TurnsOn i i' (Some (told_at Left p)) (Some (told_at Left q)) → is_given i'.standing ≡ false → Together client server i a (Some p) → Together client server i' a (Some q)
+  left_turns i i' a p q turns sound t =
+      let k = t.meet in
+      let x = turns.goes t.machine t.past k.leg t.began.first k.runs sound in
+      record {
+        machine = t.machine;
+        machine_a = t.machine_a;
+        began = t.began;
+        began_a = t.began_a;
+        past = t.past;
+        past_a = t.past_a;
+        paired = t.paired;
+        meet = record {
+          leg = x.later;
+          leg_a = k.leg_a;
+          way = bytes_move k.leg x.later k.leg_a x.given x.sent p.to_left p.to_right q.to_left q.to_right x.carries k.way x.moved.waited x.moved.took;
+          runs = x.runs;
+          runs_a = k.runs_a;
+        };
+      }
+
+  -- and the acceptor
+  pub right_turns : (i a a' : DrivenEnd) (p q : Held) → TurnsOn a a' (Some (told_at Right p)) (Some (told_at Right q)) → is_given a'.standing ≡ false → Together client server i a (Some p) → Together client server i a' (Some q)
+  right_turns i a a' p q turns sound t =
+      let k = t.meet in
+      let x = turns.goes t.machine_a t.past_a k.leg_a t.began_a.first k.runs_a sound in
+      record {
+        machine = t.machine;
+        machine_a = t.machine_a;
+        began = t.began;
+        began_a = t.began_a;
+        past = t.past;
+        past_a = t.past_a;
+        paired = t.paired;
+        meet = record {
+          leg = k.leg;
+          leg_a = x.later;
+          way = turned_round x.later k.leg q.to_right q.to_left
+              (bytes_move k.leg_a x.later k.leg x.given x.sent p.to_right p.to_left q.to_right q.to_left x.carries (turned_round k.leg k.leg_a p.to_left p.to_right k.way) x.moved.waited x.moved.took);
+          runs = k.runs;
+          runs_a = x.runs;
+        };
+      }
+
+  -- one behind the other
+  pub both_turn : (i i' a a' : DrivenEnd) (p q r : Held) → TurnsOn i i' (Some (told_at Left p)) (Some (told_at Left q)) → TurnsOn a a' (Some (told_at Right q)) (Some (told_at Right r)) → is_lost i' a' ≡ false
+      → Together client server i a (Some p) → Together client server i' a' (Some r)
+  both_turn i i' a a' p q r left right sound t =
+      let parts = neither (is_given i'.standing) (is_given a'.standing) sound in
+      right_turns i' a a' q r right parts.1 (left_turns i i' a p q left parts.0 t)
+
+  -- of two connections over one pipe each was given of what the other sent
+  read : (a b : TurnedLeg) (to_a to_b : List ℕ) → UnderWay a b to_a to_b → ReadEachOther a b
+  read a b to_a to_b w = ((to_a, sym w.homeward), (to_b, sym w.outward))
+
+  -- once the connections of both are over no pipe stands
+  pub all_over : (i a i' a' : DrivenEnd) (p : Held) → ((m : State) (past : List TurnedLeg) (leg : TurnedLeg) → IsFirst m → RunsOver m past leg i → StandsBehind m (past ++ leg ∷ []) i')
+      → ((m : State) (past : List TurnedLeg) (leg : TurnedLeg) → IsFirst m → RunsOver m past leg a → StandsBehind m (past ++ leg ∷ []) a') → Together client server i a (Some p) → Together client server i' a' None
+  all_over i a i' a' p over over_a t =
+      let k = t.meet in
+      record {
+        machine = t.machine;
+        machine_a = t.machine_a;
+        began = t.began;
+        began_a = t.began_a;
+        past = t.past ++ k.leg ∷ [];
+        past_a = t.past_a ++ k.leg_a ∷ [];
+        paired = AllZip-push ReadEachOther t.past t.past_a k.leg k.leg_a t.paired (read k.leg k.leg_a p.to_left p.to_right k.way);
+        meet = (over t.machine t.past k.leg t.began.first k.runs, over_a t.machine_a t.past_a k.leg_a t.began_a.first k.runs_a);
+      }
+
+  -- as where both ended by themselves
+  pub both_ended : (i a : DrivenEnd) (p : Held) → i.standing ≡ standings.Over → a.standing ≡ standings.Over → Together client server i a (Some p) → Together client server i a None
+  both_ended i a p over over_a = all_over i a i a p (λ m past leg first k. ended_over m past leg i over k) (λ m past leg first k. ended_over m past leg a over_a k)
+
+  -- and where the connection that stands is cut, if one stands
+  pub both_cut : (i a i' a' : DrivenEnd) (pipe : Option Held) → ((m : State) (past : List TurnedLeg) (leg : TurnedLeg) → IsFirst m → RunsOver m past leg i → is_given i.standing ≡ false → StandsBehind m (past ++ leg ∷ []) i')
+      → (i.standing ≡ standings.Over → i' ≡ i) → ((m : State) (past : List TurnedLeg) (leg : TurnedLeg) → IsFirst m → RunsOver m past leg a → is_given a.standing ≡ false → StandsBehind m (past ++ leg ∷ []) a')
+      → (a.standing ≡ standings.Over → a' ≡ a) → is_lost i a ≡ false → Together client server i a pipe → Together client server i' a' None
+  both_cut i a i' a' None over rests over_a rests_a sound t = record {
+    machine = t.machine;
+    machine_a = t.machine_a;
+    began = t.began;
+    began_a = t.began_a;
+    past = t.past;
+    past_a = t.past_a;
+    paired = t.paired;
+    meet = (
+      subst (λ (e : DrivenEnd). StandsBehind t.machine t.past e) (sym (rests t.meet.0.over)) t.meet.0,
+      subst (λ (e : DrivenEnd). StandsBehind t.machine_a t.past_a e) (sym (rests_a t.meet.1.over)) t.meet.1,
+    );
+  }
+  both_cut i a i' a' (Some p) over rests over_a rests_a sound t =
+      let parts = neither (is_given i.standing) (is_given a.standing) sound in
+      all_over i a i' a' p (λ m past leg first k. over m past leg first k parts.0) (λ m past leg first k. over_a m past leg first k parts.1) t
+
+  -- behind a round the pipe stands where the connection goes on
+  pub round_behind : (i a : DrivenEnd) (q : Held) (b : Bool) (o : Option Held) → o ≡ (if b then Some q else None) → b ≡ (is_going i.standing || is_going a.standing) → is_lost i a ≡ false
+      → Together client server i a (Some q) → Together client server i a o
+  round_behind i a q true o is going sound t = subst (λ (x : Option Held). Together client server i a x) (sym is) t
+  round_behind i a q false o is going sound t =
+      let parts = neither (is_given i.standing) (is_given a.standing) sound in
+      let over = neither (is_going i.standing) (is_going a.standing) (sym going) in
+      subst (λ (x : Option Held). Together client server i a x) (sym is) (both_ended i a q (is_over i.standing over.0 parts.0) (is_over a.standing over.1 parts.1) t)

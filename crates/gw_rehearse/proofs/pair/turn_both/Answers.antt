@@ -1,0 +1,8 @@
+use Rattle.gw_rehearse.proofs.Together.{both_turn, lost_back}
+use Rattle.gw_rehearse.proofs.pair.turn_both.Goals as goal
+
+pub returns-clause-together : goal.returns-clause-together
+returns-clause-together g c = λ client server t sound. both_turn client server _ _ _ _ _ _ _ c.turn_left.ensures.turned c.turn_right.ensures.turned sound t
+
+pub returns-clause-sound : goal.returns-clause-sound
+returns-clause-sound g c = lost_back _ _ _ _ c.turn_left.ensures.sound c.turn_right.ensures.sound

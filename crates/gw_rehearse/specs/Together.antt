@@ -1,0 +1,100 @@
+-- What holds of both ends of a rehearsal together (this project's profile).
+use Rattle.std.specs.Prelude.{◌≡◌, ℕ, ◌||◌, Bool, false, List, [], length, Option, None, Some}
+use Rattle.std.specs.List.{AllZip}
+use Rattle.session_model.specs.Journal.{History, payloads, counts_from}
+use Rattle.session_model.specs.Inbox.{InboxRecord, applied, skips, payloads_of, numbers_of}
+use Rattle.fixp_msgs.specs.declared.flow.Flow.{Flow}
+use Rattle.fixp_msgs.specs.declared.flow.Flow.TheVariants as flows
+use Rattle.fixp_machine.specs.Machine.{State}
+use Rattle.jr_boxes.specs.Inbox as inboxes
+use Rattle.jr_boxes.specs.Outbox as outboxes
+use Rattle.gw_link_fakes.specs.Pipes.{Held}
+use Rattle.turn_laws.specs.Legs.{TurnedLeg}
+use Rattle.two_ends.specs.Meeting.{Holds}
+use Rattle.pair_laws.specs.Pairing.{ReadEachOther, UnderWay}
+use Rattle.gw_rehearse.specs.declared.end.DrivenEnd.{DrivenEnd}
+use Rattle.gw_rehearse.specs.declared.journals.Journals.{Journals}
+use Rattle.gw_rehearse.specs.Standing.{is_given}
+use Rattle.gw_rehearse.specs.Driven.{Began, StandsBehind, RunsOver}
+
+-- both have one more connection, over this pipe, and what is under way between them is in it
+pub record MeetOver (m n : State) (past past_a : List TurnedLeg) (initiator acceptor : DrivenEnd) (pipe : Held) : Type 0 where
+  pub leg : TurnedLeg
+  pub leg_a : TurnedLeg
+  pub way : UnderWay leg leg_a pipe.to_left pipe.to_right
+  pub runs : RunsOver m past leg initiator
+  pub runs_a : RunsOver n past_a leg_a acceptor
+
+-- no pipe stands, and the connections of both are over; or one stands
+abbrev pub Meet : (m n : State) (past past_a : List TurnedLeg) (initiator acceptor : DrivenEnd) → Option Held → Type 0
+Meet m n past past_a initiator acceptor None = StandsBehind m past initiator × StandsBehind n past_a acceptor
+Meet m n past past_a initiator acceptor (Some pipe) = MeetOver m n past past_a initiator acceptor pipe
+
+-- Both are ends of one session, with these flows: each connection of one was one of the other's, in order, and was given of what that sent; each
+-- is turns of its end, from empty journals on, and the inboxes hold what they added
+pub record Together (client server : Flow) (initiator acceptor : DrivenEnd) (pipe : Option Held) : Type 0 where
+  pub machine : State
+  pub machine_a : State
+  pub began : Began client server machine
+  pub began_a : Began server client machine_a
+  pub past : List TurnedLeg
+  pub past_a : List TurnedLeg
+  pub paired : AllZip ReadEachOther past past_a
+  pub meet : Meet machine machine_a past past_a initiator acceptor pipe
+
+-- an end was given up
+abbrev pub is_lost : (initiator acceptor : DrivenEnd) → Bool
+is_lost initiator acceptor = is_given initiator.standing || is_given acceptor.standing
+
+-- a pair to its callers: what the senders have submitted, its flows, and whether an end was given up
+pub record PairNow : Type 0 where
+  pub sent : List ℕ
+  pub client : Flow
+  pub server : Flow
+  pub lost : Bool
+
+-- it stays one of the same flows, of which no end is given up
+pub record StaysSound (old new : PairNow) : Type 0 where
+  pub client : new.client ≡ old.client
+  pub server : new.server ≡ old.server
+  pub sound : old.lost ≡ false → new.lost ≡ false
+
+-- The session guarantee over the journals of both ends, of a session with these flows: the outboxes stand for these histories and the inboxes for these
+-- lists, and each inbox holds of the other end's outbox what the kind of that flow promises
+pub record KeepsSession (client server : Flow) (initiator acceptor : Journals) : Type 0 where
+  pub history : History
+  pub history_a : History
+  pub inbox : List InboxRecord
+  pub inbox_a : List InboxRecord
+  pub stands : outboxes.StandsFor initiator.outbox history
+  pub stands_a : outboxes.StandsFor acceptor.outbox history_a
+  pub holds : inboxes.StandsFor initiator.inbox inbox
+  pub holds_a : inboxes.StandsFor acceptor.inbox inbox_a
+  pub outward : Holds client history.made inbox_a
+  pub homeward : Holds server history_a.made inbox
+
+-- as many messages were applied at one end as stand in the outbox of the other, where the flow is recoverable
+abbrev pub CountsAll : Flow → (writer reader : Journals) → Type 0
+CountsAll flow writer reader = flow ≡ flows.Recoverable → inboxes.count_of reader.inbox ≡ outboxes.front_of writer.outbox
+
+-- the inbox of one end is the journal of the other: all of its outbox was applied, in order, each message under its number, and nothing was passed over
+pub record HasArrived (writer reader : Journals) : Type 0 where
+  pub history : History
+  pub inbox : List InboxRecord
+  pub stands : outboxes.StandsFor writer.outbox history
+  pub holds : inboxes.StandsFor reader.inbox inbox
+  pub all : payloads_of (applied inbox) ≡ payloads history.made
+  pub numbered : numbers_of (applied inbox) ≡ counts_from 1 (length history.made)
+  pub whole : skips inbox ≡ []
+
+-- so it is where the flow is recoverable
+abbrev pub Arrives : Flow → (writer reader : Journals) → Type 0
+Arrives flow writer reader = flow ≡ flows.Recoverable → ∥ HasArrived writer reader ∥₁
+
+-- the session guarantee over journals whose inboxes wait for these numbers
+pub record StoppedAt (client server : Flow) (initiator_next acceptor_next : ℕ) : Type 0 where
+  pub initiator : Journals
+  pub acceptor : Journals
+  pub keeps : KeepsSession client server initiator acceptor
+  pub next : inboxes.next_of initiator.inbox ≡ initiator_next
+  pub next_a : inboxes.next_of acceptor.inbox ≡ acceptor_next
