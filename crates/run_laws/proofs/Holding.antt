@@ -5,6 +5,7 @@ use Rattle.std.specs.List.{AllByRecursion, AllZip}
 use Rattle.session_model.specs.Journal.{Entry, OutboxRecord, entries, History}
 use Rattle.session_model.specs.Inbox.{InboxRecord, next_number}
 use Rattle.session_model.specs.Lives.{KeepsOutbox, Chained}
+use Rattle.session_model.specs.Guarantee.{OneEnd}
 use Rattle.session_model.proofs.Lists.{prefix_self}
 use Rattle.gate_turn.proofs.Histories.{begins_self}
 use Rattle.fixp_msgs.specs.Payload.{IsApplication}
@@ -120,7 +121,9 @@ pub runs_hold : {S K D N C J : Type 0} (G : Ghosts J) (sees : Sees S K D N C) â†
 runs_hold G sees flows runs_i runs_a h_i h_a i_i i_a ran_i ran_a linked =
     let a = are_lives G sees Initiator flows runs_i h_i i_i ran_i in
     let b = are_lives G sees Acceptor flows runs_a h_a i_a ran_a in
-    let both = loops_hold flows.client flows.server (plan_of (outbox_of h_i)) (plan_of (outbox_of h_a)) a.lives b.lives (outbox_of h_i) (outbox_of h_a) i_i i_a (record {
+    let end_i : OneEnd Flow LoopLife = record { flow = flows.client; plan = plan_of (outbox_of h_i); lives = a.lives; outbox = outbox_of h_i; inbox = i_i } in
+    let end_a : OneEnd Flow LoopLife = record { flow = flows.server; plan = plan_of (outbox_of h_a); lives = b.lives; outbox = outbox_of h_a; inbox = i_a } in
+    let both = loops_hold end_i end_a (record {
       lives_a = a.may_turn;
       lives_b = b.may_turn;
       chained_a = a.chained;

@@ -21,3 +21,16 @@ pub mod Sampled
 pub mod Spelled
 pub mod Acknowledged
 pub mod Boxed
+pub mod Serving
+pub mod Noting
+pub mod Closing
+pub mod Keeping
+pub mod Counting
+pub mod Paths
+pub mod Leaving
+pub mod Living
+pub mod TimedChaining
+pub mod Carrying
+pub mod TimedHolding
+pub mod Resting
+pub mod TimedSampled

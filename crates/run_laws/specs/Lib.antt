@@ -7,3 +7,8 @@ pub mod Senders
 pub mod Promise
 pub mod Samples
 pub mod Standing
+pub mod Served
+pub mod TimedRuns
+pub mod TimedLaws
+pub mod Resting
+pub mod TimedSamples

@@ -1,6 +1,0 @@
-use Rattle.honest_runs.proofs.Holding.{runs_end_in_time}
-use Rattle.cmd_session.specs.Outsides.{sees}
-use Rattle.honest_runs.proofs.runs.runs_end_in_time.Goals as goal
-
-pub returns : goal.returns
-returns g c = record { law = runs_end_in_time _ (sees g.S.Source g.K.Sink g.D.Disk g.N.Dialer g.N.Link.Link g.C.Clock) }

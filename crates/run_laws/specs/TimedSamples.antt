@@ -1,0 +1,28 @@
+-- The premises of the laws can be met: by the two runs of each of two ends in memory of which `run_laws` computes a sample. The first run of either is
+-- stopped in an append; in the second, a next life, the initiator sends three bytes of its first message, the acceptor is given two, and the link fails.
+use Rattle.std.specs.Prelude.{◌≡◌, [], length}
+use Rattle.fixp_shake.specs.declared.config.Role.TheVariants.{Initiator, Acceptor}
+use Rattle.jr_record.specs.declared.journal.Journal.{Ghosts}
+use Rattle.jr_boxes.specs.declared.inbox.Inbox.{Inbox}
+use Rattle.jr_boxes.specs.Inbox.{HoldsBox}
+use Rattle.run_laws.specs.Samples.{configured, config_text, memory, runs_of_initiator, runs_of_acceptor}
+use Rattle.run_laws.specs.TimedRuns.{EndRan, lives, legs_of}
+use Rattle.run_laws.specs.TimedLaws.{AreLinked}
+
+module _ {J : Type 0} (G : Ghosts J) where
+  -- these runs, with two lives of each end and a connection of each, are linked in time
+  pub record RunInTime : Type 0 where
+    pub initiator : EndRan G memory Initiator configured.link
+    pub acceptor : EndRan G memory Acceptor configured.link
+    pub runs_i : initiator.runs ≡ runs_of_initiator config_text
+    pub runs_a : acceptor.runs ≡ runs_of_acceptor config_text
+    pub lives_i : length (lives G memory Initiator configured.link initiator) ≡ 2
+    pub lives_a : length (lives G memory Acceptor configured.link acceptor) ≡ 2
+    pub legs_i : length (legs_of (lives G memory Initiator configured.link initiator)) ≡ 1
+    pub legs_a : length (legs_of (lives G memory Acceptor configured.link acceptor)) ≡ 1
+    pub linked : AreLinked G memory configured.link configured.link initiator acceptor
+
+module _ {J : Type 0} {G : Ghosts J} where
+  -- so they are where an inbox holds no records, as one does that was opened on a journal without records
+  abbrev pub RunsInTimeSample : Inbox J G → Type 0
+  RunsInTimeSample empty = HoldsBox empty [] [] → RunInTime G
