@@ -2,23 +2,11 @@
 
 use gw_outside::Source;
 use gw_real::FileSource;
+use session_files::is_file;
 use sofh_frame::{FirstFrame, Framer};
 use std::alloc::Global;
 use std::fs::File;
 use std::rt::Files;
-
-/// The most bytes of a text.
-const TEXT: usize = 1 << 26;
-
-/// How many bytes of a text are asked for at once.
-const PIECE: usize = 32_768;
-
-fn is_file<R: Files<File = File>>(rt: &R, path: &str) -> bool {
-    match rt.metadata(path) {
-        Ok(metadata) => metadata.is_file(),
-        Err(_) => false,
-    }
-}
 
 /// Reads on behind the bytes that a framer holds; false at the end, or where there is no room or the file cannot be read.
 fn read_on<S: Source>(source: &mut S, framer: &mut Framer) -> bool {
@@ -73,31 +61,4 @@ pub fn place_of_frame<R: Files<File = File>>(
         Ok(mut framer) => place_in(&mut source, &mut framer, number),
         Err(_) => None,
     }
-}
-
-/// Whether a source is a text; adds it.
-fn push_text<S: Source>(source: &mut S, text: &mut Vec<u8>) -> bool {
-    let mut piece = [0u8; PIECE];
-    for _ in 0..=TEXT {
-        match source.pull(&mut piece) {
-            Ok(0) => return true,
-            Ok(count) => {
-                if text.extend_from_slice(&piece[..count]).is_err() {
-                    return false;
-                }
-            }
-            Err(_) => return false,
-        }
-    }
-    false
-}
-
-/// The text of a file.
-pub fn text_of_file<R: Files<File = File>>(rt: &R, alloc: Global, path: &str) -> Option<Vec<u8>> {
-    if !is_file(rt, path) {
-        return None;
-    }
-    let mut source: FileSource<'_, R, File> = FileSource::new(rt, alloc, path, 0);
-    let mut text = Vec::new(alloc);
-    push_text(&mut source, &mut text).then_some(text)
 }

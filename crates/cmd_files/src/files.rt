@@ -1,7 +1,7 @@
 //! A run over the files that its words name.
 
-use crate::again::{place_of_frame, text_of_file};
-use crate::lines::{push_disk, push_input, push_journal, push_place, push_sink, push_source};
+use crate::again::place_of_frame;
+use crate::lines::{push_disk, push_input, push_journal, push_sink, push_source};
 use crate::missing::{push_made, push_other};
 use crate::report::Report;
 use cmd_config::Purpose;
@@ -15,6 +15,7 @@ use say_faults::{push_decode_fault, push_encode_fault, push_text_fault};
 use sbe_layout::Plan;
 use schema_load::load;
 use schema_toml::{ConfigFault, TEXT_LIMIT};
+use session_files::{push_place, text_of_file};
 use sofh_frame::ROOM;
 use std::alloc::{AllocError, Global};
 use std::fs::File;

@@ -1,5 +1,5 @@
-//! A command over the files that its words name, and what is wrong with one in lines for people: the words of a session and their
-//! usage, the reports of runs, and what each device of a session says of itself. Relies on `cmd_run` for what a command does.
+//! A command over the files that its words name, and what is wrong with one in lines for people: the usage of the words, the reports
+//! of runs, and what each device of a session says of itself. Relies on `cmd_run` for what a command does.
 #![tactic(auto)]
 
 mod again;
@@ -8,19 +8,13 @@ mod lines;
 mod missing;
 mod plans;
 mod report;
-mod session;
 mod session_said;
 mod usage;
-mod walk;
 
-pub use again::text_of_file;
 pub use files::run_over_files;
-pub use lines::push_place;
 pub use report::{Report, finish};
-pub use session::Session;
 pub use session_said::{
-    Outlook, SaysWhy, push_bad, push_config, push_failed, push_plans, push_reject, push_undialed,
+    SaysWhy, push_bad, push_config, push_failed, push_plans, push_reject, push_undialed,
     push_unfinished, push_unread, push_unwritten,
 };
 pub use usage::{VERSION, asked, usage_fault};
-pub use walk::{AtPlace, Walked, entry_at, walk_journal};

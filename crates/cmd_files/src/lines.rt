@@ -3,25 +3,10 @@
 use cmd_run::{Bad, JournalCause, Which};
 use fixp_shake::Violation;
 use gw_real::{DiskReason, Kept, Named, Reason, STANDARD_OUTPUT};
-use say_config::push_file;
 use say_faults::{push_broken_rule, push_malformed, push_refused};
+use session_files::{push_name, push_place};
 use std::alloc::AllocError;
 use std::io;
-
-/// Adds a file's role and path; standard output has no path.
-fn push_name(line: &mut String, name: Named<'_>) -> Result<(), AllocError> {
-    if name.role == STANDARD_OUTPUT.role {
-        line.push_str(name.role)
-    } else {
-        push_file(line, name.role, name.path)
-    }
-}
-
-/// Adds a file's role and path, and a colon.
-pub fn push_place(line: &mut String, name: Named<'_>) -> Result<(), AllocError> {
-    push_name(line, name)?;
-    line.push_str(": ")
-}
 
 /// Adds that a file is the same as another one of the command.
 fn push_same(line: &mut String, other: Named<'_>) -> Result<(), AllocError> {

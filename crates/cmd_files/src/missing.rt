@@ -1,7 +1,7 @@
 //! A journal that is missing, or was, and the other one that is there.
 
 use gw_real::Named;
-use say_config::push_file;
+use say_words::push_file;
 use std::alloc::AllocError;
 use std::io::ErrorKind;
 use std::rt::Files;

@@ -1,11 +1,8 @@
 //! What is wrong with a session over files and a socket, piece by piece: each adds to a line.
 
-use crate::again::text_of_file;
-use crate::lines::{push_disk, push_input, push_journal, push_place, push_sink, push_source};
+use crate::lines::{push_disk, push_input, push_journal, push_sink, push_source};
 use crate::missing::push_missing;
 use crate::plans::{PlanLine, plan_line};
-use crate::session::{Session, named};
-use crate::walk::{AtPlace, entry_at};
 use cmd_config::{Purpose, Role, read_configuration};
 use cmd_run::{Bad, JournalCause, Which};
 use gw_real::{FileDisk, Kept, Named, Reason};
@@ -13,6 +10,7 @@ use gw_sockets::{AcceptDialer, ConnectDialer, SocketReason};
 use say_config::{Wanted, push_config_fault};
 use say_faults::{push_plan_fault, push_rejected};
 use schema_toml::ConfigFault;
+use session_files::{AtPlace, Outlook, Session, entry_at, named, push_place, text_of_file};
 use std::alloc::{AllocError, Global};
 use std::fs::File;
 use std::io::{self, ErrorKind};
@@ -22,33 +20,6 @@ use std::time::Clock;
 
 /// How many bytes of a payload are shown.
 const SHOWN: usize = 64;
-
-/// What running a session again can bring.
-#[derive(Clone, Copy, Debug, PartialEq, Eq)]
-pub enum Outlook {
-    /// It goes on.
-    Open,
-    /// Nothing: both ends have finished, and this one knows it.
-    Over,
-    /// Both finishes are recorded here, and the peer's word that it has all is missing.
-    AllHere,
-    /// Nothing, for this reason.
-    Hopeless(&'static str),
-}
-
-impl Outlook {
-    /// Adds it behind a status that may come again.
-    fn push(self, line: &mut String) -> Result<(), AllocError> {
-        match self {
-            Outlook::Open => Ok(()),
-            Outlook::Over => line.push_str("; nothing is missing; the session is over"),
-            Outlook::AllHere => line.push_str(
-                "; both finishes are recorded, and nothing of the peer's is missing: only its word that it has all is",
-            ),
-            Outlook::Hopeless(why) => write!(line, "; running again cannot help: {why}"),
-        }
-    }
-}
 
 /// Adds that a session is not finished after so many connections, and what to do.
 pub fn push_unfinished(line: &mut String, most: u16, outlook: Outlook) -> Result<(), AllocError> {

@@ -1,9 +1,9 @@
 //! What the commands are, for people.
 
 use crate::report::Report;
-use crate::session::role_of;
 use cmd_run::Status;
-use say_config::quoted;
+use say_words::quoted;
+use session_files::role_of;
 use std::alloc::{AllocError, Global};
 
 pub const VERSION: &str = "fixpgw 0.1.0";

@@ -6,10 +6,11 @@ mod rehearsals;
 mod session_said;
 mod sessions;
 
-use cmd_files::{Report, Session, VERSION, asked, finish, run_over_files, usage_fault};
+use cmd_files::{Report, VERSION, asked, finish, run_over_files, usage_fault};
 use cmd_run::{Status, command_of};
 use gw_real::{FileDisk, Opening};
 use rehearsals::{RehearsalFiles, rehearse_over_files};
+use session_files::Session;
 use sessions::{SessionFiles, run_over_sockets};
 use std::fs::File;
 use std::io;

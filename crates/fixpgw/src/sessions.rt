@@ -4,7 +4,7 @@
 ghost use Rattle.std.specs.Prelude.{◌≡◌, false};
 
 use crate::session_said::{Said, line_of};
-use cmd_files::{Report, SaysWhy, Session};
+use cmd_files::{Report, SaysWhy};
 use cmd_run::Status;
 use cmd_session::{Role, SessionOutside, run_session};
 use gw_links::{Clock as LinkClock, Dialer};
@@ -14,6 +14,7 @@ use gw_sockets::{AcceptDialer, ConnectDialer, MachineClock};
 use gw_watch::{Approaches, HasPeer, Pauses, WatchedDialer, WatchedSink, WatchedSource};
 use say_live::Teller;
 use schema_toml::TEXT_LIMIT;
+use session_files::Session;
 use std::alloc::Global;
 use std::fs::File;
 use std::io::{self, Printer};

@@ -1,10 +1,10 @@
 //! What the value at a key has to be.
 
-use crate::table::PRIMITIVES;
 use cmd_config::{
     DESKS, FLOW_WORDS, KEEPALIVE, ORDER_VERSION, Purpose, REFERENCE, Range, Role, SENDERS,
 };
 use cmd_script::{ACTION_WORDS, COUNT, MESSAGES};
+use say_toml::PRIMITIVES;
 use std::alloc::AllocError;
 use toml::Value;
 

@@ -3,11 +3,9 @@
 use crate::admitted::{
     Admitted, Asked, asked_by, asked_by_script, in_schema, in_script, in_settings,
 };
-use crate::escape::push_path;
-use crate::schema::{Broken, schema_fault};
-use crate::table::push_where;
-use crate::value::{found_at, last_key, list_key, push_value};
 use cmd_config::Purpose;
+use say_toml::{Broken, found_at, last_key, list_key, push_value, push_where, schema_fault};
+use say_words::push_path;
 use sbe_schema::SchemaFault;
 use sbe_value::Path;
 use schema_toml::{ConfigFault, TEXT_LIMIT};

@@ -3,7 +3,7 @@
 use crate::admitted::{push_form, push_listed, push_message_names, push_messages};
 use crate::filled::{Filled, plain, with_one, with_three, with_two};
 use crate::walk::{Awaited, Found, found_at, push_awaited};
-use say_config::push_quoted;
+use say_words::push_quoted;
 use sbe_encode::EncodeFault;
 use sbe_grammar::DecodeFault;
 use sbe_layout::{ItemKind, ItemPlan, Plan};

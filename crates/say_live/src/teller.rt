@@ -5,14 +5,14 @@ use crate::outline::{EndWords, OutLine, line_of};
 use crate::stamp::Stamp;
 use crate::words::{flow_name, push_messages, push_next, push_session, rule_name, terminate_name};
 use cmd_config::{Configuration, Purpose, Role, own_flow, peer_flow, read_configuration};
-use cmd_files::{Outlook, Session, Walked, push_place, text_of_file, walk_journal};
 use fixp_msgs::{
     Establish, EstablishmentAck, EstablishmentReject, Flow, Negotiate, NegotiationReject,
     NegotiationResponse, SessionMsg,
 };
 use gw_watch::{Ear, Heard};
-use say_config::push_file;
 use say_faults::push_rejected;
+use say_words::push_file;
+use session_files::{Outlook, Session, Walked, push_place, text_of_file, walk_journal};
 use std::alloc::{AllocError, Global};
 use std::cell::Cell;
 use std::fs::File;

@@ -1,6 +1,6 @@
 //! Values of a TOML text, found again and shown.
 
-use crate::escape::push_quoted;
+use say_words::push_quoted;
 use sbe_value::{Path, Step};
 use std::alloc::AllocError;
 use toml::Value;

@@ -1,8 +1,8 @@
 //! A table of a schema's text that breaks a rule: who it is, and what stands at its keys.
 
-use crate::escape::push_quoted;
 use crate::place::text_at;
 use crate::value::{one_step, push_value};
+use say_words::push_quoted;
 use sbe_prim::{Primitive, find_primitive};
 use sbe_value::{Path, Step};
 use std::alloc::{AllocError, Global};
