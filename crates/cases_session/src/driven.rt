@@ -50,8 +50,8 @@ impl Model for Driven {
     ghost invariant = { λ s. (s.end.begun ≡ true) × (s.end.pending ≡ None) × (s.end.moment ≤ s.now) × (s.now ≤ 1000000) × (s.end.config.own_flow ≡ s.own_flow) × (length s.end.untold ≤ s.heard) };
 }
 
-/// The configuration of an end that sends one flow and receives the other.
-fn config(alloc: Global, role: Role, own_flow: Flow, peer_flow: Flow) -> EndConfig
+/// The configuration of an end of this version of the session schema, which sends one flow and receives the other.
+fn config(alloc: Global, role: Role, own_flow: Flow, peer_flow: Flow, version: u16) -> EndConfig
     ensures keepalive { result.keepalive ≡ 1000 }
     ensures credentials { length result.credentials ≡ 0 }
     ensures own_flow { result.own_flow ≡ own_flow }
@@ -63,6 +63,7 @@ fn config(alloc: Global, role: Role, own_flow: Flow, peer_flow: Flow) -> EndConf
         peer_flow,
         keepalive: 1000,
         credentials: Bytes::from(Vec::new(alloc)),
+        version,
     }
 }
 
@@ -81,8 +82,8 @@ fn entry_of(entries: &[Stable], wanted: u64) -> Option<&Stable>
 }
 
 impl Driven {
-    /// An end of a session of which this is recorded, which sends one flow and receives the other, in its first connection, from this
-    /// moment on.
+    /// An end of this version, of a session of which this is recorded, which sends one flow and receives the other, in its first
+    /// connection, from this moment on.
     pub fn new(
         alloc: Global,
         role: Role,
@@ -90,13 +91,14 @@ impl Driven {
         peer_flow: Flow,
         recorded: EndState,
         now: u64,
+        version: u16,
     ) -> Result<Driven, AllocError>
         requires first { 1 ≤ recorded.inbox_next }
         requires few { recorded.inbox_next ≤ 1000000 }
         requires sent { recorded.sent ≤ 1000000 }
         requires early { now ≤ 1000000 }
     {
-        let config = config(alloc, role, own_flow, peer_flow);
+        let config = config(alloc, role, own_flow, peer_flow, version);
         let mut end = End::new(alloc, config, recorded, 1 << 24)?;
         end.begin(now);
         Ok(Driven {

@@ -27,6 +27,7 @@ fn end(alloc: Global, role: Role) -> Result<EndConfig, AllocError> {
         peer_flow: Flow::Idempotent,
         keepalive: 1000,
         credentials: Bytes::from(bytes(alloc, "aa")?),
+        version: 0,
     })
 }
 

@@ -59,7 +59,7 @@ impl Side {
             sent: 0,
             finish: None,
         };
-        let driven = Driven::new(alloc, role, own_flow, peer_flow, recorded, 0)?;
+        let driven = Driven::new(alloc, role, own_flow, peer_flow, recorded, 0, 0)?;
         Ok(Side {
             driven,
             own_flow,

@@ -54,9 +54,10 @@ fn recorded_of(words: &str) -> EndState
 }
 
 /// An end in its first connection: `SIDE OWN PEER NEGOTIATED NEXT SENT`, of which two are the flow that it sends and the one that it
-/// receives; nothing for a word that is not there.
+/// receives; nothing for a word that is not there. A side may have a version, as in `acceptor=1`.
 fn driven_of(alloc: Global, words: &str) -> Result<Driven, AllocError> {
     let (side, rest) = halves(words);
+    let (side, version) = parted(side, "=");
     let (own, rest) = halves(rest);
     let (peer, recorded) = halves(rest);
     let recorded = recorded_of(recorded);
@@ -67,6 +68,7 @@ fn driven_of(alloc: Global, words: &str) -> Result<Driven, AllocError> {
         flow_of(peer),
         recorded,
         BEGINNING,
+        number(version).min(1) as u16,
     )
 }
 

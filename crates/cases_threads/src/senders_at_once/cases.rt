@@ -1,7 +1,7 @@
 //! The cases.
 use crate::made::{Log, WIDE};
 use crate::senders_at_once::boxes::{Case, Setting, in_order, ready, reopened};
-use crate::senders_at_once::doors::{Closing, Meeting};
+use crate::senders_at_once::doors::{Closing, Meeting, Turning};
 use crate::senders_at_once::runs::{Ran, run, run_finished};
 use cases_words::{halves, number};
 use gate_plans::{Door, OpenDoor};
@@ -48,7 +48,8 @@ fn case_of<'a>(kind: &str, first: u64, second: u64, lengths: &'a str) -> Case<'a
 }
 
 /// Adds what a case of this kind shows: `each` tells of each sender, `within ENTRIES BYTES` of a limit, `fuse CALLS PICK` of a disk that
-/// fails behind so many calls and is then stopped, `meet` and `finish` of doors at which threads wait for one another.
+/// fails behind so many calls and is then stopped, `meet` and `finish` of doors at which threads wait for one another, `turn K` of one that turns
+/// each sender away before its message K.
 pub fn add_case<R: Threads + Wait + Sync>(
     alloc: Global,
     kind: &str,
@@ -58,10 +59,12 @@ pub fn add_case<R: Threads + Wait + Sync>(
 ) -> Result<(), AllocError> {
     let (kind, words) = halves(kind);
     let (first, second) = halves(words);
-    let case = case_of(kind, number(first), number(second), lengths);
+    let place = number(first);
+    let case = case_of(kind, place, number(second), lengths);
     match kind {
         "meet" => meeting(alloc, case, rt, line),
         "finish" => finishing(alloc, case, rt, line),
+        "turn" => turning(alloc, case, place, rt, line),
         _ => open(alloc, case, shown_of(kind, second), rt, line),
     }
 }
@@ -93,6 +96,20 @@ fn run_case<D: Door + Sync, R: Threads + Wait + Sync>(
 ) -> Option<Ran> {
     let Setting { outbox, plans } = ready(alloc, case)?;
     run(alloc, outbox, plans, door, rt)
+}
+
+/// Senders that are turned away before their message `at`.
+fn turning<R: Threads + Wait + Sync>(
+    alloc: Global,
+    case: Case<'_>,
+    at: u64,
+    rt: &R,
+    line: &mut String,
+) -> Result<(), AllocError> {
+    match run_case(alloc, case, &Turning { at }, rt) {
+        Some(mut ran) => add_each(&mut ran, line),
+        None => line.push_str("no outbox"),
+    }
 }
 
 /// How many messages all senders were told of.

@@ -1,5 +1,8 @@
-//! Doors at which senders wait for one another.
+//! Doors at which senders wait for one another, or are turned away.
+ghost use Rattle.std.specs.Prelude.{◌≡◌, true, false};
+
 use gate_plans::Door;
+use jr_boxes::SubmitFault;
 use std::sync::Wait;
 use std::sync::atomic::{AtomicU64, Ordering};
 use std::thread::yield_now;
@@ -43,14 +46,19 @@ impl Meeting {
 }
 
 impl Door for Meeting {
-    fn before<R: Wait>(&self, sender: u16, k: u64, _rt: &R) {
+    ghost turns = { false };
+
+    fn before<R: Wait>(&self, sender: u16, k: u64, _rt: &R) -> bool {
         if sender == 2 {
             self.called.store(1, Ordering::SeqCst);
         }
         if sender == 1 && k == 1 && has_come(&self.called) {
             self.met.store(1, Ordering::SeqCst);
         }
+        true
     }
+
+    fn refused<R: Wait>(&self, _fault: SubmitFault, _rt: &R) {}
 }
 
 /// A door that lets the Finish be added while senders submit: not before sender 1 calls for message `opens_at`. Sender 1 waits
@@ -86,12 +94,33 @@ impl Closing {
 }
 
 impl Door for Closing {
-    fn before<R: Wait>(&self, sender: u16, k: u64, _rt: &R) {
+    ghost turns = { false };
+
+    fn before<R: Wait>(&self, sender: u16, k: u64, _rt: &R) -> bool {
         if sender == 1 && k == self.opens_at {
             self.open.store(1, Ordering::SeqCst);
         }
         if sender == 1 && k == self.closed_at {
             let _ = has_come(&self.finished);
         }
+        true
     }
+
+    fn refused<R: Wait>(&self, _fault: SubmitFault, _rt: &R) {}
+}
+
+/// A door that turns each sender away before its message of this number.
+#[derive(Clone, Copy, Drop)]
+pub struct Turning {
+    pub at: u64,
+}
+
+impl Door for Turning {
+    ghost turns = { true };
+
+    fn before<R: Wait>(&self, _sender: u16, k: u64, _rt: &R) -> bool {
+        k != self.at
+    }
+
+    fn refused<R: Wait>(&self, _fault: SubmitFault, _rt: &R) {}
 }
