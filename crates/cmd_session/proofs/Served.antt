@@ -9,9 +9,9 @@ use Rattle.fixp_shake.specs.declared.config.EndConfig.{EndConfig}
 use Rattle.fixp_machine.specs.Machine.{State, fresh}
 use Rattle.gw_links.specs.declared.link.Link.{Ghosts as LinkGhosts}
 use Rattle.session_model.specs.Journal.{History}
-use Rattle.jr_record.specs.declared.journal.Journal.{Ghosts}
-use Rattle.jr_boxes.specs.declared.inbox.Inbox.{Inbox}
-use Rattle.jr_boxes.specs.declared.outbox.Outbox.{Outbox}
+use Rattle.jr_dated.specs.declared.journal.Journal.{Ghosts}
+use Rattle.jr_kept.specs.declared.inbox.Inbox.{Inbox}
+use Rattle.jr_kept.specs.declared.outbox.Outbox.{Outbox}
 use Rattle.jr_boxes.specs.declared.faults.SubmitFault.{SubmitFault}
 use Rattle.jr_boxes.specs.declared.faults.SubmitFault.TheVariants as submit
 use Rattle.gate_turn.specs.Places.{known}
@@ -134,8 +134,8 @@ tells_earlier lacking old mid new lines h t = record {
 }
 
 module _ {J : Type 0} {G : Ghosts J} (taken : Option (List ℕ)) (old new : Beside J G) where
-  served_earlier : (before seen : History) (m : State) (result : Result LifeEnd ServeFault) → Appends taken old.out [] → ServedLife (with_seen old before) (with_seen new seen) m result
-      → ServedLife (with_seen (record old { out = taken }) before) (with_seen new seen) m result
+  served_earlier : {t : Type 0} (before seen : History) (m : State) (result : Result LifeEnd ServeFault) → Appends taken old.out [] → ServedLife t (with_seen old before) (with_seen new seen) m result
+      → ServedLife t (with_seen (record old { out = taken }) before) (with_seen new seen) m result
   served_earlier before seen m result h s = record {
     ended = s.ended;
     given_up = s.given_up;
@@ -145,6 +145,7 @@ module _ {J : Type 0} {G : Ghosts J} (taken : Option (List ℕ)) (old new : Besi
     gave_up = s.gave_up;
     followed = s.followed;
     timely = s.timely;
+    faithful = s.faithful;
     refuses = s.refuses;
     lines = tells_earlier (lacks_lines result) taken old.out new.out (lines_from 1 (s.ended ++ option_to_list s.given_up)) h s.lines;
     came = s.came;
@@ -154,8 +155,8 @@ module _ {J : Type 0} {G : Ghosts J} (taken : Option (List ℕ)) (old new : Besi
   }
 
   over_earlier : {L : Type 0} (over : Clocked L) (before seen : History) (m : State) (result : Result LifeEnd ServeFault) → Appends taken old.out []
-      → ServedOver over.links over.before over.behind (with_seen old before) (with_seen new seen) m result
-      → ServedOver over.links over.before over.behind (with_seen (record old { out = taken }) before) (with_seen new seen) m result
+      → ServedOver over.tells over.links over.before over.behind (with_seen old before) (with_seen new seen) m result
+      → ServedOver over.tells over.links over.before over.behind (with_seen (record old { out = taken }) before) (with_seen new seen) m result
   unfolding served_earlier
   over_earlier over before seen m result h s = record { life = served_earlier before seen m result h s.life; links = s.links; clock = s.clock }
 
@@ -177,12 +178,13 @@ module _ {J : Type 0} {G : Ghosts J} (taken : Option (List ℕ)) (old new : Besi
     broken = l.broken;
     plans_kept = l.plans_kept;
     begins = l.begins;
-    served = over_earlier over l.opening l.seen (fresh config (opened_state l.opening old.box) (2 ^ 24)) l.connections h l.served;
+    served = over_earlier over l.opening l.seen (fresh config (opened_state l.opening old.box) (2 ^ 26)) l.connections h l.served;
     limits = l.limits;
     answer = l.answer;
     refusal = l.refusal;
     marked = l.marked;
     journal = l.journal;
+    changed = l.changed;
     full = l.full;
   }
 

@@ -38,10 +38,11 @@ impl From<io::Error> for DiskReason<'_> {
 /// How the files of a kind begin, so that one of another kind is known before it is written over.
 #[derive(Clone, Copy, Debug, PartialEq, Eq)]
 pub struct Begun {
-    /// The bytes that each begins with.
+    /// The bytes that each begins with, and those that one of an earlier form began with.
     pub mark: &'static [u8],
-    /// How many bytes are written when one is made: the mark, and zeros behind it. Where that was cut off, the file has no more
-    /// bytes than these, and each is zero or that of the mark.
+    pub older: &'static [u8],
+    /// How many bytes are written when one is made: a mark, and zeros behind it. Where that was cut off, the file has no more
+    /// bytes than these, and each is zero or that of a mark.
     pub length: usize,
 }
 
@@ -55,6 +56,8 @@ pub enum Opening {
     /// The same, and it is made where there is none; its folder is synced then, so that it is there after a power cut. One that
     /// stands there is empty, begins so, or was cut off while it was made; every call fails over any other.
     Make(Begun),
+    /// The same, whatever stands there: the command judges it.
+    Begin,
 }
 
 /// What stands behind a disk.
@@ -138,10 +141,16 @@ fn made<'a, R: Files<File = File>>(
 const FRONT: usize = 64;
 
 impl Begun {
-    /// Whether each of these bytes, which stand at the front of a file, is zero or that of the mark.
+    /// Whether a byte stands at a place of a mark.
+    fn is_marked(self, at: usize, byte: u8) -> bool {
+        matches!(self.mark.get(at), Some(marked) if *marked == byte)
+            || matches!(self.older.get(at), Some(marked) if *marked == byte)
+    }
+
+    /// Whether each of these bytes, which stand at the front of a file, is zero or that of a mark.
     fn is_part(self, front: &[u8]) -> bool {
         for (at, byte) in front.iter().enumerate() {
-            if *byte != 0 && !matches!(self.mark.get(at), Some(marked) if marked == byte) {
+            if *byte != 0 && !self.is_marked(at, *byte) {
                 return false;
             }
         }
@@ -151,7 +160,9 @@ impl Begun {
     /// Whether a file whose first bytes are these, at most `FRONT`, is of the kind, or becomes it without a loss: it is empty, or was
     /// cut off while it was made.
     fn admits(self, front: &[u8]) -> bool {
-        front.starts_with(self.mark) || (front.len() <= self.length && self.is_part(front))
+        front.starts_with(self.mark)
+            || front.starts_with(self.older)
+            || (front.len() <= self.length && self.is_part(front))
     }
 }
 
@@ -197,12 +208,12 @@ fn found_of_kind<'a, R: Files<File = File>>(
     of_kind(file, begun)
 }
 
-/// A file of this kind, made where there is none.
+/// A file made where there is none; one that stands there is of this kind, if one is named.
 fn found_or_made<'a, R: Files<File = File>>(
     rt: &R,
     name: Named<'a>,
     others: &'a [Named<'a>],
-    begun: Begun,
+    begun: Option<Begun>,
 ) -> Opened<'a> {
     match File::create_new(rt, name.path) {
         Ok(file) => Opened {
@@ -210,7 +221,10 @@ fn found_or_made<'a, R: Files<File = File>>(
             is_new: true,
         },
         Err(error) if error.kind() == ErrorKind::AlreadyExists => {
-            standing(found_of_kind(rt, name, others, begun))
+            standing(match begun {
+                Some(begun) => found_of_kind(rt, name, others, begun),
+                None => found(rt, name, others, true),
+            })
         }
         Err(error) => standing(Err(DiskReason::System(error))),
     }
@@ -329,7 +343,8 @@ impl<'a, R: Files<File = File>> FileDisk<'a, R> {
         let Opened { file, is_new } = match self.opening {
             Opening::Read => standing(found(self.rt, self.name, self.others, false)),
             Opening::Write => standing(found(self.rt, self.name, self.others, true)),
-            Opening::Make(begun) => found_or_made(self.rt, self.name, self.others, begun),
+            Opening::Make(begun) => { found_or_made(self.rt, self.name, self.others, Some(begun)) }
+            Opening::Begin => found_or_made(self.rt, self.name, self.others, None),
         };
         self.is_new = is_new;
         self.held = match file {

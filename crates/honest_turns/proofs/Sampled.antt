@@ -127,6 +127,7 @@ module _ (config : EndConfig) (leg : TurnedLeg) (range : IsInRange (begins confi
       turns = t.turns;
       cut = t.cut;
       has = record { begins = prefix_self t.after.made; few = let e : length t.after.made ≡ 0 = ap length none_made in omega (arith, e) };
+      faithful = t.faithful;
     };
     seen = begins_self t.after;
     timely = time;

@@ -2,14 +2,14 @@
 //! Relies on `gate_plans`.
 
 ghost use Rattle.std.specs.Prelude.{◌≡◌, ◌≤◌, ◌^◌, false, vec_len, IfSome};
-ghost use Rattle.jr_boxes.specs.Outbox.{is_broken};
+ghost use Rattle.jr_kept.specs.Outbox.{is_broken};
 
 use crate::made::{Log, formatted, opened};
 use gate_plans::{OpenDoor, Plan, run_seated, seat, unseat};
 use gate_senders::Gate;
 use gw_outside::{Bytes, Payloads};
-use jr_boxes::Outbox;
-use jr_record::Limits;
+use jr_dated::Limits;
+use jr_kept::Outbox;
 use std::alloc::Global;
 use std::sync::Wait;
 use std::thread::Threads;

@@ -1,9 +1,8 @@
-use Rattle.std.proofs.Common.{inl, inr, ⊎_elim, map, refl, sym, ◌∙◌, ap, subst}
+use Rattle.std.proofs.Common.{inl, inr, ⊎_elim, map, refl, subst}
 use Rattle.fixp_shake.specs.declared.config.EndConfig.{EndConfig}
 use Rattle.plan_values.specs.Plans.{payloads_of}
-use Rattle.jr_record.specs.Images.{journal_size}
-use Rattle.jr_log.specs.declared.log.LogJournal.{LogJournal}
-use Rattle.jr_log.specs.Log.{disk_of}
+use Rattle.jr_segments.specs.declared.journal.SegJournal.{SegJournal}
+use Rattle.jr_segments.specs.Journal.{disk_of}
 use Rattle.cmd_session.specs.Inputs.{end_of}
 use Rattle.cmd_session.specs.Outsides.{sees, disks_of}
 use Rattle.cmd_session.specs.Steps.{HoldBoxes}
@@ -20,11 +19,11 @@ returns-clause-ended g c = λ first.
     elim c.match-open_session.branch [
       | in-Ok w ↦ given_back _ told c.args.role c.args.configuration before c.args.outside.config _ _ _ _ _ _ refl w.devices-is w.status-is (inr (record {
         boxes = subst (λ (e : EndConfig). HoldBoxes g.D.Disk.told e.peer_flow (disks_of c.args.outside)) end w.in-Ok.ensures.told;
-        ended = inr (lived_disks w.in-Ok.opened.0 told (disk_of {G = g.D.Disk}) (λ j image h. h) (λ j rs qs a b. sym a ∙ b) (λ (j : LogJournal _ g.D.Disk) rs a. sym (ap journal_size a) ∙ j.sized)
+        ended = inr (lived_disks w.in-Ok.opened.0 told (disk_of {G = g.D.Disk}) (λ j image h. h) (λ (j : SegJournal _ g.D.Disk) ds s. s.keeps.sized)
             c.args.configuration.trade.senders (end_of c.args.role c.args.configuration.link) before _ w.run_over_boxes-status.result.1 w.in-Ok.opened.1 w.run_over_boxes-status.new.inbox w.run_over_boxes-status.result.0
             w.in-Ok.ensures.opened.0 w.in-Ok.ensures.opened.1 w.in-Ok.ensures.out_limit w.in-Ok.ensures.limit.1 w.close_outbox.ensures.disk w.close_inbox.ensures.disk
             w.in-Ok.ensures.never_falls.0 w.in-Ok.ensures.never_falls.1 w.close_outbox.ensures.faults w.close_inbox.ensures.faults
-            (lived_by told _ _ _ _ _ _ _ end (record {
+            (lived_by told _ _ _ _ _ _ _ _ end (record {
               plans = map payloads_of w.in-Ok.opened.2.items;
               life = record {
                 planned = w.in-Ok.ensures.planned;

@@ -13,7 +13,7 @@ returns-clause-stands g c =
     let e = c.turn.ensures in
     subst (λ s. Stands s (line_of c.turn.new.self) ((line_of c.args.conn.now).place + 262240) (known c.turn.new.pass) c.turn.new.inbox) (sym c.behind.ensures)
     (stands_behind c.turn.result (line_of c.turn.new.self) ((line_of c.args.conn.now).place + 262240) (known c.turn.new.pass) c.turn.new.inbox
-    (on_ok_weaker c.turn.result (turn_place _ _ (live_end _ _ _ (line_of c.args.conn.now) c.args.inbox.now []) (live_end _ _ _ (line_of c.turn.new.self) c.turn.new.inbox _) c.turn.result) e.did)
+    (on_ok_weaker c.turn.result (turn_place _ _ _ (live_end _ _ _ (line_of c.args.conn.now) c.args.inbox.now []) (live_end _ _ _ (line_of c.turn.new.self) c.turn.new.inbox _) c.turn.result) e.did)
     e.goes e.leaves e.leaves_lost e.answer (λ lost. ap is_some (e.ended_lost lost)))
 
 pub returns-clause-whole : goal.returns-clause-whole
