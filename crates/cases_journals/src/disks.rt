@@ -1,5 +1,6 @@
 //! Disks in memory, and the steps that are taken on one which no journal holds.
 
+use crate::moving::{add_moved, holding};
 use cases_words::{digits, halves, number};
 use gw_fakes::{MemDisk, Pick};
 use jr_dated::Limits;
@@ -79,14 +80,16 @@ fn stopped(disk: MemDisk, word: &str) -> MemDisk {
     })
 }
 
-/// Formats a disk, also as a journal without moments, or tells its content.
+/// Formats a disk, also as a journal without moments, moves a journal to it, or tells its content.
 fn add_told(
     alloc: Global,
     disk: &mut MemDisk,
-    kind: &str,
+    words: &str,
     told: &mut String,
 ) -> Result<(), AllocError> {
+    let (kind, others) = halves(words);
     match kind {
+        "migrate" => add_moved(alloc, disk, others, told),
         "format" => {
             let answer = format(disk);
             write!(told, " -> {answer:?}")
@@ -115,9 +118,10 @@ pub fn on_disk(
     match kind {
         "fuse" => Ok(fused(alloc, disk, others)),
         "stop" => Ok(stopped(disk, others)),
+        "holds" => holding(alloc, others),
         _ => {
             let mut disk = disk;
-            add_told(alloc, &mut disk, kind, told)?;
+            add_told(alloc, &mut disk, words, told)?;
             Ok(disk)
         }
     }

@@ -3,6 +3,7 @@
 #![tactic(auto)]
 
 mod disks;
+mod moving;
 mod opened;
 mod records;
 

@@ -14,21 +14,30 @@ pub enum Which {
     Inbox,
 }
 
-/// Why a journal is not one that a box can be opened on, or can be formatted.
+/// Why a journal is not one that a box can be opened on, or a disk is none that a journal can be made on.
 #[derive(Clone, Copy, Debug, PartialEq, Eq, Error)]
 pub enum JournalCause {
     /// The first 16 bytes are not the header.
     #[error("not formatted as a journal")]
     NotFormatted,
+    /// They are the header of format 1, which `migrate` reads.
+    #[error("a journal of format 1")]
+    OldFormat,
     /// No record and no end of the records stands at this byte.
     #[error("damaged at byte {at}")]
     Damaged { at: u64 },
     /// The record of this index, from 0 on, is the first that the box excludes.
     #[error("wrong at record {at}")]
     Wrong { at: u64 },
+    /// The record of this index, from 0 on, is read otherwise than it was written.
+    #[error("changed at record {at}")]
+    Changed { at: u64 },
     /// The disk begins as a journal does.
     #[error("already formatted as a journal")]
     Already,
+    /// The disk of the journal that another is moved to has something else.
+    #[error("neither empty nor what was begun of this journal")]
+    NotFresh,
 }
 
 /// Why a box was not opened on a journal.

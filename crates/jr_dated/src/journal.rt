@@ -45,8 +45,11 @@ pub trait Journal {
     /// The moment that the next record is given, in milliseconds.
     ghost moment: { Self → ℕ };
 
-    /// That its disk tells its content.
+    /// That each disk of its kind tells its content.
     ghost tells: { Type 0 };
+
+    /// That its disk tells its content.
+    ghost is_told: { Self → Type 0 };
 
     /// Adds a record behind the others, with the journal's moment. At `Ok` it stands in every image, also after any later
     /// stop.
@@ -125,7 +128,8 @@ pub trait Journal {
         requires within { i < count self.old }
         ensures found { IfOk result (λ p. ∥ ((h : List Dated) × stands self.old h × (slice_get h i ≡ Some (stamped p.1 p.0))) ∥₁) }
         ensures legal { IfOk result (λ p. IsRecord p.0 × (p.1 < 2 ^ 44)) }
-        ensures changed { (at : ℕ) → result ≡ Err (fetch.Changed at) → (at ≡ i) × (tells → ⊥) }
+        ensures changed { (at : ℕ) → result ≡ Err (fetch.Changed at) → (at ≡ i) × (is_told self.old → ⊥) }
+        ensures told { is_told self.old → is_told self.new }
 
         ensures broken { (result ≡ Err fetch.Broken) ↔ (is_broken self.old ≡ true) }
         ensures cause { IsErrOf result fetch.Fault → HasRisen (faults self.old) (faults self.new) }
@@ -166,7 +170,10 @@ pub trait Journal {
     ghost few: { (j : Self) → count j < 2 ^ 40 };
 
     /// While its disk tells its content and no call of it has failed, it stands for one list.
-    ghost one: { (j : Self) (h k : List Dated) → tells → is_broken j ≡ false → stands j h → stands j k → h ≡ k };
+    ghost one: { (j : Self) (h k : List Dated) → is_told j → is_broken j ≡ false → stands j h → stands j k → h ≡ k };
+
+    /// It does where each disk of its kind does.
+    ghost all_told: { (j : Self) → tells → is_told j };
 
     /// Where it stands for more lists than the one that its images hold, its disk tells no content. So it holds as well the
     /// beginning of that list with the rest of any other: what records that were read one after another are together.

@@ -1,2 +1,4 @@
+pub mod Counting
 pub mod Prefixes
+pub mod Reading
 pub mod Verdicts

@@ -1,18 +1,21 @@
 -- One verdict at most is found of a content.
-use Rattle.std.proofs.Common.{◌≡◌, ℕ, ◌+◌, ◌<◌, ◌≤◌, List, Result, Ok, Err, take, inl, inr, refl, sym, ap, subst, ◌∙◌, arith}
+use Rattle.std.proofs.Common.{◌≡◌, ℕ, ◌+◌, ◌<◌, ◌≤◌, List, ◌∷◌, ◌++◌, get_or, Result, Ok, Err, take, inl, inr, refl, sym, ap, subst, ◌∙◌, arith}
 use Rattle.std.proofs.lemmas.Bool.{cases_lt}
-use Rattle.std.proofs.lemmas.List.{take-take}
+use Rattle.std.proofs.lemmas.List.{take-take, take_at}
 use Rattle.session_model.specs.Journal.{History}
 use Rattle.session_model.specs.Inbox.{InboxRecord}
 use Rattle.fixp_msgs.specs.declared.flow.Flow.TheVariants as flows
 use Rattle.jr_record.specs.declared.record.Record.{Record}
-use Rattle.jr_record.proofs.Verdicts.{at_most_one_verdict}
+use Rattle.jr_record.specs.Images.{header as old_header, gated}
+use Rattle.jr_dated.specs.Dated.{Dated, spelled, undated}
+use Rattle.jr_dated.specs.Images.{header, IsJournal, IsDamaged}
+use Rattle.jr_dated.proofs.Verdicts.{at_most_one_verdict}
 use Rattle.jr_boxes.specs.declared.faults.Which.{Which}
 use Rattle.jr_boxes.specs.declared.faults.Which.TheVariants.{Outbox, Inbox}
-use Rattle.jr_boxes.specs.declared.faults.JournalCause.TheVariants.{NotFormatted, Damaged, Wrong, Already}
+use Rattle.jr_boxes.specs.declared.faults.JournalCause.TheVariants.{NotFormatted, OldFormat, Damaged, Wrong, Changed, Already, NotFresh}
 use Rattle.jr_boxes.specs.Outboxes.{IsOutbox}
 use Rattle.jr_boxes.specs.Inboxes.{IsInbox}
-use Rattle.jr_judge.specs.Judged.{AreThoseOf, IsWrongIn, IsBox, IsWrong, OneVerdict}
+use Rattle.jr_judge.specs.Judged.{IsOldFormat, AreThoseOf, IsWrongIn, IsBox, IsWrong, OneVerdict}
 use Rattle.jr_judge.proofs.Prefixes.{outbox_first, inbox_first}
 
 -- the records of a box exclude none
@@ -38,35 +41,58 @@ same_place which records at place wrong other = elim (cases_lt at place) as (λ 
   ]
 ]
 
-box_or_wrong : (which : Which) (content : List ℕ) (records : List Record) (at : ℕ) → IsBox which records content → IsWrong which at content → ⊥
+box_or_wrong : (which : Which) (content : List ℕ) (records : List Dated) (at : ℕ) → IsBox which records content → IsWrong which at content → ⊥
 box_or_wrong which content records at b w =
     let same : w.records ≡ records = at_most_one_verdict.one_list content w.records records w.journal b.journal in
-    not_wrong which records at b.those (subst (λ (rs : List Record). IsWrongIn which rs at) same w.wrong)
+    not_wrong which (undated records) at b.those (subst (λ (ds : List Dated). IsWrongIn which (undated ds) at) same w.wrong)
 
 wrong_once : (which : Which) (content : List ℕ) (at place : ℕ) → IsWrong which at content → IsWrong which place content → at ≡ place
 wrong_once which content at place a b =
     let same : a.records ≡ b.records = at_most_one_verdict.one_list content a.records b.records a.journal b.journal in
-    same_place which b.records at place (subst (λ (rs : List Record). IsWrongIn which rs at) same a.wrong) b.wrong
+    same_place which (undated b.records) at place (subst (λ (ds : List Dated). IsWrongIn which (undated ds) at) same a.wrong) b.wrong
+
+-- a journal, damaged or not, begins with the header of its format, and is none of the old one
+begins : (content : List ℕ) → take 16 content ≡ header → IsOldFormat content → ⊥
+begins content new old = absurd (headers (sym old ∙ new))
+  where
+    headers : old_header ≡ header → ⊥
+    headers same = let eighth : 0x31 ≡ 0x32 = ap (λ (xs : List ℕ). get_or xs 7 0) same in omega (arith, eighth)
+
+journal_is_new : (content : List ℕ) (records : List Dated) → IsJournal content records → IsOldFormat content → ⊥
+journal_is_new content records is old = begins content (ap (take 16) is.whole ∙ take_at header (gated spelled records ++ is.closed ∷ is.behind) 16 refl) old
+
+damaged_is_new : (content : List ℕ) (at : ℕ) → IsDamaged content at → IsOldFormat content → ⊥
+damaged_is_new content at is old = begins content (ap (take 16) is.whole ∙ take_at header (gated spelled is.records ++ is.rest) 16 refl) old
 
 pub one_verdict : OneVerdict
 one_verdict which content (Ok r) (Ok s) a b = ap Ok (at_most_one_verdict.one_list content r s a.journal b.journal)
-one_verdict which content (Ok r) (Err NotFormatted) a b = absurd (at_most_one_verdict.formatted content r a.journal b)
+one_verdict which content (Ok r) (Err NotFormatted) a b = absurd (at_most_one_verdict.formatted content r a.journal b.0)
+one_verdict which content (Ok r) (Err OldFormat) a b = absurd (journal_is_new content r a.journal b)
 one_verdict which content (Ok r) (Err (Damaged at)) a b = absurd (at_most_one_verdict.whole content r at a.journal b)
 one_verdict which content (Ok r) (Err (Wrong at)) a b = absurd (box_or_wrong which content r at a b)
-one_verdict which content (Ok r) (Err Already) a b = absurd b
-one_verdict which content (Err NotFormatted) (Ok s) a b = absurd (at_most_one_verdict.formatted content s b.journal a)
+one_verdict which content (Ok r) (Err _) a b = absurd b
+one_verdict which content (Err NotFormatted) (Ok s) a b = absurd (at_most_one_verdict.formatted content s b.journal a.0)
 one_verdict which content (Err NotFormatted) (Err NotFormatted) a b = refl
-one_verdict which content (Err NotFormatted) (Err (Damaged at)) a b = absurd (at_most_one_verdict.damaged content at b a)
-one_verdict which content (Err NotFormatted) (Err (Wrong at)) a b = absurd (at_most_one_verdict.formatted content b.records b.journal a)
-one_verdict which content (Err NotFormatted) (Err Already) a b = absurd b
+one_verdict which content (Err NotFormatted) (Err OldFormat) a b = absurd (a.1 b)
+one_verdict which content (Err NotFormatted) (Err (Damaged at)) a b = absurd (at_most_one_verdict.damaged content at b a.0)
+one_verdict which content (Err NotFormatted) (Err (Wrong at)) a b = absurd (at_most_one_verdict.formatted content b.records b.journal a.0)
+one_verdict which content (Err NotFormatted) (Err _) a b = absurd b
+one_verdict which content (Err OldFormat) (Ok s) a b = absurd (journal_is_new content s b.journal a)
+one_verdict which content (Err OldFormat) (Err NotFormatted) a b = absurd (b.1 a)
+one_verdict which content (Err OldFormat) (Err OldFormat) a b = refl
+one_verdict which content (Err OldFormat) (Err (Damaged at)) a b = absurd (damaged_is_new content at b a)
+one_verdict which content (Err OldFormat) (Err (Wrong at)) a b = absurd (journal_is_new content b.records b.journal a)
+one_verdict which content (Err OldFormat) (Err _) a b = absurd b
 one_verdict which content (Err (Damaged at)) (Ok s) a b = absurd (at_most_one_verdict.whole content s at b.journal a)
-one_verdict which content (Err (Damaged at)) (Err NotFormatted) a b = absurd (at_most_one_verdict.damaged content at a b)
+one_verdict which content (Err (Damaged at)) (Err NotFormatted) a b = absurd (at_most_one_verdict.damaged content at a b.0)
+one_verdict which content (Err (Damaged at)) (Err OldFormat) a b = absurd (damaged_is_new content at a b)
 one_verdict which content (Err (Damaged at)) (Err (Damaged place)) a b = ap (λ (n : ℕ). Err (Damaged n)) (at_most_one_verdict.one_place content at place a b)
 one_verdict which content (Err (Damaged at)) (Err (Wrong place)) a b = absurd (at_most_one_verdict.whole content b.records at b.journal a)
-one_verdict which content (Err (Damaged at)) (Err Already) a b = absurd b
+one_verdict which content (Err (Damaged at)) (Err _) a b = absurd b
 one_verdict which content (Err (Wrong at)) (Ok s) a b = absurd (box_or_wrong which content s at b a)
-one_verdict which content (Err (Wrong at)) (Err NotFormatted) a b = absurd (at_most_one_verdict.formatted content a.records a.journal b)
+one_verdict which content (Err (Wrong at)) (Err NotFormatted) a b = absurd (at_most_one_verdict.formatted content a.records a.journal b.0)
+one_verdict which content (Err (Wrong at)) (Err OldFormat) a b = absurd (journal_is_new content a.records a.journal b)
 one_verdict which content (Err (Wrong at)) (Err (Damaged place)) a b = absurd (at_most_one_verdict.whole content a.records place a.journal b)
 one_verdict which content (Err (Wrong at)) (Err (Wrong place)) a b = ap (λ (n : ℕ). Err (Wrong n)) (wrong_once which content at place a b)
-one_verdict which content (Err (Wrong at)) (Err Already) a b = absurd b
-one_verdict which content (Err Already) b c d = absurd c
+one_verdict which content (Err (Wrong at)) (Err _) a b = absurd b
+one_verdict which content (Err _) b c d = absurd c

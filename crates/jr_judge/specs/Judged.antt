@@ -1,14 +1,16 @@
 -- Which contents are a journal of a box, and why another is none (this project's profile).
-use Rattle.std.specs.Prelude.{◌≡◌, ℕ, List, Option, Some, None, Result, Ok, Err}
+use Rattle.std.specs.Prelude.{◌≡◌, ℕ, List, take, Result, Ok, Err}
 use Rattle.session_model.specs.Journal.{History}
 use Rattle.session_model.specs.Inbox.{InboxRecord}
 use Rattle.fixp_msgs.specs.declared.flow.Flow.TheVariants as flows
 use Rattle.jr_record.specs.declared.record.Record.{Record}
-use Rattle.jr_record.specs.Images.{IsJournal, IsDamaged, IsNotFormatted}
+use Rattle.jr_record.specs.Images.{header as old_header}
+use Rattle.jr_dated.specs.Dated.{Dated, undated}
+use Rattle.jr_dated.specs.Images.{IsJournal, IsDamaged, IsNotFormatted}
 use Rattle.jr_boxes.specs.declared.faults.Which.{Which}
 use Rattle.jr_boxes.specs.declared.faults.Which.TheVariants.{Outbox, Inbox}
 use Rattle.jr_boxes.specs.declared.faults.JournalCause.{JournalCause}
-use Rattle.jr_boxes.specs.declared.faults.JournalCause.TheVariants.{NotFormatted, Damaged, Wrong, Already}
+use Rattle.jr_boxes.specs.declared.faults.JournalCause.TheVariants.{NotFormatted, OldFormat, Damaged, Wrong, Changed, Already, NotFresh}
 use Rattle.jr_boxes.specs.Outboxes.{IsOutbox, IsWrongAt as IsWrongInOutbox}
 use Rattle.jr_boxes.specs.Inboxes.{IsInbox, IsWrongAt as IsWrongInInbox}
 
@@ -23,34 +25,36 @@ abbrev pub IsWrongIn : Which → List Record → ℕ → Type 0
 IsWrongIn Outbox records at = IsWrongInOutbox records at
 IsWrongIn Inbox records at = IsWrongInInbox flows.Idempotent records at
 
--- what judging records as those of this box finds: none that it excludes, or the first
-abbrev pub Judges : Which → List Record → Option ℕ → Type 0
-Judges which records None = AreThoseOf which records
-Judges which records (Some at) = IsWrongIn which records at
-
--- the content is a journal with these records, which are those of this box
-pub record IsBox (which : Which) (records : List Record) (content : List ℕ) : Type 0 where
+-- the content is a journal with these records, which, without their moments, are those of this box
+pub record IsBox (which : Which) (records : List Dated) (content : List ℕ) : Type 0 where
   pub journal : IsJournal content records
-  pub those : AreThoseOf which records
+  pub those : AreThoseOf which (undated records)
 
 -- it is a journal whose record `at` is the first that this box excludes
 pub record IsWrong (which : Which) (at : ℕ) (content : List ℕ) : Type 0 where
-  pub records : List Record
+  pub records : List Dated
   pub journal : IsJournal content records
-  pub wrong : IsWrongIn which records at
+  pub wrong : IsWrongIn which (undated records) at
+
+-- the content begins as a journal of format 1 does
+abbrev pub IsOldFormat : List ℕ → Type 0
+IsOldFormat content = take 16 content ≡ old_header
 
 -- why a content is no journal of this box
 abbrev pub IsNoBox : Which → JournalCause → List ℕ → Type 0
-IsNoBox which NotFormatted content = IsNotFormatted content
+IsNoBox which NotFormatted content = IsNotFormatted content × (IsOldFormat content → ⊥)
+IsNoBox which OldFormat content = IsOldFormat content
 IsNoBox which (Damaged at) content = IsDamaged content at
 IsNoBox which (Wrong at) content = IsWrong which at content
+IsNoBox which (Changed at) content = ⊥
 IsNoBox which Already content = ⊥
+IsNoBox which NotFresh content = ⊥
 
 -- what is found of a content: the records of this box, or why it is none
-abbrev pub IsVerdict : Which → List ℕ → Result (List Record) JournalCause → Type 0
+abbrev pub IsVerdict : Which → List ℕ → Result (List Dated) JournalCause → Type 0
 IsVerdict which content (Ok records) = IsBox which records content
 IsVerdict which content (Err cause) = IsNoBox which cause content
 
 -- one is found at most
 abbrev pub OneVerdict : Type 0
-OneVerdict = (which : Which) (content : List ℕ) (a b : Result (List Record) JournalCause) → IsVerdict which content a → IsVerdict which content b → a ≡ b
+OneVerdict = (which : Which) (content : List ℕ) (a b : Result (List Dated) JournalCause) → IsVerdict which content a → IsVerdict which content b → a ≡ b

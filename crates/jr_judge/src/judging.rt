@@ -1,89 +1,62 @@
-//! Judging records as those of a box.
+//! Judging the records of a journal as those of a box.
 
-ghost use Rattle.std.specs.Prelude.{◌≡◌, ◌<◌, ◌^◌, ℕ, length, Some, IsSome, IfOk};
-ghost use Rattle.std.specs.List.{AllByRecursion};
-ghost use Rattle.jr_record.specs.Records.{IsRecord};
-ghost use Rattle.jr_record.specs.Images.{journal_size};
-ghost use Rattle.jr_boxes.specs.declared.faults.Which.TheVariants as which_box;
+ghost use Rattle.std.specs.Prelude.{◌≡◌, ◌⊎◌, ℕ, false, List, Err, OnOk, IsErrOf};
+ghost use Rattle.std.specs.Option.{ForSome};
+ghost use Rattle.gw_outside.specs.Faults.{HasRisen};
+ghost use Rattle.jr_dated.specs.Dated.{Dated, undated};
+ghost use Rattle.jr_dated.specs.declared.faults.FetchFault.TheVariants as fetch;
 ghost use Rattle.jr_boxes.specs.declared.faults.BoxFault.TheVariants as box_fault;
-ghost use Rattle.jr_judge.specs.Judged.{Judges};
+ghost use Rattle.jr_segments.specs.Journal.{OnlyRead, RestsOn, broken_of, disk_of};
+ghost use Rattle.jr_judge.specs.Judged.{AreThoseOf, IsWrong};
 
-use crate::lent::{Lent, NO_ROOM};
-use fixp_msgs::Flow;
-use jr_boxes::{BoxFault, Inbox, Outbox, Which};
-use jr_record::Record;
-use std::alloc::{AllocError, Global};
+use crate::counted::Counted;
+use gw_outside::Disk;
+use jr_boxes::{BoxFault, Which};
+use jr_dated::{FetchFault, Journal};
+use jr_segments::SegJournal;
+use std::alloc::Global;
 
-/// The first record that the box excludes, from 0 on; none where the records are those of the box. An inbox is read as one
-/// of an idempotent flow, which has every record that an inbox of another flow may have. The records take `size` bytes as
-/// a journal.
-///
-/// # Errors
-/// Want of memory.
-pub fn judge(
-    alloc: Global,
-    which: Which,
-    records: &[Record],
-    size: u64,
-) -> Result<Option<u64>, AllocError>
-    requires legal { AllByRecursion IsRecord records.now }
-    requires sized { journal_size records.now ≡ size }
-    requires few { length records.now < 2 ^ 40 }
-    ensures { IfOk result (Judges which records.now) }
-{
-    match which {
-        Which::Outbox => judge_outbox(alloc, records, size),
-        Which::Inbox => judge_inbox(alloc, records, size),
-    }
-}
-
-/// The first record that an outbox excludes, if there is one.
-fn judge_outbox(alloc: Global, records: &[Record], size: u64) -> Result<Option<u64>, AllocError>
-    requires legal { AllByRecursion IsRecord records.now }
-    requires sized { journal_size records.now ≡ size }
-    requires few { length records.now < 2 ^ 40 }
-    ensures { IfOk result (Judges which_box.Outbox records.now) }
-{
-    let limits = NO_ROOM;
-    let lent = Lent {
-        alloc,
-        records,
-        size,
-        limits,
-    };
-    match Outbox::open(alloc, lent, limits) {
-        Ok(_opened) => Ok(None),
-        Err((_, fault)) => judged(fault),
-    }
-}
-
-/// The first record that an inbox excludes, if there is one.
-fn judge_inbox(alloc: Global, records: &[Record], size: u64) -> Result<Option<u64>, AllocError>
-    requires legal { AllByRecursion IsRecord records.now }
-    requires sized { journal_size records.now ≡ size }
-    requires few { length records.now < 2 ^ 40 }
-    ensures { IfOk result (Judges which_box.Inbox records.now) }
-{
-    let limits = NO_ROOM;
-    let lent = Lent {
-        alloc,
-        records,
-        size,
-        limits,
-    };
-    match Inbox::open(alloc, lent, limits, Flow::Idempotent) {
-        Ok(_opened) => Ok(None),
-        Err((_, fault)) => judged(fault),
-    }
-}
-
-/// What a fault of an opening says of the records; a journal that is lent has no device that fails.
-fn judged(fault: BoxFault) -> Result<Option<u64>, AllocError>
-    ensures wrong { IfOk result (λ wrong. (at : ℕ) → wrong ≡ Some at → fault ≡ box_fault.Wrong at) }
-    ensures some { IfOk result IsSome }
+/// Why a journal of which a record was not read is not judged as one of the box. A record that has changed is one that the box excludes.
+fn not_read(fault: FetchFault) -> BoxFault
+    ensures wrong { (at : ℕ) → result ≡ box_fault.Wrong at → fault ≡ fetch.Changed at }
+    ensures fault { result ≡ box_fault.Fault → (fault ≡ fetch.Fault) ⊎ (fault ≡ fetch.Broken) }
 {
     match fault {
-        BoxFault::Wrong { at } => Ok(Some(at)),
-        BoxFault::Fault | BoxFault::Memory => Err(AllocError),
+        FetchFault::Memory => BoxFault::Memory,
+        FetchFault::Broken | FetchFault::Fault => BoxFault::Fault,
+        FetchFault::Changed { at } => BoxFault::Wrong { at },
     }
+}
+
+/// Reads the records of a journal as those of this box, one after another. An inbox is read as one of an idempotent flow, which has
+/// every record that an inbox of another flow may have.
+///
+/// # Errors
+/// `Wrong` at the first record, from 0 on, that the box excludes, or at one that the disk gives otherwise than it was written, which a
+/// disk that tells its content never does; `Fault` where a call of the disk failed; `Memory`.
+pub fn judge<D: Disk>(
+    alloc: Global,
+    which: Which,
+    journal: &mut SegJournal<D>,
+) -> Result<(), BoxFault>
+    requires sound { broken_of journal.old ≡ false }
+    ensures those { OnOk result ((h : List Dated) → RestsOn journal.old h → (k : List Dated) × RestsOn journal.new k × AreThoseOf which (undated k)) }
+    ensures wrong { (at : ℕ) → result ≡ Err (box_fault.Wrong at) → (h : List Dated) → RestsOn journal.old h → ForSome (D.told (disk_of journal.old)) (IsWrong which at) }
+    ensures cause { IsErrOf result box_fault.Fault → HasRisen (D.faults (disk_of journal.old)) (D.faults (disk_of journal.new)) }
+    ensures sound { OnOk result (broken_of journal.new ≡ false) }
+    ensures read { OnlyRead journal.old journal.new }
+    ensures quiet { OnOk result (D.faults (disk_of journal.new) ≡ D.faults (disk_of journal.old)) }
+{
+    let mut counted = Counted::new(alloc, which);
+    let count = journal.len();
+    for at in 0..count {
+        let r = match journal.record(at) {
+            Ok((r, _moment)) => r,
+            Err(fault) => return Err(not_read(fault)),
+        };
+        if !counted.take(at, &r)? {
+            return Err(BoxFault::Wrong { at });
+        }
+    }
+    Ok(())
 }

@@ -1,10 +1,10 @@
-//! Whether records are those of an outbox or of an inbox, over records that are borrowed, so that whoever only reads a journal
-//! keeps it as it is. Relies on `jr_boxes`, which opens a box over any journal: here over one that is lent and takes nothing.
+//! Whether the records of a journal are those of an outbox or of an inbox, read one after another in place, so that whoever only reads a
+//! journal keeps it as it is and none of its records. Relies on `jr_boxes`, which counts the records of a box, and on `jr_segments`.
 #![tactic(auto)]
 
+mod counted;
 mod judging;
 mod laws;
-mod lent;
 
 pub use judging::judge;
 pub use laws::one_verdict_of_box;

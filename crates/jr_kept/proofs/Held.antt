@@ -178,6 +178,10 @@ module _ {J : Type 0} {G : Ghosts J} where
       λ held. subst (λ (t : Tally). StandsAs G.stands new.journal t h) (sym tally) (stands_same G.stands G.leaves old.journal new.journal same old.tally h held),
       λ held. stands_same G.stands G.leaves new.journal old.journal back old.tally h (subst (λ (t : Tally). StandsAs G.stands new.journal t h) tally held),
     );
+    holds = λ h refused. (
+      λ held. subst (λ (t : Tally). HoldsAs G.stands G.leaves new.journal t h refused) (sym tally) (held_same G.stands G.leaves old.journal new.journal same old.tally h refused held),
+      λ held. held_same G.stands G.leaves new.journal old.journal back old.tally h refused (subst (λ (t : Tally). HoldsAs G.stands G.leaves new.journal t h refused) tally held),
+    );
     images = same.images;
     front = ap (λ (t : Tally). t.entries) tally;
     mine = λ s. ap (λ (t : Tally). count_in t s) tally;

@@ -373,6 +373,12 @@ module _ {J : Type 0} {G : Ghosts J} where
       λ held. subst (λ (f : Flow). StandsAs G.stands new.journal f new.notes i) (sym flow) (stands_same G.stands G.leaves old.journal new.journal same old.flow old.notes new.notes notes i held),
       λ held. stands_same G.stands G.leaves new.journal old.journal back old.flow new.notes old.notes back_notes i (subst (λ (f : Flow). StandsAs G.stands new.journal f new.notes i) flow held),
     );
+    holds = λ i refused. (
+      λ held. subst (λ (f : Flow). HoldsAs G.stands G.leaves new.journal f new.notes i refused) (sym flow)
+          (kept_same G.stands G.leaves old.journal new.journal same old.flow old.notes new.notes notes i refused held),
+      λ held. kept_same G.stands G.leaves new.journal old.journal back old.flow new.notes old.notes back_notes i refused
+          (subst (λ (f : Flow). HoldsAs G.stands G.leaves new.journal f new.notes i refused) flow held),
+    );
     images = same.images;
     next = notes.next_is;
     negotiated = notes.negotiated_is;

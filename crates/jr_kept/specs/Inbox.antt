@@ -73,6 +73,7 @@ module _ {J : Type 0} {G : Ghosts J} where
   -- the same lists, images and numbers
   pub record SameContent (old new : Inbox J G) : Type 0 where
     pub stands : (i : List InboxRecord) → StandsFor old i ↔ StandsFor new i
+    pub holds : (i refused : List InboxRecord) → HoldsBox old i refused ↔ HoldsBox new i refused
     pub images : (image : Option (List Dated)) → Leaves old image ↔ Leaves new image
     pub next : next_of new ≡ next_of old
     pub negotiated : is_negotiated new ≡ is_negotiated old

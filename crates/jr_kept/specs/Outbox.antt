@@ -64,6 +64,7 @@ module _ {J : Type 0} {G : Ghosts J} where
   -- the same histories, images and numbers
   pub record SameContent (old new : Outbox J G) : Type 0 where
     pub stands : (h : History) → StandsFor old h ↔ StandsFor new h
+    pub holds : (h : History) (refused : List OutboxRecord) → HoldsBox old h refused ↔ HoldsBox new h refused
     pub images : (image : Option (List Dated)) → Leaves old image ↔ Leaves new image
     pub front : front_of new ≡ front_of old
     pub mine : (s : ℕ) → mine_of new s ≡ mine_of old s

@@ -20,9 +20,10 @@ pub fn count_records<J: Journal>(journal: &mut J) -> Result<Tally, BoxFault>
     ensures within { IfOk result (λ tally. IsWithin tally (J.count journal.new)) }
     ensures sound { OnOk result (J.is_broken journal.new ≡ false) }
     ensures wrong { IfErr result (λ fault. (at : ℕ) → fault ≡ box_fault.Wrong at
-        → (at < J.count journal.old) × (J.tells → (dated : List Dated) → J.stands journal.old dated → IsWrongAt (undated dated) at)) }
+        → (at < J.count journal.old) × (J.is_told journal.old → (dated : List Dated) → J.stands journal.old dated → IsWrongAt (undated dated) at)) }
     ensures cause { IfErr result (λ fault. fault ≡ box_fault.Fault → HasRisen (J.faults journal.old) (J.faults journal.new)) }
     ensures unchanged { SameJournal J.stands J.leaves journal.old journal.new }
+    ensures told { OnOk result (J.is_told journal.old → J.is_told journal.new) }
     ensures size { J.size journal.new ≡ J.size journal.old }
     ensures moment { J.moment journal.new ≡ J.moment journal.old }
     ensures limits { J.limits journal.new ≡ J.limits journal.old }

@@ -67,7 +67,8 @@ impl<J: Journal> Inbox<J> {
         requires sound { J.is_broken journal ≡ false }
         requires limited { J.limits journal ≡ limits }
         ensures opened { IfOk result (λ box. ∥ ((records : List Record) × Undated J.stands journal records × OpensOn box records) ∥₁) }
-        ensures images { IfOk result (λ box. (image : Option (List Dated)) → J.leaves journal image ↔ Leaves box image) }
+        ensures unchanged { IfOk result (λ box. SameJournal J.stands J.leaves journal (journal_of box)) }
+        ensures told { IfOk result (λ box. J.is_told journal → J.is_told (journal_of box)) }
         ensures sound { IfOk result (λ box. is_broken box ≡ false) }
         ensures size { IfOk result (λ box. size_of box ≡ J.size journal) }
         ensures moment { IfOk result (λ box. moment_of box ≡ J.moment journal) }
@@ -75,7 +76,7 @@ impl<J: Journal> Inbox<J> {
         ensures flow { IfOk result (λ box. flow_of box ≡ flow) }
         ensures quiet { IfOk result (λ box. faults_of box ≡ J.faults journal) }
         ensures never_falls { IfOk result (λ box. J.faults journal ≤ faults_of box) }
-        ensures wrong { IfErr result (λ e. (at : ℕ) → e.1 ≡ box_fault.Wrong at → J.tells → (records : List Record) → Undated J.stands journal records → IsWrongAt flow records at) }
+        ensures wrong { IfErr result (λ e. (at : ℕ) → e.1 ≡ box_fault.Wrong at → J.is_told journal → (records : List Record) → Undated J.stands journal records → IsWrongAt flow records at) }
         ensures wrong_within { IfErr result (λ e. (at : ℕ) → e.1 ≡ box_fault.Wrong at → at < J.count journal) }
         ensures cause { IfErr result (λ e. e.1 ≡ box_fault.Fault → HasRisen (J.faults journal) (J.faults e.0)) }
         ensures returned { IfErr result (λ e. SameJournal J.stands J.leaves journal e.0) }

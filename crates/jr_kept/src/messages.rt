@@ -26,6 +26,27 @@ pub fn entry_in(r: Record) -> Option<Bytes>
     }
 }
 
+/// The sender and the payload of an entry, if that is one of an application message.
+pub fn sent_in(r: Record) -> Option<(u16, Bytes)>
+    ensures found { IfSome result (λ p. IsApplication p.1 × (own_number : ℕ) × (r ≡ kinds.Entry p.0 own_number p.1)) }
+    ensures none { IfNone result ((sender own_number : ℕ) (payload : List ℕ) → IsApplication payload → r ≡ kinds.Entry sender own_number payload → ⊥) }
+{
+    match r {
+        Record::Entry {
+            sender,
+            payload,
+            ..
+        } => {
+            if is_application(payload.as_slice()) {
+                Some((sender, payload))
+            } else {
+                None
+            }
+        }
+        _ => None,
+    }
+}
+
 /// The payload of a message that was applied.
 pub fn message_in(r: Record) -> Option<Bytes>
     ensures found { IfSome result (λ payload. (number : ℕ) × (r ≡ kinds.Apply number payload)) }

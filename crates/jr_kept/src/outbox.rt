@@ -1,9 +1,9 @@
 //! The outbox: the application messages that an end was given to send, and the mark that no more come.
 
-ghost use Rattle.std.specs.Prelude.{◌≡◌, ◌≢◌, ◌↔◌, ◌⊎◌, ℕ, ◌+◌, ◌<◌, ◌≤◌, ◌^◌, max, Bool, true, false, List, [], ◌∷◌, length, Option, Err, IfOk, IfErr, OnOk, IsErrOf};
+ghost use Rattle.std.specs.Prelude.{◌≡◌, ◌≢◌, ◌↔◌, ◌⊎◌, ℕ, ◌+◌, ◌-◌, ◌<◌, ◌≤◌, ◌^◌, max, Bool, true, false, List, [], ◌∷◌, length, slice_get, Option, Some, Err, IfOk, IfErr, OnOk, IsErrOf};
 ghost use Rattle.std.specs.List.{AllByRecursion};
 ghost use Rattle.gw_outside.specs.Faults.{HasRisen};
-ghost use Rattle.session_model.specs.Journal.{Entry, History, IsEntry, entries_of, entry, finish};
+ghost use Rattle.session_model.specs.Journal.{Entry, History, IsEntry, OutboxRecord, entries_of, entry, finish};
 ghost use Rattle.fixp_msgs.specs.Payload.{IsApplication};
 ghost use Rattle.jr_record.specs.Records.{IsPayload, IsSender};
 ghost use Rattle.jr_record.specs.declared.record.Record.{Record};
@@ -25,7 +25,7 @@ ghost use Rattle.jr_kept.specs.Faults.{OnEntered, OnFull, OnUnbegun};
 use crate::batch::{append_fitting, count_entries, entries, up_to};
 use crate::counting::count_records;
 use crate::faults::{not_accepted, not_closed, not_entered};
-use crate::messages::entry_in;
+use crate::messages::{entry_in, sent_in};
 use crate::stable::Stable;
 use gw_outside::Bytes;
 use jr_boxes::{BoxFault, CloseFault, SubmitFault, Tally};
@@ -62,14 +62,15 @@ impl<J: Journal> Outbox<J> {
         requires sound { J.is_broken journal ≡ false }
         requires limited { J.limits journal ≡ limits }
         ensures opened { IfOk result (λ box. ∥ ((records : List Record) × Undated J.stands journal records × OpensOn box records) ∥₁) }
-        ensures images { IfOk result (λ box. (image : Option (List Dated)) → J.leaves journal image ↔ Leaves box image) }
+        ensures unchanged { IfOk result (λ box. SameJournal J.stands J.leaves journal (journal_of box)) }
+        ensures told { IfOk result (λ box. J.is_told journal → J.is_told (journal_of box)) }
         ensures sound { IfOk result (λ box. is_broken box ≡ false) }
         ensures size { IfOk result (λ box. size_of box ≡ J.size journal) }
         ensures moment { IfOk result (λ box. moment_of box ≡ J.moment journal) }
         ensures limits { IfOk result (λ box. limits_of box ≡ limits) }
         ensures quiet { IfOk result (λ box. faults_of box ≡ J.faults journal) }
         ensures never_falls { IfOk result (λ box. J.faults journal ≤ faults_of box) }
-        ensures wrong { IfErr result (λ e. (at : ℕ) → e.1 ≡ box_fault.Wrong at → J.tells → (records : List Record) → Undated J.stands journal records → IsWrongAt records at) }
+        ensures wrong { IfErr result (λ e. (at : ℕ) → e.1 ≡ box_fault.Wrong at → J.is_told journal → (records : List Record) → Undated J.stands journal records → IsWrongAt records at) }
         ensures wrong_within { IfErr result (λ e. (at : ℕ) → e.1 ≡ box_fault.Wrong at → at < J.count journal) }
         ensures cause { IfErr result (λ e. e.1 ≡ box_fault.Fault → HasRisen (J.faults journal) (J.faults e.0)) }
         ensures returned { IfErr result (λ e. SameJournal J.stands J.leaves journal e.0) }
@@ -273,6 +274,40 @@ impl<J: Journal> Outbox<J> {
         let (r, _moment) = self.journal.read(at)?;
         match entry_in(r) {
             Some(payload) => Ok(Stable::new(number, payload)),
+            None => Err(FetchFault::Changed { at }),
+        }
+    }
+
+    /// The sender and the payload of the entry of a number from 1 to the front, as a read gives them now: those that every later stop
+    /// leaves, where the disk tells its content. It changes neither the history nor what a stop may leave.
+    ///
+    /// # Errors
+    /// As those of `stable`.
+    pub fn entry(&mut self, number: u64) -> Result<(u16, Bytes), FetchFault>
+        requires least { 1 ≤ number }
+        requires within { number ≤ front_of self.old }
+        ensures sender { IfOk result (λ p. IsSender p.0) }
+        ensures application { IfOk result (λ p. IsApplication p.1) }
+        ensures entry { IfOk result (λ p. J.is_told (journal_of self.old) → (h : History) → StandsFor self.old h
+            → (own_number : ℕ) × (slice_get (records_of_history h) (number - 1) ≡ Some (kinds.Entry p.0 own_number p.1))) }
+
+        ensures broken { (result ≡ Err fetch.Broken) ↔ (is_broken self.old ≡ true) }
+        ensures changed { (at : ℕ) → result ≡ Err (fetch.Changed at) → (at + 1 ≡ number) × (J.is_told (journal_of self.old) → ⊥) }
+        ensures cause { IsErrOf result fetch.Fault → HasRisen (faults_of self.old) (faults_of self.new) }
+        ensures breaks { is_broken self.new ≡ is_broken_after_read result }
+
+        ensures told { J.is_told (journal_of self.old) → J.is_told (journal_of self.new) }
+        ensures content { SameContent self.old self.new }
+        ensures holds { (h : History) (refused : List OutboxRecord) → HoldsBox self.old h refused → HoldsBox self.new h refused }
+        ensures quiet { OnOk result (faults_of self.new ≡ faults_of self.old) }
+        ensures moment { moment_of self.new ≡ moment_of self.old }
+        ensures never_falls { faults_of self.old ≤ faults_of self.new }
+        ensures limits { limits_of self.new ≡ limits_of self.old }
+    {
+        let at = number - 1;
+        let (r, _moment) = self.journal.read(at)?;
+        match sent_in(r) {
+            Some(sent) => Ok(sent),
             None => Err(FetchFault::Changed { at }),
         }
     }

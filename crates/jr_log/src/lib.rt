@@ -10,3 +10,4 @@ mod scan;
 
 pub use formatting::format;
 pub use log::LogJournal;
+pub use scan::{Found, read_journal};

@@ -4,8 +4,10 @@ mod Appends
 mod Fetching
 mod Fitting
 mod Headers
+pub mod Instead
 mod Joining
 mod Pushing
+pub mod Rereads
 mod Scans
 mod Spanning
 mod Writes

@@ -98,7 +98,7 @@ all_replaced : (P : Dated → Type 0) (before after : List Dated) (here e : Date
 all_replaced P [] after here e holds all = (holds, all.1)
 all_replaced P (d ∷ before) after here e holds all = (all.0, all_replaced P before after here e holds all.1)
 
-get_here : (before after : List Dated) (e : Dated) (i : ℕ) → length before ≡ i → slice_get (before ++ e ∷ after) i ≡ Some e
+pub get_here : (before after : List Dated) (e : Dated) (i : ℕ) → length before ≡ i → slice_get (before ++ e ∷ after) i ≡ Some e
 get_here [] after e zero is = refl
 get_here [] after e (suc i) is = absurd (omega arith)
 get_here (d ∷ before) after e zero is = absurd (omega arith)

@@ -1,8 +1,9 @@
 -- What a journal that keeps the places of its records is seen as.
-use Rattle.std.specs.Prelude.{◌≡◌, ◌⊎◌, ℕ, ◌+◌, ◌-◌, ◌≤◌, Bool, true, false, List, [], ◌++◌, Option, is_some}
+use Rattle.std.specs.Prelude.{◌≡◌, ◌⊎◌, ℕ, ◌+◌, ◌-◌, ◌≤◌, Bool, true, false, List, [], ◌∷◌, ◌++◌, length, take, drop, Option, is_some}
 use Rattle.std.specs.List.{AllByRecursion}
 use Rattle.std.specs.Option.{ForSome}
 use Rattle.gw_outside.specs.declared.disk.Disk.{Ghosts}
+use Rattle.gw_outside.specs.Disk.{LeavesSame}
 use Rattle.gw_outside.specs.Faults.{HasRisen}
 use Rattle.jr_record.specs.declared.record.Record.{Record}
 use Rattle.jr_log.specs.Behind.{AllClosed}
@@ -11,7 +12,7 @@ use Rattle.jr_dated.specs.Dated.{Dated, IsDated, dated, undated, latest_of}
 use Rattle.jr_dated.specs.Images.{IsJournal, Leaves, sizes, journal_size}
 use Rattle.jr_dated.specs.Journals.{Holds}
 use Rattle.jr_segments.specs.Numbers.{numbers_of}
-use Rattle.jr_segments.specs.Resting.{Keeps, front_of, places_from}
+use Rattle.jr_segments.specs.Resting.{Keeps, Rests, front_of, places_from}
 use Rattle.jr_segments.specs.declared.journal.SegJournal.{SegJournal}
 
 -- its disk, its limits, its moment, and whether a call of its disk has failed
@@ -26,6 +27,29 @@ moment_of j = j.moment
 
 abbrev pub broken_of : {D : Type 0} {G : Ghosts D} → SegJournal D G → Bool
 broken_of j = j.broken
+
+-- how many records it has
+abbrev pub count_of : {D : Type 0} {G : Ghosts D} → SegJournal D G → ℕ
+count_of j = length (numbers_of j.places)
+
+-- it rests on these records: they stand at its places, and each content that a stop may leave is closed behind them
+abbrev pub RestsOn : {D : Type 0} {G : Ghosts D} → SegJournal D G → List Dated → Type 0
+RestsOn {D} {G} j h = Rests (numbers_of j.places) j.size j.moment (G.may_leave j.disk) h
+
+-- these records, with another in the place of the one at an index
+abbrev pub instead : ℕ → Dated → List Dated → List Dated
+instead i d h = take i h ++ d ∷ drop (i + 1) h
+
+-- It was only read: what it keeps in memory is the same, and so is what its disk tells and may leave; a call of that may have failed
+pub record OnlyRead {D : Type 0} {G : Ghosts D} (old new : SegJournal D G) : Type 0 where
+  pub places : numbers_of new.places ≡ numbers_of old.places
+  pub size : new.size ≡ old.size
+  pub moment : new.moment ≡ old.moment
+  pub torn : new.torn ≡ old.torn
+  pub limits : new.limits ≡ old.limits
+  pub told : G.told new.disk ≡ G.told old.disk
+  pub images : LeavesSame (G.may_leave old.disk) (G.may_leave new.disk)
+  pub never_falls : G.faults old.disk ≤ G.faults new.disk
 
 -- It stands for each list of records whose gates stand at its places; while no write has failed, for that alone which the
 -- content is, where it is told

@@ -4,7 +4,7 @@ ghost use Rattle.std.specs.Prelude.{◌≡◌, ◌≢◌, ◌⊎◌, ℕ, ◌≤
 ghost use Rattle.std.specs.Option.{ForSome};
 ghost use Rattle.gw_outside.specs.Disk.{Follows, LeavesSame, Torn};
 ghost use Rattle.gw_outside.specs.Faults.{HasCause, HasRisen};
-ghost use Rattle.jr_record.specs.Images.{magic as plain_magic};
+ghost use Rattle.jr_record.specs.Images.{header as plain_header, magic as plain_magic};
 ghost use Rattle.jr_record.specs.declared.faults.FormatFault.TheVariants.{Already, Fault};
 ghost use Rattle.jr_dated.specs.Images.{magic, IsJournal};
 
@@ -36,6 +36,21 @@ pub fn format<D: Disk>(disk: &mut D) -> Result<(), FormatFault>
     }
     write_header(disk)?;
     Ok(())
+}
+
+/// Whether the disk begins as a journal of format 1 does.
+///
+/// # Errors
+/// `Failed` where the call of the disk failed.
+pub fn is_old_format<D: Disk>(disk: &mut D) -> Result<bool, Failed>
+    ensures value { IfOk result (λ old. ForSome (D.told disk.old) (λ content. IsTrue old ↔ (take 16 content ≡ plain_header))) }
+    ensures content { D.told disk.new ≡ D.told disk.old }
+    ensures images { LeavesSame (D.may_leave disk.old) (D.may_leave disk.new) }
+    ensures cause { HasCause (D.faults disk.old) (D.faults disk.new) result }
+{
+    let mut front = [0; 16];
+    let count = disk.read_at(0, &mut front)?;
+    Ok(count == 16 && front == *b"FIXPJRN1\0\0\0\0\0\0\0\0")
 }
 
 /// Whether the disk begins with a magic.

@@ -54,6 +54,11 @@ impl<D: Disk> SegJournal<D> {
     ghost use Rattle.jr_segments.specs.Adding.{OnFailure, OnMemory};
     ghost use Rattle.jr_segments.specs.Resting.{Keeps};
     ghost use Rattle.jr_segments.specs.Reading.{Spans, IsNext};
+    ghost use Rattle.std.specs.Prelude.{◌↔◌, None, Err, true, IsErrOf};
+    ghost use Rattle.jr_dated.specs.Dated.{stamped};
+    ghost use Rattle.jr_dated.specs.Journals.{is_broken_after_read};
+    ghost use Rattle.jr_dated.specs.declared.faults.FetchFault.TheVariants as fetch;
+    ghost use Rattle.jr_segments.specs.Journal.{OnlyRead, RestsOn, count_of, instead};
 
     /// Syncs the disk and opens the journal that it holds. Its moment is the greatest of its records, or 0.
     ///
@@ -100,6 +105,41 @@ impl<D: Disk> SegJournal<D> {
             broken: false,
             torn: false,
             spare: Vec::new(alloc),
+        }
+    }
+
+    /// The record of this index, from 0 on, as a read gives it now, and its moment. What the disk tells, and what a stop may
+    /// leave of it, stays.
+    ///
+    /// # Errors
+    /// As those of `read` of the trait; `Changed` only where the disk told no content.
+    pub fn record(&mut self, i: u64) -> Result<(Record, u64), FetchFault>
+        requires within { i < count_of self.old }
+        ensures rests { IfOk result (λ p. (h : List Dated) → RestsOn self.old h → RestsOn self.new (instead i (stamped p.1 p.0) h)) }
+        ensures legal { IfOk result (λ p. IsRecord p.0 × (p.1 < 2 ^ 44)) }
+        ensures changed { (at : ℕ) → result ≡ Err (fetch.Changed at) → (at ≡ i) × (D.told (disk_of self.old) ≡ None) }
+
+        ensures broken { (result ≡ Err fetch.Broken) ↔ (broken_of self.old ≡ true) }
+        ensures cause { IsErrOf result fetch.Fault → HasRisen (D.faults (disk_of self.old)) (D.faults (disk_of self.new)) }
+        ensures breaks { broken_of self.new ≡ is_broken_after_read result }
+
+        ensures same { OnlyRead self.old self.new }
+        ensures quiet { OnOk result (D.faults (disk_of self.new) ≡ D.faults (disk_of self.old)) }
+    {
+        if self.broken {
+            return Err(FetchFault::Broken);
+        }
+        let (at, size) = self.span(i);
+        match read_back(self.alloc, &mut self.disk, at, size, self.moment) {
+            Ok(found) => match found {
+                Some(found) => Ok(found),
+                None => Err(FetchFault::Changed { at: i }),
+            },
+            Err(AddFault::Memory) => Err(FetchFault::Memory),
+            Err(AddFault::Fault) => {
+                self.broken = true;
+                Err(FetchFault::Fault)
+            }
         }
     }
 
@@ -195,6 +235,8 @@ impl<D: Disk> Journal for SegJournal<D> {
 
     ghost tells = { (d : D) → is_some (D.told d) ≡ true };
 
+    ghost is_told = { λ j. is_some (D.told j.disk) ≡ true };
+
     fn append(&mut self, r: &Record) -> Result<(), AppendFault> {
         if self.broken {
             return Err(AppendFault::Broken);
@@ -232,21 +274,7 @@ impl<D: Disk> Journal for SegJournal<D> {
     }
 
     fn read(&mut self, i: u64) -> Result<(Record, u64), FetchFault> {
-        if self.broken {
-            return Err(FetchFault::Broken);
-        }
-        let (at, size) = self.span(i);
-        match read_back(self.alloc, &mut self.disk, at, size, self.moment) {
-            Ok(found) => match found {
-                Some(found) => Ok(found),
-                None => Err(FetchFault::Changed { at: i }),
-            },
-            Err(AddFault::Memory) => Err(FetchFault::Memory),
-            Err(AddFault::Fault) => {
-                self.broken = true;
-                Err(FetchFault::Fault)
-            }
-        }
+        self.record(i)
     }
 
     fn len(&self) -> u64 {
@@ -271,7 +299,9 @@ impl<D: Disk> Journal for SegJournal<D> {
 
     ghost few = { λ j. few_by (length (numbers_of j.places)) j.size j.counted j.small };
 
-    ghost one = { λ j h k tells sound s t. one_by (D.told j.disk) h k (tells j.disk) (s.told (j.whole sound)) (t.told (j.whole sound)) };
+    ghost one = { λ j h k told sound s t. one_by (D.told j.disk) h k told (s.told (j.whole sound)) (t.told (j.whole sound)) };
+
+    ghost all_told = { λ j tells. tells j.disk };
 
     ghost crossed = { λ j h k n sound held s. record {
       stands_for = record {

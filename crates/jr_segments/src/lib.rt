@@ -14,5 +14,5 @@ mod scan;
 mod segment;
 mod segments;
 
-pub use formatting::format;
+pub use formatting::{format, is_old_format};
 pub use journal::SegJournal;

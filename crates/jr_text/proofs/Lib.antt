@@ -1,2 +1,3 @@
-mod Writing
+mod Boxes
 mod Parts
+mod Writing

@@ -1,5 +1,5 @@
-//! The records of both journals of an end as lines of text, which are pushed in pieces. Relies on `jr_record` for records, and
-//! on `text_words` for their numbers and bytes.
+//! The records of both journals of an end as lines of text, which are pushed in pieces while the records are read one after another.
+//! Relies on `jr_segments` for the journals, and on `text_words` for numbers and bytes.
 #![tactic(auto)]
 
 mod lines;

@@ -4,7 +4,8 @@ ghost use Rattle.std.specs.Prelude.{◌≡◌, ◌≤◌, ◌^◌, ◌++◌, [],
 ghost use Rattle.hex.specs.Hex.{encode_lower};
 ghost use Rattle.jr_record.specs.Records.{IsRecord};
 ghost use Rattle.jr_record.specs.declared.record.Record.TheVariants as kinds;
-ghost use Rattle.jr_text.specs.Lines.{line_of};
+ghost use Rattle.jr_dated.specs.Dated.{stamped};
+ghost use Rattle.jr_text.specs.Lines.{line_of, words_of};
 
 use jr_record::Record;
 use std::alloc::AllocError;
@@ -20,7 +21,7 @@ fn push_payload(lines: &mut Vec<u8>, payload: &[u8]) -> Result<(), AllocError>
     lines.extend_from_slice(b"\n")
 }
 
-/// Adds the line of an entry of this number.
+/// Adds what is said of an entry of this number.
 fn push_entry(
     lines: &mut Vec<u8>,
     number: u64,
@@ -29,7 +30,7 @@ fn push_entry(
     payload: &[u8],
 ) -> Result<(), AllocError>
     requires { length payload.now ≤ 2 ^ 20 }
-    ensures { OnOk result (lines.new.items ≡ lines.old.items ++ line_of number (kinds.Entry sender k payload.now)) }
+    ensures { OnOk result (lines.new.items ≡ lines.old.items ++ words_of number (kinds.Entry sender k payload.now)) }
 {
     push_number(lines, b"entry ", number)?;
     push_number(lines, b" sender ", u64::from(sender))?;
@@ -37,22 +38,19 @@ fn push_entry(
     push_payload(lines, payload)
 }
 
-/// Adds the line of a jump.
+/// Adds what is said of a jump.
 fn push_skip(lines: &mut Vec<u8>, from: u64, count: u64) -> Result<(), AllocError>
-    ensures { OnOk result (lines.new.items ≡ lines.old.items ++ line_of 0 (kinds.Skip from count)) }
+    ensures { OnOk result (lines.new.items ≡ lines.old.items ++ words_of 0 (kinds.Skip from count)) }
 {
     push_number(lines, b"skip ", from)?;
     push_number(lines, b" ", count)?;
     lines.extend_from_slice(b"\n")
 }
 
-/// Adds the line of the record of this number, from 1 on.
-///
-/// # Errors
-/// Want of memory.
-pub fn push_record(lines: &mut Vec<u8>, number: u64, r: &Record) -> Result<(), AllocError>
+/// Adds what the line of the record of this number says of it.
+fn push_words(lines: &mut Vec<u8>, number: u64, r: &Record) -> Result<(), AllocError>
     requires legal { IsRecord r.now }
-    ensures { OnOk result (lines.new.items ≡ lines.old.items ++ line_of number r.now) }
+    ensures { OnOk result (lines.new.items ≡ lines.old.items ++ words_of number r.now) }
 {
     match r {
         Record::Entry { sender, k, payload } => {
@@ -70,4 +68,22 @@ pub fn push_record(lines: &mut Vec<u8>, number: u64, r: &Record) -> Result<(), A
         }
         Record::Finish => lines.extend_from_slice(b"finish\n"),
     }
+}
+
+/// Adds the line of the record of this number, from 1 on, with this moment, in milliseconds.
+///
+/// # Errors
+/// Want of memory.
+pub fn push_record(
+    lines: &mut Vec<u8>,
+    number: u64,
+    moment: u64,
+    r: &Record,
+) -> Result<(), AllocError>
+    requires legal { IsRecord r.now }
+    ensures { OnOk result (lines.new.items ≡ lines.old.items ++ line_of number (stamped moment r.now)) }
+{
+    push_number(lines, b"at ", moment)?;
+    lines.extend_from_slice(b" ")?;
+    push_words(lines, number, r)
 }

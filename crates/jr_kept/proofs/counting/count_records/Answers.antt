@@ -18,7 +18,8 @@ loop-at-init g c = record {
   limits = refl;
   faults = refl;
   counted = ∥∥₁_map (g.met.J.Journal.held c.args.journal.now c.requires.sound) (λ f. (f.0, f.1, nothing_counted c.new-tally.result c.new-tally.ensures.counts));
-  told = λ tells h was. nothing_counted c.new-tally.result c.new-tally.ensures.counts;
+  is_told = λ told. told;
+  told = λ told h was. nothing_counted c.new-tally.result c.new-tally.ensures.counts;
   within = c.new-tally.ensures.within;
 }
 
@@ -26,12 +27,12 @@ pub returns-then-not-take-clause-wrong : goal.returns-then-not-take-clause-wrong
 returns-then-not-take-clause-wrong g c at is =
     let here : c.loop-at.at ≡ at = cc in (
       omega (arith, here, c.loop-at-test.true, c.len-count.ensures.value),
-      λ tells h was.
+      λ told h was.
           let now = (c.loop-at.invariant.same.records h).0 was in
           let read = read_told g.J.Journal.stands c.loop-at.journal h c.loop-at.at (stamped c.in-Ok._moment c.in-Ok.r)
-          (λ k is_k. g.met.J.Journal.one c.loop-at.journal k h tells c.loop-at.invariant.sound is_k now) c.in-Ok.ensures.found in
+          (λ k is_k. g.met.J.Journal.one c.loop-at.journal k h (c.loop-at.invariant.is_told told) c.loop-at.invariant.sound is_k now) c.in-Ok.ensures.found in
           subst (λ (n : ℕ). IsWrongAt (undated h) n) here
-          (wrong_here (undated h) c.loop-at.at c.loop-at.tally c.in-Ok.r read (c.loop-at.invariant.told tells h was)
+          (wrong_here (undated h) c.loop-at.at c.loop-at.tally c.in-Ok.r read (c.loop-at.invariant.told told h was)
           (λ may. false≢true (c.if-not-take.ensures.fits.1 may))),
     )
 
@@ -64,10 +65,11 @@ loop-at-preserved g c =
           (λ h is_h. omega (arith, (g.met.J.Journal.counted old h is_h).0, c.loop-at.invariant.count, c.loop-at-test.true))
           (λ h holds. holds_same stands leaves old new c.in-Ok.ensures.unchanged h [] holds)
           (c.if-not-take.ensures.fits.0 refl) (c.if-not-take.ensures.taken refl) c.in-Ok.ensures.found c.loop-at.invariant.counted;
-      told = λ tells h was.
+      is_told = λ told. c.in-Ok.ensures.told (c.loop-at.invariant.is_told told);
+      told = λ told h was.
           let now = (c.loop-at.invariant.same.records h).0 was in
-          let read = read_told stands old h c.loop-at.at d (λ k is_k. g.met.J.Journal.one old k h tells c.loop-at.invariant.sound is_k now) c.in-Ok.ensures.found in
-          counted_on (undated h) c.loop-at.at c.loop-at.tally c.take.new.self c.in-Ok.r read (c.loop-at.invariant.told tells h was)
+          let read = read_told stands old h c.loop-at.at d (λ k is_k. g.met.J.Journal.one old k h (c.loop-at.invariant.is_told told) c.loop-at.invariant.sound is_k now) c.in-Ok.ensures.found in
+          counted_on (undated h) c.loop-at.at c.loop-at.tally c.take.new.self c.in-Ok.r read (c.loop-at.invariant.told told h was)
           (c.if-not-take.ensures.fits.0 refl) (c.if-not-take.ensures.taken refl);
       within = c.take.ensures.within c.loop-at.at c.loop-at.invariant.within;
     }

@@ -15,6 +15,7 @@ invariant-loop-at g l = record {
   limits : g.J.Journal.limits l.journal ≡ g.J.Journal.limits l.fn.journal;
   faults : g.J.Journal.faults l.journal ≡ g.J.Journal.faults l.fn.journal;
   counted : CountedSome g.J.Journal.stands g.J.Journal.leaves l.journal l.at l.tally;
-  told : g.J.Journal.tells → (h : List Dated) → g.J.Journal.stands l.fn.journal h → Counted (take l.at (undated h)) l.tally;
+  is_told : g.J.Journal.is_told l.fn.journal → g.J.Journal.is_told l.journal;
+  told : g.J.Journal.is_told l.fn.journal → (h : List Dated) → g.J.Journal.stands l.fn.journal h → Counted (take l.at (undated h)) l.tally;
   within : IsWithin l.tally l.at;
 }

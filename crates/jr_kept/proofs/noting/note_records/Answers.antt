@@ -20,7 +20,8 @@ loop-at-init g c = record {
   limits = refl;
   faults = refl;
   noted = ∥∥₁_map (g.met.J.Journal.held c.args.journal.now c.requires.sound) (λ f. (f.0, f.1, nothing_noted c.args.flow c.new-notes.result c.new-notes.ensures.notices));
-  told = λ tells h was. nothing_noted c.args.flow c.new-notes.result c.new-notes.ensures.notices;
+  is_told = λ told. told;
+  told = λ told h was. nothing_noted c.args.flow c.new-notes.result c.new-notes.ensures.notices;
   within = λ k here. absurd (omega (arith, here, ap length c.new-notes.ensures.notices.places));
 }
 
@@ -28,12 +29,12 @@ pub returns-then-not-branch-clause-wrong : goal.returns-then-not-branch-clause-w
 returns-then-not-branch-clause-wrong g c at is =
     let here : c.loop-at.at ≡ at = cc in (
       omega (arith, here, c.loop-at-test.true, c.len-count.ensures.value),
-      λ tells h was.
+      λ told h was.
           let now = (c.loop-at.invariant.same.records h).0 was in
           let read = read_told g.J.Journal.stands c.loop-at.journal h c.loop-at.at (stamped c.in-Ok._moment c.in-Ok.r)
-          (λ k is_k. g.met.J.Journal.one c.loop-at.journal k h tells c.loop-at.invariant.sound is_k now) c.in-Ok.ensures.found in
+          (λ k is_k. g.met.J.Journal.one c.loop-at.journal k h (c.loop-at.invariant.is_told told) c.loop-at.invariant.sound is_k now) c.in-Ok.ensures.found in
           subst (λ (n : ℕ). IsWrongAt c.args.flow (undated h) n) here
-          (wrong_here c.args.flow (undated h) c.loop-at.at c.loop-at.notes c.in-Ok.r read (c.loop-at.invariant.told tells h was)
+          (wrong_here c.args.flow (undated h) c.loop-at.at c.loop-at.notes c.in-Ok.r read (c.loop-at.invariant.told told h was)
           (λ may. false≢true (sym c.if-not-branch.true ∙ c.in_ok-note.ensures.fits.1 may))),
     )
 
@@ -66,10 +67,11 @@ loop-at-preserved g c =
           (λ h is_h. omega (arith, (g.met.J.Journal.counted old h is_h).0, c.loop-at.invariant.count, c.loop-at-test.true))
           (λ h holds. holds_same stands leaves old new c.in-Ok.ensures.unchanged h [] holds)
           (c.in_ok-note.ensures.fits.0 c.if-not-branch.false) (c.in_ok-note.ensures.noted c.if-not-branch.false) c.in-Ok.ensures.found c.loop-at.invariant.noted;
-      told = λ tells h was.
+      is_told = λ told. c.in-Ok.ensures.told (c.loop-at.invariant.is_told told);
+      told = λ told h was.
           let now = (c.loop-at.invariant.same.records h).0 was in
-          let read = read_told stands old h c.loop-at.at d (λ k is_k. g.met.J.Journal.one old k h tells c.loop-at.invariant.sound is_k now) c.in-Ok.ensures.found in
-          noted_on c.args.flow (undated h) c.loop-at.at c.loop-at.notes c.note.new.self c.in-Ok.r read (c.loop-at.invariant.told tells h was)
+          let read = read_told stands old h c.loop-at.at d (λ k is_k. g.met.J.Journal.one old k h (c.loop-at.invariant.is_told told) c.loop-at.invariant.sound is_k now) c.in-Ok.ensures.found in
+          noted_on c.args.flow (undated h) c.loop-at.at c.loop-at.notes c.note.new.self c.in-Ok.r read (c.loop-at.invariant.told told h was)
           (c.in_ok-note.ensures.fits.0 c.if-not-branch.false) (c.in_ok-note.ensures.noted c.if-not-branch.false);
       within = within_more c.loop-at.notes c.note.new.self c.loop-at.at c.in-Ok.r (c.in_ok-note.ensures.noted c.if-not-branch.false) c.loop-at.invariant.within;
     }

@@ -15,6 +15,7 @@ invariant-loop-at g l = record {
   limits : g.J.Journal.limits l.journal ≡ g.J.Journal.limits l.fn.journal;
   faults : g.J.Journal.faults l.journal ≡ g.J.Journal.faults l.fn.journal;
   noted : NotedSome g.J.Journal.stands g.J.Journal.leaves l.journal l.flow l.at l.notes;
-  told : g.J.Journal.tells → (h : List Dated) → g.J.Journal.stands l.fn.journal h → Noted l.flow (take l.at (undated h)) l.notes;
+  is_told : g.J.Journal.is_told l.fn.journal → g.J.Journal.is_told l.journal;
+  told : g.J.Journal.is_told l.fn.journal → (h : List Dated) → g.J.Journal.stands l.fn.journal h → Noted l.flow (take l.at (undated h)) l.notes;
   within : IsWithin l.notes l.at;
 }

@@ -1,12 +1,15 @@
-use Rattle.std.proofs.Common.{◌≡◌, ◌≤◌, ℕ, List, ◌++◌, take, Option}
-use Rattle.jr_text.specs.Lines.{lines_from}
-use Rattle.jr_text.specs.Printing.{Wrote}
+use Rattle.std.proofs.Common.{◌≡◌, ◌≤◌, false, List, ◌++◌, take}
+use Rattle.jr_dated.specs.Dated.{Dated}
+use Rattle.jr_segments.specs.Journal.{OnlyRead, RestsOn, broken_of, count_of, disk_of}
+use Rattle.jr_text.proofs.Boxes.{WritesFirst}
 use Rattle.jr_text.proofs.printing.write_box.Given as goal
 
-abbrev pub invariant-loop-r : goal.invariant-loop-r
-invariant-loop-r g l = record {
-  number : l.number ≡ l.r-index;
+abbrev pub invariant-loop-at : goal.invariant-loop-at
+invariant-loop-at g l = record {
+  sound : broken_of l.journal ≡ false;
+  read : OnlyRead l.fn.journal l.journal;
+  count : l.count ≡ count_of l.fn.journal;
   counted : g.K.Sink.faults l.fn.out ≤ g.K.Sink.faults l.out;
-  wrote : (before : Option (List ℕ)) (text : List ℕ) → Wrote before text (g.K.Sink.taken l.fn.out) l.fn.lines.items
-      → Wrote before (text ++ (l.name ++ lines_from 1 (take l.r-index l.records))) (g.K.Sink.taken l.out) l.lines.items;
+  wrote : (h : List Dated) → RestsOn l.fn.journal h → (k : List Dated) × RestsOn l.journal k
+      × WritesFirst (g.K.Sink.taken l.fn.out) (g.K.Sink.taken l.out) l.fn.lines.items l.lines.items l.fn.which l.at k;
 }

@@ -45,7 +45,7 @@ returns-in-Some-clause-payload g c tells list stands =
     let within : c.args.i - 1 < length old.notes.places.items = omega (arith, c.requires.least, c.requires.within) in
     let place : c.index-at.result.now ≡ slice_index old.notes.places.items (c.args.i - 1) = get_or_read old.notes.places.items _ _ within c.index-at.ensures 0 in
     let read = read_told g.J.Journal.stands old.journal stands.dated c.index-at.result.now (stamped c.in_ok-r._moment c.in_ok-r.r)
-    (λ k is_k. g.met.J.Journal.one old.journal k stands.dated tells sound is_k stands.journal) c.in_ok-r.ensures.found in
+    (λ k is_k. g.met.J.Journal.one old.journal k stands.dated (g.met.J.Journal.all_told old.journal tells) sound is_k stands.journal) c.in_ok-r.ensures.found in
     let at = message_there list old.notes (c.args.i - 1) c.in_ok-r.r stands.noticed within
     (subst (λ (p : ℕ). slice_get (records_of_inbox list) p ≡ Some c.in_ok-r.r) place (subst (λ (rs : List Record). slice_get rs c.index-at.result.now ≡ Some c.in_ok-r.r) stands.bare read)) in
     let found = c.in-Some.ensures.found in
@@ -64,7 +64,7 @@ returns-in-None-clause-changed g c at is =
       λ tells. ∥∥₁_elim (old.held sound) (λ x y. absurd x) (λ f.
           let held = f.1 in
           let read = read_told g.J.Journal.stands old.journal held.dated c.index-at.result.now (stamped c.in_ok-r._moment c.in_ok-r.r)
-          (λ k is_k. g.met.J.Journal.one old.journal k held.dated tells sound is_k held.journal.stands_for) c.in_ok-r.ensures.found in
+          (λ k is_k. g.met.J.Journal.one old.journal k held.dated (g.met.J.Journal.all_told old.journal tells) sound is_k held.journal.stands_for) c.in_ok-r.ensures.found in
           let there = message_there f.0 old.notes (c.args.i - 1) c.in_ok-r.r held.noticed within
           (subst (λ (p : ℕ). slice_get (records_of_inbox f.0) p ≡ Some c.in_ok-r.r) place (subst (λ (rs : List Record). slice_get rs c.index-at.result.now ≡ Some c.in_ok-r.r) held.bare read)) in
           c.in-None.ensures.none there.number there.payload there.is),

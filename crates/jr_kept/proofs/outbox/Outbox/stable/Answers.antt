@@ -39,7 +39,7 @@ returns-in-Some-clause-payload g c tells h stands =
     let sound = read_sound (g.J.Journal.is_broken old.journal) (g.J.Journal.is_broken c.read.new.self) c.read.result c.read.ensures.broken.1 c.read.ensures.breaks c.in_ok-r.ensures.breaks in
     let within : c.args.number - 1 < length h.made = omega (arith, c.requires.least, c.requires.within, stands.tallied.all) in
     let read = read_told g.J.Journal.stands old.journal stands.dated (c.args.number - 1) (stamped c.in_ok-r._moment c.in_ok-r.r)
-    (λ k is_k. g.met.J.Journal.one old.journal k stands.dated tells sound is_k stands.journal) c.in_ok-r.ensures.found in
+    (λ k is_k. g.met.J.Journal.one old.journal k stands.dated (g.met.J.Journal.all_told old.journal tells) sound is_k stands.journal) c.in_ok-r.ensures.found in
     let at = entry_there h.made (mark_of h.finished) (c.args.number - 1) c.in_ok-r.r within stands.outbox.payloads
     (subst (λ (rs : List Record). slice_get rs (c.args.number - 1) ≡ Some c.in_ok-r.r) stands.bare read) in
     let found = c.in-Some.ensures.found in
@@ -58,7 +58,7 @@ returns-in-None-clause-changed g c at is =
           let held = f.1 in
           let within : c.args.number - 1 < length h.made = omega (arith, c.requires.least, c.requires.within, held.tallied.all) in
           let read = read_told g.J.Journal.stands old.journal held.dated (c.args.number - 1) (stamped c.in_ok-r._moment c.in_ok-r.r)
-          (λ k is_k. g.met.J.Journal.one old.journal k held.dated tells sound is_k held.journal.stands_for) c.in_ok-r.ensures.found in
+          (λ k is_k. g.met.J.Journal.one old.journal k held.dated (g.met.J.Journal.all_told old.journal tells) sound is_k held.journal.stands_for) c.in_ok-r.ensures.found in
           let there = entry_there h.made (mark_of h.finished) (c.args.number - 1) c.in_ok-r.r within held.outbox.payloads
           (subst (λ (rs : List Record). slice_get rs (c.args.number - 1) ≡ Some c.in_ok-r.r) held.bare read) in
           c.in-None.ensures.none there.sender there.own_number there.payload there.application there.is),

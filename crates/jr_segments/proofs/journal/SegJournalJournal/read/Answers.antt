@@ -1,52 +1,23 @@
-use Rattle.std.proofs.Common.{◌≡◌, refl}
-use Rattle.jr_dated.specs.Dated.{stamped}
-use Rattle.jr_segments.specs.Numbers.{numbers_of}
-use Rattle.jr_segments.proofs.Answering.{some_same, read_unchanged, read_found, read_none}
+use Rattle.std.specs.Prelude.{is_some}
+use Rattle.std.proofs.Common.{◌≡◌, List, ℕ, Option, true, sym, subst}
+use Rattle.jr_segments.proofs.Answering.{read_unchanged}
+use Rattle.jr_segments.proofs.Rereads.{found_again, none_untold}
 use Rattle.jr_segments.proofs.journal.SegJournalJournal.read.Goals as goal
 
-pub returns-in-Some-clause-found : goal.returns-in-Some-clause-found
-returns-in-Some-clause-found g c =
+pub returns-clause-found : goal.returns-clause-found
+returns-clause-found g c =
     let j = c.args.self.now in
-    let is = rw c.in-Some.is at c.in-Ok.ensures.found in
-    read_found {D = g.row.D.Denot} {G = g.D.Disk} g.met.D.Disk.told_is_left j (j.held c.if-self.false) c.args.i c.span-at.result.0 c.span-at.result.1 c.span-at.ensures.span (stamped c.in-Some.found.1 c.in-Some.found.0) is
+    found_again {D = g.row.D.Denot} {G = g.D.Disk} g.met.D.Disk.told_is_left j c.record.new.self c.record.ensures.same c.args.i c.record.result c.record.ensures.broken.1 c.requires.within j.held c.record.ensures.rests
 
-pub returns-in-Some-clause-unchanged : goal.returns-in-Some-clause-unchanged
-returns-in-Some-clause-unchanged g c = read_unchanged c.args.self.now _ refl refl refl refl c.read_back.ensures.content c.read_back.ensures.images
+pub returns-clause-changed : goal.returns-clause-changed
+returns-clause-changed g c at is =
+    let found = c.record.ensures.changed at is in
+    (found.0, λ told. none_untold (g.D.Disk.told c.args.self.now.disk) found.1 told)
 
-pub returns-in-None-clause-unchanged : goal.returns-in-None-clause-unchanged
-returns-in-None-clause-unchanged g c = read_unchanged c.args.self.now _ refl refl refl refl c.read_back.ensures.content c.read_back.ensures.images
+pub returns-clause-unchanged : goal.returns-clause-unchanged
+returns-clause-unchanged g c =
+    let same = c.record.ensures.same in
+    read_unchanged c.args.self.now c.record.new.self same.places same.size same.moment same.torn same.told same.images
 
-pub returns-in-Err-Memory-clause-unchanged : goal.returns-in-Err-Memory-clause-unchanged
-returns-in-Err-Memory-clause-unchanged g c = read_unchanged c.args.self.now _ refl refl refl refl c.read_back.ensures.content c.read_back.ensures.images
-
-pub returns-in-Err-Fault-clause-unchanged : goal.returns-in-Err-Fault-clause-unchanged
-returns-in-Err-Fault-clause-unchanged g c = read_unchanged c.args.self.now _ refl refl refl refl c.read_back.ensures.content c.read_back.ensures.images
-
-pub returns-in-None-clause-changed : goal.returns-in-None-clause-changed
-returns-in-None-clause-changed g c at is =
-    let j = c.args.self.now in
-    let none = rw c.in-None.is at c.in-Ok.ensures.found in
-    let same : at ≡ c.args.i = cc in
-    (same, λ tells. read_none g.met.D.Disk.told_is_left j (j.held c.if-self.false) c.args.i c.span-at.result.0 c.span-at.result.1 c.span-at.ensures.span none (tells j.disk))
-
-pub invariant_of-self : goal.invariant_of-self
-invariant_of-self g c =
-    let j = c.args.self.now in
-    record {
-      small = j.small;
-      counted = j.counted;
-      in_time = j.in_time;
-      whole = j.whole;
-      held = λ sound. some_same (numbers_of j.places) j.size j.moment (g.D.Disk.may_leave j.disk) (g.D.Disk.may_leave c.read_back.new.disk) c.read_back.ensures.images (j.held sound);
-    }
-
-pub invariant_of-self-in-Err-Memory : goal.invariant_of-self-in-Err-Memory
-invariant_of-self-in-Err-Memory g c =
-    let j = c.args.self.now in
-    record {
-      small = j.small;
-      counted = j.counted;
-      in_time = j.in_time;
-      whole = j.whole;
-      held = λ sound. some_same (numbers_of j.places) j.size j.moment (g.D.Disk.may_leave j.disk) (g.D.Disk.may_leave c.read_back.new.disk) c.read_back.ensures.images (j.held sound);
-    }
+pub returns-clause-told : goal.returns-clause-told
+returns-clause-told g c = λ told. subst (λ (t : Option (List ℕ)). is_some t ≡ true) (sym c.record.ensures.same.told) told

@@ -1,0 +1,1 @@
+use Rattle.jr_migrate.proofs.clearing.clear.Goals as goal

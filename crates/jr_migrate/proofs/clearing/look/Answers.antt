@@ -1,0 +1,1 @@
+use Rattle.jr_migrate.proofs.clearing.look.Goals as goal
