@@ -5,8 +5,8 @@ use Rattle.gw_links.specs.Links.{LinkTold, Carried, Moved}
 use Rattle.gw_links.specs.declared.link.Got.{Got}
 use Rattle.gw_links.proofs.Moving.{moved_more}
 use Rattle.fixp_machine.specs.Machine.{State}
-use Rattle.jr_record.specs.declared.journal.Journal.{Ghosts}
-use Rattle.jr_boxes.specs.declared.inbox.Inbox.{Inbox}
+use Rattle.jr_dated.specs.declared.journal.Journal.{Ghosts}
+use Rattle.jr_kept.specs.declared.inbox.Inbox.{Inbox}
 use Rattle.fixp_replies.specs.declared.act.Ending.{Ending}
 use Rattle.fixp_replies.specs.declared.act.Ending.TheVariants as endings
 use Rattle.conn_turns.specs.declared.news.NewsItem.{NewsItem}
@@ -104,16 +104,17 @@ looked_on m n p q r config most least = record {
 }
 
 module _ {J : Type 0} {G : Ghosts J} where
-  pub did_work : (now : ℕ) (eager : Bool) (old new : EndAt J G) (told_between : Option LinkTold) (carried_between : Option Carried) (r mid : Line) (result : Result TurnEnd TurnFault) (got : Option Got)
+  pub did_work : (tells : Type 0) (now : ℕ) (eager : Bool) (old new : EndAt J G) (told_between : Option LinkTold) (carried_between : Option Carried) (r mid : Line) (result : Result TurnEnd TurnFault) (got : Option Got)
       → ReceivedOnce eager old.told told_between old.carried carried_between old.line r got
-      → ServedFrames now old.seen new.seen (taking_end r old.box old.news) (taking_end mid new.box new.news)
+      → ServedFrames tells now old.seen new.seen (taking_end r old.box old.news) (taking_end mid new.box new.news)
       → SentOnce told_between new.told carried_between new.carried mid new.line result
-      → DidWork now eager old new result
-  did_work now eager old new told_between carried_between r mid result got x y z =
+      → DidWork tells now eager old new result
+  did_work tells now eager old new told_between carried_between r mid result got x y z =
       let w : Work = record y.work { got = got; received = x.received; sent = z.sent; lost = z.lost } in
       let s : Served old.seen new.seen (received_by old.line w) mid y.work = subst (λ (k : Line). Served old.seen new.seen k mid y.work) x.line y.served in
       record {
         work = w;
+        faithful = y.faithful;
         at = y.at;
         bytes = x.bytes;
         received = x.found;
@@ -124,6 +125,8 @@ module _ {J : Type 0} {G : Ghosts J} where
           last = s.last;
           broken = s.broken;
           link_over = s.link_over;
+          due_again = s.due_again;
+          due_live = s.due_live;
           again = s.again;
           live = s.live;
           finish = s.finish;
@@ -164,10 +167,10 @@ module _ {J : Type 0} {G : Ghosts J} where
   cut_none now eager old new told carried seen line box news =
       inl (refl, λ i. record { told = told i; carried = carried i; seen = seen i; line = line i; box = box i; news = news i })
 
-  pub only_sent : (now n : ℕ) (eager : Bool) (old new : EndAt J G) (l : Line) (result : Result TurnEnd TurnFault) → now ≡ n → l ≡ line_ticked old.line now
+  pub only_sent : (tells : Type 0) (now n : ℕ) (eager : Bool) (old new : EndAt J G) (l : Line) (result : Result TurnEnd TurnFault) → now ≡ n → l ≡ line_ticked old.line now
       → (old.line.machine.unsent ≢ []) ⊎ IsSome l.machine.ending → SentOnce old.told new.told old.carried new.carried l new.line result
-      → new.box ≡ old.box → new.news ≡ old.news → new.seen ≡ old.seen → DidTurn n eager old new result
-  only_sent now n eager old new l result is ticks why sent box news seen = inl (record {
+      → new.box ≡ old.box → new.news ≡ old.news → new.seen ≡ old.seen → DidTurn tells n eager old new result
+  only_sent tells now n eager old new l result is ticks why sent box news seen = inl (record {
     why = subst (λ (k : ℕ). (old.line.machine.unsent ≢ []) ⊎ IsSome (line_ticked old.line k).machine.ending) is
         (subst (λ (x : Line). (old.line.machine.unsent ≢ []) ⊎ IsSome x.machine.ending) ticks why);
     sent = subst (λ (k : ℕ). SentOnce old.told new.told old.carried new.carried (line_ticked old.line k) new.line result) is
@@ -177,15 +180,15 @@ module _ {J : Type 0} {G : Ghosts J} where
     same_seen = seen;
   })
 
-  pub did_more : (now n : ℕ) (eager : Bool) (old new : EndAt J G) (l : Line) (news : List NewsItem) (result : Result TurnEnd TurnFault) → now ≡ n → l ≡ line_ticked old.line now
-      → old.line.machine.unsent ≡ [] → l.machine.ending ≡ None → news ≡ old.news → Exchanged now eager (record old { line = l; news = news }) new result
-      → DidTurn n eager old new result
-  did_more now n eager old new l news result is ticks idle goes none x = inr (record {
+  pub did_more : (tells : Type 0) (now n : ℕ) (eager : Bool) (old new : EndAt J G) (l : Line) (news : List NewsItem) (result : Result TurnEnd TurnFault) → now ≡ n → l ≡ line_ticked old.line now
+      → old.line.machine.unsent ≡ [] → l.machine.ending ≡ None → news ≡ old.news → Exchanged tells now eager (record old { line = l; news = news }) new result
+      → DidTurn tells n eager old new result
+  did_more tells now n eager old new l news result is ticks idle goes none x = inr (record {
     idle = idle;
     unended = subst (λ (k : ℕ). (line_ticked old.line k).machine.ending ≡ None) is (subst (λ (y : Line). y.machine.ending ≡ None) ticks goes);
-    exchanged = subst (λ (k : ℕ). Exchanged k eager (record old { line = line_ticked old.line k }) new result) is
-        (subst (λ (y : Line). Exchanged now eager (record old { line = y }) new result) ticks
-        (subst (λ (ns : List NewsItem). Exchanged now eager (record old { line = l; news = ns }) new result) none x));
+    exchanged = subst (λ (k : ℕ). Exchanged tells k eager (record old { line = line_ticked old.line k }) new result) is
+        (subst (λ (y : Line). Exchanged tells now eager (record old { line = y }) new result) ticks
+        (subst (λ (ns : List NewsItem). Exchanged tells now eager (record old { line = l; news = ns }) new result) none x));
   })
 
   pub cut_as : (now n : ℕ) (eager : Bool) (old new : EndAt J G) (l : Line) (news : List NewsItem) (r : Result TurnEnd TurnFault) → now ≡ n → l ≡ line_ticked old.line now

@@ -1,33 +1,44 @@
 -- The outbox is served: what it was sent again, what live, and its finish.
-use Rattle.std.proofs.Common.{◌≡◌, ℕ, ◌++◌, Option, refl, sym, ap, ◌∙◌}
+use Rattle.std.proofs.Common.{◌≡◌, ℕ, ◌<◌, length, List, ◌++◌, Option, None, refl, sym, ap, subst, ◌∙◌}
 use Rattle.session_model.specs.Journal.{History, BeginsHistory}
-use Rattle.fixp_machine.specs.Machine.{State, run}
+use Rattle.fixp_machine.specs.Machine.{State, Call, run}
 use Rattle.conn_turns.specs.Lines.{Line}
 use Rattle.conn_turns.specs.Turns.{again_calls, live_calls, finish_calls, served_of, served_now, live_of, finish_of}
+use Rattle.conn_turns.specs.Exact.{IsAsDue}
 use Rattle.conn_turns.proofs.Taking.{run_append}
 use Rattle.conn_steps.proofs.Following.{line_is}
-use Rattle.conn_loop.specs.Serving.{ServedOutbox}
+use Rattle.jr_dated.specs.declared.faults.FetchFault.{FetchFault}
+use Rattle.jr_dated.specs.declared.faults.FetchFault.TheVariants as fetching
+use Rattle.gate_turn.specs.Views.{HasFailed, Part}
+use Rattle.conn_turns.specs.declared.answer.TurnFault.{TurnFault}
+use Rattle.conn_loop.specs.Serving.{SentDue, ServedOutbox, BlamesPass, fault_of}
 use Rattle.conn_loop.proofs.Machine.{finish_same}
 
-pub served_outbox : (now : ℕ) (h first last : History) (old one two new : Line) → BeginsHistory h first → BeginsHistory first last
-    → one ≡ record old { machine = run old.machine (again_calls now (served_of (served_now old.machine) first)) }
-    → two ≡ record one { machine = run one.machine (live_calls now (live_of one.machine last)) }
+pub served_outbox : (tells : Type 0) (now : ℕ) (h first last : History) (old one two new : Line) → BeginsHistory h first → BeginsHistory first last
+    → SentDue tells (served_of (served_now old.machine) first) (again_calls now) old one
+    → SentDue tells (live_of one.machine last) (live_calls now) one two
     → new ≡ record two { machine = run two.machine (finish_calls now (finish_of one.machine last)) }
-    → one.machine.config ≡ old.machine.config → ServedOutbox now h last old new
-served_outbox now h first last old one two new begins goes_on again live finish config =
-    let sent = served_of (served_now old.machine) first in
+    → one.machine.config ≡ old.machine.config → ServedOutbox tells now h last old new
+served_outbox tells now h first last old one two new begins goes_on again live finish config =
+    let sent = again.sent in
     let m = run old.machine (again_calls now sent) in
-    let more = live_of m last in
+    let more = live.sent in
     let told = finish_of old.machine last in
-    let here : one.machine ≡ m = ap (λ (l : Line). l.machine) again in
-    let there : two.machine ≡ run m (live_calls now more) = ap (λ (l : Line). l.machine) live ∙ ap (λ (s : State). run s (live_calls now (live_of s last))) here in
+    let here : one.machine ≡ m = ap (λ (l : Line). l.machine) again.line in
+    let due : live_of one.machine last ≡ live_of m last = ap (λ (s : State). live_of s last) here in
+    let there : two.machine ≡ run m (live_calls now more) = ap (λ (l : Line). l.machine) live.line ∙ ap (λ (s : State). run s (live_calls now more)) here in
     record {
+      due_again = served_of (served_now old.machine) first;
+      due_live = live_of m last;
       again = sent;
       live = more;
       finish = told;
       at_again = first;
-      again_is = refl;
-      live_is = refl;
+      due_again_is = refl;
+      due_live_is = refl;
+      again_is = again.as_due;
+      live_is = subst (λ (o : Option (List (List ℕ))). IsAsDue o more) due live.as_due;
+      faithful = λ t. (again.told t, live.told t ∙ due);
       finish_is = refl;
       seen_again = begins;
       seen_live = goes_on;
@@ -36,7 +47,38 @@ served_outbox now h first last old one two new begins goes_on again live finish 
           ∙ (ap (λ (o : Option ℕ). run two.machine (finish_calls now o)) (finish_same old.machine one.machine last config)
           ∙ (ap (λ (s : State). run s (finish_calls now told)) there
           ∙ (sym (run_append m (live_calls now more) (finish_calls now told)) ∙ sym (run_append old.machine (again_calls now sent) (live_calls now more ++ finish_calls now told))))))
-          (ap (λ (l : Line). l.held) finish ∙ (ap (λ (l : Line). l.held) live ∙ ap (λ (l : Line). l.held) again))
-          (ap (λ (l : Line). l.place) finish ∙ (ap (λ (l : Line). l.place) live ∙ ap (λ (l : Line). l.place) again))
-          (ap (λ (l : Line). l.over) finish ∙ (ap (λ (l : Line). l.over) live ∙ ap (λ (l : Line). l.over) again));
+          (ap (λ (l : Line). l.held) finish ∙ (ap (λ (l : Line). l.held) live.line ∙ ap (λ (l : Line). l.held) again.line))
+          (ap (λ (l : Line). l.place) finish ∙ (ap (λ (l : Line). l.place) live.line ∙ ap (λ (l : Line). l.place) again.line))
+          (ap (λ (l : Line). l.over) finish ∙ (ap (λ (l : Line). l.over) live.line ∙ ap (λ (l : Line). l.over) again.line));
+    }
+
+-- nothing is due, and nothing is sent
+pub none_due : (tells : Type 0) (due : Option (List (List ℕ))) (calls : Option (List (List ℕ)) → List Call) (old new : Line) → due ≡ None → new ≡ record old { machine = run old.machine (calls None) }
+    → SentDue tells due calls old new
+none_due tells due calls old new none line = record {
+  sent = None;
+  as_due = subst (λ (o : Option (List (List ℕ))). IsAsDue o None) (sym none) tt;
+  told = λ t. sym none;
+  line = line;
+}
+
+-- what a fault of a read of the outbox is to the pass
+pub blames_of : (tells : Type 0) (p q : Part) (f : FetchFault) (fault : TurnFault) → fault ≡ fault_of f → (f ≡ fetching.Fault → HasFailed p.faults q.faults) → (f ≡ fetching.Broken → HasFailed q.opening.faults q.faults)
+    → ((at : ℕ) → f ≡ fetching.Changed at → (at < length q.seen.made) × (tells → ⊥)) → BlamesPass tells p q fault
+blames_of tells p q f fault is failed broken changed = subst (λ (x : TurnFault). BlamesPass tells p q x) (sym is) (by_fault f failed broken changed)
+  where
+    by_fault : (f : FetchFault) → (f ≡ fetching.Fault → HasFailed p.faults q.faults) → (f ≡ fetching.Broken → HasFailed q.opening.faults q.faults)
+        → ((at : ℕ) → f ≡ fetching.Changed at → (at < length q.seen.made) × (tells → ⊥)) → BlamesPass tells p q (fault_of f)
+    by_fault fetching.Broken failed broken changed =
+        record { failed = λ e. cc; broken = λ _. broken refl; no_other = (λ e. cc, λ e. cc); changed = λ at e. cc; never_full = λ entries bytes e. cc }
+    by_fault fetching.Memory failed broken changed =
+        record { failed = λ e. cc; broken = λ e. cc; no_other = (λ e. cc, λ e. cc); changed = λ at e. cc; never_full = λ entries bytes e. cc }
+    by_fault fetching.Fault failed broken changed =
+        record { failed = λ _. failed refl; broken = λ e. cc; no_other = (λ e. cc, λ e. cc); changed = λ at e. cc; never_full = λ entries bytes e. cc }
+    by_fault (fetching.Changed at) failed broken changed = record {
+      failed = λ e. cc;
+      broken = λ e. cc;
+      no_other = (λ e. cc, λ e. cc);
+      changed = λ n e. let same : at ≡ n = cc e in subst (λ (k : ℕ). (k < length q.seen.made) × (tells → ⊥)) same (changed at refl);
+      never_full = λ entries bytes e. cc;
     }

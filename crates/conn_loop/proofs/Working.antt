@@ -3,19 +3,22 @@ use Rattle.std.proofs.Common.{◌≡◌, ◌≤◌, ℕ, true, false, List, [], 
 use Rattle.std.specs.Prelude.{IfSome}
 use Rattle.session_model.specs.Journal.{History}
 use Rattle.fixp_machine.specs.Machine.{State, Call, turn_done, run}
-use Rattle.jr_record.specs.declared.journal.Journal.{Ghosts}
-use Rattle.jr_boxes.specs.declared.inbox.Inbox.{Inbox}
+use Rattle.jr_dated.specs.declared.journal.Journal.{Ghosts}
+use Rattle.jr_dated.specs.declared.limits.Limits.{Limits}
+use Rattle.jr_kept.specs.declared.inbox.Inbox.{Inbox}
+use Rattle.jr_kept.specs.Inbox.{SameButMoment}
 use Rattle.gate_turn.specs.Views.{Part}
 use Rattle.gate_turn.proofs.Histories.{begins_self, begins_on}
 use Rattle.conn_turns.specs.declared.news.NewsItem.{NewsItem}
 use Rattle.conn_turns.specs.declared.answer.TurnFault.{TurnFault}
 use Rattle.conn_turns.specs.declared.answer.TurnFault.TheVariants as faults
 use Rattle.conn_turns.specs.Lines.{Line, lines_after}
-use Rattle.conn_turns.specs.Frames.{IsDone, added, unframed_at, is_link_over}
+use Rattle.conn_turns.specs.Frames.{IsDone, adds, added, unframed_at, is_link_over}
 use Rattle.conn_turns.specs.Turns.{bad_calls, end_calls, again_calls, live_calls, finish_calls, served_of, served_now, live_of, finish_of, calls_of_frames}
 use Rattle.conn_turns.proofs.Taking.{run_append, frames_make_calls}
-use Rattle.conn_steps.specs.Taking.{TookFrames, CutFrames, Blames}
-use Rattle.conn_steps.proofs.Rooms.{refuses_none}
+use Rattle.conn_steps.specs.Agreeing.{Agrees}
+use Rattle.conn_steps.specs.Taking.{TookFrames, CutFrames, OfInbox, refused_by}
+use Rattle.conn_steps.proofs.Rooms.{refuses_none, gains_at, refuses_at}
 use Rattle.conn_loop.specs.Conn.{HasSeen, Looks}
 use Rattle.conn_loop.specs.Serving.{ServedOutbox}
 use Rattle.conn_loop.specs.Turned.{ServedFrames, CutShort}
@@ -49,9 +52,9 @@ seen_same m n p sent finish h = record {
 }
 
 module _ {J : Type 0} {G : Ghosts J} where
-  pub served_frames : (now count : ℕ) (h seen : History) (old mid closed new : Line) (box after : Inbox J G) (news later : List NewsItem) → TookFrames now count (taking_end old box news) (taking_end mid after later)
-      → IsDone count mid × (count ≤ 16) → closed ≡ record mid { machine = run mid.machine (ends_at now count mid) } → ServedOutbox now h seen closed new → ServedFrames now h seen (taking_end old box news) (taking_end new after later)
-  served_frames now count h seen old mid closed new box after news later t last closes s =
+  pub served_frames : (tells : Type 0) (now count : ℕ) (h seen : History) (old mid closed new : Line) (box after : Inbox J G) (news later : List NewsItem) → TookFrames now count (taking_end old box news) (taking_end mid after later)
+      → IsDone count mid × (count ≤ 16) → closed ≡ record mid { machine = run mid.machine (ends_at now count mid) } → ServedOutbox tells now h seen closed new → ServedFrames tells now h seen (taking_end old box news) (taking_end new after later)
+  served_frames tells now count h seen old mid closed new box after news later t last closes s =
       let l : Line = lines_after now old t.frames in
       let many : ℕ = length t.frames in
       let same : mid ≡ l = t.line in
@@ -66,6 +69,8 @@ module _ {J : Type 0} {G : Ghosts J} where
           frames = t.frames;
           broken = unframed_at many l;
           link_over = is_link_over l;
+          due_again = s.due_again;
+          due_live = s.due_live;
           again = s.again;
           live = s.live;
           at_again = s.at_again;
@@ -75,6 +80,7 @@ module _ {J : Type 0} {G : Ghosts J} where
           sent = [];
           lost = false;
         };
+        faithful = s.faithful;
         at = refl;
         served = record {
           frames = t.taken;
@@ -82,8 +88,10 @@ module _ {J : Type 0} {G : Ghosts J} where
           last = subst (λ (k : ℕ). IsDone k l) (sym t.many) (subst (λ (x : Line). IsDone count x) same last.0);
           broken = refl;
           link_over = refl;
-          again = s.again_is ∙ ap (λ (m : State). served_of (served_now m) s.at_again) told;
-          live = s.live_is ∙ ap (λ (m : State). live_of (run m (again_calls now s.again)) seen) told;
+          due_again = s.due_again_is ∙ ap (λ (m : State). served_of (served_now m) s.at_again) told;
+          due_live = s.due_live_is ∙ ap (λ (m : State). live_of (run m (again_calls now s.again)) seen) told;
+          again = s.again_is;
+          live = s.live_is;
           finish = s.finish_is ∙ ap (λ (m : State). finish_of m seen) told;
           seen_again = s.seen_again;
           seen_live = s.seen_live;
@@ -101,10 +109,47 @@ module _ {J : Type 0} {G : Ghosts J} where
         news_are = t.news_are;
       }
 
+  -- frames that were taken, or the act of one refused, behind a raise of the inbox's moment
+  pub took_at : (now count : ℕ) (old new : Line) (box raised after : Inbox J G) (news later : List NewsItem) → SameButMoment box raised
+      → TookFrames now count (taking_end old raised news) (taking_end new after later) → TookFrames now count (taking_end old box news) (taking_end new after later)
+  took_at now count old new box raised after news later same t = record {
+    frames = t.frames;
+    many = t.many;
+    taken = t.taken;
+    line = t.line;
+    gains = gains_at box raised after (added now old t.frames) same t.gains;
+    news_are = t.news_are;
+  }
+
+  pub cut_at : (now : ℕ) (old new : Line) (box raised after : Inbox J G) (news later : List NewsItem) (fault : TurnFault) → SameButMoment box raised
+      → CutFrames now (taking_end old raised news) (taking_end new after later) fault → CutFrames now (taking_end old box news) (taking_end new after later) fault
+  cut_at now old new box raised after news later fault same c = record {
+    frames = c.frames;
+    few = c.few;
+    taken = c.taken;
+    refused = c.refused;
+    next = c.next;
+    line = c.line;
+    refuses = refuses_at box raised after (added now old c.frames) (refused_by fault (adds now (lines_after now old c.frames) c.refused)) same c.refuses;
+    past = c.past;
+    recorded = c.recorded;
+    news_are = c.news_are;
+  }
+
+  -- the inbox agrees still
+  pub agrees_at : (m : State) (box raised : Inbox J G) → SameButMoment box raised → Agrees m box → Agrees m raised
+  agrees_at m box raised same a = record {
+    flow = same.same.1 ∙ a.flow;
+    most = subst (λ (l : Limits). m.most ≤ l.entries) (sym same.same.0) a.most;
+    next = same.next ∙ a.next;
+    negotiated = same.negotiated ∙ a.negotiated;
+    peer_last = same.peer_last ∙ a.peer_last;
+  }
+
   -- cut at a frame whose act was refused
-  pub cut_at_frame : (now : ℕ) (old new : Line) (box after : Inbox J G) (news later : List NewsItem) (fault : TurnFault) → Blames box after fault → CutFrames now (taking_end old box news) (taking_end new after later) fault
+  pub cut_at_frame : (now : ℕ) (old new : Line) (box after : Inbox J G) (news later : List NewsItem) (fault : TurnFault) → OfInbox fault → CutFrames now (taking_end old box news) (taking_end new after later) fault
       → CutShort now old box after news later fault
-  cut_at_frame now old new box after news later fault blames c = record {
+  cut_at_frame now old new box after news later fault of_inbox c = record {
     frames = c.frames;
     few = omega (arith, c.few);
     taken = c.taken;
@@ -113,7 +158,7 @@ module _ {J : Type 0} {G : Ghosts J} where
     refuses = c.refuses;
     past = c.past;
     recorded = c.recorded;
-    of_inbox = blames.no_other;
+    of_inbox = of_inbox;
     news_are = c.news_are;
   }
 

@@ -2,8 +2,8 @@
 use Rattle.std.specs.Prelude.{◌≡◌, ◌≤◌, List, Option}
 use Rattle.gw_links.specs.Links.{LinkTold, Carried}
 use Rattle.gw_links.specs.declared.clock.Clock.{Ghosts as ClockGhosts}
-use Rattle.jr_record.specs.declared.journal.Journal.{Ghosts}
-use Rattle.jr_boxes.specs.Inbox.{faults_of}
+use Rattle.jr_dated.specs.declared.journal.Journal.{Ghosts}
+use Rattle.jr_kept.specs.Inbox.{faults_of}
 use Rattle.gate_turn.specs.Views.{Part}
 use Rattle.gate_turn.specs.Places.{known}
 use Rattle.conn_turns.specs.declared.news.NewsItem.{NewsItem}

@@ -8,20 +8,20 @@ use Rattle.session_model.specs.Inbox.{InboxRecord}
 use Rattle.session_model.specs.Journal.{History}
 use Rattle.fixp_replies.specs.Acts.{is_record}
 use Rattle.fixp_machine.specs.Machine.{State, link_end, run}
-use Rattle.jr_record.specs.declared.journal.Journal.{Ghosts}
-use Rattle.jr_boxes.specs.declared.inbox.Inbox.{Inbox}
-use Rattle.jr_boxes.specs.Inbox.{limits_of}
+use Rattle.jr_dated.specs.declared.journal.Journal.{Ghosts}
+use Rattle.jr_kept.specs.declared.inbox.Inbox.{Inbox}
+use Rattle.jr_kept.specs.Inbox.{limits_of}
 use Rattle.conn_turns.specs.declared.news.NewsItem.{NewsItem}
 use Rattle.conn_turns.specs.declared.answer.TurnEnd.{TurnEnd}
 use Rattle.conn_turns.specs.declared.answer.TurnFault.{TurnFault}
 use Rattle.conn_turns.specs.declared.answer.TurnFault.TheVariants as faults
 use Rattle.conn_turns.specs.Lines.{Line, TakenFrame, IsNext, AreTaken, reply_at, lines_after}
 use Rattle.conn_turns.specs.Frames.{adds, added, told}
-use Rattle.conn_turns.specs.Turns.{Work, first_calls, sending_calls, is_end}
+use Rattle.conn_turns.specs.Turns.{Work, works, IsFaithful, first_calls, sending_calls, is_end}
 use Rattle.conn_turns.specs.Exact.{Served, Received, line_ticked, most_held}
 use Rattle.conn_steps.specs.Ends.{TakingEnd}
 use Rattle.conn_steps.specs.Settling.{IsPast, Gains, Refuses}
-use Rattle.conn_steps.specs.Taking.{refused_by}
+use Rattle.conn_steps.specs.Taking.{OfInbox, refused_by}
 use Rattle.gate_turn.specs.Views.{Part}
 use Rattle.conn_steps.specs.Agreeing.{Agrees}
 use Rattle.conn_loop.specs.Conn.{HasSeen, answer_of}
@@ -47,9 +47,11 @@ abbrev pub received_by : Line → Work → Line
 received_by l w = received_on l w.received (l.over || is_end w.got)
 
 module _ {J : Type 0} {G : Ghosts J} where
-  -- frames were served, and the inbox and the news gained what is theirs
-  pub record ServedFrames (now : ℕ) (seen seen' : History) (old new : TakingEnd J G) : Type 0 where
+  -- frames were served, and the inbox and the news gained what is theirs; what was sent of an outbox whose disk tells its content is what
+  -- was seen of it
+  pub record ServedFrames (tells : Type 0) (now : ℕ) (seen seen' : History) (old new : TakingEnd J G) : Type 0 where
     pub work : Work
+    pub faithful : tells → IsFaithful (works work)
     pub at : work.now ≡ now
     pub served : Served seen seen' old.line new.line work
     pub gains : Gains old.box new.box (added now old.line work.frames)
@@ -68,13 +70,15 @@ module _ {J : Type 0} {G : Ghosts J} where
     pub past : (entries bytes : ℕ) → fault ≡ faults.Full entries bytes
         → IsPast (limits_of box').bytes bytes (wanted_of now (lines_after now l frames) refused)
     pub recorded : IfSome refused (λ t. (fault ≡ faults.Memory → ⊥) → is_record (reply_at now (lines_after now l frames) t).act ≡ true)
-    pub of_inbox : IfSome refused (λ t. (fault ≡ faults.Link → ⊥) × (fault ≡ faults.Outbox → ⊥))
+    pub of_inbox : IfSome refused (λ t. OfInbox fault)
     pub news_are : news' ≡ news ++ told now l frames
 
-  -- behind its tick a turn received, its frames were served, and what was to be sent was sent. Where its link failed as it sent, it
-  -- answers as that says: the fault, where nothing had ended the connection before; and else how the connection then stands
-  pub record DidWork (now : ℕ) (eager : Bool) (old new : EndAt J G) (result : Result TurnEnd TurnFault) : Type 0 where
+  -- behind its tick a turn received, its frames were served, and what was to be sent was sent; what was sent of an outbox whose disk tells
+  -- its content is what was seen of it. Where its link failed as it sent, it answers as that says: the fault, where nothing had ended the
+  -- connection before; and else how the connection then stands
+  pub record DidWork (tells : Type 0) (now : ℕ) (eager : Bool) (old new : EndAt J G) (result : Result TurnEnd TurnFault) : Type 0 where
     pub work : Work
+    pub faithful : tells → IsFaithful (works work)
     pub at : work.now ≡ now
     pub bytes : IsBytes work.received
     pub received : (room : ℕ) → room + length old.line.held ≡ most_held → Received eager old.told room work.received work.got
@@ -100,8 +104,8 @@ module _ {J : Type 0} {G : Ghosts J} where
     pub same_seen : new.seen ≡ old.seen
 
   -- behind its tick a turn did its work, or its link failed as it received
-  abbrev pub Exchanged : (now : ℕ) (eager : Bool) (old new : EndAt J G) (result : Result TurnEnd TurnFault) → Type 0
-  Exchanged now eager old new result = DidWork now eager old new result ⊎ LostLink old new result
+  abbrev pub Exchanged : (tells : Type 0) (now : ℕ) (eager : Bool) (old new : EndAt J G) (result : Result TurnEnd TurnFault) → Type 0
+  Exchanged tells now eager old new result = DidWork tells now eager old new result ⊎ LostLink old new result
 
   -- behind its tick a turn received once, and then it was cut short behind frames; it sent nothing
   pub record CutWork (now : ℕ) (eager : Bool) (old new : EndAt J G) (fault : TurnFault) : Type 0 where
@@ -120,14 +124,14 @@ module _ {J : Type 0} {G : Ghosts J} where
     pub same_seen : new.seen ≡ old.seen
 
   -- nothing was unsent and its tick left the connection open: it did more
-  pub record DidMore (now : ℕ) (eager : Bool) (old new : EndAt J G) (result : Result TurnEnd TurnFault) : Type 0 where
+  pub record DidMore (tells : Type 0) (now : ℕ) (eager : Bool) (old new : EndAt J G) (result : Result TurnEnd TurnFault) : Type 0 where
     pub idle : old.line.machine.unsent ≡ []
     pub unended : (run old.line.machine (first_calls now)).ending ≡ None
-    pub exchanged : Exchanged now eager (record old { line = line_ticked old.line now }) new result
+    pub exchanged : Exchanged tells now eager (record old { line = line_ticked old.line now }) new result
 
   -- what a turn did that was not cut short: it only sent, or it did more
-  abbrev pub DidTurn : (now : ℕ) (eager : Bool) (old new : EndAt J G) (result : Result TurnEnd TurnFault) → Type 0
-  DidTurn now eager old new result = OnlySent now old new result ⊎ DidMore now eager old new result
+  abbrev pub DidTurn : (tells : Type 0) (now : ℕ) (eager : Bool) (old new : EndAt J G) (result : Result TurnEnd TurnFault) → Type 0
+  DidTurn tells now eager old new result = OnlySent now old new result ⊎ DidMore tells now eager old new result
 
   -- a turn had no memory to begin, and all is as it was
   abbrev pub NotBegun : (old new : EndAt J G) → TurnFault → Type 0

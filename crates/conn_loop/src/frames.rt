@@ -2,7 +2,7 @@
 
 ghost use Rattle.std.specs.Prelude.{◌≡◌, ℕ, ◌+◌, ◌*◌, ◌^◌, ◌<◌, ◌≤◌, true, false, length, Ok, Err, IfOk, IfErr, OnOk, IsTrue, IsFalse};
 ghost use Rattle.sofh_frame.specs.Framing.{first_of};
-ghost use Rattle.jr_boxes.specs.Inbox.{faults_of};
+ghost use Rattle.jr_kept.specs.Inbox.{faults_of};
 ghost use Rattle.conn_turns.specs.News.{items_of};
 ghost use Rattle.conn_turns.specs.Lines.{MayTake};
 ghost use Rattle.conn_turns.specs.Frames.{is_whole, may_take, IsDone};
@@ -14,8 +14,8 @@ ghost use Rattle.conn_steps.specs.Ends.{taking_end};
 use crate::conn::Conn;
 use conn_steps::answer_frame;
 use conn_turns::{News, TurnFault};
-use jr_boxes::Inbox;
-use jr_record::Journal;
+use jr_dated::Journal;
+use jr_kept::Inbox;
 use sofh_frame::FirstFrame;
 
 /// How many frames a turn takes at most.

@@ -4,7 +4,7 @@
 ghost use Rattle.std.specs.Prelude.{◌≡◌, ◌⊎◌, ◌<◌, ◌≤◌, ◌^◌, ℕ, [], max, true, length, Ok, Err, Some, None, IfOk, IfErr, IsSome, OnOk};
 ghost use Rattle.gw_outside.specs.Faults.{HasRisen};
 ghost use Rattle.fixp_replies.specs.declared.act.Ending.TheVariants as endings;
-ghost use Rattle.jr_boxes.specs.Inbox.{faults_of, is_broken, size_of, count_of};
+ghost use Rattle.jr_kept.specs.Inbox.{faults_of, is_broken, size_of, count_of};
 ghost use Rattle.gate_turn.specs.Views.{HasFailed};
 ghost use Rattle.gate_turn.specs.Places.{known};
 ghost use Rattle.gate_turn.specs.Calls.{IsFree};
@@ -21,8 +21,8 @@ use fixp_end::{End, Ending};
 use gate_senders::{Gate, Kept};
 use gate_turn::Pass;
 use gw_links::{Clock, Link};
-use jr_boxes::Inbox;
-use jr_record::Journal;
+use jr_dated::Journal;
+use jr_kept::Inbox;
 use std::sync::Wait;
 
 /// One end over the connections of a life, with what its turns need beside a link. Its pass is one of the gate's, and free.
@@ -97,8 +97,8 @@ impl<'a, O: Journal, I: Journal, C: Clock> LiveEnd<'a, O, I, C> {
         requires place { (line_in self.old).place < 2 ^ 63 }
         ensures stays { Stays self.old self.new }
         ensures looked { HasLooked (line_in self.old).machine (pass_in self.old) (pass_in self.new) result }
-        ensures did { OnOk result (DidTurn (max (C.last self.new.clock.now) (line_in self.old).machine.moment) L.eager (in_turn (L.told link.old) (L.carried link.old) self.old []) (in_turn (L.told link.new) (L.carried link.new) self.new (items_of news.new)) result) }
-        ensures lost { result ≡ Err faults.Link → DidTurn (max (C.last self.new.clock.now) (line_in self.old).machine.moment) L.eager (in_turn (L.told link.old) (L.carried link.old) self.old []) (in_turn (L.told link.new) (L.carried link.new) self.new (items_of news.new)) result }
+        ensures did { OnOk result (DidTurn O.tells (max (C.last self.new.clock.now) (line_in self.old).machine.moment) L.eager (in_turn (L.told link.old) (L.carried link.old) self.old []) (in_turn (L.told link.new) (L.carried link.new) self.new (items_of news.new)) result) }
+        ensures lost { result ≡ Err faults.Link → DidTurn O.tells (max (C.last self.new.clock.now) (line_in self.old).machine.moment) L.eager (in_turn (L.told link.old) (L.carried link.old) self.old []) (in_turn (L.told link.new) (L.carried link.new) self.new (items_of news.new)) result }
         ensures cut { IfErr result (λ fault. (fault ≡ faults.Link → ⊥) → CutTurn (max (C.last self.new.clock.now) (line_in self.old).machine.moment) L.eager (in_turn (L.told link.old) (L.carried link.old) self.old []) (in_turn (L.told link.new) (L.carried link.new) self.new (items_of news.new)) fault) }
         ensures limit { max (C.last self.new.clock.now) (line_in self.old).machine.moment < 2 ^ 44 }
         ensures answer { IfOk result (λ end. end ≡ answer_of (line_in self.new).machine.ending) }
@@ -109,6 +109,7 @@ impl<'a, O: Journal, I: Journal, C: Clock> LiveEnd<'a, O, I, C> {
         ensures link { result ≡ Err faults.Link → HasRisen (L.faults link.old) (L.faults link.new) }
         ensures inbox { result ≡ Err faults.Inbox → HasRisen (faults_of self.old.inbox.now) (faults_of self.new.inbox.now) }
         ensures outbox { result ≡ Err faults.Outbox → HasFailed (pass_in self.old).faults (pass_in self.new).faults }
+        ensures changed { (at : ℕ) → result ≡ Err (faults.Changed at) → (at < length (pass_in self.new).seen.made) × (O.tells → ⊥) }
         ensures broken { result ≡ Err faults.Broken → (is_broken self.new.inbox.now ≡ true) ⊎ HasFailed (pass_in self.new).opening.faults (pass_in self.new).faults }
         ensures full { (entries bytes : ℕ) → result ≡ Err (faults.Full entries bytes) → (entries ≡ count_of self.new.inbox.now) × (bytes ≡ size_of self.new.inbox.now) }
         ensures never_falls { L.faults link.old ≤ L.faults link.new }

@@ -3,21 +3,21 @@
 ghost use Rattle.std.specs.Prelude.{◌≡◌, ◌≢◌, ℕ, ◌+◌, ◌*◌, ◌^◌, ◌<◌, ◌≤◌, not, length, true, false, None, Ok, Err, IfOk, IfErr, IfSome, OnOk};
 ghost use Rattle.fixp_shake.specs.Flows.{is_absent};
 ghost use Rattle.fixp_machine.specs.Machine.{run};
-ghost use Rattle.jr_record.specs.declared.faults.FetchFault.TheVariants as fetching;
+ghost use Rattle.jr_dated.specs.declared.faults.FetchFault.TheVariants as fetching;
 ghost use Rattle.gate_turn.specs.Views.{HasFailed, Part};
 ghost use Rattle.gate_turn.specs.Places.{known};
 ghost use Rattle.gate_turn.specs.Calls.{IsFree};
 ghost use Rattle.gate_senders.specs.Gate.{IsPassAt};
 ghost use Rattle.conn_turns.specs.Turns.{again_calls, live_calls, finish_calls, served_of, served_now, sends_live, live_of, finish_of};
 ghost use Rattle.conn_loop.specs.Conn.{MayServe, SameInbox, Looks};
-ghost use Rattle.conn_loop.specs.Serving.{ServedOutbox, BlamesPass, fault_of};
+ghost use Rattle.conn_loop.specs.Serving.{SentDue, ServedOutbox, BlamesPass, fault_of};
 
 use crate::conn::Conn;
 use conn_turns::TurnFault;
 use fixp_end::{Flow, Phase};
 use gate_senders::{Gate, Kept, Look};
 use gate_turn::Pass;
-use jr_record::{FetchFault, Journal};
+use jr_dated::{FetchFault, Journal};
 use std::sync::Wait;
 
 /// How many entries a turn sends live at most.
@@ -31,6 +31,7 @@ fn refusal(fault: FetchFault) -> TurnFault
         FetchFault::Broken => TurnFault::Broken,
         FetchFault::Memory => TurnFault::Memory,
         FetchFault::Fault => TurnFault::Outbox,
+        FetchFault::Changed { at } => TurnFault::Changed { at },
     }
 }
 
@@ -77,12 +78,13 @@ impl Conn {
         ensures free { IsFree pass.new }
         ensures looks { Looks (known pass.old) (known pass.new) }
         ensures most { (known pass.new).turns ≤ (known pass.old).turns + 1 }
-        ensures again { OnOk result (line_of self.new ≡ record (line_of self.old) { machine = run (line_of self.old).machine (again_calls now (served_of (served_now (line_of self.old).machine) (known pass.new).seen)) }) }
+        ensures again { OnOk result (SentDue J.tells (served_of (served_now (line_of self.old).machine) (known pass.new).seen) (again_calls now) (line_of self.old) (line_of self.new)) }
         ensures serve { OnOk result (MayServe (line_of self.new).machine now 4600000 (known pass.new)) }
         ensures same { OnOk result (SameInbox (line_of self.old).machine (line_of self.new).machine) }
         ensures unserved { OnOk result ((line_of self.new).machine.ending ≡ None → (line_of self.new).machine.facts.connection.serving ≡ None) }
         ensures fault { result ≡ Err fetching.Fault → HasFailed (known pass.old).faults (known pass.new).faults }
         ensures broken { result ≡ Err fetching.Broken → HasFailed (known pass.new).opening.faults (known pass.new).faults }
+        ensures changed { (at : ℕ) → result ≡ Err (fetching.Changed at) → (at < length (known pass.new).seen.made) × (J.tells → ⊥) }
     {
         if self.end.ending().is_some() {
             return Ok(());
@@ -105,10 +107,12 @@ impl Conn {
         &self,
         gate: &Gate<J>,
         pass: &mut Pass<Kept<J>>,
+        now: u64,
         rt: &R,
     ) -> Option<u64>
         requires own { IsPassAt gate.now pass.old }
         requires free { IsFree pass.old }
+        requires time { now < 2 ^ 44 }
         ensures own { IsPassAt gate.now pass.new }
         ensures free { IsFree pass.new }
         ensures looks { Looks (known pass.old) (known pass.new) }
@@ -119,7 +123,7 @@ impl Conn {
         if !self.has_flow() {
             return None;
         }
-        gate.closed(pass, rt)
+        gate.closed(pass, now, rt)
     }
 
     /// Sends entries live, where that may be: those behind the last one sent. Answers the outbox's mark, as it was seen with them,
@@ -140,18 +144,19 @@ impl Conn {
         ensures looks { Looks (known pass.old) (known pass.new) }
         ensures most { (known pass.new).turns ≤ (known pass.old).turns + 1 }
         ensures least { is_absent (line_of self.old).machine.config.own_flow ≡ false → (known pass.old).turns < (known pass.new).turns }
-        ensures live { OnOk result (line_of self.new ≡ record (line_of self.old) { machine = run (line_of self.old).machine (live_calls now (live_of (line_of self.old).machine (known pass.new).seen)) }) }
+        ensures live { OnOk result (SentDue J.tells (live_of (line_of self.old).machine (known pass.new).seen) (live_calls now) (line_of self.old) (line_of self.new)) }
         ensures mark { IfOk result (λ mark. mark ≡ finish_of (line_of self.old).machine (known pass.new).seen) }
         ensures serve { OnOk result (MayServe (line_of self.new).machine now 4900000 (known pass.new)) }
         ensures same { OnOk result (SameInbox (line_of self.old).machine (line_of self.new).machine) }
         ensures serving { OnOk result ((line_of self.new).machine.facts.connection.serving ≡ (line_of self.old).machine.facts.connection.serving) }
         ensures fault { result ≡ Err fetching.Fault → HasFailed (known pass.old).faults (known pass.new).faults }
         ensures broken { result ≡ Err fetching.Broken → HasFailed (known pass.new).opening.faults (known pass.new).faults }
+        ensures changed { (at : ℕ) → result ≡ Err (fetching.Changed at) → (at < length (known pass.new).seen.made) × (J.tells → ⊥) }
     {
         if !self.sends_live() {
-            return Ok(self.mark(gate, pass, rt));
+            return Ok(self.mark(gate, pass, now, rt));
         }
-        match gate.look(pass, self.end.sent() + 1, LIVE, rt) {
+        match gate.look(pass, self.end.sent() + 1, LIVE, now, rt) {
             Ok(Look { entries, mark }) => {
                 self.end.send_live(entries.as_slice(), now);
                 Ok(mark)
@@ -180,7 +185,7 @@ impl Conn {
     /// again, if one is, and once for all else.
     ///
     /// # Errors
-    /// Where the outbox could not be read, or there is no memory for what was read.
+    /// Where the outbox could not be read, a record of it has changed, or there is no memory for what was read.
     pub(crate) fn serve_outbox<J: Journal, R: Wait>(
         &mut self,
         gate: &Gate<J>,
@@ -197,11 +202,11 @@ impl Conn {
         ensures looks { Looks (known pass.old) (known pass.new) }
         ensures most { (known pass.new).turns ≤ (known pass.old).turns + 2 }
         ensures least { OnOk result (is_absent (line_of self.old).machine.config.own_flow ≡ false → (known pass.old).turns < (known pass.new).turns) }
-        ensures served { OnOk result (ServedOutbox now (known pass.old).seen (known pass.new).seen (line_of self.old) (line_of self.new)) }
+        ensures served { OnOk result (ServedOutbox J.tells now (known pass.old).seen (known pass.new).seen (line_of self.old) (line_of self.new)) }
         ensures serve { OnOk result (MayServe (line_of self.new).machine now 5000000 (known pass.new)) }
         ensures same { OnOk result (SameInbox (line_of self.old).machine (line_of self.new).machine) }
         ensures unserved { OnOk result ((line_of self.new).machine.ending ≡ None → (line_of self.new).machine.facts.connection.serving ≡ None) }
-        ensures blames { IfErr result (BlamesPass (known pass.old) (known pass.new)) }
+        ensures blames { IfErr result (BlamesPass J.tells (known pass.old) (known pass.new)) }
     {
         if let Err(fault) = self.send_again(gate, pass, now, rt) {
             return Err(refusal(fault));

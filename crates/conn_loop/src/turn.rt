@@ -1,10 +1,10 @@
 //! A turn of a connection, whole.
 
-ghost use Rattle.std.specs.Prelude.{◌≡◌, ◌⊎◌, ℕ, ◌+◌, ◌^◌, ◌<◌, ◌≤◌, [], max, true, false, Ok, Err, Some, None, IfOk, IfErr, OnOk};
+ghost use Rattle.std.specs.Prelude.{◌≡◌, ◌⊎◌, ℕ, ◌+◌, ◌^◌, ◌<◌, ◌≤◌, [], length, max, true, false, Ok, Err, Some, None, IfOk, IfErr, OnOk};
 ghost use Rattle.gw_outside.specs.Faults.{HasRisen};
 ghost use Rattle.fixp_shake.specs.Flows.{is_absent};
 ghost use Rattle.fixp_replies.specs.declared.act.Ending.TheVariants as endings;
-ghost use Rattle.jr_boxes.specs.Inbox.{faults_of, is_broken, size_of, count_of};
+ghost use Rattle.jr_kept.specs.Inbox.{faults_of, is_broken, size_of, count_of};
 ghost use Rattle.gate_turn.specs.Views.{HasFailed};
 ghost use Rattle.gate_turn.specs.Places.{known};
 ghost use Rattle.gate_turn.specs.Calls.{IsFree};
@@ -23,8 +23,8 @@ use conn_turns::{News, TurnEnd, TurnFault};
 use gate_senders::{Gate, Kept};
 use gate_turn::Pass;
 use gw_links::{Clock, Link};
-use jr_boxes::Inbox;
-use jr_record::Journal;
+use jr_dated::Journal;
+use jr_kept::Inbox;
 use std::sync::Wait;
 
 impl Conn {
@@ -55,8 +55,8 @@ impl Conn {
         ensures looks { Looks (known pass.old) (known pass.new) }
         ensures most { (known pass.new).turns ≤ (known pass.old).turns + 2 }
         ensures least { result ≡ Ok ends.Go → is_absent (line_of self.old).machine.config.own_flow ≡ false → (known pass.old).turns < (known pass.new).turns }
-        ensures did { OnOk result (Exchanged now L.eager (live_end (L.told link.old) (L.carried link.old) (known pass.old).seen (line_of self.old) inbox.old (items_of news.old)) (live_end (L.told link.new) (L.carried link.new) (known pass.new).seen (line_of self.new) inbox.new (items_of news.new)) result) }
-        ensures lost { result ≡ Err faults.Link → Exchanged now L.eager (live_end (L.told link.old) (L.carried link.old) (known pass.old).seen (line_of self.old) inbox.old (items_of news.old)) (live_end (L.told link.new) (L.carried link.new) (known pass.new).seen (line_of self.new) inbox.new (items_of news.new)) result }
+        ensures did { OnOk result (Exchanged O.tells now L.eager (live_end (L.told link.old) (L.carried link.old) (known pass.old).seen (line_of self.old) inbox.old (items_of news.old)) (live_end (L.told link.new) (L.carried link.new) (known pass.new).seen (line_of self.new) inbox.new (items_of news.new)) result) }
+        ensures lost { result ≡ Err faults.Link → Exchanged O.tells now L.eager (live_end (L.told link.old) (L.carried link.old) (known pass.old).seen (line_of self.old) inbox.old (items_of news.old)) (live_end (L.told link.new) (L.carried link.new) (known pass.new).seen (line_of self.new) inbox.new (items_of news.new)) result }
         ensures cut { IfErr result (λ fault. (fault ≡ faults.Link → ⊥) → CutWork now L.eager (live_end (L.told link.old) (L.carried link.old) (known pass.old).seen (line_of self.old) inbox.old (items_of news.old)) (live_end (L.told link.new) (L.carried link.new) (known pass.new).seen (line_of self.new) inbox.new (items_of news.new)) fault) }
         ensures answer { IfOk result (λ end. end ≡ answer_of (line_of self.new).machine.ending) }
         ensures goes { result ≡ Ok ends.Go → GoesOn (line_of self.new).machine }
@@ -66,6 +66,7 @@ impl Conn {
         ensures link { result ≡ Err faults.Link → HasRisen (L.faults link.old) (L.faults link.new) }
         ensures inbox { result ≡ Err faults.Inbox → HasRisen (faults_of inbox.old) (faults_of inbox.new) }
         ensures outbox { result ≡ Err faults.Outbox → HasFailed (known pass.old).faults (known pass.new).faults }
+        ensures changed { (at : ℕ) → result ≡ Err (faults.Changed at) → (at < length (known pass.new).seen.made) × (O.tells → ⊥) }
         ensures broken { result ≡ Err faults.Broken → (is_broken inbox.new ≡ true) ⊎ HasFailed (known pass.new).opening.faults (known pass.new).faults }
         ensures full { (entries bytes : ℕ) → result ≡ Err (faults.Full entries bytes) → (entries ≡ count_of inbox.new) × (bytes ≡ size_of inbox.new) }
         ensures kind { SameKind inbox.old inbox.new }
@@ -83,12 +84,12 @@ impl Conn {
 
     /// One turn. `news` is emptied first, and has then what was delivered and told. Where output is unsent at its start, or its
     /// tick ends the connection, the turn only sends. Else it receives once, takes at most 16 frames, serves the outbox, and
-    /// sends until the link takes nothing.
+    /// sends until the link takes nothing. What it records, and what senders add later, carries the turn's moment or a later one.
     ///
     /// # Errors
     /// `Link` where the link failed before the connection had ended and both finishes were exchanged: `begin` may follow. After
-    /// any other the connection is given up: `Inbox`, `Outbox`, `Broken`, `Full` and `Memory`, where a record was refused, the
-    /// outbox could not be read, or memory ran out.
+    /// any other the connection is given up: `Inbox`, `Outbox`, `Changed`, `Broken`, `Full` and `Memory`, where a record was refused,
+    /// the outbox could not be read, a record of it has changed, or memory ran out.
     #[tactic(auto, using(crate::proofs::Working::looks_self))]
     pub fn turn<L: Link, O: Journal, I: Journal, C: Clock, R: Wait>(
         &mut self,
@@ -110,8 +111,8 @@ impl Conn {
         ensures free { IsFree pass.new }
         ensures looks { Looks (known pass.old) (known pass.new) }
         ensures looked { HasLooked (line_of self.old).machine (known pass.old) (known pass.new) result }
-        ensures did { OnOk result (DidTurn (max (C.last clock.new) (line_of self.old).machine.moment) L.eager (live_end (L.told link.old) (L.carried link.old) (known pass.old).seen (line_of self.old) inbox.old []) (live_end (L.told link.new) (L.carried link.new) (known pass.new).seen (line_of self.new) inbox.new (items_of news.new)) result) }
-        ensures lost { result ≡ Err faults.Link → DidTurn (max (C.last clock.new) (line_of self.old).machine.moment) L.eager (live_end (L.told link.old) (L.carried link.old) (known pass.old).seen (line_of self.old) inbox.old []) (live_end (L.told link.new) (L.carried link.new) (known pass.new).seen (line_of self.new) inbox.new (items_of news.new)) result }
+        ensures did { OnOk result (DidTurn O.tells (max (C.last clock.new) (line_of self.old).machine.moment) L.eager (live_end (L.told link.old) (L.carried link.old) (known pass.old).seen (line_of self.old) inbox.old []) (live_end (L.told link.new) (L.carried link.new) (known pass.new).seen (line_of self.new) inbox.new (items_of news.new)) result) }
+        ensures lost { result ≡ Err faults.Link → DidTurn O.tells (max (C.last clock.new) (line_of self.old).machine.moment) L.eager (live_end (L.told link.old) (L.carried link.old) (known pass.old).seen (line_of self.old) inbox.old []) (live_end (L.told link.new) (L.carried link.new) (known pass.new).seen (line_of self.new) inbox.new (items_of news.new)) result }
         ensures cut { IfErr result (λ fault. (fault ≡ faults.Link → ⊥) → CutTurn (max (C.last clock.new) (line_of self.old).machine.moment) L.eager (live_end (L.told link.old) (L.carried link.old) (known pass.old).seen (line_of self.old) inbox.old []) (live_end (L.told link.new) (L.carried link.new) (known pass.new).seen (line_of self.new) inbox.new (items_of news.new)) fault) }
         ensures limit { max (C.last clock.new) (line_of self.old).machine.moment < 2 ^ 44 }
         ensures answer { IfOk result (λ end. end ≡ answer_of (line_of self.new).machine.ending) }
@@ -122,6 +123,7 @@ impl Conn {
         ensures link { result ≡ Err faults.Link → HasRisen (L.faults link.old) (L.faults link.new) }
         ensures inbox { result ≡ Err faults.Inbox → HasRisen (faults_of inbox.old) (faults_of inbox.new) }
         ensures outbox { result ≡ Err faults.Outbox → HasFailed (known pass.old).faults (known pass.new).faults }
+        ensures changed { (at : ℕ) → result ≡ Err (faults.Changed at) → (at < length (known pass.new).seen.made) × (O.tells → ⊥) }
         ensures broken { result ≡ Err faults.Broken → (is_broken inbox.new ≡ true) ⊎ HasFailed (known pass.new).opening.faults (known pass.new).faults }
         ensures full { (entries bytes : ℕ) → result ≡ Err (faults.Full entries bytes) → (entries ≡ count_of inbox.new) × (bytes ≡ size_of inbox.new) }
         ensures kind { SameKind inbox.old inbox.new }

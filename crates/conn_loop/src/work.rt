@@ -3,7 +3,7 @@
 ghost use Rattle.std.specs.Prelude.{◌≡◌, ◌≢◌, ◌⊎◌, ℕ, ◌+◌, ◌^◌, ◌<◌, ◌≤◌, [], true, false, length, Ok, Err, None, IsSome, IsTrue, IsFalse, IfOk, IfErr, OnOk, OnErr};
 ghost use Rattle.fixp_shake.specs.Flows.{is_absent};
 ghost use Rattle.gw_outside.specs.Faults.{HasRisen};
-ghost use Rattle.jr_boxes.specs.Inbox.{faults_of, is_broken, size_of, count_of};
+ghost use Rattle.jr_kept.specs.Inbox.{faults_of, is_broken, size_of, count_of};
 ghost use Rattle.gate_turn.specs.Views.{HasFailed};
 ghost use Rattle.gate_turn.specs.Places.{known};
 ghost use Rattle.gate_turn.specs.Calls.{IsFree};
@@ -21,8 +21,8 @@ use crate::conn::Conn;
 use conn_turns::{News, TurnFault};
 use gate_senders::{Gate, Kept};
 use gate_turn::Pass;
-use jr_boxes::Inbox;
-use jr_record::Journal;
+use jr_dated::Journal;
+use jr_kept::Inbox;
 use std::alloc::AllocError;
 use std::sync::Wait;
 
@@ -63,10 +63,11 @@ impl Conn {
         Ok(self.end.ending().is_none())
     }
 
-    /// Takes frames, tells the machine what ends them, and serves the outbox.
+    /// Takes frames, tells the machine what ends them, and serves the outbox. What is recorded carries the moment `now`, or a
+    /// later one that the inbox had.
     ///
     /// # Errors
-    /// Where a record was refused, the outbox could not be read, or memory ran out.
+    /// Where a record was refused, the outbox could not be read, a record of it has changed, or memory ran out.
     #[tactic(auto, using(crate::proofs::Working::looks_self, crate::proofs::Working::seen_same))]
     pub(crate) fn work<O: Journal, I: Journal, R: Wait>(
         &mut self,
@@ -90,7 +91,7 @@ impl Conn {
         ensures looks { Looks (known pass.old) (known pass.new) }
         ensures most { (known pass.new).turns ≤ (known pass.old).turns + 2 }
         ensures least { OnOk result (is_absent (line_of self.old).machine.config.own_flow ≡ false → (known pass.old).turns < (known pass.new).turns) }
-        ensures served { OnOk result (ServedFrames now (known pass.old).seen (known pass.new).seen (taking_end (line_of self.old) inbox.old (items_of news.old)) (taking_end (line_of self.new) inbox.new (items_of news.new))) }
+        ensures served { OnOk result (ServedFrames O.tells now (known pass.old).seen (known pass.new).seen (taking_end (line_of self.old) inbox.old (items_of news.old)) (taking_end (line_of self.new) inbox.new (items_of news.new))) }
         ensures cut { IfErr result (CutShort now (line_of self.old) inbox.old inbox.new (items_of news.old) (items_of news.new)) }
         ensures serve { OnOk result (MayServe (line_of self.new).machine now 5000000 (known pass.new)) }
         ensures agrees { OnOk result (Agrees (line_of self.new).machine inbox.new) }
@@ -100,11 +101,13 @@ impl Conn {
         ensures no_link { IfErr result (λ fault. fault ≡ faults.Link → ⊥) }
         ensures inbox { IfErr result (λ fault. fault ≡ faults.Inbox → HasRisen (faults_of inbox.old) (faults_of inbox.new)) }
         ensures outbox { IfErr result (λ fault. fault ≡ faults.Outbox → HasFailed (known pass.old).faults (known pass.new).faults) }
+        ensures changed { IfErr result (λ fault. (at : ℕ) → fault ≡ faults.Changed at → (at < length (known pass.new).seen.made) × (O.tells → ⊥)) }
         ensures broken { IfErr result (λ fault. fault ≡ faults.Broken → (is_broken inbox.new ≡ true) ⊎ HasFailed (known pass.new).opening.faults (known pass.new).faults) }
         ensures full { IfErr result (λ fault. (entries bytes : ℕ) → fault ≡ faults.Full entries bytes → (entries ≡ count_of inbox.new) × (bytes ≡ size_of inbox.new)) }
         ensures kind { SameKind inbox.old inbox.new }
         ensures never_falls { faults_of inbox.old ≤ faults_of inbox.new }
     {
+        inbox.at(now);
         let taken = match self.take_frames(inbox, news, now) {
             Ok(taken) => taken,
             Err(fault) => return Err(fault),

@@ -2,8 +2,8 @@
 use Rattle.std.proofs.Common.{◌≡◌, ◌<◌, ◌≤◌, ℕ, Bool, List, length, Option, sym, ap, subst, ◌∙◌}
 use Rattle.gw_links.specs.Links.{LinkTold, Carried}
 use Rattle.gw_links.specs.declared.clock.Clock.{Ghosts as ClockGhosts}
-use Rattle.jr_record.specs.declared.journal.Journal.{Ghosts}
-use Rattle.jr_boxes.specs.declared.inbox.Inbox.{Inbox}
+use Rattle.jr_dated.specs.declared.journal.Journal.{Ghosts}
+use Rattle.jr_kept.specs.declared.inbox.Inbox.{Inbox}
 use Rattle.gate_turn.specs.Places.{known}
 use Rattle.gate_turn.specs.declared.pass.Pass.{Pass}
 use Rattle.gate_senders.specs.declared.kept.Kept.{Kept}
@@ -32,20 +32,20 @@ module _ {O I C : Type 0} {G : Ghosts O} {H : Ghosts I} {K : ClockGhosts C} wher
       ∙ ap (λ (x : Inbox I H). connection_at told carried out (known pass).seen (K.last clock) (line_of conn) x) b))
 
   -- its connection is cut, and nothing else of it changes
-  pub given_in_cut : (eager : Bool) (why : Option ServeFault) (old : ConnectionAt I H) (told : Option LinkTold) (carried : Option Carried) (out : Option (List ℕ)) (e f : LiveEnd O I C G H K)
-      → f.pass.now ≡ e.pass.now → f.inbox.now ≡ e.inbox.now → f.clock.now ≡ e.clock.now → GivenUp eager why old (connection_in told carried out e) → GivenUp eager why old (connection_in told carried out f)
-  given_in_cut eager why old told carried out e f pass inbox clock g =
-      subst (λ (p : Pass (Kept O G)). GivenUp eager why old (connection_at told carried out (known p).seen (K.last f.clock.now) (line_in f) f.inbox.now)) (sym pass)
-      (subst (λ (b : Inbox I H). GivenUp eager why old (connection_at told carried out (pass_in e).seen (K.last f.clock.now) (line_in f) b)) (sym inbox)
-      (subst (λ (k : C). GivenUp eager why old (connection_at told carried out (pass_in e).seen (K.last k) (line_in f) e.inbox.now)) (sym clock)
+  pub given_in_cut : {tells : Type 0} (eager : Bool) (why : Option ServeFault) (old : ConnectionAt I H) (told : Option LinkTold) (carried : Option Carried) (out : Option (List ℕ)) (e f : LiveEnd O I C G H K)
+      → f.pass.now ≡ e.pass.now → f.inbox.now ≡ e.inbox.now → f.clock.now ≡ e.clock.now → GivenUp tells eager why old (connection_in told carried out e) → GivenUp tells eager why old (connection_in told carried out f)
+  given_in_cut {tells = tells} eager why old told carried out e f pass inbox clock g =
+      subst (λ (p : Pass (Kept O G)). GivenUp tells eager why old (connection_at told carried out (known p).seen (K.last f.clock.now) (line_in f) f.inbox.now)) (sym pass)
+      (subst (λ (b : Inbox I H). GivenUp tells eager why old (connection_at told carried out (pass_in e).seen (K.last f.clock.now) (line_in f) b)) (sym inbox)
+      (subst (λ (k : C). GivenUp tells eager why old (connection_at told carried out (pass_in e).seen (K.last k) (line_in f) e.inbox.now)) (sym clock)
       (given_dropped eager why old (connection_in told carried out e) (line_in f) g)))
 
   -- its connection begins
-  pub begun_in : (eager : Bool) (told : Option LinkTold) (carried : Option Carried) (out : Option (List ℕ)) (e f : LiveEnd O I C G H K)
-      → f.pass.now ≡ e.pass.now → f.inbox.now ≡ e.inbox.now → Turned eager (record (connection_in told carried out e) { clock = K.last f.clock.now; line = line_in f }) (connection_in told carried out f) 0
-  begun_in eager told carried out e f pass inbox =
-      subst (λ (p : Pass (Kept O G)). Turned eager (connection_at told carried out (pass_in e).seen (K.last f.clock.now) (line_in f) e.inbox.now) (connection_at told carried out (known p).seen (K.last f.clock.now) (line_in f) f.inbox.now) 0) (sym pass)
-      (subst (λ (b : Inbox I H). Turned eager (connection_at told carried out (pass_in e).seen (K.last f.clock.now) (line_in f) e.inbox.now) (connection_at told carried out (pass_in e).seen (K.last f.clock.now) (line_in f) b) 0) (sym inbox)
+  pub begun_in : {tells : Type 0} (eager : Bool) (told : Option LinkTold) (carried : Option Carried) (out : Option (List ℕ)) (e f : LiveEnd O I C G H K)
+      → f.pass.now ≡ e.pass.now → f.inbox.now ≡ e.inbox.now → Turned tells eager (record (connection_in told carried out e) { clock = K.last f.clock.now; line = line_in f }) (connection_in told carried out f) 0
+  begun_in {tells = tells} eager told carried out e f pass inbox =
+      subst (λ (p : Pass (Kept O G)). Turned tells eager (connection_at told carried out (pass_in e).seen (K.last f.clock.now) (line_in f) e.inbox.now) (connection_at told carried out (known p).seen (K.last f.clock.now) (line_in f) f.inbox.now) 0) (sym pass)
+      (subst (λ (b : Inbox I H). Turned tells eager (connection_at told carried out (pass_in e).seen (K.last f.clock.now) (line_in f) e.inbox.now) (connection_at told carried out (pass_in e).seen (K.last f.clock.now) (line_in f) b) 0) (sym inbox)
       (turned_none eager told carried out (pass_in e).seen (K.last f.clock.now) (line_in f) e.inbox.now))
 
   -- behind a beginning a turn may be made

@@ -13,14 +13,14 @@ use Rattle.session_model.specs.Inbox.{InboxRecord}
 use Rattle.session_model.proofs.Lists.{all_append}
 use Rattle.fixp_replies.specs.declared.act.Ending.{Ending}
 use Rattle.fixp_replies.specs.declared.act.Ending.TheVariants as endings
-use Rattle.fixp_machine.specs.Machine.{State, phase_of}
+use Rattle.fixp_machine.specs.Machine.{State}
 use Rattle.gw_links.specs.Links.{Carried, HasCarried, CarriedNothing, carry}
 use Rattle.gw_links.specs.Dialers.{DialerTold, returned}
 use Rattle.gw_links.specs.declared.link.Link.{Ghosts as LinkGhosts}
 use Rattle.gw_outside.specs.Faults.{HasRisen}
-use Rattle.jr_record.specs.declared.journal.Journal.{Ghosts}
-use Rattle.jr_boxes.specs.declared.inbox.Inbox.{Inbox}
-use Rattle.jr_boxes.specs.Inbox.{limits_of}
+use Rattle.jr_dated.specs.declared.journal.Journal.{Ghosts}
+use Rattle.jr_kept.specs.declared.inbox.Inbox.{Inbox}
+use Rattle.jr_kept.specs.Inbox.{limits_of}
 use Rattle.gate_turn.specs.Views.{Part}
 use Rattle.gate_turn.proofs.Histories.{begins_self}
 use Rattle.conn_lines.specs.declared.close.Close.{Close}
@@ -37,11 +37,11 @@ use Rattle.conn_serve.specs.declared.answer.ServeFault.TheVariants as faults
 use Rattle.conn_serve.specs.declared.answer.LifeEnd.{LifeEnd}
 use Rattle.conn_serve.specs.declared.answer.LifeEnd.TheVariants as ends
 use Rattle.conn_serve.specs.Answers.{end_behind, IsOfConnection}
-use Rattle.conn_serve.specs.Connections.{LinkSeen, IsOver, ByClock, Connection, turned, HasEnded, AllEnded, ClosesAs, Follows, IsFollowed, AreFollowed, adds_of}
+use Rattle.conn_serve.specs.Connections.{LinkSeen, IsOver, ByClock, Connection, IsFaithfulLeg, turned, HasEnded, AllEnded, ClosesAs, Follows, IsFollowed, AreFollowed, adds_of}
 use Rattle.conn_serve.specs.Lines.{news_lines, close_line, lines_from}
 use Rattle.conn_serve.specs.Causes.{lacks_at, Tells, TellsUntil, TellsNews, AreLate, TellsAll}
 use Rattle.conn_serve.specs.Turned.{TurnedOn, GivenUpOn, MayBegin}
-use Rattle.conn_serve.specs.Served.{AllCame, carried_by, IsTold, IsNext, IsNextLink, IsLifeAnswer, lacks_lines, IsOverBy, ServedLife, ServedOver, Lived, EndedOne, GaveOneUp, MadeNone, IsRound}
+use Rattle.conn_serve.specs.Served.{AllCame, carried_by, IsTold, IsNextLink, IsLifeAnswer, lacks_lines, IsOverBy, ServedLife, ServedOver, Lived, EndedOne, GaveOneUp, MadeNone, IsRound}
 use Rattle.conn_serve.proofs.Turning.{lines_on, tells_all, no_more}
 use Rattle.conn_serve.specs.Moments.{LifeAt, connection_at, life_at}
 
@@ -107,6 +107,10 @@ adds_append (c ∷ cs) x = ap (λ (l : List InboxRecord). c.adds ++ l) (adds_app
 timely_append : (cs : List Connection) (x : Connection) → AllByRecursion IsTimely (turned cs) → IsTimely x.leg → AllByRecursion IsTimely (turned (cs ++ x ∷ []))
 timely_append [] x all here = (here, tt)
 timely_append (c ∷ cs) x all here = (all.0, timely_append cs x all.1 here)
+
+faithful_append : (cs : List Connection) (x : Connection) → AllByRecursion IsFaithfulLeg (turned cs) → IsFaithfulLeg x.leg → AllByRecursion IsFaithfulLeg (turned (cs ++ x ∷ []))
+faithful_append [] x all here = (here, tt)
+faithful_append (c ∷ cs) x all here = (all.0, faithful_append cs x all.1 here)
 
 -- each was followed: so was each but the last, also with one behind them
 followed_before : (cs : List Connection) (x : Connection) → All IsFollowed cs → AreFollowed (cs ++ x ∷ [])
@@ -215,12 +219,34 @@ module _ {J : Type 0} {G : Ghosts J} where
   pub may_begin : (close : Close) (m : State) (p : Part) (box : Inbox J G) → ClosesAs close m.ending → Leaves m p box → MayBegin m p box
   may_begin close m p box closed l = record { over = λ _. some_ending close m.ending closed; time = l.time; sent = l.sent; credentials = l.credentials; seen = l.seen; agrees = l.agrees }
 
+  pub made_none : (dialed later : Option DialerTold) (out : Option (List ℕ)) (seen : History) (m : State) (box : Inbox J G) → later ≡ dialed → MadeNone (life_at dialed out seen box) (life_at later out seen box) m m
+  made_none dialed later out seen m box same = record {
+    same_dialer = subst (λ (d : Option DialerTold). AllCame dialed d []) (sym same) (came_none dialed);
+    same_out = Appends-nil out;
+    same_seen = refl;
+    same_machine = refl;
+    same_box = gains_none box box refl;
+  }
+
+  -- ---- a life so far: the connection of the number n is next
+
+  pub record LivedTo {L : Type 0} (tells : Type 0) (G' : LinkGhosts L) (before behind n : ℕ) (old new : LifeAt J G) (m m' : State) : Type 0 where
+    pub ended : List Connection
+    pub links : AllByRecursion (λ (c : Connection). IsOver G' c.link) ended
+    pub clock : ByClock before behind ended
+    pub number : n ≡ 1 + length ended
+    pub lived : Lived tells old new m m' ended
+
+  gains_with : (a b c : Inbox J G) (cs : List Connection) (x : Connection) → Gains a b (adds_of cs) → Gains b c x.adds → Gains a c (adds_of (cs ++ x ∷ []))
+  gains_with a b c cs x first later = subst (Gains a c) (sym (adds_append cs x)) (gains_on a b c (adds_of cs) x.adds first later)
+
+module _ {J : Type 0} {G : Ghosts J} {tells : Type 0} where
   -- ---- one connection
 
   pub ended_one : {L : Type 0} (G' : LinkGhosts L) (first last : L) (n : ℕ) (lacking : Bool) (dialed between later : Option DialerTold) (out mid_out now_out : Option (List ℕ)) (before seen : History) (clock ticked : ℕ) (l new : Line) (box since : Inbox J G) (close : Close)
-      → IsNextLink G'.carried first dialed between → TurnedOn G'.eager (connection_at (G'.told first) (G'.carried first) out before clock l box) (connection_at (G'.told last) (G'.carried last) mid_out seen ticked new since)
+      → IsNextLink G'.carried first dialed between → TurnedOn tells G'.eager (connection_at (G'.told first) (G'.carried first) out before clock l box) (connection_at (G'.told last) (G'.carried last) mid_out seen ticked new since)
       → later ≡ option_map (returned (G'.carried last)) between → ClosesAs close new.machine.ending → (close ≡ closes.LinkFault → HasRisen (G'.faults first) (G'.faults last)) → Tells lacking mid_out now_out (connection_line n close)
-      → EndedOne (IsOverBy G' clock ticked) n lacking (life_at dialed out before box) (life_at later now_out seen since) l.machine new.machine close
+      → EndedOne tells (IsOverBy G' clock ticked) n lacking (life_at dialed out before box) (life_at later now_out seen since) l.machine new.machine close
   ended_one G' first last n lacking dialed between later out mid_out now_out before seen clock ticked l new box since close next on back closed lost lines =
       let t = on.turned in
       let leg : TurnedLeg = record { moment = on.moment; turns = t.turns; cut = None } in
@@ -267,6 +293,7 @@ module _ {J : Type 0} {G : Ghosts J} where
               (subst (HasCarried (G'.carried last) (flat_map given_in t.turns)) (sym sent) (carried_all (G'.carried first) (G'.carried last) _ _ next.fresh t.moved.carries));
         };
         timely = record { begins = on.began.time; turns = subst (AllByRecursion IsTimelyTurn) (sym (append-nil t.turns)) t.timely };
+        faithful = t.faithful;
         gains = t.gains;
         lines = record { between = mid_out; first = t.lines; last = lines };
         came = came_so dialed between later (G'.carried last) next.told next.left back;
@@ -274,8 +301,8 @@ module _ {J : Type 0} {G : Ghosts J} where
       }
 
   pub gave_one : {L : Type 0} (G' : LinkGhosts L) (first last : L) (why : Option ServeFault) (dialed between later : Option DialerTold) (out now_out : Option (List ℕ)) (before seen : History) (clock ticked : ℕ) (l new : Line) (box since : Inbox J G)
-      → IsNextLink G'.carried first dialed between → GivenUpOn G'.eager why (connection_at (G'.told first) (G'.carried first) out before clock l box) (connection_at (G'.told last) (G'.carried last) now_out seen ticked new since)
-      → later ≡ option_map (returned (G'.carried last)) between → GaveOneUp (IsOverBy G' clock ticked) why (life_at dialed out before box) (life_at later now_out seen since) l.machine
+      → IsNextLink G'.carried first dialed between → GivenUpOn tells G'.eager why (connection_at (G'.told first) (G'.carried first) out before clock l box) (connection_at (G'.told last) (G'.carried last) now_out seen ticked new since)
+      → later ≡ option_map (returned (G'.carried last)) between → GaveOneUp tells (IsOverBy G' clock ticked) why (life_at dialed out before box) (life_at later now_out seen since) l.machine
   gave_one G' first last why dialed between later out now_out before seen clock ticked l new box since next on back =
       let g = on.given_up in
       let began : TurnAt = record { told = G'.told first; carried = G'.carried first; seen = before; clock = on.clock; line = first_line l.machine on.moment } in
@@ -309,6 +336,7 @@ module _ {J : Type 0} {G : Ghosts J} where
           adds = refl;
         };
         timely = record { begins = on.began.time; turns = g.timely };
+        faithful = g.faithful;
         carried = carried_all (G'.carried first) (G'.carried last) _ _ next.fresh g.moved.carries;
         refuses = g.refuses;
         lines = g.lines;
@@ -316,21 +344,22 @@ module _ {J : Type 0} {G : Ghosts J} where
         tells = λ told. still_tells (G'.carried first) (G'.carried last) _ _ g.moved.carries (next.tells told);
         spent = g.spent;
         cut_short = g.cut_short;
+        cut_changed = g.cut_changed;
         past = g.past;
       }
 
   -- ---- a round
 
   pub round_lacking : (over : LinkSeen → Type 0) (n : ℕ) (old new : LifeAt J G) (m m' : State) (close : Close) (fault : ServeFault) (H : Type 0)
-      → ((fault ≡ faults.Output) × H) ⊎ (fault ≡ faults.Memory) → EndedOne over n true old new m m' close
-      → IsRound over n old new m m' (Err fault)
+      → ((fault ≡ faults.Output) × H) ⊎ (fault ≡ faults.Memory) → EndedOne tells over n true old new m m' close
+      → IsRound tells over n old new m m' (Err fault)
   round_lacking over n old new m m' close fault H (inl a) e =
-      subst (λ (f : ServeFault). IsRound over n old new m m' (Err f)) (sym a.0) (inl (close, e))
+      subst (λ (f : ServeFault). IsRound tells over n old new m m' (Err f)) (sym a.0) (inl (close, e))
   round_lacking over n old new m m' close fault H (inr b) e =
-      subst (λ (f : ServeFault). IsRound over n old new m m' (Err f)) (sym b) (inl (close, e))
+      subst (λ (f : ServeFault). IsRound tells over n old new m m' (Err f)) (sym b) (inl (close, e))
 
   pub round_ended : (over : LinkSeen → Type 0) (n : ℕ) (old new : LifeAt J G) (m m' : State) (close : Close)
-      → EndedOne over n false old new m m' close → IsRound over n old new m m' (end_behind close)
+      → EndedOne tells over n false old new m m' close → IsRound tells over n old new m m' (end_behind close)
   round_ended over n old new m m' (closes.Ended endings.Finished) e = e
   round_ended over n old new m m' (closes.Ended (endings.PeerTerminated code)) e = (closes.Ended (endings.PeerTerminated code), tt, e)
   round_ended over n old new m m' (closes.Ended endings.LinkEnded) e = (closes.Ended endings.LinkEnded, tt, e)
@@ -339,9 +368,10 @@ module _ {J : Type 0} {G : Ghosts J} where
   round_ended over n old new m m' closes.LinkFault e = (closes.LinkFault, tt, e)
 
   pub round_given : (over : LinkSeen → Type 0) (n : ℕ) (old new : LifeAt J G) (m m' : State) (fault : ServeFault)
-      → IsOfConnection fault → GaveOneUp over (Some fault) old new m → IsRound over n old new m m' (Err fault)
+      → IsOfConnection fault → GaveOneUp tells over (Some fault) old new m → IsRound tells over n old new m m' (Err fault)
   round_given over n old new m m' faults.Output is g = inr g
   round_given over n old new m m' faults.Journal is g = g
+  round_given over n old new m m' (faults.Changed at) is g = g
   round_given over n old new m m' faults.Dial is g = absurd is
   round_given over n old new m m' (faults.Unfinished phase) is g = absurd is
   round_given over n old new m m' (faults.Rejected template code) is g = absurd is
@@ -349,56 +379,19 @@ module _ {J : Type 0} {G : Ghosts J} where
   round_given over n old new m m' faults.Turns is g = g
   round_given over n old new m m' faults.Memory is g = inr g
 
-  pub made_none : (dialed later : Option DialerTold) (out : Option (List ℕ)) (seen : History) (m : State) (box : Inbox J G) → later ≡ dialed → MadeNone (life_at dialed out seen box) (life_at later out seen box) m m
-  made_none dialed later out seen m box same = record {
-    same_dialer = subst (λ (d : Option DialerTold). AllCame dialed d []) (sym same) (came_none dialed);
-    same_out = Appends-nil out;
-    same_seen = refl;
-    same_machine = refl;
-    same_box = gains_none box box refl;
-  }
-
-  pub round_none : {L : Type 0} (carried_of : L → Option Carried) (over : LinkSeen → Type 0) (n : ℕ) (dialed later : Option DialerTold) (out : Option (List ℕ)) (seen : History) (m : State) (box : Inbox J G) (fault : ServeFault)
-      → IsNext carried_of dialed later (Err fault) → ((phase : _) → fault ≡ faults.Unfinished phase → phase ≡ phase_of m) → IsRound over n (life_at dialed out seen box) (life_at later out seen box) m m (Err fault)
-  round_none carried_of over n dialed later out seen m box faults.Output next phase_is = absurd next
-  round_none carried_of over n dialed later out seen m box faults.Journal next phase_is = absurd next
-  round_none carried_of over n dialed later out seen m box faults.Dial next phase_is = made_none dialed later out seen m box next
-  round_none carried_of over n dialed later out seen m box (faults.Unfinished phase) next phase_is = (made_none dialed later out seen m box next.0, phase_is phase refl, next.1)
-  round_none carried_of over n dialed later out seen m box (faults.Rejected template code) next phase_is = absurd next
-  round_none carried_of over n dialed later out seen m box (faults.Full entries bytes) next phase_is = absurd next
-  round_none carried_of over n dialed later out seen m box faults.Turns next phase_is = absurd next
-  round_none carried_of over n dialed later out seen m box faults.Memory next phase_is = absurd next
-
-  -- the dialer was told to stop before a connection came
-  pub round_stopped : {L : Type 0} (carried_of : L → Option Carried) (over : LinkSeen → Type 0) (n : ℕ) (dialed later : Option DialerTold) (out : Option (List ℕ)) (seen : History) (m : State) (box : Inbox J G)
-      → IsNext carried_of dialed later (Ok None) → IsRound over n (life_at dialed out seen box) (life_at later out seen box) m m (Ok (Some ends.Stopped))
-  round_stopped carried_of over n dialed later out seen m box next = inr (made_none dialed later out seen m box next)
-
-  -- ---- a life so far: the connection of the number n is next
-
-  pub record LivedTo {L : Type 0} (G' : LinkGhosts L) (before behind n : ℕ) (old new : LifeAt J G) (m m' : State) : Type 0 where
-    pub ended : List Connection
-    pub links : AllByRecursion (λ (c : Connection). IsOver G' c.link) ended
-    pub clock : ByClock before behind ended
-    pub number : n ≡ 1 + length ended
-    pub lived : Lived old new m m' ended
-
   pub lived_none : {L : Type 0} (G' : LinkGhosts L) (clock : ℕ) (dialed : Option DialerTold) (out : Option (List ℕ)) (seen : History) (m : State) (box : Inbox J G)
-      → LivedTo G' clock clock 1 (life_at dialed out seen box) (life_at dialed out seen box) m m
+      → LivedTo tells G' clock clock 1 (life_at dialed out seen box) (life_at dialed out seen box) m m
   lived_none G' clock dialed out seen m box = record {
     ended = [];
     links = tt;
     clock = omega arith;
     number = refl;
-    lived = record { were = (refl, refl); gains = gains_none box box refl; lines = Appends-nil out; came = came_none dialed; tells = λ told. All-nil IsTold; timely = tt; followed = All-nil IsFollowed };
+    lived = record { were = (refl, refl); gains = gains_none box box refl; lines = Appends-nil out; came = came_none dialed; tells = λ told. All-nil IsTold; timely = tt; faithful = λ t. tt; followed = All-nil IsFollowed };
   }
 
-  gains_with : (a b c : Inbox J G) (cs : List Connection) (x : Connection) → Gains a b (adds_of cs) → Gains b c x.adds → Gains a c (adds_of (cs ++ x ∷ []))
-  gains_with a b c cs x first later = subst (Gains a c) (sym (adds_append cs x)) (gains_on a b c (adds_of cs) x.adds first later)
-
   pub lived_more : {L : Type 0} (G' : LinkGhosts L) (p q t n : ℕ) (old mid new : LifeAt J G) (m m' m'' : State)
-      → LivedTo G' p q n old mid m m' → IsRound (IsOverBy G' q t) n mid new m' m'' (Ok None)
-      → LivedTo G' p t (n + 1) old new m m''
+      → LivedTo tells G' p q n old mid m m' → IsRound tells (IsOverBy G' q t) n mid new m' m'' (Ok None)
+      → LivedTo tells G' p t (n + 1) old new m m''
   lived_more G' p q t n old mid new m m' m'' l r =
       let (close, follows, e) = r in
       let x = e.connection in
@@ -414,6 +407,7 @@ module _ {J : Type 0} {G : Ghosts J} where
           came = came_with old.dialed mid.dialed new.dialed l.ended x l.lived.came e.came;
           tells = told_with old.dialed mid.dialed new.dialed l.ended x l.lived.came l.lived.tells e.tells;
           timely = timely_append l.ended x l.lived.timely e.timely;
+          faithful = λ t. faithful_append l.ended x (l.lived.faithful t) (e.faithful t);
           followed = All-append IsFollowed l.ended (x ∷ []) l.lived.followed (All-cons IsFollowed x [] (subst (λ (o : Option Close). IfSome o Follows) (sym e.closed) follows) (All-nil IsFollowed));
         };
       }
@@ -422,12 +416,12 @@ module _ {J : Type 0} {G : Ghosts J} where
 
   -- behind a last connection that ended
   over_ended : {L : Type 0} (G' : LinkGhosts L) (p q t : ℕ) (result : Result LifeEnd ServeFault) (n : ℕ) (old mid new : LifeAt J G) (m m' m'' : State) (close : Close)
-      → (l : LivedTo G' p q n old mid m m') → (e : EndedOne (IsOverBy G' q t) n (lacks_lines result) mid new m' m'' close)
-      → IsLifeAnswer new.seen new.seen m'' new.dialed (l.ended ++ e.connection ∷ []) None result → ServedOver G' p t old new m result
+      → (l : LivedTo tells G' p q n old mid m m') → (e : EndedOne tells (IsOverBy G' q t) n (lacks_lines result) mid new m' m'' close)
+      → IsLifeAnswer new.seen new.seen m'' new.dialed (l.ended ++ e.connection ∷ []) None result → ServedOver tells G' p t old new m result
   over_ended G' p q t result n old mid new m m' m'' close l e answer =
       let x = e.connection in
       let cs : List Connection = l.ended ++ x ∷ [] in
-      let life : ServedLife old new m result = record {
+      let life : ServedLife tells old new m result = record {
         ended = cs;
         given_up = None;
         behind = new.seen;
@@ -436,6 +430,7 @@ module _ {J : Type 0} {G : Ghosts J} where
         gave_up = refl;
         followed = subst AreFollowed (sym (append-nil cs)) (followed_before l.ended x l.lived.followed);
         timely = subst (λ (ds : List Connection). AllByRecursion IsTimely (turned ds)) (sym (append-nil cs)) (timely_append l.ended x l.lived.timely e.timely);
+        faithful = λ t. subst (λ (ds : List Connection). AllByRecursion IsFaithfulLeg (turned ds)) (sym (append-nil cs)) (faithful_append l.ended x (l.lived.faithful t) (e.faithful t));
         refuses = refuses_none old.box new.box (adds_of (cs ++ []))
             (subst (λ (ds : List Connection). Gains old.box new.box (adds_of ds)) (sym (append-nil cs)) (gains_with old.box mid.box new.box l.ended x l.lived.gains e.gains));
         lines = subst (λ (ds : List Connection). TellsAll (lacks_lines result) old.out new.out (lines_from 1 ds)) (sym (append-nil cs)) (lines_ended (lacks_lines result) n old.out mid.out new.out l.ended x l.number l.lived.lines e.lines);
@@ -452,12 +447,12 @@ module _ {J : Type 0} {G : Ghosts J} where
 
   -- behind a connection that was given up
   over_given : {L : Type 0} (G' : LinkGhosts L) (p q t : ℕ) (result : Result LifeEnd ServeFault) (why : Option ServeFault) (n : ℕ) (old mid new : LifeAt J G) (m m' : State)
-      → (l : LivedTo G' p q n old mid m m') → (g : GaveOneUp (IsOverBy G' q t) why mid new m') → lacks_at why ≡ lacks_lines result
+      → (l : LivedTo tells G' p q n old mid m m') → (g : GaveOneUp tells (IsOverBy G' q t) why mid new m') → lacks_at why ≡ lacks_lines result
       → ((entries bytes : ℕ) → result ≡ Err (faults.Full entries bytes) → why ≡ Some (faults.Full entries bytes))
-      → IsLifeAnswer mid.seen new.seen m' new.dialed l.ended (Some g.connection) result → ServedOver G' p t old new m result
+      → IsLifeAnswer mid.seen new.seen m' new.dialed l.ended (Some g.connection) result → ServedOver tells G' p t old new m result
   over_given G' p q t result why n old mid new m m' l g lacking full answer =
       let x = g.connection in
-      let life : ServedLife old new m result = record {
+      let life : ServedLife tells old new m result = record {
         ended = l.ended;
         given_up = Some x;
         behind = mid.seen;
@@ -466,6 +461,7 @@ module _ {J : Type 0} {G : Ghosts J} where
         gave_up = (g.last, g.is, g.unclosed, g.carried);
         followed = followed_before l.ended x l.lived.followed;
         timely = timely_append l.ended x l.lived.timely g.timely;
+        faithful = λ t. faithful_append l.ended x (l.lived.faithful t) (g.faithful t);
         refuses = subst (λ (rs : List InboxRecord). Refuses old.box new.box rs (x.refused ++ [])) (sym (adds_append l.ended x))
             (subst (Refuses old.box new.box (adds_of l.ended ++ x.adds)) (sym (append-nil x.refused)) (refuses_on old.box mid.box new.box (adds_of l.ended) x.adds x.refused l.lived.gains g.refuses));
         lines = subst (λ (b : Bool). TellsAll b old.out new.out (lines_from 1 (l.ended ++ x ∷ []))) lacking (lines_given (lacks_at why) n old.out mid.out new.out l.ended x l.number l.lived.lines g.unclosed g.lines);
@@ -482,11 +478,11 @@ module _ {J : Type 0} {G : Ghosts J} where
 
   -- behind those that ended, with no further one
   over_none : {L : Type 0} (G' : LinkGhosts L) (p q t : ℕ) (result : Result LifeEnd ServeFault) (n : ℕ) (old mid new : LifeAt J G) (m m' m'' : State)
-      → (l : LivedTo G' p q n old mid m m') → MadeNone mid new m' m'' → q ≤ t
-      → IsLifeAnswer mid.seen new.seen m' new.dialed l.ended None result → ServedOver G' p t old new m result
+      → (l : LivedTo tells G' p q n old mid m m') → MadeNone mid new m' m'' → q ≤ t
+      → IsLifeAnswer mid.seen new.seen m' new.dialed l.ended None result → ServedOver tells G' p t old new m result
   over_none G' p q t result n old mid new m m' m'' l none later answer =
       let cs = l.ended in
-      let life : ServedLife old new m result = record {
+      let life : ServedLife tells old new m result = record {
         ended = cs;
         given_up = None;
         behind = mid.seen;
@@ -495,6 +491,7 @@ module _ {J : Type 0} {G : Ghosts J} where
         gave_up = none.same_seen;
         followed = subst AreFollowed (sym (append-nil cs)) (followed_all cs l.lived.followed);
         timely = subst (λ (ds : List Connection). AllByRecursion IsTimely (turned ds)) (sym (append-nil cs)) l.lived.timely;
+        faithful = λ t. subst (λ (ds : List Connection). AllByRecursion IsFaithfulLeg (turned ds)) (sym (append-nil cs)) (l.lived.faithful t);
         refuses = refuses_none old.box new.box (adds_of (cs ++ [])) (subst (λ (ds : List Connection). Gains old.box new.box (adds_of ds)) (sym (append-nil cs))
             (subst (Gains old.box new.box) (append-nil (adds_of cs)) (gains_on old.box mid.box new.box (adds_of cs) [] l.lived.gains none.same_box)));
         lines = subst (λ (ds : List Connection). TellsAll (lacks_lines result) old.out new.out (lines_from 1 ds)) (sym (append-nil cs))
@@ -511,13 +508,13 @@ module _ {J : Type 0} {G : Ghosts J} where
       }
 
   pub over_stopped : {L : Type 0} (G' : LinkGhosts L) (p q n : ℕ) (old new : LifeAt J G) (m m' : State)
-      → LivedTo G' p q n old new m m' → ServedOver G' p q old new m (Ok ends.Stopped)
+      → LivedTo tells G' p q n old new m m' → ServedOver tells G' p q old new m (Ok ends.Stopped)
   over_stopped G' p q n old new m m' l =
       over_none G' p q q (Ok ends.Stopped) n old new new m m' m' l (made_none new.dialed new.dialed new.out new.seen m' new.box refl) (omega arith) l.lived.followed
 
   pub over_ok : {L : Type 0} (G' : LinkGhosts L) (p q t : ℕ) (end : LifeEnd) (n : ℕ) (old mid new : LifeAt J G) (m m' m'' : State)
-      → LivedTo G' p q n old mid m m' → IsRound (IsOverBy G' q t) n mid new m' m'' (Ok (Some end)) → q ≤ t
-      → ServedOver G' p t old new m (Ok end)
+      → LivedTo tells G' p q n old mid m m' → IsRound tells (IsOverBy G' q t) n mid new m' m'' (Ok (Some end)) → q ≤ t
+      → ServedOver tells G' p t old new m (Ok end)
   over_ok G' p q t ends.Finished n old mid new m m' m'' l r later =
       over_ended G' p q t (Ok ends.Finished) n old mid new m m' m'' (closes.Ended endings.Finished) l r
       (refl, record { earlier = l.ended; last = r.connection; are = refl; closed = r.closed; followed = l.lived.followed })
@@ -527,14 +524,16 @@ module _ {J : Type 0} {G : Ghosts J} where
       over_none G' p q t (Ok ends.Stopped) n old mid new m m' m'' l none later l.lived.followed
 
   pub over_err : {L : Type 0} (G' : LinkGhosts L) (p q t : ℕ) (fault : ServeFault) (n : ℕ) (old mid new : LifeAt J G) (m m' m'' : State)
-      → LivedTo G' p q n old mid m m' → IsRound (IsOverBy G' q t) n mid new m' m'' (Err fault) → q ≤ t
-      → ServedOver G' p t old new m (Err fault)
+      → LivedTo tells G' p q n old mid m m' → IsRound tells (IsOverBy G' q t) n mid new m' m'' (Err fault) → q ≤ t
+      → ServedOver tells G' p t old new m (Err fault)
   over_err G' p q t faults.Output n old mid new m m' m'' l (inl e) later =
       over_ended G' p q t (Err faults.Output) n old mid new m m' m'' e.0 l e.1 tt
   over_err G' p q t faults.Output n old mid new m m' m'' l (inr g) later =
       over_given G' p q t (Err faults.Output) (Some faults.Output) n old mid new m m' l g refl (λ entries bytes e. cc) tt
   over_err G' p q t faults.Journal n old mid new m m' m'' l r later =
       over_given G' p q t (Err faults.Journal) (Some faults.Journal) n old mid new m m' l r refl (λ entries bytes e. cc) (l.lived.followed, r.connection, refl, r.cut_short.0 refl)
+  over_err G' p q t (faults.Changed at) n old mid new m m' m'' l r later =
+      over_given G' p q t (Err (faults.Changed at)) (Some (faults.Changed at)) n old mid new m m' l r refl (λ entries bytes e. cc) (l.lived.followed, r.connection, refl, r.cut_changed at refl)
   over_err G' p q t faults.Dial n old mid new m m' m'' l r later =
       over_none G' p q t (Err faults.Dial) n old mid new m m' m'' l r later (l.lived.followed, refl)
   over_err G' p q t (faults.Unfinished phase) n old mid new m m' m'' l r later =
@@ -554,7 +553,7 @@ module _ {J : Type 0} {G : Ghosts J} where
       over_given G' p q t (Err faults.Memory) (Some faults.Memory) n old mid new m m' l g refl (λ entries bytes e. cc) tt
 
   -- where there was no memory to begin, none was served
-  pub nothing_served : {L : Type 0} (G' : LinkGhosts L) (clock : ℕ) (dialed : Option DialerTold) (out : Option (List ℕ)) (seen : History) (m : State) (box : Inbox J G) → ServedOver G' clock clock (life_at dialed out seen box) (life_at dialed out seen box) m (Err faults.Memory)
+  pub nothing_served : {L : Type 0} (G' : LinkGhosts L) (clock : ℕ) (dialed : Option DialerTold) (out : Option (List ℕ)) (seen : History) (m : State) (box : Inbox J G) → ServedOver tells G' clock clock (life_at dialed out seen box) (life_at dialed out seen box) m (Err faults.Memory)
   nothing_served G' clock dialed out seen m box =
       let l : LifeAt J G = life_at dialed out seen box in
       over_none G' clock clock clock (Err faults.Memory) 1 l l l m m m (lived_none G' clock dialed out seen m box) (made_none dialed dialed out seen m box refl) (omega arith) tt

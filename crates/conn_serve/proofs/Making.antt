@@ -1,12 +1,12 @@
 -- What a turn answered, as its connection knows it.
-use Rattle.std.proofs.Common.{◌≡◌, ◌⊎◌, inl, inr, ⊎_elim, ℕ, ◌≤◌, true, arith, Option, Some, None, Result, Ok, Err, refl, sym, subst, ◌∙◌}
+use Rattle.std.proofs.Common.{◌≡◌, ◌⊎◌, inl, inr, ⊎_elim, ℕ, ◌<◌, ◌≤◌, true, arith, length, Option, Some, None, Result, Ok, Err, refl, sym, subst, ◌∙◌}
 use Rattle.std.specs.Prelude.{IfOk, IfErr, OnOk}
 use Rattle.gw_outside.specs.Faults.{HasRisen}
 use Rattle.fixp_replies.specs.declared.act.Ending.{Ending}
 use Rattle.fixp_replies.specs.declared.act.Ending.TheVariants as endings
-use Rattle.jr_record.specs.declared.journal.Journal.{Ghosts}
-use Rattle.jr_boxes.specs.declared.inbox.Inbox.{Inbox}
-use Rattle.jr_boxes.specs.Inbox.{faults_of, is_broken, size_of, count_of}
+use Rattle.jr_dated.specs.declared.journal.Journal.{Ghosts}
+use Rattle.jr_kept.specs.declared.inbox.Inbox.{Inbox}
+use Rattle.jr_kept.specs.Inbox.{faults_of, is_broken, size_of, count_of}
 use Rattle.gate_turn.specs.Views.{HasFailed, Part}
 use Rattle.gate_turn.proofs.Failing.{failed_before}
 use Rattle.conn_lines.specs.declared.close.Close.{Close}
@@ -32,6 +32,7 @@ on_whole P (Err turn_faults.Link) ok lost = lost refl
 on_whole P (Err turn_faults.Inbox) ok lost = tt
 on_whole P (Err turn_faults.Outbox) ok lost = tt
 on_whole P (Err turn_faults.Broken) ok lost = tt
+on_whole P (Err (turn_faults.Changed at)) ok lost = tt
 on_whole P (Err (turn_faults.Full entries bytes)) ok lost = tt
 on_whole P (Err turn_faults.Memory) ok lost = tt
 
@@ -50,6 +51,7 @@ on_cut P Q (Err turn_faults.Link) gives cut = tt
 on_cut P Q (Err turn_faults.Inbox) gives cut = gives turn_faults.Inbox faults.Journal refl (cut (λ e. cc))
 on_cut P Q (Err turn_faults.Outbox) gives cut = gives turn_faults.Outbox faults.Journal refl (cut (λ e. cc))
 on_cut P Q (Err turn_faults.Broken) gives cut = gives turn_faults.Broken faults.Journal refl (cut (λ e. cc))
+on_cut P Q (Err (turn_faults.Changed at)) gives cut = gives (turn_faults.Changed at) (faults.Changed at) refl (cut (λ e. cc))
 on_cut P Q (Err (turn_faults.Full entries bytes)) gives cut = gives (turn_faults.Full entries bytes) (faults.Full entries bytes) refl (cut (λ e. cc))
 on_cut P Q (Err turn_faults.Memory) gives cut = gives turn_faults.Memory faults.Memory refl (cut (λ e. cc))
 
@@ -65,6 +67,7 @@ goes_made P (Err turn_faults.Link) goes e = cc
 goes_made P (Err turn_faults.Inbox) goes e = cc
 goes_made P (Err turn_faults.Outbox) goes e = cc
 goes_made P (Err turn_faults.Broken) goes e = cc
+goes_made P (Err (turn_faults.Changed at)) goes e = cc
 goes_made P (Err (turn_faults.Full entries bytes)) goes e = cc
 goes_made P (Err turn_faults.Memory) goes e = cc
 
@@ -76,6 +79,7 @@ lost_made P (Err turn_faults.Link) lost e = lost refl
 lost_made P (Err turn_faults.Inbox) lost e = cc
 lost_made P (Err turn_faults.Outbox) lost e = cc
 lost_made P (Err turn_faults.Broken) lost e = cc
+lost_made P (Err (turn_faults.Changed at)) lost e = cc
 lost_made P (Err (turn_faults.Full entries bytes)) lost e = cc
 lost_made P (Err turn_faults.Memory) lost e = cc
 
@@ -94,6 +98,7 @@ closed_made o (Err turn_faults.Link) ok lost close e =
 closed_made o (Err turn_faults.Inbox) ok lost close e = cc
 closed_made o (Err turn_faults.Outbox) ok lost close e = cc
 closed_made o (Err turn_faults.Broken) ok lost close e = cc
+closed_made o (Err (turn_faults.Changed at)) ok lost close e = cc
 closed_made o (Err (turn_faults.Full entries bytes)) ok lost close e = cc
 closed_made o (Err turn_faults.Memory) ok lost close e = cc
 
@@ -104,45 +109,56 @@ of_turn_made (Err turn_faults.Link) = tt
 of_turn_made (Err turn_faults.Inbox) = tt
 of_turn_made (Err turn_faults.Outbox) = tt
 of_turn_made (Err turn_faults.Broken) = tt
+of_turn_made (Err (turn_faults.Changed at)) = tt
 of_turn_made (Err (turn_faults.Full entries bytes)) = tt
 of_turn_made (Err turn_faults.Memory) = tt
 
 module _ {J : Type 0} {G : Ghosts J} where
-  blames : (p q : Part) (box since : Inbox J G) → BlamesJournal p q box since → IsBlamed (faults_at 0 0 p box) (faults_at 0 0 q since) faults.Journal
-  blames p q box since b = record { output = λ e. cc; journal = λ _. b; dial = λ e. cc; full = λ entries bytes e. cc }
-
-  pub blamed_made : (p q : Part) (box since : Inbox J G) (r : Result TurnEnd TurnFault) → SameKind box since
-      → (r ≡ Err turn_faults.Inbox → HasRisen (faults_of box) (faults_of since))
-      → (r ≡ Err turn_faults.Outbox → HasFailed p.faults q.faults)
-      → (r ≡ Err turn_faults.Broken → (is_broken since ≡ true) ⊎ HasFailed q.opening.faults q.faults)
-      → ((entries bytes : ℕ) → r ≡ Err (turn_faults.Full entries bytes) → (entries ≡ count_of since) × (bytes ≡ size_of since))
-      → IfErr (close_of r) (IsBlamed (faults_at 0 0 p box) (faults_at 0 0 q since))
-  blamed_made p q box since (Ok turn_ends.Go) kind inbox outbox broken full = tt
-  blamed_made p q box since (Ok (turn_ends.Ended x)) kind inbox outbox broken full = tt
-  blamed_made p q box since (Err turn_faults.Link) kind inbox outbox broken full = tt
-  blamed_made p q box since (Err turn_faults.Inbox) kind inbox outbox broken full = blames p q box since (inl (inbox refl))
-  blamed_made p q box since (Err turn_faults.Outbox) kind inbox outbox broken full = blames p q box since (inr (inr (inl (outbox refl))))
-  blamed_made p q box since (Err turn_faults.Broken) kind inbox outbox broken full = blames p q box since (by_kind (broken refl))
-    where
-      by_kind : (is_broken since ≡ true) ⊎ HasFailed q.opening.faults q.faults → BlamesJournal p q box since
-      by_kind (inl b) = ⊎_elim (λ was. inr (inl was)) (λ risen. inl risen) (kind.breaks b)
-      by_kind (inr b) = inr (inr (inr b))
-  blamed_made p q box since (Err (turn_faults.Full entries bytes)) kind inbox outbox broken full =
-      record { output = λ e. cc; journal = λ e. cc; dial = λ e. cc; full = λ n m e. let a : n ≡ entries = cc in let b : m ≡ bytes = cc in (a ∙ (full entries bytes refl).0, b ∙ (full entries bytes refl).1) }
-  blamed_made p q box since (Err turn_faults.Memory) kind inbox outbox broken full = record { output = λ e. cc; journal = λ e. cc; dial = λ e. cc; full = λ entries bytes e. cc }
-
   blames_since : (p m q : Part) (box mid after : Inbox J G) → p.faults ≤ m.faults → faults_of box ≤ faults_of mid → faults_of mid ≤ faults_of after → SameKind box mid → BlamesJournal m q mid after → BlamesJournal p q box after
   blames_since p m q box mid after pass inbox later kind (inl risen) = inl (omega (arith, inbox, risen))
   blames_since p m q box mid after pass inbox later kind (inr (inl broken)) = ⊎_elim (λ was. inr (inl was)) (λ risen. inl (omega (arith, later, risen))) (kind.breaks broken)
   blames_since p m q box mid after pass inbox later kind (inr (inr (inl failed))) = inr (inr (inl (failed_before p.faults m.faults q.faults pass failed)))
   blames_since p m q box mid after pass inbox later kind (inr (inr (inr failed))) = inr (inr (inr failed))
 
+module _ {J : Type 0} {G : Ghosts J} {tells : Type 0} where
+  blames : (p q : Part) (box since : Inbox J G) → BlamesJournal p q box since → IsBlamed tells (faults_at 0 0 p box) (faults_at 0 0 q since) faults.Journal
+  blames p q box since b = record { output = λ e. cc; journal = λ _. b; changed = λ at e. cc; dial = λ e. cc; full = λ entries bytes e. cc }
+
+  pub blamed_made : (p q : Part) (box since : Inbox J G) (r : Result TurnEnd TurnFault) → SameKind box since
+      → (r ≡ Err turn_faults.Inbox → HasRisen (faults_of box) (faults_of since))
+      → (r ≡ Err turn_faults.Outbox → HasFailed p.faults q.faults)
+      → (r ≡ Err turn_faults.Broken → (is_broken since ≡ true) ⊎ HasFailed q.opening.faults q.faults)
+      → ((at : ℕ) → r ≡ Err (turn_faults.Changed at) → (at < length q.seen.made) × (tells → ⊥))
+      → ((entries bytes : ℕ) → r ≡ Err (turn_faults.Full entries bytes) → (entries ≡ count_of since) × (bytes ≡ size_of since))
+      → IfErr (close_of r) (IsBlamed tells (faults_at 0 0 p box) (faults_at 0 0 q since))
+  blamed_made p q box since (Ok turn_ends.Go) kind inbox outbox broken changed full = tt
+  blamed_made p q box since (Ok (turn_ends.Ended x)) kind inbox outbox broken changed full = tt
+  blamed_made p q box since (Err turn_faults.Link) kind inbox outbox broken changed full = tt
+  blamed_made p q box since (Err turn_faults.Inbox) kind inbox outbox broken changed full = blames p q box since (inl (inbox refl))
+  blamed_made p q box since (Err turn_faults.Outbox) kind inbox outbox broken changed full = blames p q box since (inr (inr (inl (outbox refl))))
+  blamed_made p q box since (Err turn_faults.Broken) kind inbox outbox broken changed full = blames p q box since (by_kind (broken refl))
+    where
+      by_kind : (is_broken since ≡ true) ⊎ HasFailed q.opening.faults q.faults → BlamesJournal p q box since
+      by_kind (inl b) = ⊎_elim (λ was. inr (inl was)) (λ risen. inl risen) (kind.breaks b)
+      by_kind (inr b) = inr (inr (inr b))
+  blamed_made p q box since (Err (turn_faults.Changed at)) kind inbox outbox broken changed full = record {
+    output = λ e. cc;
+    journal = λ e. cc;
+    changed = λ n e. let same : at ≡ n = cc in subst (λ (k : ℕ). (k < length q.seen.made) × (tells → ⊥)) same (changed at refl);
+    dial = λ e. cc;
+    full = λ entries bytes e. cc;
+  }
+  blamed_made p q box since (Err (turn_faults.Full entries bytes)) kind inbox outbox broken changed full =
+      record { output = λ e. cc; journal = λ e. cc; changed = λ at e. cc; dial = λ e. cc; full = λ n m e. let a : n ≡ entries = cc in let b : m ≡ bytes = cc in (a ∙ (full entries bytes refl).0, b ∙ (full entries bytes refl).1) }
+  blamed_made p q box since (Err turn_faults.Memory) kind inbox outbox broken changed full = record { output = λ e. cc; journal = λ e. cc; changed = λ at e. cc; dial = λ e. cc; full = λ entries bytes e. cc }
+
   -- what is to blame behind the middle is to blame for the whole
   pub blamed_since : (old mid new : FaultsAt J G) (fault : ServeFault) → old.out ≤ mid.out → old.dialer ≤ mid.dialer → old.pass.faults ≤ mid.pass.faults
-      → faults_of old.box ≤ faults_of mid.box → faults_of mid.box ≤ faults_of new.box → SameKind old.box mid.box → IsBlamed mid new fault → IsBlamed old new fault
+      → faults_of old.box ≤ faults_of mid.box → faults_of mid.box ≤ faults_of new.box → SameKind old.box mid.box → IsBlamed tells mid new fault → IsBlamed tells old new fault
   blamed_since old mid new fault less_out less_dialer pass inbox later kind b = record {
     output = λ e. omega (arith, less_out, b.output e);
     journal = λ e. blames_since old.pass mid.pass new.pass old.box mid.box new.box pass inbox later kind (b.journal e);
+    changed = b.changed;
     dial = λ e. omega (arith, less_dialer, b.dial e);
     full = b.full;
   }

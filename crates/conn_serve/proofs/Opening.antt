@@ -7,9 +7,9 @@ use Rattle.session_model.proofs.Lists.{prefix_length}
 use Rattle.fixp_shake.specs.declared.config.EndConfig.{EndConfig}
 use Rattle.fixp_machine.specs.Machine.{State, fresh}
 use Rattle.gw_links.specs.declared.link.Link.{Ghosts as LinkGhosts}
-use Rattle.jr_record.specs.declared.journal.Journal.{Ghosts}
-use Rattle.jr_boxes.specs.declared.inbox.Inbox.{Inbox}
-use Rattle.jr_boxes.specs.Inbox.{flow_of, limits_of}
+use Rattle.jr_dated.specs.declared.journal.Journal.{Ghosts}
+use Rattle.jr_kept.specs.declared.inbox.Inbox.{Inbox}
+use Rattle.jr_kept.specs.Inbox.{flow_of, limits_of}
 use Rattle.gate_turn.specs.Views.{Part}
 use Rattle.gate_senders.specs.declared.gate.Gate.{Gate}
 use Rattle.conn_serve.specs.declared.answer.ServeFault.{ServeFault}
@@ -35,8 +35,8 @@ module _ {J : Type 0} {G : Ghosts J} where
     agrees = record { flow = flow; most = within; next = refl; negotiated = refl; peer_last = refl };
   })
 
-  pub blamed_none : (old new : FaultsAt J G) → IsBlamed old new faults.Memory
-  blamed_none old new = record { output = λ e. cc; journal = λ e. cc; dial = λ e. cc; full = λ entries bytes e. cc }
+  pub blamed_none : {tells : Type 0} (old new : FaultsAt J G) → IsBlamed tells old new faults.Memory
+  blamed_none old new = record { output = λ e. cc; journal = λ e. cc; changed = λ at e. cc; dial = λ e. cc; full = λ entries bytes e. cc }
 
 module _ {J : Type 0} {G : Ghosts J} {O : Type 0} {H : Ghosts O} where
   pub served_at : {L : Type 0} (links : LinkGhosts L) (before behind : ℕ) (gate : Gate O H) (old new : ServingAt J G O H) (m n : State) (result : Result (Unit {0}) ServeFault) → m ≡ n

@@ -13,15 +13,15 @@ use Rattle.session_model.specs.Inbox.{InboxRecord}
 use Rattle.session_model.proofs.Lists.{all_append}
 use Rattle.gw_links.specs.Links.{LinkTold, Carried, Moved}
 use Rattle.gw_links.proofs.Moving.{moved_none, moved_more}
-use Rattle.jr_record.specs.declared.journal.Journal.{Ghosts}
-use Rattle.jr_boxes.specs.declared.inbox.Inbox.{Inbox}
+use Rattle.jr_dated.specs.declared.journal.Journal.{Ghosts}
+use Rattle.jr_kept.specs.declared.inbox.Inbox.{Inbox}
 use Rattle.gate_turn.proofs.Histories.{begins_self}
 use Rattle.conn_turns.specs.declared.news.NewsItem.{NewsItem}
 use Rattle.conn_turns.specs.Lines.{Line, TakenFrame, AreTaken, size_of, line_after, lines_after}
 use Rattle.conn_turns.specs.Frames.{told}
 use Rattle.conn_turns.specs.declared.answer.TurnFault.{TurnFault}
 use Rattle.conn_turns.specs.declared.answer.TurnFault.TheVariants as turn_faults
-use Rattle.conn_turns.specs.Turns.{Turn, only_sends, works, link_lost, cut_short, not_begun}
+use Rattle.conn_turns.specs.Turns.{Turn, IsFaithful, only_sends, works, link_lost, cut_short, not_begun}
 use Rattle.fixp_shake.specs.declared.config.EndConfig.{EndConfig}
 use Rattle.fixp_replies.specs.declared.facts.EndState.{EndState}
 use Rattle.fixp_machine.specs.Machine.{State}
@@ -136,12 +136,17 @@ lacking_full : (fault : ServeFault) (H : Type 0) (entries bytes : ℕ) → ((fau
 lacking_full fault H entries bytes (inl a) e = let f = a.0 in cc
 lacking_full fault H entries bytes (inr b) e = cc
 
+lacking_changed : (fault : ServeFault) (H : Type 0) (at : ℕ) → ((fault ≡ faults.Output) × H) ⊎ (fault ≡ faults.Memory) → fault ≡ faults.Changed at → ⊥
+lacking_changed fault H at (inl a) e = let f = a.0 in cc
+lacking_changed fault H at (inr b) e = cc
+
 -- a turn was at Full where its connection is
 full_turn : (fault : TurnFault) (entries bytes : ℕ) → close_of (Err fault) ≡ Err (faults.Full entries bytes) → fault ≡ turn_faults.Full entries bytes
 full_turn turn_faults.Link entries bytes e = cc
 full_turn turn_faults.Inbox entries bytes e = cc
 full_turn turn_faults.Outbox entries bytes e = cc
 full_turn turn_faults.Broken entries bytes e = cc
+full_turn (turn_faults.Changed at) entries bytes e = cc
 full_turn (turn_faults.Full n m) entries bytes e = cc
 full_turn turn_faults.Memory entries bytes e = cc
 
@@ -174,10 +179,6 @@ memory_turn fault why memory is = let same : close_of (Err turn_faults.Memory) �
 module _ {J : Type 0} {G : Ghosts J} where
   -- ---- what a turn told is short
 
-  pub was_short : (eager : Bool) (before after : ℕ) (old new : EndAt J G) → old.news ≡ [] → WasTurn eager before after old new → All IsShort new.news
-  was_short eager before after old new none was =
-      subst (All IsShort) (sym (was.news_are ∙ ap (λ (ns : List NewsItem). ns ++ tells_in old.line was.turn) none)) (turn_short old.seen new.seen old.line new.line was.turn was.made.is)
-
   pub cut_is_short : (eager : Bool) (before after : ℕ) (old new : EndAt J G) (why : ServeFault) → old.news ≡ [] → CutOff eager before after old new why → All IsShort new.news
   cut_is_short eager before after old new why none c = by_kind c.cut
     where
@@ -187,14 +188,30 @@ module _ {J : Type 0} {G : Ghosts J} where
           let l : Line = line_received old.line k.now k.received k.made.cut.got in
           subst (All IsShort) (sym (k.news_are ∙ ap (λ (ns : List NewsItem). ns ++ told k.now l k.frames) none)) (told_short k.now l k.frames k.made.cut.taken)
 
-  -- ---- turns
-
   -- a connection between its turns, as its next turn finds it, and as it leaves it with these news
   abbrev end_at : ConnectionAt J G → List NewsItem → EndAt J G
   end_at c news = live_end c.told c.carried c.seen c.line c.box news
 
+  -- ---- where it begins
+
+  pub agrees_recorded : (m n : State) (box : Inbox J G) → n.config ≡ m.config → n.most ≡ m.most → n.facts.recorded ≡ m.facts.recorded → Agrees m box → Agrees n box
+  agrees_recorded m n box config most recorded a = record {
+    flow = a.flow ∙ sym (ap (λ (c : EndConfig). c.peer_flow) config);
+    most = omega (arith, most, a.most);
+    next = a.next ∙ sym (ap (λ (r : EndState). r.inbox_next) recorded);
+    negotiated = a.negotiated ∙ sym (ap (λ (r : EndState). r.negotiated) recorded);
+    peer_last = a.peer_last ∙ sym (ap (λ (r : EndState). r.peer_last) recorded);
+  }
+
+module _ {J : Type 0} {G : Ghosts J} {tells : Type 0} where
+  pub was_short : (eager : Bool) (before after : ℕ) (old new : EndAt J G) → old.news ≡ [] → WasTurn tells eager before after old new → All IsShort new.news
+  was_short eager before after old new none was =
+      subst (All IsShort) (sym (was.news_are ∙ ap (λ (ns : List NewsItem). ns ++ tells_in old.line was.turn) none)) (turn_short old.seen new.seen old.line new.line was.turn was.made.is)
+
+  -- ---- turns
+
   pub turned_none : (eager : Bool) (told : Option LinkTold) (carried : Option Carried) (out : Option (List ℕ)) (seen : History) (clock : ℕ) (l : Line) (box : Inbox J G)
-      → Turned eager (connection_at told carried out seen clock l box) (connection_at told carried out seen clock l box) 0
+      → Turned tells eager (connection_at told carried out seen clock l box) (connection_at told carried out seen clock l box) 0
   turned_none eager told carried out seen clock l box = record {
     turns = [];
     news = [];
@@ -202,14 +219,15 @@ module _ {J : Type 0} {G : Ghosts J} where
     many = refl;
     were = (refl, refl, refl);
     timely = tt;
+    faithful = λ t. tt;
     gains = gains_none box box refl;
     moved = moved_none told carried;
     lines = Appends-nil out;
   }
 
   pub turned_once : (eager : Bool) (old new : ConnectionAt J G) (news : List NewsItem)
-      → old.line.machine.ending ≡ None → WasTurn eager old.clock new.clock (end_at old []) (end_at new news) → Appends old.out new.out (news_lines news)
-      → Turned eager old new 1
+      → old.line.machine.ending ≡ None → WasTurn tells eager old.clock new.clock (end_at old []) (end_at new news) → Appends old.out new.out (news_lines news)
+      → Turned tells eager old new 1
   turned_once eager old new news unended was lines = record {
     turns = was.turn ∷ [];
     news = tells_in old.line was.turn;
@@ -217,12 +235,13 @@ module _ {J : Type 0} {G : Ghosts J} where
     many = refl;
     were = one_turn eager (turn_in old) (turn_in new) was.turn unended was.made;
     timely = (was.timely, tt);
+    faithful = λ t. (was.faithful t, tt);
     gains = was.gains;
     moved = moved_once old.told new.told old.carried new.carried was.turn was.made.moved;
     lines = subst (λ (ns : List NewsItem). Appends old.out new.out (news_lines ns)) was.news_are lines;
   }
 
-  pub turned_on : (eager : Bool) (old mid new : ConnectionAt J G) (n k : ℕ) → Turned eager old mid n → Turned eager mid new k → Turned eager old new (n + k)
+  pub turned_on : (eager : Bool) (old mid new : ConnectionAt J G) (n k : ℕ) → Turned tells eager old mid n → Turned tells eager mid new k → Turned tells eager old new (n + k)
   turned_on eager old mid new n k x y = record {
     turns = x.turns ++ y.turns;
     news = x.news ++ y.news;
@@ -230,12 +249,13 @@ module _ {J : Type 0} {G : Ghosts J} where
     many = omega (arith, x.many, y.many, length-append x.turns y.turns);
     were = turns_on eager (turn_in old) (turn_in mid) (turn_in new) x.turns y.turns x.news y.news x.adds y.adds x.were y.were;
     timely = all_append IsTimelyTurn x.turns y.turns x.timely y.timely;
+    faithful = λ t. all_append IsFaithful x.turns y.turns (x.faithful t) (y.faithful t);
     gains = gains_on old.box mid.box new.box x.adds y.adds x.gains y.gains;
     moved = moved_turns old.told mid.told new.told old.carried mid.carried new.carried x.turns y.turns x.moved y.moved;
     lines = subst (Appends old.out new.out) (sym (lines_on x.news y.news)) (Appends-trans old.out mid.out new.out (news_lines x.news) (news_lines y.news) x.lines y.lines);
   }
 
-  pub turned_place : (eager : Bool) (old new : ConnectionAt J G) (n : ℕ) → Turned eager old new n → new.line.place ≤ old.line.place + n * 262240
+  pub turned_place : (eager : Bool) (old new : ConnectionAt J G) (n : ℕ) → Turned tells eager old new n → new.line.place ≤ old.line.place + n * 262240
   turned_place eager old new n t =
       let many = t.many in
       subst (λ (k : ℕ). new.line.place ≤ old.line.place + k * 262240) many (turns_place eager (turn_in old) (turn_in new) t.turns t.news t.adds t.were)
@@ -244,10 +264,10 @@ module _ {J : Type 0} {G : Ghosts J} where
 
   -- behind whole turns, with no turn cut short
   pub given_whole : (eager : Bool) (why : Option ServeFault) (old new : ConnectionAt J G) (n : ℕ)
-      → Turned eager old new n
-      → (why ≡ Some faults.Turns → (n ≡ 1099511627776) × (new.line.machine.ending ≡ None)) → (why ≡ Some faults.Journal → ⊥) → ((entries bytes : ℕ) → why ≡ Some (faults.Full entries bytes) → ⊥)
-      → GivenUp eager why old new
-  given_whole eager why old new n t turns no_journal no_full = record {
+      → Turned tells eager old new n
+      → (why ≡ Some faults.Turns → (n ≡ 1099511627776) × (new.line.machine.ending ≡ None)) → (why ≡ Some faults.Journal → ⊥) → ((at : ℕ) → why ≡ Some (faults.Changed at) → ⊥) → ((entries bytes : ℕ) → why ≡ Some (faults.Full entries bytes) → ⊥)
+      → GivenUp tells eager why old new
+  given_whole eager why old new n t turns no_journal no_change no_full = record {
     behind = turn_in new;
     turns = t.turns;
     news = t.news;
@@ -261,6 +281,7 @@ module _ {J : Type 0} {G : Ghosts J} where
     wanted = [];
     is_cut = (refl, refl, refl, refl, no_more (turn_in new));
     timely = subst (AllByRecursion IsTimelyTurn) (sym (append-nil t.turns)) t.timely;
+    faithful = t.faithful;
     moved = subst (λ (ts : List Turn). Moved old.told new.told old.carried new.carried (flat_map given_in ts) (flat_map sent_in ts)) (sym (append-nil t.turns)) t.moved;
     refuses = refuses_none old.box new.box (t.adds ++ []) (subst (Gains old.box new.box) (sym (append-nil t.adds)) t.gains);
     lines = record {
@@ -272,11 +293,12 @@ module _ {J : Type 0} {G : Ghosts J} where
     };
     spent = λ e. record { many = t.many ∙ (turns e).0; unended = (turns e).1; whole = refl };
     cut_short = (λ e. absurd (no_journal e), λ entries bytes e. absurd (no_full entries bytes e));
+    cut_changed = λ at e. absurd (no_change at e);
     past = λ entries bytes e. absurd (no_full entries bytes e);
   }
 
   -- whatever is left of its line
-  pub given_dropped : (eager : Bool) (why : Option ServeFault) (old new : ConnectionAt J G) (l : Line) → GivenUp eager why old new → GivenUp eager why old (record new { line = l })
+  pub given_dropped : (eager : Bool) (why : Option ServeFault) (old new : ConnectionAt J G) (l : Line) → GivenUp tells eager why old new → GivenUp tells eager why old (record new { line = l })
   given_dropped eager why old new l g = record {
     behind = g.behind;
     turns = g.turns;
@@ -291,19 +313,21 @@ module _ {J : Type 0} {G : Ghosts J} where
     wanted = g.wanted;
     is_cut = cut_dropped eager g.behind (turn_in new) l g.cut g.cut_told g.cut_added g.refused g.wanted g.is_cut;
     timely = g.timely;
+    faithful = g.faithful;
     moved = g.moved;
     refuses = g.refuses;
     lines = g.lines;
     spent = g.spent;
     cut_short = g.cut_short;
+    cut_changed = g.cut_changed;
     past = g.past;
   }
 
   -- at a whole turn whose lines are lacking
   pub given_lacking : (eager : Bool) (fault : ServeFault) (old new : ConnectionAt J G) (news : List NewsItem)
-      → old.line.machine.ending ≡ None → WasTurn eager old.clock new.clock (end_at old []) (end_at new news) → Tells (lacks fault) old.out new.out (news_lines news)
+      → old.line.machine.ending ≡ None → WasTurn tells eager old.clock new.clock (end_at old []) (end_at new news) → Tells (lacks fault) old.out new.out (news_lines news)
       → (fault ≡ faults.Output) ⊎ (fault ≡ faults.Memory)
-      → GivenUp eager (Some fault) old new
+      → GivenUp tells eager (Some fault) old new
   given_lacking eager fault old new news unended was lines which = record {
     behind = turn_in new;
     turns = was.turn ∷ [];
@@ -318,6 +342,7 @@ module _ {J : Type 0} {G : Ghosts J} where
     wanted = [];
     is_cut = (refl, refl, refl, refl, no_more (turn_in new));
     timely = (was.timely, tt);
+    faithful = λ t. (was.faithful t, tt);
     moved = moved_once old.told new.told old.carried new.carried was.turn was.made.moved;
     refuses = refuses_none old.box new.box (adds_in old.line was.turn ++ []) (subst (Gains old.box new.box) (sym (append-nil (adds_in old.line was.turn))) was.gains);
     lines = record {
@@ -329,6 +354,7 @@ module _ {J : Type 0} {G : Ghosts J} where
     };
     spent = λ e. by_kind which (inl (cc));
     cut_short = (λ e. by_kind which (inr (inl (cc))), λ entries bytes e. by_kind which (inr (inr (entries, bytes, cc))));
+    cut_changed = λ at e. absurd (by_change at which (cc));
     past = λ entries bytes e. by_kind which (inr (inr (entries, bytes, cc)));
   }
     where
@@ -340,11 +366,15 @@ module _ {J : Type 0} {G : Ghosts J} where
       by_kind (inr a) (inr (inl b)) = cc
       by_kind (inr a) (inr (inr b)) = let e = b.2 in cc
 
+      by_change : (at : ℕ) → (fault ≡ faults.Output) ⊎ (fault ≡ faults.Memory) → fault ≡ faults.Changed at → ⊥
+      by_change at (inl a) b = cc
+      by_change at (inr a) b = cc
+
   -- at a turn that had not begun
   given_unbegun : (eager : Bool) (fault why : ServeFault) (turn_fault : TurnFault) (old new : ConnectionAt J G) (news : List NewsItem)
       → BeginsHistory old.seen new.seen → old.clock ≤ new.clock → NotBegun (end_at old []) (end_at new news) turn_fault → close_of (Err turn_fault) ≡ Err why → Tells (lacks fault) old.out new.out (news_lines news)
-      → (fault ≡ faults.Turns → ⊥) → (fault ≡ faults.Journal → why ≡ faults.Journal) → ((entries bytes : ℕ) → fault ≡ faults.Full entries bytes → why ≡ faults.Full entries bytes) → GivenUp eager (Some fault) old new
-  given_unbegun eager fault why turn_fault old new news grows ticks n is lines no_turns journal full = record {
+      → (fault ≡ faults.Turns → ⊥) → (fault ≡ faults.Journal → why ≡ faults.Journal) → ((at : ℕ) → fault ≡ faults.Changed at → why ≡ faults.Changed at) → ((entries bytes : ℕ) → fault ≡ faults.Full entries bytes → why ≡ faults.Full entries bytes) → GivenUp tells eager (Some fault) old new
+  given_unbegun eager fault why turn_fault old new news grows ticks n is lines no_turns journal change full = record {
     behind = turn_in old;
     turns = [];
     news = [];
@@ -358,6 +388,7 @@ module _ {J : Type 0} {G : Ghosts J} where
     wanted = [];
     is_cut = (refl, refl, refl, refl, record { moved = still; clock = ticks });
     timely = tt;
+    faithful = λ t. tt;
     moved = still;
     refuses = subst (λ (e : EndAt J G). Refuses old.box e.box [] []) (sym n.1) (refuses_none old.box old.box [] (gains_none old.box old.box refl));
     lines = record {
@@ -369,6 +400,7 @@ module _ {J : Type 0} {G : Ghosts J} where
     };
     spent = λ e. absurd (no_turns (cc));
     cut_short = (λ e. absurd (no_journal (cc)), λ entries bytes e. absurd (no_full entries bytes (cc)));
+    cut_changed = λ at e. absurd (no_change at (cc));
     past = λ entries bytes e. absurd (no_full entries bytes (cc));
   }
     where
@@ -381,13 +413,16 @@ module _ {J : Type 0} {G : Ghosts J} where
       no_journal : fault ≡ faults.Journal → ⊥
       no_journal e = let same = journal e in let m = memory in cc
 
+      no_change : (at : ℕ) → fault ≡ faults.Changed at → ⊥
+      no_change at e = let same = change at e in let m = memory in cc
+
       no_full : (entries bytes : ℕ) → fault ≡ faults.Full entries bytes → ⊥
       no_full entries bytes e = let same = full entries bytes e in let m = memory in cc
 
   -- at a turn that was cut short
   given_cut : (eager : Bool) (fault why : ServeFault) (turn_fault : TurnFault) (old new : ConnectionAt J G) (news : List NewsItem)
       → BeginsHistory old.seen new.seen → WasCut eager old.clock new.clock (end_at old []) (end_at new news) turn_fault → close_of (Err turn_fault) ≡ Err why → Tells (lacks fault) old.out new.out (news_lines news)
-      → (fault ≡ faults.Turns → ⊥) → ((entries bytes : ℕ) → fault ≡ faults.Full entries bytes → why ≡ faults.Full entries bytes) → GivenUp eager (Some fault) old new
+      → (fault ≡ faults.Turns → ⊥) → ((entries bytes : ℕ) → fault ≡ faults.Full entries bytes → why ≡ faults.Full entries bytes) → GivenUp tells eager (Some fault) old new
   given_cut eager fault why turn_fault old new news grows k is lines no_turns full = record {
     behind = turn_in old;
     turns = [];
@@ -402,6 +437,7 @@ module _ {J : Type 0} {G : Ghosts J} where
     wanted = _;
     is_cut = record { now = k.now; received = k.received; frames = k.frames; next = k.refused; fault = turn_fault; is = refl; made = k.made; news_are = k.news_are; adds_are = refl; refused_are = refl; wanted_are = refl };
     timely = (k.timely, tt);
+    faithful = λ t. tt;
     moved = moved_once old.told new.told old.carried new.carried (cut_short k.now k.received k.frames k.refused) k.made.moved;
     refuses = k.refuses;
     lines = record {
@@ -413,22 +449,23 @@ module _ {J : Type 0} {G : Ghosts J} where
     };
     spent = λ e. absurd (no_turns (cc));
     cut_short = (λ e. refl, λ entries bytes e. refl);
+    cut_changed = λ at e. refl;
     past = λ entries bytes e. k.past entries bytes (full_turn turn_fault entries bytes (is ∙ ap (λ (f : ServeFault). Err f) (full entries bytes (cc))));
   }
 
   -- at either
   given_off : (eager : Bool) (fault why : ServeFault) (old new : ConnectionAt J G) (news : List NewsItem)
       → BeginsHistory old.seen new.seen → old.clock ≤ new.clock → CutOff eager old.clock new.clock (end_at old []) (end_at new news) why → Tells (lacks fault) old.out new.out (news_lines news)
-      → (fault ≡ faults.Turns → ⊥) → (fault ≡ faults.Journal → why ≡ faults.Journal) → ((entries bytes : ℕ) → fault ≡ faults.Full entries bytes → why ≡ faults.Full entries bytes) → GivenUp eager (Some fault) old new
-  given_off eager fault why old new news grows ticks c lines no_turns journal full = by_kind c.cut
+      → (fault ≡ faults.Turns → ⊥) → (fault ≡ faults.Journal → why ≡ faults.Journal) → ((at : ℕ) → fault ≡ faults.Changed at → why ≡ faults.Changed at) → ((entries bytes : ℕ) → fault ≡ faults.Full entries bytes → why ≡ faults.Full entries bytes) → GivenUp tells eager (Some fault) old new
+  given_off eager fault why old new news grows ticks c lines no_turns journal change full = by_kind c.cut
     where
-      by_kind : NotBegun (end_at old []) (end_at new news) c.fault ⊎ WasCut eager old.clock new.clock (end_at old []) (end_at new news) c.fault → GivenUp eager (Some fault) old new
-      by_kind (inl n) = given_unbegun eager fault why c.fault old new news grows ticks n c.is lines no_turns journal full
+      by_kind : NotBegun (end_at old []) (end_at new news) c.fault ⊎ WasCut eager old.clock new.clock (end_at old []) (end_at new news) c.fault → GivenUp tells eager (Some fault) old new
+      by_kind (inl n) = given_unbegun eager fault why c.fault old new news grows ticks n c.is lines no_turns journal change full
       by_kind (inr k) = given_cut eager fault why c.fault old new news grows k c.is lines no_turns full
 
   -- behind further turns
   pub given_on : (eager : Bool) (why : Option ServeFault) (old mid new : ConnectionAt J G) (n : ℕ)
-      → Turned eager old mid n → GivenUp eager why mid new → (why ≡ Some faults.Turns → ⊥) → GivenUp eager why old new
+      → Turned tells eager old mid n → GivenUp tells eager why mid new → (why ≡ Some faults.Turns → ⊥) → GivenUp tells eager why old new
   given_on eager why old mid new n x y no_turns = record {
     behind = y.behind;
     turns = x.turns ++ y.turns;
@@ -443,6 +480,7 @@ module _ {J : Type 0} {G : Ghosts J} where
     wanted = y.wanted;
     is_cut = y.is_cut;
     timely = subst (AllByRecursion IsTimelyTurn) (sym (append_assoc x.turns y.turns (option_to_list y.cut))) (all_append IsTimelyTurn x.turns (y.turns ++ option_to_list y.cut) x.timely y.timely);
+    faithful = λ t. all_append IsFaithful x.turns y.turns (x.faithful t) (y.faithful t);
     moved = subst (λ (ts : List Turn). Moved old.told new.told old.carried new.carried (flat_map given_in ts) (flat_map sent_in ts)) (sym (append_assoc x.turns y.turns (option_to_list y.cut)))
         (moved_turns old.told mid.told new.told old.carried mid.carried new.carried x.turns (y.turns ++ option_to_list y.cut) x.moved y.moved);
     refuses = subst (λ (rs : List InboxRecord). Refuses old.box new.box rs y.refused) (sym (append_assoc x.adds y.adds y.cut_added))
@@ -461,44 +499,36 @@ module _ {J : Type 0} {G : Ghosts J} where
     };
     spent = λ e. absurd (no_turns e);
     cut_short = y.cut_short;
+    cut_changed = y.cut_changed;
     past = y.past;
   }
 
   -- a turn whose lines are lacking, whole or cut short
   pub given_told : {A : Type 0} (r : Result A ServeFault) (fault : ServeFault) (H : Type 0) (eager : Bool) (old new : ConnectionAt J G) (news : List NewsItem)
-      → old.line.machine.ending ≡ None → BeginsHistory old.seen new.seen → old.clock ≤ new.clock → OnOk r (WasTurn eager old.clock new.clock (end_at old []) (end_at new news)) → IfErr r (CutOff eager old.clock new.clock (end_at old []) (end_at new news))
-      → TakesFront old.out new.out (news_lines news) → ((fault ≡ faults.Output) × H) ⊎ (fault ≡ faults.Memory) → GivenUp eager (Some fault) old new
+      → old.line.machine.ending ≡ None → BeginsHistory old.seen new.seen → old.clock ≤ new.clock → OnOk r (WasTurn tells eager old.clock new.clock (end_at old []) (end_at new news)) → IfErr r (CutOff eager old.clock new.clock (end_at old []) (end_at new news))
+      → TakesFront old.out new.out (news_lines news) → ((fault ≡ faults.Output) × H) ⊎ (fault ≡ faults.Memory) → GivenUp tells eager (Some fault) old new
   given_told (Ok a) fault H eager old new news unended grows ticks whole cut front cause =
       given_lacking eager fault old new news unended whole (lacking_tells fault H old.out new.out (news_lines news) cause front) (which_lacks fault H cause)
   given_told (Err e) fault H eager old new news unended grows ticks whole cut front cause =
       given_off eager fault e old new news grows ticks cut (lacking_tells fault H old.out new.out (news_lines news) cause front) (lacking_spent fault H cause) (λ is. absurd (lacking_journal fault H cause is))
-      (λ entries bytes is. absurd (lacking_full fault H entries bytes cause is))
+      (λ at is. absurd (lacking_changed fault H at cause is)) (λ entries bytes is. absurd (lacking_full fault H entries bytes cause is))
 
+module _ {J : Type 0} {G : Ghosts J} (tells : Type 0) where
   -- and one that was cut short, and whose lines were told
   pub given_answer : {A : Type 0} (r : Result A ServeFault) (eager : Bool) (old new : ConnectionAt J G) (news : List NewsItem)
       → BeginsHistory old.seen new.seen → old.clock ≤ new.clock → IfErr r (CutOff eager old.clock new.clock (end_at old []) (end_at new news)) → IfErr r IsOfTurn → Appends old.out new.out (news_lines news)
-      → IfErr r (λ fault. GivenUp eager (Some fault) old new)
+      → IfErr r (λ fault. GivenUp tells eager (Some fault) old new)
   given_answer (Ok a) eager old new news grows ticks cut is lines = tt
   given_answer (Err fault) eager old new news grows ticks cut is lines =
-      given_off eager fault fault old new news grows ticks cut (tells_all (lacks fault) old.out new.out (news_lines news) lines) (λ e. subst IsOfTurn e is) (λ e. e) (λ entries bytes e. e)
+      given_off eager fault fault old new news grows ticks cut (tells_all (lacks fault) old.out new.out (news_lines news) lines) (λ e. subst IsOfTurn e is) (λ e. e) (λ at e. e) (λ entries bytes e. e)
 
-  -- ---- where it begins
-
-  pub agrees_recorded : (m n : State) (box : Inbox J G) → n.config ≡ m.config → n.most ≡ m.most → n.facts.recorded ≡ m.facts.recorded → Agrees m box → Agrees n box
-  agrees_recorded m n box config most recorded a = record {
-    flow = a.flow ∙ sym (ap (λ (c : EndConfig). c.peer_flow) config);
-    most = omega (arith, most, a.most);
-    next = a.next ∙ sym (ap (λ (r : EndState). r.inbox_next) recorded);
-    negotiated = a.negotiated ∙ sym (ap (λ (r : EndState). r.negotiated) recorded);
-    peer_last = a.peer_last ∙ sym (ap (λ (r : EndState). r.peer_last) recorded);
-  }
-
+module _ {J : Type 0} {G : Ghosts J} {tells : Type 0} where
   pub given_first : (eager : Bool) (why : Option ServeFault) (old new : ConnectionAt J G) (start : Line) (now clock : ℕ) → start ≡ line_begun old.line now → Begins old now clock
-      → GivenUp eager why (record old { clock = clock; line = start }) new → GivenUpOn eager why old new
+      → GivenUp tells eager why (record old { clock = clock; line = start }) new → GivenUpOn tells eager why old new
   given_first eager why old new start now clock is began g =
-      record { moment = now; clock = clock; began = began; given_up = subst (λ (x : Line). GivenUp eager why (record old { clock = clock; line = x }) new) is g }
+      record { moment = now; clock = clock; began = began; given_up = subst (λ (x : Line). GivenUp tells eager why (record old { clock = clock; line = x }) new) is g }
 
   pub turned_first : (eager : Bool) (old new : ConnectionAt J G) (start : Line) (now clock n : ℕ) → start ≡ line_begun old.line now → Begins old now clock
-      → Turned eager (record old { clock = clock; line = start }) new n → TurnedOn eager old new
+      → Turned tells eager (record old { clock = clock; line = start }) new n → TurnedOn tells eager old new
   turned_first eager old new start now clock n is began t =
-      record { moment = now; clock = clock; began = began; count = n; turned = subst (λ (x : Line). Turned eager (record old { clock = clock; line = x }) new n) is t }
+      record { moment = now; clock = clock; began = began; count = n; turned = subst (λ (x : Line). Turned tells eager (record old { clock = clock; line = x }) new n) is t }

@@ -24,6 +24,7 @@ close_of (Err turn_faults.Link) = Ok (Some closes.LinkFault)
 close_of (Err turn_faults.Inbox) = Err faults.Journal
 close_of (Err turn_faults.Outbox) = Err faults.Journal
 close_of (Err turn_faults.Broken) = Err faults.Journal
+close_of (Err (turn_faults.Changed at)) = Err (faults.Changed at)
 close_of (Err (turn_faults.Full entries bytes)) = Err (faults.Full entries bytes)
 close_of (Err turn_faults.Memory) = Err faults.Memory
 
@@ -54,6 +55,7 @@ finish_fault closing.Fault = Some faults.Journal
 abbrev pub IsOfTurn : ServeFault → Type 0
 IsOfTurn faults.Output = ⊤
 IsOfTurn faults.Journal = ⊤
+IsOfTurn (faults.Changed at) = ⊤
 IsOfTurn faults.Dial = ⊥
 IsOfTurn (faults.Unfinished phase) = ⊥
 IsOfTurn (faults.Rejected template code) = ⊥
@@ -64,6 +66,7 @@ IsOfTurn faults.Memory = ⊤
 abbrev pub IsOfConnection : ServeFault → Type 0
 IsOfConnection faults.Output = ⊤
 IsOfConnection faults.Journal = ⊤
+IsOfConnection (faults.Changed at) = ⊤
 IsOfConnection faults.Dial = ⊥
 IsOfConnection (faults.Unfinished phase) = ⊥
 IsOfConnection (faults.Rejected template code) = ⊥
@@ -75,6 +78,7 @@ IsOfConnection faults.Memory = ⊤
 abbrev pub yields : ServeFault → Bool
 yields faults.Output = false
 yields faults.Journal = false
+yields (faults.Changed at) = false
 yields faults.Dial = false
 yields (faults.Unfinished phase) = true
 yields (faults.Rejected template code) = true
@@ -86,6 +90,7 @@ yields faults.Memory = false
 abbrev pub is_journal : ServeFault → Bool
 is_journal faults.Output = false
 is_journal faults.Journal = true
+is_journal (faults.Changed at) = false
 is_journal faults.Dial = false
 is_journal (faults.Unfinished phase) = false
 is_journal (faults.Rejected template code) = false
@@ -97,6 +102,7 @@ is_journal faults.Memory = false
 abbrev pub yields_to : (fault refusal : ServeFault) → Bool
 yields_to faults.Output refusal = false
 yields_to faults.Journal refusal = false
+yields_to (faults.Changed at) refusal = false
 yields_to faults.Dial refusal = is_journal refusal
 yields_to (faults.Unfinished phase) refusal = true
 yields_to (faults.Rejected template code) refusal = true

@@ -1,10 +1,10 @@
 -- What a fault of a life is caused by (this project's profile).
-use Rattle.std.specs.Prelude.{◌≡◌, ◌⊎◌, ℕ, ◌≤◌, Bool, true, false, List, ◌++◌, length, Option, Some, None}
+use Rattle.std.specs.Prelude.{◌≡◌, ◌⊎◌, ℕ, ◌<◌, ◌≤◌, Bool, true, false, List, ◌++◌, length, Option, Some, None}
 use Rattle.std.specs.Io.KnownBytes.{Appends}
 use Rattle.gw_outside.specs.Faults.{HasRisen, TakesFront}
-use Rattle.jr_record.specs.declared.journal.Journal.{Ghosts}
-use Rattle.jr_boxes.specs.declared.inbox.Inbox.{Inbox}
-use Rattle.jr_boxes.specs.Inbox.{faults_of, is_broken, size_of, count_of}
+use Rattle.jr_dated.specs.declared.journal.Journal.{Ghosts}
+use Rattle.jr_kept.specs.declared.inbox.Inbox.{Inbox}
+use Rattle.jr_kept.specs.Inbox.{faults_of, is_broken, size_of, count_of}
 use Rattle.gate_turn.specs.Views.{HasFailed, Part}
 use Rattle.conn_lines.specs.declared.close.Close.{Close}
 use Rattle.conn_turns.specs.declared.news.NewsItem.{NewsItem}
@@ -17,6 +17,7 @@ use Rattle.conn_serve.specs.Moments.{FaultsAt}
 abbrev pub lacks : ServeFault → Bool
 lacks faults.Output = true
 lacks faults.Journal = false
+lacks (faults.Changed at) = false
 lacks faults.Dial = false
 lacks (faults.Unfinished phase) = false
 lacks (faults.Rejected template code) = false
@@ -67,9 +68,10 @@ module _ {J : Type 0} {G : Ghosts J} where
   BlamesJournal p p' box box' =
       HasRisen (faults_of box) (faults_of box') ⊎ ((is_broken box ≡ true) ⊎ (HasFailed p.faults p'.faults ⊎ HasFailed p'.opening.faults p'.faults))
 
-  -- what a fault is to blame for
-  pub record IsBlamed (old new : FaultsAt J G) (fault : ServeFault) : Type 0 where
+  -- what a fault is to blame for; a record of the outbox, of those that the pass has seen, changes only on a disk that does not tell its content
+  pub record IsBlamed (tells : Type 0) (old new : FaultsAt J G) (fault : ServeFault) : Type 0 where
     pub output : fault ≡ faults.Output → HasRisen old.out new.out
     pub journal : fault ≡ faults.Journal → BlamesJournal old.pass new.pass old.box new.box
+    pub changed : (at : ℕ) → fault ≡ faults.Changed at → (at < length new.pass.seen.made) × (tells → ⊥)
     pub dial : fault ≡ faults.Dial → HasRisen old.dialer new.dialer
     pub full : (entries bytes : ℕ) → fault ≡ faults.Full entries bytes → (entries ≡ count_of new.box) × (bytes ≡ size_of new.box)

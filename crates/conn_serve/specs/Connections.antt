@@ -1,7 +1,7 @@
 -- Connections of a life, one behind another: what they did, told, recorded and carried, and how they came to their end (this
 -- project's profile).
 use Rattle.std.specs.Prelude.{◌≡◌, ℕ, ◌-◌, ◌≤◌, max, Bool, List, [], ◌∷◌, ◌++◌, map, length, Option, Some, None, IfSome, option_to_list}
-use Rattle.std.specs.List.{flat_map}
+use Rattle.std.specs.List.{AllByRecursion, flat_map}
 use Rattle.session_model.specs.Journal.{History, BeginsHistory}
 use Rattle.session_model.specs.Inbox.{InboxRecord}
 use Rattle.fixp_replies.specs.declared.act.Ending.{Ending}
@@ -17,7 +17,7 @@ use Rattle.conn_turns.specs.declared.news.NewsItem.{NewsItem}
 use Rattle.conn_turns.specs.declared.answer.TurnFault.{TurnFault}
 use Rattle.conn_turns.specs.Lines.{Line, TakenFrame, lines_after}
 use Rattle.conn_turns.specs.Frames.{added, told}
-use Rattle.conn_turns.specs.Turns.{Turn, cut_short}
+use Rattle.conn_turns.specs.Turns.{Turn, IsFaithful, cut_short}
 use Rattle.conn_loop.specs.Turned.{refused_of, wanted_of}
 use Rattle.turn_laws.specs.Turns.{line_received, adds_in, tells_in}
 use Rattle.turn_laws.specs.Made.{TurnAt, MadeTurn, MadeCut}
@@ -44,6 +44,10 @@ pub record Connection : Type 0 where
   pub wanted : List InboxRecord
   pub close : Option Close
   pub carried : Option Carried
+
+-- each whole turn of a connection sent of the outbox what it had seen of it
+abbrev pub IsFaithfulLeg : TurnedLeg → Type 0
+IsFaithfulLeg leg = AllByRecursion IsFaithful leg.turns
 
 -- connections, by their turns
 abbrev pub turned : List Connection → List TurnedLeg

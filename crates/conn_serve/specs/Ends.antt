@@ -2,7 +2,7 @@
 use Rattle.std.specs.Prelude.{ℕ, List, Option}
 use Rattle.gw_links.specs.Links.{LinkTold, Carried}
 use Rattle.gw_links.specs.declared.clock.Clock.{Ghosts as ClockGhosts}
-use Rattle.jr_record.specs.declared.journal.Journal.{Ghosts}
+use Rattle.jr_dated.specs.declared.journal.Journal.{Ghosts}
 use Rattle.conn_loop.specs.declared.live.LiveEnd.{LiveEnd}
 use Rattle.conn_loop.specs.Ends.{line_in, pass_in}
 use Rattle.conn_serve.specs.Moments.{ConnectionAt, FaultsAt, connection_at, faults_at}

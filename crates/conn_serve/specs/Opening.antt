@@ -3,9 +3,9 @@ use Rattle.std.specs.Prelude.{⊤, ℕ, All, List, ◌≡◌, ◌⊎◌, if◌th
 use Rattle.session_model.specs.Journal.{History}
 use Rattle.fixp_replies.specs.declared.facts.EndState.{EndState}
 use Rattle.fixp_machine.specs.Machine.{State}
-use Rattle.jr_record.specs.declared.journal.Journal.{Ghosts}
-use Rattle.jr_boxes.specs.declared.inbox.Inbox.{Inbox}
-use Rattle.jr_boxes.specs.Inbox.{next_of, is_negotiated, peer_last_of}
+use Rattle.jr_dated.specs.declared.journal.Journal.{Ghosts}
+use Rattle.jr_kept.specs.declared.inbox.Inbox.{Inbox}
+use Rattle.jr_kept.specs.Inbox.{next_of, is_negotiated, peer_last_of}
 use Rattle.gate_senders.specs.declared.gate.Gate.{Gate}
 use Rattle.conn_serve.specs.declared.answer.ServeFault.{ServeFault}
 use Rattle.conn_serve.specs.declared.answer.ServeFault.TheVariants as faults
@@ -53,16 +53,16 @@ module _ {J : Type 0} {G : Ghosts J} {O : Type 0} {H : Ghosts O} where
     pub connections : Result LifeEnd ServeFault
     pub refused : Option ServeFault
     pub life : Life connections
-    pub blamed : IfErr connections (IsBlamed (faults_in old) (faults_in new))
+    pub blamed : IfErr connections (IsBlamed H.tells (faults_in old) (faults_in new))
     pub senders : SubmittedAll gate old.senders new.senders refused
         ⊎ ((new.senders ≡ old.senders) × (refused ≡ None) × (connections ≡ Err faults.Memory))
     pub answer : result ≡ answer_of connections refused
 
   abbrev pub ServedBy : Gate O H → (old new : ServingAt J G O H) → State → Result (Unit {0}) ServeFault → Type 0
-  ServedBy gate old new m result = ServedSo (λ connections. ServedLife (life_in old) (life_in new) m connections) gate old new result
+  ServedBy gate old new m result = ServedSo (λ connections. ServedLife H.tells (life_in old) (life_in new) m connections) gate old new result
 
   -- so it was over links of the dialer, by a clock that gave these moments last before and behind
   abbrev pub ServedThrough : {L : Type 0} → LinkGhosts L → (before behind : ℕ) → Gate O H → (old new : ServingAt J G O H) → State
       → Result (Unit {0}) ServeFault → Type 0
   ServedThrough links before behind gate old new m result =
-      ServedSo (λ connections. ServedOver links before behind (life_in old) (life_in new) m connections) gate old new result
+      ServedSo (λ connections. ServedOver H.tells links before behind (life_in old) (life_in new) m connections) gate old new result

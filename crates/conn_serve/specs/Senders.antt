@@ -1,7 +1,7 @@
 -- What a life makes of its senders, and of the Finish behind them (this project's profile).
 use Rattle.std.specs.Prelude.{◌≡◌, ◌≢◌, ◌⊎◌, ℕ, ◌<◌, true, All, Contains, List, [], ◌∷◌, length, slice_index_or, Option, Some, None}
 use Rattle.session_model.specs.Journal.{finish}
-use Rattle.jr_record.specs.declared.journal.Journal.{Ghosts}
+use Rattle.jr_dated.specs.declared.journal.Journal.{Ghosts}
 use Rattle.jr_boxes.specs.declared.faults.SubmitFault.{SubmitFault}
 use Rattle.gate_turn.specs.Views.{HasFailed, Part}
 use Rattle.gate_turn.specs.Places.{known}

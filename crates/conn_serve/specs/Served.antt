@@ -9,8 +9,8 @@ use Rattle.std.specs.Option.{option_map}
 use Rattle.gw_links.specs.Links.{Carried, CarriedNothing, HasCarried}
 use Rattle.gw_links.specs.Dialers.{DialerTold}
 use Rattle.gw_links.specs.declared.link.Link.{Ghosts as LinkGhosts}
-use Rattle.jr_record.specs.declared.journal.Journal.{Ghosts}
-use Rattle.jr_boxes.specs.Inbox.{limits_of}
+use Rattle.jr_dated.specs.declared.journal.Journal.{Ghosts}
+use Rattle.jr_kept.specs.Inbox.{limits_of}
 use Rattle.conn_lines.specs.declared.close.Close.{Close}
 use Rattle.conn_lines.specs.declared.close.Close.TheVariants as closes
 use Rattle.conn_turns.specs.Lines.{Line}
@@ -20,7 +20,7 @@ use Rattle.conn_serve.specs.declared.answer.ServeFault.{ServeFault}
 use Rattle.conn_serve.specs.declared.answer.ServeFault.TheVariants as faults
 use Rattle.conn_serve.specs.declared.answer.LifeEnd.{LifeEnd}
 use Rattle.conn_serve.specs.declared.answer.LifeEnd.TheVariants as ends
-use Rattle.conn_serve.specs.Connections.{LinkSeen, IsOver, ByClock, Connection, turned, all_of, IsConnection, HasEnded, AllEnded, Follows, IsFollowed, AreFollowed, adds_of, refused_of_all, wanted_of_all}
+use Rattle.conn_serve.specs.Connections.{LinkSeen, IsOver, ByClock, Connection, turned, all_of, IsFaithfulLeg, IsConnection, HasEnded, AllEnded, Follows, IsFollowed, AreFollowed, adds_of, refused_of_all, wanted_of_all}
 use Rattle.conn_serve.specs.Lines.{news_lines, close_line, lines_from}
 use Rattle.conn_serve.specs.Causes.{lacks, lacks_at, TellsUntil, TellsNews, TellsAll}
 use Rattle.conn_serve.specs.Moments.{LifeAt}
@@ -62,6 +62,7 @@ IsNext carried old new (Ok (Some link)) = IsNextLink carried link old new
 IsNext carried old new (Ok None) = new ≡ old
 IsNext carried old new (Err faults.Output) = ⊥
 IsNext carried old new (Err faults.Journal) = ⊥
+IsNext carried old new (Err (faults.Changed at)) = ⊥
 IsNext carried old new (Err faults.Dial) = new ≡ old
 IsNext carried old new (Err (faults.Unfinished phase)) = (new ≡ old) × IfSome new (λ t. t.left ≡ 0)
 IsNext carried old new (Err (faults.Rejected template code)) = ⊥
@@ -96,6 +97,7 @@ IsLifeAnswer seen seen' m dialed' ended given (Ok ends.Finished) = (given ≡ No
 IsLifeAnswer seen seen' m dialed' ended given (Ok ends.Stopped) = All IsFollowed ended
 IsLifeAnswer seen seen' m dialed' ended given (Err faults.Output) = ⊤
 IsLifeAnswer seen seen' m dialed' ended given (Err faults.Journal) = All IsFollowed ended × (c : Connection) × (given ≡ Some c) × IsSome c.leg.cut
+IsLifeAnswer seen seen' m dialed' ended given (Err (faults.Changed at)) = All IsFollowed ended × (c : Connection) × (given ≡ Some c) × IsSome c.leg.cut
 IsLifeAnswer seen seen' m dialed' ended given (Err faults.Dial) = All IsFollowed ended × (given ≡ None)
 IsLifeAnswer seen seen' m dialed' ended given (Err (faults.Unfinished phase)) = All IsFollowed ended × (given ≡ None) × (phase ≡ phase_of m)
     × IfSome dialed' (λ t. t.left ≡ 0)
@@ -112,9 +114,10 @@ lacks_lines (Err fault) = lacks fault
 
 module _ {J : Type 0} {G : Ghosts J} where
   -- Connections ended, one behind another, and a last one was given up, if one was; each but the last was followed by the next, and all were
-  -- in time. The inbox gained what they add; OUT took their lines, numbered from 1; and their links came back. At Full the inbox's journal has no room for
-  -- the record of the frame that was refused on the last one
-  pub record ServedLife (old new : LifeAt J G) (m : State) (result : Result LifeEnd ServeFault) : Type 0 where
+  -- in time; what they sent of an outbox whose disks tell their content is what was seen of it. The inbox gained what they add; OUT took their
+  -- lines, numbered from 1; and their links came back. At Full the inbox's journal has no room for the record of the frame that was refused on
+  -- the last one
+  pub record ServedLife (told : Type 0) (old new : LifeAt J G) (m : State) (result : Result LifeEnd ServeFault) : Type 0 where
     pub ended : List Connection
     pub given_up : Option Connection
     pub behind : History
@@ -123,6 +126,7 @@ module _ {J : Type 0} {G : Ghosts J} where
     pub gave_up : WasGivenUp behind new.seen mid given_up
     pub followed : AreFollowed (all_of ended given_up)
     pub timely : AllByRecursion IsTimely (turned (all_of ended given_up))
+    pub faithful : told → AllByRecursion IsFaithfulLeg (turned (all_of ended given_up))
     pub refuses : Refuses old.box new.box (adds_of (all_of ended given_up)) (refused_of_all (option_to_list given_up))
     pub lines : TellsAll (lacks_lines result) old.out new.out (lines_from 1 (all_of ended given_up))
     pub came : AllCame old.dialed new.dialed (carried_by (all_of ended given_up))
@@ -132,42 +136,45 @@ module _ {J : Type 0} {G : Ghosts J} where
         → IsPast (limits_of new.box).bytes bytes (wanted_of_all (option_to_list given_up))
 
   -- so it was over links of a dialer, one behind another, by a clock that gave these moments last before and behind them
-  pub record ServedOver {L : Type 0} (G' : LinkGhosts L) (before behind : ℕ) (old new : LifeAt J G) (m : State) (result : Result LifeEnd ServeFault)
-      : Type 0 where
-    pub life : ServedLife old new m result
+  pub record ServedOver {L : Type 0} (told : Type 0) (G' : LinkGhosts L) (before behind : ℕ) (old new : LifeAt J G) (m : State)
+      (result : Result LifeEnd ServeFault) : Type 0 where
+    pub life : ServedLife told old new m result
     pub links : AllByRecursion (λ (c : Connection). IsOver G' c.link) (all_of life.ended life.given_up)
     pub clock : ByClock before behind (all_of life.ended life.given_up)
 
   -- connections that ended so far, each followed by the next
-  pub record Lived (old new : LifeAt J G) (m m' : State) (ended : List Connection) : Type 0 where
+  pub record Lived (told : Type 0) (old new : LifeAt J G) (m m' : State) (ended : List Connection) : Type 0 where
     pub were : AllEnded old.seen new.seen m m' ended
     pub gains : Gains old.box new.box (adds_of ended)
     pub lines : Appends old.out new.out (lines_from 1 ended)
     pub came : AllCame old.dialed new.dialed (carried_by ended)
     pub tells : IsTrue (is_some old.dialed) → All IsTold ended
     pub timely : AllByRecursion IsTimely (turned ended)
+    pub faithful : told → AllByRecursion IsFaithfulLeg (turned ended)
     pub followed : All IsFollowed ended
 
   -- the connection of the number n ended so, over a link of which this is known
-  pub record EndedOne (over : LinkSeen → Type 0) (n : ℕ) (lacking : Bool) (old new : LifeAt J G) (m m' : State) (close : Close) : Type 0 where
+  pub record EndedOne (told : Type 0) (over : LinkSeen → Type 0) (n : ℕ) (lacking : Bool) (old new : LifeAt J G) (m m' : State) (close : Close) : Type 0 where
     pub connection : Connection
     pub link : over connection.link
     pub closed : connection.close ≡ Some close
     pub ended : HasEnded old.seen new.seen m m' connection
     pub timely : IsTimely connection.leg
+    pub faithful : told → IsFaithfulLeg connection.leg
     pub gains : Gains old.box new.box connection.adds
     pub lines : TellsUntil lacking old.out new.out (news_lines connection.news) (close_line n connection.close)
     pub came : AllCame old.dialed new.dialed (connection.carried ∷ [])
     pub tells : IsTrue (is_some old.dialed) → IsTold connection
 
   -- a connection was given up: its link carried exactly the bytes that were given and sent in its turns
-  pub record GaveOneUp (over : LinkSeen → Type 0) (why : Option ServeFault) (old new : LifeAt J G) (m : State) : Type 0 where
+  pub record GaveOneUp (told : Type 0) (over : LinkSeen → Type 0) (why : Option ServeFault) (old new : LifeAt J G) (m : State) : Type 0 where
     pub connection : Connection
     pub link : over connection.link
     pub unclosed : connection.close ≡ None
     pub last : Line
     pub is : IsConnection old.seen new.seen m last connection
     pub timely : IsTimely connection.leg
+    pub faithful : told → IsFaithfulLeg connection.leg
     pub carried : HasCarried connection.carried (given_on connection.leg) (sent_on connection.leg)
     pub refuses : Refuses old.box new.box connection.adds connection.refused
     pub lines : TellsNews (lacks_at why) old.out new.out connection.news
@@ -176,6 +183,7 @@ module _ {J : Type 0} {G : Ghosts J} where
     pub spent : why ≡ Some faults.Turns → IsSpent last connection.leg.turns connection.leg.cut
     pub cut_short : (why ≡ Some faults.Journal → IsSome connection.leg.cut)
         × ((entries bytes : ℕ) → why ≡ Some (faults.Full entries bytes) → IsSome connection.leg.cut)
+    pub cut_changed : (at : ℕ) → why ≡ Some (faults.Changed at) → IsSome connection.leg.cut
     pub past : (entries bytes : ℕ) → why ≡ Some (faults.Full entries bytes) → IsPast (limits_of new.box).bytes bytes connection.wanted
 
   -- no connection was made
@@ -187,15 +195,19 @@ module _ {J : Type 0} {G : Ghosts J} where
     pub same_box : Gains old.box new.box []
 
   -- One round of a life, for the connection of the number n, as it answers: None where the next one follows
-  abbrev pub IsRound : (over : LinkSeen → Type 0) (n : ℕ) (old new : LifeAt J G) (m m' : State) → Result (Option LifeEnd) ServeFault → Type 0
-  IsRound over n old new m m' (Ok None) = (close : Close) × Follows close × EndedOne over n false old new m m' close
-  IsRound over n old new m m' (Ok (Some ends.Finished)) = EndedOne over n false old new m m' (closes.Ended endings.Finished)
-  IsRound over n old new m m' (Ok (Some ends.Stopped)) = GaveOneUp over None old new m ⊎ MadeNone old new m m'
-  IsRound over n old new m m' (Err faults.Output) = ((close : Close) × EndedOne over n true old new m m' close) ⊎ GaveOneUp over (Some faults.Output) old new m
-  IsRound over n old new m m' (Err faults.Journal) = GaveOneUp over (Some faults.Journal) old new m
-  IsRound over n old new m m' (Err faults.Dial) = MadeNone old new m m'
-  IsRound over n old new m m' (Err (faults.Unfinished phase)) = MadeNone old new m m' × (phase ≡ phase_of m) × IfSome new.dialed (λ t. t.left ≡ 0)
-  IsRound over n old new m m' (Err (faults.Rejected template code)) = EndedOne over n false old new m m' (closes.Ended (endings.Rejected template code))
-  IsRound over n old new m m' (Err (faults.Full entries bytes)) = GaveOneUp over (Some (faults.Full entries bytes)) old new m
-  IsRound over n old new m m' (Err faults.Turns) = GaveOneUp over (Some faults.Turns) old new m
-  IsRound over n old new m m' (Err faults.Memory) = ((close : Close) × EndedOne over n true old new m m' close) ⊎ GaveOneUp over (Some faults.Memory) old new m
+  abbrev pub IsRound : (told : Type 0) (over : LinkSeen → Type 0) (n : ℕ) (old new : LifeAt J G) (m m' : State) → Result (Option LifeEnd) ServeFault → Type 0
+  IsRound told over n old new m m' (Ok None) = (close : Close) × Follows close × EndedOne told over n false old new m m' close
+  IsRound told over n old new m m' (Ok (Some ends.Finished)) = EndedOne told over n false old new m m' (closes.Ended endings.Finished)
+  IsRound told over n old new m m' (Ok (Some ends.Stopped)) = GaveOneUp told over None old new m ⊎ MadeNone old new m m'
+  IsRound told over n old new m m' (Err faults.Output) = ((close : Close) × EndedOne told over n true old new m m' close)
+      ⊎ GaveOneUp told over (Some faults.Output) old new m
+  IsRound told over n old new m m' (Err faults.Journal) = GaveOneUp told over (Some faults.Journal) old new m
+  IsRound told over n old new m m' (Err (faults.Changed at)) = GaveOneUp told over (Some (faults.Changed at)) old new m
+  IsRound told over n old new m m' (Err faults.Dial) = MadeNone old new m m'
+  IsRound told over n old new m m' (Err (faults.Unfinished phase)) = MadeNone old new m m' × (phase ≡ phase_of m) × IfSome new.dialed (λ t. t.left ≡ 0)
+  IsRound told over n old new m m' (Err (faults.Rejected template code)) =
+      EndedOne told over n false old new m m' (closes.Ended (endings.Rejected template code))
+  IsRound told over n old new m m' (Err (faults.Full entries bytes)) = GaveOneUp told over (Some (faults.Full entries bytes)) old new m
+  IsRound told over n old new m m' (Err faults.Turns) = GaveOneUp told over (Some faults.Turns) old new m
+  IsRound told over n old new m m' (Err faults.Memory) = ((close : Close) × EndedOne told over n true old new m m' close)
+      ⊎ GaveOneUp told over (Some faults.Memory) old new m

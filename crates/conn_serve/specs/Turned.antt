@@ -6,13 +6,13 @@ use Rattle.session_model.specs.Journal.{BeginsHistory}
 use Rattle.session_model.specs.Inbox.{InboxRecord}
 use Rattle.fixp_machine.specs.Machine.{State}
 use Rattle.gw_links.specs.Links.{Moved}
-use Rattle.jr_record.specs.declared.journal.Journal.{Ghosts}
-use Rattle.jr_boxes.specs.declared.inbox.Inbox.{Inbox}
-use Rattle.jr_boxes.specs.Inbox.{limits_of}
+use Rattle.jr_dated.specs.declared.journal.Journal.{Ghosts}
+use Rattle.jr_kept.specs.declared.inbox.Inbox.{Inbox}
+use Rattle.jr_kept.specs.Inbox.{limits_of}
 use Rattle.gate_turn.specs.Views.{Part}
 use Rattle.conn_turns.specs.declared.news.NewsItem.{NewsItem}
 use Rattle.conn_turns.specs.Lines.{Line}
-use Rattle.conn_turns.specs.Turns.{Turn}
+use Rattle.conn_turns.specs.Turns.{Turn, IsFaithful}
 use Rattle.conn_turns.specs.declared.answer.TurnFault.{TurnFault}
 use Rattle.conn_steps.specs.Settling.{IsPast, Gains, Refuses}
 use Rattle.conn_steps.specs.Agreeing.{Agrees}
@@ -39,14 +39,15 @@ pub record IsSpent (last : Line) (turns : List Turn) (cut : Option Turn) : Type 
 
 module _ {J : Type 0} {G : Ghosts J} where
   -- so many whole turns were made, in time: what they told stands on OUT, what they add in the inbox, and the link moved what was given
-  -- and sent in them
-  pub record Turned (eager : Bool) (old new : ConnectionAt J G) (count : ℕ) : Type 0 where
+  -- and sent in them; and what they sent of an outbox whose disk tells its content is what was seen of it
+  pub record Turned (tells : Type 0) (eager : Bool) (old new : ConnectionAt J G) (count : ℕ) : Type 0 where
     pub turns : List Turn
     pub news : List NewsItem
     pub adds : List InboxRecord
     pub many : length turns ≡ count
     pub were : WereTurns eager (turn_in old) (turn_in new) turns news adds
     pub timely : AllByRecursion IsTimelyTurn turns
+    pub faithful : tells → AllByRecursion IsFaithful turns
     pub gains : Gains old.box new.box adds
     pub moved : Moved old.told new.told old.carried new.carried (flat_map given_in turns) (flat_map sent_in turns)
     pub lines : Appends old.out new.out (news_lines news)
@@ -60,7 +61,7 @@ module _ {J : Type 0} {G : Ghosts J} where
   -- Behind whole turns it was given up, for this fault, or because it was told to stop; a turn behind them was cut short, if one was. The
   -- link moved what was given and sent in all of them, which were in time. At Full the inbox's journal has no room for the one record
   -- that was wanted
-  pub record GivenUp (eager : Bool) (why : Option ServeFault) (old new : ConnectionAt J G) : Type 0 where
+  pub record GivenUp (tells : Type 0) (eager : Bool) (why : Option ServeFault) (old new : ConnectionAt J G) : Type 0 where
     pub behind : TurnAt
     pub turns : List Turn
     pub news : List NewsItem
@@ -74,12 +75,14 @@ module _ {J : Type 0} {G : Ghosts J} where
     pub wanted : List InboxRecord
     pub is_cut : CutAt eager behind (turn_in new) cut cut_told cut_added refused wanted
     pub timely : AllByRecursion IsTimelyTurn (turns ++ option_to_list cut)
+    pub faithful : tells → AllByRecursion IsFaithful turns
     pub moved : Moved old.told new.told old.carried new.carried (flat_map given_in (turns ++ option_to_list cut))
         (flat_map sent_in (turns ++ option_to_list cut))
     pub refuses : Refuses old.box new.box (adds ++ cut_added) refused
     pub lines : TellsNews (lacks_at why) old.out new.out (news ++ cut_told)
     pub spent : why ≡ Some faults.Turns → IsSpent behind.line turns cut
     pub cut_short : (why ≡ Some faults.Journal → IsSome cut) × ((entries bytes : ℕ) → why ≡ Some (faults.Full entries bytes) → IsSome cut)
+    pub cut_changed : (at : ℕ) → why ≡ Some (faults.Changed at) → IsSome cut
     pub past : (entries bytes : ℕ) → why ≡ Some (faults.Full entries bytes) → IsPast (limits_of new.box).bytes bytes wanted
 
   -- the next connection may begin of this machine, with this pass and this inbox
@@ -98,16 +101,16 @@ module _ {J : Type 0} {G : Ghosts J} where
     pub later : old.clock ≤ clock
 
   -- a connection began in the machine's state, in time, and its whole turns were made
-  pub record TurnedOn (eager : Bool) (old new : ConnectionAt J G) : Type 0 where
+  pub record TurnedOn (tells : Type 0) (eager : Bool) (old new : ConnectionAt J G) : Type 0 where
     pub moment : ℕ
     pub clock : ℕ
     pub began : Begins old moment clock
     pub count : ℕ
-    pub turned : Turned eager (record old { clock = clock; line = first_line old.line.machine moment }) new count
+    pub turned : Turned tells eager (record old { clock = clock; line = first_line old.line.machine moment }) new count
 
   -- a connection began in the machine's state, in time, and was given up
-  pub record GivenUpOn (eager : Bool) (why : Option ServeFault) (old new : ConnectionAt J G) : Type 0 where
+  pub record GivenUpOn (tells : Type 0) (eager : Bool) (why : Option ServeFault) (old new : ConnectionAt J G) : Type 0 where
     pub moment : ℕ
     pub clock : ℕ
     pub began : Begins old moment clock
-    pub given_up : GivenUp eager why (record old { clock = clock; line = first_line old.line.machine moment }) new
+    pub given_up : GivenUp tells eager why (record old { clock = clock; line = first_line old.line.machine moment }) new

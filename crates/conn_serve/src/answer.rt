@@ -28,6 +28,9 @@ pub enum ServeFault {
     /// A call of the disk of the inbox or of the outbox failed, now or since its opening.
     #[error("a journal's disk failed")]
     Journal,
+    /// The outbox's disk gave another record than was written at this index, from 0 on.
+    #[error("record {at} of the outbox has changed")]
+    Changed { at: u64 },
     /// The dialer failed: it gave no further connection.
     #[error("the dialer failed")]
     Dial,
@@ -57,6 +60,7 @@ pub(crate) fn close_of(answer: Result<TurnEnd, TurnFault>) -> Result<Option<Clos
         Ok(TurnEnd::Ended(ending)) => Ok(Some(Close::Ended(ending))),
         Err(TurnFault::Link) => Ok(Some(Close::LinkFault)),
         Err(TurnFault::Inbox | TurnFault::Outbox | TurnFault::Broken) => Err(ServeFault::Journal),
+        Err(TurnFault::Changed { at }) => Err(ServeFault::Changed { at }),
         Err(TurnFault::Full { entries, bytes }) => Err(ServeFault::Full { entries, bytes }),
         Err(TurnFault::Memory) => Err(ServeFault::Memory),
     }
@@ -93,8 +97,11 @@ fn yields_to(fault: ServeFault, refusal: ServeFault) -> bool
     match fault {
         ServeFault::Unfinished { .. } | ServeFault::Rejected { .. } | ServeFault::Turns => true,
         ServeFault::Dial => matches!(refusal, ServeFault::Journal),
-        ServeFault::Output | ServeFault::Journal | ServeFault::Full { .. } | ServeFault::Memory =>
-            false,
+        ServeFault::Output
+        | ServeFault::Journal
+        | ServeFault::Changed { .. }
+        | ServeFault::Full { .. }
+        | ServeFault::Memory => false,
     }
 }
 

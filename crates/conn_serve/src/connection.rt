@@ -1,7 +1,7 @@
 //! One connection: its turns, one after another, until it ends, is told to stop, or is given up.
 
 ghost use Rattle.std.specs.Prelude.{◌≡◌, ℕ, ◌<◌, ◌≤◌, ◌^◌, [], All, Ok, Some, None, IfOk, IfErr, OnOk};
-ghost use Rattle.jr_boxes.specs.Inbox.{faults_of};
+ghost use Rattle.jr_kept.specs.Inbox.{faults_of};
 ghost use Rattle.gate_turn.specs.Places.{known};
 ghost use Rattle.gate_turn.specs.Calls.{IsFree};
 ghost use Rattle.gate_senders.specs.Gate.{IsPassAt};
@@ -32,8 +32,8 @@ use gate_senders::{Gate, Kept};
 use gate_turn::Pass;
 use gw_links::{Clock, Link};
 use gw_outside::Sink;
-use jr_boxes::Inbox;
-use jr_record::Journal;
+use jr_dated::Journal;
+use jr_kept::Inbox;
 use std::sync::Wait;
 use std::sync::atomic::Ordering;
 
@@ -50,13 +50,13 @@ fn make_turn<L: Link, O: Journal, I: Journal, C: Clock, R: Wait>(
     requires may { MayTurn end.old }
     requires place { (line_in end.old).place < 2 ^ 63 }
     ensures stays { Stays end.old end.new }
-    ensures whole { OnOk result (WasTurn L.eager (C.last end.old.clock.now) (C.last end.new.clock.now) (in_turn (L.told link.old) (L.carried link.old) end.old []) (in_turn (L.told link.new) (L.carried link.new) end.new (items_of news.new))) }
+    ensures whole { OnOk result (WasTurn O.tells L.eager (C.last end.old.clock.now) (C.last end.new.clock.now) (in_turn (L.told link.old) (L.carried link.old) end.old []) (in_turn (L.told link.new) (L.carried link.new) end.new (items_of news.new))) }
     ensures cut { IfErr result (CutOff L.eager (C.last end.old.clock.now) (C.last end.new.clock.now) (in_turn (L.told link.old) (L.carried link.old) end.old []) (in_turn (L.told link.new) (L.carried link.new) end.new (items_of news.new))) }
     ensures short { All IsShort (items_of news.new) }
     ensures goes { result ≡ Ok None → MayTurn end.new }
     ensures closed { (close : Close) → result ≡ Ok (Some close) → ClosesAs close (line_in end.new).machine.ending }
     ensures leaves { OnOk result (Leaves (line_in end.new).machine (pass_in end.new) end.new.inbox.now) }
-    ensures blamed { IfErr result (IsBlamed (faults_in_end 0 0 end.old) (faults_in_end 0 0 end.new)) }
+    ensures blamed { IfErr result (IsBlamed O.tells (faults_in_end 0 0 end.old) (faults_in_end 0 0 end.new)) }
     ensures of_turn { IfErr result IsOfTurn }
     ensures place { L.place link.new ≡ L.place link.old }
     ensures lost { result ≡ Ok (Some closes.LinkFault) → HasRisen (L.faults link.old) (L.faults link.new) }
@@ -77,12 +77,12 @@ fn turn_once<L: Link, K: Sink, O: Journal, I: Journal, C: Clock, R: Wait>(
     requires may { MayTurn end.old }
     requires place { (line_in end.old).place < 2 ^ 63 }
     ensures stays { Stays end.old end.new }
-    ensures turned { OnOk result (Turned L.eager (connection_in (L.told link.old) (L.carried link.old) (K.taken out.old) end.old) (connection_in (L.told link.new) (L.carried link.new) (K.taken out.new) end.new) 1) }
+    ensures turned { OnOk result (Turned O.tells L.eager (connection_in (L.told link.old) (L.carried link.old) (K.taken out.old) end.old) (connection_in (L.told link.new) (L.carried link.new) (K.taken out.new) end.new) 1) }
     ensures goes { result ≡ Ok None → MayTurn end.new }
     ensures closed { (close : Close) → result ≡ Ok (Some close) → ClosesAs close (line_in end.new).machine.ending }
     ensures leaves { OnOk result (Leaves (line_in end.new).machine (pass_in end.new) end.new.inbox.now) }
-    ensures given_up { IfErr result (λ fault. GivenUp L.eager (Some fault) (connection_in (L.told link.old) (L.carried link.old) (K.taken out.old) end.old) (connection_in (L.told link.new) (L.carried link.new) (K.taken out.new) end.new)) }
-    ensures blamed { IfErr result (IsBlamed (faults_in_end (K.faults out.old) 0 end.old) (faults_in_end (K.faults out.new) 0 end.new)) }
+    ensures given_up { IfErr result (λ fault. GivenUp O.tells L.eager (Some fault) (connection_in (L.told link.old) (L.carried link.old) (K.taken out.old) end.old) (connection_in (L.told link.new) (L.carried link.new) (K.taken out.new) end.new)) }
+    ensures blamed { IfErr result (IsBlamed O.tells (faults_in_end (K.faults out.old) 0 end.old) (faults_in_end (K.faults out.new) 0 end.new)) }
     ensures of_turn { IfErr result IsOfTurn }
     ensures never_falls { K.faults out.old ≤ K.faults out.new }
     ensures place { L.place link.new ≡ L.place link.old }
@@ -110,12 +110,12 @@ fn one_connection<L: Link, K: Sink, O: Journal, I: Journal, C: Clock, R: Wait>(
 ) -> Result<Option<Close>, ServeFault>
     requires may { MayBegin (line_in end.old).machine (pass_in end.old) end.old.inbox.now }
     ensures stays { Stays end.old end.new }
-    ensures turned { (close : Close) → result ≡ Ok (Some close) → TurnedOn L.eager (connection_in (L.told link.old) (L.carried link.old) (K.taken out.old) end.old) (connection_in (L.told link.new) (L.carried link.new) (K.taken out.new) end.new) }
+    ensures turned { (close : Close) → result ≡ Ok (Some close) → TurnedOn O.tells L.eager (connection_in (L.told link.old) (L.carried link.old) (K.taken out.old) end.old) (connection_in (L.told link.new) (L.carried link.new) (K.taken out.new) end.new) }
     ensures closed { (close : Close) → result ≡ Ok (Some close) → ClosesAs close (line_in end.new).machine.ending }
     ensures leaves { (close : Close) → result ≡ Ok (Some close) → Leaves (line_in end.new).machine (pass_in end.new) end.new.inbox.now }
-    ensures stopped { result ≡ Ok None → GivenUpOn L.eager None (connection_in (L.told link.old) (L.carried link.old) (K.taken out.old) end.old) (connection_in (L.told link.new) (L.carried link.new) (K.taken out.new) end.new) }
-    ensures given_up { IfErr result (λ fault. GivenUpOn L.eager (Some fault) (connection_in (L.told link.old) (L.carried link.old) (K.taken out.old) end.old) (connection_in (L.told link.new) (L.carried link.new) (K.taken out.new) end.new)) }
-    ensures blamed { IfErr result (IsBlamed (faults_in_end (K.faults out.old) 0 end.old) (faults_in_end (K.faults out.new) 0 end.new)) }
+    ensures stopped { result ≡ Ok None → GivenUpOn O.tells L.eager None (connection_in (L.told link.old) (L.carried link.old) (K.taken out.old) end.old) (connection_in (L.told link.new) (L.carried link.new) (K.taken out.new) end.new) }
+    ensures given_up { IfErr result (λ fault. GivenUpOn O.tells L.eager (Some fault) (connection_in (L.told link.old) (L.carried link.old) (K.taken out.old) end.old) (connection_in (L.told link.new) (L.carried link.new) (K.taken out.new) end.new)) }
+    ensures blamed { IfErr result (IsBlamed O.tells (faults_in_end (K.faults out.old) 0 end.old) (faults_in_end (K.faults out.new) 0 end.new)) }
     ensures of_connection { IfErr result IsOfConnection }
     ensures never_falls { K.faults out.old ≤ K.faults out.new }
     ensures place { L.place link.new ≡ L.place link.old }
@@ -157,12 +157,12 @@ pub(crate) fn lent_connection<L: Link, K: Sink, O: Journal, I: Journal, C: Clock
     ensures own { IsPassAt gate.now pass.new }
     ensures free { IsFree pass.new }
     ensures looks { Looks (known pass.old) (known pass.new) }
-    ensures turned { (close : Close) → result ≡ Ok (Some close) → TurnedOn L.eager (connection_at (L.told link.old) (L.carried link.old) (K.taken out.old) (known pass.old).seen (C.last clock.old) (line_of conn.old) inbox.old) (connection_at (L.told link.new) (L.carried link.new) (K.taken out.new) (known pass.new).seen (C.last clock.new) (line_of conn.new) inbox.new) }
+    ensures turned { (close : Close) → result ≡ Ok (Some close) → TurnedOn O.tells L.eager (connection_at (L.told link.old) (L.carried link.old) (K.taken out.old) (known pass.old).seen (C.last clock.old) (line_of conn.old) inbox.old) (connection_at (L.told link.new) (L.carried link.new) (K.taken out.new) (known pass.new).seen (C.last clock.new) (line_of conn.new) inbox.new) }
     ensures closed { (close : Close) → result ≡ Ok (Some close) → ClosesAs close (line_of conn.new).machine.ending }
     ensures leaves { (close : Close) → result ≡ Ok (Some close) → Leaves (line_of conn.new).machine (known pass.new) inbox.new }
-    ensures stopped { result ≡ Ok None → GivenUpOn L.eager None (connection_at (L.told link.old) (L.carried link.old) (K.taken out.old) (known pass.old).seen (C.last clock.old) (line_of conn.old) inbox.old) (connection_at (L.told link.new) (L.carried link.new) (K.taken out.new) (known pass.new).seen (C.last clock.new) (line_of conn.new) inbox.new) }
-    ensures given_up { IfErr result (λ fault. GivenUpOn L.eager (Some fault) (connection_at (L.told link.old) (L.carried link.old) (K.taken out.old) (known pass.old).seen (C.last clock.old) (line_of conn.old) inbox.old) (connection_at (L.told link.new) (L.carried link.new) (K.taken out.new) (known pass.new).seen (C.last clock.new) (line_of conn.new) inbox.new)) }
-    ensures blamed { IfErr result (IsBlamed (faults_at (K.faults out.old) 0 (known pass.old) inbox.old) (faults_at (K.faults out.new) 0 (known pass.new) inbox.new)) }
+    ensures stopped { result ≡ Ok None → GivenUpOn O.tells L.eager None (connection_at (L.told link.old) (L.carried link.old) (K.taken out.old) (known pass.old).seen (C.last clock.old) (line_of conn.old) inbox.old) (connection_at (L.told link.new) (L.carried link.new) (K.taken out.new) (known pass.new).seen (C.last clock.new) (line_of conn.new) inbox.new) }
+    ensures given_up { IfErr result (λ fault. GivenUpOn O.tells L.eager (Some fault) (connection_at (L.told link.old) (L.carried link.old) (K.taken out.old) (known pass.old).seen (C.last clock.old) (line_of conn.old) inbox.old) (connection_at (L.told link.new) (L.carried link.new) (K.taken out.new) (known pass.new).seen (C.last clock.new) (line_of conn.new) inbox.new)) }
+    ensures blamed { IfErr result (IsBlamed O.tells (faults_at (K.faults out.old) 0 (known pass.old) inbox.old) (faults_at (K.faults out.new) 0 (known pass.new) inbox.new)) }
     ensures of_connection { IfErr result IsOfConnection }
     ensures kind { SameKind inbox.old inbox.new }
     ensures never_falls { (faults_of inbox.old ≤ faults_of inbox.new) × (K.faults out.old ≤ K.faults out.new) }

@@ -3,7 +3,7 @@
 ghost use Rattle.std.specs.Prelude.{◌≡◌, ◌≤◌, true, false, is_some, OnErr, Ok, Some, None, Err, IfOk, IfErr, IfSome, OnOk};
 ghost use Rattle.gw_outside.specs.Faults.{HasRisen};
 ghost use Rattle.fixp_machine.specs.Machine.{phase_of};
-ghost use Rattle.jr_boxes.specs.Inbox.{faults_of};
+ghost use Rattle.jr_kept.specs.Inbox.{faults_of};
 ghost use Rattle.gate_turn.specs.Places.{known};
 ghost use Rattle.gate_turn.specs.Calls.{IsFree};
 ghost use Rattle.gate_senders.specs.Gate.{IsPassAt};
@@ -27,8 +27,8 @@ use gate_senders::{Gate, Kept};
 use gate_turn::Pass;
 use gw_links::{Clock, Dialer, Next};
 use gw_outside::Sink;
-use jr_boxes::Inbox;
-use jr_record::Journal;
+use jr_dated::Journal;
+use jr_kept::Inbox;
 use std::alloc::Global;
 use std::sync::Wait;
 use std::sync::atomic::Ordering;
@@ -94,9 +94,9 @@ fn serve_next<N: Dialer, K: Sink, O: Journal, I: Journal, C: Clock, R: Wait>(
     ensures free { IsFree pass.new }
     ensures looks { Looks (known pass.old) (known pass.new) }
     ensures lent { N.lent dialer.new ≡ false }
-    ensures round { IsRound (IsOverBy N.Link.Link (C.last clock.old) (C.last clock.new)) number (life_at (N.told dialer.old) (K.taken out.old) (known pass.old).seen inbox.old) (life_at (N.told dialer.new) (K.taken out.new) (known pass.new).seen inbox.new) (line_of conn.old).machine (line_of conn.new).machine result }
+    ensures round { IsRound O.tells (IsOverBy N.Link.Link (C.last clock.old) (C.last clock.new)) number (life_at (N.told dialer.old) (K.taken out.old) (known pass.old).seen inbox.old) (life_at (N.told dialer.new) (K.taken out.new) (known pass.new).seen inbox.new) (line_of conn.old).machine (line_of conn.new).machine result }
     ensures goes { result ≡ Ok None → MayBegin (line_of conn.new).machine (known pass.new) inbox.new }
-    ensures blamed { IfErr result (IsBlamed (faults_at (K.faults out.old) (N.faults dialer.old) (known pass.old) inbox.old) (faults_at (K.faults out.new) (N.faults dialer.new) (known pass.new) inbox.new)) }
+    ensures blamed { IfErr result (IsBlamed O.tells (faults_at (K.faults out.old) (N.faults dialer.old) (known pass.old) inbox.old) (faults_at (K.faults out.new) (N.faults dialer.new) (known pass.new) inbox.new)) }
     ensures kind { SameKind inbox.old inbox.new }
     ensures never_falls { (faults_of inbox.old ≤ faults_of inbox.new) × (K.faults out.old ≤ K.faults out.new) × (N.faults dialer.old ≤ N.faults dialer.new) }
     ensures told { C.told clock.new ≡ C.told clock.old }
@@ -133,7 +133,7 @@ fn serve_next<N: Dialer, K: Sink, O: Journal, I: Journal, C: Clock, R: Wait>(
 ///
 /// # Errors
 /// `Unfinished` where no connection is left; `Rejected` where the last one ended so; `Turns` where one took 2^40 turns;
-/// `Journal`, `Full` and `Memory` where a turn answered so; `Output`, `Dial`, and `Memory` also for the lines.
+/// `Journal`, `Changed`, `Full` and `Memory` where a turn answered so; `Output`, `Dial`, and `Memory` also for the lines.
 pub fn serve_connections<N: Dialer, K: Sink, O: Journal, I: Journal, C: Clock, R: Wait>(
     alloc: Global,
     dialer: &mut N,
@@ -154,8 +154,8 @@ pub fn serve_connections<N: Dialer, K: Sink, O: Journal, I: Journal, C: Clock, R
     ensures free { IsFree pass.new }
     ensures looks { Looks (known pass.old) (known pass.new) }
     ensures lent { N.lent dialer.new ≡ false }
-    ensures served { ServedOver N.Link.Link (C.last clock.old) (C.last clock.new) (life_at (N.told dialer.old) (K.taken out.old) (known pass.old).seen inbox.old) (life_at (N.told dialer.new) (K.taken out.new) (known pass.new).seen inbox.new) (line_of conn.old).machine result }
-    ensures blamed { IfErr result (IsBlamed (faults_at (K.faults out.old) (N.faults dialer.old) (known pass.old) inbox.old) (faults_at (K.faults out.new) (N.faults dialer.new) (known pass.new) inbox.new)) }
+    ensures served { ServedOver O.tells N.Link.Link (C.last clock.old) (C.last clock.new) (life_at (N.told dialer.old) (K.taken out.old) (known pass.old).seen inbox.old) (life_at (N.told dialer.new) (K.taken out.new) (known pass.new).seen inbox.new) (line_of conn.old).machine result }
+    ensures blamed { IfErr result (IsBlamed O.tells (faults_at (K.faults out.old) (N.faults dialer.old) (known pass.old) inbox.old) (faults_at (K.faults out.new) (N.faults dialer.new) (known pass.new) inbox.new)) }
     ensures kind { SameKind inbox.old inbox.new }
     ensures never_falls { (faults_of inbox.old ≤ faults_of inbox.new) × (K.faults out.old ≤ K.faults out.new) × (N.faults dialer.old ≤ N.faults dialer.new) }
     ensures told { C.told clock.new ≡ C.told clock.old }
@@ -213,8 +213,8 @@ pub(crate) fn serve_then_shut<N: Dialer, K: Sink, O: Journal, I: Journal, C: Clo
     ensures free { IsFree pass.new }
     ensures looks { Looks (known pass.old) (known pass.new) }
     ensures lent { N.lent dialer.new ≡ false }
-    ensures served { ServedOver N.Link.Link (C.last clock.old) (C.last clock.new) (life_at (N.told dialer.old) (K.taken out.old) (known pass.old).seen inbox.old) (life_at (N.told dialer.new) (K.taken out.new) (known pass.new).seen inbox.new) (line_of conn.old).machine result }
-    ensures blamed { IfErr result (IsBlamed (faults_at (K.faults out.old) (N.faults dialer.old) (known pass.old) inbox.old) (faults_at (K.faults out.new) (N.faults dialer.new) (known pass.new) inbox.new)) }
+    ensures served { ServedOver O.tells N.Link.Link (C.last clock.old) (C.last clock.new) (life_at (N.told dialer.old) (K.taken out.old) (known pass.old).seen inbox.old) (life_at (N.told dialer.new) (K.taken out.new) (known pass.new).seen inbox.new) (line_of conn.old).machine result }
+    ensures blamed { IfErr result (IsBlamed O.tells (faults_at (K.faults out.old) (N.faults dialer.old) (known pass.old) inbox.old) (faults_at (K.faults out.new) (N.faults dialer.new) (known pass.new) inbox.new)) }
     ensures kind { SameKind inbox.old inbox.new }
     ensures never_falls { (faults_of inbox.old ≤ faults_of inbox.new) × (K.faults out.old ≤ K.faults out.new) × (N.faults dialer.old ≤ N.faults dialer.new) }
     ensures told { C.told clock.new ≡ C.told clock.old }

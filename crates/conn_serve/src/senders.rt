@@ -14,7 +14,7 @@ use gate_plans::{Sender, resume_turned, run_senders};
 use gate_senders::{Gate, Kept};
 use gate_turn::Pass;
 use jr_boxes::SubmitFault;
-use jr_record::Journal;
+use jr_dated::Journal;
 use std::sync::Wait;
 use std::sync::atomic::Ordering;
 use std::thread::Threads;

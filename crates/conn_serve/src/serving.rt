@@ -4,7 +4,7 @@ ghost use Rattle.std.specs.Prelude.{◌≡◌, ℕ, ◌≤◌, ◌<◌, ◌^◌,
 ghost use Rattle.session_model.specs.Journal.{BeginsHistory};
 ghost use Rattle.fixp_msgs.specs.declared.flow.Flow.TheVariants.{Recoverable};
 ghost use Rattle.fixp_machine.specs.Machine.{fresh};
-ghost use Rattle.jr_boxes.specs.Inbox.{faults_of, flow_of, next_of, is_negotiated, peer_last_of, limits_of};
+ghost use Rattle.jr_kept.specs.Inbox.{faults_of, flow_of, next_of, is_negotiated, peer_last_of, limits_of};
 ghost use Rattle.gate_turn.specs.Places.{known};
 ghost use Rattle.gate_turn.specs.Calls.{IsFree};
 ghost use Rattle.gate_senders.specs.Gate.{IsPassAt, opening_of};
@@ -30,8 +30,8 @@ use gate_senders::{Gate, Kept};
 use gate_turn::Pass;
 use gw_links::{Clock, Dialer};
 use gw_outside::Sink;
-use jr_boxes::Inbox;
-use jr_record::Journal;
+use jr_dated::Journal;
+use jr_kept::Inbox;
 use std::alloc::{AllocError, Global};
 use std::sync::Wait;
 use std::thread::{Threads, join_mut};
@@ -60,7 +60,7 @@ fn opened<O: Journal, I: Journal>(
 ) -> Result<Conn, AllocError>
     requires keepalive { (100 ≤ config.keepalive) × (config.keepalive ≤ 60000) }
     requires credentials { length config.credentials ≤ 2048 }
-    requires most { most ≤ 2 ^ 24 }
+    requires most { most ≤ 2 ^ 26 }
     requires numbered { config.peer_flow ≡ Recoverable → next_of inbox.now + 1 < 2 ^ 64 }
     requires sent { length (opening_of gate.now).history.made < 2 ^ 40 }
     ensures { IfOk result (λ conn. line_of conn ≡ new_line (fresh config (opened_state (opening_of gate.now).history inbox.now) most)) }
@@ -173,7 +173,7 @@ pub fn serve<N: Dialer, K: Sink, O: Journal + Send, I: Journal, C: Clock, R: Thr
     requires lent { N.lent dialer.old ≡ false }
     requires keepalive { (100 ≤ config.keepalive) × (config.keepalive ≤ 60000) }
     requires credentials { length config.credentials ≤ 2048 }
-    requires most { most ≤ 2 ^ 24 }
+    requires most { most ≤ 2 ^ 26 }
     requires within { most ≤ (limits_of inbox.old).entries }
     requires flow { flow_of inbox.old ≡ config.peer_flow }
     requires numbered { config.peer_flow ≡ Recoverable → next_of inbox.old + 1 < 2 ^ 64 }

@@ -6,9 +6,9 @@ use Rattle.fixp_replies.specs.Acts.{is_record}
 use Rattle.fixp_replies.specs.Incoming.{IsIncoming}
 use Rattle.fixp_machine.specs.Machine.{State, step}
 use Rattle.fixp_machine.specs.Machine as calls
-use Rattle.jr_record.specs.declared.journal.Journal.{Ghosts}
-use Rattle.jr_boxes.specs.declared.inbox.Inbox.{Inbox}
-use Rattle.jr_boxes.specs.Inbox.{limits_of}
+use Rattle.jr_dated.specs.declared.journal.Journal.{Ghosts}
+use Rattle.jr_kept.specs.declared.inbox.Inbox.{Inbox}
+use Rattle.jr_kept.specs.Inbox.{limits_of}
 use Rattle.conn_turns.specs.declared.news.NewsItem.{NewsItem}
 use Rattle.conn_turns.specs.declared.answer.TurnFault.{TurnFault}
 use Rattle.conn_turns.specs.Lines.{Line, TakenFrame, size_of, MayTake, IsNext, IsTaken, reply_at, line_after, lines_after}

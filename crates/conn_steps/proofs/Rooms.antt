@@ -1,12 +1,12 @@
 -- What an inbox gained, and what room there was, over calls one behind another.
 use Rattle.std.proofs.Common.{◌≡◌, ℕ, ◌+◌, List, [], ◌∷◌, ◌++◌, refl, sym, subst, ◌∙◌, arith, append_assoc, append-nil}
 use Rattle.session_model.specs.Inbox.{InboxRecord}
-use Rattle.jr_record.specs.declared.journal.Journal.{Ghosts}
-use Rattle.jr_record.specs.declared.limits.Limits.{Limits}
-use Rattle.jr_record.specs.Images.{record_size}
+use Rattle.jr_dated.specs.declared.journal.Journal.{Ghosts}
+use Rattle.jr_dated.specs.declared.limits.Limits.{Limits}
+use Rattle.jr_dated.specs.Images.{record_size}
 use Rattle.jr_boxes.specs.Inboxes.{record_of}
-use Rattle.jr_boxes.specs.declared.inbox.Inbox.{Inbox}
-use Rattle.jr_boxes.specs.Inbox.{HoldsBox, limits_of, size_of}
+use Rattle.jr_kept.specs.declared.inbox.Inbox.{Inbox}
+use Rattle.jr_kept.specs.Inbox.{HoldsBox, SameButMoment, limits_of, size_of}
 use Rattle.conn_steps.specs.Settling.{bytes_of, HaveRoom, Gains, Refuses}
 
 bytes_append : (rs more : List InboxRecord) → bytes_of (rs ++ more) ≡ bytes_of rs + bytes_of more
@@ -34,6 +34,22 @@ module _ {J : Type 0} {G : Ghosts J} where
     size = omega arith;
     room = tt;
   })
+
+  -- nor does it gain by a raise of its moment
+  pub gains_at : (a b c : Inbox J G) (rs : List InboxRecord) → SameButMoment a b → Gains b c rs → Gains a c rs
+  gains_at a b c rs same later = record {
+    holds = λ i h. later.holds i (same.holds i [] h);
+    limits = later.limits ∙ same.same.0;
+    size = omega (arith, same.size, later.size);
+    room = subst (λ (l : Limits). HaveRoom l.bytes (size_of a) rs) same.same.0 (subst (λ (n : ℕ). HaveRoom (limits_of b).bytes n rs) same.size later.room);
+  }
+
+  pub refuses_at : (a b c : Inbox J G) (gained refused : List InboxRecord) → SameButMoment a b → Refuses b c gained refused → Refuses a c gained refused
+  refuses_at a b c gained refused same later = record {
+    holds = λ i h. later.holds i (same.holds i [] h);
+    room = subst (λ (l : Limits). HaveRoom l.bytes (size_of a) (gained ++ refused)) same.same.0
+        (subst (λ (n : ℕ). HaveRoom (limits_of b).bytes n (gained ++ refused)) same.size later.room);
+  }
 
   pub gains_on : (a b c : Inbox J G) (rs more : List InboxRecord) → Gains a b rs → Gains b c more → Gains a c (rs ++ more)
   gains_on a b c rs more first later = record {

@@ -1,8 +1,8 @@
 -- What holds between the machine, the inbox and the outbox's pass at a turn's start and at its end (this project's profile).
 use Rattle.std.specs.Prelude.{◌≡◌, ℕ, ◌+◌, ◌*◌, ◌≤◌, true, length, None}
-use Rattle.jr_record.specs.declared.journal.Journal.{Ghosts}
-use Rattle.jr_boxes.specs.declared.inbox.Inbox.{Inbox}
-use Rattle.jr_boxes.specs.Inbox.{next_of, is_negotiated, peer_last_of, flow_of, limits_of}
+use Rattle.jr_dated.specs.declared.journal.Journal.{Ghosts}
+use Rattle.jr_kept.specs.declared.inbox.Inbox.{Inbox}
+use Rattle.jr_kept.specs.Inbox.{next_of, is_negotiated, peer_last_of, flow_of, limits_of}
 use Rattle.fixp_machine.specs.Machine.{State}
 
 -- The machine between its calls, so many frames before a turn's frames end: no act is still to be done, no moment lies ahead,

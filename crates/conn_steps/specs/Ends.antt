@@ -1,8 +1,8 @@
 -- What an end is as it takes a frame (this project's profile).
 use Rattle.std.specs.Prelude.{List}
 use Rattle.fixp_machine.specs.Machine.{State}
-use Rattle.jr_record.specs.declared.journal.Journal.{Ghosts}
-use Rattle.jr_boxes.specs.declared.inbox.Inbox.{Inbox}
+use Rattle.jr_dated.specs.declared.journal.Journal.{Ghosts}
+use Rattle.jr_kept.specs.declared.inbox.Inbox.{Inbox}
 use Rattle.conn_turns.specs.declared.news.NewsItem.{NewsItem}
 use Rattle.conn_turns.specs.Lines.{Line}
 

@@ -9,15 +9,15 @@ use Rattle.fixp_replies.specs.declared.facts.EndState.{EndState}
 use Rattle.fixp_replies.specs.Incoming.{application}
 use Rattle.fixp_machine.specs.Fitting.{CanTake, recorded_after}
 use Rattle.fixp_machine.specs.Accepting.{records_of}
-use Rattle.jr_record.specs.declared.journal.Journal.{Ghosts}
+use Rattle.jr_dated.specs.declared.journal.Journal.{Ghosts}
 use Rattle.jr_record.specs.declared.faults.AppendFault.{AppendFault}
 use Rattle.jr_record.specs.declared.faults.AppendFault.TheVariants as append
-use Rattle.jr_boxes.specs.declared.inbox.Inbox.{Inbox}
+use Rattle.jr_kept.specs.declared.inbox.Inbox.{Inbox}
 use Rattle.gw_outside.specs.Faults.{HasRisen}
-use Rattle.jr_record.specs.Images.{record_size}
+use Rattle.jr_dated.specs.Images.{record_size}
 use Rattle.jr_record.specs.Records.{is_control}
 use Rattle.jr_boxes.specs.Inboxes.{record_of}
-use Rattle.jr_boxes.specs.Inbox.{HoldsBox, next_of, is_negotiated, peer_last_of, flow_of, limits_of, size_of, faults_of, is_broken}
+use Rattle.jr_kept.specs.Inbox.{HoldsBox, next_of, is_negotiated, peer_last_of, flow_of, limits_of, size_of, faults_of, is_broken}
 use Rattle.conn_turns.specs.declared.news.NewsItem.{NewsItem}
 use Rattle.conn_turns.specs.News.{told_by}
 

@@ -2,11 +2,11 @@
 use Rattle.std.specs.Prelude.{◌≡◌, ℕ, ◌<◌, Bool, true, List, [], ◌++◌, length}
 use Rattle.gw_outside.specs.Faults.{HasRisen}
 use Rattle.session_model.specs.Inbox.{InboxRecord}
-use Rattle.jr_record.specs.declared.journal.Journal.{Ghosts}
+use Rattle.jr_dated.specs.declared.journal.Journal.{Ghosts}
 use Rattle.jr_record.specs.declared.faults.AppendFault.{AppendFault}
 use Rattle.jr_record.specs.declared.faults.AppendFault.TheVariants as append
-use Rattle.jr_boxes.specs.declared.inbox.Inbox.{Inbox}
-use Rattle.jr_boxes.specs.Inbox.{faults_of, is_broken, size_of, count_of, limits_of}
+use Rattle.jr_kept.specs.declared.inbox.Inbox.{Inbox}
+use Rattle.jr_kept.specs.Inbox.{faults_of, is_broken, size_of, count_of, limits_of}
 use Rattle.sofh_frame.specs.Framing.{Frame}
 use Rattle.fixp_replies.specs.Acts.{is_record}
 use Rattle.fixp_replies.specs.Incoming.{Incoming, IsIncoming}
@@ -29,6 +29,7 @@ abbrev pub refused_by : TurnFault → List InboxRecord → List InboxRecord
 refused_by faults.Link records = []
 refused_by faults.Inbox records = records
 refused_by faults.Outbox records = []
+refused_by (faults.Changed at) records = []
 refused_by faults.Broken records = []
 refused_by (faults.Full entries bytes) records = []
 refused_by faults.Memory records = []
@@ -39,6 +40,12 @@ fault_of count append.Broken = faults.Broken
 fault_of count (append.Full bytes) = faults.Full count bytes
 fault_of count append.Memory = faults.Memory
 fault_of count append.Fault = faults.Inbox
+
+-- the fault is neither the link's nor the outbox's
+pub record OfInbox (fault : TurnFault) : Type 0 where
+  pub no_link : fault ≡ faults.Link → ⊥
+  pub no_outbox : fault ≡ faults.Outbox → ⊥
+  pub no_change : (at : ℕ) → fault ≡ faults.Changed at → ⊥
 
 -- the machine's reply to what came at this place
 abbrev pub reply_to : ℕ → State → ℕ → Incoming → Outcome
@@ -115,4 +122,4 @@ module _ {J : Type 0} {G : Ghosts J} where
     pub risen : fault ≡ faults.Inbox → HasRisen (faults_of old) (faults_of new)
     pub broken : fault ≡ faults.Broken → is_broken new ≡ true
     pub full : (entries bytes : ℕ) → fault ≡ faults.Full entries bytes → (entries ≡ count_of new) × (bytes ≡ size_of new)
-    pub no_other : (fault ≡ faults.Link → ⊥) × (fault ≡ faults.Outbox → ⊥)
+    pub no_other : OfInbox fault

@@ -1,7 +1,7 @@
 //! A frame is answered: by the machine, and with its record in the inbox.
 
 ghost use Rattle.std.specs.Prelude.{◌≡◌, ℕ, ◌+◌, ◌^◌, ◌<◌, ◌≤◌, length, true, Ok, Err, IfErr, OnOk};
-ghost use Rattle.jr_boxes.specs.Inbox.{faults_of, is_broken, size_of, count_of};
+ghost use Rattle.jr_kept.specs.Inbox.{faults_of, is_broken, size_of, count_of};
 ghost use Rattle.conn_turns.specs.News.{items_of};
 ghost use Rattle.conn_turns.specs.Lines.{MayTake};
 ghost use Rattle.conn_steps.specs.Settling.{SameKind, Refused};
@@ -12,8 +12,9 @@ ghost use Rattle.conn_steps.specs.Ends.{answering_end};
 use crate::records::settle;
 use conn_turns::{News, TurnFault};
 use fixp_end::End;
-use jr_boxes::Inbox;
-use jr_record::{AppendFault, Journal};
+use jr_dated::Journal;
+use jr_kept::Inbox;
+use jr_record::AppendFault;
 use sbe_prim::Order;
 use std::alloc::Global;
 

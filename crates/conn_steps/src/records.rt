@@ -8,7 +8,7 @@ ghost use Rattle.fixp_msgs.specs.Payload.{IsApplication};
 ghost use Rattle.jr_record.specs.declared.faults.AppendFault.TheVariants as append;
 ghost use Rattle.fixp_replies.specs.declared.act.Act.TheVariants as acts;
 ghost use Rattle.fixp_replies.specs.Acts.{is_record};
-ghost use Rattle.jr_boxes.specs.Inbox.{next_of, limits_of, faults_of, is_broken, size_of, count_of};
+ghost use Rattle.jr_kept.specs.Inbox.{next_of, limits_of, faults_of, is_broken, size_of, count_of};
 ghost use Rattle.conn_turns.specs.News.{items_of};
 ghost use Rattle.conn_turns.specs.declared.news.NewsItem.TheVariants as news_items;
 ghost use Rattle.conn_steps.specs.Settling.{payload_at, records_at, told_at, Takes, SameKind, Settled, Refused};
@@ -16,8 +16,9 @@ ghost use Rattle.conn_steps.specs.Settling.{payload_at, records_at, told_at, Tak
 use conn_turns::{News, NewsItem};
 use fixp_replies::Act;
 use gw_outside::Bytes;
-use jr_boxes::Inbox;
-use jr_record::{AppendFault, Journal};
+use jr_dated::Journal;
+use jr_kept::Inbox;
+use jr_record::AppendFault;
 use sbe_prim::Order;
 use std::alloc::{AllocError, Global};
 

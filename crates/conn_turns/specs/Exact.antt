@@ -1,6 +1,8 @@
 -- Which turn was made of a line, exactly (this project's profile).
-use Rattle.std.specs.Prelude.{◌≡◌, ℕ, ◌<◌, ◌≤◌, Bool, List, [], ◌++◌, length, Option, Some, None, IfSome, IsTrue}
+use Rattle.std.specs.Prelude.{◌≡◌, ⊤, ℕ, ◌<◌, ◌≤◌, Bool, List, [], ◌++◌, length, Option, Some, None, IfSome, IsTrue}
+use Rattle.std.specs.List.{AllByRecursion}
 use Rattle.session_model.specs.Journal.{History, BeginsHistory}
+use Rattle.fixp_msgs.specs.Payload.{IsApplication}
 use Rattle.gw_links.specs.declared.link.Got.{Got}
 use Rattle.gw_links.specs.Links.{LinkTold, IsAnswer, count_of, gives_lesser}
 use Rattle.fixp_machine.specs.Machine.{State, run}
@@ -32,7 +34,14 @@ line_ticked old now = record old { machine = run old.machine (first_calls now) }
 abbrev pub closed_at : Line → Work → State
 closed_at l w = run (lines_after w.now l w.frames).machine (closing_calls w)
 
--- Frames were taken as far as they go, at most 16; the machine was told of what ends them, and of the outbox what was seen. What
+-- as many payloads were sent as were due, each that of an application message, and none where nothing was due
+abbrev pub IsAsDue : (due sent : Option (List (List ℕ))) → Type 0
+IsAsDue None None = ⊤
+IsAsDue None (Some sent) = ⊥
+IsAsDue (Some due) None = ⊥
+IsAsDue (Some due) (Some sent) = (length sent ≡ length due) × AllByRecursion IsApplication sent
+
+-- Frames were taken as far as they go, at most 16; the machine was told of what ends them, and of the outbox as much as was seen. What
 -- was seen of the outbox at each look begins with what was seen before it
 pub record Served (h h' : History) (l behind : Line) (w : Work) : Type 0 where
   pub frames : AreTaken w.now l w.frames
@@ -40,8 +49,10 @@ pub record Served (h h' : History) (l behind : Line) (w : Work) : Type 0 where
   pub last : IsDone (length w.frames) (lines_after w.now l w.frames)
   pub broken : w.broken ≡ unframed_at (length w.frames) (lines_after w.now l w.frames)
   pub link_over : w.link_over ≡ is_link_over (lines_after w.now l w.frames)
-  pub again : w.again ≡ served_of (served_now (closed_at l w)) w.at_again
-  pub live : w.live ≡ live_of (run (closed_at l w) (again_calls w.now w.again)) w.at_live
+  pub due_again : w.due_again ≡ served_of (served_now (closed_at l w)) w.at_again
+  pub due_live : w.due_live ≡ live_of (run (closed_at l w) (again_calls w.now w.again)) w.at_live
+  pub again : IsAsDue w.due_again w.again
+  pub live : IsAsDue w.due_live w.live
   pub finish : w.finish ≡ finish_of (closed_at l w) w.at_finish
   pub seen_again : BeginsHistory h w.at_again
   pub seen_live : BeginsHistory w.at_again w.at_live

@@ -1,5 +1,5 @@
 -- What a turn of a connection did, and the calls of the session machine that it made (this project's profile).
-use Rattle.std.specs.Prelude.{ℕ, ◌+◌, ◌-◌, ◌&&◌, Bool, true, false, not, is_some, is_none, if◌then◌else◌, List, [], ◌∷◌, ◌++◌, length, take, drop, Option, Some, None}
+use Rattle.std.specs.Prelude.{◌≡◌, ⊤, ℕ, ◌+◌, ◌-◌, ◌&&◌, Bool, true, false, not, is_some, is_none, if◌then◌else◌, List, [], ◌∷◌, ◌++◌, length, take, drop, Option, Some, None}
 use Rattle.std.specs.List.{flat_map}
 use Rattle.session_model.specs.Journal.{History, payloads}
 use Rattle.fixp_msgs.specs.declared.numbering.Range.{Range}
@@ -13,10 +13,10 @@ use Rattle.conn_turns.specs.Lines.{TakenFrame, frame_calls}
 
 -- What a turn did that did not only send. now: its moment in milliseconds. got: what its one receive found, None where the framer
 -- had no room; received: the bytes of it. frames: those that it took; broken: the machine was told of bytes that no frame begins
--- with, at this place. link_over: the machine was told that the link has ended. again, live: the payloads that were sent again
--- and sent live. at_again, at_live, at_finish: what the connection's pass had seen of the outbox at each of its three looks, the
--- one before where it did not look. finish: the finish of the outbox, as told to the machine. sent: the bytes that the link
--- took; lost: the link failed as it sent
+-- with, at this place. link_over: the machine was told that the link has ended. due_again, due_live: the payloads that were to be
+-- sent again and live, of the outbox as it was seen; again, live: those that were sent, as they were read of it. at_again, at_live,
+-- at_finish: what the connection's pass had seen of the outbox at each of its three looks, the one before where it did not look.
+-- finish: the finish of the outbox, as told to the machine. sent: the bytes that the link took; lost: the link failed as it sent
 pub record Work : Type 0 where
   pub now : ℕ
   pub got : Option Got
@@ -24,6 +24,8 @@ pub record Work : Type 0 where
   pub frames : List TakenFrame
   pub broken : Option ℕ
   pub link_over : Bool
+  pub due_again : Option (List (List ℕ))
+  pub due_live : Option (List (List ℕ))
   pub again : Option (List (List ℕ))
   pub live : Option (List (List ℕ))
   pub at_again : History
@@ -42,6 +44,14 @@ pub data Turn : Type 0 where
   link_lost : (now : ℕ) → Turn
   cut_short : (now : ℕ) (received : List ℕ) (frames : List TakenFrame) (refused : Option TakenFrame) → Turn
   not_begun : Turn
+
+-- what a turn sent of the outbox is what it had seen of it: each entry was read as it had been written
+abbrev pub IsFaithful : Turn → Type 0
+IsFaithful (only_sends now sent lost) = ⊤
+IsFaithful (works w) = (w.again ≡ w.due_again) × (w.live ≡ w.due_live)
+IsFaithful (link_lost now) = ⊤
+IsFaithful (cut_short now received frames refused) = ⊤
+IsFaithful not_begun = ⊤
 
 -- calls under a condition
 abbrev pub calls_if : Bool → List Call → List Call

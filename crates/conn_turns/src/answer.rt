@@ -22,6 +22,9 @@ pub enum TurnFault {
     Inbox,
     #[error("the outbox's disk failed")]
     Outbox,
+    /// The outbox's disk gave another record than was written at this index, from 0 on.
+    #[error("record {at} of the outbox has changed")]
+    Changed { at: u64 },
     /// A call of the disk of the inbox or of the outbox has failed since its opening.
     #[error("a journal is broken")]
     Broken,

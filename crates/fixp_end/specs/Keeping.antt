@@ -21,7 +21,7 @@ pending_in e = option_map (λ reply. outcome_of e.config reply e.next) e.pending
 -- idempotent flow the receiver waits for the inbox's next number, and has room for the announcements of the frames that there is
 -- room for; and no moment lies ahead
 pub record Keeps (e : Inside) : Type 0 where
-  pub most : e.most ≤ 16777216
+  pub most : e.most ≤ 67108864
   pub facts : Sound e.config e.facts
   pub pending : IfSome (pending_in e) (λ o. KeepsSound e.config e.most e.facts o)
   pub serves : Serves e.facts

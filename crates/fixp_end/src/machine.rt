@@ -23,7 +23,7 @@ use fixp_replies::{
 };
 use fixp_shake::{EndConfig, Phase, Violation};
 use flow_idem::Applied;
-use jr_boxes::Stable;
+use jr_kept::Stable;
 use sbe_prim::Order;
 use std::alloc::{AllocError, Global};
 use std::marker::Model;
@@ -107,7 +107,7 @@ impl End {
     ) -> Result<End, AllocError>
         requires keepalive { (100 ≤ config.keepalive) × (config.keepalive ≤ 60000) }
         requires credentials { length config.credentials ≤ 2048 }
-        requires most { most ≤ 2 ^ 24 }
+        requires most { most ≤ 2 ^ 26 }
         requires first { 1 ≤ state.inbox_next }
         requires numbered { config.peer_flow ≡ Recoverable → state.inbox_next + 1 < 2 ^ 64 }
         requires sent { state.sent < 2 ^ 40 }

@@ -6,7 +6,7 @@ ghost use Rattle.fixp_machine.specs.Machine.{payload_frames, sent_at, rest_of};
 
 use crate::output::Output;
 use fixp_msgs::Range;
-use jr_boxes::Stable;
+use jr_kept::Stable;
 
 /// How many bytes the frames of entries have at most.
 pub fn frames_fit()

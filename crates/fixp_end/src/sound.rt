@@ -23,7 +23,7 @@ use fixp_shake::Violation;
 /// The reply to a frame.
 pub fn reply_to_frame(around: &Around<'_>, facts: &mut Facts, incoming: &Incoming<'_>) -> Reply
     requires moment { around.now.moment < 2 ^ 44 }
-    requires most { around.now.most ≤ 2 ^ 24 }
+    requires most { around.now.most ≤ 2 ^ 26 }
     requires sound { Sound around.now.config.now facts.old }
     requires serves { Serves facts.old }
     ensures reply { outcome_of around.now.config.now result facts.new ≡ reply_of (around_of around.now) facts.old (incoming_of incoming.now) }

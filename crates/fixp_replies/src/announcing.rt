@@ -17,7 +17,7 @@ pub fn announcement_fault(
     template: u16,
     next: Option<u64>,
 ) -> Option<Violation>
-    requires { around.now.most ≤ 2 ^ 24 }
+    requires { around.now.most ≤ 2 ^ 26 }
     ensures fault { result ≡ announcement_fault (around_of around.now) facts.now template next }
     ensures fits { IsNone result → Fits (around_of around.now) facts.now next }
 {
@@ -77,7 +77,7 @@ fn announce_start(facts: &mut Facts, announced: u64)
 
 /// Takes an announcement that breaks no rule: the numbers that it jumps over.
 pub fn announce(around: &Around<'_>, facts: &mut Facts, next: Option<u64>) -> Option<Range>
-    requires most { around.now.most ≤ 2 ^ 24 }
+    requires most { around.now.most ≤ 2 ^ 26 }
     requires fits { Fits (around_of around.now) facts.old next }
     ensures announced { record { facts = facts.new; skipped = result } ≡ announced (around_of around.now) facts.old next }
     ensures count { IfSome result (λ range. range.count < 2 ^ 32) }

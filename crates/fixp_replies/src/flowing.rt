@@ -35,7 +35,7 @@ fn break_retransmission(around: &Around<'_>, facts: &Facts, bad: BadStart) -> Re
 /// A message of a recoverable flow.
 fn take_numbered(around: &Around<'_>, facts: &mut Facts) -> Reply
     requires moment { around.now.moment < 2 ^ 44 }
-    requires number { message_number (around_of around.now) facts.old ≤ 2 ^ 24 }
+    requires number { message_number (around_of around.now) facts.old ≤ 2 ^ 26 }
     requires flow { is_recoverable around.now.config.now.peer_flow ≡ true }
     ensures reply { outcome_of around.now.config.now result facts.new ≡ first_row (not_in_phase (around_of around.now) facts.old 0) (numbered_rows (around_of around.now) facts.old) }
     ensures sent { facts.new.recorded.sent ≡ facts.old.recorded.sent }
@@ -64,7 +64,7 @@ fn is_after_finish(facts: &Facts) -> bool
 /// An application message, where the connection is established.
 fn take_application(around: &Around<'_>, facts: &mut Facts) -> Reply
     requires moment { around.now.moment < 2 ^ 44 }
-    requires most { around.now.most ≤ 2 ^ 24 }
+    requires most { around.now.most ≤ 2 ^ 26 }
     ensures reply { outcome_of around.now.config.now result facts.new ≡ first_row (not_in_phase (around_of around.now) facts.old 0) (application_rows (around_of around.now) facts.old) }
     ensures sent { facts.new.recorded.sent ≡ facts.old.recorded.sent }
     ensures small { written_limit around.now.config.now result.written ≤ reply_limit around.now.config.now }
@@ -94,7 +94,7 @@ fn take_application(around: &Around<'_>, facts: &mut Facts) -> Reply
 
 pub fn on_application(around: &Around<'_>, facts: &mut Facts) -> Reply
     requires moment { around.now.moment < 2 ^ 44 }
-    requires most { around.now.most ≤ 2 ^ 24 }
+    requires most { around.now.most ≤ 2 ^ 26 }
     ensures reply { (payload : List ℕ) → outcome_of around.now.config.now result facts.new ≡ answer_of (around_of around.now) facts.old (application payload) }
     ensures sent { facts.new.recorded.sent ≡ facts.old.recorded.sent }
     ensures small { written_limit around.now.config.now result.written ≤ reply_limit around.now.config.now }
@@ -169,7 +169,7 @@ fn follow_sequence(around: &Around<'_>, facts: &mut Facts, skipped: Option<Range
 /// A Sequence announces the next number.
 fn announce_in_flow(around: &Around<'_>, facts: &mut Facts, next: u64) -> Reply
     requires moment { around.now.moment < 2 ^ 44 }
-    requires most { around.now.most ≤ 2 ^ 24 }
+    requires most { around.now.most ≤ 2 ^ 26 }
     ensures reply { outcome_of around.now.config.now result facts.new
         ≡ announcement_answered (around_of around.now) facts.old 7 (Some next) (sequence_follows (around_of around.now) facts.old next) }
     ensures sent { facts.new.recorded.sent ≡ facts.old.recorded.sent }
@@ -189,7 +189,7 @@ fn announce_in_flow(around: &Around<'_>, facts: &mut Facts, next: u64) -> Reply
 
 pub fn on_sequence(around: &Around<'_>, facts: &mut Facts, next: u64) -> Reply
     requires moment { around.now.moment < 2 ^ 44 }
-    requires most { around.now.most ≤ 2 ^ 24 }
+    requires most { around.now.most ≤ 2 ^ 26 }
     ensures reply { outcome_of around.now.config.now result facts.new ≡ answer_of (around_of around.now) facts.old (session (sequence next)) }
     ensures sent { facts.new.recorded.sent ≡ facts.old.recorded.sent }
     ensures small { written_limit around.now.config.now result.written ≤ reply_limit around.now.config.now }

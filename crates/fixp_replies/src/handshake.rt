@@ -163,7 +163,7 @@ fn acknowledge(
 /// An Establish at an acceptor that waits for its client.
 fn judge_establish(around: &Around<'_>, facts: &mut Facts, m: &Establish<'_>) -> Reply
     requires moment { around.now.moment < 2 ^ 44 }
-    requires most { around.now.most ≤ 2 ^ 24 }
+    requires most { around.now.most ≤ 2 ^ 26 }
     requires sent { facts.old.recorded.sent < 2 ^ 40 }
     ensures reply { outcome_of around.now.config.now result facts.new
         ≡ first_row (not_in_phase (around_of around.now) facts.old 4) (establish_rows (around_of around.now) facts.old m.now.session_id m.now.timestamp m.now.keepalive m.now.next_seq m.now.expected_next m.now.credentials.now) }
@@ -201,7 +201,7 @@ fn reject_again(around: &Around<'_>, facts: &Facts, m: &Establish<'_>) -> Reply
 
 pub fn on_establish(around: &Around<'_>, facts: &mut Facts, m: &Establish<'_>) -> Reply
     requires moment { around.now.moment < 2 ^ 44 }
-    requires most { around.now.most ≤ 2 ^ 24 }
+    requires most { around.now.most ≤ 2 ^ 26 }
     requires sent { facts.old.recorded.sent < 2 ^ 40 }
     ensures reply { outcome_of around.now.config.now result facts.new
         ≡ answer_of (around_of around.now) facts.old (session (establish m.now.session_id m.now.timestamp m.now.keepalive m.now.next_seq m.now.expected_next m.now.credentials.now)) }
@@ -292,7 +292,7 @@ pub fn on_negotiation_reject(
 
 pub fn on_establishment_ack(around: &Around<'_>, facts: &mut Facts, m: &EstablishmentAck) -> Reply
     requires moment { around.now.moment < 2 ^ 44 }
-    requires most { around.now.most ≤ 2 ^ 24 }
+    requires most { around.now.most ≤ 2 ^ 26 }
     requires sent { facts.old.recorded.sent < 2 ^ 40 }
     ensures reply { outcome_of around.now.config.now result facts.new
         ≡ answer_of (around_of around.now) facts.old (session (establishment_ack m.now.session_id m.now.request_timestamp m.now.keepalive m.now.next_seq m.now.expected_next)) }

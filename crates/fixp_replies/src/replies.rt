@@ -37,7 +37,7 @@ fn on_terminate(around: &Around<'_>, facts: &Facts, m: &Terminate<'_>) -> Reply
 
 fn on_session(around: &Around<'_>, facts: &mut Facts, m: &SessionMsg<'_>) -> Reply
     requires moment { around.now.moment < 2 ^ 44 }
-    requires most { around.now.most ≤ 2 ^ 24 }
+    requires most { around.now.most ≤ 2 ^ 26 }
     requires sent { facts.old.recorded.sent < 2 ^ 40 }
     ensures reply { outcome_of around.now.config.now result facts.new ≡ answer_of (around_of around.now) facts.old (session (message_of m.now)) }
     ensures sent { facts.new.recorded.sent ≤ facts.old.recorded.sent }
@@ -77,7 +77,7 @@ fn terminates(around: &Around<'_>, incoming: &Incoming<'_>) -> bool
 /// The first row that applies.
 fn answer(around: &Around<'_>, facts: &mut Facts, incoming: &Incoming<'_>) -> Reply
     requires moment { around.now.moment < 2 ^ 44 }
-    requires most { around.now.most ≤ 2 ^ 24 }
+    requires most { around.now.most ≤ 2 ^ 26 }
     requires sent { facts.old.recorded.sent < 2 ^ 40 }
     ensures reply { outcome_of around.now.config.now result facts.new ≡ answer_of (around_of around.now) facts.old (incoming_of incoming.now) }
     ensures sent { facts.new.recorded.sent ≤ facts.old.recorded.sent }
@@ -98,7 +98,7 @@ fn answer(around: &Around<'_>, facts: &mut Facts, incoming: &Incoming<'_>) -> Re
 /// entries were sent.
 pub fn reply_to(around: &Around<'_>, facts: &mut Facts, incoming: &Incoming<'_>) -> Reply
     requires moment { around.now.moment < 2 ^ 44 }
-    requires most { around.now.most ≤ 2 ^ 24 }
+    requires most { around.now.most ≤ 2 ^ 26 }
     requires sent { facts.old.recorded.sent < 2 ^ 40 }
     ensures reply { outcome_of around.now.config.now result facts.new ≡ reply_of (around_of around.now) facts.old (incoming_of incoming.now) }
     ensures sent { facts.new.recorded.sent ≤ facts.old.recorded.sent }

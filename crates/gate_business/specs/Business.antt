@@ -2,7 +2,7 @@
 -- behind which an Ok leaves it, and `finished` says whether the peer's finish is recorded. A business is this project's profile.
 use Rattle.std.specs.Prelude.{⊤, ◌≡◌, ◌≢◌, ◌⊎◌, ℕ, ◌<◌, ◌≤◌, Bool, true, List, [], ◌∷◌, Some, None, Result, Ok, Err}
 use Rattle.session_model.specs.Journal.{finish, BeginsHistory}
-use Rattle.jr_record.specs.declared.journal.Journal.{Ghosts}
+use Rattle.jr_dated.specs.declared.journal.Journal.{Ghosts}
 use Rattle.jr_boxes.specs.declared.faults.SubmitFault.{SubmitFault}
 use Rattle.jr_boxes.specs.declared.faults.SubmitFault.TheVariants as submit
 use Rattle.atomic_table.specs.Seated.{TableId}

@@ -3,8 +3,8 @@ ghost use Rattle.std.specs.Prelude.{◌≡◌, ◌≢◌, ◌↔◌, ℕ, ◌≤
 ghost use Rattle.gw_outside.specs.Faults.{HasRisen};
 ghost use Rattle.session_model.specs.Inbox.{InboxRecord, applied, payloads_of, has_peer_finished};
 ghost use Rattle.session_model.specs.Plans.{GoesOn};
-ghost use Rattle.jr_record.specs.declared.faults.FetchFault.TheVariants as fetch;
-ghost use Rattle.jr_boxes.specs.Inbox.{StandsFor, SameContent, faults_of, is_broken, limits_of, flow_of};
+ghost use Rattle.jr_dated.specs.declared.faults.FetchFault.TheVariants as fetch;
+ghost use Rattle.jr_kept.specs.Inbox.{StandsFor, SameContent, faults_of, is_broken, limits_of, flow_of};
 ghost use Rattle.jr_boxes.specs.declared.faults.SubmitFault.{SubmitFault};
 ghost use Rattle.jr_boxes.specs.declared.faults.SubmitFault.TheVariants as submit;
 ghost use Rattle.atomic_table.specs.Seated.{TableId};
@@ -18,8 +18,8 @@ ghost use Rattle.gate_business.specs.declared.business.ResumeFault.TheVariants a
 
 use gate_senders::Gate;
 use gate_turn::Passes;
-use jr_boxes::{Inbox, SubmitFault};
-use jr_record::{FetchFault, Journal};
+use jr_dated::{FetchFault, Journal};
+use jr_kept::{Inbox, SubmitFault};
 use sbe_value::Payloads;
 use std::sync::Wait;
 use std::thread::Threads;
@@ -64,10 +64,11 @@ pub trait Business<J: Journal> {
     ghost stands: { Self → List (List ℕ) → Type 0 };
 
     /// Takes its place behind the messages that the inbox has: what its senders have not sent of their plans is sent, and where the peer's finish
-    /// is recorded, the Finish is added. It is called once, before the first connection of a life.
+    /// is recorded, the Finish is added. It is called once, before the first connection of a life. Where the inbox's disk tells its content the
+    /// plans are those of the messages that it applied; where it does not, those of as many messages as a read gives now.
     ///
     /// # Errors
-    /// `Fetch` where an applied message was not read. `Submit` where a message or the Finish was refused; the Finish that stands already is none.
+    /// `Fetch` where an applied message was not read, or has changed, which on a disk that tells its content none has. `Submit` where a message or the Finish was refused; the Finish that stands already is none.
     fn resume<I: Journal, R: Threads + Wait + Sync>(
         &mut self,
         inbox: &mut Inbox<I>,
@@ -79,13 +80,15 @@ pub trait Business<J: Journal> {
         requires sound { is_broken inbox.old ≡ false }
         ensures own { has self.new (lock_of gate.now) }
         ensures same { (count self.new ≡ count self.old) × (plan self.new ≡ plan self.old) }
-        ensures stands { (i : List InboxRecord) → StandsFor inbox.old i → StandsOnResume result (stands self.new (payloads_of (applied i))) }
-        ensures grew { (i : List InboxRecord) → StandsFor inbox.old i → Grew (λ n. plan self.old n (payloads_of (applied i))) (count self.old) (part self.old) (part self.new) (has_peer_finished i) }
-        ensures whole { (i : List InboxRecord) → StandsFor inbox.old i → OnOk result (Whole (λ n. plan self.old n (payloads_of (applied i))) (count self.old) (part self.old) (part self.new) (has_peer_finished i)) }
-        ensures full { (i : List InboxRecord) → StandsFor inbox.old i → (entries bytes : ℕ) → result ≡ Err (resuming.Submit (submit.Full entries bytes)) → MetFull (λ n. plan self.old n (payloads_of (applied i))) (count self.old) (part self.new) entries bytes }
+        ensures stands { (i : List InboxRecord) → I.tells → StandsFor inbox.old i → StandsOnResume result (stands self.new (payloads_of (applied i))) }
+        ensures grew { (i : List InboxRecord) → I.tells → StandsFor inbox.old i → Grew (λ n. plan self.old n (payloads_of (applied i))) (count self.old) (part self.old) (part self.new) (has_peer_finished i) }
+        ensures whole { (i : List InboxRecord) → I.tells → StandsFor inbox.old i → OnOk result (Whole (λ n. plan self.old n (payloads_of (applied i))) (count self.old) (part self.old) (part self.new) (has_peer_finished i)) }
+        ensures full { (i : List InboxRecord) → I.tells → StandsFor inbox.old i → (entries bytes : ℕ) → result ≡ Err (resuming.Submit (submit.Full entries bytes)) → MetFull (λ n. plan self.old n (payloads_of (applied i))) (count self.old) (part self.new) entries bytes }
+        ensures grew_read { (i : List InboxRecord) → StandsFor inbox.old i → ∥ ((l : List (List ℕ)) × (length l ≡ length (applied i)) × Grew (λ n. plan self.old n l) (count self.old) (part self.old) (part self.new) (has_peer_finished i)) ∥₁ }
         ensures refused { (f : SubmitFault) → result ≡ Err (resuming.Submit f) → f ≢ submit.Memory → ShownByOne (count self.old) (part self.old) (part self.new) f }
         ensures fetch { result ≡ Err (resuming.Fetch fetch.Fault) → HasRisen (faults_of inbox.old) (faults_of inbox.new) }
         ensures sound { result ≢ Err (resuming.Fetch fetch.Broken) }
+        ensures changed { (at : ℕ) → result ≡ Err (resuming.Fetch (fetch.Changed at)) → I.tells → ⊥ }
         ensures content { SameContent inbox.old inbox.new }
         ensures never_falls { faults_of inbox.old ≤ faults_of inbox.new }
         ensures kind { (limits_of inbox.new ≡ limits_of inbox.old) × (flow_of inbox.new ≡ flow_of inbox.old) }

@@ -1,5 +1,5 @@
 //! What an end does with the messages of its peer as they are applied: a business has passes of its own of a gate, and sends by them what its
-//! plans say. Relies on `gate_senders` for what a call on the gate does and tells, and on `jr_boxes` for the inbox.
+//! plans say. Relies on `gate_senders` for what a call on the gate does and tells, and on `jr_kept` for the inbox.
 #![tactic(auto)]
 
 mod business;

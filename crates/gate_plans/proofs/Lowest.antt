@@ -3,7 +3,7 @@ use Rattle.std.proofs.Common.{◌≡◌, ◌<◌, ◌≤◌, ◌+◌, ℕ, List,
 use Rattle.std.proofs.lemmas.Option.{none-some}
 use Rattle.std.proofs.lemmas.List.Elements.{AllWithin-more}
 use Rattle.std.specs.List.{AllWithin, HoldsAt, Contains}
-use Rattle.jr_record.specs.declared.journal.Journal.{Ghosts}
+use Rattle.jr_dated.specs.declared.journal.Journal.{Ghosts}
 use Rattle.jr_boxes.specs.declared.faults.SubmitFault.{SubmitFault}
 use Rattle.gate_turn.specs.Places.{known}
 use Rattle.gate_plans.specs.Runs.{HasNone, IsNotBelow, IsLowest}

@@ -1,6 +1,6 @@
 -- What becomes of a sender while its plan is submitted: s before, t behind it. Plans are this project's profile.
 use Rattle.std.specs.Prelude.{◌≡◌, ◌⊎◌, ℕ, ◌+◌, ◌-◌, ◌<◌, ◌≤◌, true, false, List, All, Contains, length, take, drop, slice_get, slice_index_or, Some, None, Result, Ok, Err}
-use Rattle.jr_record.specs.declared.journal.Journal.{Ghosts}
+use Rattle.jr_dated.specs.declared.journal.Journal.{Ghosts}
 use Rattle.jr_boxes.specs.declared.faults.SubmitFault.{SubmitFault}
 use Rattle.jr_boxes.specs.declared.faults.SubmitFault.TheVariants as submit
 use Rattle.gate_turn.specs.Places.{known}

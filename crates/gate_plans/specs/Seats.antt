@@ -1,6 +1,6 @@
 -- Where the passes of a gate are while senders have them: so many with the senders, the others in the list.
 use Rattle.std.specs.Prelude.{◌≡◌, ℕ, ◌+◌, ◌<◌, ◌≤◌, List, length, map, reverse, slice_index_or, All, Some, None}
-use Rattle.jr_record.specs.declared.journal.Journal.{Ghosts}
+use Rattle.jr_dated.specs.declared.journal.Journal.{Ghosts}
 use Rattle.gate_turn.specs.Places.{known}
 use Rattle.gate_turn.specs.Listed.{pass_at, known_at}
 use Rattle.gate_turn.specs.declared.passes.Passes.{Passes}

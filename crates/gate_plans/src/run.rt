@@ -6,7 +6,7 @@ use crate::door::{Door, OpenDoor};
 use crate::sender::Sender;
 use gate_senders::Gate;
 use jr_boxes::SubmitFault;
-use jr_record::Journal;
+use jr_dated::Journal;
 use std::sync::Wait;
 use std::thread;
 use std::thread::Threads;

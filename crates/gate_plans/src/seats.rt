@@ -13,7 +13,7 @@ use crate::sender::Sender;
 use gate_senders::{Gate, Kept};
 use gate_turn::{Pass, Passes};
 use jr_boxes::SubmitFault;
-use jr_record::Journal;
+use jr_dated::Journal;
 use plan_values::Plan;
 use std::sync::Wait;
 use std::thread::Threads;

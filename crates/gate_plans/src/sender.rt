@@ -5,7 +5,7 @@ use crate::door::{Door, OpenDoor};
 use gate_senders::{Gate, Kept};
 use gate_turn::Pass;
 use jr_boxes::SubmitFault;
-use jr_record::Journal;
+use jr_dated::Journal;
 use plan_values::Plan;
 use std::sync::Wait;
 

@@ -1,24 +1,25 @@
 -- The messages of a history, one after the other.
-use Rattle.std.proofs.Common.{◌≡◌, ◌⊎◌, inl, inr, ⊎_elim, min, ◌^◌, ◌<◌, ℕ, zero, suc, ◌+◌, ◌-◌, ◌≤◌, true, List, [], ◌∷◌, ◌++◌, length, take, drop, slice_get, Some, Result, Ok, Err, IfOk, sym, ap, ◌∙◌, arith}
+use Rattle.std.proofs.Common.{◌≡◌, ◌⊎◌, inl, inr, ⊎_elim, min, ◌^◌, ◌<◌, ℕ, zero, suc, ◌+◌, ◌-◌, ◌≤◌, true, List, [], ◌∷◌, ◌++◌, map, length, take, drop, slice_get, Some, Result, Ok, Err, IfOk, refl, sym, ap, ◌∙◌, arith}
 use Rattle.std.proofs.Math.Logic.{∥∥₁_elim}
 use denote.Struct.Props.{≡_prop}
 use Rattle.std.proofs.lemmas.Bool.{cases_lt}
-use Rattle.std.proofs.lemmas.List.{take_all, length-drop}
+use Rattle.std.proofs.lemmas.List.{take_all, length-drop, map-append}
 use Rattle.std.specs.Coded.{coded_option, coded_list, coded_ℕ}
 use Rattle.session_model.specs.Journal.{Entry, History, IsEntry, payloads}
 use Rattle.session_model.specs.Inbox.{Numbered}
-use Rattle.jr_record.specs.declared.journal.Journal.{Ghosts}
-use Rattle.jr_record.specs.declared.faults.FetchFault.{FetchFault}
-use Rattle.jr_boxes.specs.declared.outbox.Outbox.{Outbox}
-use Rattle.jr_boxes.specs.Outbox.{StandsFor}
+use Rattle.jr_dated.specs.declared.journal.Journal.{Ghosts}
+use Rattle.jr_dated.specs.declared.faults.FetchFault.{FetchFault}
+use Rattle.jr_kept.specs.declared.outbox.Outbox.{Outbox}
+use Rattle.jr_kept.specs.Outbox.{StandsFor}
 use Rattle.gate_turn.specs.Views.{Account}
 use Rattle.gate_turn.proofs.Failing.{failed_before}
 use Rattle.gate_senders.specs.Kept.{numbered_from, StaysSound}
 
--- the entry that an outbox gives is that of the history told of it
+-- the entry that an outbox gives is that of the history told of it, where its disk tells its content
 pub entry_of : {J : Type 0} {G : Ghosts J} (box : Outbox J G) (h : History) (n : ℕ) (answer : Result Numbered FetchFault) → ∥ StandsFor box h ∥₁
-    → IfOk answer (λ s. (k : History) → StandsFor box k → IsEntry k.made n s.payload) → IfOk answer (λ s. slice_get (payloads h.made) (n - 1) ≡ Some s.payload)
-entry_of box h n (Ok s) stands found = ∥∥₁_elim stands (≡_prop (coded_option (coded_list coded_ℕ)) _ _) (λ x. (found h x).found)
+    → IfOk answer (λ s. G.tells → (k : History) → StandsFor box k → IsEntry k.made n s.payload)
+    → IfOk answer (λ s. G.tells → slice_get (payloads h.made) (n - 1) ≡ Some s.payload)
+entry_of box h n (Ok s) stands found = λ tells. ∥∥₁_elim stands (≡_prop (coded_option (coded_list coded_ℕ)) _ _) (λ x. (found tells h x).found)
 entry_of box h n (Err _) stands found = tt
 
 -- one more message
@@ -64,3 +65,23 @@ stays a b d first back second = record {
   broken = λ now was. failed_before a.faults b.faults d.faults first.faults (second.broken now (λ e. was (back e)));
   stays = λ was. let x = first.stays was in let y = second.stays x.0 in (y.0, y.1 ∙ x.1);
 }
+
+-- the numbers of messages
+abbrev pub numbers_of : List Numbered → List ℕ
+numbers_of ms = map (λ (m : Numbered). m.number) ms
+
+number_more : (n k : ℕ) (es : List Entry) → k < length es → numbers_of (numbered_from n (take (suc k) es)) ≡ numbers_of (numbered_from n (take k es)) ++ (n + k) ∷ []
+number_more n k [] within = absurd (omega arith)
+number_more n zero (e ∷ es) within = let same : n ≡ n + 0 = omega arith in ap (λ (m : ℕ). m ∷ []) same
+number_more n (suc k) (e ∷ es) within =
+    let same : n + 1 + k ≡ n + suc k = omega arith in
+    ap (λ (ns : List ℕ). n ∷ ns) (number_more (n + 1) k es (omega arith) ∙ ap (λ (m : ℕ). numbers_of (numbered_from (n + 1) (take k es)) ++ m ∷ []) same)
+
+-- one message more that was read
+pub number_on : (from k : ℕ) (es : List Entry) (list : List Numbered) (s : Numbered) → k < length es → s.number ≡ from + k → numbers_of list ≡ numbers_of (numbered_from from (take k es))
+    → numbers_of (list ++ s ∷ []) ≡ numbers_of (numbered_from from (take (suc k) es))
+number_on from k es list s within is so_far =
+    map-append (λ (m : Numbered). m.number) list (s ∷ [])
+    ∙ ap (λ (ns : List ℕ). ns ++ s.number ∷ []) so_far
+    ∙ ap (λ (m : ℕ). numbers_of (numbered_from from (take k es)) ++ m ∷ []) is
+    ∙ sym (number_more from k es within)

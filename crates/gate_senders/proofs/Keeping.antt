@@ -1,22 +1,23 @@
 -- An outbox after a call on it still stands for the history told of it.
-use Rattle.std.proofs.Common.{◌≡◌, ◌⊎◌, inl, inr, ⊎_elim, ℕ, Bool, true, false, ◌<◌, cond, arith, ne_eqb, List, [], ◌∷◌, length, refl, sym, ap, ◌∙◌, subst}
+use Rattle.std.proofs.Common.{◌≡◌, ◌⊎◌, inl, inr, ⊎_elim, ℕ, ◌+◌, Bool, true, false, ◌<◌, cond, if◌then◌else◌, arith, ne_eqb, List, [], ◌∷◌, length, refl, sym, ap, ◌∙◌, subst}
 use Rattle.std.proofs.Math.Logic.{∥∥₁_map, ∥∥₁_elim}
 use Rattle.std.proofs.Math.Bool.{Bool-set}
 use native.Mathlib.Nat.{ℕ_set}
 use Rattle.std.proofs.lemmas.Bool.{false≢true, cases_Bool}
 use Rattle.std.specs.List.{AllByRecursion}
 use Rattle.session_model.specs.Journal.{Entry, History, OutboxRecord, entries_of}
-use Rattle.jr_record.specs.declared.journal.Journal.{Ghosts}
-use Rattle.jr_boxes.specs.declared.outbox.Outbox.{Outbox}
+use Rattle.jr_dated.specs.declared.journal.Journal.{Ghosts}
+use Rattle.jr_kept.specs.declared.outbox.Outbox.{Outbox}
 use Rattle.jr_boxes.specs.declared.faults.SubmitFault.{SubmitFault}
 use Rattle.jr_boxes.specs.declared.faults.SubmitFault.TheVariants as submit
 use Rattle.jr_boxes.specs.declared.faults.CloseFault.{CloseFault}
 use Rattle.jr_boxes.specs.declared.faults.CloseFault.TheVariants as closing
-use Rattle.jr_record.specs.declared.record.Record.{Record}
 use Rattle.jr_record.specs.Records.{IsSender}
-use Rattle.jr_record.specs.Images.{journal_size}
+use Rattle.jr_dated.specs.Dated.{Dated, undated}
+use Rattle.jr_dated.specs.Images.{journal_size}
 use Rattle.jr_boxes.specs.Outboxes.{records_of_history}
-use Rattle.jr_boxes.specs.Outbox.{StandsFor, HoldsBox, SameContent, Unchanged, is_broken, is_closed, front_of, mine_of, size_of}
+use Rattle.gate_senders.specs.Kept.{account}
+use Rattle.jr_kept.specs.Outbox.{StandsFor, HoldsBox, SameContent, SameButMoment, Unchanged, is_broken, is_closed, front_of, mine_of, size_of}
 
 none_of : (es : List Entry) (n : ℕ) → 16 < n → AllByRecursion (λ (e : Entry). IsSender e.sender) es → entries_of es n ≡ []
 none_of [] n far all = refl
@@ -30,23 +31,14 @@ module _ {J : Type 0} {G : Ghosts J} where
     pub whole : is_broken box ≡ false → refused ≡ []
 
   pub stands_of : (box : Outbox J G) (h : History) (refused : List OutboxRecord) → HoldsBox box h refused → StandsFor box h
-  stands_of box h refused held = record { journal = held.journal.stands_for; outbox = held.outbox; tallied = held.tallied }
+  stands_of box h refused held = record { dated = held.dated; bare = held.bare; journal = held.journal.stands_for; outbox = held.outbox; tallied = held.tallied }
 
   pub keeps_stands : (box : Outbox J G) (h : History) (refused : List OutboxRecord) → ∥ HoldsBox box h refused ∥₁ → ∥ StandsFor box h ∥₁
   keeps_stands box h refused held = ∥∥₁_map held (stands_of box h refused)
 
-  pub holds_same : (old new : Outbox J G) → SameContent old new → (h : History) (refused : List OutboxRecord) → HoldsBox old h refused → HoldsBox new h refused
-  holds_same old new same h refused held =
-      let s = (same.stands h).0 (stands_of old h refused held) in
-      record {
-        journal = record { stands_for = s.journal; images = λ image left. held.journal.images image ((same.images image).1 left) };
-        outbox = s.outbox;
-        tallied = s.tallied;
-      }
-
   pub keeps_unchanged : (old new : Outbox J G) (h : History) (refused : List OutboxRecord) → Unchanged old new → Keeps old h refused → Keeps new h refused
   keeps_unchanged old new h refused same k = record {
-    holds = ∥∥₁_map k.holds (holds_same old new same.content h refused);
+    holds = ∥∥₁_map k.holds (same.content.holds h refused).0;
     whole = λ sound. k.whole (sym same.broken ∙ sound);
   }
 
@@ -77,8 +69,24 @@ module _ {J : Type 0} {G : Ghosts J} where
   pub keeps_read : (old new : Outbox J G) (h : History) (refused : List OutboxRecord) → SameContent old new → (is_broken new ≡ false → is_broken old ≡ false)
       → Keeps old h refused → Keeps new h refused
   keeps_read old new h refused same back k = record {
-    holds = ∥∥₁_map k.holds (holds_same old new same h refused);
+    holds = ∥∥₁_map k.holds (same.holds h refused).0;
     whole = λ sound. k.whole (back sound);
+  }
+
+  -- the moment was raised
+  pub keeps_raised : (old new : Outbox J G) (h : History) (refused : List OutboxRecord) → SameButMoment old new → Keeps old h refused → Keeps new h refused
+  keeps_raised old new h refused same k = record {
+    holds = ∥∥₁_map k.holds (same.holds h refused);
+    whole = λ sound. k.whole (sym same.broken ∙ sound);
+  }
+
+  pub account_raised : (old new : Outbox J G) (h : History) (refused : List OutboxRecord) → SameButMoment old new → account new h refused ≡ account old h refused
+  account_raised old new h refused same = λ i. record {
+    history = h;
+    faults = same.faults i + (if same.broken i then 1 else 0);
+    limits = record { entries = (same.limits i).entries; bytes = (same.limits i).bytes };
+    broken = same.broken i;
+    refused = refused;
   }
 
   -- what it counts is so of each history for which it stands
@@ -91,9 +99,9 @@ module _ {J : Type 0} {G : Ghosts J} where
   pub mine_is : (box : Outbox J G) (h : History) (sender : ℕ) → IsSender sender → ∥ StandsFor box h ∥₁ → mine_of box sender ≡ length (entries_of h.made sender)
   mine_is box h sender is stands = ∥∥₁_elim stands (ℕ_set _ _) (λ s. s.tallied.each sender is)
 
-  pub size_is : (box : Outbox J G) (h : History) → ((records : List Record) → G.stands box.journal records → (length records ≡ G.count box.journal) × (journal_size records ≡ G.size box.journal))
+  pub size_is : (box : Outbox J G) (h : History) → ((dated : List Dated) → G.stands box.journal dated → (length dated ≡ G.count box.journal) × (journal_size (undated dated) ≡ G.size box.journal))
       → ∥ StandsFor box h ∥₁ → size_of box ≡ journal_size (records_of_history h)
-  size_is box h counted stands = ∥∥₁_elim stands (ℕ_set _ _) (λ s. sym (counted (records_of_history h) s.journal).1)
+  size_is box h counted stands = ∥∥₁_elim stands (ℕ_set _ _) (λ s. sym (counted s.dated s.journal).1 ∙ ap journal_size s.bare)
 
   -- a number above those of senders has no entries
   pub none_past : (box : Outbox J G) (h : History) (n : ℕ) → 16 < n → ∥ StandsFor box h ∥₁ → 0 ≡ length (entries_of h.made n)

@@ -1,9 +1,9 @@
 -- What a gate was made with, which passes are its own, and what comes out of it once they are back.
 use Rattle.std.specs.Prelude.{◌≡◌, ℕ, ◌≤◌, false, List, []}
 use Rattle.session_model.specs.Journal.{History, OutboxRecord}
-use Rattle.jr_record.specs.declared.journal.Journal.{Ghosts}
-use Rattle.jr_boxes.specs.declared.outbox.Outbox.{Outbox}
-use Rattle.jr_boxes.specs.Outbox.{HoldsBox, is_broken}
+use Rattle.jr_dated.specs.declared.journal.Journal.{Ghosts}
+use Rattle.jr_kept.specs.declared.outbox.Outbox.{Outbox}
+use Rattle.jr_kept.specs.Outbox.{HoldsBox, is_broken}
 use Rattle.gate_turn.specs.Views.{Account}
 use Rattle.gate_turn.specs.Places.{known}
 use Rattle.gate_turn.specs.Listed.{known_at}

@@ -1,13 +1,13 @@
 -- What an outbox under a turn lock says of itself, and what a call on it leaves of that. Gates are this project's profile.
-use Rattle.std.specs.Prelude.{◌≡◌, ◌≢◌, ◌⊎◌, ℕ, ◌+◌, ◌-◌, ◌<◌, ◌≤◌, true, List, [], ◌∷◌, length, take, drop, if◌then◌else◌}
+use Rattle.std.specs.Prelude.{◌≡◌, ◌≢◌, ◌⊎◌, ℕ, ◌+◌, ◌-◌, ◌<◌, ◌≤◌, true, List, [], ◌∷◌, map, length, take, drop, if◌then◌else◌}
 use Rattle.session_model.specs.Journal.{Entry, History, OutboxRecord, entries_of}
 use Rattle.session_model.specs.Inbox.{Numbered}
-use Rattle.jr_record.specs.declared.journal.Journal.{Ghosts}
+use Rattle.jr_dated.specs.declared.journal.Journal.{Ghosts}
 use Rattle.jr_record.specs.declared.record.Record.TheVariants as kinds
-use Rattle.jr_record.specs.Images.{record_size, journal_size}
-use Rattle.jr_boxes.specs.declared.outbox.Outbox.{Outbox}
+use Rattle.jr_dated.specs.Images.{record_size, journal_size}
+use Rattle.jr_kept.specs.declared.outbox.Outbox.{Outbox}
 use Rattle.jr_boxes.specs.Outboxes.{records_of_history}
-use Rattle.jr_boxes.specs.Outbox.{limits_of, faults_of, is_broken}
+use Rattle.jr_kept.specs.Outbox.{limits_of, faults_of, is_broken}
 use Rattle.gate_turn.specs.Views.{Account, HasFailed, Limits}
 use Rattle.gate_turn.specs.Rule.{StaysBroken}
 
@@ -53,3 +53,16 @@ numbered_from n (e ∷ es) = (record { number = n; payload = e.payload }) ∷ nu
 -- the messages of a history from a number on, at most so many
 abbrev pub messages : History → ℕ → ℕ → List Numbered
 messages h from most = numbered_from from (take most (drop (from - 1) h.made))
+
+-- what was read of the messages of a history from a number on, at most so many: as many, numbered alike; and just these, where the disk
+-- tells its content
+pub record GivenOf (tells : Type 0) (h : History) (from most : ℕ) (list : List Numbered) : Type 0 where
+  pub numbers : map (λ (m : Numbered). m.number) list ≡ map (λ (m : Numbered). m.number) (messages h from most)
+  pub told : tells → list ≡ messages h from most
+
+-- the record at this place, from 0 on, has changed: one of these messages, and the disk does not tell its content
+pub record ChangedIn (tells : Type 0) (h : History) (from most at : ℕ) : Type 0 where
+  pub behind : from ≤ at + 1
+  pub asked : at + 1 < from + most
+  pub within : at < length h.made
+  pub untold : tells → ⊥

@@ -1,6 +1,6 @@
 -- What an outbox that is kept says of itself.
-use Rattle.jr_record.specs.declared.journal.Journal.{Ghosts}
-use Rattle.jr_boxes.specs.declared.outbox.Outbox.{Outbox}
+use Rattle.jr_dated.specs.declared.journal.Journal.{Ghosts}
+use Rattle.jr_kept.specs.declared.outbox.Outbox.{Outbox}
 use Rattle.gate_turn.specs.Views.{Account}
 use Rattle.gate_senders.specs.Kept.{account}
 use Rattle.gate_senders.specs.declared.kept.Kept.{Kept}

@@ -3,21 +3,21 @@ ghost use Rattle.std.specs.Prelude.{◌≡◌, ◌≢◌, ℕ, ◌+◌, ◌<◌,
 ghost use Rattle.session_model.specs.Journal.{entry, finish};
 ghost use Rattle.fixp_msgs.specs.Payload.{IsApplication};
 ghost use Rattle.jr_record.specs.Records.{IsPayload};
-ghost use Rattle.jr_boxes.specs.Outbox.{is_broken};
+ghost use Rattle.jr_kept.specs.Outbox.{is_broken};
 ghost use Rattle.jr_boxes.specs.declared.faults.SubmitFault.TheVariants as submit;
 ghost use Rattle.jr_boxes.specs.declared.faults.CloseFault.TheVariants as closing;
-ghost use Rattle.jr_record.specs.declared.faults.FetchFault.TheVariants as fetching;
+ghost use Rattle.jr_dated.specs.declared.faults.FetchFault.TheVariants as fetching;
 ghost use Rattle.gate_turn.specs.Views.{HasFailed, looked_at};
 ghost use Rattle.gate_turn.specs.Places.{known};
 ghost use Rattle.gate_turn.specs.Calls.{IsFree, HasTurn, opened_with};
-ghost use Rattle.gate_senders.specs.Kept.{next_entry, messages, IsFullAt};
+ghost use Rattle.gate_senders.specs.Kept.{next_entry, GivenOf, ChangedIn, IsFullAt};
 ghost use Rattle.gate_senders.specs.Told.{told_by};
 ghost use Rattle.gate_senders.specs.Shown.{TakesTurn, Submitted, Finished, entry_after};
 
 use crate::kept::{Kept, Look};
 use gate_turn::{Held, Logged, Pass, Passes, TurnLock};
-use jr_boxes::{CloseFault, Outbox, Stable, SubmitFault};
-use jr_record::{FetchFault, Journal};
+use jr_dated::{FetchFault, Journal};
+use jr_kept::{CloseFault, Outbox, Stable, SubmitFault};
 use std::alloc::Global;
 use std::sync::Wait;
 
@@ -146,12 +146,13 @@ impl<J: Journal> Gate<J> {
         answer
     }
 
-    /// The entries from a number on, at most `most` of them and fewer only where the history ends. Each is one that every later
-    /// stop leaves.
+    /// The entries from a number on, at most `most` of them and fewer only where the history ends, as reads give them now. Where
+    /// the disk tells its content each is one that every later stop leaves.
     ///
     /// # Errors
     ///
-    /// `Broken` and `Fault` where a call of the disk has failed, before or now. `Memory`.
+    /// `Broken` and `Fault` where a call of the disk has failed, before or now. `Memory`. `Changed` where the disk gave no entry
+    /// with the payload of an application message at a place that was asked for, which a disk that tells its content never does.
     pub fn fetch<R: Wait>(
         &self,
         pass: &mut Pass<Kept<J>>,
@@ -165,8 +166,10 @@ impl<J: Journal> Gate<J> {
         ensures own { IsPassAt self.now pass.new }
         ensures free { IsFree pass.new }
         ensures turn { TakesTurn (known pass.old) (known pass.new) }
-        ensures given { IfOk result (λ list. list.items ≡ messages (known pass.new).seen from most) }
+        ensures given { IfOk result (λ list. GivenOf J.tells (known pass.new).seen from most list.items) }
         ensures sizes { IfOk result (λ list. All (λ m. IsPayload m.payload) list.items) }
+        ensures applications { IfOk result (λ list. All (λ m. IsApplication m.payload) list.items) }
+        ensures changed { (at : ℕ) → result ≡ Err (fetching.Changed at) → ChangedIn J.tells (known pass.new).seen from most at }
         ensures same { ((known pass.new).mine ≡ (known pass.old).mine) × ((known pass.new).ended ≡ (known pass.old).ended) }
         ensures unlost { (known pass.new).lost ≡ (known pass.old).lost }
         ensures fault { IsErrOf result fetching.Fault → HasFailed (known pass.old).faults (known pass.new).faults }
@@ -179,26 +182,30 @@ impl<J: Journal> Gate<J> {
     }
 
     /// The entries from a number on, as `fetch` gives them, and the mark, as `closed` tells it, by one turn. What was seen then
-    /// has less than 2^40 entries.
+    /// has less than 2^40 entries. Records that are added later carry the moment `now`, in milliseconds, or a later one.
     ///
     /// # Errors
     ///
-    /// `Broken` and `Fault` where a call of the disk has failed, before or now. `Memory`.
+    /// As those of `fetch`.
     pub fn look<R: Wait>(
         &self,
         pass: &mut Pass<Kept<J>>,
         from: u64,
         most: u16,
+        now: u64,
         rt: &R,
     ) -> Result<Look, FetchFault>
         requires own { IsPassAt self.now pass.old }
         requires free { IsFree pass.old }
         requires least { 1 ≤ from }
+        requires clock { now < 2 ^ 44 }
         ensures own { IsPassAt self.now pass.new }
         ensures free { IsFree pass.new }
         ensures turn { TakesTurn (known pass.old) (known pass.new) }
-        ensures given { IfOk result (λ look. look.entries.items ≡ messages (known pass.new).seen from most) }
+        ensures given { IfOk result (λ look. GivenOf J.tells (known pass.new).seen from most look.entries.items) }
         ensures sizes { IfOk result (λ look. All (λ m. IsPayload m.payload) look.entries.items) }
+        ensures applications { IfOk result (λ look. All (λ m. IsApplication m.payload) look.entries.items) }
+        ensures changed { (at : ℕ) → result ≡ Err (fetching.Changed at) → ChangedIn J.tells (known pass.new).seen from most at }
         ensures some { IfOk result (λ look. IfSome look.mark (λ n. ((known pass.new).seen.finished ≡ true) × (length (known pass.new).seen.made ≡ n))) }
         ensures none { IfOk result (λ look. IfNone look.mark ((known pass.new).seen.finished ≢ true)) }
         ensures few { length (known pass.new).seen.made < 2 ^ 40 }
@@ -208,15 +215,18 @@ impl<J: Journal> Gate<J> {
         ensures broken { result ≡ Err fetching.Broken → HasFailed (known pass.new).opening.faults (known pass.new).faults }
     {
         let Held { mut value } = self.lock.enter_next(pass, rt);
+        value.at(now);
         let answer = value.look(self.alloc, from, most);
         self.lock.leave(pass, Held { value });
         answer
     }
 
-    /// The number of entries behind which the mark stands, or None where it does not stand.
-    pub fn closed<R: Wait>(&self, pass: &mut Pass<Kept<J>>, rt: &R) -> Option<u64>
+    /// The number of entries behind which the mark stands, or None where it does not stand. Records that are added later carry
+    /// the moment `now`, in milliseconds, or a later one.
+    pub fn closed<R: Wait>(&self, pass: &mut Pass<Kept<J>>, now: u64, rt: &R) -> Option<u64>
         requires own { IsPassAt self.now pass.old }
         requires free { IsFree pass.old }
+        requires clock { now < 2 ^ 44 }
         ensures own { IsPassAt self.now pass.new }
         ensures free { IsFree pass.new }
         ensures turn { TakesTurn (known pass.old) (known pass.new) }
@@ -225,7 +235,8 @@ impl<J: Journal> Gate<J> {
         ensures same { ((known pass.new).mine ≡ (known pass.old).mine) × ((known pass.new).ended ≡ (known pass.old).ended) }
         ensures unlost { (known pass.new).lost ≡ (known pass.old).lost }
     {
-        let Held { value } = self.lock.enter_next(pass, rt);
+        let Held { mut value } = self.lock.enter_next(pass, rt);
+        value.at(now);
         let answer = value.mark();
         self.lock.leave(pass, Held { value });
         answer

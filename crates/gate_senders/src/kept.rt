@@ -3,18 +3,18 @@ ghost use Rattle.std.specs.Prelude.{◌≡◌, ◌≢◌, ◌↔◌, ℕ, ◌+�
 ghost use Rattle.session_model.specs.Journal.{History, entries_of, entry, finish, payloads};
 ghost use Rattle.fixp_msgs.specs.Payload.{IsApplication};
 ghost use Rattle.jr_record.specs.Records.{IsPayload, IsSender};
-ghost use Rattle.jr_boxes.specs.Outbox.{HoldsBox, is_broken};
+ghost use Rattle.jr_kept.specs.Outbox.{HoldsBox, is_broken};
 ghost use Rattle.jr_boxes.specs.Outboxes.{with_entry, with_mark};
 ghost use Rattle.jr_boxes.specs.declared.faults.SubmitFault.TheVariants as submit;
 ghost use Rattle.jr_boxes.specs.declared.faults.CloseFault.TheVariants as closing;
-ghost use Rattle.jr_record.specs.declared.faults.FetchFault.TheVariants as fetching;
+ghost use Rattle.jr_dated.specs.declared.faults.FetchFault.TheVariants as fetching;
 ghost use Rattle.gate_turn.specs.Views.{HasFailed};
-ghost use Rattle.gate_senders.specs.Kept.{account, messages, next_entry, StaysSound, IsFullAt};
+ghost use Rattle.gate_senders.specs.Kept.{account, next_entry, GivenOf, ChangedIn, StaysSound, IsFullAt};
 
 use crate::told::{Says, Told};
 use gate_turn::Logged;
-use jr_boxes::{CloseFault, Outbox, Stable, SubmitFault};
-use jr_record::{FetchFault, Journal};
+use jr_dated::{FetchFault, Journal};
+use jr_kept::{CloseFault, Outbox, Stable, SubmitFault};
 use std::alloc::Global;
 
 /// An outbox, with the history that is told of it, and the records whose adding failed: every stop leaves that history, and
@@ -137,13 +137,15 @@ impl<J: Journal> Kept<J> {
         }
     }
 
-    /// The entry of a number from 1 to the last.
+    /// The entry of a number from 1 to the last, as a read gives it now.
     fn stable(&mut self, number: u64) -> Result<Stable, FetchFault>
         requires least { 1 ≤ number }
         requires within { number ≤ length (told_by self.old).history.made }
         ensures number { IfOk result (λ s. s.number ≡ number) }
         ensures size { IfOk result (λ s. IsPayload s.payload) }
-        ensures payload { IfOk result (λ s. slice_get (payloads (told_by self.old).history.made) (number - 1) ≡ Some s.payload) }
+        ensures application { IfOk result (λ s. IsApplication s.payload) }
+        ensures payload { IfOk result (λ s. J.tells → slice_get (payloads (told_by self.old).history.made) (number - 1) ≡ Some s.payload) }
+        ensures changed { (at : ℕ) → result ≡ Err (fetching.Changed at) → (at + 1 ≡ number) × (J.tells → ⊥) }
         ensures whole { OnOk result ((told_by self.new).broken ≢ true) }
         ensures same { ((told_by self.new).history ≡ (told_by self.old).history) × ((told_by self.new).refused ≡ (told_by self.old).refused) }
         ensures sound { StaysSound (told_by self.old) (told_by self.new) }
@@ -153,7 +155,7 @@ impl<J: Journal> Kept<J> {
         self.outbox.stable(number)
     }
 
-    /// The entries from a number on, at most so many.
+    /// The entries from a number on, at most so many, as reads give them now.
     pub(crate) fn fetch(
         &mut self,
         alloc: Global,
@@ -161,8 +163,10 @@ impl<J: Journal> Kept<J> {
         most: u16,
     ) -> Result<Vec<Stable>, FetchFault>
         requires least { 1 ≤ from }
-        ensures given { IfOk result (λ list. list.items ≡ messages (told_by self.old).history from most) }
+        ensures given { IfOk result (λ list. GivenOf J.tells (told_by self.old).history from most list.items) }
         ensures sizes { IfOk result (λ list. All (λ m. IsPayload m.payload) list.items) }
+        ensures applications { IfOk result (λ list. All (λ m. IsApplication m.payload) list.items) }
+        ensures changed { (at : ℕ) → result ≡ Err (fetching.Changed at) → ChangedIn J.tells (told_by self.old).history from most at }
         ensures few { length (told_by self.old).history.made < 2 ^ 40 }
         ensures same { ((told_by self.new).history ≡ (told_by self.old).history) × ((told_by self.new).refused ≡ (told_by self.old).refused) }
         ensures sound { StaysSound (told_by self.old) (told_by self.new) }
@@ -192,11 +196,13 @@ impl<J: Journal> Kept<J> {
         }
     }
 
-    /// The entries from a number on, at most so many, and the mark.
+    /// The entries from a number on, at most so many, as reads give them now, and the mark.
     pub(crate) fn look(&mut self, alloc: Global, from: u64, most: u16) -> Result<Look, FetchFault>
         requires least { 1 ≤ from }
-        ensures given { IfOk result (λ look. look.entries.items ≡ messages (told_by self.old).history from most) }
+        ensures given { IfOk result (λ look. GivenOf J.tells (told_by self.old).history from most look.entries.items) }
         ensures sizes { IfOk result (λ look. All (λ m. IsPayload m.payload) look.entries.items) }
+        ensures applications { IfOk result (λ look. All (λ m. IsApplication m.payload) look.entries.items) }
+        ensures changed { (at : ℕ) → result ≡ Err (fetching.Changed at) → ChangedIn J.tells (told_by self.old).history from most at }
         ensures marked { IfOk result (λ look. IfSome look.mark (λ n. ((told_by self.old).history.finished ≡ true) × (length (told_by self.old).history.made ≡ n))) }
         ensures unmarked { IfOk result (λ look. IfNone look.mark ((told_by self.old).history.finished ≢ true)) }
         ensures few { length (told_by self.old).history.made < 2 ^ 40 }
@@ -210,6 +216,14 @@ impl<J: Journal> Kept<J> {
             Ok(entries) => Ok(Look { entries, mark }),
             Err(fault) => Err(fault),
         }
+    }
+
+    /// Makes the moment that records are given the greater of it and this one, in milliseconds.
+    pub(crate) fn at(&mut self, time: u64)
+        requires clock { time < 2 ^ 44 }
+        ensures same { told_by self.new ≡ told_by self.old }
+    {
+        self.outbox.at(time);
     }
 
     /// The outbox.

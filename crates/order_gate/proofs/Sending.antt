@@ -8,7 +8,7 @@ use Rattle.fixp_msgs.specs.Payload.{IsApplication}
 use Rattle.order_desk.specs.Schema.{IsOrderPlan, order_plan}
 use Rattle.order_desk.specs.Plans.{answers}
 use Rattle.order_desk.specs.Laws.{AnswersAreApplication}
-use Rattle.jr_record.specs.declared.journal.Journal.{Ghosts}
+use Rattle.jr_dated.specs.declared.journal.Journal.{Ghosts}
 use Rattle.jr_boxes.specs.declared.faults.SubmitFault.{SubmitFault}
 use Rattle.gate_turn.specs.Views.{Part}
 use Rattle.gate_turn.specs.Places.{known}

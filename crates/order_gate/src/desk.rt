@@ -9,7 +9,7 @@ use gate_plans::Door;
 use gate_senders::{Gate, Kept};
 use gate_turn::Pass;
 use jr_boxes::{CloseFault, SubmitFault};
-use jr_record::Journal;
+use jr_dated::Journal;
 use order_desk::answers_are_application;
 use sbe_layout::Plan;
 use sbe_value::Bytes;

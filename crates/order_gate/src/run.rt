@@ -8,7 +8,7 @@ use crate::desk::Desk;
 use gate_plans::Door;
 use gate_senders::Gate;
 use jr_boxes::SubmitFault;
-use jr_record::Journal;
+use jr_dated::Journal;
 use sbe_layout::Plan;
 use sbe_value::Payloads;
 use std::alloc::Global;

@@ -14,7 +14,7 @@ use crate::line::{CAPACITY, End, Ends, Line, Passed, deal, next};
 use gate_plans::Door;
 use gate_senders::Gate;
 use jr_boxes::SubmitFault;
-use jr_record::Journal;
+use jr_dated::Journal;
 use sbe_value::Payloads;
 use std::alloc::{AllocError, Global};
 use std::sync::Wait;

@@ -1,5 +1,5 @@
 mod Agreeing
+mod Entries
 mod Taking
 mod Finding
-mod Finishing
 pub mod Excluding

@@ -6,6 +6,10 @@ use Rattle.plan_values.specs.Plans.{payloads_of}
 use Rattle.plan_values.specs.declared.plan.Plan.{Plan}
 use Rattle.sbe_text.specs.Lines.{lines_in}
 use Rattle.plan_text.specs.Plans.{Gift, AreGiven, payloads_of_sender}
+use Rattle.session_model.specs.Journal.{History, OutboxRecord}
+use Rattle.jr_dated.specs.declared.journal.Journal.{Ghosts}
+use Rattle.jr_kept.specs.declared.outbox.Outbox.{Outbox}
+use Rattle.jr_kept.specs.Outbox.{journal_of, SameContent, HoldsBox, moment_of, faults_of, limits_of}
 use Rattle.plan_outbox.specs.declared.front.Front.{Front}
 
 -- the payloads of one sender's entries
@@ -70,3 +74,12 @@ pub record HaveTaken (fronts : List Front) (finished : Bool) (text rest : List �
   pub counted : count ≡ length before
   pub many : length left ≡ length fronts
   pub taken : (gifts : List Gift) → AreGiven (length fronts) before gifts → AreLeft fronts finished gifts left × AllStandBy fronts finished gifts
+
+-- an outbox was only read: it holds what it held, and its numbers are the same; a call of its disk may have failed
+pub record WasRead {J : Type 0} {G : Ghosts J} (old new : Outbox J G) : Type 0 where
+  pub content : SameContent old new
+  pub holds : (h : History) (refused : List OutboxRecord) → HoldsBox old h refused → HoldsBox new h refused
+  pub told : G.is_told (journal_of old) → G.is_told (journal_of new)
+  pub moment : moment_of new ≡ moment_of old
+  pub limits : limits_of new ≡ limits_of old
+  pub never_falls : faults_of old ≤ faults_of new

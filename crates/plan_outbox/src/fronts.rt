@@ -1,13 +1,19 @@
 //! All senders: how far their plans and the entries of an outbox agree.
 
-ghost use Rattle.std.specs.Prelude.{◌≡◌, ℕ, ◌<◌, List, [], ◌∷◌, ◌++◌, length, IfOk};
-ghost use Rattle.std.specs.List.{AllByRecursion};
-ghost use Rattle.jr_record.specs.Records.{IsRecord};
+ghost use Rattle.std.specs.Prelude.{◌≡◌, ℕ, ◌≤◌, ◌<◌, false, List, [], ◌∷◌, ◌++◌, length, Err, IfOk, OnOk, IsErrOf};
+ghost use Rattle.gw_outside.specs.Faults.{HasRisen};
+ghost use Rattle.session_model.specs.Journal.{History};
+ghost use Rattle.jr_record.specs.Records.{IsSender};
 ghost use Rattle.jr_record.specs.declared.record.Record as records;
-ghost use Rattle.plan_outbox.specs.Progress.{AreFronts};
+ghost use Rattle.jr_record.specs.declared.record.Record.TheVariants as kinds;
+ghost use Rattle.jr_dated.specs.declared.faults.FetchFault.TheVariants as fetch;
+ghost use Rattle.jr_boxes.specs.Outboxes.{records_of_history};
+ghost use Rattle.jr_kept.specs.Outbox.{StandsFor, journal_of, is_broken, faults_of};
+ghost use Rattle.plan_outbox.specs.Progress.{AreFronts, WasRead};
 
 use crate::front::Front;
-use jr_record::Record;
+use jr_dated::{FetchFault, Journal};
+use jr_kept::Outbox;
 use plan_values::Plan;
 use std::alloc::{AllocError, Global};
 
@@ -22,40 +28,45 @@ fn open_fronts(alloc: Global, plans: &[Plan]) -> Result<Vec<Front>, AllocError>
     Ok(fronts)
 }
 
-/// Goes over one record more.
-fn take_record(plans: &[Plan], fronts: &mut [Front], one: &Record)
-    requires legal { IsRecord one.now }
+/// Goes over one entry more.
+fn take_entry(plans: &[Plan], fronts: &mut [Front], sender: u16, payload: &[u8])
+    requires sender { IsSender sender }
     requires many { length fronts.old ≡ length plans.now }
-    ensures fronts { (before : List records.Record) → AreFronts plans.now before fronts.old → AreFronts plans.now (before ++ one.now ∷ []) fronts.new }
+    ensures fronts { (before : List records.Record) (own_number : ℕ) → AreFronts plans.now before fronts.old
+        → AreFronts plans.now (before ++ kinds.Entry sender own_number payload.now ∷ []) fronts.new }
     ensures many { length fronts.new ≡ length plans.now }
 {
-    if let Record::Entry {
-        sender,
-        payload,
-        ..
-    } = one
-    {
-        let place = *sender as usize - 1;
-        if place < plans.len() {
-            let front = fronts[place];
-            let plan = &plans[place];
-            fronts[place] = front.behind(plan, payload.as_slice());
-        }
+    let place = sender as usize - 1;
+    if place < plans.len() {
+        let front = fronts[place];
+        let plan = &plans[place];
+        fronts[place] = front.behind(plan, payload);
     }
 }
 
-/// How far the plans of senders and the entries of an outbox of these records agree.
-pub fn fronts_of(
+/// How far the plans of senders and the entries of an outbox agree. The entries are read one after another.
+///
+/// # Errors
+/// Those of reading an entry.
+pub fn fronts_of<J: Journal>(
     alloc: Global,
     plans: &[Plan],
-    records: &[Record],
-) -> Result<Vec<Front>, AllocError>
-    requires legal { AllByRecursion IsRecord records.now }
-    ensures fronts { IfOk result (λ fronts. AreFronts plans.now records.now fronts.items) }
+    outbox: &mut Outbox<J>,
+) -> Result<Vec<Front>, FetchFault>
+    requires sound { is_broken outbox.old ≡ false }
+    ensures fronts { IfOk result (λ fronts. J.is_told (journal_of outbox.old) → (h : History) → StandsFor outbox.old h → AreFronts plans.now (records_of_history h) fronts.items) }
+    ensures whole { result ≡ Err fetch.Broken → ⊥ }
+    ensures changed { (at : ℕ) → result ≡ Err (fetch.Changed at) → J.is_told (journal_of outbox.old) → ⊥ }
+    ensures cause { IsErrOf result fetch.Fault → HasRisen (faults_of outbox.old) (faults_of outbox.new) }
+    ensures sound { OnOk result (is_broken outbox.new ≡ false) }
+    ensures read { WasRead outbox.old outbox.new }
+    ensures quiet { OnOk result (faults_of outbox.new ≡ faults_of outbox.old) }
 {
     let mut fronts = open_fronts(alloc, plans)?;
-    for one in records {
-        take_record(plans, fronts.as_mut_slice(), one);
+    let count = outbox.front();
+    for at in 0..count {
+        let (sender, payload) = outbox.entry(at + 1)?;
+        take_entry(plans, fronts.as_mut_slice(), sender, payload.as_slice());
     }
     Ok(fronts)
 }

@@ -1,5 +1,5 @@
 //! Whether the plans of a text go on from what an outbox holds of their senders, and the first line that does not. Relies on
-//! `plan_text` for what a line gives, and on `jr_record` for the records of an outbox.
+//! `plan_text` for what a line gives, and on `jr_kept` for the entries of an outbox.
 #![tactic(auto)]
 
 mod front;

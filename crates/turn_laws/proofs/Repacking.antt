@@ -2,8 +2,8 @@
 use Rattle.std.proofs.Common.{◌≡◌, inl, inr, ℕ, ◌<◌, ◌≤◌, max, Bool, List, ◌++◌, refl, sym, ap, subst, ◌∙◌, append-nil}
 use Rattle.std.proofs.lemmas.List.Elements.{All-nil}
 use Rattle.session_model.specs.Journal.{History}
-use Rattle.jr_record.specs.declared.journal.Journal.{Ghosts}
-use Rattle.jr_boxes.specs.declared.inbox.Inbox.{Inbox}
+use Rattle.jr_dated.specs.declared.journal.Journal.{Ghosts}
+use Rattle.jr_kept.specs.declared.inbox.Inbox.{Inbox}
 use Rattle.connection_laws.specs.Ranges.{IsInTime}
 use Rattle.conn_turns.specs.declared.answer.TurnFault.{TurnFault}
 use Rattle.conn_turns.specs.Lines.{Line}
@@ -40,8 +40,8 @@ work_unsent now before seen old behind w at served =
     served.machine ∙ (sym (run_append old.machine (first_calls now) rest) ∙ ap (λ (n : ℕ). run old.machine (first_calls n ++ rest)) (sym at))
 
 module _ {J : Type 0} {G : Ghosts J} where
-  pub turn_is_one : (box : Inbox J G) → TurnIsOne box
-  turn_is_one box eager before after old new result time clock (inl x) =
+  pub turn_is_one : (tells : Type 0) (box : Inbox J G) → TurnIsOne tells box
+  turn_is_one tells box eager before after old new result time clock (inl x) =
       let now : ℕ = max after old.line.machine.moment in
       record {
         turn = only_sends now x.sent.sent x.sent.lost;
@@ -54,15 +54,16 @@ module _ {J : Type 0} {G : Ghosts J} where
           clock = clock;
         };
         timely = record { bytes = All-nil (λ (b : ℕ). b < 256); time = time };
+        faithful = λ _. tt;
         gains = gains_none old.box new.box x.same_box;
         news_are = x.same_news ∙ sym (append-nil old.news);
       }
-  turn_is_one box eager before after old new result time clock (inr x) = by_kind x.exchanged
+  turn_is_one tells box eager before after old new result time clock (inr x) = by_kind x.exchanged
     where
       now : ℕ
       now = max after old.line.machine.moment
 
-      by_kind : Exchanged now eager (record old { line = line_ticked old.line now }) new result → WasTurn eager before after old new
+      by_kind : Exchanged tells now eager (record old { line = line_ticked old.line now }) new result → WasTurn tells eager before after old new
       by_kind (inl w) = record {
         turn = works w.work;
         made = record {
@@ -79,6 +80,7 @@ module _ {J : Type 0} {G : Ghosts J} where
           clock = clock;
         };
         timely = record { bytes = w.bytes; time = subst IsInTime (sym w.at) time };
+        faithful = w.faithful;
         gains = subst (λ (n : ℕ). Gains old.box new.box (added n (line_worked old.line n w.work) w.work.frames)) (sym w.at) w.gains;
         news_are = subst (λ (n : ℕ). new.news ≡ old.news ++ told n (line_worked old.line n w.work) w.work.frames) (sym w.at) w.news_are;
       }
@@ -86,6 +88,7 @@ module _ {J : Type 0} {G : Ghosts J} where
         turn = link_lost now;
         made = record { result = result; is = (l.line, l.same_seen); does = ((x.idle, x.unended), l.answer); moved = l.moved; moment = refl; clock = clock };
         timely = record { bytes = All-nil (λ (b : ℕ). b < 256); time = time };
+        faithful = λ _. tt;
         gains = gains_none old.box new.box l.same_box;
         news_are = l.same_news ∙ sym (append-nil old.news);
       }

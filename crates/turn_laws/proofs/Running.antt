@@ -1,7 +1,7 @@
 -- A connection that is a list of turns may run, and a life of such connections serves.
 use Rattle.std.proofs.Common.{◌≡◌, ◌≤◌, ◌+◌, ◌-◌, ℕ, Bool, true, false, ◌&&◌, not, if◌then◌else◌, List, [], ◌∷◌, ◌++◌, length, Option, Some, None, refl, sym, ap, subst, ◌∙◌, arith, true≢false, append-nil, length-append}
 use Rattle.std.specs.Prelude.{IfSome, is_none, nat_lt, option_to_list}
-use Rattle.std.specs.List.{flat_map}
+use Rattle.std.specs.List.{AllByRecursion, flat_map}
 use Rattle.std.proofs.lemmas.Bool.{ltb-true, ltb-false}
 use Rattle.std.proofs.lemmas.Grind.{flat_map-append}
 use mathlib.Core.List.{IsPrefix}
@@ -14,7 +14,7 @@ use Rattle.fixp_replies.specs.Replies.{reply_of}
 use Rattle.fixp_machine.specs.Machine.{State, Call, around, connected, run}
 use Rattle.fixp_machine.specs.Machine as calls
 use Rattle.conn_turns.specs.Lines.{Line, lines_after}
-use Rattle.conn_turns.specs.Turns.{Turn, only_sends, works, link_lost, cut_short, not_begun, first_calls, calls_of_frames, calls_of}
+use Rattle.conn_turns.specs.Turns.{Turn, IsFaithful, only_sends, works, link_lost, cut_short, not_begun, first_calls, calls_of_frames, calls_of}
 use Rattle.conn_turns.proofs.Taking.{run_append, frames_make_calls}
 use Rattle.connection_laws.specs.Writing.{Piece, bytes_of_piece, bytes_written}
 use Rattle.connection_laws.specs.Courses.{Waiting, Course, inbox_of, beginning, counting, called, next_course, course_after}
@@ -59,13 +59,13 @@ pub record TurnsStand (h : List Entry) (c : Course) (new : Line) (turns : List T
   pub may : AllMayStand h c (flat_map calls_of turns)
   pub after : StandsAt h (course_after c (flat_map calls_of turns)) new
 
-pub turns_stand : (h : List Entry) (before after : History) (old new : Line) (turns : List Turn) (c : Course) → StandsAt h c old → Has h after → AreTurns before after old new turns → TurnsStand h c new turns
-turns_stand h before after old new [] c s has a = record { may = tt; after = subst (λ (l : Line). StandsAt h c l) (sym a.0) s }
-turns_stand h before after old new (t ∷ later) c s has a =
+pub turns_stand : (h : List Entry) (before after : History) (old new : Line) (turns : List Turn) (c : Course) → StandsAt h c old → Has h after → AreTurns before after old new turns → AllByRecursion IsFaithful turns → TurnsStand h c new turns
+turns_stand h before after old new [] c s has a f = record { may = tt; after = subst (λ (l : Line). StandsAt h c l) (sym a.0) s }
+turns_stand h before after old new (t ∷ later) c s has a f =
     let mid : Line = a.1 in
-    let x = turn_may_stand h before a.2 old mid t c s (has_so_far h before after old new t later has a) a.3 in
+    let x = turn_may_stand h before a.2 old mid t c s (has_so_far h before after old new t later has a) a.3 f.0 in
     let d : Course = course_after c (calls_of t) in
-    let y = turns_stand h a.4 after mid new later d x.after has a.6 in
+    let y = turns_stand h a.4 after mid new later d x.after has a.6 f.1 in
     record {
       may = may_append h c (calls_of t) (flat_map calls_of later) x.may y.may;
       after = subst (λ (e : Course). StandsAt h e new) (sym (after_append c (calls_of t) (flat_map calls_of later))) y.after;
@@ -83,7 +83,7 @@ pub leg_stands : (h : List Entry) (s : State) (inbox : List InboxRecord) (t : Tu
     → AllMayStand h (beginning s inbox t.moment) (calls_on t)
 leg_stands h s inbox t awaits enough k =
     let c : Course = beginning s inbox t.moment in
-    let x = turns_stand h k.before k.after (first_line s t.moment) k.last t.turns c (begin_stands h s inbox t.moment awaits enough) k.has k.turns in
+    let x = turns_stand h k.before k.after (first_line s t.moment) k.last t.turns c (begin_stands h s inbox t.moment awaits enough) k.has k.turns k.faithful in
     subst (λ (cs : List Call). AllMayStand h c cs) (sym (flat_map-append calls_of t.turns (option_to_list t.cut)))
     (may_append h c (flat_map calls_of t.turns) (flat_map calls_of (option_to_list t.cut)) x.may
     (cut_stands h (course_after c (flat_map calls_of t.turns)) k.last t.cut x.after k.cut))

@@ -15,7 +15,7 @@ use Rattle.fixp_replies.specs.declared.act.Ending.{Ending}
 use Rattle.fixp_replies.specs.Events.{link_ending}
 use Rattle.fixp_machine.specs.Machine.{State, Call, begin, frame, bad_frame, did, tick, turn_done, closed, link_end, live, again, taken, reserve, around, link_ended, run}
 use Rattle.conn_turns.specs.Lines.{Line, TakenFrame, frame_calls}
-use Rattle.conn_turns.specs.Turns.{Work, Turn, only_sends, works, link_lost, cut_short, not_begun, first_calls, calls_of_frames, closing_calls, outbox_calls, sending_calls, calls_of}
+use Rattle.conn_turns.specs.Turns.{Work, Turn, IsFaithful, only_sends, works, link_lost, cut_short, not_begun, first_calls, calls_of_frames, closing_calls, outbox_calls, sending_calls, calls_of}
 use Rattle.conn_turns.proofs.Taking.{run_append}
 use Rattle.connection_laws.specs.Writing.{Piece, bytes_of_piece, bytes_written}
 use Rattle.connection_laws.specs.Courses.{Waiting, Course, counting, called, next_done, next_course, beginning, course_after}
@@ -166,19 +166,19 @@ turn_took h before after old new not_begun c is k st = absurd k
 
 -- of whole turns, one behind another
 turns_took : (h : List Entry) (before after : History) (old new : Line) (turns : List Turn) (c : Course) → StandsAt h c old → Has h after → AreTurns before after old new turns
-    → Took (course_after c (flat_map calls_of turns)) (c.taken ++ flat_map sent_in turns)
-turns_took h before after old new [] c s has a = record { front = front_of h c (c.taken ++ []) c.state.unsent s.stands (ap (λ (bs : List ℕ). bs ++ c.state.unsent) (sym (append-nil c.taken))); exact = λ _. sym (append-nil c.taken) }
-turns_took h before after old new (t ∷ []) c s has a =
-    let x = turn_may_stand h before a.2 old a.1 t c s (has_so_far h before after old new t [] has a) a.3 in
+    → AllByRecursion IsFaithful turns → Took (course_after c (flat_map calls_of turns)) (c.taken ++ flat_map sent_in turns)
+turns_took h before after old new [] c s has a f = record { front = front_of h c (c.taken ++ []) c.state.unsent s.stands (ap (λ (bs : List ℕ). bs ++ c.state.unsent) (sym (append-nil c.taken))); exact = λ _. sym (append-nil c.taken) }
+turns_took h before after old new (t ∷ []) c s has a f =
+    let x = turn_may_stand h before a.2 old a.1 t c s (has_so_far h before after old new t [] has a) a.3 f.0 in
     subst (λ (cs : List Call). Took (course_after c cs) (c.taken ++ (sent_in t ++ []))) (sym (append-nil (calls_of t)))
     (subst (λ (bs : List ℕ). Took (course_after c (calls_of t)) (c.taken ++ bs)) (sym (append-nil (sent_in t))) (turn_took h before a.2 old a.1 t c s.machine a.3 x.after.stands))
-turns_took h before after old new (t ∷ (u ∷ later)) c s has a =
+turns_took h before after old new (t ∷ (u ∷ later)) c s has a f =
     let mid : Line = a.1 in
     let between : History = a.2 in
-    let x = turn_may_stand h before between old mid t c s (has_so_far h before after old new t (u ∷ later) has a) a.3 in
+    let x = turn_may_stand h before between old mid t c s (has_so_far h before after old new t (u ∷ later) has a) a.3 f.0 in
     let d : Course = course_after c (calls_of t) in
     let more : List Call = flat_map calls_of (u ∷ later) in
-    let y : Took (course_after d more) (d.taken ++ flat_map sent_in (u ∷ later)) = turns_took h a.4 after mid new (u ∷ later) d x.after has a.6 in
+    let y : Took (course_after d more) (d.taken ++ flat_map sent_in (u ∷ later)) = turns_took h a.4 after mid new (u ∷ later) d x.after has a.6 f.1 in
     let is : d.taken ≡ c.taken ++ sent_in t = (turn_took h before between old mid t c s.machine a.3 x.after.stands).exact (ap (λ (m : State). m.ending) x.after.machine ∙ a.6.0) in
     subst (λ (e : Course). Took e (c.taken ++ (sent_in t ++ flat_map sent_in (u ∷ later)))) (sym (after_append c (calls_of t) more))
     (subst (λ (bs : List ℕ). Took (course_after d more) bs) (ap (λ (bs : List ℕ). bs ++ flat_map sent_in (u ∷ later)) is ∙ append_assoc c.taken (sent_in t) (flat_map sent_in (u ∷ later))) y)
@@ -218,8 +218,8 @@ sent_are_written h s inbox t awaits enough k =
     let start : StandsAt h c (first_line s t.moment) = begin_stands h s inbox t.moment awaits enough in
     let turns : List Call = flat_map calls_of t.turns in
     let cut : List Call = flat_map calls_of (option_to_list t.cut) in
-    let x : Took (course_after c turns) (flat_map sent_in t.turns) = turns_took h k.before k.after (first_line s t.moment) k.last t.turns c start k.has k.turns in
-    let y = turns_stand h k.before k.after (first_line s t.moment) k.last t.turns c start k.has k.turns in
+    let x : Took (course_after c turns) (flat_map sent_in t.turns) = turns_took h k.before k.after (first_line s t.moment) k.last t.turns c start k.has k.turns k.faithful in
+    let y = turns_stand h k.before k.after (first_line s t.moment) k.last t.turns c start k.has k.turns k.faithful in
     let more = calls_go_on h (course_after c turns) cut (cut_stands h (course_after c turns) k.last t.cut y.after k.cut) in
     let joined : course_on s inbox t ≡ course_after (course_after c turns) cut = ap (λ (cs : List Call). course_after c cs) (flat_map-append calls_of t.turns (option_to_list t.cut)) ∙ after_append c turns cut in
     let sent : sent_on t ≡ flat_map sent_in t.turns = flat_map-append sent_in t.turns (option_to_list t.cut) ∙ (ap (λ (bs : List ℕ). flat_map sent_in t.turns ++ bs) (cut_sends k.last t.cut k.cut) ∙ append-nil (flat_map sent_in t.turns)) in

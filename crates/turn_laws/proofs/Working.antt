@@ -9,7 +9,7 @@ use Rattle.fixp_replies.specs.declared.act.Ending.{Ending}
 use Rattle.fixp_machine.specs.Machine.{State, Call, link_end, run}
 use Rattle.conn_turns.specs.Lines.{Line, TakenFrame, IsNext, lines_after}
 use Rattle.conn_turns.specs.Frames.{is_unframed, unframed_at, is_bad}
-use Rattle.conn_turns.specs.Turns.{Work, Turn, only_sends, works, link_lost, cut_short, not_begun, first_calls, calls_of_frames, closing_calls, again_calls, live_calls, finish_calls, outbox_calls, sending_calls, calls_of}
+use Rattle.conn_turns.specs.Turns.{Work, Turn, IsFaithful, only_sends, works, link_lost, cut_short, not_begun, first_calls, calls_of_frames, closing_calls, again_calls, live_calls, finish_calls, outbox_calls, sending_calls, calls_of}
 use Rattle.fixp_machine.specs.Machine as calls
 use Rattle.conn_turns.specs.Exact.{Served, closed_at}
 use Rattle.conn_turns.proofs.Taking.{run_append, frames_make_calls, work_makes_calls}
@@ -38,8 +38,8 @@ finish_go h c m now None s = nothing h c m s
 finish_go h c m now (Some last) s = finish_goes h c m last now s
 
 -- the outbox is served
-outbox_goes : (h : List Entry) (c : Course) (before after : History) (l behind : Line) (w : Work) → Steady h c (closed_at l w) → Has h after → Served before after l behind w → Goes h c (closed_at l w) (outbox_calls w)
-outbox_goes h c before after l behind w s has v =
+outbox_goes : (h : List Entry) (c : Course) (before after : History) (l behind : Line) (w : Work) → Steady h c (closed_at l w) → Has h after → Served before after l behind w → IsFaithful (works w) → Goes h c (closed_at l w) (outbox_calls w)
+outbox_goes h c before after l behind w s has v faithful =
     let k : State = closed_at l w in
     let agains : List Call = again_calls w.now w.again in
     let lives : List Call = live_calls w.now w.live in
@@ -47,16 +47,16 @@ outbox_goes h c before after l behind w s has v =
     let last : IsPrefix w.at_finish.made h = subst (λ (x : History). IsPrefix x.made h) (sym v.seen) has.begins in
     let mid : IsPrefix w.at_live.made h = prefix_trans w.at_live.made w.at_finish.made h v.seen_finish.made last in
     let first : IsPrefix w.at_again.made h = prefix_trans w.at_again.made w.at_live.made h v.seen_live.made mid in
-    let x : Goes h c k agains = subst (λ (o : Option (List (List ℕ))). Goes h c k (again_calls w.now o)) (sym v.again) (again_goes h c k w.now w.at_again s first) in
+    let x : Goes h c k agains = subst (λ (o : Option (List (List ℕ))). Goes h c k (again_calls w.now o)) (sym (faithful.0 ∙ v.due_again)) (again_goes h c k w.now w.at_again s first) in
     let d : Course = course_after c agains in
     let m : State = run k agains in
-    let y : Goes h d m lives = subst (λ (o : Option (List (List ℕ))). Goes h d m (live_calls w.now o)) (sym v.live) (live_goes h d m w.now w.at_live x.after mid has.few) in
+    let y : Goes h d m lives = subst (λ (o : Option (List (List ℕ))). Goes h d m (live_calls w.now o)) (sym (faithful.1 ∙ v.due_live)) (live_goes h d m w.now w.at_live x.after mid has.few) in
     and_then h c k agains (lives ++ ends) x (and_then h d m lives ends y (finish_go h (course_after d lives) (run m lives) w.now w.finish y.after))
 
 -- frames, what ends them, the outbox and the sending
-work_goes : (h : List Entry) (c : Course) (before after : History) (l behind : Line) (w : Work) → Steady h c l.machine → Has h after → Served before after l behind w → IsPrefix w.sent behind.machine.unsent
+work_goes : (h : List Entry) (c : Course) (before after : History) (l behind : Line) (w : Work) → Steady h c l.machine → Has h after → Served before after l behind w → IsFaithful (works w) → IsPrefix w.sent behind.machine.unsent
     → Goes h c l.machine (calls_of_frames w.now w.frames ++ (closing_calls w ++ (outbox_calls w ++ sending_calls w.sent w.lost)))
-work_goes h c before after l behind w s has v front =
+work_goes h c before after l behind w s has v faithful front =
     let frames : List Call = calls_of_frames w.now w.frames in
     let closing : List Call = closing_calls w in
     let outbox : List Call = outbox_calls w in
@@ -68,25 +68,25 @@ work_goes h c before after l behind w s has v front =
     let y : Goes h d r.machine closing = closing_go h d r.machine w.now w.broken w.link_over (subst (λ (m : State). Steady h d m) (sym made) x.after) (broken_open (length w.frames) r w.broken v.broken) in
     let e : Course = course_after d closing in
     let k : State = closed_at l w in
-    let z : Goes h e k outbox = outbox_goes h e before after l behind w y.after has v in
+    let z : Goes h e k outbox = outbox_goes h e before after l behind w y.after has v faithful in
     let is : behind.machine ≡ run k outbox = v.machine ∙ (run_append l.machine frames (closing ++ outbox) ∙ (ap (λ (m : State). run m (closing ++ outbox)) (sym made) ∙ run_append r.machine closing outbox)) in
     let last : Goes h (course_after e outbox) (run k outbox) sending = sending_go h (course_after e outbox) (run k outbox) w.sent w.lost z.after (subst (λ (m : State). IsPrefix w.sent m.unsent) is front) in
     and_then h c l.machine frames (closing ++ (outbox ++ sending)) x (subst (λ (m : State). Goes h d m (closing ++ (outbox ++ sending))) made
     (and_then h d r.machine closing (outbox ++ sending) y (and_then h e k outbox sending z last)))
 
-turn_goes : (h : List Entry) (before after : History) (old new : Line) (t : Turn) (c : Course) → Steady h c old.machine → Has h after → IsTurn before after old new t → Goes h c old.machine (calls_of t)
-turn_goes h before after old new (only_sends now sent lost) c s has k =
+turn_goes : (h : List Entry) (before after : History) (old new : Line) (t : Turn) (c : Course) → Steady h c old.machine → Has h after → IsTurn before after old new t → IsFaithful t → Goes h c old.machine (calls_of t)
+turn_goes h before after old new (only_sends now sent lost) c s has k faithful =
     let x : Goes h c old.machine (first_calls now) = first_go h c old.machine now s in
     and_then h c old.machine (first_calls now) (sending_calls sent lost) x (sending_go h (course_after c (first_calls now)) (run old.machine (first_calls now)) sent lost x.after k.0.front)
-turn_goes h before after old new (works w) c s has k =
+turn_goes h before after old new (works w) c s has k faithful =
     let x : Goes h c old.machine (first_calls w.now) = first_go h c old.machine w.now s in
     and_then h c old.machine (first_calls w.now) (calls_of_frames w.now w.frames ++ (closing_calls w ++ (outbox_calls w ++ sending_calls w.sent w.lost))) x
-    (work_goes h (course_after c (first_calls w.now)) before after (line_received old w.now w.received w.got) k.behind w x.after has k.served k.sends.front)
-turn_goes h before after old new (link_lost now) c s has k =
+    (work_goes h (course_after c (first_calls w.now)) before after (line_received old w.now w.received w.got) k.behind w x.after has k.served faithful k.sends.front)
+turn_goes h before after old new (link_lost now) c s has k faithful =
     let x : Goes h c old.machine (first_calls now) = first_go h c old.machine now s in
     and_then h c old.machine (first_calls now) (link_end ∷ []) x (link_goes h (course_after c (first_calls now)) (run old.machine (first_calls now)) x.after)
-turn_goes h before after old new (cut_short now received frames refused) c s has k = absurd k
-turn_goes h before after old new not_begun c s has k = absurd k
+turn_goes h before after old new (cut_short now received frames refused) c s has k faithful = absurd k
+turn_goes h before after old new not_begun c s has k faithful = absurd k
 
 -- the machine behind a turn is what its calls make of it
 pub turn_makes_calls : (before after : History) (old new : Line) (t : Turn) → IsTurn before after old new t → new.machine ≡ run old.machine (calls_of t)
@@ -100,8 +100,8 @@ pub steady_at : (h : List Entry) (c : Course) (l : Line) → StandsAt h c l → 
 steady_at h c l s = record { stands = s.stands; is = s.machine; done = s.done }
 
 pub turn_may_stand : TurnMayStand
-turn_may_stand h before after old new t c s has k =
-    let x : Goes h c old.machine (calls_of t) = turn_goes h before after old new t c (steady_at h c old s) has k in
+turn_may_stand h before after old new t c s has k faithful =
+    let x : Goes h c old.machine (calls_of t) = turn_goes h before after old new t c (steady_at h c old s) has k faithful in
     let made : new.machine ≡ run old.machine (calls_of t) = turn_makes_calls before after old new t k in
     record {
       may = x.may;

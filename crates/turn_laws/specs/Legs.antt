@@ -8,7 +8,7 @@ use Rattle.session_model.specs.Inbox.{InboxRecord, next_number}
 use Rattle.fixp_replies.specs.Acts.{is_record}
 use Rattle.fixp_machine.specs.Machine.{State, Call, connected, taken, link_end, run}
 use Rattle.conn_turns.specs.Lines.{Line, TakenFrame, reply_at, lines_after}
-use Rattle.conn_turns.specs.Turns.{Turn, only_sends, works, link_lost, cut_short, not_begun, calls_of}
+use Rattle.conn_turns.specs.Turns.{Turn, IsFaithful, only_sends, works, link_lost, cut_short, not_begun, calls_of}
 use Rattle.connection_laws.specs.Writing.{Piece, bytes_of_piece, bytes_written}
 use Rattle.connection_laws.specs.Courses.{Course, beginning, course_after}
 use Rattle.connection_laws.specs.Living.{Leg, MayRun}
@@ -40,7 +40,7 @@ calls_on t = flat_map calls_of (all_turns t)
 abbrev pub first_line : State → ℕ → Line
 first_line s now = record { machine = connected s now; held = []; place = 0; over = false }
 
--- such a connection is made of these turns, over an outbox that begins with all that was seen
+-- such a connection is made of these turns, over an outbox that begins with all that was seen, of which each turn sent what it had seen
 pub record AreTurnsOf (h : List Entry) (s : State) (t : TurnedLeg) : Type 0 where
   pub before : History
   pub after : History
@@ -48,6 +48,7 @@ pub record AreTurnsOf (h : List Entry) (s : State) (t : TurnedLeg) : Type 0 wher
   pub turns : AreTurns before after (first_line s t.moment) last t.turns
   pub cut : IfSome t.cut (IsCut last)
   pub has : Has h after
+  pub faithful : AllByRecursion IsFaithful t.turns
 
 -- the bytes that the link took in a turn
 abbrev pub sent_in : Turn → List ℕ

@@ -4,7 +4,7 @@ use mathlib.Core.List.{IsPrefix}
 use Rattle.session_model.specs.Journal.{Entry, History}
 use Rattle.conn_turns.specs.Lines.{Line, TakenFrame}
 use Rattle.conn_turns.specs.Frames.{added}
-use Rattle.conn_turns.specs.Turns.{Turn, cut_short, calls_of}
+use Rattle.conn_turns.specs.Turns.{Turn, IsFaithful, cut_short, calls_of}
 use Rattle.connection_laws.specs.Courses.{Course, course_after}
 use Rattle.connection_laws.specs.Standing.{Stands, AllMayStand}
 use Rattle.turn_laws.specs.Turns.{line_received, IsTurn, IsCutShort, IsCut, adds_in}
@@ -20,14 +20,15 @@ pub record Has (h : List Entry) (seen : History) : Type 0 where
   pub begins : IsPrefix seen.made h
   pub few : length h < 2 ^ 40
 
--- each call of a whole turn may come where it came, and the connection stands again where the turn left the line
+-- each call of a whole turn that sent of the outbox what it had seen may come where it came, and the connection stands again where the
+-- turn left the line
 pub record TurnStands (h : List Entry) (c : Course) (new : Line) (t : Turn) : Type 0 where
   pub may : AllMayStand h c (calls_of t)
   pub after : StandsAt h (course_after c (calls_of t)) new
 
 abbrev pub TurnMayStand : Type 0
 TurnMayStand = (h : List Entry) (before after : History) (old new : Line) (t : Turn) (c : Course)
-    → StandsAt h c old → Has h after → IsTurn before after old new t → TurnStands h c new t
+    → StandsAt h c old → Has h after → IsTurn before after old new t → IsFaithful t → TurnStands h c new t
 
 -- each call of a turn that was cut short may come where it came
 abbrev pub CutMayStand : Type 0

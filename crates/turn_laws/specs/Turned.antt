@@ -2,16 +2,17 @@
 use Rattle.std.specs.Prelude.{◌≡◌, ◌⊎◌, ℕ, ◌≤◌, max, Bool, true, List, ◌++◌, length, Option, IfSome, Result}
 use Rattle.fixp_replies.specs.Acts.{is_record}
 use Rattle.connection_laws.specs.Ranges.{IsInTime}
-use Rattle.jr_record.specs.declared.journal.Journal.{Ghosts}
-use Rattle.jr_boxes.specs.declared.inbox.Inbox.{Inbox}
-use Rattle.jr_boxes.specs.Inbox.{limits_of}
+use Rattle.jr_dated.specs.declared.journal.Journal.{Ghosts}
+use Rattle.jr_kept.specs.declared.inbox.Inbox.{Inbox}
+use Rattle.jr_kept.specs.Inbox.{limits_of}
 use Rattle.conn_turns.specs.declared.answer.TurnEnd.{TurnEnd}
 use Rattle.conn_turns.specs.declared.answer.TurnFault.{TurnFault}
 use Rattle.conn_turns.specs.declared.answer.TurnFault.TheVariants as faults
 use Rattle.conn_turns.specs.Lines.{TakenFrame, reply_at, lines_after}
 use Rattle.conn_turns.specs.Frames.{added, told}
-use Rattle.conn_turns.specs.Turns.{Turn, cut_short}
+use Rattle.conn_turns.specs.Turns.{Turn, IsFaithful, cut_short}
 use Rattle.conn_steps.specs.Settling.{IsPast, Gains, Refuses}
+use Rattle.conn_steps.specs.Taking.{OfInbox}
 use Rattle.conn_loop.specs.Live.{EndAt}
 use Rattle.conn_loop.specs.Turned.{DidTurn, NotBegun, CutTurn, refused_of, wanted_of}
 use Rattle.turn_laws.specs.Turns.{line_received, adds_in, tells_in}
@@ -20,20 +21,22 @@ use Rattle.turn_laws.specs.Made.{turn_at, MadeTurn, MadeCut}
 
 module _ {J : Type 0} {G : Ghosts J} where
   -- It was a whole turn, in time, by a clock that gave these moments last: the inbox gained what that adds, the news are what it tells,
-  -- and the link gave and took what it received and sent
-  pub record WasTurn (eager : Bool) (before after : ℕ) (old new : EndAt J G) : Type 0 where
+  -- and the link gave and took what it received and sent; what it sent of an outbox whose disk tells its content is what was seen of it
+  pub record WasTurn (tells : Type 0) (eager : Bool) (before after : ℕ) (old new : EndAt J G) : Type 0 where
     pub turn : Turn
     pub made : MadeTurn eager (turn_at old before) (turn_at new after) turn
     pub timely : IsTimelyTurn turn
+    pub faithful : tells → IsFaithful turn
     pub gains : Gains old.box new.box (adds_in old.line turn)
     pub news_are : new.news ≡ old.news ++ tells_in old.line turn
 
-  -- a turn that answers, and one whose link failed, was a whole one, where it was in time, whatever the inboxes of this kind
-  abbrev pub TurnIsOne : Inbox J G → Type 0
-  TurnIsOne box =
+  -- a turn that answers, and one whose link failed, was a whole one, where it was in time, whatever the inboxes of this kind, and whether
+  -- the outbox's disk tells its content or not
+  abbrev pub TurnIsOne : (tells : Type 0) → Inbox J G → Type 0
+  TurnIsOne tells box =
       (eager : Bool) (before after : ℕ) (old new : EndAt J G) (result : Result TurnEnd TurnFault)
-      → IsInTime (max after old.line.machine.moment) → before ≤ after → DidTurn (max after old.line.machine.moment) eager old new result
-      → WasTurn eager before after old new
+      → IsInTime (max after old.line.machine.moment) → before ≤ after → DidTurn tells (max after old.line.machine.moment) eager old new result
+      → WasTurn tells eager before after old new
 
   -- A turn was cut short, in time: its link gave what it received in one call, and took nothing. The inbox gained what its frames add, a
   -- stop may leave of the refused one what its fault may, and the news are what the frames tell. At Full its journal has no room for the
@@ -53,7 +56,7 @@ module _ {J : Type 0} {G : Ghosts J} where
         → IsPast (limits_of new.box).bytes bytes (wanted_of now (lines_after now (line_received old.line now received made.cut.got) frames) refused)
     pub recorded : IfSome refused
         (λ t. (fault ≡ faults.Memory → ⊥) → is_record (reply_at now (lines_after now (line_received old.line now received made.cut.got) frames) t).act ≡ true)
-    pub of_inbox : IfSome refused (λ t. (fault ≡ faults.Link → ⊥) × (fault ≡ faults.Outbox → ⊥))
+    pub of_inbox : IfSome refused (λ t. OfInbox fault)
     pub news_are : new.news ≡ old.news ++ told now (line_received old.line now received made.cut.got) frames
 
   -- one that answers another fault had not begun, or was cut short, where it was in time

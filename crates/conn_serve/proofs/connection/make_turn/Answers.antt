@@ -9,7 +9,7 @@ use Rattle.conn_serve.proofs.connection.make_turn.Goals as goal
 
 pub returns-clause-whole : goal.returns-clause-whole
 returns-clause-whole g c =
-    let one = turn_is_one c.args.end.now.inbox.now _ _ _ (in_turn _ _ c.args.end.now []) (in_turn _ _ c.turn.new.self _) c.turn.result in
+    let one = turn_is_one g.O.Journal.tells c.args.end.now.inbox.now _ _ _ (in_turn _ _ c.args.end.now []) (in_turn _ _ c.turn.new.self _) c.turn.result in
     whole_at _ c.turn.result c.close_of.result c.close_of.ensures (on_ok_weaker c.turn.result (one c.turn.ensures.limit c.turn.ensures.stays.ticks) c.turn.ensures.did) (λ e. one c.turn.ensures.limit c.turn.ensures.stays.ticks (c.turn.ensures.lost e))
 
 pub returns-clause-cut : goal.returns-clause-cut
@@ -41,7 +41,7 @@ pub returns-clause-blamed : goal.returns-clause-blamed
 returns-clause-blamed g c =
     let e = c.turn.ensures in
     err_at _ c.turn.result c.close_of.result c.close_of.ensures
-    (blamed_made (pass_in c.args.end.now) (pass_in c.turn.new.self) c.args.end.now.inbox.now c.turn.new.self.inbox.now c.turn.result e.stays.kind e.inbox e.outbox e.broken e.full)
+    (blamed_made (pass_in c.args.end.now) (pass_in c.turn.new.self) c.args.end.now.inbox.now c.turn.new.self.inbox.now c.turn.result e.stays.kind e.inbox e.outbox e.broken e.changed e.full)
 
 pub returns-clause-of_turn : goal.returns-clause-of_turn
 returns-clause-of_turn g c = err_at _ c.turn.result c.close_of.result c.close_of.ensures (of_turn_made c.turn.result)

@@ -1,7 +1,6 @@
 use Rattle.std.proofs.Common.{◌≡◌, refl, ap, subst, ◌∙◌, arith}
-use Rattle.fixp_replies.specs.declared.facts.EndState.{EndState}
 use Rattle.conn_turns.specs.Lines.{Line}
-use Rattle.conn_loop.specs.Ends.{line_in, pass_in}
+use Rattle.conn_loop.specs.Ends.{line_in}
 use Rattle.conn_loop.proofs.Lasting.{stays_on}
 use Rattle.conn_serve.specs.declared.answer.ServeFault.TheVariants as faults
 use Rattle.conn_serve.specs.Answers.{IsOfTurn}
@@ -31,7 +30,7 @@ returns-then-load-clause-stopped g c = λ e.
     let cut = c.cut.ensures in
     given_first _ _ (connection_in _ _ _ c.args.end.now) (connection_in _ _ _ c.cut.new.self) (line_in c.begin.new.self) _ _ c.begin.ensures.begun (record { time = c.begin.ensures.limit; is = refl; later = c.begin.ensures.stays.ticks })
     (given_in_cut _ _ _ _ _ _ c.loop.end c.cut.new.self cut.pass cut.inbox cut.clock
-    (given_whole _ _ _ (connection_in _ _ _ c.loop.end) _ c.loop.invariant.turned (λ x. cc) (λ x. cc) (λ n k x. cc)))
+    (given_whole _ _ _ (connection_in _ _ _ c.loop.end) _ c.loop.invariant.turned (λ x. cc) (λ x. cc) (λ n x. cc) (λ n k x. cc)))
 
 pub turn_once-requires-clause-place : goal.turn_once-requires-clause-place
 turn_once-requires-clause-place g c =
@@ -88,4 +87,4 @@ returns-clause-given_up g c =
     given_first _ _ (connection_in _ _ _ c.args.end.now) (connection_in _ _ _ c.cut-2.new.self) (line_in c.begin.new.self) _ _ c.begin.ensures.begun (record { time = c.begin.ensures.limit; is = refl; later = c.begin.ensures.stays.ticks })
     (given_in_cut _ _ _ _ _ _ c.loop.end c.cut-2.new.self cut.pass cut.inbox cut.clock
     (given_whole _ _ _ (connection_in _ _ _ c.loop.end) _ c.loop.invariant.turned
-    (λ e. (omega (arith, c.loop-test.false, c.loop.auto.counter-end), c.loop.invariant.may.goes.unended)) (λ x. cc) (λ n k x. cc)))
+    (λ e. (omega (arith, c.loop-test.false, c.loop.auto.counter-end), c.loop.invariant.may.goes.unended)) (λ x. cc) (λ n x. cc) (λ n k x. cc)))

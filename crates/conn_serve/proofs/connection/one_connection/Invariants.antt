@@ -7,7 +7,7 @@ use Rattle.conn_serve.proofs.connection.one_connection.Given as goal
 abbrev pub invariant-loop : goal.invariant-loop
 invariant-loop g l = record {
   stays : Stays l.fn.end l.end;
-  turned : Turned g.L.Link.eager
+  turned : Turned g.O.Journal.tells g.L.Link.eager
       (record (connection_in (g.L.Link.told l.fn.link) (g.L.Link.carried l.fn.link) (g.K.Sink.taken l.fn.out) l.fn.end) { clock = g.C.Clock.last l.initial.end.clock.now; line = line_in l.initial.end })
       (connection_in (g.L.Link.told l.link) (g.L.Link.carried l.link) (g.K.Sink.taken l.out) l.end) l.counter;
   may : MayTurn l.end;

@@ -31,5 +31,5 @@ returns-clause-turned g c =
 pub returns-clause-given_up : goal.returns-clause-given_up
 returns-clause-given_up g c =
     let made = c.make_turn-answer.ensures in
-    given_answer c.make_turn-answer.result _ (connection_in _ _ _ c.args.end.now) (connection_in _ _ _ c.make_turn-answer.new.end) _ made.stays.looks.seen made.stays.ticks made.cut made.of_turn
+    given_answer g.O.Journal.tells c.make_turn-answer.result _ (connection_in _ _ _ c.args.end.now) (connection_in _ _ _ c.make_turn-answer.new.end) _ made.stays.looks.seen made.stays.ticks made.cut made.of_turn
     c.in_default.ensures.told

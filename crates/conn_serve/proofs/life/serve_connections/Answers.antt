@@ -41,7 +41,7 @@ returns-in-Some-clause-looks g c = looks_on _ _ _ c.loop-number.invariant.looks 
 
 pub returns-in-Some-clause-served : goal.returns-in-Some-clause-served
 returns-in-Some-clause-served g c =
-    over_ok _ _ _ _ c.in-Some.end _ (life_at _ _ _ c.args.inbox.now) (life_at _ _ _ c.loop-number.inbox) (life_at _ _ _ c.serve_next-answer.new.inbox) _ _ _ c.loop-number.invariant.lived (subst (IsRound _ _ (life_at _ _ _ c.loop-number.inbox) (life_at _ _ _ c.serve_next-answer.new.inbox) _ _) (c.in-Ok.is ∙ ap Ok c.in-Some.is) c.serve_next-answer.ensures.round) c.serve_next-answer.ensures.ticks
+    over_ok _ _ _ _ c.in-Some.end _ (life_at _ _ _ c.args.inbox.now) (life_at _ _ _ c.loop-number.inbox) (life_at _ _ _ c.serve_next-answer.new.inbox) _ _ _ c.loop-number.invariant.lived (subst (IsRound _ _ _ (life_at _ _ _ c.loop-number.inbox) (life_at _ _ _ c.serve_next-answer.new.inbox) _ _) (c.in-Ok.is ∙ ap Ok c.in-Some.is) c.serve_next-answer.ensures.round) c.serve_next-answer.ensures.ticks
 
 pub returns-in-Err-clause-ticks : goal.returns-in-Err-clause-ticks
 returns-in-Err-clause-ticks g c = omega (arith, c.loop-number.invariant.ticks, c.serve_next-answer.ensures.ticks)
@@ -69,7 +69,7 @@ loop-number-preserved g c =
       looks = looks_on _ _ _ was.looks one.looks;
       may = one.goes (c.in-Ok.is ∙ ap Ok c.in_default.is);
       lent = one.lent;
-      lived = lived_more _ _ _ _ _ (life_at _ _ _ c.args.inbox.now) (life_at _ _ _ c.loop-number.inbox) (life_at _ _ _ c.serve_next-answer.new.inbox) _ _ _ was.lived (subst (IsRound _ _ (life_at _ _ _ c.loop-number.inbox) (life_at _ _ _ c.serve_next-answer.new.inbox) _ _) (c.in-Ok.is ∙ ap Ok c.in_default.is) one.round);
+      lived = lived_more _ _ _ _ _ (life_at _ _ _ c.args.inbox.now) (life_at _ _ _ c.loop-number.inbox) (life_at _ _ _ c.serve_next-answer.new.inbox) _ _ _ was.lived (subst (IsRound _ _ _ (life_at _ _ _ c.loop-number.inbox) (life_at _ _ _ c.serve_next-answer.new.inbox) _ _) (c.in-Ok.is ∙ ap Ok c.in_default.is) one.round);
       kind = kind_on c.args.inbox.now c.loop-number.inbox c.serve_next-answer.new.inbox was.inbox one.never_falls.0 was.kind one.kind;
       inbox = omega (arith, was.inbox, one.never_falls.0);
       out = omega (arith, was.out, one.never_falls.1);

@@ -1,6 +1,6 @@
 use Rattle.std.proofs.Common.{◌≡◌, ◌≤◌, false}
 use Rattle.std.specs.Prelude.{⊤}
-use Rattle.jr_boxes.specs.Inbox.{faults_of}
+use Rattle.jr_kept.specs.Inbox.{faults_of}
 use Rattle.gate_turn.specs.Places.{known}
 use Rattle.gate_turn.specs.Calls.{IsFree}
 use Rattle.gate_senders.specs.Gate.{IsPassAt}
@@ -18,7 +18,7 @@ invariant-loop-number g l = record {
   looks : Looks (known l.fn.pass) (known l.pass);
   may : MayBegin (line_of l.conn).machine (known l.pass) l.inbox;
   lent : g.N.Dialer.lent l.dialer ≡ false;
-  lived : LivedTo g.N.Link.Link (g.C.Clock.last l.fn.clock) (g.C.Clock.last l.clock) l.number (life_at (g.N.Dialer.told l.fn.dialer) (g.K.Sink.taken l.fn.out) (known l.fn.pass).seen l.fn.inbox)
+  lived : LivedTo g.O.Journal.tells g.N.Link.Link (g.C.Clock.last l.fn.clock) (g.C.Clock.last l.clock) l.number (life_at (g.N.Dialer.told l.fn.dialer) (g.K.Sink.taken l.fn.out) (known l.fn.pass).seen l.fn.inbox)
       (life_at (g.N.Dialer.told l.dialer) (g.K.Sink.taken l.out) (known l.pass).seen l.inbox) (line_of l.fn.conn).machine (line_of l.conn).machine;
   kind : SameKind l.fn.inbox l.inbox;
   inbox : faults_of l.fn.inbox ≤ faults_of l.inbox;

@@ -30,7 +30,7 @@ pub returns-clause-round : goal.returns-clause-round
 returns-clause-round g c =
     let one = c.lent_connection-answer.ensures in
     let is = c.in-Ok.is ∙ ap Ok c.in-Some.is in
-    subst (IsRound _ c.args.number (life_at _ _ _ c.args.inbox.now) (life_at _ _ _ c.lent_connection-answer.new.inbox) _ _) (sym c.end_behind.ensures)
+    subst (IsRound _ _ c.args.number (life_at _ _ _ c.args.inbox.now) (life_at _ _ _ c.lent_connection-answer.new.inbox) _ _) (sym c.end_behind.ensures)
     (round_ended _ c.args.number (life_at _ _ _ c.args.inbox.now) (life_at _ _ _ c.lent_connection-answer.new.inbox) _ _ c.in-Some.close
     (ended_one g.N.Link.Link c.in-Ok-Some.link c.lent_connection-answer.new.link c.args.number _ _ _ _ _ _ _ _ _ _ _ (line_of c.args.conn.now) (line_of c.lent_connection-answer.new.conn) c.args.inbox.now c.lent_connection-answer.new.inbox c.in-Some.close
     (subst (λ o. IsNext g.N.Link.Link.carried (g.N.Dialer.told c.args.dialer.now) (g.N.Dialer.told c.next_link.new.dialer) (Ok o)) c.in-Ok-Some.field-0-is c.in-Ok-Some.ensures.next) (one.turned c.in-Some.close is) c.back.ensures.told (one.closed c.in-Some.close is) (lost_at _ c.in-Some.close c.lent_connection-answer.result is one.lost) c.in_default-tell_close.ensures.told))

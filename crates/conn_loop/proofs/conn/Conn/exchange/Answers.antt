@@ -46,12 +46,12 @@ returns-in-Err-clause-cut g c = λ _. record { got = _; line = line_of c.receive
 pub returns-clause-did : goal.returns-clause-did
 returns-clause-did g c =
     on_ok_any _ c.send.result
-    (inl (did_work c.args.now _ (live_end _ _ _ (line_of c.args.self.now) c.args.inbox.now _) (live_end _ _ _ (line_of c.send.new.self) c.work.new.inbox _) _ _ (line_of c.receive.new.self) (line_of c.work.new.self) c.send.result _
+    (inl (did_work _ c.args.now _ (live_end _ _ _ (line_of c.args.self.now) c.args.inbox.now _) (live_end _ _ _ (line_of c.send.new.self) c.work.new.inbox _) _ _ (line_of c.receive.new.self) (line_of c.work.new.self) c.send.result _
     c.in-Ok.ensures.received c.in_default-work.ensures.served c.send.ensures.sent))
 
 pub returns-clause-lost : goal.returns-clause-lost
 returns-clause-lost g c = λ _.
-    inl (did_work c.args.now _ (live_end _ _ _ (line_of c.args.self.now) c.args.inbox.now _) (live_end _ _ _ (line_of c.send.new.self) c.work.new.inbox _) _ _ (line_of c.receive.new.self) (line_of c.work.new.self) c.send.result _
+    inl (did_work _ c.args.now _ (live_end _ _ _ (line_of c.args.self.now) c.args.inbox.now _) (live_end _ _ _ (line_of c.send.new.self) c.work.new.inbox _) _ _ (line_of c.receive.new.self) (line_of c.work.new.self) c.send.result _
     c.in-Ok.ensures.received c.in_default-work.ensures.served c.send.ensures.sent)
 
 pub returns-clause-cut : goal.returns-clause-cut

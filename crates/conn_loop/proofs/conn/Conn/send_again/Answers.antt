@@ -1,52 +1,51 @@
-use Rattle.std.proofs.Common.{◌≡◌, ◌+◌, ◌<◌, ◌≤◌, List, length, Option, false, sym, ap, subst, ◌∙◌, refl, arith}
+use Rattle.std.proofs.Common.{◌≡◌, ◌+◌, ◌<◌, ◌≤◌, length, Option, Some, false, sym, ap, subst, ◌∙◌, refl, arith}
 use Rattle.std.specs.Prelude.{is_some, IfSome}
-use Rattle.session_model.specs.Inbox.{Numbered}
 use Rattle.session_model.proofs.Lists.{prefix_length}
 use Rattle.fixp_msgs.specs.declared.numbering.Range.{Range}
 use Rattle.fixp_shake.specs.declared.config.EndConfig.{EndConfig}
 use Rattle.fixp_replies.specs.declared.facts.EndState.{EndState}
 use Rattle.fixp_end.specs.Sending.{AreFrom, payloads_of}
 use Rattle.fixp_end.proofs.Frames.{frames_fit}
-use Rattle.fixp_machine.specs.Machine.{State, sent_again, run}
+use Rattle.fixp_machine.specs.Machine.{State, sent_again}
 use Rattle.gate_turn.specs.Places.{known}
-use Rattle.conn_turns.specs.Turns.{again_calls, served_of}
+use Rattle.conn_turns.specs.Turns.{served_of}
+use Rattle.conn_turns.specs.Exact.{IsAsDue}
 use Rattle.conn_steps.proofs.Following.{line_is}
-use Rattle.conn_loop.proofs.Entries.{sized, payloads_fetched, numbers_fetched, length_fetched, length_payloads}
+use Rattle.conn_loop.proofs.Entries.{sized, given_as, applied_as, due_given, told_given, numbers_given, length_given, length_payloads}
 use Rattle.conn_loop.proofs.Machine.{again_is, served_some, seen_on, rest_none}
 use Rattle.conn_loop.proofs.conn.Conn.send_again.Goals as goal
 
 pub send_again-requires-clause-front : goal.send_again-requires-clause-front
 send_again-requires-clause-front g c =
     let h = (known c.fetch.new.pass).seen in
-    let e = c.as_slice.ensures.value ∙ c.in-Ok.ensures.given in
+    let given = given_as c.as_slice.ensures.value c.in-Ok.ensures.given in
     let serving = sym c.serving.ensures.value ∙ c.in-Some.is in
     subst (λ (o : Option Range). IfSome o (λ r. AreFrom r.from c.as_slice.result.now)) (sym serving)
-    (subst (λ (es : List Numbered). AreFrom c.in-Some.range.from es) (sym e) (numbers_fetched h c.in-Some.range.from c.in-Some.range.count))
+    (numbers_given h c.in-Some.range.from c.in-Some.range.count c.as_slice.result.now given)
 
 pub send_again-requires-clause-within : goal.send_again-requires-clause-within
 send_again-requires-clause-within g c =
     let h = (known c.fetch.new.pass).seen in
-    let e = c.as_slice.ensures.value ∙ c.in-Ok.ensures.given in
+    let given = given_as c.as_slice.ensures.value c.in-Ok.ensures.given in
     let serving = sym c.serving.ensures.value ∙ c.in-Some.is in
     subst (λ (o : Option Range). IfSome o (λ r. length c.as_slice.result.now ≤ r.count)) (sym serving)
-    (omega (arith, ap (λ (es : List Numbered). length es) e, length_fetched h c.in-Some.range.from c.in-Some.range.count))
+    (omega (arith, length_given h c.in-Some.range.from c.in-Some.range.count c.as_slice.result.now given))
 
 pub send_again-requires-clause-ranged : goal.send_again-requires-clause-ranged
 send_again-requires-clause-ranged g c =
     let h = (known c.fetch.new.pass).seen in
-    let e = c.as_slice.ensures.value ∙ c.in-Ok.ensures.given in
+    let given = given_as c.as_slice.ensures.value c.in-Ok.ensures.given in
     let serving = sym c.serving.ensures.value ∙ c.in-Some.is in
     subst (λ (o : Option Range). IfSome o (λ r. r.from + length c.as_slice.result.now < 18446744073709551616)) (sym serving)
-    (omega (arith, ap (λ (es : List Numbered). length es) e, length_fetched h c.in-Some.range.from c.in-Some.range.count, c.in-Some.ensures.sent.last, c.requires.serve.sent))
+    (omega (arith, length_given h c.in-Some.range.from c.in-Some.range.count c.as_slice.result.now given, c.in-Some.ensures.sent.last, c.requires.serve.sent))
 
 pub send_again-requires-clause-output : goal.send_again-requires-clause-output
 send_again-requires-clause-output g c =
     let h = (known c.fetch.new.pass).seen in
-    let e = c.as_slice.ensures.value ∙ c.in-Ok.ensures.given in
+    let given = given_as c.as_slice.ensures.value c.in-Ok.ensures.given in
     omega (
       arith,
-      ap (λ (es : List Numbered). length es) e,
-      length_fetched h c.in-Some.range.from c.in-Some.range.count,
+      length_given h c.in-Some.range.from c.in-Some.range.count c.as_slice.result.now given,
       c.in-Some.ensures.sent.few,
       frames_fit c.as_slice.result.now (sized c.as_slice.ensures.value c.in-Ok.ensures.sizes),
       c.requires.serve.little,
@@ -58,20 +57,25 @@ returns-in-Ok-clause-again g c =
     let h = (known c.fetch.new.pass).seen in
     let from = c.in-Some.range.from in
     let count = c.in-Some.range.count in
-    let e = c.as_slice.ensures.value ∙ c.in-Ok.ensures.given in
+    let given = given_as c.as_slice.ensures.value c.in-Ok.ensures.given in
     let serving = sym c.serving.ensures.value ∙ c.in-Some.is in
     let goes : is_some m.ending ≡ false = cc in
-    line_is _ _
-    (again_is m c.send_again.new.self m.facts.connection.serving c.in-Some.range _ _ c.args.now serving (ap payloads_of e ∙ payloads_fetched h from count) c.send_again.ensures.again
-    ∙ sym (ap (λ (o : Option Range). run m (again_calls c.args.now (served_of o h))) (served_some m c.in-Some.range goes serving)))
-    refl refl refl
+    let pays = payloads_of c.as_slice.result.now in
+    let served = served_some m c.in-Some.range goes serving in
+    record {
+      sent = Some pays;
+      as_due = subst (λ (o : Option Range). IsAsDue (served_of o h) (Some pays)) (sym served)
+          (due_given h from count c.as_slice.result.now given (applied_as c.as_slice.ensures.value c.in-Ok.ensures.applications));
+      told = λ tells. told_given h from count c.as_slice.result.now given tells ∙ ap (λ (o : Option Range). served_of o h) (sym served);
+      line = line_is _ _ (again_is m c.send_again.new.self m.facts.connection.serving c.in-Some.range _ _ c.args.now serving refl c.send_again.ensures.again) refl refl refl;
+    }
 
 pub returns-in-Ok-clause-serve : goal.returns-in-Ok-clause-serve
 returns-in-Ok-clause-serve g c =
     let m = c.args.self.now.end in
     let n = c.send_again.new.self in
     let h = (known c.fetch.new.pass).seen in
-    let e = c.as_slice.ensures.value ∙ c.in-Ok.ensures.given in
+    let given = given_as c.as_slice.ensures.value c.in-Ok.ensures.given in
     let serving = sym c.serving.ensures.value ∙ c.in-Some.is in
     let exact : n ≡ sent_again m c.in-Some.range (payloads_of c.as_slice.result.now) c.args.now
     = subst (λ (o : Option Range). IfSome o (λ r. n ≡ sent_again m r (payloads_of c.as_slice.result.now) c.args.now)) serving c.send_again.ensures.again in
@@ -85,8 +89,7 @@ returns-in-Ok-clause-serve g c =
       credentials = omega (arith, ap (λ (x : EndConfig). length x.credentials) stays.config, c.requires.serve.credentials);
       little = omega (
         arith,
-        ap (λ (es : List Numbered). length es) e,
-        length_fetched h c.in-Some.range.from c.in-Some.range.count,
+        length_given h c.in-Some.range.from c.in-Some.range.count c.as_slice.result.now given,
         c.in-Some.ensures.sent.few,
         frames_fit c.as_slice.result.now (sized c.as_slice.ensures.value c.in-Ok.ensures.sizes),
         c.requires.serve.little,
@@ -102,7 +105,7 @@ returns-in-Ok-clause-unserved g c = λ _.
     let m = c.args.self.now.end in
     let n = c.send_again.new.self in
     let h = (known c.fetch.new.pass).seen in
-    let e = c.as_slice.ensures.value ∙ c.in-Ok.ensures.given in
+    let given = given_as c.as_slice.ensures.value c.in-Ok.ensures.given in
     let serving = sym c.serving.ensures.value ∙ c.in-Some.is in
     let exact : n ≡ sent_again m c.in-Some.range (payloads_of c.as_slice.result.now) c.args.now
     = subst (λ (o : Option Range). IfSome o (λ r. n ≡ sent_again m r (payloads_of c.as_slice.result.now) c.args.now)) serving c.send_again.ensures.again in
@@ -111,8 +114,7 @@ returns-in-Ok-clause-unserved g c = λ _.
     (omega (
       arith,
       length_payloads c.as_slice.result.now,
-      ap (λ (es : List Numbered). length es) e,
-      length_fetched h c.in-Some.range.from c.in-Some.range.count,
+      length_given h c.in-Some.range.from c.in-Some.range.count c.as_slice.result.now given,
       c.in-Some.ensures.sent.first,
       c.in-Some.ensures.sent.last,
       c.requires.serve.seen.entries,

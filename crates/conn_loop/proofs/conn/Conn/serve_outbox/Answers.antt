@@ -15,7 +15,7 @@ returns-in-Ok-clause-served g c =
     let again = c.in_default.ensures in
     let live = c.in-Ok.ensures in
     let between : Line = line_of c.send_live.new.self in
-    served_outbox c.args.now (known c.args.pass.now).seen (known c.send_again.new.pass).seen (known c.send_live.new.pass).seen
+    served_outbox _ c.args.now (known c.args.pass.now).seen (known c.send_again.new.pass).seen (known c.send_live.new.pass).seen
     (line_of c.args.self.now) (line_of c.send_again.new.self) (line_of c.send_live.new.self) (line_of c.tell_finish.new.self)
     again.looks.seen live.looks.seen again.again live.live
     (c.tell_finish.ensures.finish ∙ ap (λ (o : Option ℕ). record between { machine = run between.machine (finish_calls c.args.now o) }) live.mark) again.same.config

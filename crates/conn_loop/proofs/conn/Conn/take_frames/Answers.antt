@@ -1,8 +1,21 @@
-use Rattle.std.proofs.Common.{◌-◌, arith}
+use Rattle.std.proofs.Common.{◌-◌, [], refl, sym, append-nil, arith}
 use Rattle.conn_steps.proofs.Following.{took_more, cut_behind, in_turn_less, keeps_on}
-use Rattle.conn_steps.proofs.Inboxes.{kind_on}
+use Rattle.conn_steps.proofs.Inboxes.{kind_self, kind_on}
+use Rattle.conn_steps.proofs.Rooms.{gains_none}
 use Rattle.conn_loop.specs.Conn.{line_of}
 use Rattle.conn_loop.proofs.conn.Conn.take_frames.Goals as goal
+
+pub loop-taken-init : goal.loop-taken-init
+loop-taken-init g c =
+    record {
+      took = record { frames = []; many = refl; taken = tt; line = refl; gains = gains_none c.args.inbox.now c.args.inbox.now refl; news_are = sym (append-nil _) };
+      in_turn = c.requires.in_turn;
+      place = omega arith;
+      agrees = c.requires.agrees;
+      own = record { config = refl; most = refl; sent = omega arith; finish = refl };
+      kind = kind_self c.args.inbox.now;
+      never_falls = omega arith;
+    }
 
 pub loop-taken-preserved : goal.loop-taken-preserved
 loop-taken-preserved g c =

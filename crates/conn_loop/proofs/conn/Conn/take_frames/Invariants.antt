@@ -1,5 +1,5 @@
 use Rattle.std.proofs.Common.{◌+◌, ◌-◌, ◌*◌, ◌≤◌}
-use Rattle.jr_boxes.specs.Inbox.{faults_of}
+use Rattle.jr_kept.specs.Inbox.{faults_of}
 use Rattle.conn_turns.specs.News.{items_of}
 use Rattle.conn_steps.specs.Settling.{SameKind}
 use Rattle.conn_steps.specs.Agreeing.{IsInTurn, Agrees, KeepsOwn}

@@ -1,13 +1,13 @@
 use Rattle.std.proofs.Common.{rules, ◌≡◌, inl, inr, ◌+◌, [], ◌∷◌, length, Err, ⊎_elim, sym, ap, ◌∙◌, subst, length-append, arith}
 use Rattle.session_model.specs.Journal.{Entry, History, entry, entries_of}
 use Rattle.jr_record.specs.declared.record.Record.TheVariants as kinds
-use Rattle.jr_record.specs.Images.{record_size}
+use Rattle.jr_dated.specs.Images.{record_size}
 use Rattle.jr_boxes.specs.declared.faults.SubmitFault.TheVariants as submit
-use Rattle.jr_boxes.specs.Outbox.{is_broken, mine_of, front_of, size_of}
+use Rattle.jr_kept.specs.Outbox.{is_broken, mine_of, front_of, size_of}
 use Rattle.jr_boxes.specs.Outboxes.{with_entry}
 use Rattle.gate_senders.proofs.Keeping.{Keeps, keeps_stands, keeps_as, keeps_unchanged, keeps_failed, keeps_on, mark_is, front_is, mine_is, size_is, sound_if}
 use Rattle.gate_senders.specs.Kept.{account, next_entry, IsFullAt}
-use Rattle.jr_boxes.specs.declared.outbox.Outbox.{Outbox}
+use Rattle.jr_kept.specs.declared.outbox.Outbox.{Outbox}
 use Rattle.gate_senders.proofs.kept.Kept.add.Goals as goal
 
 pub invariant_of-self : goal.invariant_of-self

@@ -1,7 +1,7 @@
 use Rattle.std.proofs.Common.{rules, ◌≡◌, [], ◌∷◌, Err, sym, ap, ◌∙◌}
 use Rattle.session_model.specs.Journal.{finish}
 use Rattle.jr_boxes.specs.declared.faults.CloseFault.TheVariants as closing
-use Rattle.jr_boxes.specs.Outbox.{is_broken}
+use Rattle.jr_kept.specs.Outbox.{is_broken}
 use Rattle.jr_boxes.specs.Outboxes.{with_mark}
 use Rattle.gate_senders.proofs.Keeping.{Keeps, keeps_stands, keeps_as, keeps_unchanged, keeps_failed, keeps_on, mark_is, sound_if}
 use Rattle.gate_senders.proofs.kept.Kept.finish.Goals as goal

@@ -1,7 +1,7 @@
 use Rattle.std.proofs.Common.{sym, ap, ◌∙◌}
 use Rattle.std.proofs.lemmas.Bool.{false≢true}
-use Rattle.jr_record.specs.Journals.{is_broken_after_read}
-use Rattle.jr_boxes.specs.Outbox.{is_broken}
+use Rattle.jr_dated.specs.Journals.{is_broken_after_read}
+use Rattle.jr_kept.specs.Outbox.{is_broken}
 use Rattle.gate_senders.proofs.Keeping.{Keeps, keeps_stands, keeps_read, sound_if}
 use Rattle.gate_senders.proofs.Fetching.{entry_of}
 use Rattle.gate_senders.proofs.kept.Kept.stable.Goals as goal

@@ -1,5 +1,5 @@
 use Rattle.std.proofs.Common.{◌≡◌, sym, ap, ◌∙◌}
-use Rattle.jr_boxes.specs.Outbox.{is_closed}
+use Rattle.jr_kept.specs.Outbox.{is_closed}
 use Rattle.gate_senders.proofs.Keeping.{keeps_stands, mark_is}
 use Rattle.gate_senders.proofs.kept.KeptLogged.marked.Goals as goal
 
