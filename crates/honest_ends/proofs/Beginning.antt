@@ -1,5 +1,5 @@
 -- The numbers of one flow where a connection begins.
-use Rattle.std.proofs.Common.{◌≡◌, ℕ, ◌+◌, Bool, true, false, List, Option, None, refl, sym, ap, subst, ◌∙◌, arith}
+use Rattle.std.proofs.Common.{◌≡◌, ℕ, ◌+◌, Bool, true, false, List, Option, None, refl, sym, ap, subst, ◌∙◌, arith, true≢false}
 use Rattle.session_model.specs.Journal.{Entry}
 use Rattle.fixp_msgs.specs.declared.flow.Flow.{Flow}
 use Rattle.flow_recover.specs.Receiving as receiver_is
@@ -16,7 +16,10 @@ use Rattle.honest_ends.specs.Numbers.{exactly, Answers, Runs, served}
 use Rattle.honest_ends.proofs.Finishing.{total}
 use Rattle.honest_ends.proofs.Asking.{asks, restarts, all_none, establish_runs}
 use Rattle.honest_ends.proofs.Phased.{begun_as}
-use Rattle.honest_ends.specs.Numbered.{Names}
+use Rattle.std.specs.List.{AllByRecursion}
+use Rattle.honest_ends.specs.Numbered.{Names, TellsNext}
+use Rattle.honest_ends.proofs.Expecting.{opening_tells}
+use Rattle.honest_ends.proofs.Awaiting.{not_softly}
 use Rattle.honest_ends.proofs.Requesting.{none_named, none_answered}
 use Rattle.honest_ends.proofs.Keeping.{Between, ready_first}
 
@@ -30,12 +33,14 @@ record Begins (x : Around) (recorded : EndState) (m : Made) : Type 0 where
   free : served m.next.connection.serving ≡ None
   asks_none : total asks (said_all m.written) ≡ 0
   begins_none : total restarts (said_all m.written) ≡ 0
+  firm : m.next.connection.soft ≡ false
+  told : AllByRecursion (TellsNext x.config m.next) (said_all m.written)
 
 begins : (x : Around) (recorded : EndState) → Begins x recorded (begun x recorded)
 begins x recorded = by_case (is_initiator x.config.role) recorded.negotiated
   where
     by_case : (i n : Bool) → Begins x recorded (begun_as x recorded i n)
-    by_case false n = record { same = refl; receiver = refl; requester = refl; before = refl; runs = (refl, refl); free = refl; asks_none = refl; begins_none = refl }
+    by_case false n = record { same = refl; receiver = refl; requester = refl; before = refl; runs = (refl, refl); free = refl; asks_none = refl; begins_none = refl; firm = refl; told = tt }
     by_case true true = record {
       same = refl;
       receiver = refl;
@@ -45,8 +50,10 @@ begins x recorded = by_case (is_initiator x.config.role) recorded.negotiated
       free = refl;
       asks_none = refl;
       begins_none = refl;
+      firm = refl;
+      told = (opening_tells x (connecting recorded phases.Establishing) (connecting recorded phases.Establishing) refl refl, tt);
     }
-    by_case true false = record { same = refl; receiver = refl; requester = refl; before = refl; runs = ((tt, tt), (refl, refl)); free = refl; asks_none = refl; begins_none = refl }
+    by_case true false = record { same = refl; receiver = refl; requester = refl; before = refl; runs = ((tt, tt), (refl, refl)); free = refl; asks_none = refl; begins_none = refl; firm = refl; told = (tt, tt) }
 
 pub meeting : (h : List Entry) (xw xr : Around) (writer reader : EndState) (limit : ℕ) (fw fr : Facts) (over : Option Ending) (way back : List Piece) → fw.recorded ≡ writer → fr.recorded ≡ reader → xr.config.peer_flow ≡ xw.config.own_flow
     → Between h fw xr.config limit fr over way back → Between h (begun xw writer).next xr.config limit (begun xr reader).next None (said_all (begun xw writer).written) (said_all (begun xr reader).written)
@@ -62,9 +69,11 @@ meeting h xw xr writer reader limit fw fr over way back ew er flow b =
       most = b.most;
       one = λ rec. let one = b.one rec in omega (arith, one, inbox_r);
       next = omega (arith, sent_w, inbox_r, next);
+      told = r.told;
+      restarts = λ _ _ soft. absurd (true≢false (sym soft ∙ not_softly (begun xr reader).next r.firm));
       goes = λ _ _. (
         ready_first xr.config (begun xr reader).next (said_all (begun xw writer).written) ((begun xw writer).next.recorded.sent + 1) (served (begun xw writer).next.connection.serving)
-            (r.receiver ∙ ap (λ (k : EndState). receiver_is.fresh k.inbox_next) (sym r.same)) r.requester r.before (omega (arith, sent_w, inbox_r, next)) (runs w),
+            (r.receiver ∙ ap (λ (k : EndState). receiver_is.fresh k.inbox_next) (sym r.same)) r.requester r.firm r.before (omega (arith, sent_w, inbox_r, next)) (runs w),
         record { asks = all_none (Names (begun xr reader).next.connection.requester) asks (none_named (begun xr reader).next.connection.requester) (said_all (begun xr reader).written) r.asks_none; answers = all_none (Answers (begun xr reader).next.connection.requester) restarts (none_answered (begun xr reader).next.connection.requester) (said_all (begun xw writer).written) w.begins_none },
       );
     }

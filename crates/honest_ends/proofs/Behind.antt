@@ -26,8 +26,9 @@ use Rattle.fixp_replies.specs.Replies.{reply_of}
 use Rattle.connection_laws.specs.Writing.{Piece, said, entry, said_all}
 use Rattle.two_ends.specs.Reading.{incoming_of}
 use Rattle.two_ends.proofs.Refused.{closing_is_deaf}
-use Rattle.honest_ends.specs.Numbers.{exactly, Runs, served, to_come}
-use Rattle.fixp_replies.specs.Expecting.{is_newer}
+use Rattle.honest_ends.specs.Numbers.{Awaited, exactly, softly, Runs, ServesLater, served, to_come}
+use Rattle.honest_ends.specs.Numbered.{ReturnsFirst}
+use Rattle.honest_ends.proofs.Running.{after_announced}
 use Rattle.honest_ends.proofs.Finishing.{finishes, Learned, IsLate, ComesLate, Moves, moves, last_in, sendings, total, total_append}
 use Rattle.honest_ends.proofs.Telling.{Complete, NamesLast, none_names, Tells}
 use Rattle.honest_ends.proofs.Asking.{inside, coming, is_serving, asks_of}
@@ -88,15 +89,15 @@ named x own h (said (finished_sending id l)) last flow names e =
 named x own h _ last flow names e = absurd cc
 
 -- the reader replies to a message
-pub heard_by_reader : (own : Flow) (h : List Entry) (writer : Facts) (x : Around) (reader : Facts) (over : Option Ending) (p : Piece) (left : List Piece) → is_newer x.config ≡ false → x.config.peer_flow ≡ own → over ≡ None
+pub heard_by_reader : (own : Flow) (h : List Entry) (writer : Facts) (x : Around) (reader : Facts) (over : Option Ending) (p : Piece) (left : List Piece) → ServesLater x.config reader → x.config.peer_flow ≡ own → over ≡ None
     → Behind own h writer reader over (p ∷ left) → Behind own h writer (reply_of x reader (incoming_of p)).next (reply_of x reader (incoming_of p)).ending left
-heard_by_reader own h writer x reader over p left old flow going a = record { finish = a.finish; learned = learned; told = λ some. a.told (omega (arith, some)); names = a.names.1; none_live = none_live }
+heard_by_reader own h writer x reader over p left later flow going a = record { finish = a.finish; learned = learned; told = λ some. a.told (omega (arith, some)); names = a.names.1; none_live = none_live }
   where
     o : Outcome
     o = reply_of x reader (incoming_of p)
 
     m : Moves x reader p o
-    m = moves x reader p old
+    m = moves x reader p
 
     by_source : (last : ℕ) → Learned (finishes reader) last ⊎ (last_in x p ≡ Some last) → Complete (length h) writer × (last ≡ last_told own h)
     by_source last (inl l) = a.learned last l
@@ -115,20 +116,22 @@ heard_by_reader own h writer x reader over p left old flow going a = record { fi
     -- it was not closing
     live_after : o.ending ≡ None → is_closing reader.connection.phase ≡ false → NoneLive (known (peer_last o.next)) (coming o.next) left
     live_after none yet = behind_fewer left (known (peer_last o.next)) (known (peer_last reader) + sendings p) (coming o.next) was_known
-        (subst (λ (b : Bool). NoneLive (known (peer_last reader) + sendings p) b left) (sym ((asks_of x reader p old).comes none yet)) (a.none_live going yet).1)
+        (subst (λ (b : Bool). NoneLive (known (peer_last reader) + sendings p) b left) (sym ((asks_of x reader p later).comes none yet)) (a.none_live going yet).1)
 
     none_live : o.ending ≡ None → is_closing o.next.connection.phase ≡ false → NoneLive (known (peer_last o.next)) (coming o.next) left
     none_live none yet = by_bool (NoneLive (known (peer_last o.next)) (coming o.next) left) (is_closing reader.connection.phase)
         (λ t. absurd (true≢false (sym t ∙ (ap (λ (f : Facts). is_closing f.connection.phase) (sym (closing_is_deaf x reader (incoming_of p) t).next) ∙ yet))))
         (λ n. live_after none n)
 
--- the writer replies to a message that came back
-pub heard_by_writer : (own : Flow) (h : List Entry) (x : Around) (writer reader : Facts) (over : Option Ending) (p : Piece) (way : List Piece) → is_newer x.config ≡ false → Behind own h writer reader over way
-    → Behind own h (reply_of x writer (incoming_of p)).next reader over (way ++ said_all (reply_of x writer (incoming_of p)).written)
-heard_by_writer own h x writer reader over p way old a = record {
+-- the writer replies to a message that came back, and where a finish is known or under way as many are sent as were
+pub heard_by_writer : (own : Flow) (h : List Entry) (x : Around) (writer reader : Facts) (over : Option Ending) (p : Piece) (way : List Piece)
+    → ((last : ℕ) → Learned (finishes reader) last → (reply_of x writer (incoming_of p)).next.recorded.sent ≡ writer.recorded.sent)
+    → (1 ≤ total sendings way → (reply_of x writer (incoming_of p)).next.recorded.sent ≡ writer.recorded.sent)
+    → Behind own h writer reader over way → Behind own h (reply_of x writer (incoming_of p)).next reader over (way ++ said_all (reply_of x writer (incoming_of p)).written)
+heard_by_writer own h x writer reader over p way known_sent told_sent a = record {
   finish = subst (λ (k : Option ℕ). IfSome k (λ n. n ≡ length h)) (sym m.finish) a.finish;
-  learned = λ last l. let k = a.learned last l in (completes k.0, k.1);
-  told = λ some. completes (a.told (omega (arith, e, quiet, some)));
+  learned = λ last l. let k = a.learned last l in (completes (known_sent last l) k.0, k.1);
+  told = λ some. let before = told_before some in completes (told_sent before) (a.told before);
   names = all_append (NamesLast own (length h)) way (said_all o.written) a.names (none_names own (length h) (said_all o.written) m.counts.quiet);
   none_live = λ going yet. none_live_append way (said_all o.written) (known (peer_last reader)) (coming reader) (a.none_live going yet) (said_live o.written _ _);
 }
@@ -137,16 +140,13 @@ heard_by_writer own h x writer reader over p way old a = record {
     o = reply_of x writer (incoming_of p)
 
     m : Moves x writer p o
-    m = moves x writer p old
+    m = moves x writer p
 
-    completes : Complete (length h) writer → Complete (length h) o.next
-    completes c = record { finish = m.finish ∙ c.finish; sent = m.sent ∙ c.sent }
+    completes : o.next.recorded.sent ≡ writer.recorded.sent → Complete (length h) writer → Complete (length h) o.next
+    completes same c = record { finish = m.finish ∙ c.finish; sent = same ∙ c.sent }
 
-    e : total sendings (way ++ said_all o.written) ≡ total sendings way + total sendings (said_all o.written)
-    e = total_append sendings way (said_all o.written)
-
-    quiet : total sendings (said_all o.written) ≡ 0
-    quiet = m.counts.quiet
+    told_before : 1 ≤ total sendings (way ++ said_all o.written) → 1 ≤ total sendings way
+    told_before some = let e = total_append sendings way (said_all o.written) in let quiet = m.counts.quiet in omega (arith, e, quiet, some)
 
 -- what is served of a range is some of one
 serving_some : (r : Option Range) → is_some (served r) ≡ is_some r
@@ -228,14 +228,26 @@ to_come_some (requests.Coming range next left) = refl
 abbrev pub Brings : Flow → (writer : Facts) (x : Around) (reader : Facts) → List Piece → Type 0
 Brings own writer x reader way = Runs own (exactly (live_number x reader)) (to_come reader.connection.requester) way (writer.recorded.sent + 1) (served writer.connection.serving)
 
+-- or the writer begins with the number that a soft reader has told
+pub record Begins (own : Flow) (writer reader : Facts) (way : List Piece) : Type 0 where
+  pub low : ℕ
+  pub live : ℕ
+  pub runs : Runs own (softly low live) (to_come reader.connection.requester) way (writer.recorded.sent + 1) (served writer.connection.serving)
+  pub first : ReturnsFirst low way
+
 -- in Established
 abbrev pub Exact : Flow → (writer : Facts) (x : Around) (reader : Facts) → List Piece → Type 0
-Exact own writer x reader way = is_sequenced own ≡ true → is_established reader.connection.phase ≡ true → Brings own writer x reader way
+Exact own writer x reader way = is_sequenced own ≡ true → is_established reader.connection.phase ≡ true → Brings own writer x reader way ⊎ Begins own writer reader way
 
 -- behind a finish the live number is one past what was sent
 live_is_next : (own : Flow) (writer : Facts) (x : Around) (reader : Facts) (way : List Piece) (k : ℕ) → 1 ≤ k → Brings own writer x reader way → NoneLive k (coming reader) way → live_number x reader ≡ writer.recorded.sent + 1
 live_is_next own writer x reader way k some runs live = live_level own (live_number x reader) (to_come reader.connection.requester) way (writer.recorded.sent + 1) (served writer.connection.serving) k some runs
     (subst (λ (b : Bool). NoneLive k b way) (sym (to_come_some reader.connection.requester)) live)
+
+-- and so is a number that is announced behind one
+told_is_next : (own : Flow) (a : Awaited) (l : Option ℕ) (next : ℕ) (left : List Piece) (c : ℕ) (m : Option ℕ) (k : ℕ) → is_sequenced own ≡ true → 1 ≤ k → Runs own a l (said (sequence next) ∷ left) c m → NoneLive k false left → next ≡ c
+told_is_next own a l next left c m k numbered some r live =
+    live_level own next None left c m k some (subst (λ (d : Awaited). Runs own d None left c m) (after_announced own (sequence next) a l next (ap (λ (b : Bool). if b then Some next else None) numbered)) r.1) live
 
 both_true : (a b : Bool) → (a && b) ≡ true → (a ≡ true) × (b ≡ true)
 both_true true true e = (refl, refl)
@@ -247,7 +259,7 @@ passed : (b : Bool) → b ≡ true → not b ≡ true → ⊥
 passed b e n = true≢false (sym n ∙ ap not e)
 
 -- the last number of a flow with numbers is that of the last entry
-last_entry : (own : Flow) (h : List Entry) (last : ℕ) → is_sequenced own ≡ true → last ≡ last_told own h → last ≡ length h
+pub last_entry : (own : Flow) (h : List Entry) (last : ℕ) → is_sequenced own ≡ true → last ≡ last_told own h → last ≡ length h
 last_entry own h last numbered e = e ∙ ap (λ (b : Bool). if b then length h else 0) numbered
 
 entry_early : (reader : Facts) (payload : List ℕ) (left : List Piece) → NoneLive (known (peer_last reader)) (coming reader) (entry payload ∷ left) → is_after_finish reader ≡ true → ⊥
@@ -255,31 +267,36 @@ entry_early reader payload left live late =
     let two = both_true (is_some (peer_last reader)) (not (coming reader)) late in
     passed (coming reader) (live.0 (there_known (peer_last reader) two.0)) two.1
 
--- a Sequence announces the live number
-announces_live : (b : Bool) (live next : ℕ) → b ≡ true → IfSome (if b then Some next else None) (λ n. live ≡ n) → live ≡ next
-announces_live true live next e h = h
-announces_live false live next e h = absurd (true≢false (sym e))
-
 sequence_early : (own : Flow) (h : List Entry) (writer : Facts) (x : Around) (reader : Facts) (over : Option Ending) (next : ℕ) (left : List Piece) → x.config.peer_flow ≡ own
-    → Behind own h writer reader over (said (sequence next) ∷ left) → (is_sequenced own ≡ true → Brings own writer x reader (said (sequence next) ∷ left))
+    → Behind own h writer reader over (said (sequence next) ∷ left) → (is_sequenced own ≡ true → Brings own writer x reader (said (sequence next) ∷ left) ⊎ Begins own writer reader (said (sequence next) ∷ left))
     → NoneLive (known (peer_last reader)) (coming reader) (said (sequence next) ∷ left) → is_past_finish x reader next ≡ true → ⊥
 sequence_early own h writer x reader over next left flow a runs live late =
     let one = both_true (is_sequenced x.config.peer_flow && is_some (peer_last reader)) (not (next == unwrap_or (peer_last reader) 0 + 1)) late in
     let two = both_true (is_sequenced x.config.peer_flow) (is_some (peer_last reader)) one.0 in
     known_learned reader ⊥ (there_known (peer_last reader) two.1) (λ last e l. past last e l (sym (ap is_sequenced flow) ∙ two.0) one.1)
   where
+    told_so : is_sequenced own ≡ true → 1 ≤ known (peer_last reader) → Brings own writer x reader (said (sequence next) ∷ left) ⊎ Begins own writer reader (said (sequence next) ∷ left) → next ≡ writer.recorded.sent + 1
+    told_so numbered some (inl r) =
+        told_is_next own (exactly (live_number x reader)) (to_come reader.connection.requester) next left (writer.recorded.sent + 1) (served writer.connection.serving) (known (peer_last reader) + 0) numbered (omega (arith, some)) r live.1
+    told_so numbered some (inr b) =
+        told_is_next own (softly b.low b.live) (to_come reader.connection.requester) next left (writer.recorded.sent + 1) (served writer.connection.serving) (known (peer_last reader) + 0) numbered (omega (arith, some)) b.runs live.1
+
     past : (last : ℕ) → peer_last reader ≡ Some last → Learned (finishes reader) last → is_sequenced own ≡ true → not (next == unwrap_or (peer_last reader) 0 + 1) ≡ true → ⊥
     past last e l numbered wrong =
         let c = a.learned last l in
         let sent = c.0.sent in
         let is = last_entry own h last numbered c.1 in
-        let number = live_is_next own writer x reader (said (sequence next) ∷ left) (known (peer_last reader)) (learned_known reader last l) (runs numbered) live in
-        let told = announces_live (is_sequenced own) (live_number x reader) next numbered (runs numbered).0.0 in
+        let told = told_so numbered (learned_known reader last l) (runs numbered) in
         let known_as = ap (λ (o : Option ℕ). unwrap_or o 0) e in
-        passed (next == unwrap_or (peer_last reader) 0 + 1) (eq-eqb next (unwrap_or (peer_last reader) 0 + 1) (omega (arith, sent, is, number, told, known_as))) wrong
+        passed (next == unwrap_or (peer_last reader) 0 + 1) (eq-eqb next (unwrap_or (peer_last reader) 0 + 1) (omega (arith, sent, is, told, known_as))) wrong
+
+-- no finish is the first of a flow that begins with a number
+never_first : (n : ℕ) (id : List ℕ) (last : Option ℕ) (left : List Piece) → ReturnsFirst n (said (finished_sending id last) ∷ left) → ⊥
+never_first n id last left (inl e) = cc e
+never_first n id last left (inr h) = h.0
 
 finish_early : (own : Flow) (h : List Entry) (writer : Facts) (x : Around) (reader : Facts) (over : Option Ending) (id : List ℕ) (last : Option ℕ) (left : List Piece) → x.config.peer_flow ≡ own
-    → Behind own h writer reader over (said (finished_sending id last) ∷ left) → (is_sequenced own ≡ true → Brings own writer x reader (said (finished_sending id last) ∷ left))
+    → Behind own h writer reader over (said (finished_sending id last) ∷ left) → (is_sequenced own ≡ true → Brings own writer x reader (said (finished_sending id last) ∷ left) ⊎ Begins own writer reader (said (finished_sending id last) ∷ left))
     → NoneLive (known (peer_last reader)) (coming reader) (said (finished_sending id last) ∷ left) → (is_sequenced x.config.peer_flow && not (is_last x reader (finished_last x last))) ≡ true → ⊥
 finish_early own h writer x reader over id last left flow a runs live late =
     let one = both_true (is_sequenced x.config.peer_flow) (not (is_last x reader (finished_last x last))) late in
@@ -287,9 +304,13 @@ finish_early own h writer x reader over id last left flow a runs live late =
     let sent = (a.told (omega arith)).sent in
     let n = named x own h (said (finished_sending id last)) (finished_last x last) flow a.names.0 refl in
     let is = last_entry own h (finished_last x last) numbered n.1 in
-    let number = live_is_next own writer x reader left (known (peer_last reader) + 1) (omega arith) (runs numbered).1 live.1 in
+    let number = live_so (runs numbered) in
     passed (is_last x reader (finished_last x last)) (tests (finished_last x last) (omega (arith, sent, is, number)) (same (finished_last x last) numbered is (peer_last reader) refl)) one.1
   where
+    live_so : Brings own writer x reader (said (finished_sending id last) ∷ left) ⊎ Begins own writer reader (said (finished_sending id last) ∷ left) → live_number x reader ≡ writer.recorded.sent + 1
+    live_so (inl r) = live_is_next own writer x reader left (known (peer_last reader) + 1) (omega arith) r.1 live.1
+    live_so (inr b) = absurd (never_first b.low id last left b.first)
+
     same : (k : ℕ) → is_sequenced own ≡ true → k ≡ length h → (o : Option ℕ) → peer_last reader ≡ o → k ≡ unwrap_or o k
     same k numbered is None e = refl
     same k numbered is (Some before) e = is ∙ sym (last_entry own h before numbered (a.learned before (last_of reader.recorded.peer_last reader.connection.peer_finish before e)).1)
@@ -307,7 +328,7 @@ pub none_late : (own : Flow) (h : List Entry) (writer : Facts) (x : Around) (rea
 none_late own h writer x reader over p left flow going a exact late =
     by_piece p a (λ numbered. exact numbered late.0) (a.none_live going (open_not_closing reader.connection.phase late.0)) late.1
   where
-    by_piece : (q : Piece) → Behind own h writer reader over (q ∷ left) → (is_sequenced own ≡ true → Brings own writer x reader (q ∷ left))
+    by_piece : (q : Piece) → Behind own h writer reader over (q ∷ left) → (is_sequenced own ≡ true → Brings own writer x reader (q ∷ left) ⊎ Begins own writer reader (q ∷ left))
         → NoneLive (known (peer_last reader)) (coming reader) (q ∷ left) → ComesLate x reader q → ⊥
     by_piece (entry payload) b runs live comes = entry_early reader payload left live comes
     by_piece (said (sequence next)) b runs live comes = sequence_early own h writer x reader over next left flow b runs live comes

@@ -1,5 +1,5 @@
 -- The laws of the numbers under way.
-use Rattle.std.proofs.Common.{◌≡◌, ◌&&◌, ap, nat_le, not, Bool, true, sym, true≢false}
+use Rattle.std.proofs.Common.{◌≡◌, ◌&&◌, not, Bool, true, sym, true≢false}
 use Rattle.fixp_shake.specs.declared.phase.Phase.{Phase}
 use Rattle.fixp_shake.specs.declared.phase.Phase.TheVariants as phases
 use Rattle.fixp_shake.specs.Phases.{is_established, is_closing}
@@ -35,4 +35,4 @@ reader_expects x f theirs p are now flows = (
 )
 
 pub writer_keeps : WriterKeeps
-writer_keeps = (λ x f p version. (asks_of x f p (ap (λ n. nat_le 1 n) version)).runs, λ h s call other may. (serves_as h s call other may).runs)
+writer_keeps = (λ x f p later. (asks_of x f p later).runs, λ h s call other may. (serves_as h s call other may).runs)

@@ -1,5 +1,5 @@
 -- The laws: nothing comes behind a finish, over any steps of two ends; and what is left of the violations is of time.
-use Rattle.std.proofs.Common.{◌≡◌, inl, ℕ, ◌+◌, ◌≤◌, Bool, List, [], ◌∷◌, length, Option, Some, None, refl, ap, ◌∙◌, arith}
+use Rattle.std.proofs.Common.{◌≡◌, inl, ℕ, ◌+◌, ◌≤◌, ◌&&◌, Bool, true, List, [], ◌∷◌, length, Option, Some, None, refl, sym, ap, subst, ◌∙◌, arith}
 use Rattle.std.specs.Prelude.{is_some, IfSome}
 use Rattle.std.specs.List.{AllByRecursion}
 use Rattle.session_model.specs.Journal.{Entry}
@@ -16,7 +16,12 @@ use Rattle.honest_ends.proofs.Finishing.{finishes, Learned, sendings, total}
 use Rattle.honest_ends.proofs.Telling.{Complete, NamesLast}
 use Rattle.honest_ends.proofs.Asking.{turns}
 use Rattle.honest_ends.proofs.Phased.{holds_after, holds_at_first, phases_hold}
-use Rattle.honest_ends.specs.Knowing.{Knows, last_told}
+use Rattle.std.proofs.lemmas.Bool.{and_parts}
+use Rattle.fixp_shake.specs.Flows.{is_recoverable, is_sequenced}
+use Rattle.fixp_replies.specs.Expecting.{is_newer}
+use Rattle.honest_ends.proofs.Lining.{sequenced_of}
+use Rattle.honest_ends.proofs.Settling.{Ends as Ended}
+use Rattle.honest_ends.specs.Knowing.{Knows, goes_back, last_told}
 use Rattle.honest_ends.specs.NumberLaws.{NoNumber}
 use Rattle.honest_ends.specs.Numbered.{Follows}
 use Rattle.honest_ends.proofs.NumberLaws.{numbers_hold, numbered_holds}
@@ -24,8 +29,8 @@ use Rattle.honest_ends.specs.Finished.{IsLast, IsFinish, IsTold, NoneLive, NoneL
 use Rattle.honest_ends.specs.FinishLaws.{NoFinish, FinishedHolds, FinishesHold, OnlyTimeEnds, StaysKnown}
 use Rattle.honest_ends.proofs.Living as counted
 use Rattle.honest_ends.proofs.Living.{left_turns}
-use Rattle.honest_ends.proofs.Behind.{Behind, known, last_of, there_known, to_come_some}
-use Rattle.honest_ends.proofs.FinishStepping.{ends_hold}
+use Rattle.honest_ends.proofs.Behind.{Behind, known, last_entry, last_of, there_known, to_come_some}
+use Rattle.honest_ends.proofs.FinishStepping.{ends_hold, past_after}
 
 pub finishes_hold : FinishesHold
 finishes_hold hi ha w steps known may = let h = ends_hold hi ha w steps known may in (h.initiator, h.acceptor)
@@ -102,8 +107,9 @@ only_time_ends hi ha w steps known may =
 
 -- what is recorded of one flow is as at a beginning
 knows_again : (h : List Entry) (writer reader : State) (way back : List Piece) → Follows h writer reader way back → Behind writer.config.own_flow h writer.facts reader.facts reader.ending way
+    → reader.config.peer_flow ≡ writer.config.own_flow → (goes_back writer.config reader.config ≡ true → Ended reader.config.peer_flow reader.facts)
     → Knows h (fresh writer.config writer.facts.recorded writer.most) (fresh reader.config reader.facts.recorded reader.most)
-knows_again h writer reader way back f b = record {
+knows_again h writer reader way back f b flow past = record {
   sent = f.sent;
   most = f.most;
   one = f.one;
@@ -111,15 +117,31 @@ knows_again h writer reader way back f b = record {
   finish = b.finish;
   last = if_known reader.facts.recorded.peer_last (λ n. (writer.facts.recorded.finish ≡ Some (length h)) × (writer.facts.recorded.sent ≡ length h) × (n ≡ last_told writer.config.own_flow h))
       (λ last e. let c = b.learned last (inl e) in (c.0.finish, c.0.sent, c.1));
+  ends = λ goes. if_known reader.facts.recorded.peer_last (λ n. reader.facts.recorded.inbox_next ≡ n + 1) (λ last e. at_last goes last e);
 }
+  where
+    if_there : (o : Option ℕ) (P : ℕ → Type 0) (n : ℕ) → IfSome o P → o ≡ Some n → P n
+    if_there None P n h e = absurd cc
+    if_there (Some k) P n h e = let same : k ≡ n = cc e in subst P same h
+
+    at_last : goes_back writer.config reader.config ≡ true → (last : ℕ) → reader.facts.recorded.peer_last ≡ Some last → reader.facts.recorded.inbox_next ≡ last + 1
+    at_last goes last e =
+        let numbered = sequenced_of reader.config.peer_flow (and_parts (is_newer writer.config && is_newer reader.config) (is_recoverable reader.config.peer_flow) goes).1 in
+        let c = b.learned last (inl e) in
+        let sent = c.0.sent in
+        let is = last_entry writer.config.own_flow h last (sym (ap is_sequenced flow) ∙ numbered) c.1 in
+        let high = if_there reader.facts.recorded.peer_last (λ n. n + 1 ≤ reader.facts.recorded.inbox_next) last ((past goes).reached numbered) e in
+        let next = f.next in
+        omega (arith, sent, is, high, next)
 
 pub stays_known : StaysKnown
 stays_known hi ha w steps known may =
     let holds = holds_after hi ha w steps (holds_at_first w known.0) may in
     let numbers = numbered_holds hi ha w steps known may in
     let ends = ends_hold hi ha w steps known may in
+    let past = past_after hi ha w steps known may in
     let now = world_after w steps in (
       record { matches = holds.matches; initiator = refl; acceptor = refl; outward = refl; homeward = refl },
-      knows_again hi now.initiator now.acceptor now.outward now.homeward numbers.outward ends.outward,
-      knows_again ha now.acceptor now.initiator now.homeward now.outward numbers.homeward ends.homeward,
+      knows_again hi now.initiator now.acceptor now.outward now.homeward numbers.outward ends.outward holds.matches.outward past.outward,
+      knows_again ha now.acceptor now.initiator now.homeward now.outward numbers.homeward ends.homeward holds.matches.homeward past.homeward,
     )

@@ -1,10 +1,10 @@
 -- How a reply moves the finishes of both flows, row by row: each FinishedSending is read or answered once, only a finish that was told is
 -- ended by its answer, the finish of the peer's is learned from its FinishedSending alone, and what comes behind it is refused by its row.
-use Rattle.std.proofs.Common.{◌≡◌, ◌⊎◌, inl, inr, ℕ, ◌+◌, ◌≤◌, ◌&&◌, min, max, nat_lt, not, Bool, true, false, if◌then◌else◌, List, [], ◌∷◌, ◌++◌, Option, Some, None, refl, sym, ap, subst, ◌∙◌, arith, true≢false}
+use Rattle.std.proofs.Common.{◌≡◌, ◌⊎◌, inl, inr, ℕ, ◌+◌, ◌-◌, ◌≤◌, ◌&&◌, min, max, nat_lt, not, Bool, true, false, if◌then◌else◌, List, [], ◌∷◌, ◌++◌, Option, Some, None, refl, sym, ap, subst, ◌∙◌, arith, true≢false}
 use Rattle.std.specs.Prelude.{is_some, is_none, unwrap_or, Result, Ok, Err}
 use Rattle.fixp_msgs.specs.declared.numbering.Range.{Range}
 use Rattle.fixp_msgs.specs.Flow.{flow_code}
-use Rattle.fixp_msgs.specs.declared.messages.Expected.TheVariants as expects
+use Rattle.fixp_msgs.specs.declared.messages.Expected.{Expected}
 use Rattle.fixp_msgs.specs.Message.{Message, negotiate, negotiation_response, negotiation_reject, establish, establishment_ack, establishment_reject, sequence, unsequenced_heartbeat, retransmit_request, retransmission, retransmit_reject, applied, not_applied, finished_sending, finished_receiving, terminate}
 use Rattle.flow_recover.specs.declared.receiver.Seen.{Seen}
 use Rattle.flow_recover.specs.declared.receiver.Seen.TheVariants.{Deliver, Gap, Repeat}
@@ -31,12 +31,13 @@ use Rattle.fixp_replies.specs.Incoming.{application, session}
 use Rattle.fixp_replies.specs.Facts.{Around, is_own, in_phase, receiving, requesting, firm, serves, negotiated as as_negotiated, awaiting, gap_to_ask, having_asked, announced_number, peer_last, last_among, awaits_gap, is_told, expected_number, live_number, message_number, finishes_exchanged}
 use Rattle.fixp_replies.specs.Outcomes.{Outcome, Row, row, goes_on, accepts, rejects, ignores, ends_with, ends, breaks, not_in_phase, request_for, skip_of, told_skip, opening_negotiate, opening_establish}
 use Rattle.fixp_replies.specs.Announcing.{Announced, jumped_over, announced, announcement_fault, announcement_rows, refuses}
-use Rattle.fixp_replies.specs.Handshake.{awaits_client, serves_client, established, acknowledges, negotiate_rows, establish_rows, established_again_rows, negotiation_response_rows, negotiation_reject_rows, establishment_ack_rows, reached, establishment_reject_rows}
+use Rattle.fixp_replies.specs.Handshake.{awaits_client, serves_client, established, acknowledges, negotiate_rows, establish_rows, established_again_rows, acknowledged_by, negotiation_response_rows, negotiation_reject_rows, establishment_ack_rows, reached, establishment_reject_rows}
 use Rattle.fixp_replies.specs.Flowing.{bad_retransmission, counted, taken_as, finish_act, peer_finished, answers_finish, is_filled, is_after_finish, is_past_finish, is_last, sequence_follows, sequence_taken, restarted, first_asked, finished_last, finish_fault, finished, application_rows, sequence_rows, retransmission_rows, retransmit_reject_rows, finished_sending_rows}
 use Rattle.fixp_replies.specs.Serving.{request_answered, own_finishing, retransmit_request_rows, finished_receiving_rows}
 use Rattle.fixp_replies.specs.Replies.{reply_of, rows_of, answer_of, of_session, terminates, template_of}
-use Rattle.fixp_replies.specs.Expecting.{is_newer}
-use Rattle.honest_ends.proofs.Older.{acknowledges_older, acknowledges_so, reached_so}
+use Rattle.fixp_replies.specs.Expecting.{number_in, answers_next, softened}
+use Rattle.honest_ends.proofs.Returning.{by_taking, by_reaching, starting, reaching}
+use Rattle.fixp_machine.proofs.Expecting.{returned_if}
 use Rattle.fixp_machine.proofs.Rows.{AllRows, by_row, all_rows, all_within}
 use Rattle.connection_laws.specs.Writing.{Piece, said, entry, said_all}
 use Rattle.two_ends.specs.Reading.{incoming_of}
@@ -92,16 +93,15 @@ pub record Counts (f : Facts) (sent got : ℕ) (o : Outcome) : Type 0 where
   pub told : tells f ≤ tells o.next + got
   pub quiet : total sendings (said_all o.written) ≡ 0
 
--- how far the finishes of both flows have come, and how many entries were sent
+-- how far the finishes of both flows have come
 pub record Finishes : Type 0 where
   pub theirs : PeerFinish
   pub own : OwnFinish
   pub peer_last : Option ℕ
   pub finish : Option ℕ
-  pub sent : ℕ
 
 abbrev pub finishes : Facts → Finishes
-finishes f = record { theirs = f.connection.peer_finish; own = f.connection.own_finish; peer_last = f.recorded.peer_last; finish = f.recorded.finish; sent = f.recorded.sent }
+finishes f = record { theirs = f.connection.peer_finish; own = f.connection.own_finish; peer_last = f.recorded.peer_last; finish = f.recorded.finish }
 
 -- a finish of the peer's is known with this last number: it is recorded, or came on this connection
 abbrev pub Learned : Finishes → ℕ → Type 0
@@ -129,7 +129,6 @@ pub record Moves (x : Around) (f : Facts) (p : Piece) (o : Outcome) : Type 0 whe
   pub learns : (n : ℕ) → Learned (finishes o.next) n → Learned (finishes f) n ⊎ (last_in x p ≡ Some n)
   pub late : (last found : ℕ) → o.ending ≡ Some (endings.Violation (AfterFinish last found)) → IsLate x f p
   pub finish : o.next.recorded.finish ≡ f.recorded.finish
-  pub sent : o.next.recorded.sent ≡ f.recorded.sent
 
 asked_finishes : (g : Facts) (r : Option Range) → finishes (having_asked g r) ≡ finishes g
 asked_finishes g None = refl
@@ -148,8 +147,8 @@ asking_sends x (m ∷ ms) r = ap (λ n. sending m + n) (asking_sends x ms r)
 -- the connection goes on, and finishes move
 going : (x : Around) (f g : Facts) (act : Act) (written : List Message) {p : Piece} → reads g + total answers (said_all written) ≤ reads f + sendings p → tells f ≤ tells g + answers p
     → total sendings (said_all written) ≡ 0 → ((n : ℕ) → Learned (finishes g) n → Learned (finishes f) n ⊎ (last_in x p ≡ Some n))
-    → g.recorded.finish ≡ f.recorded.finish → g.recorded.sent ≡ f.recorded.sent → Moves x f p (goes_on x act written g)
-going x f g act written {p = p} r t q learns finish sent =
+    → g.recorded.finish ≡ f.recorded.finish → Moves x f p (goes_on x act written g)
+going x f g act written {p = p} r t q learns finish =
     let same = asked_finishes g (gap_to_ask g) in
     let e = ap (λ (k : Finishes). waiting k.theirs) same in
     let a = ap (λ (k : Finishes). awaited k.own) same in
@@ -159,7 +158,6 @@ going x f g act written {p = p} r t q learns finish sent =
       learns = λ k l. learns k (subst (λ (s : Finishes). Learned s k) same l);
       late = λ last found e. absurd cc;
       finish = ap (λ (k : Finishes). k.finish) same ∙ finish;
-      sent = ap (λ (k : Finishes). k.sent) same ∙ sent;
     }
 
 -- no finish moves
@@ -168,7 +166,6 @@ record Stays (x : Around) (f : Facts) (p : Piece) (g : Facts) : Type 0 where
   told : tells g ≡ tells f
   learns : (n : ℕ) → Learned (finishes g) n → Learned (finishes f) n ⊎ (last_in x p ≡ Some n)
   finish : g.recorded.finish ≡ f.recorded.finish
-  sent : g.recorded.sent ≡ f.recorded.sent
 
 stays : (x : Around) (f g : Facts) {p : Piece} → finishes g ≡ finishes f → Stays x f p g
 stays x f g same = record {
@@ -176,7 +173,6 @@ stays x f g same = record {
   told = ap (λ (k : Finishes). awaited k.own) same;
   learns = λ n l. inl (subst (λ (k : Finishes). Learned k n) same l);
   finish = ap (λ (k : Finishes). k.finish) same;
-  sent = ap (λ (k : Finishes). k.sent) same;
 }
 
 passing : (x : Around) (f g : Facts) (act : Act) (written : List Message) {p : Piece} → finishes g ≡ finishes f → total answers (said_all written) ≡ 0 → total sendings (said_all written) ≡ 0
@@ -185,7 +181,7 @@ passing x f g act written {p = p} same a q =
     let s : Stays x f p g = stays x f g same in
     let r = s.read in
     let t = s.told in
-    going x f g act written (omega (arith, r, a)) (omega (arith, t)) q s.learns s.finish s.sent
+    going x f g act written (omega (arith, r, a)) (omega (arith, t)) q s.learns s.finish
 
 -- and the connection does not go on, or as it was
 resting : (x : Around) (f : Facts) (o : Outcome) {p : Piece} → finishes o.next ≡ finishes f → total answers (said_all o.written) ≡ 0 → total sendings (said_all o.written) ≡ 0
@@ -194,7 +190,7 @@ resting x f o {p = p} same a q late =
     let s : Stays x f p o.next = stays x f o.next same in
     let r = s.read in
     let t = s.told in
-    record { counts = record { read = omega (arith, r, a); told = omega (arith, t); quiet = q }; learns = s.learns; late = late; finish = s.finish; sent = s.sent }
+    record { counts = record { read = omega (arith, r, a); told = omega (arith, t); quiet = q }; learns = s.learns; late = late; finish = s.finish }
 
 staying : (x : Around) (f : Facts) (m : Message) {p : Piece} → receiving_of m ≡ 0 → sending m ≡ 0 → Moves x f p (rejects (m ∷ []) f)
 staying x f m a q = resting x f (rejects (m ∷ []) f) refl (omega (arith, a)) (omega (arith, q)) (λ last found e. absurd cc)
@@ -277,7 +273,7 @@ answering x f g last {p = p} r same known a =
     let s : Stays x f p g = stays x f g same in
     let t = s.told in
     going x f (peer_finished g (peer.Exchanged last) (Some (unwrap_or g.recorded.peer_last last))) (finish_act g.recorded.peer_last last) (finished_receiving x.config.session ∷ [])
-    (omega (arith, r)) (omega (arith, t)) refl learns s.finish s.sent
+    (omega (arith, r)) (omega (arith, t)) refl learns s.finish
   where
     at_last : (n : ℕ) → last ≡ n → Learned (finishes f) n ⊎ (last_in x p ≡ Some n)
     at_last n e = subst (λ (k : ℕ). Learned (finishes f) k ⊎ (last_in x p ≡ Some k)) e known
@@ -337,20 +333,44 @@ finish_late x f last l found e = by_tests (is_absent x.config.peer_flow) (is_seq
 finishing : (x : Around) (f : Facts) (id : List ℕ) (last : Option ℕ) → Moves x f (said (finished_sending id last)) (finished x f (finished_last x last))
 finishing x f id last =
     by_row (Moves x f (said (finished_sending id last))) (is_some (receiver_is.gap f.connection.receiver)) (accepts x [] (peer_finished f (peer.Read (finished_last x last)) f.recorded.peer_last)) (answers_finish x f (finished_last x last))
-    (λ _. going x f (peer_finished f (peer.Read (finished_last x last)) f.recorded.peer_last) acts.Nothing [] (omega arith) (omega arith) refl learns refl refl)
+    (λ _. going x f (peer_finished f (peer.Read (finished_last x last)) f.recorded.peer_last) acts.Nothing [] (omega arith) (omega arith) refl learns refl)
     (λ _. answering x f f (finished_last x last) (omega arith) refl (inr refl) refl)
   where
     learns : (n : ℕ) → (f.recorded.peer_last ≡ Some n) ⊎ (Some (finished_last x last) ≡ Some n) → Learned (finishes f) n ⊎ (Some (finished_last x last) ≡ Some n)
     learns n (inl e) = inl (inl e)
     learns n (inr e) = inr e
 
-acknowledging : (x : Around) (f : Facts) (next : Option ℕ) (timestamp keepalive : ℕ) {p : Piece} → Moves x f p (acknowledges_older x timestamp keepalive (announced x f next))
-acknowledging x f next timestamp keepalive =
+acknowledging : (x : Around) (f : Facts) (next : Option ℕ) (timestamp keepalive : ℕ) (e : Expected) {p : Piece} → Moves x f p (acknowledges x timestamp keepalive e (announced x f next))
+acknowledging x f next timestamp keepalive e {p = p} =
     let a = announced x f next in
     let none = skip_answers a.skipped in
     let quiet = skip_sends a.skipped in
-    passing x f (established (firm a.facts) keepalive) (skip_of a.skipped) (establishment_ack x.config.session timestamp x.config.keepalive (announced_number x a.facts) expects.Absent ∷ told_skip a.skipped)
-    (unmoved x f next) (omega (arith, none)) (omega (arith, quiet))
+    by_taking (λ g. Moves x f p (acknowledged_by x timestamp keepalive e a.skipped g)) x a.facts e
+    (λ _. let g : Facts = record a.facts { recorded = record a.facts.recorded { sent = number_in e - 1 } } in
+    passing x f (established (softened x e g) keepalive) (skip_of a.skipped) (establishment_ack x.config.session timestamp x.config.keepalive (announced_number x g) (answers_next x e g) ∷ told_skip a.skipped) (unmoved x f next)
+    (omega (arith, none)) (omega (arith, quiet)))
+    (passing x f (established (softened x e a.facts) keepalive) (skip_of a.skipped) (establishment_ack x.config.session timestamp x.config.keepalive (announced_number x a.facts) (answers_next x e a.facts) ∷ told_skip a.skipped) (unmoved x f next)
+    (omega (arith, none)) (omega (arith, quiet)))
+
+-- an acknowledgement, whether its number is taken or not
+reaching_on : (x : Around) (f : Facts) (next : Option ℕ) (interval : ℕ) (e : Expected) {p : Piece} (t same : Bool) → Moves x f p (reaching x interval e (announced x f next) t same)
+reaching_on x f next interval e {p = p} t same =
+    let a = announced x f next in
+    let parts = starts_nothing a.skipped t same in
+    by_test t parts.0 parts.1
+  where
+    starts_nothing : (s : Option Range) (t same : Bool) → (total answers (said_all (told_skip s ++ starting t same e)) ≡ 0) × (total sendings (said_all (told_skip s ++ starting t same e)) ≡ 0)
+    starts_nothing None true true = (refl, refl)
+    starts_nothing None true false = (refl, refl)
+    starts_nothing None false same = (refl, refl)
+    starts_nothing (Some s) true true = (refl, refl)
+    starts_nothing (Some s) true false = (refl, refl)
+    starts_nothing (Some s) false same = (refl, refl)
+
+    by_test : (b : Bool) → total answers (said_all (told_skip (announced x f next).skipped ++ starting t same e)) ≡ 0 → total sendings (said_all (told_skip (announced x f next).skipped ++ starting t same e)) ≡ 0
+        → Moves x f p (goes_on x (skip_of (announced x f next).skipped) (told_skip (announced x f next).skipped ++ starting t same e) (established (returned_if b (announced x f next).facts e) interval))
+    by_test true none quiet = passing x f (established (returned_if true (announced x f next).facts e) interval) (skip_of (announced x f next).skipped) (told_skip (announced x f next).skipped ++ starting t same e) (unmoved x f next) none quiet
+    by_test false none quiet = passing x f (established (announced x f next).facts interval) (skip_of (announced x f next).skipped) (told_skip (announced x f next).skipped ++ starting t same e) (unmoved x f next) none quiet
 
 -- all rows of all messages
 message_rows : (x : Around) (f : Facts) (payload : List ℕ) → AllRows (Moves x f (entry payload)) (rows_of x f (application payload))
@@ -379,8 +399,8 @@ choosing P true c first second p q = p
 choosing P false true first second p q = q
 choosing P false false first second p q = tt
 
-session_rows : (x : Around) (f : Facts) (m : Message) → is_newer x.config ≡ false → AllRows (Moves x f (said m)) (rows_of x f (session m))
-session_rows x f (negotiate id timestamp flow credentials) old = all_within (Moves x f (said (negotiate id timestamp flow credentials))) (awaits_client x f) (negotiate_rows x f id timestamp flow credentials) (λ _. (
+session_rows : (x : Around) (f : Facts) (m : Message) → AllRows (Moves x f (said m)) (rows_of x f (session m))
+session_rows x f (negotiate id timestamp flow credentials) = all_within (Moves x f (said (negotiate id timestamp flow credentials))) (awaits_client x f) (negotiate_rows x f id timestamp flow credentials) (λ _. (
   λ _. staying x f _ refl refl,
   λ _. (
     λ _. staying x f _ refl refl,
@@ -393,19 +413,19 @@ session_rows x f (negotiate id timestamp flow credentials) old = all_within (Mov
     ),
   ),
 ))
-session_rows x f (negotiation_response id timestamp flow credentials) old =
+session_rows x f (negotiation_response id timestamp flow credentials) =
     let p = said (negotiation_response id timestamp flow credentials) in
     in_session x f p 2 id _ (all_within (Moves x f p) (is_negotiating f.connection.phase) (negotiation_response_rows x f flow) (λ _. (
       λ _. ending x f f 2 (endings.Violation (OtherSession 2)) refl (λ _ _ e. absurd cc),
       λ _. (λ _. passing x f (in_phase (as_negotiated f) phases.Establishing) _ (opening_establish x f ∷ []) refl refl refl, λ _. tt),
     )))
-session_rows x f (negotiation_reject id timestamp code reason) old =
+session_rows x f (negotiation_reject id timestamp code reason) =
     let p = said (negotiation_reject id timestamp code reason) in
     in_session x f p 3 id _ (all_within (Moves x f p) (is_negotiating f.connection.phase) (negotiation_reject_rows x f code) (λ _. (
       λ _. passing x f (in_phase (as_negotiated f) phases.Establishing) _ (opening_establish x f ∷ []) refl refl refl,
       λ _. (λ _. rejecting x f 3 code, λ _. tt),
     )))
-session_rows x f (establish id timestamp keepalive next expected credentials) old =
+session_rows x f (establish id timestamp keepalive next expected credentials) =
     let P = Moves x f (said (establish id timestamp keepalive next expected credentials)) in
     choosing P (awaits_client x f) (serves_client x f) (establish_rows x f id timestamp keepalive next expected credentials) (established_again_rows x f id timestamp) (
       λ _. staying x f _ refl refl,
@@ -413,77 +433,75 @@ session_rows x f (establish id timestamp keepalive next expected credentials) ol
         λ _. staying x f _ refl refl,
         λ _. (
           λ _. staying x f _ refl refl,
-          λ _. announcing x f f 4 next (acknowledges x timestamp keepalive expected) refl (subst P (sym (acknowledges_so x timestamp keepalive expected (announced x f next) old)) (acknowledging x f next timestamp keepalive)),
+          λ _. announcing x f f 4 next (acknowledges x timestamp keepalive expected) refl (acknowledging x f next timestamp keepalive expected),
         ),
       ),
     )
     (λ _. staying x f _ refl refl, λ _. (λ _. staying x f _ refl refl, λ _. tt))
-session_rows x f (establishment_ack id timestamp keepalive next expected) old =
+session_rows x f (establishment_ack id timestamp keepalive next expected) =
     let p = said (establishment_ack id timestamp keepalive next expected) in
     in_session x f p 5 id _ (all_within (Moves x f p) (is_establishing f.connection.phase) (establishment_ack_rows x f keepalive next expected) (λ _.
     announcing x f f 5 next (reached x keepalive expected) refl
-    (let a = announced x f next in
-    subst (Moves x f p) (sym (reached_so x keepalive expected a old))
-    (passing x f (established a.facts (min 60000 (max 100 keepalive))) (skip_of a.skipped) (told_skip a.skipped) (unmoved x f next) (skip_answers a.skipped) (skip_sends a.skipped)))))
-session_rows x f (establishment_reject id timestamp code reason) old =
+    (by_reaching (Moves x f p) x keepalive expected (announced x f next) (λ t same _ _. reaching_on x f next (min 60000 (max 100 keepalive)) expected t same))))
+session_rows x f (establishment_reject id timestamp code reason) =
     let p = said (establishment_reject id timestamp code reason) in
     in_session x f p 6 id _ (all_within (Moves x f p) (is_establishing f.connection.phase) (establishment_reject_rows x f code) (λ _. (
       λ _. passing x f (in_phase f phases.Negotiating) acts.Nothing (opening_negotiate x ∷ []) refl refl refl,
       λ _. (λ _. rejecting x f 6 code, λ _. tt),
     )))
-session_rows x f (sequence next) old =
+session_rows x f (sequence next) =
     let p = said (sequence next) in
     let g : Facts = requesting f (request_is.after_sequence f.connection.requester) in
     all_within (Moves x f p) (is_established f.connection.phase) (sequence_rows x f next) (λ now. (
       λ _. bad x f (request_is.sequence_fault f.connection.requester),
       λ _. announcing x f g 7 (Some next) (sequence_follows x g next) refl (following x f g next (announced x g (Some next)) refl (unmoved x g (Some next)) (λ past. (now, past))),
     ))
-session_rows x f unsequenced_heartbeat old = (λ _. passing x f f acts.Nothing [] refl refl refl, λ _. tt)
-session_rows x f (retransmit_request id timestamp first count) old =
+session_rows x f unsequenced_heartbeat = (λ _. passing x f f acts.Nothing [] refl refl refl, λ _. tt)
+session_rows x f (retransmit_request id timestamp first count) =
     all_within (Moves x f (said (retransmit_request id timestamp first count))) (is_established f.connection.phase) (retransmit_request_rows x f id timestamp first count) (λ _. (
       λ _. ending x f f 4 (endings.Violation (NotInPhase 9 f.connection.phase)) refl (λ _ _ e. absurd cc),
       λ _. (λ _. requested x f id timestamp (judged (is_own x id) (is_recoverable x.config.own_flow) first count f.recorded.sent), λ _. tt),
     ))
-session_rows x f (retransmission id next timestamp count) old =
+session_rows x f (retransmission id next timestamp count) =
     let p = said (retransmission id next timestamp count) in
     in_session x f p 10 id _ (all_within (Moves x f p) (is_established f.connection.phase) (retransmission_rows x f next count) (λ _. (
       λ _. bad x f (request_is.start_fault (request_is.outstanding f.connection.requester) next count),
       λ _. (λ _. passing x f (restarted f next count) acts.Nothing [] refl refl refl, λ _. tt),
     )))
-session_rows x f (retransmit_reject id timestamp code reason) old =
+session_rows x f (retransmit_reject id timestamp code reason) =
     let p = said (retransmit_reject id timestamp code reason) in
     in_session x f p 11 id _ (all_within (Moves x f p) (is_established f.connection.phase) (retransmit_reject_rows x f) (λ _. (
       λ _. ending x f f 2 (endings.Violation (BadRetransmission (first_asked (request_is.outstanding f.connection.requester)) 0)) refl (λ _ _ e. absurd cc),
       λ _. tt,
     )))
-session_rows x f (applied first count) old = (λ _. passing x f f acts.Nothing [] refl refl refl, λ _. tt)
-session_rows x f (not_applied first count) old = (λ _. passing x f f (acts.Told first count) [] refl refl refl, λ _. (λ _. passing x f f acts.Nothing [] refl refl refl, λ _. tt))
-session_rows x f (finished_sending id last) old =
+session_rows x f (applied first count) = (λ _. passing x f f acts.Nothing [] refl refl refl, λ _. tt)
+session_rows x f (not_applied first count) = (λ _. passing x f f (acts.Told first count) [] refl refl refl, λ _. (λ _. passing x f f acts.Nothing [] refl refl refl, λ _. tt))
+session_rows x f (finished_sending id last) =
     let p = said (finished_sending id last) in
     in_session x f p 14 id _ (all_within (Moves x f p) (is_established f.connection.phase) (finished_sending_rows x f last) (λ now. (
       λ _. refusing x f f (finish_fault x f last) refl (λ l found e. (now, finish_late x f last l found e)),
       λ _. (λ _. finishing x f id last, λ _. tt),
     )))
-session_rows x f (finished_receiving id) old =
+session_rows x f (finished_receiving id) =
     let p = said (finished_receiving id) in
     in_session x f p 15 id _ (all_within (Moves x f p) (is_established f.connection.phase) (finished_receiving_rows x f) (λ _. (
-      λ _. let one = at_most_one f.connection.own_finish in going x f (own_finishing f own.Exchanged) acts.Nothing [] (omega arith) (omega (arith, one)) refl (λ n l. inl l) refl refl,
+      λ _. let one = at_most_one f.connection.own_finish in going x f (own_finishing f own.Exchanged) acts.Nothing [] (omega arith) (omega (arith, one)) refl (λ n l. inl l) refl,
       λ _. tt,
     )))
-session_rows x f (terminate id code reason) old =
+session_rows x f (terminate id code reason) =
     in_session x f (said (terminate id code reason)) 16 id (row true (ends x f 1 (endings.PeerTerminated code)) ∷ []) (λ _. ending x f f 1 (endings.PeerTerminated code) refl (λ _ _ e. absurd cc), λ _. tt)
 
 -- of each reply to a message that may be under way
-pub moves : (x : Around) (f : Facts) (p : Piece) → is_newer x.config ≡ false → Moves x f p (reply_of x f (incoming_of p))
-moves x f p old =
+pub moves : (x : Around) (f : Facts) (p : Piece) → Moves x f p (reply_of x f (incoming_of p))
+moves x f p =
     by_row (Moves x f p) (is_closing f.connection.phase && not (terminates x (incoming_of p))) (ignores f) (answer_of x f (incoming_of p))
     (λ _. ignoring x f f refl)
     (λ _. all_rows (Moves x f p) (not_in_phase x f (template_of (incoming_of p))) (rows_of x f (incoming_of p))
     (ending x f f 2 (endings.Violation (NotInPhase (template_of (incoming_of p)) f.connection.phase)) refl (λ _ _ e. absurd cc)) (by_piece p))
   where
     by_piece : (q : Piece) → AllRows (Moves x f q) (rows_of x f (incoming_of q))
-    by_piece (said m) = session_rows x f m old
+    by_piece (said m) = session_rows x f m
     by_piece (entry payload) = message_rows x f payload
 
-pub counts : (x : Around) (f : Facts) (p : Piece) → is_newer x.config ≡ false → Counts f (sendings p) (answers p) (reply_of x f (incoming_of p))
-counts x f p old = (moves x f p old).counts
+pub counts : (x : Around) (f : Facts) (p : Piece) → Counts f (sendings p) (answers p) (reply_of x f (incoming_of p))
+counts x f p = (moves x f p).counts

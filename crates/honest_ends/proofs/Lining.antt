@@ -31,7 +31,8 @@ use Rattle.fixp_replies.specs.Announcing.{Announced, jumped_over, announced, ann
 use Rattle.fixp_replies.specs.Flowing.{bad_retransmission, counted, taken_as, peer_finished, answers_finish, is_filled, is_past_finish, sequence_follows, sequence_taken, restarted, finished_last, finish_fault, finished, is_last, application_rows, sequence_rows, retransmission_rows, retransmit_reject_rows, finished_sending_rows}
 use Rattle.fixp_replies.specs.Serving.{request_answered, own_finishing, retransmit_request_rows, finished_receiving_rows}
 use Rattle.fixp_replies.specs.Replies.{rows_of, answer_of}
-use Rattle.honest_ends.proofs.Older.{expected_most}
+use Rattle.honest_ends.proofs.Returning.{expected_most, asked_unmoved}
+use Rattle.honest_ends.proofs.Running.{after_silent, after_announced}
 use Rattle.fixp_machine.proofs.Rows.{by_row, all_rows, all_within}
 use Rattle.connection_laws.specs.Writing.{Piece, said, entry}
 use Rattle.two_ends.specs.Reading.{incoming_of}
@@ -45,7 +46,7 @@ use Rattle.honest_ends.proofs.Deciding.{Decides, decides_within, ended_by}
 use Rattle.honest_ends.proofs.PhaseOpening.{asks_none}
 use Rattle.honest_ends.proofs.Moving.{not_over}
 use Rattle.honest_ends.proofs.Replying.{foreign, heard}
-use Rattle.honest_ends.specs.Numbers.{After, AfterOther, Answers, Before, BeforeOther, HasOne, Idle, IsFlowing, IsWhole, Line, Lined, Matches, NotNumber, Other, Peer, Reaches, Rests, announces, live_after, left_after, to_come}
+use Rattle.honest_ends.specs.Numbers.{Awaited, exactly, softly, After, AfterOther, Answers, Before, BeforeOther, HasOne, Idle, IsFlowing, IsWhole, Line, Lined, Matches, NotNumber, Other, Peer, Reaches, Rests, announces, awaited_after, live_after, left_after, to_come, goes_softly, expecting, lowest}
 
 no_violation : (A : Type 0) (v : Violation) → None ≡ Some (endings.Violation v) → NotNumber A v
 no_violation A v e = absurd cc
@@ -55,65 +56,76 @@ terminated_fine A true code w e = absurd cc
 terminated_fine A false code w e = absurd cc
 
 -- a gap that is asked for ends at the live number
-asked_line : (f : Facts) (soft : Bool) (q : Request) → f.connection.requester ≡ q → Line f
+asked_line : (f : Facts) (soft : Bool) (q : Request) → f.connection.soft ≡ soft → f.connection.requester ≡ q → Line f
     → (b : Bool) → nat_lt f.connection.receiver.next f.connection.receiver.live ≡ b
     → Line (having_asked f (if soft || is_some (request_is.outstanding q) then None else if b then Some (record { from = f.connection.receiver.next; count = f.connection.receiver.live - f.connection.receiver.next }) else None))
     × (to_come (having_asked f (if soft || is_some (request_is.outstanding q) then None else if b then Some (record { from = f.connection.receiver.next; count = f.connection.receiver.live - f.connection.receiver.next }) else None)).connection.requester ≡ to_come f.connection.requester)
-asked_line f true q e line b t = (line, refl)
-asked_line f false requests.Nothing e line true t =
+asked_line f true q s e line b t = (line, refl)
+asked_line f false requests.Nothing s e line true t =
     let none : f.connection.receiver.again ≡ None = subst (λ (q : Request). Matches f.connection.receiver q) e line.matches in
     let low = line.low in
-    (record { waits = line.waits; low = low; matches = (none, omega (arith, low)) }, sym (ap to_come e))
-asked_line f false requests.Nothing e line false t = (line, refl)
-asked_line f false (requests.Asked range) e line b t = (line, refl)
-asked_line f false (requests.Coming range next left) e line b t = (line, refl)
+    (record { waits = line.waits; low = low; matches = (none, omega (arith, low)); unasked = λ soft. absurd (true≢false (sym soft ∙ s)) }, sym (ap to_come e))
+asked_line f false requests.Nothing s e line false t = (line, refl)
+asked_line f false (requests.Asked range) s e line b t = (line, refl)
+asked_line f false (requests.Coming range next left) s e line b t = (line, refl)
 
-pub same_receiver : (f g : Facts) (least b : ℕ) (l : Option ℕ) → g.connection.receiver ≡ f.connection.receiver → g.connection.requester ≡ f.connection.requester → g.recorded.inbox_next ≡ f.recorded.inbox_next
-    → Reaches f least b l → Reaches g least b l
-same_receiver f g least b l r q n h = record {
+-- what is asked for leaves the reader in line
+pub line_asked : (g : Facts) → Line g → Line (having_asked g (gap_to_ask g)) × (to_come (having_asked g (gap_to_ask g)).connection.requester ≡ to_come g.connection.requester)
+line_asked g line = asked_line g g.connection.soft g.connection.requester refl refl line (nat_lt g.connection.receiver.next g.connection.receiver.live) refl
+
+-- the receiver and softness decide what is expected
+same_expecting : (f g : Facts) → g.connection.receiver.next ≡ f.connection.receiver.next → g.connection.receiver.live ≡ f.connection.receiver.live → g.connection.soft ≡ f.connection.soft → expecting g ≡ expecting f
+same_expecting f g n l s = ap (λ (b : Bool). expecting_of b g.connection.receiver.next g.connection.receiver.live) s
+    ∙ (ap (λ (k : ℕ). expecting_of f.connection.soft k g.connection.receiver.live) n ∙ ap (λ (k : ℕ). expecting_of f.connection.soft f.connection.receiver.next k) l)
+  where
+    expecting_of : Bool → ℕ → ℕ → Awaited
+    expecting_of b next live = if b && nat_lt next live then softly next live else exactly live
+
+firm_expecting : (f : Facts) → f.connection.soft ≡ false → expecting f ≡ exactly f.connection.receiver.live
+firm_expecting f e = ap (λ (b : Bool). if b && nat_lt f.connection.receiver.next f.connection.receiver.live then softly f.connection.receiver.next f.connection.receiver.live else exactly f.connection.receiver.live) e
+
+same_receiver : (f g : Facts) (least : ℕ) (a : Awaited) (l : Option ℕ) → g.connection.receiver ≡ f.connection.receiver → g.connection.requester ≡ f.connection.requester → g.recorded.inbox_next ≡ f.recorded.inbox_next
+    → g.connection.soft ≡ f.connection.soft → Reaches f least a l → Reaches g least a l
+same_receiver f g least a l r q n s h = record {
   line = record {
     waits = ap (λ k. k.next) r ∙ (h.line.waits ∙ sym n);
     low = subst (λ (k : Receiving). k.next ≤ k.live) (sym r) h.line.low;
     matches = subst (λ (k : Receiving). Matches k g.connection.requester) (sym r) (subst (λ (k : Request). Matches f.connection.receiver k) (sym q) h.line.matches);
+    unasked = λ soft. q ∙ h.line.unasked (sym s ∙ soft);
   };
   rises = let k = h.rises in omega (arith, k, n);
-  live = ap (λ k. k.live) r ∙ h.live;
+  reach = same_expecting f g (ap (λ k. k.next) r) (ap (λ k. k.live) r) s ∙ h.reach;
   left = ap to_come q ∙ h.left;
 }
 
--- what is asked for leaves the inbox and the receiver
-asked_receiver : (g : Facts) (r : Option Range) → ((having_asked g r).connection.receiver ≡ g.connection.receiver) × ((having_asked g r).recorded.inbox_next ≡ g.recorded.inbox_next)
-asked_receiver g None = (refl, refl)
-asked_receiver g (Some r) = (refl, refl)
-
 -- the connection goes on
-pub going : (x : Around) (A : Type 0) (f g : Facts) (act : Act) (written : List Message) (b : ℕ) (l : Option ℕ) → Reaches g f.recorded.inbox_next b l → Lined A f b l (goes_on x act written g)
-going x A f g act written b l h =
-    let a = asked_line g g.connection.soft g.connection.requester refl h.line (nat_lt g.connection.receiver.next g.connection.receiver.live) refl in
-    let same = asked_receiver g (gap_to_ask g) in
+pub going : (x : Around) (A : Type 0) (f g : Facts) (act : Act) (written : List Message) (a : Awaited) (l : Option ℕ) → Reaches g f.recorded.inbox_next a l → Lined A f a l (goes_on x act written g)
+going x A f g act written a l h =
+    let k = line_asked g h.line in
+    let same = asked_unmoved g (gap_to_ask g) in
     record {
       fine = no_violation A;
       next = λ _. record {
-        line = a.0;
-        rises = let k = h.rises in let n = same.1 in omega (arith, k, n);
-        live = ap (λ k. k.live) same.0 ∙ h.live;
-        left = a.1 ∙ h.left;
+        line = k.0;
+        rises = let up = h.rises in let n = same.inbox in omega (arith, up, n);
+        reach = same_expecting g (having_asked g (gap_to_ask g)) (ap (λ r. r.next) same.receiver) (ap (λ r. r.live) same.receiver) same.soft ∙ h.reach;
+        left = k.1 ∙ h.left;
       };
       over = λ some. not_over {A = Ending} None refl some;
     }
 
 -- it ends
-ending : (x : Around) (A : Type 0) (f g : Facts) (code : ℕ) (v : Violation) (b : ℕ) (l : Option ℕ) → g.recorded.inbox_next ≡ f.recorded.inbox_next → NotNumber A v → Lined A f b l (ends x g code (endings.Violation v))
-ending x A f g code v b l same h = record { fine = λ w e. ended_by (NotNumber A) (finishes_exchanged x g) v w e h; next = λ none. absurd cc; over = λ _. same }
+ending : (x : Around) (A : Type 0) (f g : Facts) (code : ℕ) (v : Violation) (a : Awaited) (l : Option ℕ) → g.recorded.inbox_next ≡ f.recorded.inbox_next → NotNumber A v → Lined A f a l (ends x g code (endings.Violation v))
+ending x A f g code v a l same h = record { fine = λ w e. ended_by (NotNumber A) (finishes_exchanged x g) v w e h; next = λ none. absurd cc; over = λ _. same }
 
-bad : (x : Around) (A : Type 0) (f : Facts) (k : Option BadStart) (b : ℕ) (l : Option ℕ) → is_some k ≡ true → (A → ⊥) → Lined A f b l (bad_retransmission x f k)
-bad x A f None b l some wrong = absurd (true≢false (sym some))
-bad x A f (Some k) b l some wrong = ending x A f f 2 _ b l refl wrong
+bad : (x : Around) (A : Type 0) (f : Facts) (k : Option BadStart) (a : Awaited) (l : Option ℕ) → is_some k ≡ true → (A → ⊥) → Lined A f a l (bad_retransmission x f k)
+bad x A f None a l some wrong = absurd (true≢false (sym some))
+bad x A f (Some k) a l some wrong = ending x A f f 2 _ a l refl wrong
 
-refusing : (x : Around) (A : Type 0) (f g : Facts) (v : Option Violation) (b : ℕ) (l : Option ℕ) → g.recorded.inbox_next ≡ f.recorded.inbox_next → is_some v ≡ true → ((w : Violation) → v ≡ Some w → NotNumber A w)
-    → Lined A f b l (refuses x g v)
-refusing x A f g None b l same some h = absurd (true≢false (sym some))
-refusing x A f g (Some v) b l same some h = ending x A f g 2 v b l same (h v refl)
+refusing : (x : Around) (A : Type 0) (f g : Facts) (v : Option Violation) (a : Awaited) (l : Option ℕ) → g.recorded.inbox_next ≡ f.recorded.inbox_next → is_some v ≡ true → ((w : Violation) → v ≡ Some w → NotNumber A w)
+    → Lined A f a l (refuses x g v)
+refusing x A f g None a l same some h = absurd (true≢false (sym some))
+refusing x A f g (Some v) a l same some h = ending x A f g 2 v a l same (h v refl)
 
 pub number_fault : (A : Type 0) (x : Around) (f : Facts) (t : ℕ) (next : Option ℕ)
     → (is_sequenced x.config.peer_flow ≡ true → is_none next ≡ false → (nat_lt (x.most + 1) (unwrap_or next 0) ≡ false) × (nat_lt (unwrap_or next 0) (expected_number x f) ≡ false))
@@ -203,42 +215,51 @@ counted_line : (flow : Flow) (f : Facts) → Line f → HasOne (to_come f.connec
     (receiver_is.after_message f.connection.receiver) (request_is.after_message f.connection.requester)
 counted_line flow f line one = count_line flow f.connection.receiver.next f.connection.receiver.live f.connection.receiver.again f.connection.requester line.low line.matches one
 
-taking : (x : Around) (A : Type 0) (f : Facts) (s : Seen) (b : ℕ) (l : Option ℕ) → receiver_is.seen f.connection.receiver ≡ s → Line f → HasOne (to_come f.connection.requester)
-    → l ≡ left_after (entry []) (to_come f.connection.requester) → live_after x.config.peer_flow (entry []) f.connection.receiver.live (to_come f.connection.requester) ≡ b → Lined A f b l (taken_as x (counted f) s)
-taking x A f (Deliver n) b l is line one e top =
-    let r = f.connection.receiver in
-    let d = delivers r.next (receiver_is.number r) n is in
-    let c = counted_line x.config.peer_flow f line one in
-    let waits = line.waits in
-    let d0 = d.0 in let d1 = d.1 in
-    going x A f (awaiting (counted f) (n + 1)) (acts.Apply n) [] b l (record {
+-- behind a message the reader is not soft
+taking : (x : Around) (A : Type 0) (f : Facts) (s : Seen) (a : Awaited) (l : Option ℕ) → receiver_is.seen f.connection.receiver ≡ s → Line f → HasOne (to_come f.connection.requester)
+    → l ≡ left_after (entry []) (to_come f.connection.requester) → exactly (live_after x.config.peer_flow (entry []) f.connection.receiver.live (to_come f.connection.requester)) ≡ a → Lined A f a l (taken_as x (counted f) s)
+taking x A f s a l is line one e top = by_seen s is
+  where
+    r : Receiving
+    r = f.connection.receiver
+
+    c : Counted f.connection.receiver.next f.connection.receiver.live (left_after (entry []) (to_come f.connection.requester)) (live_after x.config.peer_flow (entry []) f.connection.receiver.live (to_come f.connection.requester))
+        (receiver_is.after_message f.connection.receiver) (request_is.after_message f.connection.requester)
+    c = counted_line x.config.peer_flow f line one
+
+    passed : (t : Bool) → (receiver_is.number r == r.next) ≡ t → (receiver_is.after_message r).next ≡ (if t then r.next + 1 else r.next)
+    passed t same = next_counted r.next r.live r.again ∙ ap (λ b. if b then r.next + 1 else r.next) same
+
+    reached : (g : Facts) → g.connection.receiver ≡ receiver_is.after_message r → g.connection.requester ≡ request_is.after_message f.connection.requester → g.connection.soft ≡ false
+        → g.connection.receiver.next ≡ g.recorded.inbox_next → f.recorded.inbox_next ≤ g.recorded.inbox_next → Reaches g f.recorded.inbox_next a l
+    reached g same asked firm waits rises = record {
       line = record {
-        waits = next_counted r.next r.live r.again ∙ (ap (λ t. if t then r.next + 1 else r.next) (eq-eqb (receiver_is.number r) r.next d.1) ∙ omega (arith, d0, d1));
-        low = c.low;
-        matches = c.matches;
+        waits = waits;
+        low = subst (λ (k : Receiving). k.next ≤ k.live) (sym same) c.low;
+        matches = subst (λ (k : Receiving). Matches k g.connection.requester) (sym same) (subst (λ (q : Request). Matches (receiver_is.after_message r) q) (sym asked) c.matches);
+        unasked = λ soft. absurd (true≢false (sym soft ∙ firm));
       };
-      rises = omega (arith, waits, d0, d1);
-      live = c.number ∙ top;
-      left = c.left ∙ sym e;
-    })
-taking x A f (Gap n) b l is line one e top =
-    let r = f.connection.receiver in
-    let c = counted_line x.config.peer_flow f line one in
-    going x A f (counted f) acts.Nothing [] b l (record {
-      line = record { waits = next_counted r.next r.live r.again ∙ (ap (λ t. if t then r.next + 1 else r.next) ((passes r.next (receiver_is.number r) n).0 is) ∙ line.waits); low = c.low; matches = c.matches };
-      rises = omega arith;
-      live = c.number ∙ top;
-      left = c.left ∙ sym e;
-    })
-taking x A f (Repeat n) b l is line one e top =
-    let r = f.connection.receiver in
-    let c = counted_line x.config.peer_flow f line one in
-    going x A f (counted f) acts.Nothing [] b l (record {
-      line = record { waits = next_counted r.next r.live r.again ∙ (ap (λ t. if t then r.next + 1 else r.next) ((passes r.next (receiver_is.number r) n).1 is) ∙ line.waits); low = c.low; matches = c.matches };
-      rises = omega arith;
-      live = c.number ∙ top;
-      left = c.left ∙ sym e;
-    })
+      rises = rises;
+      reach = firm_expecting g firm ∙ (ap (λ (k : Receiving). exactly k.live) same ∙ (ap (λ (n : ℕ). exactly n) c.number ∙ top));
+      left = ap to_come asked ∙ (c.left ∙ sym e);
+    }
+
+    by_seen : (k : Seen) → receiver_is.seen r ≡ k → Lined A f a l (taken_as x (counted f) k)
+    by_seen (Deliver n) is =
+        let d = delivers r.next (receiver_is.number r) n is in
+        let d0 = d.0 in
+        let d1 = d.1 in
+        let waits = line.waits in
+        let next = passed true (eq-eqb (receiver_is.number r) r.next d.1) in
+        going x A f (awaiting (counted f) (n + 1)) (acts.Apply n) [] a l (reached (awaiting (counted f) (n + 1)) refl refl refl (omega (arith, next, d0, d1)) (omega (arith, waits, d0, d1)))
+    by_seen (Gap n) is =
+        let waits = line.waits in
+        let next = passed false ((passes r.next (receiver_is.number r) n).0 is) in
+        going x A f (counted f) acts.Nothing [] a l (reached (counted f) refl refl refl (omega (arith, next, waits)) (omega arith))
+    by_seen (Repeat n) is =
+        let waits = line.waits in
+        let next = passed false ((passes r.next (receiver_is.number r) n).1 is) in
+        going x A f (counted f) acts.Nothing [] a l (reached (counted f) refl refl refl (omega (arith, next, waits)) (omega arith))
 
 -- the number of the next message is not above the limit
 number_low : (flow : Flow) (most live : ℕ) (again : Option ℕ) (next : ℕ) (q : Request) → Matches (record { next = next; live = live; again = again }) q → HasOne (to_come q)
@@ -268,46 +289,68 @@ announced_is x f next rec = by_flow (is_recoverable x.config.peer_flow) (is_idem
     by_flow true i e = refl
     by_flow false i e = absurd (true≢false (sym e))
 
-ended_matches : (r : Receiving) (q : Request) (n : ℕ) → Matches r q → r.live ≤ n → Matches (receiver_is.announced r n) (request_is.after_sequence q) × (to_come (request_is.after_sequence q) ≡ None)
-ended_matches r requests.Nothing n m h = (refl, refl)
-ended_matches r (requests.Asked range) n m h = let k = m.1 in ((refl, omega (arith, k, h)), refl)
-ended_matches r (requests.Coming range next left) n m h = (refl, refl)
+ended_matches : (soft : Bool) (r : Receiving) (q : Request) (n : ℕ) → (soft ≡ true → q ≡ requests.Nothing) → Matches r q → (if soft then r.next else r.live) ≤ n
+    → Matches (receiver_is.announced r n) (request_is.after_sequence q) × (to_come (request_is.after_sequence q) ≡ None)
+ended_matches soft r requests.Nothing n u m h = (refl, refl)
+ended_matches true r (requests.Asked range) n u m h = absurd (cc (u refl))
+ended_matches false r (requests.Asked range) n u m h = let k = m.1 in ((refl, omega (arith, k, h)), refl)
+ended_matches soft r (requests.Coming range next left) n u m h = (refl, refl)
 
-following : (x : Around) (A : Type 0) (f g : Facts) (next : ℕ) (a : Announced) (b : ℕ) (l : Option ℕ) → g.recorded.inbox_next ≡ f.recorded.inbox_next → Reaches a.facts f.recorded.inbox_next b l → Lined A f b l (sequence_follows x g next a)
-following x A f g next a b l same h =
-    by_row (Lined A f b l) (is_past_finish x g next) (breaks x g (AfterFinish (unwrap_or (peer_last g) 0) next)) (sequence_taken x a)
-    (λ _. ending x A f g 2 _ b l same tt)
-    (λ _. by_row (Lined A f b l) (is_filled a.facts) (answers_finish x a.facts (unwrap_or (awaits_gap a.facts.connection.peer_finish) 0)) (goes_on x (skip_of a.skipped) (told_skip a.skipped) a.facts)
-    (λ _. going x A f (peer_finished a.facts (peer.Exchanged (unwrap_or (awaits_gap a.facts.connection.peer_finish) 0)) (Some (unwrap_or a.facts.recorded.peer_last (unwrap_or (awaits_gap a.facts.connection.peer_finish) 0)))) _ (finished_receiving x.config.session ∷ []) b l
-    (same_receiver a.facts _ f.recorded.inbox_next b l refl refl refl h))
-    (λ _. going x A f a.facts (skip_of a.skipped) (told_skip a.skipped) b l h))
+-- what is announced is not below what is expected, nor below the next number
+lowest_next : (soft : Bool) (r : Receiving) (n : ℕ) → r.next ≤ r.live → (if soft then r.next else r.live) ≤ n → (r.next ≤ n) × ((if soft then r.next else receiver_is.expected r) ≤ n)
+lowest_next true r n low h = (h, h)
+lowest_next false r n low h = (omega (arith, low, h), omega (arith, low, h))
+
+following : (x : Around) (A : Type 0) (f g : Facts) (next : ℕ) (a : Announced) (w : Awaited) (l : Option ℕ) → g.recorded.inbox_next ≡ f.recorded.inbox_next → Reaches a.facts f.recorded.inbox_next w l → Lined A f w l (sequence_follows x g next a)
+following x A f g next a w l same h =
+    by_row (Lined A f w l) (is_past_finish x g next) (breaks x g (AfterFinish (unwrap_or (peer_last g) 0) next)) (sequence_taken x a)
+    (λ _. ending x A f g 2 _ w l same tt)
+    (λ _. by_row (Lined A f w l) (is_filled a.facts) (answers_finish x a.facts (unwrap_or (awaits_gap a.facts.connection.peer_finish) 0)) (goes_on x (skip_of a.skipped) (told_skip a.skipped) a.facts)
+    (λ _. going x A f (peer_finished a.facts (peer.Exchanged (unwrap_or (awaits_gap a.facts.connection.peer_finish) 0)) (Some (unwrap_or a.facts.recorded.peer_last (unwrap_or (awaits_gap a.facts.connection.peer_finish) 0)))) _ (finished_receiving x.config.session ∷ []) w l
+    (same_receiver a.facts _ f.recorded.inbox_next w l refl refl refl refl h))
+    (λ _. going x A f a.facts (skip_of a.skipped) (told_skip a.skipped) w l h))
 
 -- nothing of it moves
 abbrev Stays : Type 0 → Facts → Outcome → Type 0
-Stays A f o = Lined A f f.connection.receiver.live (to_come f.connection.requester) o
+Stays A f o = Lined A f (expecting f) (to_come f.connection.requester) o
 
-here : (f : Facts) → Line f → Reaches f f.recorded.inbox_next f.connection.receiver.live (to_come f.connection.requester)
-here f line = record { line = line; rises = omega arith; live = refl; left = refl }
+-- so it is behind a message that announces nothing, and begins no retransmission
+silently : (x : Around) (f : Facts) (m : Message) (o : Outcome) → announces x.config.peer_flow (said m) ≡ None → left_after (said m) (to_come f.connection.requester) ≡ to_come f.connection.requester
+    → Stays (Answers f.connection.requester (said m)) f o → After x f (said m) o
+silently x f m o e same h =
+    subst (λ (a : Awaited). Lined (Answers f.connection.requester (said m)) f a (left_after (said m) (to_come f.connection.requester)) o) (sym (after_silent x.config.peer_flow m (expecting f) (to_come f.connection.requester) e))
+    (subst (λ (l : Option ℕ). Lined (Answers f.connection.requester (said m)) f (expecting f) l o) (sym same) h)
+
+here : (f : Facts) → Line f → Reaches f f.recorded.inbox_next (expecting f) (to_come f.connection.requester)
+here f line = record { line = line; rises = omega arith; reach = refl; left = refl }
 
 passing : (x : Around) (A : Type 0) (f g : Facts) (act : Act) (written : List Message) → Line f → g.connection.receiver ≡ f.connection.receiver → g.connection.requester ≡ f.connection.requester
-    → g.recorded.inbox_next ≡ f.recorded.inbox_next → Stays A f (goes_on x act written g)
-passing x A f g act written line r q n =
-    going x A f g act written f.connection.receiver.live (to_come f.connection.requester) (same_receiver f g f.recorded.inbox_next f.connection.receiver.live (to_come f.connection.requester) r q n (here f line))
+    → g.recorded.inbox_next ≡ f.recorded.inbox_next → g.connection.soft ≡ f.connection.soft → Stays A f (goes_on x act written g)
+passing x A f g act written line r q n s =
+    going x A f g act written (expecting f) (to_come f.connection.requester) (same_receiver f g f.recorded.inbox_next (expecting f) (to_come f.connection.requester) r q n s (here f line))
+
+-- a message of the flow makes what is expected exactly one number
+entry_reach : (flow : Flow) (f : Facts) (payload : List ℕ) (l : Option ℕ) → awaited_after flow (entry payload) (expecting f) l ≡ exactly (live_after flow (entry payload) f.connection.receiver.live l)
+entry_reach flow f payload l = by_test (goes_softly f)
+  where
+    by_test : (t : Bool) → awaited_after flow (entry payload) (if t then softly f.connection.receiver.next f.connection.receiver.live else exactly f.connection.receiver.live) l ≡ exactly (live_after flow (entry payload) f.connection.receiver.live l)
+    by_test true = refl
+    by_test false = refl
 
 message_lined : (x : Around) (f : Facts) (payload : List ℕ) → Before x f (entry payload) → Decides (After x f (entry payload)) (application_rows x f)
 message_lined x f payload k =
-    let b : ℕ = live_after x.config.peer_flow (entry payload) f.connection.receiver.live (to_come f.connection.requester) in
+    let a : Awaited = awaited_after x.config.peer_flow (entry payload) (expecting f) (to_come f.connection.requester) in
     let l : Option ℕ = left_after (entry payload) (to_come f.connection.requester) in (
-      λ _. ending x ⊤ f f 2 _ b l refl tt,
+      λ _. ending x ⊤ f f 2 _ a l refl tt,
       λ _. (
-        λ _. ending x ⊤ f f 2 _ b l refl tt,
+        λ _. ending x ⊤ f f 2 _ a l refl tt,
         λ _. (
           λ large. absurd (true≢false (sym large ∙ not_less x.most (message_number x f) low)),
           λ _. (
             λ other. absurd (true≢false (sym other ∙ ap not k.recoverable)),
             λ _. (
               λ some. absurd (has_one f.connection.requester k.fits some),
-              λ _. (λ _. taking x ⊤ f (receiver_is.seen f.connection.receiver) b l refl k.line k.fits refl refl, λ e. absurd (true≢false e)),
+              λ _. (λ _. taking x ⊤ f (receiver_is.seen f.connection.receiver) a l refl k.line k.fits refl (sym (entry_reach x.config.peer_flow f payload (to_come f.connection.requester))), λ e. absurd (true≢false e)),
             ),
           ),
         ),
@@ -316,7 +359,7 @@ message_lined x f payload k =
   where
     low : message_number x f ≤ x.most
     low = subst (λ (r : Bool). (if r then receiver_is.number f.connection.receiver else f.recorded.inbox_next) ≤ x.most) (sym k.recoverable)
-        (number_low x.config.peer_flow x.most f.connection.receiver.live f.connection.receiver.again f.connection.receiver.next f.connection.requester k.line.matches k.fits k.top)
+        (number_low x.config.peer_flow x.most f.connection.receiver.live f.connection.receiver.again f.connection.receiver.next f.connection.requester k.line.matches k.fits (k.top refl))
 
 -- a Sequence of a flow with numbers
 told : (flow : Flow) (next b : ℕ) → is_sequenced flow ≡ true → live_after flow (said (sequence next)) b None ≡ next
@@ -326,39 +369,44 @@ told_low : (flow : Flow) (next b : ℕ) → is_sequenced flow ≡ true → IfSom
 told_low flow next b e h = subst (λ (t : Bool). IfSome (if t then Some next else None) (λ n. b ≤ n)) e h
 
 sequence_lined : (x : Around) (f : Facts) (next : ℕ) → Before x f (said (sequence next)) → Decides (After x f (said (sequence next))) (sequence_rows x f next)
-sequence_lined x f next k = subst (λ (b : ℕ). Decides (Lined ⊤ f b None) (sequence_rows x f next)) (sym is_told) (
+sequence_lined x f next k = subst (λ (a : Awaited). Decides (Lined ⊤ f a None) (sequence_rows x f next)) (sym is_reached) (
   λ some. absurd (is_whole f.connection.requester k.fits.1 some),
   λ _. (
-    λ some. refusing x ⊤ f g (announcement_fault x g 7 (Some next)) next None refl some
-        (number_fault ⊤ x g 7 (Some next) (λ _ _. (not_less (x.most + 1) next (let t = is_told in let top = k.top in omega (arith, t, top)), not_less next (expected_number x g) high))),
-    λ _. (λ _. following x ⊤ f g next (announced x g (Some next)) next None refl reached, λ e. absurd (true≢false e)),
+    λ some. refusing x ⊤ f g (announcement_fault x g 7 (Some next)) (exactly next) None refl some
+        (number_fault ⊤ x g 7 (Some next) (λ _ _. (not_less (x.most + 1) next top, not_less next (expected_number x g) high))),
+    λ _. (λ _. following x ⊤ f g next (announced x g (Some next)) (exactly next) None refl reached, λ e. absurd (true≢false e)),
   ),
 )
   where
     g : Facts
     g = requesting f (request_is.after_sequence f.connection.requester)
 
-    is_told : live_after x.config.peer_flow (said (sequence next)) f.connection.receiver.live (to_come f.connection.requester) ≡ next
-    is_told = told x.config.peer_flow next f.connection.receiver.live (sequenced_of x.config.peer_flow k.recoverable)
+    numbered : is_sequenced x.config.peer_flow ≡ true
+    numbered = sequenced_of x.config.peer_flow k.recoverable
 
-    enough : f.connection.receiver.live ≤ next
-    enough = told_low x.config.peer_flow next f.connection.receiver.live (sequenced_of x.config.peer_flow k.recoverable) k.fits.0
+    is_told : announces x.config.peer_flow (said (sequence next)) ≡ Some next
+    is_told = ap (λ t. if t then Some next else None) numbered
+
+    is_reached : awaited_after x.config.peer_flow (said (sequence next)) (expecting f) (to_come f.connection.requester) ≡ exactly next
+    is_reached = after_announced x.config.peer_flow (sequence next) (expecting f) (to_come f.connection.requester) next is_told
+
+    top : next ≤ x.most + 1
+    top = let t = told x.config.peer_flow next f.connection.receiver.live numbered in let high = k.top (ap (λ o. is_some o) is_told) in omega (arith, t, high)
+
+    enough : lowest f ≤ next
+    enough = told_low x.config.peer_flow next (lowest f) numbered k.fits.0
+
+    both : (f.connection.receiver.next ≤ next) × ((if f.connection.soft then f.connection.receiver.next else receiver_is.expected f.connection.receiver) ≤ next)
+    both = lowest_next f.connection.soft f.connection.receiver next k.line.low enough
 
     high : expected_number x g ≤ next
-    high = omega (
-      arith,
-      expected_most x g,
-      subst (λ (r : Bool). (if r then receiver_is.expected f.connection.receiver else f.recorded.inbox_next) ≤ next) (sym k.recoverable)
-          (let low = k.line.low in let fits = enough in omega (arith, low, fits)),
-    )
+    high = subst (λ (r : Bool). (if r then (if f.connection.soft then f.connection.receiver.next else receiver_is.expected f.connection.receiver) else f.recorded.inbox_next) ≤ next) (sym k.recoverable) both.1
 
-    reached : Reaches (announced x g (Some next)).facts f.recorded.inbox_next next None
+    reached : Reaches (announced x g (Some next)).facts f.recorded.inbox_next (exactly next) None
     reached =
-        let m = ended_matches f.connection.receiver f.connection.requester next k.line.matches enough in
-        let low = k.line.low in
-        let fits = enough in
-        subst (λ (a : Announced). Reaches a.facts f.recorded.inbox_next next None) (sym (announced_is x g (Some next) k.recoverable))
-        (record { line = record { waits = k.line.waits; low = omega (arith, low, fits); matches = m.0 }; rises = omega arith; live = refl; left = m.1 })
+        let m = ended_matches f.connection.soft f.connection.receiver f.connection.requester next k.line.unasked k.line.matches enough in
+        subst (λ (a : Announced). Reaches a.facts f.recorded.inbox_next (exactly next) None) (sym (announced_is x g (Some next) k.recoverable))
+        (record { line = record { waits = k.line.waits; low = both.0; matches = m.0; unasked = λ soft. absurd (true≢false (sym soft)) }; rises = omega arith; reach = refl; left = m.1 })
 
 -- a Retransmission that answers the request
 begins : (r : Receiving) (q : Request) (next count : ℕ) → to_come q ≡ None → Matches r q → is_some (request_is.start_fault (request_is.outstanding q) next count) ≡ false
@@ -391,31 +439,40 @@ no_fault q next count a = ap (λ (r : Request). is_some (request_is.start_fault 
     some_of_it : (n : ℕ) → 1 ≤ n → (n == 0 || nat_lt n n) ≡ false
     some_of_it n h = grind (arith, nat_tests)
 
+never_starts : (q : Request) (next count : ℕ) → q ≡ requests.Nothing → is_some (request_is.start_fault (request_is.outstanding q) next count) ≡ true
+never_starts q next count e = ap (λ k. is_some (request_is.start_fault (request_is.outstanding k) next count)) e
+
 restart_lined : (x : Around) (f : Facts) (id : List ℕ) (next timestamp count : ℕ) → Before x f (said (retransmission id next timestamp count))
     → Decides (After x f (said (retransmission id next timestamp count))) (retransmission_rows x f next count)
 restart_lined x f id next timestamp count k =
-    let A = Answers f.connection.requester (said (retransmission id next timestamp count)) in (
-      λ some. bad x A f (request_is.start_fault (request_is.outstanding f.connection.requester) next count) f.connection.receiver.live (Some count) some
+    let A = Answers f.connection.requester (said (retransmission id next timestamp count)) in
+    subst (λ (a : Awaited). Decides (Lined A f a (Some count)) (retransmission_rows x f next count))
+    (sym (after_silent x.config.peer_flow (retransmission id next timestamp count) (expecting f) (to_come f.connection.requester) refl)) (
+      λ some. bad x A f (request_is.start_fault (request_is.outstanding f.connection.requester) next count) (expecting f) (Some count) some
           (λ a. true≢false (sym some ∙ no_fault f.connection.requester next count a)),
       λ fits. (
         λ _. let m = begins f.connection.receiver f.connection.requester next count k.fits.1 k.line.matches fits in
-            going x A f (restarted f next count) acts.Nothing [] f.connection.receiver.live (Some count)
-            (record { line = record { waits = k.line.waits; low = k.line.low; matches = m.0 }; rises = omega arith; live = refl; left = m.1 }),
+            going x A f (restarted f next count) acts.Nothing [] (expecting f) (Some count) (record {
+              line = record { waits = k.line.waits; low = k.line.low; matches = m.0; unasked = λ soft. absurd (true≢false (sym (never_starts f.connection.requester next count (k.line.unasked soft)) ∙ fits)) };
+              rises = omega arith;
+              reach = same_expecting f (restarted f next count) refl refl refl;
+              left = m.1;
+            }),
         λ e. absurd (true≢false e),
       ),
     )
 
 requested : (x : Around) (f : Facts) (id : List ℕ) (timestamp : ℕ) (r : Result Range RetransmitCode) → Line f → Stays ⊤ f (request_answered x f id timestamp r)
-requested x f id timestamp (Ok range) line = passing x ⊤ f (serves f (Some range)) acts.Nothing (retransmission x.config.session range.from timestamp range.count ∷ []) line refl refl refl
+requested x f id timestamp (Ok range) line = passing x ⊤ f (serves f (Some range)) acts.Nothing (retransmission x.config.session range.from timestamp range.count ∷ []) line refl refl refl refl
 requested x f id timestamp (Err code) line = record { fine = no_violation ⊤; next = λ _. here f line; over = λ some. not_over {A = Ending} None refl some }
 
 finishing : (x : Around) (f : Facts) (n : ℕ) → Line f → Stays ⊤ f (finished x f n)
 finishing x f n line = by_row (Stays ⊤ f) (is_some (receiver_is.gap f.connection.receiver)) (accepts x [] (peer_finished f (peer.Read n) f.recorded.peer_last)) (answers_finish x f n)
-    (λ _. passing x ⊤ f (peer_finished f (peer.Read n) f.recorded.peer_last) acts.Nothing [] line refl refl refl)
-    (λ _. passing x ⊤ f (peer_finished f (peer.Exchanged n) (Some (unwrap_or f.recorded.peer_last n))) _ (finished_receiving x.config.session ∷ []) line refl refl refl)
+    (λ _. passing x ⊤ f (peer_finished f (peer.Read n) f.recorded.peer_last) acts.Nothing [] line refl refl refl refl)
+    (λ _. passing x ⊤ f (peer_finished f (peer.Exchanged n) (Some (unwrap_or f.recorded.peer_last n))) _ (finished_receiving x.config.session ∷ []) line refl refl refl refl)
 
 stopping : (x : Around) (A : Type 0) (f : Facts) (code : ℕ) (v : Violation) → NotNumber A v → Stays A f (ends x f code (endings.Violation v))
-stopping x A f code v h = ending x A f f code v f.connection.receiver.live (to_come f.connection.requester) refl h
+stopping x A f code v h = ending x A f f code v (expecting f) (to_come f.connection.requester) refl h
 
 -- the reply in Established of a reader of a recoverable flow
 pub recoverable_reply : (x : Around) (f : Facts) (theirs : EndConfig) (p : Piece) → Peer x.config theirs → is_established f.connection.phase ≡ true → IsFlowing theirs p → Before x f p → After x f p (answer_of x f (incoming_of p))
@@ -429,12 +486,13 @@ recoverable_reply x f theirs (said (establishment_ack id timestamp keepalive nex
 recoverable_reply x f theirs (said (establishment_reject id timestamp code reason)) are now flows k = absurd flows
 recoverable_reply x f theirs (said (sequence next)) are now flows k =
     heard (After x f (said (sequence next))) x f (session (sequence next)) (decides_within (After x f (said (sequence next))) (is_established f.connection.phase) (sequence_rows x f next) now (sequence_lined x f next k))
-recoverable_reply x f theirs (said unsequenced_heartbeat) are now flows k = passing x ⊤ f f acts.Nothing [] k.line refl refl refl
+recoverable_reply x f theirs (said unsequenced_heartbeat) are now flows k =
+    silently x f unsequenced_heartbeat _ refl refl (passing x ⊤ f f acts.Nothing [] k.line refl refl refl refl)
 recoverable_reply x f theirs (said (retransmit_request id timestamp first count)) are now flows k =
-    heard (Stays ⊤ f) x f (session (retransmit_request id timestamp first count)) (decides_within (Stays ⊤ f) (is_established f.connection.phase) (retransmit_request_rows x f id timestamp first count) now (
+    silently x f (retransmit_request id timestamp first count) _ refl refl (heard (Stays ⊤ f) x f (session (retransmit_request id timestamp first count)) (decides_within (Stays ⊤ f) (is_established f.connection.phase) (retransmit_request_rows x f id timestamp first count) now (
       λ _. stopping x ⊤ f 4 _ tt,
       λ _. (λ _. requested x f id timestamp (judged (is_own x id) (is_recoverable x.config.own_flow) first count f.recorded.sent) k.line, λ e. absurd (true≢false e)),
-    ))
+    )))
 recoverable_reply x f theirs (said (retransmission id next timestamp count)) are now flows k =
     let P = After x f (said (retransmission id next timestamp count)) in
     heard P x f (session (retransmission id next timestamp count)) (
@@ -443,33 +501,34 @@ recoverable_reply x f theirs (said (retransmission id next timestamp count)) are
           decides_within P (is_established f.connection.phase) (retransmission_rows x f next count) now (restart_lined x f id next timestamp count k),
     )
 recoverable_reply x f theirs (said (retransmit_reject id timestamp code reason)) are now flows k =
-    heard (Stays ⊥ f) x f (session (retransmit_reject id timestamp code reason)) (
+    silently x f (retransmit_reject id timestamp code reason) _ refl refl (heard (Stays ⊥ f) x f (session (retransmit_reject id timestamp code reason)) (
       foreign x id (flows ∙ are.session),
       λ _.
           decides_within (Stays ⊥ f) (is_established f.connection.phase) (retransmit_reject_rows x f) now (λ _. stopping x ⊥ f 2 _ (λ wrong. wrong), λ e. absurd (true≢false e)),
-    )
-recoverable_reply x f theirs (said (applied first count)) are now flows k = passing x ⊤ f f acts.Nothing [] k.line refl refl refl
+    ))
+recoverable_reply x f theirs (said (applied first count)) are now flows k =
+    silently x f (applied first count) _ refl refl (passing x ⊤ f f acts.Nothing [] k.line refl refl refl refl)
 recoverable_reply x f theirs (said (not_applied first count)) are now flows k =
-    by_row (Stays ⊤ f) (is_idempotent x.config.own_flow) (goes_on x (acts.Told first count) [] f) (accepts x [] f)
-    (λ _. passing x ⊤ f f (acts.Told first count) [] k.line refl refl refl) (λ _. passing x ⊤ f f acts.Nothing [] k.line refl refl refl)
+    silently x f (not_applied first count) _ refl refl (by_row (Stays ⊤ f) (is_idempotent x.config.own_flow) (goes_on x (acts.Told first count) [] f) (accepts x [] f)
+    (λ _. passing x ⊤ f f (acts.Told first count) [] k.line refl refl refl refl) (λ _. passing x ⊤ f f acts.Nothing [] k.line refl refl refl refl))
 recoverable_reply x f theirs (said (finished_sending id last)) are now flows k =
-    heard (Stays ⊤ f) x f (session (finished_sending id last)) (
+    silently x f (finished_sending id last) _ refl refl (heard (Stays ⊤ f) x f (session (finished_sending id last)) (
       foreign x id (flows.0 ∙ are.session),
       λ _.
           decides_within (Stays ⊤ f) (is_established f.connection.phase) (finished_sending_rows x f last) now (
-            λ some. refusing x ⊤ f f (finish_fault x f last) f.connection.receiver.live (to_come f.connection.requester) refl some (finish_fine ⊤ x f last),
+            λ some. refusing x ⊤ f f (finish_fault x f last) (expecting f) (to_come f.connection.requester) refl some (finish_fine ⊤ x f last),
             λ _. (λ _. finishing x f (finished_last x last) k.line, λ e. absurd (true≢false e)),
           ),
-    )
+    ))
 recoverable_reply x f theirs (said (finished_receiving id)) are now flows k =
-    all_rows (Stays ⊤ f) (not_in_phase x f 15) (rows_of x f (session (finished_receiving id))) (stopping x ⊤ f 2 _ tt)
-    (foreign x id (flows ∙ are.session), λ _. all_within (Stays ⊤ f) (is_established f.connection.phase) (finished_receiving_rows x f) (λ _. (λ _. passing x ⊤ f (own_finishing f own.Exchanged) acts.Nothing [] k.line refl refl refl, λ _. tt)))
+    silently x f (finished_receiving id) _ refl refl (all_rows (Stays ⊤ f) (not_in_phase x f 15) (rows_of x f (session (finished_receiving id))) (stopping x ⊤ f 2 _ tt)
+    (foreign x id (flows ∙ are.session), λ _. all_within (Stays ⊤ f) (is_established f.connection.phase) (finished_receiving_rows x f) (λ _. (λ _. passing x ⊤ f (own_finishing f own.Exchanged) acts.Nothing [] k.line refl refl refl refl, λ _. tt))))
 recoverable_reply x f theirs (said (terminate id code reason)) are now flows k =
-    heard (Stays ⊤ f) x f (session (terminate id code reason)) (
+    silently x f (terminate id code reason) _ refl refl (heard (Stays ⊤ f) x f (session (terminate id code reason)) (
       foreign x id (flows ∙ are.session),
       λ _.
           (λ _. record { fine = λ w same. terminated_fine ⊤ (finishes_exchanged x f) code w same; next = λ none. absurd cc; over = λ _. refl }, λ e. absurd (true≢false e)),
-    )
+    ))
 
 pub rests : (x : Around) (A : Type 0) (f g : Facts) (act : Act) (written : List Message) (b : ℕ) → Rests g b → Other A f b (goes_on x act written g)
 rests x A f g act written b h = record {
@@ -502,7 +561,7 @@ message_rests x f payload k =
         λ _. (
           λ large. absurd (true≢false (sym large ∙ not_less x.most (message_number x f) low)),
           λ _. (
-            λ _. rests x ⊤ f (awaiting f (f.recorded.inbox_next + 1)) (acts.Apply f.recorded.inbox_next) [] b (record { idle = record { even = k.idle.even; none = k.idle.none }; next = refl }),
+            λ _. rests x ⊤ f (awaiting f (f.recorded.inbox_next + 1)) (acts.Apply f.recorded.inbox_next) [] b (record { idle = record { even = k.idle.even; none = k.idle.none; firm = k.idle.firm }; next = refl }),
             λ rec. absurd (true≢false (sym (ap not k.other) ∙ rec)),
           ),
         ),
@@ -518,7 +577,7 @@ following_other x A f g next a b same h =
     (λ _. stops x A f g 2 _ b same tt)
     (λ _. by_row (Other A f b) (is_filled a.facts) (answers_finish x a.facts (unwrap_or (awaits_gap a.facts.connection.peer_finish) 0)) (goes_on x (skip_of a.skipped) (told_skip a.skipped) a.facts)
     (λ _. rests x A f (peer_finished a.facts (peer.Exchanged (unwrap_or (awaits_gap a.facts.connection.peer_finish) 0)) (Some (unwrap_or a.facts.recorded.peer_last (unwrap_or (awaits_gap a.facts.connection.peer_finish) 0)))) _ (finished_receiving x.config.session ∷ []) b
-    (record { idle = record { even = h.idle.even; none = h.idle.none }; next = h.next }))
+    (record { idle = record { even = h.idle.even; none = h.idle.none; firm = h.idle.firm }; next = h.next }))
     (λ _. rests x A f a.facts (skip_of a.skipped) (told_skip a.skipped) b h))
 
 -- what an announcement makes of a reader of a flow that is not recoverable: an idempotent one awaits the number, and another what it did
@@ -533,7 +592,7 @@ announced_rests x g next b other idle stays moves = by_flow (is_recoverable x.co
 
     by_flow : (r i : Bool) → r ≡ false → (i ≡ false → g.recorded.inbox_next ≡ b) → (i ≡ true → unwrap_or next 0 ≡ b) → Rests (chosen r i).facts b
     by_flow true i e stays moves = absurd (true≢false e)
-    by_flow false true e stays moves = record { idle = record { even = idle.even; none = idle.none }; next = moves refl }
+    by_flow false true e stays moves = record { idle = record { even = idle.even; none = idle.none; firm = idle.firm }; next = moves refl }
     by_flow false false e stays moves = record { idle = idle; next = stays refl }
 
 -- a flow that is not recoverable has numbers where it is idempotent
@@ -560,7 +619,7 @@ sequence_rests x f next k = (
     b = live_after x.config.peer_flow (said (sequence next)) f.recorded.inbox_next None
 
     idle : Idle g
-    idle = record { even = k.idle.even; none = ap (λ q. request_is.after_sequence q) k.idle.none }
+    idle = record { even = k.idle.even; none = ap (λ q. request_is.after_sequence q) k.idle.none; firm = k.idle.firm }
 
     stays : is_idempotent flow ≡ false → f.recorded.inbox_next ≡ b
     stays e = sym (ap (λ t. unwrap_or (if t then Some next else None) f.recorded.inbox_next) (other_sequenced flow false k.other e))
@@ -575,21 +634,18 @@ sequence_rests x f next k = (
     high numbered = omega (arith, expected_most x g, subst (λ (r : Bool). (if r then receiver_is.expected f.connection.receiver else f.recorded.inbox_next) ≤ next) (sym k.other) (told_low flow next f.recorded.inbox_next numbered k.fits.0))
 
 passing_other : (x : Around) (A : Type 0) (f g : Facts) (act : Act) (written : List Message) → Idle f → g.connection.receiver ≡ f.connection.receiver → g.connection.requester ≡ f.connection.requester
-    → g.recorded.inbox_next ≡ f.recorded.inbox_next → StaysOther A f (goes_on x act written g)
-passing_other x A f g act written idle r q n = rests x A f g act written f.recorded.inbox_next
-    (record { idle = record { even = ap (λ k. receiver_is.gap k) r ∙ idle.even; none = q ∙ idle.none }; next = n })
+    → g.recorded.inbox_next ≡ f.recorded.inbox_next → g.connection.soft ≡ f.connection.soft → StaysOther A f (goes_on x act written g)
+passing_other x A f g act written idle r q n s = rests x A f g act written f.recorded.inbox_next
+    (record { idle = record { even = ap (λ k. receiver_is.gap k) r ∙ idle.even; none = q ∙ idle.none; firm = s ∙ idle.firm }; next = n })
 
 requested_other : (x : Around) (f : Facts) (id : List ℕ) (timestamp : ℕ) (r : Result Range RetransmitCode) → Idle f → StaysOther ⊤ f (request_answered x f id timestamp r)
-requested_other x f id timestamp (Ok range) idle = passing_other x ⊤ f (serves f (Some range)) acts.Nothing (retransmission x.config.session range.from timestamp range.count ∷ []) idle refl refl refl
+requested_other x f id timestamp (Ok range) idle = passing_other x ⊤ f (serves f (Some range)) acts.Nothing (retransmission x.config.session range.from timestamp range.count ∷ []) idle refl refl refl refl
 requested_other x f id timestamp (Err code) idle = record { fine = no_violation ⊤; next = λ _. rest f idle; over = λ some. not_over {A = Ending} None refl some }
 
 finishing_other : (x : Around) (f : Facts) (n : ℕ) → Idle f → StaysOther ⊤ f (finished x f n)
 finishing_other x f n idle = by_row (StaysOther ⊤ f) (is_some (receiver_is.gap f.connection.receiver)) (accepts x [] (peer_finished f (peer.Read n) f.recorded.peer_last)) (answers_finish x f n)
-    (λ _. passing_other x ⊤ f (peer_finished f (peer.Read n) f.recorded.peer_last) acts.Nothing [] idle refl refl refl)
-    (λ _. passing_other x ⊤ f (peer_finished f (peer.Exchanged n) (Some (unwrap_or f.recorded.peer_last n))) _ (finished_receiving x.config.session ∷ []) idle refl refl refl)
-
-never_starts : (q : Request) (next count : ℕ) → q ≡ requests.Nothing → is_some (request_is.start_fault (request_is.outstanding q) next count) ≡ true
-never_starts q next count e = ap (λ k. is_some (request_is.start_fault (request_is.outstanding k) next count)) e
+    (λ _. passing_other x ⊤ f (peer_finished f (peer.Read n) f.recorded.peer_last) acts.Nothing [] idle refl refl refl refl)
+    (λ _. passing_other x ⊤ f (peer_finished f (peer.Exchanged n) (Some (unwrap_or f.recorded.peer_last n))) _ (finished_receiving x.config.session ∷ []) idle refl refl refl refl)
 
 bad_other : (x : Around) (A : Type 0) (f : Facts) (k : Option BadStart) (b : ℕ) → is_some k ≡ true → (A → ⊥) → Other A f b (bad_retransmission x f k)
 bad_other x A f None b some wrong = absurd (true≢false (sym some))
@@ -616,7 +672,7 @@ other_reply x f theirs (said (establishment_reject id timestamp code reason)) ar
 other_reply x f theirs (said (sequence next)) are now flows k =
     let P = AfterOther x f (said (sequence next)) in
     heard P x f (session (sequence next)) (decides_within P (is_established f.connection.phase) (sequence_rows x f next) now (sequence_rests x f next k))
-other_reply x f theirs (said unsequenced_heartbeat) are now flows k = passing_other x ⊤ f f acts.Nothing [] k.idle refl refl refl
+other_reply x f theirs (said unsequenced_heartbeat) are now flows k = passing_other x ⊤ f f acts.Nothing [] k.idle refl refl refl refl
 other_reply x f theirs (said (retransmit_request id timestamp first count)) are now flows k =
     heard (StaysOther ⊤ f) x f (session (retransmit_request id timestamp first count)) (decides_within (StaysOther ⊤ f) (is_established f.connection.phase) (retransmit_request_rows x f id timestamp first count) now (
       λ _. stopping_other x ⊤ f 4 _ tt,
@@ -638,10 +694,10 @@ other_reply x f theirs (said (retransmit_reject id timestamp code reason)) are n
       λ _.
           decides_within (StaysOther ⊥ f) (is_established f.connection.phase) (retransmit_reject_rows x f) now (λ _. stopping_other x ⊥ f 2 _ (λ wrong. wrong), λ e. absurd (true≢false e)),
     )
-other_reply x f theirs (said (applied first count)) are now flows k = passing_other x ⊤ f f acts.Nothing [] k.idle refl refl refl
+other_reply x f theirs (said (applied first count)) are now flows k = passing_other x ⊤ f f acts.Nothing [] k.idle refl refl refl refl
 other_reply x f theirs (said (not_applied first count)) are now flows k =
     by_row (StaysOther ⊤ f) (is_idempotent x.config.own_flow) (goes_on x (acts.Told first count) [] f) (accepts x [] f)
-    (λ _. passing_other x ⊤ f f (acts.Told first count) [] k.idle refl refl refl) (λ _. passing_other x ⊤ f f acts.Nothing [] k.idle refl refl refl)
+    (λ _. passing_other x ⊤ f f (acts.Told first count) [] k.idle refl refl refl refl) (λ _. passing_other x ⊤ f f acts.Nothing [] k.idle refl refl refl refl)
 other_reply x f theirs (said (finished_sending id last)) are now flows k =
     heard (StaysOther ⊤ f) x f (session (finished_sending id last)) (
       foreign x id (flows.0 ∙ are.session),
@@ -653,7 +709,7 @@ other_reply x f theirs (said (finished_sending id last)) are now flows k =
     )
 other_reply x f theirs (said (finished_receiving id)) are now flows k =
     all_rows (StaysOther ⊤ f) (not_in_phase x f 15) (rows_of x f (session (finished_receiving id))) (stopping_other x ⊤ f 2 _ tt)
-    (foreign x id (flows ∙ are.session), λ _. all_within (StaysOther ⊤ f) (is_established f.connection.phase) (finished_receiving_rows x f) (λ _. (λ _. passing_other x ⊤ f (own_finishing f own.Exchanged) acts.Nothing [] k.idle refl refl refl, λ _. tt)))
+    (foreign x id (flows ∙ are.session), λ _. all_within (StaysOther ⊤ f) (is_established f.connection.phase) (finished_receiving_rows x f) (λ _. (λ _. passing_other x ⊤ f (own_finishing f own.Exchanged) acts.Nothing [] k.idle refl refl refl refl, λ _. tt)))
 other_reply x f theirs (said (terminate id code reason)) are now flows k =
     heard (StaysOther ⊤ f) x f (session (terminate id code reason)) (
       foreign x id (flows ∙ are.session),

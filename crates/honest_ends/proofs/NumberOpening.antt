@@ -1,14 +1,15 @@
 -- What a reader makes of each message before the handshake is done: nothing of its numbers, or it takes the announcement.
-use Rattle.std.proofs.Common.{◌≡◌, ℕ, ◌+◌, ◌≤◌, ◌&&◌, ◌||◌, min, max, nat_lt, not, Bool, true, false, if◌then◌else◌, List, [], ◌∷◌, Option, Some, None, refl, sym, ap, subst, ◌∙◌, arith, true≢false}
+use Rattle.std.proofs.Common.{◌≡◌, ℕ, ◌+◌, ◌-◌, ◌≤◌, ◌&&◌, ◌||◌, min, max, nat_lt, not, Bool, true, false, if◌then◌else◌, List, [], ◌∷◌, ◌++◌, Option, Some, None, refl, sym, ap, subst, ◌∙◌, arith, true≢false}
 use Rattle.std.specs.Prelude.{⊤, is_some, is_none, unwrap_or, IfSome, IsSome}
 use Rattle.fixp_msgs.specs.declared.numbering.Range.{Range}
 use Rattle.fixp_msgs.specs.declared.flow.Flow.{Flow}
 use Rattle.fixp_msgs.specs.Flow.{flow_code}
-use Rattle.fixp_msgs.specs.declared.messages.Expected.TheVariants as expects
+use Rattle.fixp_msgs.specs.declared.messages.Expected.{Expected}
 use Rattle.fixp_msgs.specs.Message.{Message, negotiate, negotiation_response, negotiation_reject, establish, establishment_ack, establishment_reject, sequence, unsequenced_heartbeat, retransmit_request, retransmission, retransmit_reject, applied, not_applied, finished_sending, finished_receiving, terminate}
 use Rattle.flow_recover.specs.Receiving as receiver_is
 use Rattle.flow_recover.specs.Receiving.{Receiving}
 use Rattle.flow_retrans.specs.declared.request.Request.{Request}
+use Rattle.flow_retrans.specs.declared.request.Request.TheVariants as requests
 use Rattle.fixp_shake.specs.declared.config.EndConfig.{EndConfig}
 use Rattle.fixp_shake.specs.declared.phase.Phase.TheVariants as phases
 use Rattle.fixp_shake.specs.declared.violation.Violation.{Violation}
@@ -19,33 +20,35 @@ use Rattle.fixp_replies.specs.declared.act.Act.{Act}
 use Rattle.fixp_replies.specs.declared.act.Ending.{Ending}
 use Rattle.fixp_replies.specs.declared.act.Ending.TheVariants as endings
 use Rattle.fixp_replies.specs.declared.facts.Facts.{Facts}
-use Rattle.fixp_replies.specs.Facts.{Around, in_phase, firm, negotiated as as_negotiated, having_asked, expected_number, finishes_exchanged, gap_to_ask, announced_number}
+use Rattle.fixp_replies.specs.Facts.{Around, in_phase, receiving, firm, negotiated as as_negotiated, having_asked, expected_number, finishes_exchanged, gap_to_ask, announced_number}
 use Rattle.fixp_replies.specs.Incoming.{session}
 use Rattle.fixp_replies.specs.Outcomes.{Outcome, Row, row, goes_on, rejects, ignores, ends_with, ends, not_in_phase, skip_of, told_skip, opening_negotiate, opening_establish}
 use Rattle.fixp_replies.specs.Announcing.{Announced, announced, announcement_fault, refuses, announcement_rows}
-use Rattle.fixp_replies.specs.Handshake.{awaits_client, serves_client, established, acknowledges, negotiate_rows, establish_rows, established_again_rows, negotiation_response_rows, negotiation_reject_rows, establishment_ack_rows, reached, establishment_reject_rows}
+use Rattle.fixp_replies.specs.Handshake.{awaits_client, serves_client, established, acknowledged_by, acknowledges, negotiate_rows, establish_rows, established_again_rows, negotiation_response_rows, negotiation_reject_rows, establishment_ack_rows, reached, establishment_reject_rows}
 use Rattle.fixp_replies.specs.Replies.{reply_of, rows_of, answer_of, of_session, terminates, template_of}
-use Rattle.fixp_replies.specs.Expecting.{is_newer}
-use Rattle.honest_ends.proofs.Older.{acknowledges_so, reached_so, expected_most}
+use Rattle.fixp_replies.specs.Expecting.{is_newer, is_present, number_in, answers_next, softened}
+use Rattle.fixp_machine.proofs.Expecting.{returned_if}
+use Rattle.honest_ends.proofs.Returning.{expected_most, by_taking, by_reaching, starting, reaching, Unmoved, asked_unmoved}
+use Rattle.honest_ends.proofs.Running.{Below, after_announced}
 use Rattle.fixp_machine.proofs.Rows.{AllRows, by_row, all_rows, all_within}
 use Rattle.fixp_machine.proofs.Tests.{some-none}
 use Rattle.connection_laws.specs.Writing.{Piece, said, entry}
 use Rattle.two_ends.specs.Reading.{incoming_of}
 use Rattle.honest_ends.proofs.Deciding.{ended_so}
-use Rattle.honest_ends.specs.Numbers.{at_most, announces, live_after, left_after, Fits, Answers, NotNumber, Matches, Line, Idle, Reaches, Lined, Rests, to_come}
+use Rattle.honest_ends.specs.Numbers.{Awaited, exactly, at_most, softly, announces, live_after, awaited_after, left_after, Fits, Answers, NotNumber, Matches, Line, Idle, Rests, to_come, goes_softly, expecting}
 use Rattle.honest_ends.proofs.Replying.{asked_phase}
 use Rattle.honest_ends.proofs.PhaseOpening.{asks_none}
 use Rattle.honest_ends.proofs.Moving.{not_over}
-use Rattle.honest_ends.proofs.Lining.{going as goes_lined, rests, announced_is, announced_rests, same_receiver, number_fault, not_less, other_sequenced, sequenced_of}
-use Rattle.honest_ends.specs.Numbered.{next_live}
+use Rattle.honest_ends.proofs.Lining.{rests, line_asked, announced_is, announced_rests, number_fault, not_less, other_sequenced, sequenced_of}
+use Rattle.honest_ends.specs.Numbered.{next_live, awaits, awaited}
 use Rattle.honest_ends.specs.NumberLaws.{NoNumber}
-use Rattle.honest_ends.proofs.Awaiting.{not_number, Moves, lined_moves, other_moves, live_is}
+use Rattle.honest_ends.proofs.Awaiting.{not_number, Moves, other_moves, live_is, and_true, awaited_before, awaited_expecting, after_at_most}
 
 -- the reader behind it: nothing of its numbers moved, or the handshake is done and it moved as the message makes it
 pub data Hears (c : EndConfig) (p : Piece) (f g : Facts) : Type 0 where
   still : is_shaken g.connection.phase ≡ false → g.connection.receiver ≡ f.connection.receiver → g.connection.requester ≡ f.connection.requester
-      → g.recorded.inbox_next ≡ f.recorded.inbox_next → left_after p None ≡ None → Hears c p f g
-  done : is_shaken g.connection.phase ≡ true → is_some (announces c.peer_flow p) ≡ is_sequenced c.peer_flow → Moves c p f g → Hears c p f g
+      → g.recorded.inbox_next ≡ f.recorded.inbox_next → g.connection.soft ≡ f.connection.soft → left_after p None ≡ None → Hears c p f g
+  done : is_shaken g.connection.phase ≡ true → Moves c p f g → Hears c p f g
 
 -- a reply that breaks no rule of numbers
 pub record Opens (c : EndConfig) (f : Facts) (p : Piece) (o : Outcome) : Type 0 where
@@ -68,15 +71,15 @@ record Unheard (x : Around) (f : Facts) (p : Piece) : Type 0 where
   top : live_after x.config.peer_flow p (next_live x.config f) None ≤ x.most + 1
 
 keeping : (x : Around) (f g : Facts) (p : Piece) (act : Act) (written : List Message) → Idle f → is_shaken g.connection.phase ≡ false → g.connection.receiver ≡ f.connection.receiver → g.connection.requester ≡ f.connection.requester
-    → g.recorded.inbox_next ≡ f.recorded.inbox_next → left_after p None ≡ None → Opens x.config f p (goes_on x act written g)
-keeping x f g p act written idle before r q n none = record {
+    → g.recorded.inbox_next ≡ f.recorded.inbox_next → g.connection.soft ≡ f.connection.soft → left_after p None ≡ None → Opens x.config f p (goes_on x act written g)
+keeping x f g p act written idle before r q n t none = record {
   fine = λ v e. absurd cc;
   over = λ some. not_over {A = Ending} None refl some;
-  next = λ _. subst (λ (k : Option Range). Hears x.config p f (having_asked g k)) (sym (asks_none g (ap (λ k. receiver_is.gap k) r ∙ idle.even))) (still before r q n none);
+  next = λ _. subst (λ (k : Option Range). Hears x.config p f (having_asked g k)) (sym (asks_none g (ap (λ k. receiver_is.gap k) r ∙ idle.even))) (still before r q n t none);
 }
 
 rejecting : (x : Around) (f : Facts) (p : Piece) (written : List Message) → is_shaken f.connection.phase ≡ false → left_after p None ≡ None → Opens x.config f p (rejects written f)
-rejecting x f p written before none = record { fine = λ v e. absurd cc; over = λ some. not_over {A = Ending} None refl some; next = λ _. still before refl refl refl none }
+rejecting x f p written before none = record { fine = λ v e. absurd cc; over = λ some. not_over {A = Ending} None refl some; next = λ _. still before refl refl refl refl none }
 
 -- An announcement is taken. It is of the next number, where the flow has numbers
 record Tells (flow : Flow) (m : Message) (next : Option ℕ) : Type 0 where
@@ -148,16 +151,29 @@ some_told flow m next t some = ap (λ (o : Option ℕ). is_some o) t.told ∙ by
     by_flow true h = h refl
     by_flow false h = refl
 
--- the handshake is done, and of these facts nothing else has changed that the flow rests on
-record IsDone (f g : Facts) : Type 0 where
+-- the handshake is done, and of these facts nothing else has changed that the flow rests on, but a reader of a recoverable flow may be soft
+record IsDone (c : EndConfig) (f g : Facts) : Type 0 where
   shaken : is_shaken g.connection.phase ≡ true
   receiver : g.connection.receiver ≡ f.connection.receiver
   requester : g.connection.requester ≡ f.connection.requester
   inbox_next : g.recorded.inbox_next ≡ f.recorded.inbox_next
+  firm : is_recoverable c.peer_flow ≡ false → f.connection.soft ≡ false → g.connection.soft ≡ false
 
-taking : (x : Around) (f : Facts) (m : Message) (next : Option ℕ) (act : Act) (written : List Message) (g : Facts) → IsDone (announced x f next).facts g → Unheard x f (said m) → Tells x.config.peer_flow m next
+-- what a soft reader expects is the number announced, or less
+expecting_below : (f : Facts) → f.connection.receiver.next ≤ f.connection.receiver.live → Below (expecting f) (exactly f.connection.receiver.live)
+expecting_below f low = by_test (goes_softly f)
+  where
+    by_test : (t : Bool) → Below (if t then softly f.connection.receiver.next f.connection.receiver.live else exactly f.connection.receiver.live) (exactly f.connection.receiver.live)
+    by_test true = (low, refl)
+    by_test false = refl
+
+some_is : (o : Option ℕ) → is_some o ≡ true → o ≡ Some (unwrap_or o 0)
+some_is None e = absurd (true≢false (sym e))
+some_is (Some n) e = refl
+
+taking : (x : Around) (f : Facts) (m : Message) (next : Option ℕ) (act : Act) (written : List Message) (g : Facts) → IsDone x.config (announced x f next).facts g → Unheard x f (said m) → Tells x.config.peer_flow m next
     → (is_sequenced x.config.peer_flow ≡ true → is_some next ≡ true) → Opens x.config f (said m) (goes_on x act written g)
-taking x f m next act written g d u t some = by_flow (is_recoverable x.config.peer_flow) refl
+taking x f m next act written g d u t some = record { fine = λ w e. absurd cc; over = λ e. not_over {A = Ending} None refl e; next = λ _. done shaken_then (by_flow (is_recoverable x.config.peer_flow) refl) }
   where
     flow : Flow
     flow = x.config.peer_flow
@@ -165,51 +181,86 @@ taking x f m next act written g d u t some = by_flow (is_recoverable x.config.pe
     o : Outcome
     o = goes_on x act written g
 
-    no_left : to_come f.connection.requester ≡ None
+    l : Option ℕ
+    l = to_come f.connection.requester
+
+    no_left : l ≡ None
     no_left = ap to_come u.idle.none
 
     shaken_then : is_shaken o.next.connection.phase ≡ true
     shaken_then = ap (λ k. is_shaken k) (asked_phase g (gap_to_ask g)) ∙ d.shaken
 
-    opens : Moves x.config (said m) f o.next → Opens x.config f (said m) o
-    opens v = record { fine = λ w e. absurd cc; over = λ e. not_over {A = Ending} None refl e; next = λ _. done shaken_then (some_told flow m next t some) v }
+    waits : awaited x.config f ≡ at_most (next_live x.config f)
+    waits = awaited_before x.config f u.idle.firm u.before
 
-    line_then : is_recoverable flow ≡ true → Reaches g f.recorded.inbox_next (unwrap_or next 0) None
-    line_then rec =
-        let numbered = sequenced_of flow rec in
-        let low = at_least x f m next u t numbered (some numbered) in
-        let same = live_is x.config f rec in
-        let line = u.line rec in
-        let below = line.low in
-        same_receiver (announced x f next).facts g f.recorded.inbox_next (unwrap_or next 0) None d.receiver d.requester d.inbox_next
-        (subst (λ (a : Announced). Reaches a.facts f.recorded.inbox_next (unwrap_or next 0) None) (sym (announced_is x f next rec))
-        (record {
-          line = record {
-            waits = line.waits;
-            low = omega (arith, low, same, below);
-            matches = subst (λ (q : Request). Matches (receiver_is.announced f.connection.receiver (unwrap_or next 0)) q) (sym u.idle.none) refl;
-          };
-          rises = omega arith;
-          live = refl;
-          left = no_left;
-        }))
+    recovers : is_recoverable flow ≡ true → Moves x.config (said m) f o.next
+    recovers rec = record {
+      below = subst (λ (a : Awaited). Below a (awaited_after flow (said m) (awaited x.config f) l)) (sym (awaited_expecting x.config o.next rec shaken_then))
+          (subst (λ (a : Awaited). Below (expecting o.next) a) (sym (after_announced flow m (awaited x.config f) l n is_told))
+          (subst (λ (k : ℕ). Below (expecting o.next) (exactly k)) live_then (expecting_below o.next both.0.low)));
+      left = both.1 ∙ (ap to_come none ∙ (sym t.none ∙ ap (λ (k : Option ℕ). left_after (said m) k) (sym no_left)));
+      line = λ _. both.0;
+      idle = λ other. absurd (true≢false (sym rec ∙ other));
+      rises = λ _. omega (arith, same.inbox, d.inbox_next, ap (λ (a : Announced). a.facts.recorded.inbox_next) is);
+    }
+      where
+        n : ℕ
+        n = unwrap_or next 0
 
-    lined : is_recoverable flow ≡ true → Lined ⊤ f (live_after flow (said m) f.connection.receiver.live (to_come f.connection.requester)) (left_after (said m) (to_come f.connection.requester)) o
-    lined rec =
-        subst (λ (l : Option ℕ). Lined ⊤ f (live_after flow (said m) f.connection.receiver.live l) (left_after (said m) l) o) (sym no_left)
-        (subst (λ (b : ℕ). Lined ⊤ f b (left_after (said m) None) o) (sym (live_told x f m next f.connection.receiver.live t (sequenced_of flow rec) (some (sequenced_of flow rec))))
-        (subst (λ (l : Option ℕ). Lined ⊤ f (unwrap_or next 0) l o) (sym t.none) (goes_lined x ⊤ f g act written (unwrap_or next 0) None (line_then rec))))
+        numbered : is_sequenced flow ≡ true
+        numbered = sequenced_of flow rec
+
+        is : announced x f next ≡ record { facts = firm (receiving f (receiver_is.announced f.connection.receiver n)); skipped = None }
+        is = announced_is x f next rec
+
+        is_told : announces flow (said m) ≡ Some n
+        is_told = t.told ∙ (ap (λ b. if b then next else None) numbered ∙ some_is next (some numbered))
+
+        none : g.connection.requester ≡ requests.Nothing
+        none = d.requester ∙ (ap (λ (a : Announced). a.facts.connection.requester) is ∙ u.idle.none)
+
+        receiver : g.connection.receiver ≡ receiver_is.announced f.connection.receiver n
+        receiver = d.receiver ∙ ap (λ (a : Announced). a.facts.connection.receiver) is
+
+        same : Unmoved g o.next
+        same = asked_unmoved g (gap_to_ask g)
+
+        live_then : o.next.connection.receiver.live ≡ n
+        live_then = ap (λ r. r.live) (same.receiver ∙ receiver)
+
+        low : f.connection.receiver.next ≤ n
+        low =
+            let least = at_least x f m next u t numbered (some numbered) in
+            let live = live_is x.config f rec in
+            let below = (u.line rec).low in
+            omega (arith, least, live, below)
+
+        line : Line g
+        line = record {
+          waits = ap (λ r. r.next) receiver ∙ ((u.line rec).waits ∙ sym (d.inbox_next ∙ ap (λ (a : Announced). a.facts.recorded.inbox_next) is));
+          low = subst (λ (r : Receiving). r.next ≤ r.live) (sym receiver) low;
+          matches = subst (λ (r : Receiving). Matches r g.connection.requester) (sym receiver) (subst (λ (q : Request). Matches (receiver_is.announced f.connection.receiver n) q) (sym none) refl);
+          unasked = λ _. none;
+        }
+
+        both : Line o.next × (to_come o.next.connection.requester ≡ to_come g.connection.requester)
+        both = line_asked g line
 
     rested : is_recoverable flow ≡ false → Rests g (live_after flow (said m) f.recorded.inbox_next None)
     rested other =
         let r = announced_rests x f next (live_after flow (said m) f.recorded.inbox_next None) other u.idle
         (λ e. sym (live_untold x m next f.recorded.inbox_next t (other_sequenced flow false other e)))
         (λ e. let numbered = other_sequenced flow true other e in sym (live_told x f m next f.recorded.inbox_next t numbered (some numbered))) in
-        record { idle = record { even = ap (λ k. receiver_is.gap k) d.receiver ∙ r.idle.even; none = d.requester ∙ r.idle.none }; next = d.inbox_next ∙ r.next }
+        record { idle = record { even = ap (λ k. receiver_is.gap k) d.receiver ∙ r.idle.even; none = d.requester ∙ r.idle.none; firm = d.firm other r.idle.firm }; next = d.inbox_next ∙ r.next }
 
-    by_flow : (b : Bool) → is_recoverable flow ≡ b → Opens x.config f (said m) o
-    by_flow true rec = opens (lined_moves x f (said m) ⊤ o rec (lined rec) refl)
-    by_flow false other = opens (other_moves x f (said m) ⊤ o other u.idle (t.plain f.connection.requester) (rests x ⊤ f g act written (live_after flow (said m) f.recorded.inbox_next None) (rested other)) refl)
+    after : awaited_after flow (said m) (awaited x.config f) l ≡ awaits (is_sequenced flow && is_shaken o.next.connection.phase) (live_after flow (said m) (next_live x.config f) l)
+    after = ap (λ (a : Awaited). awaited_after flow (said m) a l) waits ∙ (after_at_most flow (said m) (next_live x.config f) l (is_sequenced flow) (some_told flow m next t some)
+        ∙ (ap (λ b. awaits b (live_after flow (said m) (next_live x.config f) l)) (sym (and_true (is_sequenced flow)))
+        ∙ ap (λ b. awaits (is_sequenced flow && b) (live_after flow (said m) (next_live x.config f) l)) (sym shaken_then)))
+
+    by_flow : (b : Bool) → is_recoverable flow ≡ b → Moves x.config (said m) f o.next
+    by_flow true rec = recovers rec
+    by_flow false other = other_moves x f (said m) ⊤ o other u.idle (t.plain f.connection.requester) after (rests x ⊤ f g act written (live_after flow (said m) f.recorded.inbox_next None) (rested other)) refl
 
 announcing : (x : Around) (f : Facts) (m : Message) (t : ℕ) (next : Option ℕ) (follows : Announced → Outcome) → Unheard x f (said m) → Tells x.config.peer_flow m next
     → ((is_sequenced x.config.peer_flow ≡ true → is_some next ≡ true) → Opens x.config f (said m) (follows (announced x f next))) → AllRows (Opens x.config f (said m)) (announcement_rows x f t next follows)
@@ -240,9 +291,48 @@ choosing P true c first second p q = p refl
 choosing P false true first second p q = q refl
 choosing P false false first second p q = tt
 
+-- an Establish is acknowledged, and an acknowledgement read, whether the number is taken or not
+acknowledging : (x : Around) (f : Facts) (id : List ℕ) (timestamp keepalive : ℕ) (next : Option ℕ) (e : Expected) (credentials : List ℕ) → Unheard x f (said (establish id timestamp keepalive next e credentials))
+    → (is_sequenced x.config.peer_flow ≡ true → is_some next ≡ true) → Opens x.config f (said (establish id timestamp keepalive next e credentials)) (acknowledges x timestamp keepalive e (announced x f next))
+acknowledging x f id timestamp keepalive next e credentials u some =
+    by_taking (λ g. Opens x.config f (said m) (acknowledged_by x timestamp keepalive e a.skipped g)) x a.facts e
+    (λ _. writing (record a.facts { recorded = record a.facts.recorded { sent = number_in e - 1 } }) refl refl refl) (writing a.facts refl refl refl)
+  where
+    m : Message
+    m = establish id timestamp keepalive next e credentials
+
+    a : Announced
+    a = announced x f next
+
+    not_soft : (b c r : Bool) → r ≡ false → (b && c && r) ≡ false
+    not_soft true true r e = e
+    not_soft true false r e = refl
+    not_soft false c r e = refl
+
+    writing : (g : Facts) → g.connection.receiver ≡ a.facts.connection.receiver → g.connection.requester ≡ a.facts.connection.requester → g.recorded.inbox_next ≡ a.facts.recorded.inbox_next
+        → Opens x.config f (said m) (acknowledged_by x timestamp keepalive e a.skipped g)
+    writing g r q n = taking x f m next (skip_of a.skipped) (establishment_ack x.config.session timestamp x.config.keepalive (announced_number x g) (answers_next x e g) ∷ told_skip a.skipped) (established (softened x e g) keepalive)
+        (record { shaken = refl; receiver = r; requester = q; inbox_next = n; firm = λ other _. not_soft (is_newer x.config) (is_present e) (is_recoverable x.config.peer_flow) other }) u (record { told = refl; none = refl; plain = λ q. tt }) some
+
+reaching_on : (x : Around) (f : Facts) (id : List ℕ) (timestamp keepalive : ℕ) (next : Option ℕ) (e : Expected) (interval : ℕ) → Unheard x f (said (establishment_ack id timestamp keepalive next e))
+    → (is_sequenced x.config.peer_flow ≡ true → is_some next ≡ true) → (t same : Bool) → Opens x.config f (said (establishment_ack id timestamp keepalive next e)) (reaching x interval e (announced x f next) t same)
+reaching_on x f id timestamp keepalive next e interval u some t same = by_test t
+  where
+    m : Message
+    m = establishment_ack id timestamp keepalive next e
+
+    a : Announced
+    a = announced x f next
+
+    by_test : (b : Bool) → Opens x.config f (said m) (goes_on x (skip_of a.skipped) (told_skip a.skipped ++ starting t same e) (established (returned_if b a.facts e) interval))
+    by_test true = taking x f m next (skip_of a.skipped) (told_skip a.skipped ++ starting t same e) (established (returned_if true a.facts e) interval)
+        (record { shaken = refl; receiver = refl; requester = refl; inbox_next = refl; firm = λ _ soft. soft }) u (record { told = refl; none = refl; plain = λ q. tt }) some
+    by_test false = taking x f m next (skip_of a.skipped) (told_skip a.skipped ++ starting t same e) (established a.facts interval)
+        (record { shaken = refl; receiver = refl; requester = refl; inbox_next = refl; firm = λ _ soft. soft }) u (record { told = refl; none = refl; plain = λ q. tt }) some
+
 -- all rows of all messages
-session_opens : (x : Around) (f : Facts) (m : Message) → is_newer x.config ≡ false → Unheard x f (said m) → AllRows (Opens x.config f (said m)) (rows_of x f (session m))
-session_opens x f (negotiate id timestamp flow credentials) old u =
+session_opens : (x : Around) (f : Facts) (m : Message) → Unheard x f (said m) → AllRows (Opens x.config f (said m)) (rows_of x f (session m))
+session_opens x f (negotiate id timestamp flow credentials) u =
     let p = said (negotiate id timestamp flow credentials) in
     all_within (Opens x.config f p) (awaits_client x f) (negotiate_rows x f id timestamp flow credentials) (λ _. (
       λ _. rejecting x f p _ u.before refl,
@@ -252,24 +342,24 @@ session_opens x f (negotiate id timestamp flow credentials) old u =
           λ _. rejecting x f p _ u.before refl,
           λ _. (
             λ _. rejecting x f p _ u.before refl,
-            λ _. (λ _. keeping x f (as_negotiated f) p _ (negotiation_response x.config.session timestamp (flow_code x.config.own_flow) [] ∷ []) u.idle u.before refl refl refl refl, λ _. tt),
+            λ _. (λ _. keeping x f (as_negotiated f) p _ (negotiation_response x.config.session timestamp (flow_code x.config.own_flow) [] ∷ []) u.idle u.before refl refl refl refl refl, λ _. tt),
           ),
         ),
       ),
     ))
-session_opens x f (negotiation_response id timestamp flow credentials) old u =
+session_opens x f (negotiation_response id timestamp flow credentials) u =
     let p = said (negotiation_response id timestamp flow credentials) in
     in_session x f p 2 id _ (all_within (Opens x.config f p) (is_negotiating f.connection.phase) (negotiation_response_rows x f flow) (λ _. (
       λ _. breaking x f p 2 (OtherSession 2) tt,
-      λ _. (λ _. keeping x f (in_phase (as_negotiated f) phases.Establishing) p _ (opening_establish x f ∷ []) u.idle refl refl refl refl refl, λ _. tt),
+      λ _. (λ _. keeping x f (in_phase (as_negotiated f) phases.Establishing) p _ (opening_establish x f ∷ []) u.idle refl refl refl refl refl refl, λ _. tt),
     )))
-session_opens x f (negotiation_reject id timestamp code reason) old u =
+session_opens x f (negotiation_reject id timestamp code reason) u =
     let p = said (negotiation_reject id timestamp code reason) in
     in_session x f p 3 id _ (all_within (Opens x.config f p) (is_negotiating f.connection.phase) (negotiation_reject_rows x f code) (λ _. (
-      λ _. keeping x f (in_phase (as_negotiated f) phases.Establishing) p _ (opening_establish x f ∷ []) u.idle refl refl refl refl refl,
+      λ _. keeping x f (in_phase (as_negotiated f) phases.Establishing) p _ (opening_establish x f ∷ []) u.idle refl refl refl refl refl refl,
       λ _. (λ _. ending x f p [] (endings.Rejected 3 code) (rejected_fine 3 code), λ _. tt),
     )))
-session_opens x f (establish id timestamp keepalive next expected credentials) old u =
+session_opens x f (establish id timestamp keepalive next expected credentials) u =
     let m = establish id timestamp keepalive next expected credentials in
     let p = said m in
     choosing (Opens x.config f p) (awaits_client x f) (serves_client x f) (establish_rows x f id timestamp keepalive next expected credentials) (established_again_rows x f id timestamp)
@@ -280,55 +370,51 @@ session_opens x f (establish id timestamp keepalive next expected credentials) o
         λ _. (
           λ _. rejecting x f p _ u.before refl,
           λ _. announcing x f m 4 next (acknowledges x timestamp keepalive expected) u (record { told = refl; none = refl; plain = λ q. tt })
-              (λ some. subst (Opens x.config f p) (sym (acknowledges_so x timestamp keepalive expected (announced x f next) old))
-              (taking x f m next _ (establishment_ack x.config.session timestamp x.config.keepalive (announced_number x (announced x f next).facts) expects.Absent ∷ told_skip (announced x f next).skipped)
-              (established (firm (announced x f next).facts) keepalive) (record { shaken = refl; receiver = refl; requester = refl; inbox_next = refl }) u (record { told = refl; none = refl; plain = λ q. tt }) some)),
+              (λ some. acknowledging x f id timestamp keepalive next expected credentials u some),
         ),
       ),
     ))
     (λ _. (λ _. rejecting x f p _ u.before refl, λ _. (λ _. rejecting x f p _ u.before refl, λ _. tt)))
-session_opens x f (establishment_ack id timestamp keepalive next expected) old u =
+session_opens x f (establishment_ack id timestamp keepalive next expected) u =
     let m = establishment_ack id timestamp keepalive next expected in
     let p = said m in
     in_session x f p 5 id _ (all_within (Opens x.config f p) (is_establishing f.connection.phase) (establishment_ack_rows x f keepalive next expected) (λ _.
     announcing x f m 5 next (reached x keepalive expected) u (record { told = refl; none = refl; plain = λ q. tt })
-    (λ some. subst (Opens x.config f p) (sym (reached_so x keepalive expected (announced x f next) old))
-    (taking x f m next _ (told_skip (announced x f next).skipped) (established (announced x f next).facts (min 60000 (max 100 keepalive)))
-    (record { shaken = refl; receiver = refl; requester = refl; inbox_next = refl }) u (record { told = refl; none = refl; plain = λ q. tt }) some))))
-session_opens x f (establishment_reject id timestamp code reason) old u =
+    (λ some. by_reaching (Opens x.config f p) x keepalive expected (announced x f next) (λ t same _ _. reaching_on x f id timestamp keepalive next expected (min 60000 (max 100 keepalive)) u some t same))))
+session_opens x f (establishment_reject id timestamp code reason) u =
     let p = said (establishment_reject id timestamp code reason) in
     in_session x f p 6 id _ (all_within (Opens x.config f p) (is_establishing f.connection.phase) (establishment_reject_rows x f code) (λ _. (
-      λ _. keeping x f (in_phase f phases.Negotiating) p _ (opening_negotiate x ∷ []) u.idle refl refl refl refl refl,
+      λ _. keeping x f (in_phase f phases.Negotiating) p _ (opening_negotiate x ∷ []) u.idle refl refl refl refl refl refl,
       λ _. (λ _. ending x f p [] (endings.Rejected 6 code) (rejected_fine 6 code), λ _. tt),
     )))
-session_opens x f (sequence next) old u = not_yet (Opens x.config f (said (sequence next))) f _ u.before
-session_opens x f unsequenced_heartbeat old u = (λ _. keeping x f f (said unsequenced_heartbeat) _ [] u.idle u.before refl refl refl refl, λ _. tt)
-session_opens x f (retransmit_request id timestamp first count) old u = not_yet (Opens x.config f (said (retransmit_request id timestamp first count))) f _ u.before
-session_opens x f (retransmission id next timestamp count) old u =
+session_opens x f (sequence next) u = not_yet (Opens x.config f (said (sequence next))) f _ u.before
+session_opens x f unsequenced_heartbeat u = (λ _. keeping x f f (said unsequenced_heartbeat) _ [] u.idle u.before refl refl refl refl refl, λ _. tt)
+session_opens x f (retransmit_request id timestamp first count) u = not_yet (Opens x.config f (said (retransmit_request id timestamp first count))) f _ u.before
+session_opens x f (retransmission id next timestamp count) u =
     let p = said (retransmission id next timestamp count) in in_session x f p 10 id _ (not_yet (Opens x.config f p) f _ u.before)
-session_opens x f (retransmit_reject id timestamp code reason) old u =
+session_opens x f (retransmit_reject id timestamp code reason) u =
     let p = said (retransmit_reject id timestamp code reason) in in_session x f p 11 id _ (not_yet (Opens x.config f p) f _ u.before)
-session_opens x f (applied first count) old u = (λ _. keeping x f f (said (applied first count)) _ [] u.idle u.before refl refl refl refl, λ _. tt)
-session_opens x f (not_applied first count) old u =
+session_opens x f (applied first count) u = (λ _. keeping x f f (said (applied first count)) _ [] u.idle u.before refl refl refl refl refl, λ _. tt)
+session_opens x f (not_applied first count) u =
     let p = said (not_applied first count) in
-    (λ _. keeping x f f p _ [] u.idle u.before refl refl refl refl, λ _. (λ _. keeping x f f p _ [] u.idle u.before refl refl refl refl, λ _. tt))
-session_opens x f (finished_sending id last) old u = let p = said (finished_sending id last) in in_session x f p 14 id _ (not_yet (Opens x.config f p) f _ u.before)
-session_opens x f (finished_receiving id) old u = let p = said (finished_receiving id) in in_session x f p 15 id _ (not_yet (Opens x.config f p) f _ u.before)
-session_opens x f (terminate id code reason) old u =
+    (λ _. keeping x f f p _ [] u.idle u.before refl refl refl refl refl, λ _. (λ _. keeping x f f p _ [] u.idle u.before refl refl refl refl refl, λ _. tt))
+session_opens x f (finished_sending id last) u = let p = said (finished_sending id last) in in_session x f p 14 id _ (not_yet (Opens x.config f p) f _ u.before)
+session_opens x f (finished_receiving id) u = let p = said (finished_receiving id) in in_session x f p 15 id _ (not_yet (Opens x.config f p) f _ u.before)
+session_opens x f (terminate id code reason) u =
     let p = said (terminate id code reason) in in_session x f p 16 id (row true (ends x f 1 (endings.PeerTerminated code)) ∷ []) (λ _. ending x f p _ (endings.PeerTerminated code) (terminated_fine code), λ _. tt)
 
-rows_open : (x : Around) (f : Facts) (p : Piece) → is_newer x.config ≡ false → Unheard x f p → AllRows (Opens x.config f p) (rows_of x f (incoming_of p))
-rows_open x f (said m) old u = session_opens x f m old u
-rows_open x f (entry payload) old u = not_yet (Opens x.config f (entry payload)) f _ u.before
+rows_open : (x : Around) (f : Facts) (p : Piece) → Unheard x f p → AllRows (Opens x.config f p) (rows_of x f (incoming_of p))
+rows_open x f (said m) u = session_opens x f m u
+rows_open x f (entry payload) u = not_yet (Opens x.config f (entry payload)) f _ u.before
 
 -- the reply to a message before the handshake is done
-pub opening_reply : (x : Around) (f : Facts) (p : Piece) → is_newer x.config ≡ false → is_shaken f.connection.phase ≡ false → Idle f → (is_recoverable x.config.peer_flow ≡ true → Line f)
+pub opening_reply : (x : Around) (f : Facts) (p : Piece) → is_shaken f.connection.phase ≡ false → Idle f → (is_recoverable x.config.peer_flow ≡ true → Line f)
     → Fits x.config.peer_flow p (at_most (next_live x.config f)) None → live_after x.config.peer_flow p (next_live x.config f) None ≤ x.most + 1 → Opens x.config f p (reply_of x f (incoming_of p))
-opening_reply x f p old before idle line fits top =
+opening_reply x f p before idle line fits top =
     by_row (Opens x.config f p) (is_closing f.connection.phase && not (terminates x (incoming_of p))) (ignores f) (answer_of x f (incoming_of p))
     (λ e. absurd (closes (is_established f.connection.phase) (is_closing f.connection.phase) (not (terminates x (incoming_of p))) before e))
     (λ _. all_rows (Opens x.config f p) (not_in_phase x f (template_of (incoming_of p))) (rows_of x f (incoming_of p)) (breaking x f p 2 _ tt)
-    (rows_open x f p old (record { before = before; idle = idle; line = line; fits = fits; top = top })))
+    (rows_open x f p (record { before = before; idle = idle; line = line; fits = fits; top = top })))
   where
     closes : (a b c : Bool) → (a || b) ≡ false → (b && c) ≡ true → ⊥
     closes true b c n e = true≢false n

@@ -11,4 +11,7 @@ numbers_sample = (
   ((refl, tt), (refl, refl)),
   λ r. let e = r.0.0 in omega (arith, e),
   (tt, ((tt, tt), (omega arith, refl))),
+  ((omega arith, tt), (tt, (refl, refl))),
+  (tt, (refl, refl)),
+  λ r. let e = r.0.1 in omega (arith, e),
 )

@@ -1,5 +1,5 @@
 -- The numbers of both flows, step by step.
-use Rattle.std.proofs.Common.{◌≡◌, ℕ, ◌+◌, true, false, List, [], ◌∷◌, ◌++◌, Option, Some, None, refl, sym, ap, subst, ◌∙◌}
+use Rattle.std.proofs.Common.{◌≡◌, ◌⊎◌, inl, inr, ℕ, ◌+◌, true, false, List, [], ◌∷◌, ◌++◌, Option, Some, None, refl, sym, ap, subst, ◌∙◌, true≢false}
 use Rattle.std.specs.List.{AllByRecursion}
 use Rattle.session_model.specs.Journal.{Entry}
 use Rattle.fixp_msgs.specs.declared.flow.Flow.{Flow}
@@ -18,21 +18,21 @@ use Rattle.connection_laws.specs.Writing.{Piece, said_all}
 use Rattle.connection_laws.specs.Standing.{IsOpen, MayStand}
 use Rattle.two_ends.specs.Reading.{incoming_of}
 use Rattle.fixp_shake.specs.Flows.{is_recoverable}
-use Rattle.fixp_replies.specs.Expecting.{is_newer}
-use Rattle.honest_ends.proofs.Older.{older_initiator, older_acceptor}
+use Rattle.fixp_replies.specs.Facts.{is_initiator}
+use Rattle.honest_ends.proofs.Shapes.{all_free_flow}
 use Rattle.honest_ends.proofs.PhaseOpening.{Quiet}
 use Rattle.honest_ends.specs.PhaseLaws.{IsOfTime, EndsBy}
-use Rattle.honest_ends.specs.Numbers.{exactly, Runs, served, Answers, IsFlowing, to_come, Peer}
+use Rattle.honest_ends.specs.Numbers.{exactly, Runs, ServesLater, served, Answers, IsFlowing, to_come, Peer, goes_softly}
 use Rattle.honest_ends.specs.Worlds.{World, Step, meets, initiator_reads, acceptor_reads, initiator_does, acceptor_does, written, after, initiator_read, acceptor_read, MayStep, world_after, AllMayStep, reading, IsOther}
-use Rattle.honest_ends.proofs.Moving.{Reads, reads_as, does_as, ends_still, each_of_time}
-use Rattle.honest_ends.proofs.Serving.{Requests, serves_as}
-use Rattle.honest_ends.proofs.Phased.{Holds, holds_step, holds_at_first, to_acceptor, to_initiator}
+use Rattle.honest_ends.proofs.Moving.{Reads, reads_as, Does, does_as, ends_still, each_of_time}
+use Rattle.honest_ends.proofs.Serving.{Requests, by_bool, serves_as}
+use Rattle.honest_ends.proofs.Phased.{Shaking, Holds, holds_step, holds_at_first, to_acceptor, to_initiator, initiator_quiet, acceptor_quiet}
 use Rattle.honest_ends.specs.Knowing.{Knows, StartsKnown}
-use Rattle.honest_ends.specs.Numbered.{awaited, Names, Expects, Follows, Numbered}
+use Rattle.honest_ends.specs.Numbered.{awaited, Names, TellsNext, ReturnsFirst, Expects, Follows, Numbered}
 use Rattle.honest_ends.specs.NumberLaws.{NoNumber}
-use Rattle.honest_ends.proofs.Awaiting.{Ready}
+use Rattle.honest_ends.proofs.Awaiting.{not_softly, Ready}
 use Rattle.honest_ends.proofs.Requesting.{Agrees}
-use Rattle.honest_ends.proofs.Standing.{initiator_flows, acceptor_flows, initiator_quiet, acceptor_quiet}
+use Rattle.honest_ends.proofs.Standing.{initiator_flows, acceptor_flows, Untold, flows_untold, Quietly, initiator_quietly, acceptor_quietly, acceptor_waits, Opening, initiator_opening, acceptor_opening}
 use Rattle.honest_ends.proofs.Beginning.{meeting}
 use Rattle.honest_ends.proofs.Keeping.{Between, reader_replies, writer_replies, same_shaken, reader_calls, writer_calls, ready_first}
 
@@ -75,16 +75,18 @@ time_fine : (v : Violation) → IsOfTime v → NoNumber v
 time_fine = each_of_time NoNumber (λ last now. tt) (λ start now. tt)
 
 -- an end reads the first message under way to it: both flows are as they have to be, and it breaks no rule of numbers
-end_reads : (own theirs : List Entry) (s other : State) (p : Piece) (left outgoing : List Piece) (at now : ℕ) → is_newer s.config ≡ false → Peer s.config other.config → other.config.peer_flow ≡ s.config.own_flow
-    → (is_shaken s.facts.connection.phase ≡ true → IsFlowing other.config p) → s.ending ≡ None → Requests other.facts s.facts s.ending (p ∷ left) outgoing → Flowing own s other outgoing (p ∷ left) → Flowing theirs other s (p ∷ left) outgoing
+end_reads : (own theirs : List Entry) (s other : State) (p : Piece) (left outgoing : List Piece) (at now : ℕ) → ServesLater s.config s.facts → Peer s.config other.config → other.config.peer_flow ≡ s.config.own_flow
+    → (is_shaken s.facts.connection.phase ≡ true → IsFlowing other.config p) → Quietly other.config p outgoing
+    → (is_shaken s.facts.connection.phase ≡ false → (is_shaken other.facts.connection.phase ≡ false) ⊎ (is_initiator s.config.role ≡ true))
+    → (is_shaken s.facts.connection.phase ≡ false → is_shaken (reply_of (around s at now) s.facts (incoming_of p)).next.connection.phase ≡ true → Opening s.config other.config other.facts p outgoing) → s.ending ≡ None → Requests other.facts s.facts s.ending (p ∷ left) outgoing → Flowing own s other outgoing (p ∷ left) → Flowing theirs other s (p ∷ left) outgoing
     → Flowing own (run s (reading p at now)) other (outgoing ++ written s (reading p at now)) left × Flowing theirs other (run s (reading p at now)) left (outgoing ++ written s (reading p at now)) × EndsBy NoNumber (run s (reading p at now))
-end_reads own theirs s other p left outgoing at now old peer flow flows going asked out home =
+end_reads own theirs s other p left outgoing at now later peer flow flows quietly first opening going asked out home =
     let x = around s at now in
     let o : Outcome = reply_of x s.facts (incoming_of p) in
     let rd = reads_as s p at now in
-    let r = reader_replies theirs other.facts x s.facts other.config p left outgoing old peer flows asked.once (going_on theirs other.facts s.config s.most s.facts s.ending (p ∷ left) outgoing going home) in (
+    let r = reader_replies theirs other.facts x s.facts other.config p left outgoing later peer flows quietly first asked.once (going_on theirs other.facts s.config s.most s.facts s.ending (p ∷ left) outgoing going home) in (
       written_by own s (run s (reading p at now)) o other.config other.most other.facts other.ending outgoing left (written s (reading p at now)) rd
-          (writer_replies own x s.facts other.config other.config other.most other.facts other.ending p outgoing left old peer flows flow out),
+          (writer_replies own x s.facts other.config other.config other.most other.facts other.ending p outgoing left later peer flows opening flow out),
       read_by theirs other.facts s (run s (reading p at now)) o left outgoing (written s (reading p at now)) rd r.0,
       λ v is. r.1 v (sym rd.ending ∙ is),
     )
@@ -96,7 +98,11 @@ initiator_reading hi ha w (p ∷ left) at now e n going h =
     let m = n.holds.matches in
     let flows : is_shaken s.facts.connection.phase ≡ true → IsFlowing w.acceptor.config p = λ shaken.
     (subst (λ (ps : List Piece). AllByRecursion (IsFlowing w.acceptor.config) ps) e (initiator_flows s.config w.acceptor.config s.facts s.ending w.acceptor.facts w.outward w.homeward n.holds.shaking shaken)).0 in
-    let r = end_reads hi ha s w.acceptor p left w.outward at now (older_initiator s.config w.acceptor.config m) (to_initiator s.config w.acceptor.config m) m.outward flows going.going
+    let sh = subst (λ (ps : List Piece). Shaking s.config w.acceptor.config s.facts s.ending w.acceptor.facts w.outward ps) e n.holds.shaking in
+    let later : ServesLater s.config s.facts = λ _ before. (initiator_quiet s.config w.acceptor.config s.facts s.ending w.acceptor.facts w.outward w.homeward n.holds.shaking before).free in
+    let r = end_reads hi ha s w.acceptor p left w.outward at now later (to_initiator s.config w.acceptor.config m) m.outward flows
+    (initiator_quietly s.config w.acceptor.config s.facts s.ending w.acceptor.facts p w.outward left going.going sh) (λ _. inr (ap (λ k. is_initiator k) m.initiates))
+    (initiator_opening (around s at now) w.acceptor.config s.facts s.ending w.acceptor.facts p w.outward left m going.going n.holds.newer sh) going.going
     (subst (λ (ps : List Piece). Requests w.acceptor.facts s.facts s.ending ps w.outward) e n.holds.homeward_requests)
     (subst (λ (ps : List Piece). Flowing hi s w.acceptor w.outward ps) e n.outward) (subst (λ (ps : List Piece). Flowing ha w.acceptor s ps w.outward) e n.homeward) in
     record { holds = h; outward = r.0; homeward = r.1; initiator = r.2; acceptor = n.acceptor }
@@ -108,10 +114,20 @@ acceptor_reading hi ha w (p ∷ left) at now e n going h =
     let m = n.holds.matches in
     let flows : is_shaken s.facts.connection.phase ≡ true → IsFlowing w.initiator.config p = λ shaken.
     (subst (λ (ps : List Piece). AllByRecursion (IsFlowing w.initiator.config) ps) e (acceptor_flows w.initiator.config s.config w.initiator.facts w.initiator.ending s.facts w.outward w.homeward n.holds.shaking shaken)).0 in
-    let r = end_reads ha hi s w.initiator p left w.homeward at now (older_acceptor w.initiator.config s.config m) (to_acceptor w.initiator.config s.config m) m.homeward flows going.going
+    let sh = subst (λ (ps : List Piece). Shaking w.initiator.config s.config w.initiator.facts w.initiator.ending s.facts ps w.homeward) e n.holds.shaking in
+    let later : ServesLater s.config s.facts = λ _ before. (acceptor_quiet w.initiator.config s.config w.initiator.facts w.initiator.ending s.facts w.outward w.homeward n.holds.shaking before).free in
+    let r = end_reads ha hi s w.initiator p left w.homeward at now later (to_acceptor w.initiator.config s.config m) m.homeward flows
+    (acceptor_quietly w.initiator.config s.config w.initiator.facts w.initiator.ending s.facts p left w.homeward sh)
+    (λ before. inl (acceptor_waits w.initiator.config s.config w.initiator.facts w.initiator.ending s.facts (p ∷ left) w.homeward sh before))
+    (acceptor_opening w.initiator.config (around s at now) w.initiator.facts w.initiator.ending s.facts p left w.homeward m sh) going.going
     (subst (λ (ps : List Piece). Requests w.initiator.facts s.facts s.ending ps w.homeward) e n.holds.outward_requests)
     (subst (λ (ps : List Piece). Flowing ha s w.initiator w.homeward ps) e n.homeward) (subst (λ (ps : List Piece). Flowing hi w.initiator s ps w.homeward) e n.outward) in
     record { holds = h; outward = r.1; homeward = r.0; initiator = n.initiator; acceptor = r.2 }
+
+-- no call but the beginning of a connection tells of a number
+calls_untold : (s t : State) (out : List Piece) → Does s t out → (is_shaken s.facts.connection.phase ≡ false → Quiet s.facts) → AllByRecursion Untold out
+calls_untold s t out d quiet = by_bool (AllByRecursion Untold out) (is_shaken s.facts.connection.phase) (λ done. flows_untold s.config out (d.done done).1)
+    (λ before. flows_untold s.config out (all_free_flow s.config out (d.before before (quiet before)).1))
 
 -- so at every call other than the beginning of a connection: both flows are as they have to be
 end_calls : (own theirs : List Entry) (s other : State) (call : Call) (outgoing incoming : List Piece) → other.config.peer_flow ≡ s.config.own_flow → IsOther own call → MayStand own s call → (is_recoverable s.config.own_flow ≡ false → s.facts.connection.serving ≡ None)
@@ -122,8 +138,8 @@ end_calls own theirs s other call outgoing incoming flow is_other may serves qui
     let more = written s (call ∷ []) in
     let d = does_as own s call is_other may serves in
     let k = serves_as own s call is_other may in (
-      writer_calls own s t other.config other.most other.facts other.ending outgoing incoming more flow k out,
-      reader_calls theirs own other.facts s t incoming outgoing more (same_shaken s t more d quiet) d.over d.config k home,
+      writer_calls own s t other.config other.most other.facts other.ending outgoing incoming more flow (same_shaken s t more d quiet) k out,
+      reader_calls theirs own other.facts s t incoming outgoing more (same_shaken s t more d quiet) d.over d.config (calls_untold s t more d quiet) k home,
       ends_still NoNumber s t d.ends time_fine fine,
     )
 
@@ -158,15 +174,17 @@ counted_after hi ha w (step ∷ later) n may = counted_after hi ha (after w step
 
 -- at the beginning nothing is under way
 beginning : (h : List Entry) (c : EndConfig) (writer : State) (limit : ℕ) (reader : State) (way back : List Piece) → Knows h writer reader → writer.facts.connection.serving ≡ None
-    → reader.facts.connection.receiver ≡ receiver_is.fresh reader.facts.recorded.inbox_next → reader.facts.connection.requester ≡ requests.Nothing → is_shaken reader.facts.connection.phase ≡ false → way ≡ [] → back ≡ []
+    → reader.facts.connection.receiver ≡ receiver_is.fresh reader.facts.recorded.inbox_next → reader.facts.connection.requester ≡ requests.Nothing → reader.facts.connection.soft ≡ false → is_shaken reader.facts.connection.phase ≡ false → way ≡ [] → back ≡ []
     → Flowing h writer reader way back
-beginning h c writer limit reader way back k free receiver requester before no_way no_back = record {
+beginning h c writer limit reader way back k free receiver requester firm before no_way no_back = record {
   sent = k.sent;
   most = k.most;
   one = k.one;
   next = k.next;
+  told = subst (λ (ps : List Piece). AllByRecursion (TellsNext reader.config reader.facts) ps) (sym no_back) tt;
+  restarts = λ _ _ soft. absurd (true≢false (sym soft ∙ not_softly reader.facts firm));
   goes = λ _ _. (
-    ready_first reader.config reader.facts way (writer.facts.recorded.sent + 1) (served writer.facts.connection.serving) receiver requester before k.next
+    ready_first reader.config reader.facts way (writer.facts.recorded.sent + 1) (served writer.facts.connection.serving) receiver requester firm before k.next
         (subst (λ (ps : List Piece). Runs reader.config.peer_flow (exactly (writer.facts.recorded.sent + 1)) None ps (writer.facts.recorded.sent + 1) (served writer.facts.connection.serving)) (sym no_way) (refl, sym (ap served free))),
     record {
       asks = subst (λ (ps : List Piece). AllByRecursion (Names reader.facts.connection.requester) ps) (sym no_back) tt;
@@ -182,8 +200,8 @@ counted_at_first hi ha w st =
     let fa = ap (λ (s : State). s.facts.connection) start.acceptor in
     record {
       holds = holds_at_first w start;
-      outward = beginning hi w.acceptor.config w.initiator w.acceptor.most w.acceptor w.outward w.homeward st.1 (ap (λ c. c.serving) fi) (ap (λ c. c.receiver) fa) (ap (λ c. c.requester) fa) (ap (λ c. is_shaken c.phase) fa) start.outward start.homeward;
-      homeward = beginning ha w.initiator.config w.acceptor w.initiator.most w.initiator w.homeward w.outward st.2 (ap (λ c. c.serving) fa) (ap (λ c. c.receiver) fi) (ap (λ c. c.requester) fi) (ap (λ c. is_shaken c.phase) fi) start.homeward start.outward;
+      outward = beginning hi w.acceptor.config w.initiator w.acceptor.most w.acceptor w.outward w.homeward st.1 (ap (λ c. c.serving) fi) (ap (λ c. c.receiver) fa) (ap (λ c. c.requester) fa) (ap (λ c. c.soft) fa) (ap (λ c. is_shaken c.phase) fa) start.outward start.homeward;
+      homeward = beginning ha w.initiator.config w.acceptor w.initiator.most w.initiator w.homeward w.outward st.2 (ap (λ c. c.serving) fa) (ap (λ c. c.receiver) fi) (ap (λ c. c.requester) fi) (ap (λ c. c.soft) fi) (ap (λ c. is_shaken c.phase) fi) start.homeward start.outward;
       initiator = λ v e. no_violation v (sym (ap (λ (s : State). s.ending) start.initiator) ∙ e);
       acceptor = λ v e. no_violation v (sym (ap (λ (s : State). s.ending) start.acceptor) ∙ e);
     }
@@ -195,17 +213,20 @@ follows h writer reader way back flow b = record {
   most = b.most;
   one = b.one;
   next = b.next;
-  expects = λ none yet. expects (b.goes none yet);
+  told = b.told;
+  expects = λ none yet. expects (b.goes none yet) (b.restarts none yet);
 }
   where
-    expects : Ready reader.config reader.facts way (writer.facts.recorded.sent + 1) (served writer.facts.connection.serving) × Agrees reader.facts.connection.requester way back → Expects writer reader way back
-    expects g = record {
+    expects : Ready reader.config reader.facts way (writer.facts.recorded.sent + 1) (served writer.facts.connection.serving) × Agrees reader.facts.connection.requester way back
+        → (goes_softly reader.facts ≡ true → is_shaken writer.facts.connection.phase ≡ true → ReturnsFirst reader.facts.connection.receiver.next way) → Expects writer reader way back
+    expects g restarts = record {
       runs = subst (λ (f : Flow). Runs f (awaited reader.config reader.facts) (to_come reader.facts.connection.requester) way (writer.facts.recorded.sent + 1) (served writer.facts.connection.serving)) flow g.0.runs;
       line = g.0.line;
       idle = g.0.idle;
       opening = g.0.opening;
       asks = g.1.asks;
       answers = g.1.answers;
+      restarts = restarts;
     }
 
 pub numbered_of : (hi ha : List Entry) (w : World) → Counted hi ha w → Numbered hi ha w

@@ -1,8 +1,9 @@
 -- What an end replies before the handshake is done, to a peer that keeps to the rules.
-use Rattle.std.proofs.Common.{◌≡◌, inl, inr, ℕ, ◌+◌, ◌≤◌, ◌==◌, ◌&&◌, ◌||◌, min, max, nat_lt, not, Bool, true, false, if◌then◌else◌, List, [], ◌∷◌, Option, Some, None, refl, sym, ap, subst, ◌∙◌, arith, true≢false, eq-eqb}
-use Rattle.std.specs.Prelude.{is_some, is_none, IsSome}
+use Rattle.std.proofs.Common.{◌≡◌, inl, inr, ℕ, ◌+◌, ◌≤◌, ◌==◌, ◌&&◌, ◌||◌, min, max, nat_lt, not, Bool, true, false, if◌then◌else◌, List, [], ◌∷◌, ◌++◌, Option, Some, None, refl, sym, ap, subst, ◌∙◌, arith, true≢false, eq-eqb}
+use Rattle.std.specs.Prelude.{is_some, IsSome}
 use Rattle.std.specs.List.{AllByRecursion}
 use Rattle.std.specs.Str.{bytes_eq}
+use Rattle.session_model.proofs.Lists.{all_append}
 use Rattle.std.proofs.lemmas.Bool.Decides.{nat_tests}
 use Rattle.fixp_msgs.specs.declared.messages.Expected.{Expected}
 use Rattle.fixp_msgs.specs.declared.numbering.Range.{Range}
@@ -14,19 +15,21 @@ use Rattle.fixp_shake.specs.declared.config.EndConfig.{EndConfig}
 use Rattle.fixp_shake.specs.declared.phase.Phase.{Phase}
 use Rattle.fixp_shake.specs.declared.phase.Phase.TheVariants as phases
 use Rattle.fixp_shake.specs.declared.violation.Violation.{Violation}
-use Rattle.fixp_shake.specs.Flows.{is_idempotent, is_sequenced}
+use Rattle.fixp_shake.specs.Flows.{is_recoverable, is_idempotent, is_sequenced}
 use Rattle.fixp_shake.specs.Phases.{is_negotiating, is_establishing, is_closing, is_shaken}
 use Rattle.fixp_replies.specs.declared.act.Act.{Act}
 use Rattle.fixp_replies.specs.declared.act.Act.TheVariants as acts
 use Rattle.fixp_replies.specs.declared.facts.Facts.{Facts}
-use Rattle.fixp_replies.specs.Facts.{Around, is_own, in_phase, firm, negotiated as as_negotiated, gap_to_ask, having_asked, finishes_exchanged}
+use Rattle.fixp_replies.specs.declared.facts.OwnFinish.TheVariants as own
+use Rattle.fixp_replies.specs.Facts.{Around, is_own, in_phase, negotiated as as_negotiated, gap_to_ask, having_asked, finishes_exchanged}
 use Rattle.fixp_replies.specs.Incoming.{Incoming, session}
-use Rattle.fixp_replies.specs.Outcomes.{Outcome, Row, goes_on, accepts, ignores, request_for, skip_of, told_skip, opening_negotiate, opening_establish}
+use Rattle.fixp_replies.specs.Outcomes.{Outcome, Row, goes_on, accepts, ignores, request_for, told_skip, opening_negotiate, opening_establish}
 use Rattle.fixp_replies.specs.Announcing.{Announced, announced, announcement_fault, refuses}
 use Rattle.fixp_replies.specs.Handshake.{awaits_client, established, acknowledges, negotiate_rows, establish_rows, shaken, negotiation_response_rows, negotiation_reject_rows, establishment_ack_rows, reached, establishment_reject_rows}
 use Rattle.fixp_replies.specs.Replies.{reply_of, answer_of, terminates}
-use Rattle.fixp_replies.specs.Expecting.{is_newer}
-use Rattle.honest_ends.proofs.Older.{acknowledges_so, reached_so}
+use Rattle.fixp_msgs.specs.declared.messages.Expected.TheVariants as expects
+use Rattle.fixp_replies.specs.Expecting.{is_newer, is_present, told_next, number_in, takes, returned, softened, told_return}
+use Rattle.honest_ends.proofs.Returning.{said_behind}
 use Rattle.fixp_machine.proofs.Rows.{by_row}
 use Rattle.connection_laws.specs.Writing.{Piece, said, entry, said_all}
 use Rattle.two_ends.specs.Reading.{incoming_of}
@@ -36,10 +39,11 @@ use Rattle.honest_ends.proofs.Deciding.{Decides, decides_within, same_bytes, end
 use Rattle.honest_ends.proofs.Replying.{Left, asked_phase, asked_flows, skip_flows, none_left, terminated_left, fault_left, announced_decides, foreign, heard}
 use Rattle.honest_ends.specs.Numbers.{IsFlowing, Peer}
 
--- before the handshake is done nothing is asked for or sent again
+-- before the handshake is done nothing is asked for or sent again, and no finish was told
 pub record Quiet (f : Facts) : Type 0 where
   pub even : receiver_is.gap f.connection.receiver ≡ None
   pub free : f.connection.serving ≡ None
+  pub untold : f.connection.own_finish ≡ own.Open
 
 pub asks_none : (f : Facts) → receiver_is.gap f.connection.receiver ≡ None → gap_to_ask f ≡ None
 asks_none f e = by_tests f.connection.soft (is_some (request_is.outstanding f.connection.requester))
@@ -50,7 +54,7 @@ asks_none f e = by_tests f.connection.soft (is_some (request_is.outstanding f.co
     by_tests true b = refl
 
 pub quiet_same : (f g : Facts) → g.connection ≡ f.connection → Quiet f → Quiet g
-quiet_same f g e q = record { even = ap (λ c. receiver_is.gap c.receiver) e ∙ q.even; free = ap (λ c. c.serving) e ∙ q.free }
+quiet_same f g e q = record { even = ap (λ c. receiver_is.gap c.receiver) e ∙ q.even; free = ap (λ c. c.serving) e ∙ q.free; untold = ap (λ c. c.own_finish) e ∙ q.untold }
 
 -- nothing of the connection changes, and no message is written that some phase would not take
 pub record Spares (cfg : EndConfig) (f : Facts) (o : Outcome) : Type 0 where
@@ -137,8 +141,8 @@ negotiate_asked x f theirs id timestamp flow credentials are same quiet asks = (
       λ _. (
         λ _. answers refl quiet (inl ((asks.0 ∙ are.session, refl), tt)) none_left,
         λ _. (
-          λ _. answers (asked_phase g (gap_to_ask g)) (still_quiet g (record { even = quiet.even; free = quiet.free }))
-              (writes_alone x g (IsAnswer x.config phases.Negotiating) (negotiation_response x.config.session timestamp (flow_code x.config.own_flow) []) (record { even = quiet.even; free = quiet.free }) (refl, refl)) none_left,
+          λ _. answers (asked_phase g (gap_to_ask g)) (still_quiet g (record { even = quiet.even; free = quiet.free; untold = quiet.untold }))
+              (writes_alone x g (IsAnswer x.config phases.Negotiating) (negotiation_response x.config.session timestamp (flow_code x.config.own_flow) []) (record { even = quiet.even; free = quiet.free; untold = quiet.untold }) (refl, refl)) none_left,
           λ e. absurd (true≢false e),
         ),
       ),
@@ -154,8 +158,8 @@ in_range k low high = grind (arith, nat_tests)
 
 establish_asked : (x : Around) (f : Facts) (theirs : EndConfig) (id : List ℕ) (timestamp keepalive : ℕ) (next : Option ℕ) (expected : Expected) (credentials : List ℕ)
     → Peer x.config theirs → theirs.credentials ≡ x.config.credentials → (100 ≤ theirs.keepalive) × (theirs.keepalive ≤ 60000) → Quiet f
-    → IsAsk theirs phases.Establishing (said (establish id timestamp keepalive next expected credentials)) → is_newer x.config ≡ false → Decides (Asked x.config phases.Establishing f) (establish_rows x f id timestamp keepalive next expected credentials)
-establish_asked x f theirs id timestamp keepalive next expected credentials are same range quiet asks old = (
+    → IsAsk theirs phases.Establishing (said (establish id timestamp keepalive next expected credentials)) → Decides (Asked x.config phases.Establishing f) (establish_rows x f id timestamp keepalive next expected credentials)
+establish_asked x f theirs id timestamp keepalive next expected credentials are same range quiet asks = (
   λ _. answers refl quiet (inl ((asks.0 ∙ are.session, refl), tt)) none_left,
   λ _. (
     λ out. absurd (true≢false (sym out ∙ in_range keepalive (subst (λ (k : ℕ). 100 ≤ k) (sym asks.1) range.0) (subst (λ (k : ℕ). k ≤ 60000) (sym asks.1) range.1))),
@@ -174,10 +178,11 @@ establish_asked x f theirs id timestamp keepalive next expected credentials are 
 
     acknowledging : (a : Announced) → Asked x.config phases.Establishing f (acknowledges x timestamp keepalive expected a)
     acknowledging a =
-        let g : Facts = established (firm a.facts) keepalive in
-        subst (Asked x.config phases.Establishing f) (sym (acknowledges_so x timestamp keepalive expected a old)) (acknowledged refl (asked_phase g (gap_to_ask g))
-        (inl ((refl, λ n. number_given (is_sequenced x.config.own_flow) (a.facts.recorded.sent + 1) n), asked_flows x (told_skip a.skipped) (gap_to_ask g) (skip_flows x.config a.skipped)))
-        none_left)
+        let k : Facts = returned x a.facts expected in
+        let g : Facts = established (softened x expected k) keepalive in
+        acknowledged refl (asked_phase g (gap_to_ask g))
+        (inl ((refl, λ n. number_given (is_sequenced x.config.own_flow) (k.recorded.sent + 1) n), asked_flows x (told_skip a.skipped) (gap_to_ask g) (skip_flows x.config a.skipped)))
+        none_left
 
 decides_first : (P : Outcome → Type 0) (b : Bool) (first second : List Row) → b ≡ true → Decides P first → Decides P (if b then first else second)
 decides_first P true first second e d = d
@@ -185,15 +190,15 @@ decides_first P false first second e d = absurd (true≢false (sym e))
 
 -- an acceptor that waits for its client reads what this asks for
 pub ask_reply : (x : Around) (f : Facts) (theirs : EndConfig) (ph : Phase) (p : Piece) → Peer x.config theirs → theirs.credentials ≡ x.config.credentials
-    → (100 ≤ theirs.keepalive) × (theirs.keepalive ≤ 60000) → awaits_client x f ≡ true → is_shaken f.connection.phase ≡ false → Quiet f → IsAsk theirs ph p → is_newer x.config ≡ false → Asked x.config ph f (reply_of x f (incoming_of p))
-ask_reply x f theirs phases.Negotiating (said (negotiate id timestamp flow credentials)) are same range waits before quiet asks old =
+    → (100 ≤ theirs.keepalive) × (theirs.keepalive ≤ 60000) → awaits_client x f ≡ true → is_shaken f.connection.phase ≡ false → Quiet f → IsAsk theirs ph p → Asked x.config ph f (reply_of x f (incoming_of p))
+ask_reply x f theirs phases.Negotiating (said (negotiate id timestamp flow credentials)) are same range waits before quiet asks =
     open_before (Asked x.config phases.Negotiating f) x f (session (negotiate id timestamp flow credentials)) before (heard (Asked x.config phases.Negotiating f) x f (session (negotiate id timestamp flow credentials))
     (decides_within (Asked x.config phases.Negotiating f) (awaits_client x f) (negotiate_rows x f id timestamp flow credentials) waits (negotiate_asked x f theirs id timestamp flow credentials are same quiet asks)))
-ask_reply x f theirs phases.Establishing (said (establish id timestamp keepalive next expected credentials)) are same range waits before quiet asks old =
+ask_reply x f theirs phases.Establishing (said (establish id timestamp keepalive next expected credentials)) are same range waits before quiet asks =
     open_before (Asked x.config phases.Establishing f) x f (session (establish id timestamp keepalive next expected credentials)) before (heard (Asked x.config phases.Establishing f) x f (session (establish id timestamp keepalive next expected credentials))
     (decides_first (Asked x.config phases.Establishing f) (awaits_client x f) (establish_rows x f id timestamp keepalive next expected credentials) _ waits
-    (establish_asked x f theirs id timestamp keepalive next expected credentials are same range quiet asks old)))
-ask_reply x f theirs _ _ are same range waits before quiet asks old = absurd asks
+    (establish_asked x f theirs id timestamp keepalive next expected credentials are same range quiet asks)))
+ask_reply x f theirs _ _ are same range waits before quiet asks = absurd asks
 
 -- what an initiator makes of an answer: it asks again, in this phase
 pub record AsksAgain (cfg : EndConfig) (o : Outcome) : Type 0 where
@@ -210,10 +215,18 @@ asking x g act m before quiet asks = record {
   ends = none_left;
 }
 
+-- an end that tells of the number that it expects has version 1
+pub newer_tells : (x : Around) (f : Facts) → is_present (told_next x f) ≡ true → is_newer x.config ≡ true
+newer_tells x f = by_test (is_newer x.config)
+  where
+    by_test : (b : Bool) → is_present (if not b then expects.Absent else if is_recoverable x.config.peer_flow then expects.Number f.recorded.inbox_next else expects.Null) ≡ true → b ≡ true
+    by_test true e = refl
+    by_test false e = absurd (true≢false (sym e))
+
 establishing : (x : Around) (f : Facts) → Quiet f → AsksAgain x.config (shaken x f)
 establishing x f quiet =
-    asking x (in_phase (as_negotiated f) phases.Establishing) _ (opening_establish x f) refl (record { even = quiet.even; free = quiet.free })
-    (refl, refl, (λ n. number_given (is_sequenced x.config.own_flow) (f.recorded.sent + 1) n), refl)
+    asking x (in_phase (as_negotiated f) phases.Establishing) _ (opening_establish x f) refl (record { even = quiet.even; free = quiet.free; untold = quiet.untold })
+    (refl, refl, (λ n. number_given (is_sequenced x.config.own_flow) (f.recorded.sent + 1) n), refl, newer_tells x f)
 
 negotiating : (p : Phase) → p ≡ phases.Negotiating → is_negotiating p ≡ true
 negotiating p e = ap (λ q. is_negotiating q) e
@@ -243,7 +256,7 @@ answer_reply x f theirs phases.Establishing (said (establishment_reject id times
     open_before (AsksAgain x.config) x f (session (establishment_reject id timestamp code reason)) before (heard (AsksAgain x.config) x f (session (establishment_reject id timestamp code reason)) (
       foreign x id (answer.0 ∙ are.session),
       λ _. (decides_within (AsksAgain x.config) (is_establishing f.connection.phase) (establishment_reject_rows x f code) (is_it_establishing f.connection.phase is) (
-        λ _. asking x (in_phase f phases.Negotiating) acts.Nothing (opening_negotiate x) refl (record { even = quiet.even; free = quiet.free }) (refl, refl, refl),
+        λ _. asking x (in_phase f phases.Negotiating) acts.Nothing (opening_negotiate x) refl (record { even = quiet.even; free = quiet.free; untold = quiet.untold }) (refl, refl, refl),
         λ n. absurd (true≢false (sym (eq-eqb code 2 answer.1) ∙ n)),
       )),
     ))
@@ -254,23 +267,32 @@ pub data Acknowledged (cfg : EndConfig) (f : Facts) (o : Outcome) : Type 0 where
   stands : o.next.connection.phase ≡ phases.Established → AllByRecursion (IsFlowing cfg) (said_all o.written) → Left o → Acknowledged cfg f o
   lost : IsSome o.ending → o.next ≡ f → AllByRecursion (IsFree cfg) (said_all o.written) → Left o → Acknowledged cfg f o
 
-pub ack_reply : (x : Around) (f : Facts) (theirs : EndConfig) (p : Piece) → Peer x.config theirs → f.connection.phase ≡ phases.Establishing → is_shaken f.connection.phase ≡ false → IsAck theirs p → is_newer x.config ≡ false
+pub ack_reply : (x : Around) (f : Facts) (theirs : EndConfig) (p : Piece) → Peer x.config theirs → f.connection.phase ≡ phases.Establishing → is_shaken f.connection.phase ≡ false → IsAck theirs p
     → Acknowledged x.config f (reply_of x f (incoming_of p))
-ack_reply x f theirs (said (establishment_ack id timestamp keepalive next expected)) are is before ack old =
+ack_reply x f theirs (said (establishment_ack id timestamp keepalive next expected)) are is before ack =
     open_before (Acknowledged x.config f) x f (session (establishment_ack id timestamp keepalive next expected)) before (heard (Acknowledged x.config f) x f (session (establishment_ack id timestamp keepalive next expected)) (
       foreign x id (ack.0 ∙ are.session),
       λ _. (decides_within (Acknowledged x.config f) (is_establishing f.connection.phase) (establishment_ack_rows x f keepalive next expected) (is_it_establishing f.connection.phase is)
           (announced_decides (Acknowledged x.config f) x f 5 next (reached x keepalive expected)
           (λ some. refused (announcement_fault x f 5 next) some (fault_left x f 5 next (λ n. ack.1 (ap (λ k. is_sequenced k) (sym are.flow) ∙ n))))
-          (subst (Acknowledged x.config f) (sym (reached_so x keepalive expected (announced x f next) old)) (standing (announced x f next) (min 60000 (max 100 keepalive)))))),
+          (standing (announced x f next)))),
     ))
   where
     refused : (v : Option Violation) → is_some v ≡ true → ((w : Violation) → v ≡ Some w → IsLeft w) → Acknowledged x.config f (refuses x f v)
     refused None some h = absurd (true≢false (sym some))
     refused (Some v) some h = lost refl refl (refl, tt) (λ w e. ended_by IsLeft (finishes_exchanged x f) v w e (h v refl))
 
-    standing : (a : Announced) (interval : ℕ) → Acknowledged x.config f (goes_on x (skip_of a.skipped) (told_skip a.skipped) (established a.facts interval))
-    standing a interval =
-        let g : Facts = established a.facts interval in
-        stands (asked_phase g (gap_to_ask g)) (asked_flows x (told_skip a.skipped) (gap_to_ask g) (skip_flows x.config a.skipped)) none_left
-ack_reply x f theirs _ are is before ack old = absurd ack
+    starts_flow : (a : Announced) → AllByRecursion (IsFlowing x.config) (said_all (told_return x a.facts expected))
+    starts_flow a = by_test (takes x a.facts expected && not (number_in expected == a.facts.recorded.sent + 1))
+      where
+        by_test : (b : Bool) → AllByRecursion (IsFlowing x.config) (said_all (if b then sequence (number_in expected) ∷ [] else []))
+        by_test true = (tt, tt)
+        by_test false = tt
+
+    standing : (a : Announced) → Acknowledged x.config f (reached x keepalive expected a)
+    standing a =
+        let g : Facts = established (returned x a.facts expected) (min 60000 (max 100 keepalive)) in
+        stands (asked_phase g (gap_to_ask g)) (asked_flows x (told_skip a.skipped ++ told_return x a.facts expected) (gap_to_ask g)
+        (subst (λ (ps : List Piece). AllByRecursion (IsFlowing x.config) ps) (sym (said_behind (told_skip a.skipped) (told_return x a.facts expected)))
+        (all_append (IsFlowing x.config) (said_all (told_skip a.skipped)) (said_all (told_return x a.facts expected)) (skip_flows x.config a.skipped) (starts_flow a)))) none_left
+ack_reply x f theirs _ are is before ack = absurd ack

@@ -1,5 +1,5 @@
 -- The phases of the two ends and what is under way between them, over any steps.
-use Rattle.std.proofs.Common.{◌≡◌, inl, inr, ℕ, ◌+◌, ◌≤◌, ◌&&◌, not, Bool, true, false, if◌then◌else◌, List, [], ◌∷◌, ◌++◌, Option, Some, None, refl, sym, ap, subst, ◌∙◌, arith, true≢false}
+use Rattle.std.proofs.Common.{◌≡◌, ◌⊎◌, inl, inr, ℕ, ◌+◌, ◌≤◌, ◌&&◌, not, Bool, true, false, if◌then◌else◌, List, [], ◌∷◌, ◌++◌, Option, Some, None, refl, sym, ap, subst, ◌∙◌, arith, true≢false}
 use Rattle.std.specs.Prelude.{is_some, IsSome}
 use Rattle.flow_retrans.specs.Requests.{is_coming}
 use Rattle.std.specs.List.{AllByRecursion}
@@ -24,7 +24,7 @@ use Rattle.fixp_replies.specs.Replies.{reply_of}
 use Rattle.fixp_replies.specs.Events.{Made, begun}
 use Rattle.fixp_machine.specs.Machine.{State, around, step, run}
 use Rattle.fixp_machine.proofs.Tests.{no_gap}
-use Rattle.connection_laws.specs.Writing.{Piece, said_all, WritesOwn, nothing, shakes, returns, resends}
+use Rattle.connection_laws.specs.Writing.{Piece, said, said_all, WritesOwn, nothing, shakes, returns, resends}
 use Rattle.connection_laws.specs.Standing.{IsOpen}
 use Rattle.connection_laws.proofs.Replied.{frame_writes}
 use Rattle.two_ends.specs.Reading.{incoming_of}
@@ -32,14 +32,16 @@ use Rattle.honest_ends.specs.PhaseLaws.{IsLeft, IsOfTime, PhasesHold}
 use Rattle.honest_ends.specs.Worlds.{World, Step, meets, initiator_reads, acceptor_reads, initiator_does, acceptor_does, written, after, initiator_read, acceptor_read, MayStep, world_after, AllMayStep, Match, Starts}
 use Rattle.honest_ends.proofs.Shapes.{IsFree, IsAsk, IsAnswer, OneAtMost, AckFirst, one_behind, one_before, ack_behind, ack_before, all_free_flow, free_flows}
 use Rattle.honest_ends.proofs.Replying.{Left, shaken_reply}
-use Rattle.honest_ends.proofs.Older.{older_initiator, older_acceptor}
-use Rattle.honest_ends.proofs.PhaseOpening.{Quiet, quiet_same, number_given, free_reply, Asked, answers, acknowledged, ask_reply, answer_reply, Acknowledged, stands, lost, ack_reply}
+use Rattle.honest_ends.proofs.PhaseOpening.{Quiet, quiet_same, number_given, newer_tells, free_reply, Asked, answers, acknowledged, ask_reply, answer_reply, Acknowledged, stands, lost, ack_reply}
 use Rattle.honest_ends.proofs.Asking.{asks, restarts, inside, coming, is_serving}
+use Rattle.honest_ends.proofs.Expecting.{Presents, Softens, marks}
 use Rattle.honest_ends.proofs.Serving.{Requests, asked_by_reader, asked_by_writer, free_for, served_by_writer, served_by_reader, serves_as}
 use Rattle.honest_ends.proofs.Finishing.{counts, total, sendings, answers as answer_count, waiting, reads, tells}
 use Rattle.honest_ends.proofs.Telling.{Awaits, read_by_reader, read_by_writer, due, told_by_writer, told_by_reader, tells_as}
 use Rattle.honest_ends.proofs.Moving.{reads_as, Does, does_as, ends_still, each_of_time}
-use Rattle.honest_ends.specs.Numbers.{IsFlowing, Peer, served}
+use Rattle.fixp_msgs.specs.Message.{establish}
+use Rattle.fixp_replies.specs.Expecting.{is_newer}
+use Rattle.honest_ends.specs.Numbers.{IsFlowing, Peer, ServesLater, served}
 
 -- How far the two ends are: the handshake is asked for or answered, or neither is under way; it is acknowledged; it is done; or the
 -- initiator has refused the acknowledgement. Facts of the initiator and its ending, those of the acceptor, and what is under way
@@ -69,6 +71,28 @@ pub record Holds (w : World) : Type 0 where
   pub homeward_finish : Awaits w.acceptor.facts w.initiator.facts w.homeward w.outward
   pub outward_requests : Requests w.initiator.facts w.acceptor.facts w.acceptor.ending w.outward w.homeward
   pub homeward_requests : Requests w.acceptor.facts w.initiator.facts w.initiator.ending w.homeward w.outward
+  pub newer : w.acceptor.facts.connection.soft ≡ true → is_newer w.initiator.config ≡ true
+
+-- what each end is before its handshake is done
+pub unshaken_not : (b : Bool) → b ≡ false → b ≡ true → ⊥
+unshaken_not b n h = true≢false (sym h ∙ n)
+
+pub initiator_quiet : (ci ca : EndConfig) (fi : Facts) (ei : Option Ending) (fa : Facts) (outward homeward : List Piece) → Shaking ci ca fi ei fa outward homeward → is_shaken fi.connection.phase ≡ false → Quiet fi
+initiator_quiet ci ca fi ei fa outward homeward (opens bi qi idle qa one free) h = qi
+initiator_quiet ci ca fi ei fa outward homeward (answering bi qi idle qa free one) h = qi
+initiator_quiet ci ca fi ei fa outward homeward (acknowledging e qi est free first) h = qi
+initiator_quiet ci ca fi ei fa outward homeward (standing shaken est out home) h = absurd (unshaken_not (is_shaken fi.connection.phase) h shaken)
+initiator_quiet ci ca fi ei fa outward homeward (refusing over bi qi est free) h = qi
+
+pub established_not : (p : Phase) → p ≡ phases.Established → is_shaken p ≡ false → ⊥
+established_not p e n = true≢false (sym (ap (λ k. is_shaken k) e) ∙ n)
+
+pub acceptor_quiet : (ci ca : EndConfig) (fi : Facts) (ei : Option Ending) (fa : Facts) (outward homeward : List Piece) → Shaking ci ca fi ei fa outward homeward → is_shaken fa.connection.phase ≡ false → Quiet fa
+acceptor_quiet ci ca fi ei fa outward homeward (opens bi qi idle qa one free) h = qa
+acceptor_quiet ci ca fi ei fa outward homeward (answering bi qi idle qa free one) h = qa
+acceptor_quiet ci ca fi ei fa outward homeward (acknowledging e qi est free first) h = absurd (established_not fa.connection.phase est h)
+acceptor_quiet ci ca fi ei fa outward homeward (standing shaken est out home) h = absurd (established_not fa.connection.phase est h)
+acceptor_quiet ci ca fi ei fa outward homeward (refusing over bi qi est free) h = absurd (established_not fa.connection.phase est h)
 
 pub to_acceptor : (i a : EndConfig) → Match i a → Peer a i
 to_acceptor i a m = record { session = sym m.session; flow = m.outward }
@@ -96,6 +120,31 @@ waits_for_client r p a b = ap (λ q. not (is_initiator q) && is_idle p) a ∙ ap
 unshaken : (p q : Phase) → p ≡ q → is_shaken q ≡ false → is_shaken p ≡ false
 unshaken p q e h = ap (λ r. is_shaken r) e ∙ h
 
+-- an Establish under way that tells of a number is an end's of version 1
+ask_newer : (ci : EndConfig) (ph : Phase) (p : Piece) → IsAsk ci ph p → Presents p → is_newer ci ≡ true
+ask_newer ci phases.Establishing (said (establish id timestamp keepalive next expected credentials)) ask told = ask.4 told
+ask_newer ci phases.Idle p ask told = absurd ask
+ask_newer ci phases.Negotiating (said (establish id timestamp keepalive next expected credentials)) ask told = absurd ask
+ask_newer ci phases.Negotiating _ ask told = absurd told
+ask_newer ci phases.Establishing _ ask told = absurd told
+ask_newer ci phases.Established p ask told = absurd ask
+ask_newer ci phases.Closing p ask told = absurd ask
+ask_newer ci phases.Ended p ask told = absurd ask
+
+free_untold : (ci : EndConfig) (p : Piece) → IsFree ci p → Presents p → ⊥
+free_untold ci (said (establish id timestamp keepalive next expected credentials)) free told = free
+free_untold ci _ free told = told
+
+softened_newer : (ci : EndConfig) (x : Around) (fi : Facts) (ei : Option Ending) (fa : Facts) (p : Piece) (left homeward : List Piece) → Shaking ci x.config fi ei fa (p ∷ left) homeward
+    → (fa.connection.soft ≡ true → is_newer ci ≡ true) → (fa.connection.soft ≡ true) ⊎ Softens x fa p → is_newer ci ≡ true
+softened_newer ci x fi ei fa p left homeward sh before (inl soft) = before soft
+softened_newer ci x fi ei fa p left homeward (opens bi qi idle qa (inl one) free) before (inr s) = ask_newer ci fi.connection.phase p one.0 s.2
+softened_newer ci x fi ei fa p left homeward (opens bi qi idle qa (inr more) free) before (inr s) = absurd (free_untold ci p more.0 s.2)
+softened_newer ci x fi ei fa p left homeward (answering bi qi idle qa free one) before (inr s) = absurd (free_untold ci p free.0 s.2)
+softened_newer ci x fi ei fa p left homeward (acknowledging e qi est free first) before (inr s) = absurd (free_untold ci p free.0 s.2)
+softened_newer ci x fi ei fa p left homeward (standing done est out home) before (inr s) = absurd (established_not fa.connection.phase est s.0)
+softened_newer ci x fi ei fa p left homeward (refusing over bi qi est free) before (inr s) = absurd (free_untold ci p free.0 s.2)
+
 -- The acceptor reads the first message under way to it
 abbrev Replied : EndConfig → Facts → Option Ending → List Piece → List Piece → EndConfig → Outcome → Type 0
 Replied ci fi ei left homeward ca o = Shaking ci ca fi ei o.next left (homeward ++ said_all o.written) × Left o
@@ -103,7 +152,7 @@ Replied ci fi ei left homeward ca o = Shaking ci ca fi ei o.next left (homeward 
 acceptor_hears : (ci : EndConfig) (fi : Facts) (ei : Option Ending) (x : Around) (fa : Facts) (p : Piece) (left homeward : List Piece) → Match ci x.config → answer_count p ≤ tells fa → (1 ≤ asks p → is_serving fa ≡ false)
     → Shaking ci x.config fi ei fa (p ∷ left) homeward → Replied ci fi ei left homeward x.config (reply_of x fa (incoming_of p))
 acceptor_hears ci fi ei x fa p left homeward m told unserved (opens bi qi idle qa (inl one) free) =
-    by_reply (ask_reply x fa ci fi.connection.phase p (to_acceptor ci x.config m) (sym m.credentials) m.keepalive (waits_for_client x.config.role fa.connection.phase m.accepts idle) (unshaken fa.connection.phase phases.Idle idle refl) qa one.0 (older_acceptor ci x.config m))
+    by_reply (ask_reply x fa ci fi.connection.phase p (to_acceptor ci x.config m) (sym m.credentials) m.keepalive (waits_for_client x.config.role fa.connection.phase m.accepts idle) (unshaken fa.connection.phase phases.Idle idle refl) qa one.0)
   where
     by_reply : Asked x.config fi.connection.phase fa (reply_of x fa (incoming_of p)) → Replied ci fi ei left homeward x.config (reply_of x fa (incoming_of p))
     by_reply (answers same quiet some l) = (answering bi qi (same ∙ idle) quiet one.1 (one_behind x.config (IsAnswer x.config fi.connection.phase) homeward _ free some), l)
@@ -128,7 +177,7 @@ acceptor_hears ci fi ei x fa p left homeward m told unserved (refusing over bi q
 abbrev Resolved : EndConfig → Facts → List Piece → List Piece → EndConfig → Outcome → Type 0
 Resolved ca fa outward left ci o = Shaking ci ca o.next o.ending fa (outward ++ said_all o.written) left × Left o
 
-no_ending : (e : Option Ending) → e ≡ None → IsSome e → ⊥
+pub no_ending : (e : Option Ending) → e ≡ None → IsSome e → ⊥
 no_ending None same h = true≢false (sym h)
 no_ending (Some a) same h = cc same
 
@@ -150,7 +199,7 @@ initiator_hears x fi ei ca fa p outward left m told unserved going (answering bi
       r.ends,
     )
 initiator_hears x fi ei ca fa p outward left m told unserved going (acknowledging e qi est free (inl first)) =
-    by_reply (ack_reply x fi ca p (to_initiator x.config ca m) e (unshaken fi.connection.phase phases.Establishing e refl) first.0 (older_initiator x.config ca m))
+    by_reply (ack_reply x fi ca p (to_initiator x.config ca m) e (unshaken fi.connection.phase phases.Establishing e refl) first.0)
   where
     by_reply : Acknowledged x.config fi (reply_of x fi (incoming_of p)) → Resolved ca fa outward left x.config (reply_of x fi (incoming_of p))
     by_reply (stands now w l) = (standing (ap (λ q. is_shaken q) now) est (all_append (IsFlowing x.config) outward _ (all_free_flow x.config outward free) w) first.1, l)
@@ -205,7 +254,7 @@ time_left = each_of_time IsLeft (λ last now. tt) (λ start now. tt)
 
 -- a connection begins
 quiet_beginning : (recorded : EndState) (p : Phase) → Quiet (connecting recorded p)
-quiet_beginning recorded p = record { even = no_gap recorded.inbox_next recorded.inbox_next refl; free = refl }
+quiet_beginning recorded p = record { even = no_gap recorded.inbox_next recorded.inbox_next refl; free = refl; untold = refl }
 
 abbrev pub begun_as : Around → EndState → (initiates negotiated : Bool) → Made
 begun_as x recorded initiates negotiated =
@@ -237,7 +286,7 @@ initiator_begins x recorded role = by_case (is_initiator x.config.role) recorded
     by_case true true e = record {
       before = refl;
       quiet = quiet_beginning recorded phases.Establishing;
-      asks = inl ((refl, refl, (λ n. number_given (is_sequenced x.config.own_flow) (recorded.sent + 1) n), refl), tt);
+      asks = inl ((refl, refl, (λ n. number_given (is_sequenced x.config.own_flow) (recorded.sent + 1) n), refl, newer_tells x (connecting recorded phases.Establishing)), tt);
       fresh = record { sends = refl; answers_none = refl; unread = refl; asks_none = refl; restarts_none = refl; stays = refl; none_coming = refl; none_served = refl };
     }
     by_case true false e = record { before = refl; quiet = quiet_beginning recorded phases.Negotiating; asks = inl ((refl, refl, refl), tt); fresh = record { sends = refl; answers_none = refl; unread = refl; asks_none = refl; restarts_none = refl; stays = refl; none_coming = refl; none_served = refl } }
@@ -247,13 +296,14 @@ record Waits (c : EndConfig) (m : Made) : Type 0 where
   idle : m.next.connection.phase ≡ phases.Idle
   quiet : Quiet m.next
   silent : AllByRecursion (IsFree c) (said_all m.written)
+  firm : m.next.connection.soft ≡ false
   fresh : Unfinished m
 
 acceptor_begins : (x : Around) (recorded : EndState) → is_initiator x.config.role ≡ false → Waits x.config (begun x recorded)
 acceptor_begins x recorded role = by_case (is_initiator x.config.role) recorded.negotiated role
   where
     by_case : (i n : Bool) → i ≡ false → Waits x.config (begun_as x recorded i n)
-    by_case false n e = record { idle = refl; quiet = quiet_beginning recorded phases.Idle; silent = tt; fresh = record { sends = refl; answers_none = refl; unread = refl; asks_none = refl; restarts_none = refl; stays = refl; none_coming = refl; none_served = refl } }
+    by_case false n e = record { idle = refl; quiet = quiet_beginning recorded phases.Idle; silent = tt; firm = refl; fresh = record { sends = refl; answers_none = refl; unread = refl; asks_none = refl; restarts_none = refl; stays = refl; none_coming = refl; none_served = refl } }
     by_case true n e = absurd (true≢false e)
 
 no_violation : (e : Option Ending) → e ≡ None → (v : Violation) → e ≡ Some (endings.Violation v) → IsLeft v
@@ -278,6 +328,7 @@ holds_meeting w now_i now_a h =
     let a = acceptor_begins (around w.acceptor 0 now_a) w.acceptor.facts.recorded (ap (λ r. is_initiator r) h.matches.accepts) in
     record {
       matches = h.matches;
+      newer = λ soft. absurd (true≢false (sym soft ∙ a.firm));
       initiator = record { serves = λ _. i.quiet.free; ends = no_violation None refl };
       acceptor = record { serves = λ _. a.quiet.free; ends = no_violation None refl };
       shaking = opens i.before i.quiet a.idle a.quiet i.asks a.silent;
@@ -303,21 +354,22 @@ initiator_reading w (p ∷ left) at now e h going =
     let home_asks = subst (λ (way : List Piece). Requests w.acceptor.facts s.facts s.ending way w.outward) e h.homeward_requests in
     let out_way = subst (λ (way : List Piece). Awaits s.facts w.acceptor.facts w.outward way) e h.outward_finish in
     let home_way = subst (λ (way : List Piece). Awaits w.acceptor.facts s.facts way w.outward) e h.homeward_finish in
-    let old = older_initiator s.config w.acceptor.config h.matches in
-    let c = counts (around s at now) s.facts p old in
+    let later : ServesLater s.config s.facts = λ _ before. (initiator_quiet s.config w.acceptor.config s.facts s.ending w.acceptor.facts w.outward w.homeward h.shaking before).free in
+    let c = counts (around s at now) s.facts p in
     let r = initiator_hears (around s at now) s.facts s.ending w.acceptor.config w.acceptor.facts p w.outward left h.matches (due s.facts w.acceptor.facts p w.outward left out_way) (free_for s.facts w.acceptor.facts w.acceptor.ending p w.outward left out_asks) going.going sh in
     let k = keeps_replying (around s at now) s.facts s.ending (incoming_of p) h.initiator r.1 in
     record {
       matches = subst (λ (c : EndConfig). Match c w.acceptor.config) (sym rd.config) h.matches;
+      newer = λ soft. ap is_newer rd.config ∙ h.newer soft;
       initiator = carried (λ c f g out. Keeps c f g) rd.config rd.facts rd.ending rd.writes k;
       acceptor = h.acceptor;
       shaking = carried (λ c f g out. Shaking c w.acceptor.config f g w.acceptor.facts (w.outward ++ out) left) rd.config rd.facts rd.ending rd.writes r.0;
       outward_finish = carried (λ c f g out. Awaits f w.acceptor.facts (w.outward ++ out) left) rd.config rd.facts rd.ending rd.writes (read_by_writer s.facts w.acceptor.facts p w.outward left o out_way c);
       homeward_finish = carried (λ c f g out. Awaits w.acceptor.facts f left (w.outward ++ out)) rd.config rd.facts rd.ending rd.writes (read_by_reader w.acceptor.facts s.facts p left w.outward o home_way c);
       outward_requests = carried (λ c f g out. Requests f w.acceptor.facts w.acceptor.ending (w.outward ++ out) left) rd.config rd.facts rd.ending rd.writes
-          (asked_by_writer (around s at now) s.facts w.acceptor.facts w.acceptor.ending p w.outward left old out_asks);
+          (asked_by_writer (around s at now) s.facts w.acceptor.facts w.acceptor.ending p w.outward left later out_asks);
       homeward_requests = carried (λ c f g out. Requests w.acceptor.facts f g left (w.outward ++ out)) rd.config rd.facts rd.ending rd.writes
-          (asked_by_reader w.acceptor.facts (around s at now) s.facts s.ending p left w.outward old going.going home_asks);
+          (asked_by_reader w.acceptor.facts (around s at now) s.facts s.ending p left w.outward later going.going home_asks);
     }
 
 pub acceptor_reading : (w : World) (way : List Piece) (at now : ℕ) → w.outward ≡ way → Holds w → IsOpen w.acceptor → Holds (acceptor_read w way at now)
@@ -331,21 +383,23 @@ acceptor_reading w (p ∷ left) at now e h going =
     let home_asks = subst (λ (way : List Piece). Requests s.facts w.initiator.facts w.initiator.ending w.homeward way) e h.homeward_requests in
     let out_way = subst (λ (way : List Piece). Awaits w.initiator.facts s.facts way w.homeward) e h.outward_finish in
     let home_way = subst (λ (way : List Piece). Awaits s.facts w.initiator.facts w.homeward way) e h.homeward_finish in
-    let old = older_acceptor w.initiator.config s.config h.matches in
-    let c = counts (around s at now) s.facts p old in
+    let later : ServesLater s.config s.facts = λ _ before. (acceptor_quiet w.initiator.config s.config w.initiator.facts w.initiator.ending s.facts w.outward w.homeward h.shaking before).free in
+    let c = counts (around s at now) s.facts p in
     let r = acceptor_hears w.initiator.config w.initiator.facts w.initiator.ending (around s at now) s.facts p left w.homeward h.matches (due s.facts w.initiator.facts p w.homeward left home_way) (free_for s.facts w.initiator.facts w.initiator.ending p w.homeward left home_asks) sh in
     let k = keeps_replying (around s at now) s.facts s.ending (incoming_of p) h.acceptor r.1 in
     record {
       matches = subst (λ (c : EndConfig). Match w.initiator.config c) (sym rd.config) h.matches;
+      newer = λ soft. softened_newer w.initiator.config (around s at now) w.initiator.facts w.initiator.ending s.facts p left w.homeward sh h.newer
+          ((marks (around s at now) s.facts p).soft (sym (ap (λ (f : Facts). f.connection.soft) rd.facts) ∙ soft));
       initiator = h.initiator;
       acceptor = carried (λ c f g out. Keeps c f g) rd.config rd.facts rd.ending rd.writes k;
       shaking = carried (λ c f g out. Shaking w.initiator.config c w.initiator.facts w.initiator.ending f left (w.homeward ++ out)) rd.config rd.facts rd.ending rd.writes r.0;
       outward_finish = carried (λ c f g out. Awaits w.initiator.facts f left (w.homeward ++ out)) rd.config rd.facts rd.ending rd.writes (read_by_reader w.initiator.facts s.facts p left w.homeward o out_way c);
       homeward_finish = carried (λ c f g out. Awaits f w.initiator.facts (w.homeward ++ out) left) rd.config rd.facts rd.ending rd.writes (read_by_writer s.facts w.initiator.facts p w.homeward left o home_way c);
       outward_requests = carried (λ c f g out. Requests w.initiator.facts f g left (w.homeward ++ out)) rd.config rd.facts rd.ending rd.writes
-          (asked_by_reader w.initiator.facts (around s at now) s.facts s.ending p left w.homeward old going.going out_asks);
+          (asked_by_reader w.initiator.facts (around s at now) s.facts s.ending p left w.homeward later going.going out_asks);
       homeward_requests = carried (λ c f g out. Requests f w.initiator.facts w.initiator.ending (w.homeward ++ out) left) rd.config rd.facts rd.ending rd.writes
-          (asked_by_writer (around s at now) s.facts w.initiator.facts w.initiator.ending p w.homeward left old home_asks);
+          (asked_by_writer (around s at now) s.facts w.initiator.facts w.initiator.ending p w.homeward left later home_asks);
     }
 
 pub holds_step : (hi ha : List Entry) (w : World) (step : Step) → Holds w → MayStep hi ha w step → Holds (after w step)
@@ -357,6 +411,7 @@ holds_step hi ha w (initiator_does call) h may =
     let t = run w.initiator (call ∷ []) in
     record {
       matches = subst (λ (c : EndConfig). Match c w.acceptor.config) (sym d.config) h.matches;
+      newer = λ soft. ap is_newer d.config ∙ h.newer soft;
       initiator = subst (λ (c : EndConfig). Keeps c t.facts t.ending) (sym d.config) (record { serves = λ n. d.serves n (h.initiator.serves n); ends = ends_still IsLeft w.initiator t d.ends time_left h.initiator.ends });
       acceptor = h.acceptor;
       shaking = subst (λ (c : EndConfig). Shaking c w.acceptor.config t.facts t.ending w.acceptor.facts (w.outward ++ written w.initiator (call ∷ [])) w.homeward) (sym d.config)
@@ -371,6 +426,7 @@ holds_step hi ha w (acceptor_does call) h may =
     let t = run w.acceptor (call ∷ []) in
     record {
       matches = subst (λ (c : EndConfig). Match w.initiator.config c) (sym d.config) h.matches;
+      newer = λ soft. h.newer (sym (serves_as ha w.acceptor call may.0 may.1).soft ∙ soft);
       initiator = h.initiator;
       acceptor = subst (λ (c : EndConfig). Keeps c t.facts t.ending) (sym d.config) (record { serves = λ n. d.serves n (h.acceptor.serves n); ends = ends_still IsLeft w.acceptor t d.ends time_left h.acceptor.ends });
       shaking = subst (λ (c : EndConfig). Shaking w.initiator.config c w.initiator.facts w.initiator.ending t.facts w.outward (w.homeward ++ written w.acceptor (call ∷ []))) (sym d.config)
@@ -401,6 +457,7 @@ holds_at_first w st =
     let qa = quiet_same (connecting w.acceptor.facts.recorded phases.Idle) w.acceptor.facts fa (quiet_beginning w.acceptor.facts.recorded phases.Idle) in
     record {
       matches = st.matches;
+      newer = λ soft. absurd (true≢false (sym soft ∙ ap (λ c. c.soft) fa));
       initiator = record { serves = λ _. qi.free; ends = no_violation w.initiator.ending (ap (λ (s : State). s.ending) st.initiator) };
       acceptor = record { serves = λ _. qa.free; ends = no_violation w.acceptor.ending (ap (λ (s : State). s.ending) st.acceptor) };
       shaking = opens (ap (λ c. is_shaken c.phase) fi) qi (ap (λ c. c.phase) fa) qa

@@ -1,7 +1,7 @@
 -- The laws of two ends at rest.
-use Rattle.std.proofs.Common.{◌≡◌, inl, inr, ℕ, ◌+◌, ◌≤◌, ◌&&◌, ◌||◌, Bool, true, false, if◌then◌else◌, List, [], ◌++◌, length, Option, Some, None, refl, sym, ap, subst, ◌∙◌, arith, append-nil, length-append, true≢false}
-use Rattle.std.specs.Prelude.{is_some, is_none, IfSome}
-use Rattle.std.proofs.lemmas.Bool.{and_parts}
+use Rattle.std.proofs.Common.{◌≡◌, inl, inr, ℕ, ◌+◌, ◌≤◌, ◌&&◌, ◌||◌, nat_lt, Bool, true, false, if◌then◌else◌, List, [], ◌++◌, length, Option, Some, None, refl, sym, ap, subst, ◌∙◌, arith, append-nil, length-append, true≢false}
+use Rattle.std.specs.Prelude.{is_some, IfSome}
+use Rattle.std.proofs.lemmas.Bool.{ltb-false, and_parts}
 use Rattle.std.proofs.lemmas.List.{length-map, nil_from_length}
 use Rattle.session_model.specs.Journal.{Entry}
 use Rattle.session_model.specs.Inbox.{applied, payloads_of}
@@ -21,10 +21,10 @@ use Rattle.fixp_machine.specs.Machine.{State, around, fresh}
 use Rattle.fixp_machine.proofs.Tests.{no_gap}
 use Rattle.fixp_machine.proofs.Tests.{is_done}
 use Rattle.connection_laws.specs.Writing.{Piece}
-use Rattle.honest_ends.specs.Numbers.{Awaited, exactly, Allows, Runs, served, to_come}
+use Rattle.honest_ends.specs.Numbers.{Awaited, exactly, IsAt, Runs, served, to_come, goes_softly}
 use Rattle.honest_ends.specs.Worlds.{World, Step, world_after, AllMayStep}
 use Rattle.honest_ends.specs.Knowing.{StartsKnown}
-use Rattle.honest_ends.specs.Numbered.{Expects, Follows, awaits, awaited, next_live}
+use Rattle.honest_ends.specs.Numbered.{Expects, Follows, ReturnsFirst, awaits, awaited, next_live}
 use Rattle.honest_ends.proofs.Awaiting.{awaited_then, live_is, inbox_of}
 use Rattle.honest_ends.proofs.Numbering.{counted_at_first, counted_after, numbered_of}
 use Rattle.honest_ends.specs.Finished.{IsLast, Tells}
@@ -32,22 +32,14 @@ use Rattle.honest_ends.proofs.Behind.{open_not_closing}
 use Rattle.honest_ends.proofs.FinishLaws.{finished_holds}
 use Rattle.honest_ends.specs.Resting.{IsIdle, HasAll, EndsLast}
 use Rattle.honest_ends.specs.RestLaws.{QuietHasAll, OverHasAll, RestHasAll, StaysEnded, AllIsEqual}
-use Rattle.honest_ends.proofs.Settling.{Ends, no_gap_live}
-use Rattle.honest_ends.proofs.RestStepping.{keep_after}
+use Rattle.honest_ends.proofs.Returning.{no_gap_live}
+use Rattle.honest_ends.proofs.Serving.{by_bool}
+use Rattle.honest_ends.proofs.Settling.{Ends}
+use Rattle.honest_ends.proofs.RestStepping.{first_ends, past_last, keep_after}
 
--- a machine that is fresh has no gap, and has exchanged no finish
+-- a machine that is fresh has no gap
 first_gap : (s : State) → s ≡ fresh s.config s.facts.recorded s.most → gap_to_ask s.facts ≡ None
 first_gap s new = ap (λ (t : State). gap_to_ask t.facts) new ∙ no_gap s.facts.recorded.inbox_next s.facts.recorded.inbox_next refl
-
-first_ends : (s : State) → s ≡ fresh s.config s.facts.recorded s.most → EndsLast s → Ends s.config.peer_flow s.facts
-first_ends s new last = record {
-  reached = λ numbered. below s.facts.recorded.peer_last (last numbered);
-  recorded = λ t. absurd (true≢false (sym t ∙ ap (λ (k : State). peer_is_exchanged k.facts.connection.peer_finish) new));
-}
-  where
-    below : (o : Option ℕ) → IfSome o (λ n. s.facts.recorded.inbox_next ≡ n + 1) → IfSome o (λ n. n + 1 ≤ s.facts.recorded.inbox_next)
-    below None h = tt
-    below (Some n) h = omega (arith, h)
 
 -- where nothing is asked for, a gap would be to be asked for
 unasked_gap : (f : Facts) → f.connection.soft ≡ false → f.connection.requester ≡ requests.Nothing → gap_to_ask f ≡ None → receiver_is.gap f.connection.receiver ≡ None
@@ -55,9 +47,8 @@ unasked_gap f firm e none = subst (λ (q : Request). (if is_some (outstanding q)
     (subst (λ (b : Bool). (if b || is_some (outstanding f.connection.requester) then None else receiver_is.gap f.connection.receiver) ≡ None) firm none)
 
 -- one flow whose reader is idle, where nothing is under way to it
-quiet_one : (own h : List Entry) (writer reader : State) (way back : List Piece) → Follows h writer reader way back → way ≡ [] → writer.facts.recorded.sent ≡ length h → IsIdle own reader
-    → reader.facts.connection.soft ≡ false → gap_to_ask reader.facts ≡ None → HasAll h reader
-quiet_one own h writer reader way back follows none sent idle firm gap numbered = by_flow (is_recoverable reader.config.peer_flow) refl
+quiet_one : (own h : List Entry) (writer reader : State) (way back : List Piece) → Follows h writer reader way back → way ≡ [] → IsIdle h writer → IsIdle own reader → gap_to_ask reader.facts ≡ None → HasAll h reader
+quiet_one own h writer reader way back follows none sends idle gap numbered = by_flow (is_recoverable reader.config.peer_flow) refl
   where
     f : Facts
     f = reader.facts
@@ -65,22 +56,34 @@ quiet_one own h writer reader way back follows none sent idle firm gap numbered 
     k : ℕ
     k = writer.facts.recorded.sent + 1
 
-    exact : awaited reader.config f ≡ exactly (next_live reader.config f)
-    exact = awaited_then reader.config f (is_done f.connection.phase idle.established) ∙ ap (λ b. awaits b (next_live reader.config f)) numbered
+    sent : writer.facts.recorded.sent ≡ length h
+    sent = sends.sent
 
     expects : Expects writer reader way back
     expects = follows.expects idle.going (open_not_closing f.connection.phase idle.established)
 
+    never_soft : goes_softly f ≡ false
+    never_soft = by_bool (goes_softly f ≡ false) (goes_softly f)
+        (λ soft. absurd (subst (λ (ps : List Piece). ReturnsFirst f.connection.receiver.next ps) none (expects.restarts soft (is_done writer.facts.connection.phase sends.established)))) (λ e. e)
+
+    exact : awaited reader.config f ≡ exactly (next_live reader.config f)
+    exact = awaited_then reader.config f never_soft (is_done f.connection.phase idle.established) ∙ ap (λ b. awaits b (next_live reader.config f)) numbered
+
     live : next_live reader.config f ≡ k
-    live = subst (λ (a : Awaited). Allows a k) exact
+    live = subst (λ (a : Awaited). IsAt a k) exact
         (subst (λ (ps : List Piece). Runs writer.config.own_flow (awaited reader.config f) (to_come f.connection.requester) ps k (served writer.facts.connection.serving)) none expects.runs).0
+
+    reached : f.connection.receiver.live ≤ f.connection.receiver.next
+    reached = by_bool (f.connection.receiver.live ≤ f.connection.receiver.next) f.connection.soft
+        (λ soft. ltb-false f.connection.receiver.next f.connection.receiver.live (sym (ap (λ b. b && nat_lt f.connection.receiver.next f.connection.receiver.live) soft) ∙ never_soft))
+        (λ firm. no_gap_live f.connection.receiver (unasked_gap f firm idle.unasked gap))
 
     by_flow : (r : Bool) → is_recoverable reader.config.peer_flow ≡ r → f.recorded.inbox_next ≡ length h + 1
     by_flow true rec =
         let line = expects.line rec in
         let waits = line.waits in
         let low = line.low in
-        let high = no_gap_live f.connection.receiver (unasked_gap f firm idle.unasked gap) in
+        let high = reached in
         let is = live_is reader.config f rec in
         let all = live in
         omega (arith, waits, low, high, is, all, sent)
@@ -95,10 +98,8 @@ quiet_has_all hi ha w steps known may quiet =
     let now = world_after w steps in
     let numbers = numbered_of hi ha now (counted_after hi ha w steps n may) in
     let keeps = keep_after hi ha w steps n may in (
-      quiet_one hi ha now.acceptor now.initiator now.homeward now.outward numbers.homeward quiet.homeward quiet.acceptor.sent quiet.initiator
-          (keeps.initiator.firm (ap (λ (s : State). s.facts.connection.soft) known.0.initiator)) (keeps.initiator.asked (λ _. first_gap w.initiator known.0.initiator) quiet.initiator.going),
-      quiet_one ha hi now.initiator now.acceptor now.outward now.homeward numbers.outward quiet.outward quiet.initiator.sent quiet.acceptor
-          (keeps.acceptor.firm (ap (λ (s : State). s.facts.connection.soft) known.0.acceptor)) (keeps.acceptor.asked (λ _. first_gap w.acceptor known.0.acceptor) quiet.acceptor.going),
+      quiet_one hi ha now.acceptor now.initiator now.homeward now.outward numbers.homeward quiet.homeward quiet.acceptor quiet.initiator (keeps.initiator.asked (λ _. first_gap w.initiator known.0.initiator) quiet.initiator.going),
+      quiet_one ha hi now.initiator now.acceptor now.outward now.homeward numbers.outward quiet.outward quiet.initiator quiet.acceptor (keeps.acceptor.asked (λ _. first_gap w.acceptor known.0.acceptor) quiet.acceptor.going),
     )
 
 -- what holds of one flow, where a finish that was recorded at first came behind all of it
@@ -117,8 +118,8 @@ both_read hi ha w steps known ended_i ended_a may =
     let numbers = numbered_of hi ha (world_after w steps) counted in
     let finishes = finished_holds hi ha w steps known may in
     let keeps = keep_after hi ha w steps n may in (
-      record { flow = counted.holds.matches.homeward; follows = numbers.homeward; tells = finishes.homeward; ends = keeps.initiator.ends (first_ends w.initiator known.0.initiator ended_i) },
-      record { flow = counted.holds.matches.outward; follows = numbers.outward; tells = finishes.outward; ends = keeps.acceptor.ends (first_ends w.acceptor known.0.acceptor ended_a) },
+      record { flow = counted.holds.matches.homeward; follows = numbers.homeward; tells = finishes.homeward; ends = keeps.initiator.ends (first_ends w.initiator known.0.initiator (λ numbered. past_last w.initiator.facts.recorded.inbox_next w.initiator.facts.recorded.peer_last (ended_i numbered))) },
+      record { flow = counted.holds.matches.outward; follows = numbers.outward; tells = finishes.outward; ends = keeps.acceptor.ends (first_ends w.acceptor known.0.acceptor (λ numbered. past_last w.acceptor.facts.recorded.inbox_next w.acceptor.facts.recorded.peer_last (ended_a numbered))) },
     )
 
 -- where its reader has recorded a finish, its inbox awaits one past all of it, and the last number is that of its last entry

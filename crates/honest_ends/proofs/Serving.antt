@@ -25,12 +25,11 @@ use Rattle.two_ends.proofs.Refused.{closing_is_deaf}
 use Rattle.connection_laws.specs.Standing.{MayStand}
 use Rattle.connection_laws.proofs.Owned.{entries_reach}
 use Rattle.honest_ends.specs.Worlds.{written, IsOther}
-use Rattle.fixp_replies.specs.Expecting.{is_newer}
 use Rattle.honest_ends.proofs.Finishing.{total, total_append}
 use Rattle.honest_ends.proofs.Asking.{asks, restarts, turns, inside, unanswered_of, unanswered, coming, is_serving, Asks, asks_of, closing_asks, at_most_one}
 use Rattle.honest_ends.proofs.Running.{runs_append, live_run, again_run}
 use Rattle.honest_ends.proofs.Moving.{turned, told}
-use Rattle.honest_ends.specs.Numbers.{exactly, Allows, IsWhole, Runs, RunsBetween, served}
+use Rattle.honest_ends.specs.Numbers.{exactly, Allows, IsWhole, Runs, RunsBetween, ServesLater, served}
 
 -- A reader's request is under way on the way back, or its answer to the reader, or neither: at most where it is yet. As long as it is under
 -- way the writer serves nothing. And where the reader goes on, a retransmission comes in to it behind what is under way exactly where the
@@ -65,15 +64,15 @@ by_bool P true t f = t refl
 by_bool P false t f = f refl
 
 -- the reader replies to a message
-pub asked_by_reader : (writer : Facts) (x : Around) (reader : Facts) (over : Option Ending) (p : Piece) (left back : List Piece) → is_newer x.config ≡ false → over ≡ None → Requests writer reader over (p ∷ left) back
+pub asked_by_reader : (writer : Facts) (x : Around) (reader : Facts) (over : Option Ending) (p : Piece) (left back : List Piece) → ServesLater x.config reader → over ≡ None → Requests writer reader over (p ∷ left) back
     → Requests writer (reply_of x reader (incoming_of p)).next (reply_of x reader (incoming_of p)).ending left (back ++ said_all (reply_of x reader (incoming_of p)).written)
-asked_by_reader writer x reader over p left back old goes a = record { once = once; free = free; even = even }
+asked_by_reader writer x reader over p left back later goes a = record { once = once; free = free; even = even }
   where
     o : Outcome
     o = reply_of x reader (incoming_of p)
 
     c : Asks x reader (asks p) (restarts p) (turns p) o
-    c = asks_of x reader p old
+    c = asks_of x reader p later
 
     more : total asks (back ++ said_all o.written) ≡ total asks back + total asks (said_all o.written)
     more = total_append asks back (said_all o.written)
@@ -112,11 +111,11 @@ pub free_for : (writer reader : Facts) (over : Option Ending) (p : Piece) (way l
 free_for writer reader over p way left a some = a.free (omega (arith, some))
 
 -- the writer replies to a message that came back
-pub asked_by_writer : (x : Around) (writer reader : Facts) (over : Option Ending) (p : Piece) (way left : List Piece) → is_newer x.config ≡ false → Requests writer reader over way (p ∷ left)
+pub asked_by_writer : (x : Around) (writer reader : Facts) (over : Option Ending) (p : Piece) (way left : List Piece) → ServesLater x.config writer → Requests writer reader over way (p ∷ left)
     → Requests (reply_of x writer (incoming_of p)).next reader over (way ++ said_all (reply_of x writer (incoming_of p)).written) left
-asked_by_writer x writer reader over p way left old a =
+asked_by_writer x writer reader over p way left later a =
     let o : Outcome = reply_of x writer (incoming_of p) in
-    let c = asks_of x writer p old in
+    let c = asks_of x writer p later in
     let e = total_append restarts way (said_all o.written) in
     let once = a.once in
     let resent = c.resent in

@@ -1,12 +1,11 @@
 -- How a reply leaves an end, row by row: a gap is asked for at once, and what is recorded of a finish comes behind all of its flow.
-use Rattle.std.proofs.Common.{◌||◌, ◌≡◌, ℕ, ◌+◌, ◌-◌, ◌≤◌, ◌==◌, ◌&&◌, min, max, nat_lt, not, Bool, true, false, if◌then◌else◌, List, [], ◌∷◌, Option, Some, None, refl, sym, subst, ◌∙◌, arith, true≢false, eqb-true}
+use Rattle.std.proofs.Common.{◌||◌, ◌≡◌, ℕ, ◌+◌, ◌-◌, ◌≤◌, ◌==◌, ◌&&◌, min, max, not, Bool, true, false, if◌then◌else◌, List, [], ◌∷◌, ◌++◌, Option, Some, None, refl, sym, subst, ◌∙◌, arith, true≢false, eqb-true}
 use Rattle.std.specs.Prelude.{is_some, is_none, unwrap_or, IfSome, Result, Ok, Err}
-use Rattle.std.proofs.lemmas.Bool.{ltb-false, and_parts}
+use Rattle.std.proofs.lemmas.Bool.{and_parts}
 use Rattle.fixp_msgs.specs.declared.numbering.Range.{Range}
 use Rattle.fixp_msgs.specs.declared.flow.Flow.{Flow}
 use Rattle.fixp_msgs.specs.Flow.{flow_code}
 use Rattle.fixp_msgs.specs.declared.messages.Expected.{Expected}
-use Rattle.fixp_msgs.specs.declared.messages.Expected.TheVariants as expects
 use Rattle.fixp_msgs.specs.Message.{Message, negotiate, negotiation_response, negotiation_reject, establish, establishment_ack, establishment_reject, sequence, unsequenced_heartbeat, retransmit_request, retransmission, retransmit_reject, applied, not_applied, finished_sending, finished_receiving, terminate}
 use Rattle.flow_recover.specs.declared.receiver.Seen.{Seen}
 use Rattle.flow_recover.specs.declared.receiver.Seen.TheVariants.{Deliver, Gap, Repeat}
@@ -33,12 +32,13 @@ use Rattle.fixp_replies.specs.Incoming.{Incoming, application, session, wrong_or
 use Rattle.fixp_replies.specs.Facts.{Around, is_own, in_phase, receiving, requesting, firm, serves, negotiated as as_negotiated, awaiting, gap_to_ask, having_asked, live_number, peer_last, last_among, awaits_gap, announced_number, peer_is_exchanged}
 use Rattle.fixp_replies.specs.Outcomes.{Outcome, Row, row, within, goes_on, accepts, rejects, ignores, ends_with, ends, breaks, not_in_phase, skip_of, told_skip, opening_negotiate, opening_establish}
 use Rattle.fixp_replies.specs.Announcing.{Announced, jumped_over, announced, announcement_fault, refuses}
-use Rattle.fixp_replies.specs.Handshake.{awaits_client, serves_client, established, acknowledges, establish_rows, established_again_rows, establish_rows_in, shaken, reached}
+use Rattle.fixp_replies.specs.Handshake.{awaits_client, serves_client, established, acknowledged_by, acknowledges, establish_rows, established_again_rows, establish_rows_in, shaken, reached}
 use Rattle.fixp_replies.specs.Flowing.{bad_retransmission, counted, taken_as, finish_act, peer_finished, answers_finish, is_filled, is_past_finish, sequence_follows, sequence_taken, restarted, finished_last, finish_fault, finished, is_last}
 use Rattle.fixp_replies.specs.Serving.{request_answered, own_finishing}
 use Rattle.fixp_replies.specs.Replies.{of_session, reply_of, rows_of, terminates, template_of, answer_of}
-use Rattle.fixp_replies.specs.Expecting.{is_newer}
-use Rattle.honest_ends.proofs.Older.{acknowledges_so, reached_so}
+use Rattle.fixp_replies.specs.Expecting.{number_in, answers_next, softened}
+use Rattle.fixp_machine.proofs.Expecting.{returned_if}
+use Rattle.honest_ends.proofs.Returning.{by_taking, by_reaching, starting, reaching, no_gap_live}
 use Rattle.fixp_machine.proofs.Rows.{AllRows, by_row, all_rows, all_within, announced_rows, own_rows}
 use Rattle.fixp_machine.proofs.Tests.{not_true, some-none, delivers}
 use Rattle.fixp_machine.proofs.Keeping.{in_bounds, or_right, expected_as}
@@ -56,22 +56,10 @@ Ends flow f = Ended (is_sequenced flow) f.recorded.peer_last f.recorded.inbox_ne
 abbrev pub Waits : Flow → Facts → Type 0
 Waits flow f = is_recoverable flow ≡ true → f.connection.receiver.next ≡ f.recorded.inbox_next
 
--- what an outcome keeps: where the connection goes on, no gap is left to be asked for, and it does not become soft
+-- what an outcome keeps: where the connection goes on, no gap is left to be asked for
 pub record Settles (x : Around) (f : Facts) (o : Outcome) : Type 0 where
   pub asked : gap_to_ask f ≡ None → o.ending ≡ None → gap_to_ask o.next ≡ None
   pub ends : Waits x.config.peer_flow f → Ends x.config.peer_flow f → Ends x.config.peer_flow o.next
-  pub firm : f.connection.soft ≡ false → o.next.connection.soft ≡ false
-
--- a receiver with no gap has come to the live number
-pub no_gap_live : (r : Receiving) → receiver_is.gap r ≡ None → r.live ≤ r.next
-no_gap_live r e = by_test (nat_lt r.next r.live) refl e
-  where
-    missing : Range
-    missing = record { from = r.next; count = r.live - r.next }
-
-    by_test : (b : Bool) → nat_lt r.next r.live ≡ b → (if b then Some missing else None) ≡ None → r.live ≤ r.next
-    by_test true t e = absurd cc
-    by_test false t e = ltb-false r.next r.live t
 
 rise : (t : Bool) (l : Option ℕ) (a b : ℕ) (q : PeerFinish) → a ≤ b → Ended t l a q → Ended t l b q
 rise t l a b q h e = record { reached = λ s. more l (e.reached s); recorded = e.recorded }
@@ -96,37 +84,32 @@ having_ends : (flow : Flow) (g : Facts) (r : Option Range) → Ends flow g → E
 having_ends flow g None e = e
 having_ends flow g (Some r) e = e
 
-having_soft : (g : Facts) (r : Option Range) → (having_asked g r).connection.soft ≡ g.connection.soft
-having_soft g None = refl
-having_soft g (Some r) = refl
-
 -- the connection goes on
-going : (x : Around) (f g : Facts) (act : Act) (written : List Message) → (f.connection.soft ≡ false → g.connection.soft ≡ false)
+going : (x : Around) (f g : Facts) (act : Act) (written : List Message)
     → (Waits x.config.peer_flow f → Ends x.config.peer_flow f → Ends x.config.peer_flow g) → Settles x f (goes_on x act written g)
-going x f g act written s h = record {
+going x f g act written h = record {
   asked = λ _ _. asked_once g;
   ends = λ w e. having_ends x.config.peer_flow g (gap_to_ask g) (h w e);
-  firm = λ e. having_soft g (gap_to_ask g) ∙ s e;
 }
 
 -- it stays as it was
 staying : (x : Around) (f : Facts) (written : List Message) → Settles x f (rejects written f)
-staying x f written = record { asked = λ a _. a; ends = λ _ e. e; firm = λ s. s }
+staying x f written = record { asked = λ a _. a; ends = λ _ e. e }
 
 -- it ends
-ending : (x : Around) (f g : Facts) (code : ℕ) (e : Ending) → (Ends x.config.peer_flow f → Ends x.config.peer_flow g) → (f.connection.soft ≡ false → g.connection.soft ≡ false) → Settles x f (ends x g code e)
-ending x f g code e h s = record { asked = λ _ over. absurd cc; ends = λ _ k. h k; firm = s }
+ending : (x : Around) (f g : Facts) (code : ℕ) (e : Ending) → (Ends x.config.peer_flow f → Ends x.config.peer_flow g) → Settles x f (ends x g code e)
+ending x f g code e h = record { asked = λ _ over. absurd cc; ends = λ _ k. h k }
 
 rejecting : (x : Around) (f : Facts) (e : Ending) → Settles x f (ends_with x f [] e)
-rejecting x f e = record { asked = λ _ over. absurd cc; ends = λ _ k. k; firm = λ s. s }
+rejecting x f e = record { asked = λ _ over. absurd cc; ends = λ _ k. k }
 
 bad : (x : Around) (f : Facts) (b : Option BadStart) → Settles x f (bad_retransmission x f b)
 bad x f None = staying x f []
-bad x f (Some b) = ending x f f 2 _ (λ k. k) (λ s. s)
+bad x f (Some b) = ending x f f 2 _ (λ k. k)
 
 refusing : (x : Around) (f : Facts) (v : Option Violation) → Settles x f (refuses x f v)
 refusing x f None = staying x f []
-refusing x f (Some v) = ending x f f 2 _ (λ k. k) (λ s. s)
+refusing x f (Some v) = ending x f f 2 _ (λ k. k)
 
 -- what an announcement makes of a recoverable flow, of an idempotent one, and of another
 by_announced : (P : Announced → Type 0) (x : Around) (f : Facts) (next : Option ℕ)
@@ -146,9 +129,6 @@ by_announced P x f next waits jumps stays = by_flow (is_recoverable x.config.pee
     by_flow false true rec idem = jumps rec idem
     by_flow false false rec idem = stays rec idem
 
-announced_firm : (x : Around) (f : Facts) (next : Option ℕ) → f.connection.soft ≡ false → (announced x f next).facts.connection.soft ≡ false
-announced_firm x f next s = by_announced (λ a. a.facts.connection.soft ≡ false) x f next (λ _. refl) (λ _ _. s) (λ _ _. s)
-
 -- it never takes the inbox back
 announced_ends : (x : Around) (f : Facts) (t : ℕ) (next : Option ℕ) → announcement_fault x f t next ≡ None → Ends x.config.peer_flow f → Ends x.config.peer_flow (announced x f next).facts
 announced_ends x f t next none e = by_announced (λ a. Ends x.config.peer_flow a.facts) x f next (λ _. e)
@@ -159,19 +139,19 @@ announced_ends x f t next none e = by_announced (λ a. Ends x.config.peer_flow a
 
 -- a message of a recoverable flow
 taking : (x : Around) (f : Facts) (s : Seen) → is_recoverable x.config.peer_flow ≡ true → receiver_is.seen f.connection.receiver ≡ s → Settles x f (taken_as x (counted f) s)
-taking x f (Deliver n) rec is = going x f (awaiting (counted f) (n + 1)) (acts.Apply n) [] (λ _. refl) (λ w e.
+taking x f (Deliver n) rec is = going x f (awaiting (counted f) (n + 1)) (acts.Apply n) [] (λ w e.
     let d = delivers f.connection.receiver.next (receiver_is.number f.connection.receiver) n is in
     let d0 = d.0 in
     let d1 = d.1 in
     let waits = w rec in
     rise (is_sequenced x.config.peer_flow) f.recorded.peer_last f.recorded.inbox_next (n + 1) f.connection.peer_finish (omega (arith, d0, d1, waits)) e)
-taking x f (Gap n) rec is = going x f (counted f) acts.Nothing [] (λ _. refl) (λ _ e. e)
-taking x f (Repeat n) rec is = going x f (counted f) acts.Nothing [] (λ _. refl) (λ _ e. e)
+taking x f (Gap n) rec is = going x f (counted f) acts.Nothing [] (λ _ e. e)
+taking x f (Repeat n) rec is = going x f (counted f) acts.Nothing [] (λ _ e. e)
 
 -- the finish is answered where the inbox has come past its last number
-answering : (x : Around) (f g : Facts) (last : ℕ) → (f.connection.soft ≡ false → g.connection.soft ≡ false) → (Waits x.config.peer_flow f → Ends x.config.peer_flow f → Ends x.config.peer_flow g)
+answering : (x : Around) (f g : Facts) (last : ℕ) → (Waits x.config.peer_flow f → Ends x.config.peer_flow f → Ends x.config.peer_flow g)
     → (Waits x.config.peer_flow f → is_sequenced x.config.peer_flow ≡ true → last + 1 ≤ g.recorded.inbox_next) → Settles x f (answers_finish x g last)
-answering x f g last s h past = going x f (peer_finished g (peer.Exchanged last) (Some (unwrap_or g.recorded.peer_last last))) (finish_act g.recorded.peer_last last) (finished_receiving x.config.session ∷ []) s (λ w e. let k = h w e in
+answering x f g last h past = going x f (peer_finished g (peer.Exchanged last) (Some (unwrap_or g.recorded.peer_last last))) (finish_act g.recorded.peer_last last) (finished_receiving x.config.session ∷ []) (λ w e. let k = h w e in
     record { reached = λ t. recorded_as g.recorded.peer_last (k.reached t) (past w t); recorded = λ _. refl })
   where
     recorded_as : (l : Option ℕ) → IfSome l (λ n. n + 1 ≤ g.recorded.inbox_next) → last + 1 ≤ g.recorded.inbox_next → unwrap_or l last + 1 ≤ g.recorded.inbox_next
@@ -204,8 +184,8 @@ finishing : (x : Around) (f : Facts) (last : Option ℕ) → is_some (finish_fau
 finishing x f last none =
     let n = finished_last x last in
     by_row (Settles x f) (is_some (receiver_is.gap f.connection.receiver)) (accepts x [] (peer_finished f (peer.Read n) f.recorded.peer_last)) (answers_finish x f n)
-    (λ _. going x f (peer_finished f (peer.Read n) f.recorded.peer_last) acts.Nothing [] (λ s. s) (λ _ e. record { reached = e.reached; recorded = λ t. absurd (true≢false (sym t)) }))
-    (λ whole. answering x f f n (λ s. s) (λ _ e. e) (λ w s. let is = last_is_live x f last none s in let low = live_reached x f (some-none (receiver_is.gap f.connection.receiver) whole) w in omega (arith, is, low)))
+    (λ _. going x f (peer_finished f (peer.Read n) f.recorded.peer_last) acts.Nothing [] (λ _ e. record { reached = e.reached; recorded = λ t. absurd (true≢false (sym t)) }))
+    (λ whole. answering x f f n (λ _ e. e) (λ w s. let is = last_is_live x f last none s in let low = live_reached x f (some-none (receiver_is.gap f.connection.receiver) whole) w in omega (arith, is, low)))
 
 -- a Sequence that is not past a finish which waits announces the number behind its last one
 not_past : (s : Bool) (recorded : Option ℕ) (q : PeerFinish) (next : ℕ) → s ≡ true → is_some (awaits_gap q) ≡ true
@@ -245,34 +225,37 @@ following x f next none =
     let g = behind f in
     let a = announced x g (Some next) in
     by_row (Settles x f) (is_past_finish x g next) (breaks x g (AfterFinish (unwrap_or (peer_last g) 0) next)) (sequence_taken x a)
-    (λ _. ending x f g 2 _ (λ k. k) (λ s. s))
+    (λ _. ending x f g 2 _ (λ k. k))
     (λ early. by_row (Settles x f) (is_filled a.facts) (answers_finish x a.facts (unwrap_or (awaits_gap a.facts.connection.peer_finish) 0)) (goes_on x (skip_of a.skipped) (told_skip a.skipped) a.facts)
-    (λ filled. answering x f a.facts (unwrap_or (awaits_gap a.facts.connection.peer_finish) 0) (λ s. announced_firm x g (Some next) s) (λ _ e. announced_ends x g 7 (Some next) none e) (λ w s. filled_past x g next w early s filled))
-    (λ _. going x f a.facts (skip_of a.skipped) (told_skip a.skipped) (λ s. announced_firm x g (Some next) s) (λ _ e. announced_ends x g 7 (Some next) none e)))
+    (λ filled. answering x f a.facts (unwrap_or (awaits_gap a.facts.connection.peer_finish) 0) (λ _ e. announced_ends x g 7 (Some next) none e) (λ w s. filled_past x g next w early s filled))
+    (λ _. going x f a.facts (skip_of a.skipped) (told_skip a.skipped) (λ _ e. announced_ends x g 7 (Some next) none e)))
 
 -- an announcement that breaks a rule ends the connection
-refused : (x : Around) (f g : Facts) (v : Option Violation) → is_some v ≡ true → (Ends x.config.peer_flow f → Ends x.config.peer_flow g) → (f.connection.soft ≡ false → g.connection.soft ≡ false) → Settles x f (refuses x g v)
-refused x f g None some h s = absurd (true≢false (sym some))
-refused x f g (Some v) some h s = ending x f g 2 _ h s
+refused : (x : Around) (f g : Facts) (v : Option Violation) → is_some v ≡ true → (Ends x.config.peer_flow f → Ends x.config.peer_flow g) → Settles x f (refuses x g v)
+refused x f g None some h = absurd (true≢false (sym some))
+refused x f g (Some v) some h = ending x f g 2 _ h
 
 answered : (x : Around) (f : Facts) (id : List ℕ) (timestamp : ℕ) (r : Result Range RetransmitCode) → Settles x f (request_answered x f id timestamp r)
-answered x f id timestamp (Ok range) = going x f (serves f (Some range)) acts.Nothing (retransmission x.config.session range.from timestamp range.count ∷ []) (λ s. s) (λ _ e. e)
+answered x f id timestamp (Ok range) = going x f (serves f (Some range)) acts.Nothing (retransmission x.config.session range.from timestamp range.count ∷ []) (λ _ e. e)
 answered x f id timestamp (Err code) = staying x f _
 
 -- an initiator goes on with the handshake
 shaking : (x : Around) (f : Facts) → Settles x f (shaken x f)
-shaking x f = going x f (in_phase (as_negotiated f) phases.Establishing) (if f.recorded.negotiated then acts.Nothing else acts.Negotiated) (opening_establish x f ∷ []) (λ s. s) (λ _ e. e)
+shaking x f = going x f (in_phase (as_negotiated f) phases.Establishing) (if f.recorded.negotiated then acts.Nothing else acts.Negotiated) (opening_establish x f ∷ []) (λ _ e. e)
 
-establish_all : (x : Around) (f : Facts) (id : List ℕ) (timestamp keepalive : ℕ) (next : Option ℕ) (expected : Expected) (credentials : List ℕ) → is_newer x.config ≡ false
+establish_all : (x : Around) (f : Facts) (id : List ℕ) (timestamp keepalive : ℕ) (next : Option ℕ) (expected : Expected) (credentials : List ℕ)
     → AllRows (Settles x f) (establish_rows_in x f id timestamp keepalive next expected credentials)
-establish_all x f id timestamp keepalive next expected credentials old = by_place (awaits_client x f) (serves_client x f)
+establish_all x f id timestamp keepalive next expected credentials = by_place (awaits_client x f) (serves_client x f)
   where
-    acknowledged : announcement_fault x f 4 next ≡ None → Settles x f (acknowledges x timestamp keepalive expected (announced x f next))
-    acknowledged none =
-        let a = announced x f next in
-        subst (Settles x f) (sym (acknowledges_so x timestamp keepalive expected a old))
-        (going x f (established (firm a.facts) keepalive) (skip_of a.skipped) (establishment_ack x.config.session timestamp x.config.keepalive (announced_number x a.facts) expects.Absent ∷ told_skip a.skipped)
-        (λ _. refl) (λ _ e. announced_ends x f 4 next none e))
+    a : Announced
+    a = announced x f next
+
+    acknowledged : announcement_fault x f 4 next ≡ None → Settles x f (acknowledges x timestamp keepalive expected a)
+    acknowledged none = by_taking (λ g. Settles x f (acknowledged_by x timestamp keepalive expected a.skipped g)) x a.facts expected (λ _. writing (record a.facts { recorded = record a.facts.recorded { sent = number_in expected - 1 } }) (λ e. e)) (writing a.facts (λ e. e))
+      where
+        writing : (g : Facts) → (Ends x.config.peer_flow a.facts → Ends x.config.peer_flow (established (softened x expected g) keepalive)) → Settles x f (acknowledged_by x timestamp keepalive expected a.skipped g)
+        writing g same = going x f (established (softened x expected g) keepalive) (skip_of a.skipped) (establishment_ack x.config.session timestamp x.config.keepalive (announced_number x g) (answers_next x expected g) ∷ told_skip a.skipped)
+            (λ _ e. same (announced_ends x f 4 next none e))
 
     by_place : (a b : Bool) → AllRows (Settles x f) (if a then establish_rows x f id timestamp keepalive next expected credentials else if b then established_again_rows x f id timestamp else [])
     by_place true b = (
@@ -288,12 +271,23 @@ establish_all x f id timestamp keepalive next expected credentials old = by_plac
     by_place false true = (λ _. staying x f _, λ _. (λ _. staying x f _, λ _. tt))
     by_place false false = tt
 
+-- an acknowledgement is read, whether its number is taken or not
+reaching_on : (x : Around) (f : Facts) (next : Option ℕ) (e : Expected) (interval : ℕ) → announcement_fault x f 5 next ≡ None → (t same : Bool) → Settles x f (reaching x interval e (announced x f next) t same)
+reaching_on x f next e interval none t same = by_test t
+  where
+    a : Announced
+    a = announced x f next
+
+    by_test : (b : Bool) → Settles x f (goes_on x (skip_of a.skipped) (told_skip a.skipped ++ starting t same e) (established (returned_if b a.facts e) interval))
+    by_test true = going x f (established (returned_if true a.facts e) interval) (skip_of a.skipped) (told_skip a.skipped ++ starting t same e) (λ _ k. announced_ends x f 5 next none k)
+    by_test false = going x f (established a.facts interval) (skip_of a.skipped) (told_skip a.skipped ++ starting t same e) (λ _ k. announced_ends x f 5 next none k)
+
 -- the rows of one message of this session, under a condition
 own_within : (x : Around) (f : Facts) (template : ℕ) (id : List ℕ) (condition : Bool) (rows : List Row) → AllRows (Settles x f) rows → AllRows (Settles x f) (of_session x f template id (within condition rows))
-own_within x f template id condition rows all = own_rows (Settles x f) x f template id (within condition rows) (λ e. ending x f f 2 e (λ k. k) (λ s. s)) (all_within (Settles x f) condition rows (λ _. all))
+own_within x f template id condition rows all = own_rows (Settles x f) x f template id (within condition rows) (λ e. ending x f f 2 e (λ k. k)) (all_within (Settles x f) condition rows (λ _. all))
 
-each_message : (x : Around) (f : Facts) (m : Message) → is_newer x.config ≡ false → AllRows (Settles x f) (rows_of x f (session m))
-each_message x f (negotiate id timestamp flow credentials) old = all_within (Settles x f) (awaits_client x f) _ (λ _. (
+each_message : (x : Around) (f : Facts) (m : Message) → AllRows (Settles x f) (rows_of x f (session m))
+each_message x f (negotiate id timestamp flow credentials) = all_within (Settles x f) (awaits_client x f) _ (λ _. (
   λ _. staying x f _,
   λ _. (
     λ _. staying x f _,
@@ -301,60 +295,59 @@ each_message x f (negotiate id timestamp flow credentials) old = all_within (Set
       λ _. staying x f _,
       λ _. (
         λ _. staying x f _,
-        λ _. (λ _. going x f (as_negotiated f) acts.Negotiated (negotiation_response x.config.session timestamp (flow_code x.config.own_flow) [] ∷ []) (λ s. s) (λ _ e. e), λ _. tt),
+        λ _. (λ _. going x f (as_negotiated f) acts.Negotiated (negotiation_response x.config.session timestamp (flow_code x.config.own_flow) [] ∷ []) (λ _ e. e), λ _. tt),
       ),
     ),
   ),
 ))
-each_message x f (negotiation_response id timestamp flow credentials) old =
-    own_within x f 2 id (is_negotiating f.connection.phase) _ (λ _. ending x f f 2 _ (λ k. k) (λ s. s), λ _. (λ _. shaking x f, λ _. tt))
-each_message x f (negotiation_reject id timestamp code reason) old =
+each_message x f (negotiation_response id timestamp flow credentials) =
+    own_within x f 2 id (is_negotiating f.connection.phase) _ (λ _. ending x f f 2 _ (λ k. k), λ _. (λ _. shaking x f, λ _. tt))
+each_message x f (negotiation_reject id timestamp code reason) =
     own_within x f 3 id (is_negotiating f.connection.phase) _ (λ _. shaking x f, λ _. (λ _. rejecting x f _, λ _. tt))
-each_message x f (establish id timestamp keepalive next expected credentials) old = establish_all x f id timestamp keepalive next expected credentials old
-each_message x f (establishment_ack id timestamp keepalive next expected) old =
+each_message x f (establish id timestamp keepalive next expected credentials) = establish_all x f id timestamp keepalive next expected credentials
+each_message x f (establishment_ack id timestamp keepalive next expected) =
     own_within x f 5 id (is_establishing f.connection.phase) _
     (announced_rows (Settles x f) x f 5 next (reached x keepalive expected) (refusing x f)
-    (λ none. let a = announced x f next in subst (Settles x f) (sym (reached_so x keepalive expected a old))
-    (going x f (established a.facts (min 60000 (max 100 keepalive))) (skip_of a.skipped) (told_skip a.skipped) (λ s. announced_firm x f next s) (λ _ e. announced_ends x f 5 next none e))))
-each_message x f (establishment_reject id timestamp code reason) old =
+    (λ none. by_reaching (Settles x f) x keepalive expected (announced x f next) (λ t same _ _. reaching_on x f next expected (min 60000 (max 100 keepalive)) none t same)))
+each_message x f (establishment_reject id timestamp code reason) =
     own_within x f 6 id (is_establishing f.connection.phase) _
-    (λ _. going x f (in_phase f phases.Negotiating) acts.Nothing (opening_negotiate x ∷ []) (λ s. s) (λ _ e. e), λ _. (λ _. rejecting x f _, λ _. tt))
-each_message x f (sequence next) old = all_within (Settles x f) (is_established f.connection.phase) _ (λ _. (
+    (λ _. going x f (in_phase f phases.Negotiating) acts.Nothing (opening_negotiate x ∷ []) (λ _ e. e), λ _. (λ _. rejecting x f _, λ _. tt))
+each_message x f (sequence next) = all_within (Settles x f) (is_established f.connection.phase) _ (λ _. (
   λ _. bad x f (request_is.sequence_fault f.connection.requester),
   λ _. (
-    λ broken. refused x f (behind f) (announcement_fault x (behind f) 7 (Some next)) broken (λ k. k) (λ s. s),
+    λ broken. refused x f (behind f) (announcement_fault x (behind f) 7 (Some next)) broken (λ k. k),
     λ none. (λ _. following x f next (some-none (announcement_fault x (behind f) 7 (Some next)) none), λ _. tt),
   ),
 ))
-each_message x f unsequenced_heartbeat old = (λ _. going x f f acts.Nothing [] (λ s. s) (λ _ e. e), λ _. tt)
-each_message x f (retransmit_request id timestamp first count) old = all_within (Settles x f) (is_established f.connection.phase) _ (λ _. (
-  λ _. ending x f f 4 _ (λ k. k) (λ s. s),
+each_message x f unsequenced_heartbeat = (λ _. going x f f acts.Nothing [] (λ _ e. e), λ _. tt)
+each_message x f (retransmit_request id timestamp first count) = all_within (Settles x f) (is_established f.connection.phase) _ (λ _. (
+  λ _. ending x f f 4 _ (λ k. k),
   λ _. (λ _. answered x f id timestamp (judged (is_own x id) (is_recoverable x.config.own_flow) first count f.recorded.sent), λ _. tt),
 ))
-each_message x f (retransmission id next timestamp count) old =
+each_message x f (retransmission id next timestamp count) =
     own_within x f 10 id (is_established f.connection.phase) _ (
       λ _. bad x f (request_is.start_fault (request_is.outstanding f.connection.requester) next count),
-      λ _. (λ _. going x f (restarted f next count) acts.Nothing [] (λ s. s) (λ _ e. e), λ _. tt),
+      λ _. (λ _. going x f (restarted f next count) acts.Nothing [] (λ _ e. e), λ _. tt),
     )
-each_message x f (retransmit_reject id timestamp code reason) old = own_within x f 11 id (is_established f.connection.phase) _ (λ _. ending x f f 2 _ (λ k. k) (λ s. s), λ _. tt)
-each_message x f (applied first count) old = (λ _. going x f f acts.Nothing [] (λ s. s) (λ _ e. e), λ _. tt)
-each_message x f (not_applied first count) old = (λ _. going x f f (acts.Told first count) [] (λ s. s) (λ _ e. e), λ _. (λ _. going x f f acts.Nothing [] (λ s. s) (λ _ e. e), λ _. tt))
-each_message x f (finished_sending id last) old =
+each_message x f (retransmit_reject id timestamp code reason) = own_within x f 11 id (is_established f.connection.phase) _ (λ _. ending x f f 2 _ (λ k. k), λ _. tt)
+each_message x f (applied first count) = (λ _. going x f f acts.Nothing [] (λ _ e. e), λ _. tt)
+each_message x f (not_applied first count) = (λ _. going x f f (acts.Told first count) [] (λ _ e. e), λ _. (λ _. going x f f acts.Nothing [] (λ _ e. e), λ _. tt))
+each_message x f (finished_sending id last) =
     own_within x f 14 id (is_established f.connection.phase) _ (λ _. refusing x f (finish_fault x f last), λ none. (λ _. finishing x f last none, λ _. tt))
-each_message x f (finished_receiving id) old =
-    own_within x f 15 id (is_established f.connection.phase) _ (λ _. going x f (own_finishing f own.Exchanged) acts.Nothing [] (λ s. s) (λ _ e. e), λ _. tt)
-each_message x f (terminate id code reason) old =
-    own_rows (Settles x f) x f 16 id (row true (ends x f 1 (endings.PeerTerminated code)) ∷ []) (λ e. ending x f f 2 e (λ k. k) (λ s. s)) (λ _. ending x f f 1 _ (λ k. k) (λ s. s), λ _. tt)
+each_message x f (finished_receiving id) =
+    own_within x f 15 id (is_established f.connection.phase) _ (λ _. going x f (own_finishing f own.Exchanged) acts.Nothing [] (λ _ e. e), λ _. tt)
+each_message x f (terminate id code reason) =
+    own_rows (Settles x f) x f 16 id (row true (ends x f 1 (endings.PeerTerminated code)) ∷ []) (λ e. ending x f f 2 e (λ k. k)) (λ _. ending x f f 1 _ (λ k. k), λ _. tt)
 
-each_row : (x : Around) (f : Facts) (i : Incoming) → is_newer x.config ≡ false → AllRows (Settles x f) (rows_of x f i)
-each_row x f (application payload) old = all_within (Settles x f) (is_established f.connection.phase) _ (λ _. (
-  λ _. ending x f f 2 _ (λ k. k) (λ s. s),
+each_row : (x : Around) (f : Facts) (i : Incoming) → AllRows (Settles x f) (rows_of x f i)
+each_row x f (application payload) = all_within (Settles x f) (is_established f.connection.phase) _ (λ _. (
+  λ _. ending x f f 2 _ (λ k. k),
   λ _. (
-    λ _. ending x f f 2 _ (λ k. k) (λ s. s),
+    λ _. ending x f f 2 _ (λ k. k),
     λ _. (
-      λ _. ending x f f 2 _ (λ k. k) (λ s. s),
+      λ _. ending x f f 2 _ (λ k. k),
       λ _. (
-        λ _. going x f (awaiting f (f.recorded.inbox_next + 1)) (acts.Apply f.recorded.inbox_next) [] (λ s. s)
+        λ _. going x f (awaiting f (f.recorded.inbox_next + 1)) (acts.Apply f.recorded.inbox_next) []
             (λ _ e. rise (is_sequenced x.config.peer_flow) f.recorded.peer_last f.recorded.inbox_next (f.recorded.inbox_next + 1) f.connection.peer_finish (omega arith) e),
         λ rec. (
           λ _. bad x f (request_is.message_fault f.connection.requester),
@@ -364,14 +357,14 @@ each_row x f (application payload) old = all_within (Settles x f) (is_establishe
     ),
   ),
 ))
-each_row x f (session m) old = each_message x f m old
-each_row x f wrong_order old = (λ _. ending x f f 2 _ (λ k. k) (λ s. s), λ _. tt)
-each_row x f too_short old = (λ _. ending x f f 2 _ (λ k. k) (λ s. s), λ _. tt)
-each_row x f (unknown template) old = (λ _. ending x f f 2 _ (λ k. k) (λ s. s), λ _. tt)
+each_row x f (session m) = each_message x f m
+each_row x f wrong_order = (λ _. ending x f f 2 _ (λ k. k), λ _. tt)
+each_row x f too_short = (λ _. ending x f f 2 _ (λ k. k), λ _. tt)
+each_row x f (unknown template) = (λ _. ending x f f 2 _ (λ k. k), λ _. tt)
 
 -- each reply
-pub settles : (x : Around) (f : Facts) (i : Incoming) → is_newer x.config ≡ false → Settles x f (reply_of x f i)
-settles x f i old =
+pub settles : (x : Around) (f : Facts) (i : Incoming) → Settles x f (reply_of x f i)
+settles x f i =
     by_row (Settles x f) (is_closing f.connection.phase && not (terminates x i)) (ignores f) (answer_of x f i)
     (λ _. staying x f [])
-    (λ _. all_rows (Settles x f) (not_in_phase x f (template_of i)) (rows_of x f i) (ending x f f 2 _ (λ k. k) (λ s. s)) (each_row x f i old))
+    (λ _. all_rows (Settles x f) (not_in_phase x f (template_of i)) (rows_of x f i) (ending x f f 2 _ (λ k. k)) (each_row x f i))

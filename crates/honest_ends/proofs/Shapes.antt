@@ -9,6 +9,7 @@ use Rattle.fixp_shake.specs.declared.config.EndConfig.{EndConfig}
 use Rattle.fixp_shake.specs.declared.phase.Phase.{Phase}
 use Rattle.fixp_shake.specs.declared.phase.Phase.TheVariants as phases
 use Rattle.fixp_shake.specs.Flows.{is_sequenced}
+use Rattle.fixp_replies.specs.Expecting.{is_newer, is_present}
 use Rattle.connection_laws.specs.Writing.{Piece, said, entry}
 use Rattle.honest_ends.specs.Numbers.{IsFlowing}
 
@@ -44,6 +45,7 @@ abbrev pub IsAsk : EndConfig → Phase → Piece → Type 0
 IsAsk cfg phases.Negotiating (said (negotiate id timestamp flow credentials)) = (id ≡ cfg.session) × (flow ≡ flow_code cfg.own_flow) × (credentials ≡ cfg.credentials)
 IsAsk cfg phases.Establishing (said (establish id timestamp keepalive next expected credentials)) =
     (id ≡ cfg.session) × (keepalive ≡ cfg.keepalive) × (is_sequenced cfg.own_flow ≡ true → is_some next ≡ true) × (credentials ≡ cfg.credentials)
+    × (is_present expected ≡ true → is_newer cfg ≡ true)
 IsAsk cfg phase _ = ⊥
 
 -- and is answered so, but for the acknowledgement

@@ -109,10 +109,10 @@ silent_tells own n f g out t p r stands c s =
     record { told = omega (arith, t, e); theirs = p; recorded = r; silent = s.answers_none; ends = stands; completes = c; closes = λ some. absurd (omega (arith, e, some)); names = none_names own n out s.sends }
 
 -- no finish moves
-silent_same : (own : Flow) (n : ℕ) (f g : Facts) (out : List Piece) → finishes g ≡ finishes f → Silent out → Tells own n f g out
-silent_same own n f g out e s =
+silent_same : (own : Flow) (n : ℕ) (f g : Facts) (out : List Piece) → finishes g ≡ finishes f → g.recorded.sent ≡ f.recorded.sent → Silent out → Tells own n f g out
+silent_same own n f g out e sent s =
     silent_tells own n f g out (ap (λ (k : Finishes). awaited k.own) e) (ap (λ (k : Finishes). k.theirs) e) (ap (λ (k : Finishes). k.peer_last) e)
-    (λ h. subst (λ (o : Option ℕ). IfSome o (λ k. k ≡ n)) (sym (ap (λ (k : Finishes). k.finish) e)) h) (λ c. record { finish = ap (λ (k : Finishes). k.finish) e ∙ c.finish; sent = ap (λ (k : Finishes). k.sent) e ∙ c.sent }) s
+    (λ h. subst (λ (o : Option ℕ). IfSome o (λ k. k ≡ n)) (sym (ap (λ (k : Finishes). k.finish) e)) h) (λ c. record { finish = ap (λ (k : Finishes). k.finish) e ∙ c.finish; sent = sent ∙ c.sent }) s
 
 silent_both : (ps qs : List Piece) → Silent ps → Silent qs → Silent (ps ++ qs)
 silent_both ps qs a b =
@@ -167,8 +167,8 @@ ticking own n s now = by_end (is_some s.ending)
     v = lateness x s.facts s.start s.last_received
 
     by_end : (b : Bool) → Tells own n s.facts (if b then record s { moment = now } else broken_by beat v now).facts (if b then [] else said_all (heartbeats x s.facts s.last_sent s.unsent ++ said_breaking s v now))
-    by_end true = silent_same own n s.facts s.facts [] refl none_silent
-    by_end false = silent_same own n s.facts (broken_by beat v now).facts _ (ap (λ f. finishes f) (broken_same beat v now))
+    by_end true = silent_same own n s.facts s.facts [] refl refl none_silent
+    by_end false = silent_same own n s.facts (broken_by beat v now).facts _ (ap (λ f. finishes f) (broken_same beat v now)) (ap (λ f. f.recorded.sent) (broken_same beat v now))
         (said_more (heartbeats x s.facts s.last_sent s.unsent) (said_breaking s v now) (beats_silent x s.facts s.last_sent s.unsent) (breaks_silent s v now))
 
 applied_silent : (runs : List Range) → Silent (said_all (applied_runs runs))
@@ -185,12 +185,12 @@ turning own n s now = by_end (is_some s.ending)
     behind m = record (made (record s { moment = now }) m now) { untold = [] }
 
     by_close : (b : Bool) → Tells own n s.facts (behind (turned b x s.facts (runs_of s.untold))).facts (said_all (turned b x s.facts (runs_of s.untold)).written)
-    by_close true = silent_same own n s.facts (in_phase s.facts phases.Closing) _ refl
+    by_close true = silent_same own n s.facts (in_phase s.facts phases.Closing) _ refl refl
         (said_more (applied_runs (runs_of s.untold)) (terminate s.config.session 1 [] ∷ []) (applied_silent (runs_of s.untold)) (record { sends = refl; answers_none = refl }))
-    by_close false = silent_same own n s.facts s.facts _ refl (applied_silent (runs_of s.untold))
+    by_close false = silent_same own n s.facts s.facts _ refl refl (applied_silent (runs_of s.untold))
 
     by_end : (b : Bool) → Tells own n s.facts (if b then record s { moment = now } else behind (turn_ended x s.facts (runs_of s.untold))).facts (if b then [] else said_all (turn_ended x s.facts (runs_of s.untold)).written)
-    by_end true = silent_same own n s.facts s.facts [] refl none_silent
+    by_end true = silent_same own n s.facts s.facts [] refl refl none_silent
     by_end false = by_close (closes x s.facts)
 
 open_awaits_none : (q : OwnFinish) → is_open q ≡ true → awaited q ≡ 0
@@ -244,8 +244,8 @@ cut : (own : Flow) (n : ℕ) (s : State) → Tells own n s.facts (step s link_en
 cut own n s = by_end (is_some s.ending)
   where
     by_end : (b : Bool) → Tells own n s.facts (if b then s else record s { ending = Some (link_ending (around s 0 s.moment) s.facts); pending = None }).facts []
-    by_end true = silent_same own n s.facts s.facts [] refl none_silent
-    by_end false = silent_same own n s.facts s.facts [] refl none_silent
+    by_end true = silent_same own n s.facts s.facts [] refl refl none_silent
+    by_end false = silent_same own n s.facts s.facts [] refl refl none_silent
 
 entries_silent : (payloads : List (List ℕ)) → Silent (entries payloads)
 entries_silent [] = none_silent
@@ -256,9 +256,9 @@ closed_silent f None = record { sends = refl; answers_none = refl }
 closed_silent f (Some r) = none_silent
 
 resending : (own : Flow) (n : ℕ) (s : State) (r : Option Range) (payloads : List (List ℕ)) (now : ℕ) → Tells own n s.facts (served_again s r payloads now).facts (written_again s.facts r payloads)
-resending own n s None payloads now = silent_same own n s.facts s.facts [] refl none_silent
+resending own n s None payloads now = silent_same own n s.facts s.facts [] refl refl none_silent
 resending own n s (Some r) payloads now =
-    silent_same own n s.facts (served_again s (Some r) payloads now).facts _ refl (silent_both (entries payloads) (range_closed s.facts (rest_of r (length payloads))) (entries_silent payloads) (closed_silent s.facts (rest_of r (length payloads))))
+    silent_same own n s.facts (served_again s (Some r) payloads now).facts _ refl refl (silent_both (entries payloads) (range_closed s.facts (rest_of r (length payloads))) (entries_silent payloads) (closed_silent s.facts (rest_of r (length payloads))))
 
 -- behind all entries none goes live
 going_live : (own : Flow) (h : List Entry) (s : State) (payloads : List (List ℕ)) (now : ℕ) → AreEntries h (s.facts.recorded.sent + 1) payloads
@@ -277,8 +277,8 @@ tells_call h s (closed last now) other may = finishing (length h) s last now oth
 tells_call h s link_end other may = cut s.config.own_flow (length h) s
 tells_call h s (live payloads now) other may = going_live s.config.own_flow h s payloads now may.comes.entries
 tells_call h s (again payloads now) other may = resending s.config.own_flow (length h) s s.facts.connection.serving payloads now
-tells_call h s (taken count) other may = silent_same s.config.own_flow (length h) s.facts s.facts [] refl none_silent
-tells_call h s reserve other may = silent_same s.config.own_flow (length h) s.facts s.facts [] refl none_silent
+tells_call h s (taken count) other may = silent_same s.config.own_flow (length h) s.facts s.facts [] refl refl none_silent
+tells_call h s reserve other may = silent_same s.config.own_flow (length h) s.facts s.facts [] refl refl none_silent
 
 pub tells_as : (h : List Entry) (s : State) (call : Call) → IsOther h call → MayStand h s call → Tells s.config.own_flow (length h) s.facts (run s (call ∷ [])).facts (written s (call ∷ []))
 tells_as h s call other may = subst (λ (out : List Piece). Tells s.config.own_flow (length h) s.facts (step s call).facts out) (sym (append-nil (writes s call))) (tells_call h s call other may)

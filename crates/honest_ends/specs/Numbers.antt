@@ -1,5 +1,5 @@
 -- The numbers under way between two ends: what a reader awaits, and what a writer's messages make of it.
-use Rattle.std.specs.Prelude.{◌≡◌, ⊤, ℕ, ◌+◌, ◌-◌, ◌≤◌, true, false, if◌then◌else◌, List, [], ◌∷◌, Option, Some, None, is_some, unwrap_or, IfSome, IsSome}
+use Rattle.std.specs.Prelude.{◌≡◌, ⊤, ℕ, ◌+◌, ◌-◌, ◌≤◌, ◌&&◌, ◌⊎◌, Bool, true, false, nat_lt, if◌then◌else◌, List, [], ◌∷◌, Option, Some, None, is_some, unwrap_or, IfSome, IsSome}
 use Rattle.session_model.specs.Journal.{Entry}
 use Rattle.fixp_msgs.specs.declared.numbering.Range.{Range}
 use Rattle.fixp_msgs.specs.declared.flow.Flow.{Flow}
@@ -12,13 +12,15 @@ use Rattle.fixp_shake.specs.declared.config.EndConfig.{EndConfig}
 use Rattle.fixp_shake.specs.declared.violation.Violation.{Violation}
 use Rattle.fixp_shake.specs.declared.violation.Violation.TheVariants as violations
 use Rattle.fixp_shake.specs.Flows.{is_recoverable, is_sequenced, is_absent}
-use Rattle.fixp_shake.specs.Phases.{is_established}
+use Rattle.fixp_shake.specs.Phases.{is_established, is_shaken}
 use Rattle.fixp_replies.specs.declared.act.Ending.TheVariants as endings
 use Rattle.fixp_replies.specs.declared.facts.Facts.{Facts}
 use Rattle.fixp_replies.specs.Facts.{Around}
 use Rattle.fixp_replies.specs.Outcomes.{Outcome}
+use Rattle.fixp_replies.specs.Expecting.{is_newer}
 use Rattle.fixp_replies.specs.Replies.{reply_of}
 use Rattle.fixp_machine.specs.Machine.{State, Call, run}
+use Rattle.fixp_machine.specs.Sound.{may_return}
 use Rattle.connection_laws.specs.Writing.{Piece, said, entry, said_all}
 use Rattle.connection_laws.specs.Standing.{MayStand}
 use Rattle.two_ends.specs.Reading.{incoming_of}
@@ -51,15 +53,24 @@ IsFlowing cfg (said (finished_receiving id)) = id ≡ cfg.session
 IsFlowing cfg (said (terminate id code reason)) = id ≡ cfg.session
 
 -- what a reader awaits as the number of the next live message: exactly this, once a number was announced on the connection, and
--- at most this before
+-- at most this before. A soft reader, which has told a number below the one announced, awaits one from there on to be announced, or
+-- messages from the one announced on
 pub data Awaited : Type 0 where
   exactly : ℕ → Awaited
   at_most : ℕ → Awaited
+  softly : (low live : ℕ) → Awaited
 
 -- a number that is announced may be the one awaited
 abbrev pub Allows : Awaited → ℕ → Type 0
 Allows (exactly b) n = b ≡ n
 Allows (at_most b) n = b ≤ n
+Allows (softly low live) n = low ≤ n
+
+-- where nothing is under way, this is the number of the next message to be sent
+abbrev pub IsAt : Awaited → ℕ → Type 0
+IsAt (exactly b) n = b ≡ n
+IsAt (at_most b) n = b ≤ n
+IsAt (softly low live) n = (low ≤ n) × (live ≡ n)
 
 -- the number of the next live message that a message announces, where the flow of its writer has numbers
 abbrev pub announces : Flow → Piece → Option ℕ
@@ -75,9 +86,15 @@ live_after flow (entry payload) b None = b + 1
 live_after flow (entry payload) b (Some n) = b
 live_after flow (said m) b l = unwrap_or (announces flow (said m)) b
 
+-- the flow starts with a message of the outbox, or with an announcement
+abbrev pub starts : Flow → Piece → Bool
+starts flow (entry payload) = true
+starts flow (said m) = is_some (announces flow (said m))
+
 abbrev pub awaited_after : Flow → Piece → Awaited → Option ℕ → Awaited
 awaited_after flow p (exactly b) l = exactly (live_after flow p b l)
 awaited_after flow p (at_most b) l = if is_some (announces flow p) then exactly (live_after flow p b l) else at_most (live_after flow p b l)
+awaited_after flow p (softly low live) l = if starts flow p then exactly (live_after flow p live l) else softly low live
 
 abbrev pub left_after : Piece → Option ℕ → Option ℕ
 left_after (entry payload) None = None
@@ -109,7 +126,7 @@ Fits flow (said m) a l = IfSome (announces flow (said m)) (λ n. Allows a n) × 
 -- Some messages of this flow bring a reader from what it awaits and what is left of a retransmission to this number and to so many, and
 -- each fits where it stands
 abbrev pub Runs : Flow → Awaited → Option ℕ → List Piece → ℕ → Option ℕ → Type 0
-Runs flow a l [] c m = Allows a c × (l ≡ m)
+Runs flow a l [] c m = IsAt a c × (l ≡ m)
 Runs flow a l (p ∷ ps) c m = Fits flow p a l × Runs flow (awaited_after flow p a l) (left_after p l) ps c m
 
 -- what is served, of a range
@@ -154,42 +171,56 @@ Matches r requests.Nothing = r.again ≡ None
 Matches r (requests.Asked range) = (r.again ≡ None) × (range.from + range.count ≤ r.live)
 Matches r (requests.Coming range next left) = (r.again ≡ Some next) × (next + left ≤ r.live)
 
--- a reader of a recoverable flow: what it awaits is not past the live number
+-- a reader of a recoverable flow: what it awaits is not past the live number, and while it is soft it asks for nothing
 pub record Line (f : Facts) : Type 0 where
   pub waits : f.connection.receiver.next ≡ f.recorded.inbox_next
   pub low : f.connection.receiver.next ≤ f.connection.receiver.live
   pub matches : Matches f.connection.receiver f.connection.requester
+  pub unasked : f.connection.soft ≡ true → f.connection.requester ≡ requests.Nothing
 
--- a reader of another flow: it has no gap, and asks for nothing
+-- it is soft, and its inbox awaits less than its live number
+abbrev pub goes_softly : Facts → Bool
+goes_softly f = f.connection.soft && nat_lt f.connection.receiver.next f.connection.receiver.live
+
+-- what it awaits once a number was announced
+abbrev pub expecting : Facts → Awaited
+expecting f = if goes_softly f then softly f.connection.receiver.next f.connection.receiver.live else exactly f.connection.receiver.live
+
+-- and no number below this is announced to it
+abbrev pub lowest : Facts → ℕ
+lowest f = if f.connection.soft then f.connection.receiver.next else f.connection.receiver.live
+
+-- a reader of another flow: it has no gap, asks for nothing, and is not soft
 pub record Idle (f : Facts) : Type 0 where
   pub even : receiver_is.gap f.connection.receiver ≡ None
   pub none : f.connection.requester ≡ requests.Nothing
+  pub firm : f.connection.soft ≡ false
 
--- its live number is this, so many messages of a retransmission are still to come to it, and its inbox awaits no less than this
-pub record Reaches (f : Facts) (least b : ℕ) (l : Option ℕ) : Type 0 where
+-- this is what it awaits, so many messages of a retransmission are still to come to it, and its inbox awaits no less than this
+pub record Reaches (f : Facts) (least : ℕ) (a : Awaited) (l : Option ℕ) : Type 0 where
   pub line : Line f
   pub rises : least ≤ f.recorded.inbox_next
-  pub live : f.connection.receiver.live ≡ b
+  pub reach : expecting f ≡ a
   pub left : to_come f.connection.requester ≡ l
 
 -- A reply that breaks no rule of numbers, nor of a retransmission where that holds of the message. Behind it the reader has come so far,
 -- where its connection goes on, and where it ends its inbox awaits what it did
-pub record Lined (A : Type 0) (f : Facts) (b : ℕ) (l : Option ℕ) (o : Outcome) : Type 0 where
+pub record Lined (A : Type 0) (f : Facts) (a : Awaited) (l : Option ℕ) (o : Outcome) : Type 0 where
   pub fine : InNumbers A o
-  pub next : o.ending ≡ None → Reaches o.next f.recorded.inbox_next b l
+  pub next : o.ending ≡ None → Reaches o.next f.recorded.inbox_next a l
   pub over : IsSome o.ending → o.next.recorded.inbox_next ≡ f.recorded.inbox_next
 
 -- a message that a reader of a recoverable flow expects, whose numbers are within the limit
 pub record Before (x : Around) (f : Facts) (p : Piece) : Type 0 where
   pub recoverable : is_recoverable x.config.peer_flow ≡ true
   pub line : Line f
-  pub fits : Fits x.config.peer_flow p (at_most f.connection.receiver.live) (to_come f.connection.requester)
-  pub top : live_after x.config.peer_flow p f.connection.receiver.live (to_come f.connection.requester) ≤ x.most + 1
+  pub fits : Fits x.config.peer_flow p (at_most (lowest f)) (to_come f.connection.requester)
+  pub top : starts x.config.peer_flow p ≡ true → live_after x.config.peer_flow p f.connection.receiver.live (to_come f.connection.requester) ≤ x.most + 1
 
 -- the reply to it
 abbrev pub After : Around → Facts → Piece → Outcome → Type 0
 After x f p o =
-    Lined (Answers f.connection.requester p) f (live_after x.config.peer_flow p f.connection.receiver.live (to_come f.connection.requester))
+    Lined (Answers f.connection.requester p) f (awaited_after x.config.peer_flow p (expecting f) (to_come f.connection.requester))
     (left_after p (to_come f.connection.requester)) o
 
 -- the same of a reader of another flow, which awaits this number
@@ -223,10 +254,24 @@ ReaderExpects = (x : Around) (f : Facts) (theirs : EndConfig) (p : Piece) → Pe
 abbrev pub RunsBetween : Flow → Facts → List Piece → Facts → Type 0
 RunsBetween flow f ps g = Runs flow (exactly (f.recorded.sent + 1)) (served f.connection.serving) ps (g.recorded.sent + 1) (served g.connection.serving)
 
--- what each reply of an end of version 0 writes, and each other call where it may come, brings the reader from the one to the other
+-- where fewer count as sent from then on: what is written brings a reader to the next number, from whatever it awaits that allows it
+pub record Restarts (cfg : EndConfig) (f : Facts) (ps : List Piece) (g : Facts) : Type 0 where
+  pub may : may_return cfg f g ≡ true
+  pub runs : (a : Awaited) → Allows a (g.recorded.sent + 1)
+      → Runs cfg.own_flow a (served f.connection.serving) ps (g.recorded.sent + 1) (served g.connection.serving)
+
+abbrev pub RunsOn : EndConfig → Facts → List Piece → Facts → Type 0
+RunsOn cfg f ps g = RunsBetween cfg.own_flow f ps g ⊎ Restarts cfg f ps g
+
+-- before the handshake is done an end serves nothing
+abbrev pub ServesLater : EndConfig → Facts → Type 0
+ServesLater cfg f = is_newer cfg ≡ true → is_shaken f.connection.phase ≡ false → f.connection.serving ≡ None
+
+-- what each reply writes, and each other call where it may come, brings the reader from the one to the other, or starts anew from the
+-- number that the reply takes
 abbrev pub WriterKeeps : Type 0
 WriterKeeps =
-    ((x : Around) (f : Facts) (p : Piece) → x.config.version ≡ 0 → RunsBetween x.config.own_flow f (said_all (reply_of x f (incoming_of p)).written)
-    (reply_of x f (incoming_of p)).next)
+    ((x : Around) (f : Facts) (p : Piece) → ServesLater x.config f
+    → RunsOn x.config f (said_all (reply_of x f (incoming_of p)).written) (reply_of x f (incoming_of p)).next)
     × ((h : List Entry) (s : State) (call : Call) → IsOther h call → MayStand h s call
     → RunsBetween s.config.own_flow s.facts (written s (call ∷ [])) (run s (call ∷ [])).facts)

@@ -93,8 +93,8 @@ abbrev pub AllMayStep : (of_initiator of_acceptor : List Entry) → World → Li
 AllMayStep hi ha w [] = ⊤
 AllMayStep hi ha w (s ∷ later) = MayStep hi ha w s × AllMayStep hi ha (after w s) later
 
--- the configurations of the two ends of one session: the flow that one sends the other receives, and both have version 0 of the
--- session schema
+-- the configurations of the two ends of one session: the flow that one sends the other receives. Each has the version of the session
+-- schema that it speaks
 pub record Match (i a : EndConfig) : Type 0 where
   pub initiates : i.role ≡ roles.Initiator
   pub accepts : a.role ≡ roles.Acceptor
@@ -103,7 +103,6 @@ pub record Match (i a : EndConfig) : Type 0 where
   pub outward : a.peer_flow ≡ i.own_flow
   pub homeward : i.peer_flow ≡ a.own_flow
   pub keepalive : (100 ≤ i.keepalive) × (i.keepalive ≤ 60000)
-  pub versions : (i.version ≡ 0) × (a.version ≡ 0)
 
 -- both are as their journals say, and nothing is under way
 pub record Starts (w : World) : Type 0 where

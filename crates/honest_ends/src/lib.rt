@@ -11,5 +11,5 @@ mod rest;
 
 pub use finishes::{finished_holds, finishes_hold, only_time_ends, stays_known};
 pub use numbers::{known_sample, numbered_holds, numbers_hold, numbers_sample};
-pub use phases::{phases_hold, reader_expects, session_sample, writer_keeps};
+pub use phases::{phases_hold, reader_expects, session_sample, versions_sample, writer_keeps};
 pub use rest::{all_is_equal, over_has_all, quiet_has_all, rest_has_all, rest_sample, stays_ended};

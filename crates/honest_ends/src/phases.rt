@@ -2,7 +2,7 @@
 
 ghost use Rattle.honest_ends.specs.Numbers.{ReaderExpects, WriterKeeps};
 ghost use Rattle.honest_ends.specs.PhaseLaws.{PhasesHold};
-ghost use Rattle.honest_ends.specs.PhaseSamples.{SessionSample};
+ghost use Rattle.honest_ends.specs.PhaseSamples.{SessionSample, VersionsSample};
 
 /// In Established a reader that expects what comes breaks no rule of numbers at it, nor of a retransmission where a Retransmission
 /// answers its request and no request is rejected, and expects behind it exactly what the message makes of that.
@@ -11,7 +11,7 @@ pub fn reader_expects()
 {}
 
 /// What an end writes, in reply or at any other call, brings its reader from exactly one past what it was sent to exactly one past what
-/// it is sent then.
+/// it is sent then; or from whatever it awaits, where the end goes back to the number that it was told.
 pub fn writer_keeps()
     ensures law { WriterKeeps }
 {}
@@ -26,4 +26,10 @@ pub fn phases_hold()
 /// applied once, and both connections end as finished.
 pub fn session_sample()
     ensures law { SessionSample }
+{}
+
+/// Two ends of version 1 over a link that is lost: on the next one the acceptor tells the number that it expects, the initiator begins with
+/// it, and nothing is asked for. Where one of them has version 0, the entry is asked for.
+pub fn versions_sample()
+    ensures law { VersionsSample }
 {}

@@ -42,10 +42,10 @@ anew_of s = fresh s.config s.facts.recorded s.most
 
 -- what is known speaks of configurations and of what is recorded alone
 pub knows_anew : (h : List Entry) (x y : State) → Knows h x y → Knows h (anew_of x) (anew_of y)
-knows_anew h x y k = record { sent = k.sent; most = k.most; one = k.one; next = k.next; finish = k.finish; last = k.last }
+knows_anew h x y k = record { sent = k.sent; most = k.most; one = k.one; next = k.next; finish = k.finish; last = k.last; ends = k.ends }
 
 pub knows_of : (h : List Entry) (x y : State) → Knows h (anew_of x) (anew_of y) → Knows h x y
-knows_of h x y k = record { sent = k.sent; most = k.most; one = k.one; next = k.next; finish = k.finish; last = k.last }
+knows_of h x y k = record { sent = k.sent; most = k.most; one = k.one; next = k.next; finish = k.finish; last = k.last; ends = k.ends }
 
 -- the two ends anew
 abbrev pub two_anew : State → State → World
@@ -95,7 +95,7 @@ pub behind_is : (s : Side) (k : MakesTurns s) → s.state.facts.recorded.sent �
 behind_is s k enough =
     let whole : List Call = flat_map calls_of s.leg.turns in
     let cut : List Call = flat_map calls_of (option_to_list s.leg.cut) in
-    let x = turns_stand s.outbox.made k.turns.before k.turns.after (line_at s) k.turns.last s.leg.turns (course_at s) (begin_stands s.outbox.made s.state s.inbox s.leg.moment k.ready.awaits enough) k.turns.has k.turns.turns in
+    let x = turns_stand s.outbox.made k.turns.before k.turns.after (line_at s) k.turns.last s.leg.turns (course_at s) (begin_stands s.outbox.made s.state s.inbox s.leg.moment k.ready.awaits enough) k.turns.has k.turns.turns k.turns.faithful in
     ap (λ (cs : List Call). (course_after (course_at s) cs).state) (flat_map-append calls_of s.leg.turns (option_to_list s.leg.cut))
     ∙ (ap (λ (c : Course). c.state) (after_append (course_at s) whole cut) ∙ state_then (course_after (course_at s) whole) k.turns.last.machine cut x.after.machine)
 
@@ -211,7 +211,7 @@ pub ahead : (s : Side) (x : State) (turns : List Turn) → (k : MakesTurns s) �
 ahead s x turns k enough z alike is =
     going (line_at s) k.turns.last k.turns.before k.turns.after s.leg.turns s.leg.cut refl refl
     (record { calls = []; may = tt; fits = tt; at = begin_stands s.outbox.made s.state s.inbox s.leg.moment k.ready.awaits enough; alike = alike })
-    k.turns.turns (record { begins = k.seen; few = k.turns.has.few }) (subst (λ (ts : List Turn). AllByRecursion IsTimelyTurn ts) (sym is) k.timely.turns) is z.stops
+    k.turns.turns k.turns.faithful (record { begins = k.seen; few = k.turns.has.few }) (subst (λ (ts : List Turn). AllByRecursion IsTimelyTurn ts) (sym is) k.timely.turns) is z.stops
 
 -- what it writes as it begins
 pub way_begins : (s : Side) → IsReady s.outbox s.state s.inbox → IsInTime s.leg.moment → s.state.facts.recorded.sent ≤ length s.outbox.made → Way (course_at s).output (line_at s).machine [] []

@@ -182,7 +182,7 @@ refused_counts s now received frames f k enough cut waits = record {
     makes : MakesTurns c
     makes = record {
       ready = k.ready;
-      turns = record { before = k.turns.before; after = k.turns.after; last = last; turns = k.turns.turns; cut = record { got = q.got; taken = taken; next = tt }; has = k.turns.has };
+      turns = record { before = k.turns.before; after = k.turns.after; last = last; turns = k.turns.turns; cut = record { got = q.got; taken = taken; next = tt }; has = k.turns.has; faithful = k.turns.faithful };
       seen = k.seen;
       timely = record {
         begins = k.timely.begins;

@@ -6,7 +6,7 @@ use Rattle.session_model.specs.Journal.{Entry, History, BeginsHistory}
 use Rattle.gate_turn.proofs.Histories.{begins_self, begins_on}
 use Rattle.fixp_machine.specs.Machine.{State, reserve, step}
 use Rattle.conn_turns.specs.Lines.{Line}
-use Rattle.conn_turns.specs.Turns.{Turn, only_sends, works, link_lost, cut_short, not_begun}
+use Rattle.conn_turns.specs.Turns.{Turn, IsFaithful, only_sends, works, link_lost, cut_short, not_begun}
 use Rattle.connection_laws.specs.Courses.{Course}
 use Rattle.turn_laws.specs.Turns.{IsTurn}
 use Rattle.turn_laws.specs.Legs.{AreTurns, given_in, sent_in, IsTimelyTurn}
@@ -38,7 +38,7 @@ Stops last (Some t) m held = StopsIn last t m held
 
 -- what an end has before it: its turns, or none; and how it stands behind them
 pub data Ahead (outbox : History) (b : Course) (s m : State) (held : List ℕ) (turns : List Turn) (last_m : State) (last_held : List ℕ) : Type 0 where
-  going : (l last : Line) (before after : History) (whole : List Turn) (cut : Option Turn) → l.machine ≡ m → l.held ≡ held → Open outbox b s l → AreTurns before after l last whole
+  going : (l last : Line) (before after : History) (whole : List Turn) (cut : Option Turn) → l.machine ≡ m → l.held ≡ held → Open outbox b s l → AreTurns before after l last whole → AllByRecursion IsFaithful whole
       → Passed outbox after → AllByRecursion IsTimelyTurn turns → turns ≡ whole ++ option_to_list cut → Stops last cut last_m last_held → Ahead outbox b s m held turns last_m last_held
   over : turns ≡ [] → step s reserve ≡ step last_m reserve → m ≡ last_m → held ≡ last_held → Ahead outbox b s m held turns last_m last_held
 
@@ -48,13 +48,13 @@ record Ended (s m : State) (held : List ℕ) (last_m : State) (last_held : List 
   holds : held ≡ last_held
 
 ended : (outbox : History) (b : Course) (s m : State) (held : List ℕ) (last_m : State) (last_held : List ℕ) → Ahead outbox b s m held [] last_m last_held → Ended s m held last_m last_held
-ended outbox b s m held last_m last_held (going l last before after [] None is holds o a passed timely e stops) = record {
+ended outbox b s m held last_m last_held (going l last before after [] None is holds o a f passed timely e stops) = record {
   alike = o.alike ∙ ap (λ (x : State). step x reserve) (ap (λ (k : Line). k.machine) (sym a.0) ∙ stops.0);
   machine = sym is ∙ (ap (λ (k : Line). k.machine) (sym a.0) ∙ stops.0);
   holds = sym holds ∙ (ap (λ (k : Line). k.held) (sym a.0) ∙ stops.1);
 }
-ended outbox b s m held last_m last_held (going l last before after [] (Some t) is holds o a passed timely e stops) = absurd (cc e)
-ended outbox b s m held last_m last_held (going l last before after (u ∷ whole) cut is holds o a passed timely e stops) = absurd (cc e)
+ended outbox b s m held last_m last_held (going l last before after [] (Some t) is holds o a f passed timely e stops) = absurd (cc e)
+ended outbox b s m held last_m last_held (going l last before after (u ∷ whole) cut is holds o a f passed timely e stops) = absurd (cc e)
 ended outbox b s m held last_m last_held (over none alike is holds) = record { alike = alike; machine = is; holds = holds }
 
 passed_so_far : (outbox before after : History) (old new : Line) (t : Turn) (later : List Turn) → Passed outbox after → (a : AreTurns before after old new (t ∷ later)) → Passed outbox a.2
@@ -78,8 +78,8 @@ one_turn : (outbox : History) (ha : List Entry) (b : Course) (w : World) (m thei
     → WritesLegal outbox b → Ahead outbox b w.initiator m own_held (t ∷ later) last_m last_held → Way w.outward m held out → Way w.homeward theirs own_held (given_in t ++ home)
     → OneTurn outbox ha b w theirs held (out ++ sent_in t) home later last_m last_held
 one_turn outbox ha b w m theirs own_held held out home t later last_m last_held legal (over none alike is holds) outward homeward = absurd (cc none)
-one_turn outbox ha b w m theirs own_held held out home t later last_m last_held legal (going l last before after [] None is holds o a passed timely e stops) outward homeward = absurd (cc e)
-one_turn outbox ha b w m theirs own_held held out home t later last_m last_held legal (going l last before after [] (Some u) is holds o a passed timely e stops) outward homeward =
+one_turn outbox ha b w m theirs own_held held out home t later last_m last_held legal (going l last before after [] None is holds o a f passed timely e stops) outward homeward = absurd (cc e)
+one_turn outbox ha b w m theirs own_held held out home t later last_m last_held legal (going l last before after [] (Some u) is holds o a f passed timely e stops) outward homeward =
     let same : t ≡ u = cc e in
     let none : later ≡ [] = cc e in
     let k : StopsIn l t last_m last_held = subst (λ (x : Turn). StopsIn l x last_m last_held) (sym same) (subst (λ (x : Line). StopsIn x u last_m last_held) a.0 stops) in
@@ -96,12 +96,12 @@ one_turn outbox ha b w m theirs own_held held out home t later last_m last_held 
       outward = x.outward;
       homeward = x.homeward;
     }
-one_turn outbox ha b w m theirs own_held held out home t later last_m last_held legal (going l last before after (u ∷ whole) cut is holds o b' passed timely e stops) outward homeward =
+one_turn outbox ha b w m theirs own_held held out home t later last_m last_held legal (going l last before after (u ∷ whole) cut is holds o b' f passed timely e stops) outward homeward =
     let same : t ≡ u = cc e in
     let rest : later ≡ whole ++ option_to_list cut = cc e in
     let a : AreTurns before after l last (t ∷ whole) = subst (λ (x : Turn). AreTurns before after l last (x ∷ whole)) (sym same) b' in
     let x : Moved outbox ha b w a.1 theirs held (out ++ sent_in t) home =
-    turn_moves outbox ha b w before a.2 l a.1 t theirs held out home legal (passed_so_far outbox before after l last t whole passed a) o a.0 a.3 timely.0
+    turn_moves outbox ha b w before a.2 l a.1 t theirs held out home legal (passed_so_far outbox before after l last t whole passed a) o a.0 a.3 (subst IsFaithful (sym same) f.0) timely.0
     (subst (λ (y : State). Way w.outward y held out) (sym is) outward) (subst (λ (bs : List ℕ). Way w.homeward theirs bs (given_in t ++ home)) (sym holds) homeward) in
     record {
       world = x.world;
@@ -109,7 +109,7 @@ one_turn outbox ha b w m theirs own_held held out home t later last_m last_held 
       acceptor = x.acceptor;
       m = a.1.machine;
       own_held = a.1.held;
-      ahead = going a.1 last a.4 after whole cut refl refl x.here a.6 passed timely.1 rest stops;
+      ahead = going a.1 last a.4 after whole cut refl refl x.here a.6 f.1 passed timely.1 rest stops;
       outward = x.outward;
       homeward = x.homeward;
     }

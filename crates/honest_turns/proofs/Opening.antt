@@ -9,7 +9,7 @@ use Rattle.session_model.specs.Journal.{Entry, History, BeginsHistory}
 use Rattle.session_model.proofs.Lists.{all_append, all_second}
 use Rattle.fixp_machine.specs.Machine.{State, Call, tick, reserve, link_end, step, run}
 use Rattle.conn_turns.specs.Lines.{Line}
-use Rattle.conn_turns.specs.Turns.{Turn, only_sends, works, link_lost, cut_short, not_begun, calls_of_frames, closing_calls, outbox_calls, sending_calls, calls_of}
+use Rattle.conn_turns.specs.Turns.{Turn, IsFaithful, only_sends, works, link_lost, cut_short, not_begun, calls_of_frames, closing_calls, outbox_calls, sending_calls, calls_of}
 use Rattle.connection_laws.specs.Writing.{Piece, bytes_of_piece, bytes_written}
 use Rattle.connection_laws.specs.Framed.{IsLegalPiece}
 use Rattle.connection_laws.specs.Courses.{Course, course_after}
@@ -126,9 +126,9 @@ way_read pieces left theirs held given home left_held way legal goes_on = record
 }
 
 pub turn_moves : (outbox : History) (ha : List Entry) (b : Course) (w : World) (before after : History) (old new : Line) (t : Turn) (theirs : State) (held out home : List ℕ)
-    → WritesLegal outbox b → Passed outbox after → Open outbox b w.initiator old → old.machine.ending ≡ None → IsTurn before after old new t → IsTimelyTurn t
+    → WritesLegal outbox b → Passed outbox after → Open outbox b w.initiator old → old.machine.ending ≡ None → IsTurn before after old new t → IsFaithful t → IsTimelyTurn t
     → Way w.outward old.machine held out → Way w.homeward theirs old.held (given_in t ++ home) → Moved outbox ha b w new theirs held (out ++ sent_in t) home
-turn_moves outbox ha b w before after old new t theirs held out home legal passed o going k timely outward homeward = record {
+turn_moves outbox ha b w before after old new t theirs held out home legal passed o going k faithful timely outward homeward = record {
   world = initiator_calls w x.left cs;
   reaches = x.reaches;
   acceptor = refl;
@@ -162,7 +162,7 @@ turn_moves outbox ha b w before after old new t theirs held out home legal passe
     first = reserved before after old new t k
 
     stood : TurnStands h c new t
-    stood = turn_may_stand h before after old new t c o.at (record { begins = passed.begins.made; few = passed.few }) k
+    stood = turn_may_stand h before after old new t c o.at (record { begins = passed.begins.made; few = passed.few }) k faithful
 
     x : TurnSteps h ha w old new t
     x = turn_steps outbox ha w c before after old new t (home ++ homeward.within.0) o.at.machine o.alike stood.may passed.begins k timely.time homeward.legal

@@ -5,7 +5,7 @@ use Rattle.fixp_shake.specs.Flows.{is_recoverable, is_sequenced}
 use Rattle.fixp_shake.specs.declared.config.EndConfig.{EndConfig}
 use Rattle.fixp_machine.specs.Machine.{State}
 use Rattle.honest_ends.specs.Worlds.{Match}
-use Rattle.honest_ends.specs.Knowing.{Knows, last_told}
+use Rattle.honest_ends.specs.Knowing.{Knows, goes_back, last_told}
 use Rattle.honest_ends.specs.Resting.{EndsLast}
 use Rattle.honest_turns.specs.Lives.{End, end_after, AgreeAt}
 use Rattle.honest_turns.specs.Sessions.{Reopens, no_more, connects, initiator_opens, acceptor_opens, SessionHolds, NewLifeAgrees}
@@ -20,6 +20,7 @@ writer_anew i j reader r k = subst (λ (h : History). Knows h.made j.state reade
   next = let next = k.next in let sent = r.sent in omega (arith, next, sent);
   finish = subst (λ (h : History). IfSome j.state.facts.recorded.finish (λ n. n ≡ length h.made)) r.outbox r.finish;
   last = by_last reader.facts.recorded.peer_last k.last;
+  ends = λ goes. k.ends (ap (λ (c : EndConfig). goes_back c reader.config) (sym r.config) ∙ goes);
 })
   where
     enough : j.state.facts.recorded.sent ≤ length i.outbox.made
@@ -46,6 +47,8 @@ reader_anew h writer i j r k = record {
   next = let next = k.next in let same = r.next in omega (arith, next, same);
   finish = k.finish;
   last = subst (λ (o : Option ℕ). IfSome o (λ n. (writer.facts.recorded.finish ≡ Some (length h)) × (writer.facts.recorded.sent ≡ length h) × (n ≡ last_told writer.config.own_flow h))) (sym r.last) k.last;
+  ends = λ goes. subst (λ (o : Option ℕ). IfSome o (λ n. j.state.facts.recorded.inbox_next ≡ n + 1)) (sym r.last)
+      (subst (λ (next : ℕ). IfSome i.state.facts.recorded.peer_last (λ n. next ≡ n + 1)) (sym r.next) (k.ends (ap (λ (c : EndConfig). goes_back writer.config c) (sym r.config) ∙ goes)));
 }
 
 last_anew : (i j : End) → Reopens i j → EndsLast i.state → EndsLast j.state

@@ -29,8 +29,8 @@ use Rattle.honest_turns.specs.Samples.{UnwrittenAgree, handshake, HandshakeSampl
 pub unwritten_agree : UnwrittenAgree
 unwritten_agree hi ha ci ca most match in_i in_a = record {
   matches = match;
-  outward = record { sent = omega arith; most = in_i; one = λ _. omega arith; next = omega arith; finish = tt; last = tt };
-  homeward = record { sent = omega arith; most = in_a; one = λ _. omega arith; next = omega arith; finish = tt; last = tt };
+  outward = record { sent = omega arith; most = in_i; one = λ _. omega arith; next = omega arith; finish = tt; last = tt; ends = λ _. tt };
+  homeward = record { sent = omega arith; most = in_a; one = λ _. omega arith; next = omega arith; finish = tt; last = tt; ends = λ _. tt };
   last_i = λ _. tt;
   last_a = λ _. tt;
 }
@@ -54,9 +54,9 @@ handshake_sample = (
     initiator = ready sample_config turns_sample.0.lives_a.0.range;
     acceptor = ready acceptor turns_sample.0.lives_b.0.range;
     agree = record {
-      matches = record { initiates = refl; accepts = refl; session = refl; credentials = refl; outward = refl; homeward = refl; keepalive = (omega arith, omega arith); versions = (refl, refl) };
-      outward = record { sent = omega arith; most = omega arith; one = λ _. omega arith; next = omega arith; finish = tt; last = tt };
-      homeward = record { sent = omega arith; most = omega arith; one = λ _. omega arith; next = omega arith; finish = tt; last = tt };
+      matches = record { initiates = refl; accepts = refl; session = refl; credentials = refl; outward = refl; homeward = refl; keepalive = (omega arith, omega arith) };
+      outward = record { sent = omega arith; most = omega arith; one = λ _. omega arith; next = omega arith; finish = tt; last = tt; ends = λ _. tt };
+      homeward = record { sent = omega arith; most = omega arith; one = λ _. omega arith; next = omega arith; finish = tt; last = tt; ends = λ _. tt };
       last_i = λ _. tt;
       last_a = λ _. tt;
     };
@@ -127,6 +127,7 @@ module _ (config : EndConfig) (leg : TurnedLeg) (range : IsInRange (begins confi
       turns = t.turns;
       cut = t.cut;
       has = record { begins = prefix_self t.after.made; few = let e : length t.after.made ≡ 0 = ap length none_made in omega (arith, e) };
+      faithful = t.faithful;
     };
     seen = begins_self t.after;
     timely = time;
@@ -183,9 +184,9 @@ rest_sample = record {
       let e : length turns_i.after.made ≡ 0 = ap length none_i in
       let f : length turns_a.after.made ≡ 0 = ap length none_a in
       record {
-        matches = record { initiates = refl; accepts = refl; session = refl; credentials = refl; outward = refl; homeward = refl; keepalive = (omega arith, omega arith); versions = (refl, refl) };
-        outward = record { sent = omega arith; most = omega (arith, e); one = λ _. omega arith; next = omega arith; finish = tt; last = tt };
-        homeward = record { sent = omega arith; most = omega (arith, f); one = λ _. omega arith; next = omega arith; finish = tt; last = tt };
+        matches = record { initiates = refl; accepts = refl; session = refl; credentials = refl; outward = refl; homeward = refl; keepalive = (omega arith, omega arith) };
+        outward = record { sent = omega arith; most = omega (arith, e); one = λ _. omega arith; next = omega arith; finish = tt; last = tt; ends = λ _. tt };
+        homeward = record { sent = omega arith; most = omega (arith, f); one = λ _. omega arith; next = omega arith; finish = tt; last = tt; ends = λ _. tt };
         last_i = λ _. tt;
         last_a = λ _. tt;
       };
