@@ -26,7 +26,7 @@ use Rattle.cmd_answer.specs.Lines.{line_of}
 abbrev pub greatest_number : ℕ
 greatest_number = 2 ^ 24
 
--- the acceptor that `answer` is: it reads an unsequenced flow, and sends none, and has version 0 of the session schema
+-- the acceptor that `answer` is: it reads an unsequenced flow, and sends none
 abbrev pub acceptor_of : Settings → EndConfig
 acceptor_of s = record {
   role = Acceptor;
@@ -35,7 +35,7 @@ acceptor_of s = record {
   peer_flow = flows.Unsequenced;
   keepalive = s.keepalive;
   credentials = s.credentials;
-  version = 0;
+  version = s.version;
 }
 
 -- a new session: not negotiated, and awaiting message 1

@@ -70,6 +70,7 @@ fn acceptor_config(settings: Settings) -> EndConfig
         session,
         keepalive,
         credentials,
+        version,
     } = settings;
     EndConfig {
         role: Role::Acceptor,
@@ -78,7 +79,7 @@ fn acceptor_config(settings: Settings) -> EndConfig
         peer_flow: Flow::Unsequenced,
         keepalive,
         credentials,
-        version: 0,
+        version,
     }
 }
 

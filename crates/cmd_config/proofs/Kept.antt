@@ -11,7 +11,7 @@ use Rattle.cmd_config.specs.declared.configuration.Configuration.{Configuration}
 use Rattle.std.proofs.lemmas.Bool.{false≢true}
 use Rattle.toml_walk.specs.Keys.{required, get_or_default, deny_unknown_keys}
 use Rattle.toml_walk.specs.Values.{natural_of}
-use Rattle.cmd_config.specs.Settings.{session_of, flow_of, credentials_of, known_keys, ensure_in_range, allows_client, allows_server, allows_senders, allows_desks, desks_are_built, role_of, own_flow, is_none, is_accept, link_of, trade_of, configuration_of}
+use Rattle.cmd_config.specs.Settings.{session_of, flow_of, credentials_of, known_keys, ensure_in_range, allows_client, allows_server, allows_senders, allows_desks, desks_are_built, role_of, own_flow, is_none, is_accept, link_of, trade_of, version_of, configuration_of}
 use Rattle.cmd_config.specs.Laws.{KeepsRole, ConfigurationsKeepTheRole}
 
 -- a check that passed, and what stands behind it
@@ -23,7 +23,7 @@ met key false next b e = absurd cc
 
 abbrev link_end : List ℕ → ℕ → Flow → Flow → Read (List ℕ) → Read Link
 link_end session keepalive client server credentials =
-    credentials >>= λ bytes. Ok (record { session = session; keepalive = keepalive; client_flow = client; server_flow = server; credentials = bytes })
+    credentials >>= λ bytes. Ok (record { session = session; keepalive = keepalive; client_flow = client; server_flow = server; credentials = bytes; version = 1 })
 
 abbrev link_from_server : Purpose → List ℕ → ℕ → Flow → Read Flow → Read (List ℕ) → Read Link
 link_from_server purpose session keepalive client server credentials =
@@ -34,7 +34,7 @@ LinkKept purpose link = (allows_client purpose link.client_flow ≡ true) × (al
 
 end_kept : (purpose : Purpose) (session : List ℕ) (keepalive : ℕ) (client server : Flow) (credentials : Read (List ℕ)) (link : Link) → allows_client purpose client ≡ true → allows_server purpose server ≡ true → link_end session keepalive client server credentials ≡ Ok link → LinkKept purpose link
 end_kept purpose session keepalive client server (Ok bytes) link c s e =
-    let built : Link = record { session = session; keepalive = keepalive; client_flow = client; server_flow = server; credentials = bytes } in
+    let built : Link = record { session = session; keepalive = keepalive; client_flow = client; server_flow = server; credentials = bytes; version = 1 } in
     let same : built ≡ link = cc in
     subst (LinkKept purpose) same (c, s)
 end_kept purpose session keepalive client server (Err fault) link c s e = absurd cc
@@ -99,19 +99,20 @@ trade_kept purpose client server keys trade e =
 
 -- ---- both
 
-trade_ok : (purpose : Purpose) (keys : Data) (link : Link) (trade : Read Trade) (last : Read (Unit {0})) (c : Configuration) → link_of purpose keys ≡ Ok link → trade ≡ trade_of purpose link.client_flow link.server_flow keys → (trade >>= λ t. last >>= λ _. Ok (record { link = link; trade = t })) ≡ Ok c → KeepsRole purpose c
-trade_ok purpose keys link (Err fault) last c l is e = absurd cc
-trade_ok purpose keys link (Ok trade) (Err fault) c l is e = absurd cc
-trade_ok purpose keys link (Ok trade) (Ok done) c l is e =
-    let built : Configuration = record { link = link; trade = trade } in
+trade_ok : (purpose : Purpose) (keys : Data) (link : Link) (trade : Read Trade) (version : Read ℕ) (last : Read (Unit {0})) (c : Configuration) → link_of purpose keys ≡ Ok link → trade ≡ trade_of purpose link.client_flow link.server_flow keys → (trade >>= λ t. version >>= λ v. last >>= λ _. Ok (record { link = record link { version = v }; trade = t })) ≡ Ok c → KeepsRole purpose c
+trade_ok purpose keys link (Err fault) version last c l is e = absurd cc
+trade_ok purpose keys link (Ok trade) (Err fault) last c l is e = absurd cc
+trade_ok purpose keys link (Ok trade) (Ok version) (Err fault) c l is e = absurd cc
+trade_ok purpose keys link (Ok trade) (Ok version) (Ok done) c l is e =
+    let built : Configuration = record { link = record link { version = version }; trade = trade } in
     let same : built ≡ c = cc in
     let one = link_kept purpose keys link l in
     let two = trade_kept purpose link.client_flow link.server_flow keys trade (sym is) in
     subst (KeepsRole purpose) same (record { client = one.0; server = one.1; senders = two.0; desks = two.1 })
 
-both_ok : (purpose : Purpose) (keys : Data) (link : Read Link) (c : Configuration) → link_of purpose keys ≡ link → (link >>= λ l. trade_of purpose l.client_flow l.server_flow keys >>= λ t. deny_unknown_keys known_keys keys >>= λ _. Ok (record { link = l; trade = t })) ≡ Ok c → KeepsRole purpose c
+both_ok : (purpose : Purpose) (keys : Data) (link : Read Link) (c : Configuration) → link_of purpose keys ≡ link → (link >>= λ l. trade_of purpose l.client_flow l.server_flow keys >>= λ t. version_of keys >>= λ v. deny_unknown_keys known_keys keys >>= λ _. Ok (record { link = record l { version = v }; trade = t })) ≡ Ok c → KeepsRole purpose c
 both_ok purpose keys (Err fault) c l e = absurd cc
-both_ok purpose keys (Ok link) c l e = trade_ok purpose keys link (trade_of purpose link.client_flow link.server_flow keys) (deny_unknown_keys known_keys keys) c l refl e
+both_ok purpose keys (Ok link) c l e = trade_ok purpose keys link (trade_of purpose link.client_flow link.server_flow keys) (version_of keys) (deny_unknown_keys known_keys keys) c l refl e
 
 pub configurations_keep_the_role : ConfigurationsKeepTheRole
 configurations_keep_the_role purpose keys c e = both_ok purpose keys (link_of purpose keys) c refl e

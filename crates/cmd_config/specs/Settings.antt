@@ -105,7 +105,7 @@ allows_desks purpose server has_senders_key desks = desks == 0 || (desks_are_bui
 
 -- ---- the keys
 
--- {session, keepalive, client_flow, server_flow, credentials?, ..}
+-- {session, keepalive, client_flow, server_flow, credentials?, ..}; the version is that of a text without its key, which comes last
 abbrev pub link_of : Purpose → Data → Read Link
 link_of purpose keys =
     required (codes "session") session_of keys >>= λ session.
@@ -115,7 +115,7 @@ link_of purpose keys =
     required (codes "server_flow") flow_of keys >>= λ server.
     ensure_in_range (codes "server_flow") (allows_server purpose server) >>= λ _.
     get_or_default (codes "credentials") [] credentials_of keys >>= λ credentials.
-    Ok (record { session = session; keepalive = keepalive; client_flow = client; server_flow = server; credentials = credentials })
+    Ok (record { session = session; keepalive = keepalive; client_flow = client; server_flow = server; credentials = credentials; version = 1 })
 
 -- {.., senders?, desks?, order_version?, reference?}
 abbrev pub trade_of : Purpose → Flow → Flow → Data → Read Trade
@@ -128,17 +128,22 @@ trade_of purpose client server keys =
     get_or_default (codes "reference") 1000000 (natural_of 1 (10 ^ 15)) keys >>= λ reference.
     Ok (record { senders = senders; desks = desks; order_version = order_version; reference = reference })
 
+-- {.., session_version?}
+abbrev pub version_of : Data → Read ℕ
+version_of keys = get_or_default (codes "session_version") 1 (natural_of 0 1) keys
+
 abbrev pub known_keys : List (List ℕ)
 known_keys = codes "session" ∷ codes "keepalive" ∷ codes "client_flow" ∷ codes "server_flow" ∷ codes "credentials" ∷ codes "senders" ∷ codes "desks"
-    ∷ codes "order_version" ∷ codes "reference" ∷ []
+    ∷ codes "order_version" ∷ codes "reference" ∷ codes "session_version" ∷ []
 
--- all nine values
+-- all ten values
 abbrev pub configuration_of : Purpose → Data → Read Configuration
 configuration_of purpose keys =
     link_of purpose keys >>= λ link.
     trade_of purpose link.client_flow link.server_flow keys >>= λ trade.
+    version_of keys >>= λ version.
     deny_unknown_keys known_keys keys >>= λ _.
-    Ok (record { link = link; trade = trade })
+    Ok (record { link = record link { version = version }; trade = trade })
 
 abbrev pub configuration_of_document : Purpose → List ℕ → Read Configuration
 configuration_of_document purpose text = document_of text >>= configuration_of purpose
@@ -150,7 +155,7 @@ configuration_of_text purpose = limited (λ text. of_text (configuration_of_docu
 -- ---- what `answer` takes of it
 
 abbrev pub settings_by : Configuration → Settings
-settings_by c = record { session = c.link.session; keepalive = c.link.keepalive; credentials = c.link.credentials }
+settings_by c = record { session = c.link.session; keepalive = c.link.keepalive; credentials = c.link.credentials; version = c.link.version }
 
 abbrev pub settings_of_document : List ℕ → Read Settings
 settings_of_document text = configuration_of_document Recorded text >>= λ c. Ok (settings_by c)
@@ -159,13 +164,14 @@ settings_of_document text = configuration_of_document Recorded text >>= λ c. Ok
 abbrev pub settings_of_text : List ℕ → Result Settings ConfigFault
 settings_of_text = limited (λ text. of_text (settings_of_document text))
 
--- the first keys of a configuration: the interval, and how long the credentials are
+-- the keys of the session: the interval, how long the credentials are, and the version
 pub record IsLinkInRange (l : Link) : Type 0 where
   pub least : 100 ≤ l.keepalive
   pub most : l.keepalive ≤ 60000
   pub credentials : length l.credentials ≤ 2048
+  pub version : l.version ≤ 1
 
--- the last keys of a configuration
+-- the keys of senders, desks and orders
 pub record IsTradeInRange (t : Trade) : Type 0 where
   pub senders : t.senders ≤ 16
   pub desks : t.desks ≤ 16
@@ -177,8 +183,9 @@ pub record IsConfigurationInRange (c : Configuration) : Type 0 where
   pub link : IsLinkInRange c.link
   pub trade : IsTradeInRange c.trade
 
--- settings that a configuration may give: the interval, and how long the credentials are
+-- settings that a configuration may give: the interval, how long the credentials are, and the version
 pub record IsInRange (s : Settings) : Type 0 where
   pub least : 100 ≤ s.keepalive
   pub most : s.keepalive ≤ 60000
   pub credentials : length s.credentials ≤ 2048
+  pub version : s.version ≤ 1

@@ -1,4 +1,4 @@
-//! The configuration of a session for a purpose: nine keys, with what the purpose asks
+//! The configuration of a session for a purpose: ten keys, with what the purpose asks
 //! of several of them.
 
 ghost use Rattle.std.specs.Prelude.{◌≡◌, ◌<◌, ◌≤◌, codes, [], length, IfOk, Err};
@@ -7,9 +7,11 @@ ghost use Rattle.toml.specs.View.{view};
 ghost use Rattle.toml_walk.specs.Reading.{Reads};
 ghost use Rattle.schema_toml.specs.Faults.{Tells, text_limit};
 ghost use Rattle.cmd_config.specs.Laws.{KeepsRole};
-ghost use Rattle.cmd_config.specs.Settings.{IsLinkInRange, IsTradeInRange, allows_desks, allows_senders, configuration_of, configuration_of_document, configuration_of_text, credentials_of, ensure_in_range, link_of, trade_of};
+ghost use Rattle.cmd_config.specs.Settings.{IsLinkInRange, IsTradeInRange, allows_desks, allows_senders, configuration_of, configuration_of_document, configuration_of_text, credentials_of, ensure_in_range, link_of, trade_of, version_of};
 
-use crate::limits::{DESKS, DESKS_ARE_BUILT, KEEPALIVE, ORDER_VERSION, REFERENCE, SENDERS};
+use crate::limits::{
+    DESKS, DESKS_ARE_BUILT, KEEPALIVE, ORDER_VERSION, REFERENCE, SENDERS, SESSION_VERSION,
+};
 use crate::purpose::{
     Purpose, allows_client, allows_server, is_accept, is_none, own_flow, role_of,
 };
@@ -37,6 +39,8 @@ pub struct Link {
     pub server_flow: Flow,
     /// The credentials that a client gives, at most 2,048 bytes.
     pub credentials: Bytes,
+    /// The version of the session schema that the end speaks, 0 or 1.
+    pub version: u16,
 }
 
 /// What a configuration says of those who send and of their orders.
@@ -52,7 +56,7 @@ pub struct Trade {
     pub reference: u64,
 }
 
-/// A configuration: the values of all nine keys.
+/// A configuration: the values of all ten keys.
 #[derive(Debug, Drop)]
 pub struct Configuration {
     /// The session, its flows and credentials.
@@ -102,7 +106,7 @@ fn read_credentials(alloc: Global, keys: &Value) -> Result<Bytes, TomlFault>
     get_or_default::<Credentials>(alloc, (), keys, "credentials", Bytes::new(alloc))
 }
 
-/// The keys of the session itself.
+/// The keys of the session itself but its schema's version, which is that of a text without the key.
 fn read_link(alloc: Global, purpose: Purpose, keys: &Value) -> Result<Link, TomlFault>
     ensures value { Reads result (link_of purpose (view keys.now)) }
     ensures range { IfOk result IsLinkInRange }
@@ -126,6 +130,7 @@ fn read_link(alloc: Global, purpose: Purpose, keys: &Value) -> Result<Link, Toml
         client_flow: client,
         server_flow: server,
         credentials,
+        version: 1,
     })
 }
 
@@ -174,6 +179,44 @@ fn read_trade(
     })
 }
 
+/// The session of an end that speaks this version.
+fn with_version(link: Link, version: u16) -> Link
+    ensures { result ≡ record link { version = version } }
+{
+    let Link {
+        session,
+        keepalive,
+        client_flow,
+        server_flow,
+        credentials,
+        ..
+    } = link;
+    Link {
+        session,
+        keepalive,
+        client_flow,
+        server_flow,
+        credentials,
+        version,
+    }
+}
+
+/// The version of the session schema, 1 where the key is absent.
+fn read_version(alloc: Global, keys: &Value) -> Result<u16, TomlFault>
+    ensures value { Reads result (version_of (view keys.now)) }
+    ensures range { IfOk result (λ version. version ≤ 1) }
+{
+    let version = natural_or(
+        alloc,
+        keys,
+        "session_version",
+        SESSION_VERSION.least,
+        SESSION_VERSION.greatest,
+        1,
+    )?;
+    Ok(version as u16)
+}
+
 fn read_table(alloc: Global, purpose: Purpose, keys: &Value) -> Result<Configuration, TomlFault>
     ensures value { Reads result (configuration_of purpose (view keys.now)) }
     ensures link { IfOk result (λ c. IsLinkInRange c.link) }
@@ -181,6 +224,7 @@ fn read_table(alloc: Global, purpose: Purpose, keys: &Value) -> Result<Configura
 {
     let link = read_link(alloc, purpose, keys)?;
     let trade = read_trade(alloc, purpose, link.client_flow, link.server_flow, keys)?;
+    let version = read_version(alloc, keys)?;
     deny_unknown_keys(
         alloc,
         keys,
@@ -194,9 +238,13 @@ fn read_table(alloc: Global, purpose: Purpose, keys: &Value) -> Result<Configura
             "desks",
             "order_version",
             "reference",
+            "session_version",
         ],
     )?;
-    Ok(Configuration { link, trade })
+    Ok(Configuration {
+        link: with_version(link, version),
+        trade,
+    })
 }
 
 /// The configuration that a document is.

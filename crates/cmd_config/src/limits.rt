@@ -40,5 +40,11 @@ pub const REFERENCE: Range = Range {
     greatest: 1_000_000_000_000_000,
 };
 
+/// The version of the session schema.
+pub const SESSION_VERSION: Range = Range {
+    least: 0,
+    greatest: 1,
+};
+
 /// The words of flows.
 pub const FLOW_WORDS: &[&str] = &["recoverable", "idempotent", "unsequenced", "none"];

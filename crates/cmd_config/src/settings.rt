@@ -22,6 +22,8 @@ pub struct Settings {
     pub keepalive: u32,
     /// The credentials that a client has to give, at most 2,048 bytes.
     pub credentials: Bytes,
+    /// The version of the session schema that the acceptor speaks, 0 or 1.
+    pub version: u16,
 }
 
 fn read_answer(alloc: Global, text: &[u8]) -> Result<Settings, TomlFault>
@@ -33,12 +35,14 @@ fn read_answer(alloc: Global, text: &[u8]) -> Result<Settings, TomlFault>
         session,
         keepalive,
         credentials,
+        version,
         ..
     } = link;
     Ok(Settings {
         session,
         keepalive,
         credentials,
+        version,
     })
 }
 

@@ -66,7 +66,7 @@ allows_desks server desks = if desks == 0 then is_none server else desks_are_bui
 
 -- ---- the keys
 
--- {session, keepalive, client_flow, server_flow, credentials?, ..}
+-- {session, keepalive, client_flow, server_flow, credentials?, ..}; both ends have version 0 of the session schema
 abbrev pub link_of : Data → Read Link
 link_of keys =
     required (codes "session") session_of keys >>= λ session.
@@ -75,7 +75,7 @@ link_of keys =
     ensure_in_range (codes "client_flow") (allows_client client) >>= λ _.
     required (codes "server_flow") flow_of keys >>= λ server.
     get_or_default (codes "credentials") [] credentials_of keys >>= λ credentials.
-    Ok (record { session = session; keepalive = keepalive; client_flow = client; server_flow = server; credentials = credentials })
+    Ok (record { session = session; keepalive = keepalive; client_flow = client; server_flow = server; credentials = credentials; version = 0 })
 
 -- {.., senders, messages, ..}: the same number of messages for each sender
 abbrev pub messages_of : Data → Read (List ℕ)

@@ -134,6 +134,7 @@ fn read_link(alloc: Global, keys: &Value) -> Result<Link, TomlFault>
         client_flow: client,
         server_flow: server,
         credentials,
+        version: 0,
     })
 }
 

@@ -2,6 +2,7 @@
 
 use cmd_config::{
     DESKS, FLOW_WORDS, KEEPALIVE, ORDER_VERSION, Purpose, REFERENCE, Range, Role, SENDERS,
+    SESSION_VERSION,
 };
 use cmd_script::{ACTION_WORDS, COUNT, MESSAGES};
 use say_toml::PRIMITIVES;
@@ -58,6 +59,10 @@ const SETTINGS: &[Row] = &[
     Row {
         keys: &["reference"],
         admitted: Admitted::Number(REFERENCE),
+    },
+    Row {
+        keys: &["session_version"],
+        admitted: Admitted::Number(SESSION_VERSION),
     },
 ];
 
