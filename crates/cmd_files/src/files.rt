@@ -1,7 +1,7 @@
 //! A run over the files that its words name.
 
 use crate::again::place_of_frame;
-use crate::lines::{push_disk, push_input, push_journal, push_sink, push_source};
+use crate::lines::{push_disk, push_full, push_input, push_journal, push_sink, push_source};
 use crate::missing::{push_made, push_other};
 use crate::report::Report;
 use cmd_config::Purpose;
@@ -25,7 +25,8 @@ use std::sync::Wait;
 
 /// How a journal begins: its magic, and behind it zeros up to the end of its header and the closed byte.
 const JOURNAL: Begun = Begun {
-    mark: b"FIXPJRN1",
+    mark: b"FIXPJRN2",
+    older: b"FIXPJRN1",
     length: 17,
 };
 
@@ -45,8 +46,21 @@ const fn places(command: Command) -> [usize; 6] {
         Command::Check => [1, 0, 0, 2, 0, 0],
         Command::Decode => [1, 2, 0, 3, 0, 0],
         Command::Encode => [1, 2, 3, 0, 0, 0],
-        Command::Format => [0, 0, 0, 0, 1, 2],
+        Command::Format | Command::Migrate => [0, 0, 0, 0, 1, 2],
         Command::Journal => [0, 0, 0, 3, 1, 2],
+    }
+}
+
+/// What the files of the journals are to the command.
+const fn roles(command: Command) -> [&'static str; 2] {
+    match command {
+        Command::Migrate => ["OLD", "NEW"],
+        Command::Answer
+        | Command::Check
+        | Command::Decode
+        | Command::Encode
+        | Command::Format
+        | Command::Journal => ["OUTBOX", "INBOX"],
     }
 }
 
@@ -67,14 +81,15 @@ impl<'a> Run<'a> {
     fn of(words: &'a [String]) -> Option<Run<'a>> {
         let command = command_of(words)?;
         let [config, input, wire, out, outbox, inbox] = places(command);
+        let [first, second] = roles(command);
         Some(Run {
             command,
             config: named("CONFIG", words, config),
             input: named("INPUT", words, input),
             wire: named("WIRE", words, wire),
             out: named("OUT", words, out),
-            outbox: named("OUTBOX", words, outbox),
-            inbox: named("INBOX", words, inbox),
+            outbox: named(first, words, outbox),
+            inbox: named(second, words, inbox),
         })
     }
 
@@ -104,19 +119,21 @@ impl<'a> Run<'a> {
             | Command::Decode
             | Command::Encode
             | Command::Format
-            | Command::Journal => Wanted::Schema,
+            | Command::Journal
+            | Command::Migrate => Wanted::Schema,
         }
     }
 
-    /// How the files of journals are opened.
-    fn opening(&self) -> Opening {
+    /// How the files of both journals are opened.
+    fn openings(&self) -> [Opening; 2] {
         match self.command {
-            Command::Format => Opening::Make(JOURNAL),
+            Command::Format => [Opening::Make(JOURNAL), Opening::Make(JOURNAL)],
+            Command::Migrate => [Opening::Read, Opening::Begin(JOURNAL)],
             Command::Answer
             | Command::Check
             | Command::Decode
             | Command::Encode
-            | Command::Journal => Opening::Read,
+            | Command::Journal => [Opening::Read, Opening::Read],
         }
     }
 
@@ -141,10 +158,18 @@ impl<'a> Run<'a> {
                 self.push_unwritten(line, out, outside.out.reason(), outside.wire.reason())
             }
             Status::JournalFault => { self.push_failed(line, &outside.out_disk, &outside.in_disk) }
+            Status::JournalBad {
+                cause: JournalCause::NotFormatted,
+                ..
+            } if matches!(self.command, Command::Migrate) => {
+                push_place(line, self.outbox)?;
+                line.push_str("no journal of format 1")
+            }
             Status::JournalBad { which, cause } => {
                 push_journal(line, self.journal(*which), *which, *cause)?;
                 self.push_unmade(rt, line, *which, *cause, outside.out_disk.is_new())
             }
+            Status::Full { entries, bytes } => push_full(line, self.outbox, *entries, *bytes),
             Status::Message(bad) => {
                 let config = outside.config.kept().bytes();
                 self.push_message(rt, alloc, line, config, outside.input.kept(), bad)
@@ -154,7 +179,6 @@ impl<'a> Run<'a> {
             | Status::DialFault
             | Status::Unfinished { .. }
             | Status::Rejected { .. }
-            | Status::Full { .. }
             | Status::Turns
             | Status::Memory => Ok(()),
         }
@@ -342,13 +366,14 @@ fn devices<'a, R: Files<File = File> + Print + AllocGlobal>(
     out: FileSink<'a, R, File, Printer<'a, R>>,
 ) -> Devices<'a, R, Printer<'a, R>> {
     let alloc = rt.alloc();
+    let [first, second] = files.openings();
     Outside {
         config: FileSource::new(rt, alloc, files.config.path, TEXT_LIMIT + 1),
         input: FileSource::new(rt, alloc, files.input.path, ROOM),
         wire: FileSink::new(rt, files.wire, apart.outputs),
         out,
-        out_disk: FileDisk::new(rt, files.outbox, apart.journals, files.opening()),
-        in_disk: FileDisk::new(rt, files.inbox, apart.journals, files.opening()),
+        out_disk: FileDisk::new(rt, files.outbox, apart.journals, first),
+        in_disk: FileDisk::new(rt, files.inbox, apart.journals, second),
     }
 }
 

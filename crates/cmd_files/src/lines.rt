@@ -82,8 +82,35 @@ pub fn push_journal(
             line,
             "{cause}: for a new session run fixpgw format OUTBOX INBOX"
         ),
-        JournalCause::Damaged { .. } | JournalCause::Already => write!(line, "{cause}"),
+        JournalCause::OldFormat => {
+            let role = name.role;
+            write!(
+                line,
+                "{cause}: fixpgw migrate {role} NEW makes one of format 2 of it"
+            )
+        }
+        JournalCause::Changed { at } => write!(
+            line,
+            "record {at}, counted from 0, is read otherwise than it was written"
+        ),
+        JournalCause::Damaged { .. } | JournalCause::Already | JournalCause::NotFresh => {
+            write!(line, "{cause}")
+        }
     }
+}
+
+/// Adds the file of a journal whose records would take more bytes than a journal may.
+pub fn push_full(
+    line: &mut String,
+    name: Named<'_>,
+    entries: u64,
+    bytes: u64,
+) -> Result<(), AllocError> {
+    push_place(line, name)?;
+    write!(
+        line,
+        "its {entries} records would take {bytes} bytes, and a journal takes 2^33 at most"
+    )
 }
 
 /// Adds what is wrong with the bytes of the input, as far as they were kept.

@@ -21,6 +21,7 @@ const USAGE: &str =
   fixpgw encode CONFIG INPUT WIRE       writes the messages in the text of INPUT as frames to WIRE
   fixpgw format OUTBOX INBOX            makes the two journals of a new session
   fixpgw journal OUTBOX INBOX OUT       prints both journals to OUT
+  fixpgw migrate OLD NEW                moves a journal of format 1 to a file of its own, in the format of today
   fixpgw rehearse CONFIG OUT            runs two ends in memory by the script in CONFIG, and prints what both hold to OUT
   fixpgw COMMAND --help                 what a command takes and does
   fixpgw --help                         this text
@@ -93,18 +94,27 @@ Writes messages from their text. Nothing is written where a line of the text is 
 
 const FORMAT: &str = "usage: fixpgw format OUTBOX INBOX
 
-Makes the two journals of a new session, without records. A file that is a journal already is refused.
+Makes the two journals of a new session, without records. A file that is a journal already, of whatever format, is refused.
 
   OUTBOX   the journal of what is sent (made where it is missing; its first 17 bytes are written)
   INBOX    the journal of what is received (likewise; not touched where OUTBOX is refused)";
 
 const JOURNAL: &str = "usage: fixpgw journal OUTBOX INBOX OUT
 
-Prints both journals of a session, a line for each record. Nothing is printed where either is damaged or not one of its kind.
+Prints both journals of a session, a line for each record with its moment in milliseconds. Nothing is printed where either is damaged
+or not one of its kind. A journal of format 1 is refused: migrate it, and print what comes of that.
 
   OUTBOX   the journal of what is sent (read, and kept to this process meanwhile)
   INBOX    the journal of what is received (likewise)
   OUT      the lines (written); - is standard output";
+
+const MIGRATE: &str = "usage: fixpgw migrate OLD NEW
+
+Writes the records of a journal of format 1 to a file of its own, as a journal of format 2, each with the moment 0. Run it for OUTBOX and
+for INBOX. The first byte of NEW is written last: cut off at any moment, it leaves no journal there, and runs again to the whole one.
+
+  OLD      the journal of format 1 (read, and kept to this process meanwhile; it stays as it is)
+  NEW      the journal of format 2 (made where it is missing; else it is empty, or what was begun of this journal)";
 
 const REHEARSE: &str = "usage: fixpgw rehearse CONFIG OUT
 
@@ -126,6 +136,7 @@ fn usage_of(command: &str) -> Option<&'static str> {
         "encode" => Some(ENCODE),
         "format" => Some(FORMAT),
         "journal" => Some(JOURNAL),
+        "migrate" => Some(MIGRATE),
         "rehearse" => Some(REHEARSE),
         _ => None,
     }

@@ -3,22 +3,23 @@ use Rattle.std.specs.Prelude.{◌≡◌, ◌≢◌, ◌⊎◌, ℕ, List, [], ta
 use Rattle.std.specs.Option.{ForSome}
 use Rattle.gw_outside.specs.Disk.{Follows, LeavesSame, Torn}
 use Rattle.gw_outside.specs.Faults.{HasRisen}
-use Rattle.jr_record.specs.Images.{magic, IsJournal}
+use Rattle.jr_record.specs.Images.{magic as plain_magic}
+use Rattle.jr_dated.specs.Images.{magic, IsJournal}
 use Rattle.jr_boxes.specs.declared.faults.Which.TheVariants.{Outbox, Inbox}
 use Rattle.jr_boxes.specs.declared.faults.JournalCause.TheVariants.{Already}
 use Rattle.cmd_base.specs.declared.status.Status.{Status}
 use Rattle.cmd_base.specs.declared.status.Status.TheVariants.{Done, JournalFault, JournalBad}
 use Rattle.cmd_base.specs.Contents.{Disks}
 
--- a disk was made a journal without records: it did not begin with the magic, and each content that a stop may leave of it
+-- a disk was made a journal without records: it did not begin with the magic of either format, and each content that a stop may leave of it
 -- is such a journal
 pub record IsMade {D : Type 0} (told : D → Option (List ℕ)) (may_leave : D → List ℕ → Type 0) (before after : D) : Type 0 where
-  pub fresh : ForSome (told before) (λ content. take 8 content ≢ magic)
+  pub fresh : ForSome (told before) (λ content. (take 8 content ≢ magic) × (take 8 content ≢ plain_magic))
   pub empty : (image : List ℕ) → may_leave after image → IsJournal image []
 
--- a disk begins with the magic, and is as it was
+-- a disk begins with the magic of either format, and is as it was
 pub record IsAlready {D : Type 0} (told : D → Option (List ℕ)) (may_leave : D → List ℕ → Type 0) (before after : D) : Type 0 where
-  pub begins : ForSome (told before) (λ content. take 8 content ≡ magic)
+  pub begins : ForSome (told before) (λ content. (take 8 content ≡ magic) ⊎ (take 8 content ≡ plain_magic))
   pub content : told after ≡ told before
   pub images : LeavesSame (may_leave before) (may_leave after)
 

@@ -1,4 +1,4 @@
-//! The command `format`: the two journals of a new session. Relies on `jr_log` for the making of one.
+//! The command `format`: the two journals of a new session. Relies on `jr_segments` for the making of one.
 #![tactic(auto)]
 
 mod making;

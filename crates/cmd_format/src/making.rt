@@ -6,8 +6,8 @@ ghost use Rattle.cmd_format.specs.Formats.{Formats, KeepsBehindHeader};
 
 use cmd_base::{JournalCause, Status, Which};
 use gw_outside::Disk;
-use jr_log::format;
 use jr_record::FormatFault;
+use jr_segments::format;
 
 /// The status of a journal that was not made.
 fn refusal(which: Which, fault: FormatFault) -> Status

@@ -1,55 +1,103 @@
 //! Opening a journal that has to be one of a box.
 
-ghost use Rattle.std.specs.Prelude.{◌≡◌, ◌≤◌, ℕ, List, Option, IfOk, IfErr};
+ghost use Rattle.std.specs.Prelude.{◌≡◌, ◌≤◌, ◌⊎◌, ℕ, false, List, Option, IfOk, IfErr};
 ghost use Rattle.std.specs.Option.{ForSome};
 ghost use Rattle.gw_outside.specs.Faults.{HasRisen};
-ghost use Rattle.jr_record.specs.Images.{IsJournal};
 ghost use Rattle.jr_record.specs.declared.faults.OpenFault.TheVariants as open_fault;
-ghost use Rattle.jr_log.specs.Log.{disk_of, records_of};
-ghost use Rattle.jr_log.specs.Opening.{Refuses};
-ghost use Rattle.jr_judge.specs.Judged.{IsBox};
+ghost use Rattle.jr_dated.specs.Dated.{Dated};
+ghost use Rattle.jr_dated.specs.Images.{IsNotFormatted};
+ghost use Rattle.jr_dated.specs.declared.formats.Format.TheVariants.{Two};
+ghost use Rattle.jr_boxes.specs.declared.faults.BoxFault.TheVariants as box_fault;
+ghost use Rattle.jr_segments.specs.Journal.{RestsOn, broken_of, disk_of};
+ghost use Rattle.jr_segments.specs.Opening.{Refuses};
+ghost use Rattle.jr_judge.specs.Judged.{IsBox, IsWrong};
 ghost use Rattle.cmd_journal.specs.Prints.{IsRefusal};
 
 use cmd_base::{JournalCause, Status, Which};
 use gw_outside::Disk;
+use jr_boxes::BoxFault;
+use jr_dated::Limits;
 use jr_judge::judge;
-use jr_log::LogJournal;
-use jr_record::{Journal, Limits, OpenFault};
+use jr_record::OpenFault;
+use jr_segments::{SegJournal, is_old_format};
 use std::alloc::Global;
 
 /// How large a journal may grow that is only read.
 const LIMITS: Limits = Limits {
-    entries: 1 << 24,
-    bytes: 1 << 30,
+    entries: 0,
+    bytes: 0,
 };
 
-/// The status of a journal that was not opened.
-fn refusal(which: Which, fault: OpenFault) -> Status
-    ensures refused { (content : Option (List ℕ)) → ForSome content (Refuses fault) → IsRefusal which content result }
-    ensures fault { result ≡ Status.JournalFault → fault ≡ open_fault.Fault }
+/// Why a disk without the header of a journal is none.
+fn unformatted<D: Disk>(which: Which, disk: &mut D) -> Status
+    requires none { ForSome (D.told disk.old) IsNotFormatted }
+    ensures refused { IsRefusal which (D.told disk.old) result }
+    ensures content { D.told disk.new ≡ D.told disk.old }
+    ensures never_falls { D.faults disk.old ≤ D.faults disk.new }
+    ensures cause { result ≡ Status.JournalFault → HasRisen (D.faults disk.old) (D.faults disk.new) }
 {
-    match fault {
-        OpenFault::Memory => Status::Memory,
-        OpenFault::Fault => Status::JournalFault,
-        OpenFault::NotFormatted => Status::JournalBad {
+    match is_old_format(disk) {
+        Ok(true) => Status::JournalBad {
+            which,
+            cause: JournalCause::OldFormat,
+        },
+        Ok(false) => Status::JournalBad {
             which,
             cause: JournalCause::NotFormatted,
         },
-        OpenFault::Damaged { at } => Status::JournalBad {
-            which,
-            cause: JournalCause::Damaged { at },
-        },
+        Err(_) => Status::JournalFault,
     }
 }
 
-/// Opens the journal of a box.
+/// The disk that was not opened as a journal, and the status of that.
+fn refusal<D: Disk>(which: Which, disk: D, fault: OpenFault) -> (D, Status)
+    requires refused { ForSome (D.told disk) (Refuses Two fault) }
+    ensures refused { IsRefusal which (D.told disk) result.1 }
+    ensures content { D.told result.0 ≡ D.told disk }
+    ensures never_falls { D.faults disk ≤ D.faults result.0 }
+    ensures cause { result.1 ≡ Status.JournalFault → (fault ≡ open_fault.Fault) ⊎ HasRisen (D.faults disk) (D.faults result.0) }
+{
+    match fault {
+        OpenFault::Memory => (disk, Status::Memory),
+        OpenFault::Fault => (disk, Status::JournalFault),
+        OpenFault::NotFormatted => {
+            let mut disk = disk;
+            let status = unformatted(which, &mut disk);
+            (disk, status)
+        }
+        OpenFault::Damaged { at } => (
+            disk,
+            Status::JournalBad {
+                which,
+                cause: JournalCause::Damaged { at },
+            },
+        ),
+    }
+}
+
+/// The status of a journal that was not judged as one of its box.
+fn excluded(which: Which, fault: BoxFault) -> Status
+    ensures refused { (content : Option (List ℕ)) → ((at : ℕ) → fault ≡ box_fault.Wrong at → ForSome content (IsWrong which at)) → IsRefusal which content result }
+    ensures fault { result ≡ Status.JournalFault → fault ≡ box_fault.Fault }
+{
+    match fault {
+        BoxFault::Fault => Status::JournalFault,
+        BoxFault::Wrong { at } => Status::JournalBad {
+            which,
+            cause: JournalCause::Wrong { at },
+        },
+        BoxFault::Memory => Status::Memory,
+    }
+}
+
+/// Opens the journal of a box, and reads its records once.
 ///
 /// # Errors
 /// The disk comes back with each: `JournalFault` where a call of it failed, `JournalBad` with the cause why its content is no
 /// journal of this box, and `Memory`.
-pub fn open_box<D: Disk>(alloc: Global, which: Which, disk: D) -> Result<LogJournal<D>, (D, Status)>
-    ensures holds { IfOk result (λ j. ForSome (D.told disk) (IsBox which (records_of j))) }
-    ensures left { IfOk result (λ j. (image : List ℕ) → D.may_leave (disk_of j) image → IsJournal image (records_of j)) }
+pub fn open_box<D: Disk>(alloc: Global, which: Which, disk: D) -> Result<SegJournal<D>, (D, Status)>
+    ensures holds { IfOk result (λ j. (h : List Dated) × RestsOn j h × ForSome (D.told disk) (IsBox which h)) }
+    ensures sound { IfOk result (λ j. broken_of j ≡ false) }
     ensures content { IfOk result (λ j. D.told (disk_of j) ≡ D.told disk) }
     ensures never_falls { IfOk result (λ j. D.faults disk ≤ D.faults (disk_of j)) }
     ensures refused { IfErr result (λ e. IsRefusal which (D.told disk) e.1) }
@@ -57,19 +105,12 @@ pub fn open_box<D: Disk>(alloc: Global, which: Which, disk: D) -> Result<LogJour
     ensures refused_never_falls { IfErr result (λ e. D.faults disk ≤ D.faults e.0) }
     ensures cause { IfErr result (λ e. e.1 ≡ Status.JournalFault → HasRisen (D.faults disk) (D.faults e.0)) }
 {
-    let journal = match LogJournal::open(alloc, disk, LIMITS) {
+    let mut journal = match SegJournal::open(alloc, disk, LIMITS) {
         Ok(journal) => journal,
-        Err((disk, fault)) => return Err((disk, refusal(which, fault))),
+        Err((disk, fault)) => return Err(refusal(which, disk, fault)),
     };
-    match judge(alloc, which, journal.records(), journal.bytes()) {
-        Ok(None) => Ok(journal),
-        Ok(Some(at)) => Err((
-            journal.close(),
-            Status::JournalBad {
-                which,
-                cause: JournalCause::Wrong { at },
-            },
-        )),
-        Err(_) => Err((journal.close(), Status::Memory)),
+    match judge(alloc, which, &mut journal) {
+        Ok(()) => Ok(journal),
+        Err(fault) => Err((journal.close(), excluded(which, fault))),
     }
 }

@@ -1,38 +1,70 @@
-//! The whole of `journal`: the journals, the outbox first, then their lines.
+//! The whole of `journal`: the journals, the outbox first, then their lines, each record read and printed by itself.
 
-ghost use Rattle.std.specs.Prelude.{◌≡◌, ◌<◌, ◌≤◌, ◌^◌, length};
-ghost use Rattle.std.specs.List.{AllByRecursion};
+ghost use Rattle.std.specs.Prelude.{◌≡◌, ◌⊎◌, ◌≤◌, ℕ, false, List};
 ghost use Rattle.cmd_base.specs.Causes.{IsCaused, NoneFell, faults_of};
 ghost use Rattle.cmd_base.specs.Contents.{disks_of};
 ghost use Rattle.gw_outside.specs.Faults.{HasRisen};
-ghost use Rattle.jr_record.specs.Records.{IsRecord};
+ghost use Rattle.jr_boxes.specs.declared.faults.JournalCause as causes;
+ghost use Rattle.jr_boxes.specs.declared.faults.JournalCause.TheVariants as cause_variants;
+ghost use Rattle.jr_boxes.specs.declared.faults.Which as boxes;
+ghost use Rattle.jr_boxes.specs.declared.faults.Which.TheVariants as which_box;
+ghost use Rattle.jr_dated.specs.Dated.{Dated};
+ghost use Rattle.jr_segments.specs.Journal.{OnlyRead, RestsOn, broken_of, disk_of};
 ghost use Rattle.jr_text.specs.Lines.{journal_lines};
-ghost use Rattle.cmd_journal.specs.Prints.{GaveLines, Prints, journal_devices};
+ghost use Rattle.jr_text.specs.declared.printing.PrintFault.TheVariants as print;
+ghost use Rattle.cmd_journal.specs.Prints.{GaveLines, HasChanged, Prints, Stops, journal_devices};
 
 use crate::boxes::open_box;
-use cmd_base::{Outside, Status, Which, begin};
+use cmd_base::{JournalCause, Outside, Status, Which, begin};
 use gw_outside::{Disk, Sink, Source};
-use jr_record::Record;
+use jr_segments::SegJournal;
 use jr_text::{PrintFault, print_boxes};
 use std::alloc::Global;
 
+/// The status of lines that were not all printed.
+fn unprinted(fault: PrintFault) -> Status
+    ensures output { result ≡ Status.OutputFault → fault ≡ print.Output }
+    ensures disk { result ≡ Status.JournalFault → (which : boxes.Which) × (fault ≡ print.Disk which) }
+    ensures changed { (which : boxes.Which) (why : causes.JournalCause) → result ≡ Status.JournalBad which why → (at : ℕ) × (why ≡ cause_variants.Changed at) × (fault ≡ print.Changed which at) }
+    ensures stops { Stops result }
+{
+    match fault {
+        PrintFault::Output => Status::OutputFault,
+        PrintFault::Memory => Status::Memory,
+        PrintFault::Disk { .. } => Status::JournalFault,
+        PrintFault::Changed { which, at } => Status::JournalBad {
+            which,
+            cause: JournalCause::Changed { at },
+        },
+    }
+}
+
 /// Begins OUT, and prints the records of both journals.
-fn print_records<K: Sink>(alloc: Global, out: &mut K, outbox: &[Record], inbox: &[Record]) -> Status
-    requires out_legal { AllByRecursion IsRecord outbox.now }
-    requires out_few { length outbox.now < 2 ^ 40 }
-    requires in_legal { AllByRecursion IsRecord inbox.now }
-    requires in_few { length inbox.now < 2 ^ 40 }
-    ensures lines { GaveLines (journal_lines outbox.now inbox.now) (K.taken out.old) (K.taken out.new) result }
+fn print_records<K: Sink, D: Disk>(
+    alloc: Global,
+    out: &mut K,
+    outbox: &mut SegJournal<D>,
+    inbox: &mut SegJournal<D>,
+) -> Status
+    requires out_sound { broken_of outbox.old ≡ false }
+    requires in_sound { broken_of inbox.old ≡ false }
+    ensures lines { (h i : List Dated) → RestsOn outbox.old h → RestsOn inbox.old i → (k l : List Dated) × RestsOn outbox.new k × RestsOn inbox.new l
+        × GaveLines (journal_lines k l) (K.taken out.old) (K.taken out.new) result }
     ensures counted { K.faults out.old ≤ K.faults out.new }
     ensures cause { result ≡ Status.OutputFault → HasRisen (K.faults out.old) (K.faults out.new) }
+    ensures disks { result ≡ Status.JournalFault
+        → HasRisen (D.faults (disk_of outbox.old)) (D.faults (disk_of outbox.new)) ⊎ HasRisen (D.faults (disk_of inbox.old)) (D.faults (disk_of inbox.new)) }
+    ensures out_changed { (why : causes.JournalCause) → result ≡ Status.JournalBad which_box.Outbox why → HasChanged (D.told (disk_of outbox.old)) why }
+    ensures in_changed { (why : causes.JournalCause) → result ≡ Status.JournalBad which_box.Inbox why → HasChanged (D.told (disk_of inbox.old)) why }
+    ensures out_read { OnlyRead outbox.old outbox.new }
+    ensures in_read { OnlyRead inbox.old inbox.new }
 {
     let Ok(()) = begin(out) else {
         return Status::OutputFault;
     };
     match print_boxes(alloc, out, outbox, inbox) {
         Ok(()) => Status::Done,
-        Err(PrintFault::Output) => Status::OutputFault,
-        Err(PrintFault::Memory) => Status::Memory,
+        Err(fault) => unprinted(fault),
     }
 }
 
@@ -51,15 +83,15 @@ fn print_journals<K: Sink, D: Disk>(
     ensures counted { K.faults out.old ≤ K.faults out.new }
     ensures cause { result.0 ≡ Status.OutputFault → HasRisen (K.faults out.old) (K.faults out.new) }
 {
-    let outbox = match open_box(alloc, Which::Outbox, out_disk) {
+    let mut outbox = match open_box(alloc, Which::Outbox, out_disk) {
         Ok(outbox) => outbox,
         Err((disk, status)) => return (status, disk, in_disk),
     };
-    let inbox = match open_box(alloc, Which::Inbox, in_disk) {
+    let mut inbox = match open_box(alloc, Which::Inbox, in_disk) {
         Ok(inbox) => inbox,
         Err((disk, status)) => return (status, outbox.close(), disk),
     };
-    let status = print_records(alloc, out, outbox.records(), inbox.records());
+    let status = print_records(alloc, out, &mut outbox, &mut inbox);
     (status, outbox.close(), inbox.close())
 }
 

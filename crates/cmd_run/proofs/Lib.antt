@@ -1,3 +1,4 @@
 mod Completing
 mod Formatting
 mod Journals
+mod Moving

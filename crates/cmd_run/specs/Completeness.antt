@@ -2,7 +2,8 @@
 use Rattle.std.specs.Prelude.{◌≡◌, ◌≢◌, ◌⊎◌, ℕ, ◌^◌, ◌≤◌, List, length, Option, Some, Ok, take}
 use Rattle.std.specs.Io.KnownBytes.{Appends}
 use Rattle.gw_outside.specs.Faults.{HasRisen}
-use Rattle.jr_record.specs.Images.{magic}
+use Rattle.jr_record.specs.Images.{magic as plain_magic}
+use Rattle.jr_dated.specs.Images.{magic}
 use Rattle.sbe_layout.specs.declared.plan.Plan.{Plan}
 use Rattle.layout_text.specs.Lines.{lines_of_messages}
 use Rattle.cmd_config.specs.declared.settings.Settings.{Settings}
@@ -78,11 +79,12 @@ EncodeCompletes = (text input : List ℕ) (plan : Plan) (messages : List Message
     → JudgesBy commands.Encode text status → GaveWire (plan_of_text text) input before after status → IsCaused old new status → NoneRose old new
     → (status ≡ Memory) ⊎ WroteFrames plan messages before after status
 
--- a disk tells a content that does not begin with the magic
+-- a disk tells a content that does not begin with the magic of either format
 pub record IsUnformatted {D : Type 0} (told : D → Option (List ℕ)) (disk : D) : Type 0 where
   pub content : List ℕ
   pub tells : told disk ≡ Some content
   pub begins : take 8 content ≢ magic
+  pub begins_old : take 8 content ≢ plain_magic
 
 -- both journals were made
 pub record Formatted {D : Type 0} (told : D → Option (List ℕ)) (may_leave : D → List ℕ → Type 0) (before after : Disks D) (status : Status) : Type 0 where

@@ -1,7 +1,7 @@
 -- What is left for a run of `journal` over told disks in which no device failed, by what is found of them.
 use Rattle.std.specs.Prelude.{◌≡◌, ◌⊎◌, ℕ, List, Option, Some, Result, Ok, Err}
 use Rattle.std.specs.Io.KnownBytes.{Appends}
-use Rattle.jr_record.specs.declared.record.Record.{Record}
+use Rattle.jr_dated.specs.Dated.{Dated}
 use Rattle.jr_boxes.specs.declared.faults.Which.{Which}
 use Rattle.jr_boxes.specs.declared.faults.Which.TheVariants.{Outbox, Inbox}
 use Rattle.jr_boxes.specs.declared.faults.JournalCause.{JournalCause}
@@ -15,13 +15,13 @@ use Rattle.cmd_journal.specs.Prints.{JournalDevices, Prints}
 use Rattle.cmd_run.specs.Completeness.{NoneRose}
 
 -- a disk tells a content of which this is found: the records of its box, or why it is none
-pub record Tells {D : Type 0} (told : D → Option (List ℕ)) (which : Which) (disk : D) (found : Result (List Record) JournalCause) : Type 0 where
+pub record Tells {D : Type 0} (told : D → Option (List ℕ)) (which : Which) (disk : D) (found : Result (List Dated) JournalCause) : Type 0 where
   pub content : List ℕ
   pub tells : told disk ≡ Some content
   pub is : IsVerdict which content found
 
 -- the first journal that is none is refused, with its cause; where there is none, all lines were printed
-abbrev pub Finishes : {K : Type 0} → (K → Option (List ℕ)) → Result (List Record) JournalCause → Result (List Record) JournalCause → K → K → Status → Type 0
+abbrev pub Finishes : {K : Type 0} → (K → Option (List ℕ)) → Result (List Dated) JournalCause → Result (List Dated) JournalCause → K → K → Status → Type 0
 Finishes taken (Err cause) inbox old new status = (status ≡ JournalBad Outbox cause) × (new ≡ old)
 Finishes taken (Ok outbox) (Err cause) old new status = (status ≡ JournalBad Inbox cause) × (new ≡ old)
 Finishes taken (Ok outbox) (Ok inbox) old new status = (status ≡ Done) × Appends (taken old) (taken new) (journal_lines outbox inbox)
@@ -29,7 +29,7 @@ Finishes taken (Ok outbox) (Ok inbox) old new status = (status ≡ Done) × Appe
 -- over two told disks it did that, or memory ran out
 abbrev pub JournalCompletes : {K D : Type 0} → JournalDevices K D → Type 0
 JournalCompletes {K} {D} devices = (before after : Disks D) (old new : K) (counts risen : Counts) (status : Status)
-    (outbox inbox : Result (List Record) JournalCause)
+    (outbox inbox : Result (List Dated) JournalCause)
     → Tells devices.told Outbox before.outbox outbox → Tells devices.told Inbox before.inbox inbox
     → Prints devices before after old new status → IsCaused counts risen status → NoneRose counts risen
     → (status ≡ Memory) ⊎ Finishes devices.taken outbox inbox old new status

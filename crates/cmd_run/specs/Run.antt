@@ -7,7 +7,7 @@ use Rattle.cmd_base.specs.Texts.{Judges}
 use Rattle.cmd_run.specs.declared.words.Command.{Command}
 use Rattle.cmd_run.specs.declared.words.Command.TheVariants as commands
 
--- `answer` reads the settings of a session, `check`, `decode` and `encode` a schema, and `format` and `journal` nothing
+-- `answer` reads the settings of a session, `check`, `decode` and `encode` a schema, and `format`, `journal` and `migrate` nothing
 abbrev pub JudgesBy : Command → List ℕ → Status → Type 0
 JudgesBy commands.Answer text status = Judges status (settings_of_text text)
 JudgesBy commands.Check text status = Judges status (plan_of_text text)
@@ -15,6 +15,7 @@ JudgesBy commands.Decode text status = Judges status (plan_of_text text)
 JudgesBy commands.Encode text status = Judges status (plan_of_text text)
 JudgesBy commands.Format text status = Unit {0}
 JudgesBy commands.Journal text status = Unit {0}
+JudgesBy commands.Migrate text status = Unit {0}
 
 -- a text is no configuration of this command
 abbrev pub IsRefused : Command → List ℕ → Type 0
@@ -24,3 +25,4 @@ IsRefused commands.Decode text = IsErr (plan_of_text text)
 IsRefused commands.Encode text = IsErr (plan_of_text text)
 IsRefused commands.Format text = ⊥
 IsRefused commands.Journal text = ⊥
+IsRefused commands.Migrate text = ⊥

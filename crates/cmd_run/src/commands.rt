@@ -18,6 +18,10 @@ ghost use Rattle.cmd_decode.specs.Promise.{GaveText};
 ghost use Rattle.cmd_encode.specs.Promise.{GaveWire, LeavesWire};
 ghost use Rattle.cmd_format.specs.Formats.{Formats, KeepsBehindHeader};
 ghost use Rattle.cmd_journal.specs.Prints.{Prints, journal_devices};
+ghost use Rattle.cmd_migrate.specs.Moves.{KeepsOld, Moves};
+ghost use Rattle.jr_migrate.specs.Fresh.{IsFresh};
+ghost use Rattle.jr_migrate.specs.Migrates.{LeavesWhole};
+ghost use Rattle.std.specs.Option.{ForSome};
 ghost use Rattle.cmd_run.specs.Run.{IsRefused, JudgesBy};
 
 use crate::words::{Command, command_of};
@@ -28,6 +32,7 @@ use cmd_decode::decode;
 use cmd_encode::encode;
 use cmd_format::format_journals;
 use cmd_journal::journal;
+use cmd_migrate::migrate_journal;
 use gw_outside::{Disk, Sink, Source};
 use std::alloc::Global;
 use std::sync::Wait;
@@ -41,8 +46,9 @@ use std::sync::Wait;
 /// ran out. `decode` gives OUT the lines of the messages whose frames INPUT has, up to the first fault, and `encode` gives
 /// WIRE the frames of the messages that the text of INPUT spells, up to the first that may not be written, and nothing where
 /// a line of the text is refused. `format` makes both disks journals without records, the outbox first, and refuses a disk
-/// that begins as a journal does. `journal` gives OUT the lines of the records that both disks hold, refuses a disk that holds
-/// none of its box, the outbox first, and gives both disks back as they were.
+/// that begins as a journal of either format does. `journal` gives OUT the lines of the records that both disks hold, refuses a disk that
+/// holds none of its box, the outbox first, and gives both disks back as they were. `migrate` writes the records of a journal of format 1
+/// to a disk of its own as a journal of format 2.
 pub fn run<R: Wait, S: Source, K: Sink, D: Disk>(
     rt: &R,
     alloc: Global,
@@ -71,8 +77,15 @@ pub fn run<R: Wait, S: Source, K: Sink, D: Disk>(
     ensures journals_told { command_of (bytes_of words.now) ≡ Some commands.Journal → (D.told result.1.out_disk ≡ D.told outside.out_disk) × (D.told result.1.in_disk ≡ D.told outside.in_disk) }
     ensures untouched_by_journal { command_of (bytes_of words.now) ≡ Some commands.Journal → (result.1.config ≡ outside.config) × (result.1.input ≡ outside.input) × (result.1.wire ≡ outside.wire) }
 
+    ensures migrate_output { command_of (bytes_of words.now) ≡ Some commands.Migrate → Moves D.told D.may_leave D.faults (disks_of outside) (disks_of result.1) result.0 }
+    ensures migrate_old { command_of (bytes_of words.now) ≡ Some commands.Migrate → KeepsOld D.told D.may_leave outside.out_disk result.1.out_disk }
+    ensures migrate_left { command_of (bytes_of words.now) ≡ Some commands.Migrate → ForSome (D.told outside.in_disk) IsFresh
+        → ForSome (D.told outside.out_disk) (LeavesWhole (D.may_leave outside.in_disk) (D.may_leave result.1.in_disk)) }
+    ensures untouched_by_migrate { command_of (bytes_of words.now) ≡ Some commands.Migrate → KeepsStreams outside result.1 }
+
     // The order of refusals: the words are `untouched`; then the configuration, before anything behind it is touched; then the
-    // journals, of which `format_output` and `journal_output` say that the outbox comes first; then the inputs, before an output is
+    // journals, of which `format_output` and `journal_output` say that the outbox comes first, and this that a read behind
+    // `journal`'s judgement may fail when OUT has lines already; then the inputs, before an output is
     // begun, as `spared` and its sisters say.
     ensures refused { (fault : ConfigFault) → result.0 ≡ Status.Config fault → KeepsBehindConfig outside result.1 }
     ensures config_first { (command : Command) → command_of (bytes_of words.now) ≡ Some command → (text : List ℕ) → S.left outside.config ≡ Some text → IsRefused command text → StopsAtConfig S.faults outside result.1 result.0 }
@@ -80,7 +93,7 @@ pub fn run<R: Wait, S: Source, K: Sink, D: Disk>(
     ensures spared { result.0 ≡ Status.InputFault → SparesOutputs S.left outside result.1 }
     ensures spared_by_check { command_of (bytes_of words.now) ≡ Some commands.Check → result.0 ≡ Status.InputFault → result.1.out ≡ outside.out }
     ensures spared_by_encode { command_of (bytes_of words.now) ≡ Some commands.Encode → LeavesWire result.0 → result.1.wire ≡ outside.wire }
-    ensures journals_first { IsOfJournals result.0 → KeepsBehindJournals outside result.1 }
+    ensures journals_first { IsOfJournals result.0 → (command_of (bytes_of words.now) ≡ Some commands.Journal → ⊥) → KeepsBehindJournals outside result.1 }
 
     ensures within { ReadsWithin (S.left outside.config) (S.left result.1.config) (text_limit + 1) }
     ensures none_fell { NoneFell (faults_of S.faults K.faults D.faults outside) (faults_of S.faults K.faults D.faults result.1) }
@@ -110,5 +123,9 @@ pub fn run<R: Wait, S: Source, K: Sink, D: Disk>(
             (status, outside)
         }
         Some(Command::Journal) => journal(alloc, outside),
+        Some(Command::Migrate) => {
+            let status = migrate_journal(alloc, &mut outside.out_disk, &mut outside.in_disk);
+            (status, outside)
+        }
     }
 }

@@ -3,6 +3,7 @@
 ghost use Rattle.cmd_run.specs.Completeness.{AnswerCompletes, CheckCompletes, DecodeCompletes, EncodeCompletes, FormatCompletes};
 ghost use Rattle.cmd_journal.specs.Prints.{journal_devices};
 ghost use Rattle.cmd_run.specs.Journals.{JournalCompletes};
+ghost use Rattle.cmd_run.specs.Moving.{MigrateCompletes};
 
 use gw_outside::{Disk, Sink};
 
@@ -41,4 +42,11 @@ pub fn format_completes<D: Disk>()
 /// or memory ran out. Of what a disk tells one of these is found at most.
 pub fn journal_completes<K: Sink, D: Disk>()
     ensures { JournalCompletes (journal_devices K.Sink D.Disk) }
+{}
+
+/// What the clauses of `run` say of `migrate` leaves one end for two told disks, where no device failed: OLD is refused where it is no
+/// journal of format 1, then NEW where it is not fresh, then a journal that would be too long; where none of these is so, all records were
+/// moved; or memory ran out.
+pub fn migrate_completes<D: Disk>()
+    ensures { MigrateCompletes D.told D.may_leave D.faults }
 {}

@@ -12,6 +12,6 @@ pub use commands::run;
 pub use jr_judge::one_verdict_of_box;
 pub use laws::{
     answer_completes, check_completes, decode_completes, encode_completes, format_completes,
-    journal_completes,
+    journal_completes, migrate_completes,
 };
 pub use words::{Command, command_of};

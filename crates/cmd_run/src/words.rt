@@ -18,6 +18,8 @@ pub enum Command {
     Format,
     /// `journal OUTBOX INBOX OUT`
     Journal,
+    /// `migrate OLD NEW`
+    Migrate,
 }
 
 /// The command of a listed form of words.
@@ -33,6 +35,7 @@ pub fn command_of(words: &[String]) -> Option<Command>
         [command, _config, _out] if command.as_str() == "check" => Some(Command::Check),
         [command, _outbox, _inbox] if command.as_str() == "format" => Some(Command::Format),
         [command, _outbox, _inbox, _out] if command.as_str() == "journal" => Some(Command::Journal),
+        [command, _old, _new] if command.as_str() == "migrate" => Some(Command::Migrate),
         _ => None,
     }
 }

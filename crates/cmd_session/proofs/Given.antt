@@ -2,9 +2,9 @@
 use Rattle.std.proofs.Common.{◌≡◌, ℕ, List, Option, sym, subst}
 use Rattle.fixp_shake.specs.declared.config.EndConfig.{EndConfig}
 use Rattle.fixp_shake.specs.declared.config.Role.{Role}
-use Rattle.jr_record.specs.declared.journal.Journal.{Ghosts}
-use Rattle.jr_boxes.specs.declared.inbox.Inbox.{Inbox}
-use Rattle.jr_boxes.specs.declared.outbox.Outbox.{Outbox}
+use Rattle.jr_dated.specs.declared.journal.Journal.{Ghosts}
+use Rattle.jr_kept.specs.declared.inbox.Inbox.{Inbox}
+use Rattle.jr_kept.specs.declared.outbox.Outbox.{Outbox}
 use Rattle.cmd_base.specs.Contents.{Disks}
 use Rattle.cmd_base.specs.declared.status.Status.{Status}
 use Rattle.cmd_config.specs.declared.configuration.Configuration.{Configuration}
@@ -38,6 +38,6 @@ pub refused_by : {D : Type 0} (told : D → Option (List ℕ)) (may_leave : D �
     → RefusedBoxes told may_leave disk config.peer_flow before after status → RefusedBoxes told may_leave disk config'.peer_flow before after status
 refused_by told may_leave disk config config' before after status same h = subst (λ (c : EndConfig). RefusedBoxes told may_leave disk c.peer_flow before after status) same h
 
-pub lived_by : {J : Type 0} {G : Ghosts J} {O : Type 0} {H : Ghosts O} {S K D N C : Type 0} (sees : Sees S K D N C) (senders : ℕ) (config config' : EndConfig) (input : S) (before after : OverBoxes K N C (Outbox O H) (Inbox J G)) (status : Status)
-    → config ≡ config' → LivedOn sees senders config input before after status → LivedOn sees senders config' input before after status
-lived_by sees senders config config' input before after status same h = subst (λ (c : EndConfig). LivedOn sees senders c input before after status) same h
+pub lived_by : {J : Type 0} {G : Ghosts J} {O : Type 0} {H : Ghosts O} {S K D N C : Type 0} (sees : Sees S K D N C) (senders : ℕ) (config config' : EndConfig) (input : S) (content : Option (List ℕ)) (before after : OverBoxes K N C (Outbox O H) (Inbox J G)) (status : Status)
+    → config ≡ config' → LivedOn sees senders config input content before after status → LivedOn sees senders config' input content before after status
+lived_by sees senders config config' input content before after status same h = subst (λ (c : EndConfig). LivedOn sees senders c input content before after status) same h

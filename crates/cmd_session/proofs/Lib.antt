@@ -1,4 +1,5 @@
 pub mod Reading
+pub mod Verdicts
 mod Counting
 mod Opened
 mod Kept
@@ -6,3 +7,6 @@ mod GoingOn
 mod Served
 mod Over
 mod Given
+pub mod Histories
+mod Opening
+mod Later

@@ -1,5 +1,5 @@
 -- One life over both journals, from what it was over their boxes.
-use Rattle.std.proofs.Common.{◌≡◌, ◌⊎◌, inl, inr, ⊎_elim, ℕ, ◌^◌, ◌≤◌, true, false, List, [], ◌++◌, length, map, Option, Result, sym, ap, subst, ◌∙◌, arith}
+use Rattle.std.proofs.Common.{◌≡◌, ◌⊎◌, inl, inr, ⊎_elim, ℕ, ◌^◌, ◌≤◌, true, List, [], ◌++◌, length, map, Option, Some, Result, sym, ap, subst, ◌∙◌, arith}
 use Rattle.std.specs.Prelude.{option_to_list}
 use Rattle.std.specs.Option.{ForSome}
 use Rattle.std.proofs.Math.Logic.{∥∥₁_map, ∥∥₁_elim}
@@ -8,7 +8,7 @@ use mathlib.Core.List.{IsPrefix, is_set as List-set}
 use mathlib.Core.Sum.{⊎_set}
 use native.Mathlib.Nat.{ℕ_set}
 use Rattle.gw_outside.specs.Faults.{HasRisen}
-use Rattle.session_model.specs.Journal.{Entry, OutboxRecord, entries, InOrder}
+use Rattle.session_model.specs.Journal.{Entry, History, OutboxRecord, entries, InOrder}
 use Rattle.session_model.specs.Inbox.{InboxRecord}
 use Rattle.session_model.specs.Lives.{KeepsConnections, KeepsOutbox}
 use Rattle.fixp_shake.specs.declared.config.EndConfig.{EndConfig}
@@ -18,16 +18,18 @@ use Rattle.connection_laws.specs.Living.{Opens}
 use Rattle.turn_laws.specs.Standing.{Has}
 use Rattle.two_ends.specs.Meeting.{life_in}
 use Rattle.two_ends.specs.Loops.{machine_life}
-use Rattle.jr_record.specs.declared.journal.Journal.{Ghosts}
+use Rattle.jr_dated.specs.declared.journal.Journal.{Ghosts}
 use Rattle.jr_record.specs.declared.record.Record.{Record}
-use Rattle.jr_record.specs.declared.limits.Limits.{Limits as JournalLimits}
-use Rattle.jr_record.specs.Images.{IsJournal, Leaves, journal_size}
+use Rattle.jr_dated.specs.declared.limits.Limits.{Limits as JournalLimits}
+use Rattle.jr_dated.specs.Dated.{Dated, undated}
+use Rattle.jr_dated.specs.Images.{journal_size, Leaves as LeavesDated}
+use Rattle.cmd_session.specs.Journals.{IsJournal}
 use Rattle.jr_boxes.specs.Outboxes.{record_of, outbox_of, records_of_history}
 use Rattle.jr_boxes.specs.Inboxes.{records_of_inbox}
-use Rattle.jr_boxes.specs.declared.outbox.Outbox.{Outbox}
-use Rattle.jr_boxes.specs.declared.inbox.Inbox.{Inbox}
-use Rattle.jr_boxes.specs.Outbox as outboxes
-use Rattle.jr_boxes.specs.Inbox as inboxes
+use Rattle.jr_kept.specs.declared.outbox.Outbox.{Outbox}
+use Rattle.jr_kept.specs.declared.inbox.Inbox.{Inbox}
+use Rattle.jr_kept.specs.Outbox as outboxes
+use Rattle.jr_kept.specs.Inbox as inboxes
 use Rattle.jr_boxes.proofs.Kept.{length-places}
 use Rattle.gate_turn.specs.Views.{Limits}
 use Rattle.conn_steps.specs.Settling.{IsPast, HaveRoom}
@@ -45,10 +47,12 @@ use Rattle.life_laws.specs.PlanLives.{clocked, LivedBoxes, WasFull, FillsInbox}
 use Rattle.plan_outbox.specs.Behind.{GoesOnFrom}
 use Rattle.life_laws.proofs.Outboxes.{entries-outbox_of, plans_keep_outbox}
 use Rattle.cmd_base.specs.declared.status.Status.{Status}
-use Rattle.cmd_session.specs.Lived.{LeavesImages, FullInbox, limits, OpensOutbox, OpensInbox, GoOn, LivedOver, LivedOn, Lived, over_boxes}
+use Rattle.cmd_session.specs.Lived.{LeavesImages, FullInbox, limits, OpensInbox, LivedOver, LivedOn, Lived, over_boxes}
 use Rattle.cmd_session.specs.Outsides.{Sees, live_of}
 use Rattle.cmd_session.specs.declared.outside.SessionOutside.{SessionOutside}
-use Rattle.cmd_session.proofs.Kept.{outbox_kept, inbox_kept}
+use Rattle.cmd_session.proofs.Histories.{same_history}
+use Rattle.cmd_session.proofs.Kept.{left_images, held_kept, inbox_kept}
+use Rattle.cmd_session.proofs.Later.{HoldsTold}
 
 -- a disk's count rose where that of a box over it did
 pub risen_over : (disk now_disk old new : ℕ) → disk ≤ old → new ≡ now_disk → HasRisen old new → HasRisen disk now_disk
@@ -60,41 +64,44 @@ record_set = hlevel (ℕ_set, List-set, ⊎_set)
 records_prop : (rs qs : List Record) → IsProp (rs ≡ qs)
 records_prop rs qs = List-set record_set rs qs
 
-module _ {S K D N C J : Type 0} {H : Ghosts J} (outbox : Outbox J H) (sees : Sees S K D N C) (disk_at : J → D) (leaves_are : (j : J) (image : Option (List Record)) → Leaves (sees.may_leave (disk_at j)) image → H.leaves j image)
-    (only : (j : J) (rs qs : List Record) → H.stands j rs → H.stands j qs → rs ≡ qs) (sizes : (j : J) (rs : List Record) → H.stands j rs → journal_size rs ≡ H.size j) where
+module _ {S K D N C J : Type 0} {H : Ghosts J} (outbox : Outbox J H) (sees : Sees S K D N C) (disk_at : J → D) (leaves_are : (j : J) (image : Option (List Dated)) → LeavesDated (sees.may_leave (disk_at j)) image → H.leaves j image)
+    (sizes : (j : J) (ds : List Dated) → H.stands j ds → journal_size (undated ds) ≡ H.size j) where
   module _ (config : EndConfig) (plans : List (List (List ℕ))) (before after : SessionOutside S K D N C) (closed : Outbox J H) (box since : Inbox J H) (result : Result (Unit {0}) ServeFault)
-      (o : OpensOutbox (sees.told before.out_disk) outbox) (i : OpensInbox (sees.told before.in_disk) box) (limit : ((outboxes.limits_of outbox).entries ≡ 2 ^ 24) × ((outboxes.limits_of outbox).bytes ≡ 2 ^ 30))
-      (in_limit : (inboxes.limits_of box).bytes ≡ 2 ^ 30) (now_out_is : after.out_disk ≡ disk_at (outboxes.journal_of closed)) (now_in_is : after.in_disk ≡ disk_at (inboxes.journal_of since))
+      (o : HoldsTold (sees.told before.out_disk) outbox) (i : OpensInbox (sees.told before.in_disk) box) (limit : ((outboxes.limits_of outbox).entries ≡ 2 ^ 26) × ((outboxes.limits_of outbox).bytes ≡ 2 ^ 33))
+      (in_limit : (inboxes.limits_of box).bytes ≡ 2 ^ 33) (now_out_is : after.out_disk ≡ disk_at (outboxes.journal_of closed)) (now_in_is : after.in_disk ≡ disk_at (inboxes.journal_of since))
       (out_least : sees.disk before.out_disk ≤ outboxes.faults_of outbox) (in_least : sees.disk before.in_disk ≤ inboxes.faults_of box) (out_count : sees.disk after.out_disk ≡ outboxes.faults_of closed) (in_count : sees.disk after.in_disk ≡ inboxes.faults_of since)
-      (go : GoOn plans outbox) (l : LivedBoxes (clocked sees.links (sees.last before.clock) (sees.last after.clock)) config plans (beside (sees.carried before.dialer) (sees.taken before.out) box) (beside (sees.carried after.dialer) (sees.taken after.out) since) outbox closed result) where
+      (go : ForSome (sees.told before.out_disk) (λ content. (h : History) → outboxes.HoldsBox outbox h [] → GoesOnFrom plans h)) (l : LivedBoxes (clocked H.tells sees.links (sees.last before.clock) (sees.last after.clock)) config plans (beside (sees.carried before.dialer) (sees.taken before.out) box) (beside (sees.carried after.dialer) (sees.taken after.out) since) outbox closed result) where
     abbrev machine : State
-    machine = fresh config (opened_state l.opening box) (2 ^ 24)
+    machine = fresh config (opened_state l.opening box) (2 ^ 26)
 
     abbrev entries_then : List Entry
     entries_then = entries (outbox_of l.closing)
 
-    -- the outbox told the records of the history that the gate opened on
-    same_records : records_of_history o.history ≡ records_of_history l.opening
-    same_records = ∥∥₁_elim l.opened (records_prop (records_of_history o.history) (records_of_history l.opening))
-        (λ h. only (outboxes.journal_of outbox) (records_of_history o.history) (records_of_history l.opening) o.holds.journal.stands_for h.journal.stands_for)
+    -- where the outbox told records, they are those of the history that the gate opened on
+    same_records : (content : List ℕ) → sees.told before.out_disk ≡ Some content → records_of_history o.history ≡ records_of_history l.opening
+    same_records content is = ∥∥₁_elim l.opened (records_prop (records_of_history o.history) (records_of_history l.opening))
+        (λ h. ap (λ (x : History). records_of_history x) (sym (o.one content is l.opening h)))
 
     -- so the plans go on from it
-    goes_on_from : GoesOnFrom plans l.opening
-    goes_on_from = go l.opening (subst (λ (rs : List Record). H.stands (outboxes.journal_of outbox) rs) same_records o.holds.journal.stands_for)
+    goes_on_from : ForSome (sees.told before.out_disk) (λ content. GoesOnFrom plans l.opening)
+    goes_on_from content is = subst (λ (h : History). GoesOnFrom plans h) (same_history o.history l.opening (same_records content is))
+        (go content is o.history o.holds)
 
     has : Has entries_then l.seen
     has = subst (λ (es : List Entry). Has es l.seen) (sym (entries-outbox_of l.closing)) (record { begins = l.begins.made; few = l.few })
 
     opens : Opens (entries (outbox_of l.opening)) entries_then machine i.inbox
     opens = subst (λ (es : List Entry). Opens es entries_then machine i.inbox) (sym (entries-outbox_of l.opening))
-        (opened_opens box l.opening config (2 ^ 24) entries_then i.inbox (subst (λ (es : List Entry). IsPrefix l.opening.made es) (sym (entries-outbox_of l.closing)) l.plans_kept.begins.made) i.holds)
+        (opened_opens box l.opening config (2 ^ 26) entries_then i.inbox (subst (λ (es : List Entry). IsPrefix l.opening.made es) (sym (entries-outbox_of l.closing)) l.plans_kept.begins.made) i.holds)
 
-    life : LifeOfLoop (outbox_of l.opening) (outbox_of l.closing) l.lost machine i.inbox (all_of l.served.life.ended l.served.life.given_up) (refused_of_all (option_to_list l.served.life.given_up))
-    life = served_keeps box (life_at (sees.carried before.dialer) (sees.taken before.out) l.opening box) (life_at (sees.carried after.dialer) (sees.taken after.out) l.seen since) machine l.connections (outbox_of l.opening) (outbox_of l.closing) l.lost i.inbox l.served.life has opens
+    life : H.tells → LifeOfLoop (outbox_of l.opening) (outbox_of l.closing) l.lost machine i.inbox (all_of l.served.life.ended l.served.life.given_up) (refused_of_all (option_to_list l.served.life.given_up))
+    life t = served_keeps H.tells box (life_at (sees.carried before.dialer) (sees.taken before.out) l.opening box) (life_at (sees.carried after.dialer) (sees.taken after.out) l.seen since) machine l.connections (outbox_of l.opening) (outbox_of l.closing) l.lost i.inbox l.served.life t has opens
 
-    connections : KeepsConnections (model_flow config.own_flow) (model_flow config.peer_flow) (entries (life_in (machine_life life.life)).opening_outbox) (entries (life_in (machine_life life.life)).closing_outbox) (served_of life.life)
-    connections = subst (λ (rs : List OutboxRecord). KeepsConnections (model_flow config.own_flow) (model_flow config.peer_flow) (entries rs) (entries life.life.closing_outbox) (served_of life.life)) (sym life.outboxes.0)
-        (subst (λ (rs : List OutboxRecord). KeepsConnections (model_flow config.own_flow) (model_flow config.peer_flow) (entries (outbox_of l.opening)) (entries rs) (served_of life.life)) (sym life.outboxes.1) life.keeps)
+    connections : (t : H.tells) → KeepsConnections (model_flow config.own_flow) (model_flow config.peer_flow) (entries (life_in (machine_life (life t).life)).opening_outbox) (entries (life_in (machine_life (life t).life)).closing_outbox) (served_of (life t).life)
+    connections t =
+        let k = life t in
+        subst (λ (rs : List OutboxRecord). KeepsConnections (model_flow config.own_flow) (model_flow config.peer_flow) (entries rs) (entries k.life.closing_outbox) (served_of k.life)) (sym k.outboxes.0)
+        (subst (λ (rs : List OutboxRecord). KeepsConnections (model_flow config.own_flow) (model_flow config.peer_flow) (entries (outbox_of l.opening)) (entries rs) (served_of k.life)) (sym k.outboxes.1) k.keeps)
 
     order : InOrder l.closing.made
     order = ∥∥₁_elim l.holds (order_prop l.closing.made) (λ h. h.outbox.in_order)
@@ -103,15 +110,18 @@ module _ {S K D N C J : Type 0} {H : Ghosts J} (outbox : Outbox J H) (sees : See
     goes : GoesOnWith plans l.opening l.closing l.lost
     goes = plans_go_on plans l.opening l.closing l.lost l.plans_kept l.loses
 
-    outbox_is_kept : KeepsOutbox (plan_in plans) (life_in (machine_life life.life))
-    outbox_is_kept = plans_keep_outbox plans l.opening l.closing goes.whole (life_in (machine_life life.life)) l.plans_kept order goes.keeps (goes.in_order order) life.outboxes.0 life.outboxes.1
-        (ap (λ (rs : List OutboxRecord). rs ++ life.life.refused_outbox) life.outboxes.1 ∙ (ap (λ (rs : List OutboxRecord). outbox_of l.closing ++ rs) life.outboxes.2 ∙ goes.goes_on))
-        (subst (λ (rs : List OutboxRecord). length rs ≤ 1) (sym life.outboxes.2) (lost_few plans l.opening l.closing l.lost l.loses))
-        (_, sym life.keeps.inbox_adds)
+    outbox_is_kept : (t : H.tells) → KeepsOutbox (plan_in plans) (life_in (machine_life (life t).life))
+    outbox_is_kept t =
+        let k = life t in
+        plans_keep_outbox plans l.opening l.closing goes.whole (life_in (machine_life k.life)) l.plans_kept order goes.keeps (goes.in_order order) k.outboxes.0 k.outboxes.1
+        (ap (λ (rs : List OutboxRecord). rs ++ k.life.refused_outbox) k.outboxes.1 ∙ (ap (λ (rs : List OutboxRecord). outbox_of l.closing ++ rs) k.outboxes.2 ∙ goes.goes_on))
+        (subst (λ (rs : List OutboxRecord). length rs ≤ 1) (sym k.outboxes.2) (lost_few plans l.opening l.closing l.lost l.loses))
+        (_, sym k.keeps.inbox_adds)
 
     -- what is left of both journals
     out_left : ∥ LeavesImages (sees.may_leave after.out_disk) (records_of_history l.closing) (map record_of l.lost) ∥₁
-    out_left = ∥∥₁_map l.holds (λ h image left. h.journal.images image (leaves_are (outboxes.journal_of closed) image (subst (λ (d : D). Leaves (sees.may_leave d) image) now_out_is left)))
+    out_left = ∥∥₁_map l.holds (λ h. left_images (sees.may_leave after.out_disk) h.dated h.late (records_of_history l.closing) (map record_of l.lost) h.bare h.bare_late
+        (λ image left. h.journal.images image (leaves_are (outboxes.journal_of closed) image (subst (λ (d : D). LeavesDated (sees.may_leave d) image) now_out_is left))))
 
     out_whole : (HasRisen (sees.disk before.out_disk) (sees.disk after.out_disk) → ⊥) → l.lost ≡ []
     out_whole never = ⊎_elim
@@ -125,10 +135,14 @@ module _ {S K D N C J : Type 0} {H : Ghosts J} (outbox : Outbox J H) (sees : See
     held : inboxes.HoldsBox since list (refused_of_all (option_to_list l.served.life.given_up))
     held = l.served.life.refuses.holds i.inbox i.holds
 
+    -- a journal takes as many bytes as the records that its inbox holds
+    sized : (b : Inbox J H) (rs late : List InboxRecord) → inboxes.HoldsBox b rs late → journal_size (records_of_inbox rs) ≡ inboxes.size_of b
+    sized b rs late h = sym (ap (λ (xs : List Record). journal_size xs) h.bare) ∙ sizes (inboxes.journal_of b) h.dated h.journal.stands_for
+
     -- what was added had room behind what the inbox's journal took as it opened
-    room : HaveRoom (2 ^ 30) (journal_size (records_of_inbox i.inbox)) (adds_of (all_of l.served.life.ended l.served.life.given_up) ++ refused_of_all (option_to_list l.served.life.given_up))
+    room : HaveRoom (2 ^ 33) (journal_size (records_of_inbox i.inbox)) (adds_of (all_of l.served.life.ended l.served.life.given_up) ++ refused_of_all (option_to_list l.served.life.given_up))
     room = subst (λ (n : ℕ). HaveRoom n (journal_size (records_of_inbox i.inbox)) records) in_limit
-        (subst (λ (n : ℕ). HaveRoom (inboxes.limits_of box).bytes n records) (sym (sizes (inboxes.journal_of box) (records_of_inbox i.inbox) i.holds.journal.stands_for)) l.served.life.refuses.room)
+        (subst (λ (n : ℕ). HaveRoom (inboxes.limits_of box).bytes n records) (sym (sized box i.inbox [] i.holds)) l.served.life.refuses.room)
       where
         records : List InboxRecord
         records = adds_of (all_of l.served.life.ended l.served.life.given_up) ++ refused_of_all (option_to_list l.served.life.given_up)
@@ -140,12 +154,12 @@ module _ {S K D N C J : Type 0} {H : Ghosts J} (outbox : Outbox J H) (sees : See
         → FullInbox list wanted entries bytes ⊎ WasFull limits plans l.opening l.closing entries bytes
     full entries bytes (inl f) = inl (record {
       entries_are = f.entries_are ∙ (ap length held.noticed.places ∙ length-places 0 list);
-      bytes_are = f.bytes_are ∙ sym (sizes (inboxes.journal_of since) (records_of_inbox list) held.journal.stands_for);
+      bytes_are = f.bytes_are ∙ sym (sized since list (refused_of_all (option_to_list l.served.life.given_up)) held);
       past = subst (λ (n : ℕ). IsPast n bytes wanted) (ap (λ (x : JournalLimits). x.bytes) l.limits ∙ in_limit) f.past;
     })
     full entries bytes (inr w) =
         let same : (◌≡◌ {A = Limits} (record { entries = (outboxes.limits_of outbox).entries; bytes = (outboxes.limits_of outbox).bytes }) limits) =
-        ap (λ (n : ℕ). record { entries = n; bytes = (outboxes.limits_of outbox).bytes }) limit.0 ∙ ap (λ (n : ℕ). record { entries = 2 ^ 24; bytes = n }) limit.1 in
+        ap (λ (n : ℕ). record { entries = n; bytes = (outboxes.limits_of outbox).bytes }) limit.0 ∙ ap (λ (n : ℕ). record { entries = 2 ^ 26; bytes = n }) limit.1 in
         inr (subst (λ (x : Limits). WasFull x plans l.opening l.closing entries bytes) same w)
 
     pub lived_over : LivedOver sees config plans before after box since result
@@ -156,7 +170,7 @@ module _ {S K D N C J : Type 0} {H : Ghosts J} (outbox : Outbox J H) (sees : See
       seen = l.seen;
       connections = l.connections;
       refused = l.refused;
-      out_opened = subst (λ (rs : List Record). ForSome (sees.told before.out_disk) (λ content. IsJournal content rs)) same_records o.told;
+      out_opened = λ content is. subst (λ (rs : List Record). IsJournal content rs) (same_records content is) (o.told content is);
       in_opened = i.told;
       goes_on_from = goes_on_from;
       holds = i.holds;
@@ -164,6 +178,7 @@ module _ {S K D N C J : Type 0} {H : Ghosts J} (outbox : Outbox J H) (sees : See
       answer = l.answer;
       refusal = l.refusal;
       begins = l.begins;
+      grows = l.plans_kept.begins;
       lost = l.lost;
       loses = l.loses;
       whole = goes.whole;
@@ -171,10 +186,11 @@ module _ {S K D N C J : Type 0} {H : Ghosts J} (outbox : Outbox J H) (sees : See
       in_order = goes.in_order order;
       keeps = goes.keeps;
       life = life;
-      contract = record { connections = connections; outbox = outbox_is_kept };
+      contract = λ t. record { connections = connections t; outbox = outbox_is_kept t };
       out_left = out_left;
       out_whole = out_whole;
-      in_left = λ image left. held.journal.images image (leaves_are (inboxes.journal_of since) image (subst (λ (d : D). Leaves (sees.may_leave d) image) now_in_is left));
+      in_left = left_images (sees.may_leave after.in_disk) held.dated held.late (records_of_inbox list) (records_of_inbox (refused_of_all (option_to_list l.served.life.given_up))) held.bare held.bare_late
+          (λ image left. held.journal.images image (leaves_are (inboxes.journal_of since) image (subst (λ (d : D). LeavesDated (sees.may_leave d) image) now_in_is left)));
       room = room;
       marked = l.marked;
       none = l.plans_kept.none;
@@ -182,15 +198,16 @@ module _ {S K D N C J : Type 0} {H : Ghosts J} (outbox : Outbox J H) (sees : See
           (λ risen. inr (risen_over (sees.disk before.in_disk) (sees.disk after.in_disk) (inboxes.faults_of box) (inboxes.faults_of since) in_least (sym in_count) risen))
           (λ risen. inl (risen_over (sees.disk before.out_disk) (sees.disk after.out_disk) (outboxes.faults_of outbox) (outboxes.faults_of closed) out_least (sym out_count) risen))
           (l.journal e);
+      changed = l.changed;
       full = λ entries bytes e. full entries bytes (l.full entries bytes e);
     }
 
   -- what was lived over the boxes was lived over their disks
   pub lived_disks : (senders : ℕ) (config : EndConfig) (before after : SessionOutside S K D N C) (closed : Outbox J H) (box since : Inbox J H) (status : Status)
-      (o : OpensOutbox (sees.told before.out_disk) outbox) (i : OpensInbox (sees.told before.in_disk) box) (limit : ((outboxes.limits_of outbox).entries ≡ 2 ^ 24) × ((outboxes.limits_of outbox).bytes ≡ 2 ^ 30))
-      (in_limit : (inboxes.limits_of box).bytes ≡ 2 ^ 30) (now_out_is : after.out_disk ≡ disk_at (outboxes.journal_of closed)) (now_in_is : after.in_disk ≡ disk_at (inboxes.journal_of since))
+      (o : HoldsTold (sees.told before.out_disk) outbox) (i : OpensInbox (sees.told before.in_disk) box) (limit : ((outboxes.limits_of outbox).entries ≡ 2 ^ 26) × ((outboxes.limits_of outbox).bytes ≡ 2 ^ 33))
+      (in_limit : (inboxes.limits_of box).bytes ≡ 2 ^ 33) (now_out_is : after.out_disk ≡ disk_at (outboxes.journal_of closed)) (now_in_is : after.in_disk ≡ disk_at (inboxes.journal_of since))
       (out_least : sees.disk before.out_disk ≤ outboxes.faults_of outbox) (in_least : sees.disk before.in_disk ≤ inboxes.faults_of box) (out_count : sees.disk after.out_disk ≡ outboxes.faults_of closed) (in_count : sees.disk after.in_disk ≡ inboxes.faults_of since)
-      → LivedOn sees senders config before.input (over_boxes (live_of before) outbox box) (over_boxes (live_of after) closed since) status
+      → LivedOn sees senders config before.input (sees.told before.out_disk) (over_boxes (live_of before) outbox box) (over_boxes (live_of after) closed since) status
       → Lived H sees senders config before after status
   lived_disks senders config before after closed box since status o i limit in_limit now_out_is now_in_is out_least in_least out_count in_count l = record {
     plans = l.plans;
@@ -200,7 +217,7 @@ module _ {S K D N C J : Type 0} {H : Ghosts J} (outbox : Outbox J H) (sees : See
           cause = b.cause;
           dialer_is = b.dialer_is;
           left = record {
-            outbox = outbox_kept sees.told sees.may_leave disk_at outbox before.out_disk after.out_disk o (leaves_are (outboxes.journal_of outbox)) (now_out_is ∙ ap (λ (x : Outbox J H). disk_at (outboxes.journal_of x)) b.outbox_is);
+            outbox = held_kept sees.told sees.may_leave disk_at outbox before.out_disk after.out_disk o.history o.holds o.told (leaves_are (outboxes.journal_of outbox)) (now_out_is ∙ ap (λ (x : Outbox J H). disk_at (outboxes.journal_of x)) b.outbox_is);
             inbox = inbox_kept sees.told sees.may_leave disk_at box before.in_disk after.in_disk i (leaves_are (inboxes.journal_of box)) (now_in_is ∙ ap (λ (x : Inbox J H). disk_at (inboxes.journal_of x)) b.box_is);
           };
         }))

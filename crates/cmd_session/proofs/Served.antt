@@ -1,5 +1,5 @@
 -- What is left of the senders behind a life, and what its answer blames.
-use Rattle.std.proofs.Common.{◌≡◌, ◌⊎◌, ⊎_elim, ℕ, ◌+◌, ◌<◌, Bool, List, [], ◌∷◌, ◌++◌, ◌^◌, length, slice_index_or, All, Option, Some, None, Result, Err, IfErr, sym, ap, ◌∙◌, subst, arith, append-nil}
+use Rattle.std.proofs.Common.{◌≡◌, ◌⊎◌, inl, inr, ⊎_elim, ℕ, ◌+◌, ◌<◌, ◌≤◌, Bool, List, [], ◌∷◌, ◌++◌, ◌^◌, length, slice_index_or, All, Option, Some, None, Result, Err, IfErr, sym, ap, ◌∙◌, subst, arith, append-nil}
 use Rattle.std.proofs.lemmas.Option.{none-some}
 use mathlib.Core.Logic.{dite}
 use native.Mathlib.Decide.{ℕ_discrete}
@@ -9,9 +9,9 @@ use Rattle.fixp_shake.specs.declared.config.EndConfig.{EndConfig}
 use Rattle.fixp_machine.specs.Machine.{State, fresh}
 use Rattle.gw_links.specs.declared.link.Link.{Ghosts as LinkGhosts}
 use Rattle.session_model.specs.Journal.{History}
-use Rattle.jr_record.specs.declared.journal.Journal.{Ghosts}
-use Rattle.jr_boxes.specs.declared.inbox.Inbox.{Inbox}
-use Rattle.jr_boxes.specs.declared.outbox.Outbox.{Outbox}
+use Rattle.jr_dated.specs.declared.journal.Journal.{Ghosts}
+use Rattle.jr_kept.specs.declared.inbox.Inbox.{Inbox}
+use Rattle.jr_kept.specs.declared.outbox.Outbox.{Outbox}
 use Rattle.jr_boxes.specs.declared.faults.SubmitFault.{SubmitFault}
 use Rattle.jr_boxes.specs.declared.faults.SubmitFault.TheVariants as submit
 use Rattle.gate_turn.specs.Places.{known}
@@ -26,14 +26,15 @@ use Rattle.conn_serve.specs.declared.answer.LifeEnd.{LifeEnd}
 use Rattle.conn_serve.specs.Answers.{answer_of}
 use Rattle.conn_serve.specs.Senders.{refusal_of, IsRefusal, FinishedFirst, SubmittedAll}
 use Rattle.conn_serve.specs.Causes.{TellsAll}
+use Rattle.conn_serve.specs.Connections.{Connection, ByClock, all_of}
 use Rattle.conn_serve.specs.Lines.{lines_from}
 use Rattle.conn_serve.specs.Served.{lacks_lines, ServedLife, ServedOver}
 use Rattle.conn_serve.specs.Moments.{Beside, ServingAt, beside, with_seen}
 use Rattle.conn_serve.specs.Opening.{opened_state, ServedThrough}
-use Rattle.life_laws.specs.PlanLives.{Clocked, LivedBoxes}
+use Rattle.life_laws.specs.PlanLives.{Clocked, clocked, LivedBoxes}
 use Rattle.life_laws.proofs.Passes.{answer_blames, blamed_at}
 use Rattle.cmd_base.specs.declared.status.Status.{Status}
-use Rattle.cmd_session.specs.Lived.{OverBoxes, over_boxes, HasLived}
+use Rattle.cmd_session.specs.Lived.{OverBoxes, over_boxes, BeganNone, HasLived}
 use Rattle.cmd_session.specs.Outsides.{Hears}
 use Rattle.cmd_session.specs.declared.outside.Live.{Live}
 
@@ -133,9 +134,14 @@ tells_earlier lacking old mid new lines h t = record {
   told = record { between = t.told.between; first = takes_earlier old mid t.told.between t.earlier h t.told.first; last = t.told.last };
 }
 
+-- connections behind a moment are behind each earlier one
+by_earlier : (least before behind : ℕ) (cs : List Connection) → least ≤ before → ByClock before behind cs → ByClock least behind cs
+by_earlier least before behind [] le by = omega (arith, le, by)
+by_earlier least before behind (c ∷ cs) le by = (omega (arith, le, by.0), by.1)
+
 module _ {J : Type 0} {G : Ghosts J} (taken : Option (List ℕ)) (old new : Beside J G) where
-  served_earlier : (before seen : History) (m : State) (result : Result LifeEnd ServeFault) → Appends taken old.out [] → ServedLife (with_seen old before) (with_seen new seen) m result
-      → ServedLife (with_seen (record old { out = taken }) before) (with_seen new seen) m result
+  served_earlier : {t : Type 0} (before seen : History) (m : State) (result : Result LifeEnd ServeFault) → Appends taken old.out [] → ServedLife t (with_seen old before) (with_seen new seen) m result
+      → ServedLife t (with_seen (record old { out = taken }) before) (with_seen new seen) m result
   served_earlier before seen m result h s = record {
     ended = s.ended;
     given_up = s.given_up;
@@ -145,6 +151,7 @@ module _ {J : Type 0} {G : Ghosts J} (taken : Option (List ℕ)) (old new : Besi
     gave_up = s.gave_up;
     followed = s.followed;
     timely = s.timely;
+    faithful = s.faithful;
     refuses = s.refuses;
     lines = tells_earlier (lacks_lines result) taken old.out new.out (lines_from 1 (s.ended ++ option_to_list s.given_up)) h s.lines;
     came = s.came;
@@ -153,16 +160,21 @@ module _ {J : Type 0} {G : Ghosts J} (taken : Option (List ℕ)) (old new : Besi
     past = s.past;
   }
 
-  over_earlier : {L : Type 0} (over : Clocked L) (before seen : History) (m : State) (result : Result LifeEnd ServeFault) → Appends taken old.out []
-      → ServedOver over.links over.before over.behind (with_seen old before) (with_seen new seen) m result
-      → ServedOver over.links over.before over.behind (with_seen (record old { out = taken }) before) (with_seen new seen) m result
+  over_earlier : {L : Type 0} (over : Clocked L) (least : ℕ) (before seen : History) (m : State) (result : Result LifeEnd ServeFault) → Appends taken old.out [] → least ≤ over.before
+      → ServedOver over.tells over.links over.before over.behind (with_seen old before) (with_seen new seen) m result
+      → ServedOver over.tells over.links least over.behind (with_seen (record old { out = taken }) before) (with_seen new seen) m result
   unfolding served_earlier
-  over_earlier over before seen m result h s = record { life = served_earlier before seen m result h s.life; links = s.links; clock = s.clock }
+  over_earlier over least before seen m result h le s = record {
+    life = served_earlier before seen m result h s.life;
+    links = s.links;
+    clock = by_earlier least over.before over.behind (all_of s.life.ended s.life.given_up) le s.clock;
+  }
 
-  boxes_earlier : {O : Type 0} {H : Ghosts O} {L : Type 0} (over : Clocked L) (config : EndConfig) (plans : List (List (List ℕ))) (outbox closed : Outbox O H) (result : Result (Unit {0}) ServeFault) → Appends taken old.out []
-      → LivedBoxes over config plans old new outbox closed result → LivedBoxes over config plans (record old { out = taken }) new outbox closed result
+  boxes_earlier : {O : Type 0} {H : Ghosts O} {L : Type 0} (over : Clocked L) (least : ℕ) (config : EndConfig) (plans : List (List (List ℕ))) (outbox closed : Outbox O H) (result : Result (Unit {0}) ServeFault)
+      → Appends taken old.out [] → least ≤ over.before → LivedBoxes over config plans old new outbox closed result
+      → LivedBoxes (clocked over.tells over.links least over.behind) config plans (record old { out = taken }) new outbox closed result
   unfolding over_earlier
-  boxes_earlier over config plans outbox closed result h l = record {
+  boxes_earlier over least config plans outbox closed result h le l = record {
     opening = l.opening;
     closing = l.closing;
     seen = l.seen;
@@ -177,22 +189,40 @@ module _ {J : Type 0} {G : Ghosts J} (taken : Option (List ℕ)) (old new : Besi
     broken = l.broken;
     plans_kept = l.plans_kept;
     begins = l.begins;
-    served = over_earlier over l.opening l.seen (fresh config (opened_state l.opening old.box) (2 ^ 24)) l.connections h l.served;
+    served = over_earlier over least l.opening l.seen (fresh config (opened_state l.opening old.box) (2 ^ 26)) l.connections h le l.served;
     limits = l.limits;
     answer = l.answer;
     refusal = l.refusal;
     marked = l.marked;
     journal = l.journal;
+    changed = l.changed;
     full = l.full;
   }
 
--- what was lived behind a push of nothing
+-- what was lived behind a push of nothing, and a look at the clock
 pub lived_from : {J : Type 0} {G : Ghosts J} {O : Type 0} {H : Ghosts O} {K N C : Type 0} (hears : Hears K N C) (config : EndConfig) (plans : List (List (List ℕ)))
-    (old : Live K N C) (out : K) (outbox : Outbox O H) (box : Inbox J G) (after : OverBoxes K N C (Outbox O H) (Inbox J G)) (status : Status) → Appends (hears.taken old.out) (hears.taken out) []
-    → HasLived hears config plans (over_boxes (record { out = out; dialer = old.dialer; clock = old.clock }) outbox box) after status → HasLived hears config plans (over_boxes old outbox box) after status
-lived_from hears config plans old out outbox box after status h l = record {
+    (old : Live K N C) (out : K) (clock : C) (outbox : Outbox O H) (box : Inbox J G) (after : OverBoxes K N C (Outbox O H) (Inbox J G)) (status : Status)
+    → Appends (hears.taken old.out) (hears.taken out) [] → hears.last old.clock ≤ hears.last clock
+    → HasLived hears config plans (over_boxes (record { out = out; dialer = old.dialer; clock = clock }) outbox box) after status → HasLived hears config plans (over_boxes old outbox box) after status
+lived_from {H = H} hears config plans old out clock outbox box after status h le l = record {
   result = l.result;
   status_is = l.status_is;
   boxes = boxes_earlier (hears.taken old.out) (beside (hears.carried old.dialer) (hears.taken out) box) (beside (hears.carried after.live.dialer) (hears.taken after.live.out) after.inbox)
-      (record { links = hears.links; before = hears.last old.clock; behind = hears.last after.live.clock }) config plans outbox after.outbox l.result h l.boxes;
+      (clocked H.tells hears.links (hears.last clock) (hears.last after.live.clock)) (hears.last old.clock) config plans outbox after.outbox l.result h le l.boxes;
 }
+
+-- OUT that took nothing is as it was
+took_none : (taken : Option (List ℕ)) → Appends taken taken []
+took_none None = tt
+took_none (Some xs) = sym (append-nil xs)
+
+-- what was lived, or was not begun, behind a look at the clock
+pub lived_since : {J : Type 0} {G : Ghosts J} {O : Type 0} {H : Ghosts O} {K N C : Type 0} (sink : K → ℕ) (hears : Hears K N C) (config : EndConfig) (plans : List (List (List ℕ)))
+    (old : Live K N C) (clock : C) (outbox : Outbox O H) (box : Inbox J G) (after : OverBoxes K N C (Outbox O H) (Inbox J G)) (status : Status) → hears.last old.clock ≤ hears.last clock
+    → BeganNone sink (over_boxes (record { out = old.out; dialer = old.dialer; clock = clock }) outbox box) after status
+    ⊎ HasLived hears config plans (over_boxes (record { out = old.out; dialer = old.dialer; clock = clock }) outbox box) after status
+    → BeganNone sink (over_boxes old outbox box) after status ⊎ HasLived hears config plans (over_boxes old outbox box) after status
+lived_since sink hears config plans old clock outbox box after status le l = ⊎_elim
+    (λ b. inl (record { cause = b.cause; dialer_is = b.dialer_is; box_is = b.box_is; outbox_is = b.outbox_is }))
+    (λ h. inr (lived_from hears config plans old old.out clock outbox box after status (took_none (hears.taken old.out)) le h))
+    l

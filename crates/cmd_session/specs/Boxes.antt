@@ -5,11 +5,12 @@ use Rattle.session_model.specs.Journal.{History}
 use Rattle.session_model.specs.Inbox.{InboxRecord}
 use Rattle.fixp_msgs.specs.declared.flow.Flow.{Flow}
 use Rattle.jr_record.specs.declared.record.Record.{Record}
-use Rattle.jr_record.specs.Images.{IsJournal, IsDamaged, IsNotFormatted}
+use Rattle.jr_dated.specs.Images.{IsDamaged, IsNotFormatted}
+use Rattle.cmd_session.specs.Journals.{IsJournal, IsOldFormat}
 use Rattle.jr_boxes.specs.declared.faults.Which.{Which}
 use Rattle.jr_boxes.specs.declared.faults.Which.TheVariants.{Outbox, Inbox}
 use Rattle.jr_boxes.specs.declared.faults.JournalCause.{JournalCause}
-use Rattle.jr_boxes.specs.declared.faults.JournalCause.TheVariants.{NotFormatted, Damaged, Wrong, Already}
+use Rattle.jr_boxes.specs.declared.faults.JournalCause.TheVariants.{NotFormatted, OldFormat, Damaged, Wrong, Changed, Already, NotFresh}
 use Rattle.jr_boxes.specs.Outboxes.{IsOutbox, IsWrongAt as IsWrongInOutbox}
 use Rattle.jr_boxes.specs.Inboxes.{IsInbox, IsWrongAt as IsWrongInInbox}
 use Rattle.cmd_base.specs.declared.status.Status.{Status}
@@ -37,12 +38,16 @@ pub record IsWrong (which : Which) (flow : Flow) (at : ℕ) (content : List ℕ)
   pub journal : IsJournal content records
   pub wrong : IsWrongIn which flow records at
 
--- why a content is no journal of this box
+-- Why a content is no journal of this box: it begins with the header of neither format, or with that of format 1; or it is damaged; or the box
+-- excludes a record of it
 abbrev pub IsNoBox : Which → Flow → JournalCause → List ℕ → Type 0
-IsNoBox which flow NotFormatted content = IsNotFormatted content
+IsNoBox which flow NotFormatted content = IsNotFormatted content × (IsOldFormat content → ⊥)
+IsNoBox which flow OldFormat content = IsOldFormat content
 IsNoBox which flow (Damaged at) content = IsDamaged content at
 IsNoBox which flow (Wrong at) content = IsWrong which flow at content
+IsNoBox which flow (Changed at) content = ⊥
 IsNoBox which flow Already content = ⊥
+IsNoBox which flow NotFresh content = ⊥
 
 -- What the status of a disk that was not opened as this box says of the content that it told: exactly why it is no journal of the
 -- box; or the device or memory failed

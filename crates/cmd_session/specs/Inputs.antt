@@ -12,11 +12,13 @@ use Rattle.cmd_config.specs.declared.configuration.Configuration.{Configuration}
 use Rattle.cmd_config.specs.Settings.{configuration_of_text, own_flow, peer_flow}
 use Rattle.plan_text.specs.Plans.{HasPlans, IsRefusedAt}
 use Rattle.plan_outbox.specs.Behind.{IsPastAt}
-use Rattle.jr_record.specs.Images.{IsJournal}
+use Rattle.cmd_session.specs.Journals.{IsJournal}
 use Rattle.jr_boxes.specs.Outboxes.{records_of_history}
 use Rattle.cmd_base.specs.Texts.{input_limit}
 use Rattle.cmd_base.specs.declared.status.Status.{Status}
-use Rattle.cmd_base.specs.declared.status.Status.TheVariants.{InputFault, JournalFault, Message, Memory}
+use Rattle.cmd_base.specs.declared.status.Status.TheVariants.{InputFault, JournalFault, JournalBad, Message, Memory}
+use Rattle.jr_boxes.specs.declared.faults.Which.TheVariants.{Outbox as OutboxOf}
+use Rattle.jr_boxes.specs.declared.faults.JournalCause.TheVariants.{Changed}
 use Rattle.cmd_base.specs.declared.status.Bad.TheVariants.{Line, TooLong}
 
 -- what a text configures for an end of this role, or why it does not
@@ -31,7 +33,7 @@ IsConfigured role told c = (text : List ℕ) → told ≡ Some text → configur
 abbrev pub flow_received : Role → Link → Flow
 flow_received role link = peer_flow role link.client_flow link.server_flow
 
--- an end of this role, as its configuration has it; it has version 0 of the session schema
+-- an end of this role, as its configuration has it
 abbrev pub end_of : Role → Link → EndConfig
 end_of role link = record {
   role = role;
@@ -40,7 +42,7 @@ end_of role link = record {
   peer_flow = flow_received role link;
   keepalive = link.keepalive;
   credentials = link.credentials;
-  version = 0;
+  version = link.version;
 }
 
 -- INPUT, where it tells its content, has these plans for so many senders, and is not too long
@@ -61,10 +63,12 @@ RefusesInput senders told Memory = Unit {0}
 RefusesInput senders told _ = ⊥
 
 -- What a status says of plans for so many senders that do not go on from an outbox: the first line of INPUT whose payload may not stand in its
--- sender's plan beside the entries of the outbox; or the device of the outbox or memory failed
+-- sender's plan beside the entries of the outbox; or the device of the outbox gave an entry otherwise than it was written, which none does that
+-- tells its content; or it or memory failed
 abbrev pub RefusesPlans : ℕ → (input outbox : Option (List ℕ)) → Status → Type 0
 RefusesPlans senders input outbox (Message (Line line)) =
     ForSome input (λ text. ForSome outbox (λ content. (h : History) → IsJournal content (records_of_history h) → IsPastAt h senders text line))
+RefusesPlans senders input outbox (JournalBad OutboxOf (Changed at)) = ForSome outbox (λ _. ⊥)
 RefusesPlans senders input outbox JournalFault = Unit {0}
 RefusesPlans senders input outbox Memory = Unit {0}
 RefusesPlans senders input outbox _ = ⊥

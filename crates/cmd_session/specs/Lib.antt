@@ -1,3 +1,4 @@
+pub mod Journals
 pub mod Inputs
 pub mod Boxes
 pub mod Outsides

@@ -10,18 +10,21 @@ use Rattle.fixp_machine.specs.Machine.{fresh}
 use Rattle.fixp_machine.specs.Accepting.{model_flow}
 use Rattle.two_ends.specs.Meeting.{life_in}
 use Rattle.two_ends.specs.Loops.{machine_life}
-use Rattle.jr_record.specs.declared.journal.Journal.{Ghosts}
+use Rattle.jr_dated.specs.declared.journal.Journal.{Ghosts}
 use Rattle.jr_record.specs.declared.record.Record.{Record}
-use Rattle.jr_record.specs.Images.{IsJournal, Leaves, journal_size}
+use Rattle.jr_dated.specs.Images.{journal_size}
+use Rattle.cmd_session.specs.Journals.{IsJournal, Leaves}
 use Rattle.jr_boxes.specs.Outboxes.{record_of, outbox_of, records_of_history}
 use Rattle.jr_boxes.specs.Inboxes.{records_of_inbox}
-use Rattle.jr_boxes.specs.declared.outbox.Outbox.{Outbox}
-use Rattle.jr_boxes.specs.declared.inbox.Inbox.{Inbox}
-use Rattle.jr_boxes.specs.Outbox as outboxes
-use Rattle.jr_boxes.specs.Inbox as inboxes
+use Rattle.jr_kept.specs.declared.outbox.Outbox.{Outbox}
+use Rattle.jr_kept.specs.declared.inbox.Inbox.{Inbox}
+use Rattle.jr_kept.specs.Outbox as outboxes
+use Rattle.jr_kept.specs.Inbox as inboxes
 use Rattle.cmd_base.specs.Contents.{Disks}
 use Rattle.cmd_base.specs.declared.status.Status.{Status}
-use Rattle.cmd_base.specs.declared.status.Status.TheVariants.{Done, OutputFault, JournalFault, DialFault, Unfinished, Rejected, Full, Turns, Memory}
+use Rattle.jr_boxes.specs.declared.faults.Which.TheVariants.{Outbox as OutboxOf}
+use Rattle.jr_boxes.specs.declared.faults.JournalCause.TheVariants as causes
+use Rattle.cmd_base.specs.declared.status.Status.TheVariants.{Done, OutputFault, JournalFault, JournalBad, DialFault, Unfinished, Rejected, Full, Turns, Memory}
 use Rattle.gate_turn.specs.Views.{Limits}
 use Rattle.conn_steps.specs.Settling.{IsPast, HaveRoom}
 use Rattle.conn_serve.specs.declared.answer.ServeFault.{ServeFault}
@@ -46,6 +49,7 @@ abbrev pub status_of : Result (Unit {0}) ServeFault → Status
 status_of (Ok _) = Done
 status_of (Err faults.Output) = OutputFault
 status_of (Err faults.Journal) = JournalFault
+status_of (Err (faults.Changed at)) = JournalBad OutboxOf (causes.Changed at)
 status_of (Err faults.Dial) = DialFault
 status_of (Err (faults.Unfinished phase)) = Unfinished phase
 status_of (Err (faults.Rejected template code)) = Rejected template code
@@ -58,6 +62,7 @@ abbrev pub IsOfLife : Status → Type 0
 IsOfLife Done = Unit {0}
 IsOfLife OutputFault = Unit {0}
 IsOfLife JournalFault = Unit {0}
+IsOfLife (JournalBad OutboxOf (causes.Changed at)) = Unit {0}
 IsOfLife DialFault = Unit {0}
 IsOfLife (Unfinished phase) = Unit {0}
 IsOfLife (Rejected template code) = Unit {0}
@@ -94,18 +99,19 @@ pub record LeftBoth {D : Type 0} (told : D → Option (List ℕ)) (may_leave : D
 pub record FullInbox (inbox wanted : List InboxRecord) (entries bytes : ℕ) : Type 0 where
   pub entries_are : entries ≡ length (applied inbox)
   pub bytes_are : bytes ≡ journal_size (records_of_inbox inbox)
-  pub past : IsPast (2 ^ 30) bytes wanted
+  pub past : IsPast (2 ^ 33) bytes wanted
 
 -- the limits of both journals
 abbrev pub limits : Limits
-limits = record { entries = 2 ^ 24; bytes = 2 ^ 30 }
+limits = record { entries = 2 ^ 26; bytes = 2 ^ 33 }
 
 module _ {J : Type 0} {G : Ghosts J} where
-  -- a content is a journal of a history, which the outbox holds
+  -- a content, where it is told, is a journal of each history for which the outbox stands, and its disk tells it; and the outbox holds one
   pub record OpensOutbox (content : Option (List ℕ)) (box : Outbox J G) : Type 0 where
     pub history : History
-    pub told : ForSome content (λ bytes. IsJournal bytes (records_of_history history))
+    pub told : (h : History) → outboxes.StandsFor box h → ForSome content (λ bytes. IsJournal bytes (records_of_history h))
     pub holds : outboxes.HoldsBox box history []
+    pub is_told : ForSome content (λ bytes. G.is_told (outboxes.journal_of box))
 
   -- a content is a journal of a list, which the inbox holds
   pub record OpensInbox (content : Option (List ℕ)) (box : Inbox J G) : Type 0 where
@@ -113,15 +119,16 @@ module _ {J : Type 0} {G : Ghosts J} where
     pub told : ForSome content (λ bytes. IsJournal bytes (records_of_inbox inbox))
     pub holds : inboxes.HoldsBox box inbox []
 
-  -- plans go on from each history whose records an outbox has
-  abbrev pub GoOn : List (List (List ℕ)) → Outbox J G → Type 0
-  GoOn plans box = (h : History) → G.stands (outboxes.journal_of box) (records_of_history h) → GoesOnFrom plans h
+  -- plans go on from the history for which an outbox stands, where its disk told a content
+  abbrev pub GoOn : List (List (List ℕ)) → Option (List ℕ) → Outbox J G → Type 0
+  GoOn plans content box = ForSome content (λ _. (h : History) → outboxes.StandsFor box h → GoesOnFrom plans h)
 
   module _ {S K D N C : Type 0} where
-    -- One life over both journals. They held a history, from which these plans go on, and a list; what serves its connections is a machine that
-    -- is made of both; what it came to see of the outbox begins the closing history; and it keeps the contract of one end, by these plans. What
-    -- is left are the records of the closing history and list, and behind them a beginning of those refused by a failed call: in the outbox of
-    -- the one that the plans have next, if its disk failed, with which the closing history is one history in order, which keeps the plans too.
+    -- One life over both journals. They held a history, from which these plans go on where OUTBOX told its content, and a list; what serves its
+    -- connections is a machine that is made of both; what it came to see of the outbox begins the closing history, as the opening one does; and
+    -- where the disks tell their content it keeps the contract of one end, by these plans. A record of OUTBOX changes only where they do not.
+    -- What is left are the records of the closing history and list, and behind them a beginning of those refused by a failed call: in the outbox
+    -- of the one that the plans have next, if its disk failed, with which the closing history is one history in order, which keeps the plans too.
     -- Every record that the life added to its inbox had room, and so had the one whose append the disk failed. Why it answers so: the
     -- connections and the refusal say it (`IsLifeAnswer`, `answer_of`), and the counts
     pub record LivedOver (sees : Sees S K D N C) (config : EndConfig) (plans : List (List (List ℕ)))
@@ -134,33 +141,36 @@ module _ {J : Type 0} {G : Ghosts J} where
       pub refused : Option ServeFault
       pub out_opened : ForSome (sees.told before.out_disk) (λ content. IsJournal content (records_of_history opening))
       pub in_opened : ForSome (sees.told before.in_disk) (λ content. IsJournal content (records_of_inbox inbox))
-      pub goes_on_from : GoesOnFrom plans opening
+      pub goes_on_from : ForSome (sees.told before.out_disk) (λ content. GoesOnFrom plans opening)
       pub holds : inboxes.HoldsBox old inbox []
-      pub served : ServedOver sees.links (sees.last before.clock) (sees.last after.clock)
+      pub served : ServedOver G.tells sees.links (sees.last before.clock) (sees.last after.clock)
           (life_at (sees.carried before.dialer) (sees.taken before.out) opening old)
-          (life_at (sees.carried after.dialer) (sees.taken after.out) seen new) (fresh config (opened_state opening old) (2 ^ 24)) connections
+          (life_at (sees.carried after.dialer) (sees.taken after.out) seen new) (fresh config (opened_state opening old) (2 ^ 26)) connections
       pub answer : result ≡ answer_of connections refused
       pub refusal : IfSome refused IsOfSender
       pub begins : BeginsHistory seen closing
+      pub grows : BeginsHistory opening closing
       pub lost : List OutboxRecord
       pub loses : LosesNext plans opening closing lost
       pub whole : History
       pub goes_on : outbox_of closing ++ lost ≡ outbox_of whole
       pub in_order : InOrder whole.made
       pub keeps : KeepsPlans plans opening whole
-      pub life : LifeOfLoop (outbox_of opening) (outbox_of closing) lost (fresh config (opened_state opening old) (2 ^ 24)) inbox
+      pub life : G.tells → LifeOfLoop (outbox_of opening) (outbox_of closing) lost (fresh config (opened_state opening old) (2 ^ 26)) inbox
           (all_of served.life.ended served.life.given_up) (refused_of_all (option_to_list served.life.given_up))
-      pub contract : KeepsContract (model_flow config.own_flow) (model_flow config.peer_flow) (plan_in plans) (life_in (machine_life life.life))
+      pub contract : (told : G.tells)
+          → KeepsContract (model_flow config.own_flow) (model_flow config.peer_flow) (plan_in plans) (life_in (machine_life (life told).life))
       pub out_left : ∥ LeavesImages (sees.may_leave after.out_disk) (records_of_history closing) (map record_of lost) ∥₁
       pub out_whole : (HasRisen (sees.disk before.out_disk) (sees.disk after.out_disk) → ⊥) → lost ≡ []
       pub in_left : LeavesImages (sees.may_leave after.in_disk) (records_of_inbox (inbox ++ adds_of (all_of served.life.ended served.life.given_up)))
           (records_of_inbox (refused_of_all (option_to_list served.life.given_up)))
-      pub room : HaveRoom (2 ^ 30) (journal_size (records_of_inbox inbox))
+      pub room : HaveRoom (2 ^ 33) (journal_size (records_of_inbox inbox))
           (adds_of (all_of served.life.ended served.life.given_up) ++ refused_of_all (option_to_list served.life.given_up))
       pub marked : IsUnrefused result → 0 < length plans → closing.finished ≡ true
       pub none : plans ≡ [] → closing.finished ≡ opening.finished
       pub journal : result ≡ Err faults.Journal → HasRisen (sees.disk before.out_disk) (sees.disk after.out_disk)
           ⊎ HasRisen (sees.disk before.in_disk) (sees.disk after.in_disk)
+      pub changed : (at : ℕ) → result ≡ Err (faults.Changed at) → (at < length seen.made) × (G.tells → ⊥)
       pub full : (entries bytes : ℕ) → result ≡ Err (faults.Full entries bytes)
           → FullInbox (inbox ++ adds_of (all_of served.life.ended served.life.given_up)) (wanted_of_all (option_to_list served.life.given_up)) entries bytes
           ⊎ WasFull limits plans opening closing entries bytes
@@ -209,17 +219,17 @@ module _ {J : Type 0} {G : Ghosts J} {O : Type 0} {H : Ghosts O} where
         (before after : OverBoxes K N C (Outbox O H) (Inbox J G)) (status : Status) : Type 0 where
       pub result : Result (Unit {0}) ServeFault
       pub status_is : status ≡ status_of result
-      pub boxes : LivedBoxes (clocked hears.links (hears.last before.live.clock) (hears.last after.live.clock)) config plans
+      pub boxes : LivedBoxes (clocked H.tells hears.links (hears.last before.live.clock) (hears.last after.live.clock)) config plans
           (beside (hears.carried before.live.dialer) (hears.taken before.live.out) before.inbox)
           (beside (hears.carried after.live.dialer) (hears.taken after.live.out) after.inbox) before.outbox after.outbox result
 
   module _ {S K D N C : Type 0} where
-    -- INPUT has plans, which go on from the outbox; OUT was begun; and no life began, or one was lived over the boxes
-    pub record LivedOn (sees : Sees S K D N C) (senders : ℕ) (config : EndConfig) (input : S)
+    -- INPUT has plans, which go on from what the outbox holds where its disk told a content; OUT was begun; and no life began, or one was lived over the boxes
+    pub record LivedOn (sees : Sees S K D N C) (senders : ℕ) (config : EndConfig) (input : S) (content : Option (List ℕ))
         (before after : OverBoxes K N C (Outbox O H) (Inbox J G)) (status : Status) : Type 0 where
       pub plans : List (List (List ℕ))
       pub life : IsPlannedLife sees senders plans input before.live after.live status
-      pub goes_on : GoOn plans before.outbox
+      pub goes_on : ForSome content (λ _. (h : History) → outboxes.HoldsBox before.outbox h [] → GoesOnFrom plans h)
       pub lived : BeganNone sees.sink before after status ⊎ HasLived (heard sees) config plans before after status
 
 module _ {S K D N C J : Type 0} where

@@ -6,7 +6,7 @@ use Rattle.gw_outside.specs.Faults.{HasRisen}
 use Rattle.fixp_msgs.specs.declared.flow.Flow.{Flow}
 use Rattle.fixp_shake.specs.declared.config.Role.{Role}
 use Rattle.cmd_config.specs.declared.configuration.Configuration.{Configuration}
-use Rattle.jr_record.specs.declared.journal.Journal.{Ghosts}
+use Rattle.jr_dated.specs.declared.journal.Journal.{Ghosts}
 use Rattle.jr_boxes.specs.declared.faults.Which.TheVariants.{Outbox, Inbox}
 use Rattle.cmd_base.specs.Contents.{Disks}
 use Rattle.cmd_base.specs.Texts.{IsUnconfigured, Refuses}

@@ -1,51 +1,75 @@
 //! The journals of a session: opened as its boxes, and closed to their disks.
 
-ghost use Rattle.std.specs.Prelude.{◌≡◌, ℕ, ◌+◌, ◌<◌, ◌≤◌, ◌^◌, false, List, [], Option, IfOk, IfErr};
+ghost use Rattle.std.specs.Prelude.{◌≡◌, ◌⊎◌, ℕ, ◌+◌, ◌<◌, ◌≤◌, ◌^◌, false, List, Option, IfOk, IfErr};
 ghost use Rattle.std.specs.Option.{ForSome};
+ghost use Rattle.gw_outside.specs.Disk.{LeavesSame};
 ghost use Rattle.gw_outside.specs.Faults.{HasRisen};
-ghost use Rattle.session_model.specs.Journal.{History};
-ghost use Rattle.session_model.specs.Inbox.{InboxRecord};
 ghost use Rattle.fixp_msgs.specs.declared.flow.Flow as flows;
 ghost use Rattle.fixp_msgs.specs.declared.flow.Flow.TheVariants as flow_variants;
 ghost use Rattle.jr_record.specs.declared.faults.OpenFault.TheVariants as open_fault;
-ghost use Rattle.jr_log.specs.Log.{disk_of};
-ghost use Rattle.jr_log.specs.Opening.{Refuses};
+ghost use Rattle.jr_dated.specs.declared.formats.Format.TheVariants as format;
+ghost use Rattle.jr_segments.specs.Journal.{OpensOn, broken_of, disk_of, limits_of};
+ghost use Rattle.jr_segments.specs.Opening.{Refuses};
 ghost use Rattle.jr_boxes.specs.declared.faults.BoxFault.TheVariants as box_fault;
 ghost use Rattle.jr_boxes.specs.declared.faults.Which.TheVariants as boxes;
-ghost use Rattle.jr_boxes.specs.Outbox as outboxes;
-ghost use Rattle.jr_boxes.specs.Inbox as inboxes;
+ghost use Rattle.jr_kept.specs.Outbox as outboxes;
+ghost use Rattle.jr_kept.specs.Inbox as inboxes;
 ghost use Rattle.cmd_session.specs.Boxes.{IsBox, IsWrong, IsNotOpened};
-ghost use Rattle.cmd_session.specs.Lived.{IsKept, OpensOutbox, OpensInbox};
+ghost use Rattle.cmd_session.specs.Lived.{IsKept, LeavesNoMore, OpensOutbox, OpensInbox};
 
+use crate::found::{Found, OfInbox, OfOutbox};
 use cmd_base::{JournalCause, Status, Which};
 use fixp_shake::Flow;
 use gw_outside::Disk;
-use jr_boxes::{BoxFault, Inbox, Outbox};
-use jr_log::LogJournal;
-use jr_record::{Limits, OpenFault};
+use jr_boxes::BoxFault;
+use jr_dated::Limits;
+use jr_kept::{Inbox, Outbox};
+use jr_record::OpenFault;
+use jr_segments::{SegJournal, is_old_format};
 use std::alloc::Global;
 
 /// The greatest number of a message, and the most entries of a journal.
-pub const MOST: u64 = 1 << 24;
+pub const MOST: u64 = 1 << 26;
 
 /// How large a journal may grow.
 const LIMITS: Limits = Limits {
     entries: MOST,
-    bytes: 1 << 30,
+    bytes: 1 << 33,
 };
 
+/// The status of a disk that has not the header of a journal, or has that of format 1.
+fn not_formatted<D: Disk>(which: Which, disk: &mut D) -> Status
+    ensures refused { (flow : flows.Flow) → ForSome (D.told disk.old) (Refuses format.Two open_fault.NotFormatted) → IsNotOpened which flow (D.told disk.old) result }
+    ensures content { D.told disk.new ≡ D.told disk.old }
+    ensures images { LeavesSame (D.may_leave disk.old) (D.may_leave disk.new) }
+    ensures fault { result ≡ Status.JournalFault → HasRisen (D.faults disk.old) (D.faults disk.new) }
+    ensures never_falls { D.faults disk.old ≤ D.faults disk.new }
+{
+    match is_old_format(disk) {
+        Ok(true) => Status::JournalBad {
+            which,
+            cause: JournalCause::OldFormat,
+        },
+        Ok(false) => Status::JournalBad {
+            which,
+            cause: JournalCause::NotFormatted,
+        },
+        Err(_) => Status::JournalFault,
+    }
+}
+
 /// The status of a disk that was not opened as a journal.
-fn not_opened(which: Which, fault: OpenFault) -> Status
-    ensures refused { (flow : flows.Flow) (content : Option (List ℕ)) → ForSome content (Refuses fault) → IsNotOpened which flow content result }
-    ensures fault { result ≡ Status.JournalFault → fault ≡ open_fault.Fault }
+fn not_opened<D: Disk>(which: Which, fault: OpenFault, disk: &mut D) -> Status
+    ensures refused { (flow : flows.Flow) → ForSome (D.told disk.old) (Refuses format.Two fault) → IsNotOpened which flow (D.told disk.old) result }
+    ensures content { D.told disk.new ≡ D.told disk.old }
+    ensures images { LeavesSame (D.may_leave disk.old) (D.may_leave disk.new) }
+    ensures fault { result ≡ Status.JournalFault → (fault ≡ open_fault.Fault) ⊎ HasRisen (D.faults disk.old) (D.faults disk.new) }
+    ensures never_falls { D.faults disk.old ≤ D.faults disk.new }
 {
     match fault {
         OpenFault::Memory => Status::Memory,
         OpenFault::Fault => Status::JournalFault,
-        OpenFault::NotFormatted => Status::JournalBad {
-            which,
-            cause: JournalCause::NotFormatted,
-        },
+        OpenFault::NotFormatted => not_formatted(which, disk),
         OpenFault::Damaged { at } => Status::JournalBad {
             which,
             cause: JournalCause::Damaged { at },
@@ -68,16 +92,46 @@ fn excluded(which: Which, fault: BoxFault) -> Status
     }
 }
 
+/// The journal of a disk, opened.
+///
+/// # Errors
+/// The disk comes back with each: `JournalFault` where a call of it failed, `JournalBad` with the cause why its content is no
+/// journal, and `Memory`.
+fn open_journal<D: Disk>(
+    alloc: Global,
+    which: Which,
+    disk: D,
+    limits: Limits,
+) -> Result<SegJournal<D>, (D, Status)>
+    ensures opened { IfOk result (OpensOn (D.told disk)) }
+    ensures limits { IfOk result (λ j. limits_of j ≡ limits) }
+    ensures sound { IfOk result (λ j. broken_of j ≡ false) }
+    ensures content { IfOk result (λ j. D.told (disk_of j) ≡ D.told disk) }
+    ensures quiet { IfOk result (λ j. D.faults (disk_of j) ≡ D.faults disk) }
+    ensures refused { IfErr result (λ e. (flow : flows.Flow) → IsNotOpened which flow (D.told disk) e.1) }
+    ensures kept { IfErr result (λ e. LeavesNoMore D.told D.may_leave disk e.0) }
+    ensures refused_never_falls { IfErr result (λ e. D.faults disk ≤ D.faults e.0) }
+    ensures cause { IfErr result (λ e. e.1 ≡ Status.JournalFault → HasRisen (D.faults disk) (D.faults e.0)) }
+{
+    match SegJournal::open(alloc, disk, limits) {
+        Ok(journal) => Ok(journal),
+        Err((mut disk, fault)) => {
+            let status = not_opened(which, fault, &mut disk);
+            Err((disk, status))
+        }
+    }
+}
+
 /// Opens the outbox on its disk.
 ///
 /// # Errors
 /// The disk comes back with each: `JournalFault` where a call of it failed, `JournalBad` with the cause why its content is no
 /// outbox's, and `Memory`.
-pub fn open_outbox<D: Disk>(alloc: Global, disk: D) -> Result<Outbox<LogJournal<D>>, (D, Status)>
+pub fn open_outbox<D: Disk>(alloc: Global, disk: D) -> Result<Outbox<SegJournal<D>>, (D, Status)>
     ensures told { IfOk result (λ _. (flow : flows.Flow) → ForSome (D.told disk) (IsBox boxes.Outbox flow)) }
     ensures opened { IfOk result (λ box. OpensOutbox (D.told disk) box) }
     ensures sound { IfOk result (λ box. outboxes.is_broken box ≡ false) }
-    ensures limit { IfOk result (λ box. ((outboxes.limits_of box).entries ≡ 2 ^ 24) × ((outboxes.limits_of box).bytes ≡ 2 ^ 30)) }
+    ensures limit { IfOk result (λ box. ((outboxes.limits_of box).entries ≡ 2 ^ 26) × ((outboxes.limits_of box).bytes ≡ 2 ^ 33)) }
     ensures few { IfOk result (λ box. outboxes.front_of box < 2 ^ 40) }
     ensures never_falls { IfOk result (λ box. D.faults disk ≤ outboxes.faults_of box) }
     ensures refused { IfErr result (λ e. (flow : flows.Flow) → IsNotOpened boxes.Outbox flow (D.told disk) e.1) }
@@ -86,12 +140,15 @@ pub fn open_outbox<D: Disk>(alloc: Global, disk: D) -> Result<Outbox<LogJournal<
     ensures cause { IfErr result (λ e. e.1 ≡ Status.JournalFault → HasRisen (D.faults disk) (D.faults e.0)) }
 {
     let limits = LIMITS;
-    let journal = match LogJournal::open(alloc, disk, limits) {
+    let journal = match open_journal(alloc, Which::Outbox, disk, limits) {
         Ok(journal) => journal,
-        Err((disk, fault)) => return Err((disk, not_opened(Which::Outbox, fault))),
+        Err(refused) => return Err(refused),
     };
     match Outbox::open(alloc, journal, limits) {
-        Ok(outbox) => Ok(outbox),
+        Ok(outbox) => {
+            let _found = Found::of::<Outbox<SegJournal<D>>, OfOutbox>(&outbox);
+            Ok(outbox)
+        }
         Err((journal, fault)) => Err((journal.close(), excluded(Which::Outbox, fault))),
     }
 }
@@ -105,12 +162,12 @@ pub fn open_inbox<D: Disk>(
     alloc: Global,
     disk: D,
     flow: Flow,
-) -> Result<Inbox<LogJournal<D>>, (D, Status)>
+) -> Result<Inbox<SegJournal<D>>, (D, Status)>
     ensures told { IfOk result (λ _. ForSome (D.told disk) (IsBox boxes.Inbox flow)) }
     ensures opened { IfOk result (λ box. OpensInbox (D.told disk) box) }
     ensures sound { IfOk result (λ box. inboxes.is_broken box ≡ false) }
     ensures flow { IfOk result (λ box. inboxes.flow_of box ≡ flow) }
-    ensures limit { IfOk result (λ box. ((inboxes.limits_of box).entries ≡ 2 ^ 24) × ((inboxes.limits_of box).bytes ≡ 2 ^ 30)) }
+    ensures limit { IfOk result (λ box. ((inboxes.limits_of box).entries ≡ 2 ^ 26) × ((inboxes.limits_of box).bytes ≡ 2 ^ 33)) }
     ensures numbered { IfOk result (λ box. flow ≡ flow_variants.Recoverable → inboxes.next_of box + 1 < 2 ^ 64) }
     ensures never_falls { IfOk result (λ box. D.faults disk ≤ inboxes.faults_of box) }
     ensures refused { IfErr result (λ e. IsNotOpened boxes.Inbox flow (D.told disk) e.1) }
@@ -119,18 +176,21 @@ pub fn open_inbox<D: Disk>(
     ensures cause { IfErr result (λ e. e.1 ≡ Status.JournalFault → HasRisen (D.faults disk) (D.faults e.0)) }
 {
     let limits = LIMITS;
-    let journal = match LogJournal::open(alloc, disk, limits) {
+    let journal = match open_journal(alloc, Which::Inbox, disk, limits) {
         Ok(journal) => journal,
-        Err((disk, fault)) => return Err((disk, not_opened(Which::Inbox, fault))),
+        Err(refused) => return Err(refused),
     };
     match Inbox::open(alloc, journal, limits, flow) {
-        Ok(inbox) => Ok(inbox),
+        Ok(inbox) => {
+            let _found = Found::of::<Inbox<SegJournal<D>>, OfInbox>(&inbox);
+            Ok(inbox)
+        }
         Err((journal, fault)) => Err((journal.close(), excluded(Which::Inbox, fault))),
     }
 }
 
 /// Closes the outbox to its disk.
-pub fn close_outbox<D: Disk>(outbox: Outbox<LogJournal<D>>) -> D
+pub fn close_outbox<D: Disk>(outbox: Outbox<SegJournal<D>>) -> D
     ensures disk { result ≡ disk_of (outboxes.journal_of outbox) }
     ensures faults { D.faults result ≡ outboxes.faults_of outbox }
 {
@@ -138,7 +198,7 @@ pub fn close_outbox<D: Disk>(outbox: Outbox<LogJournal<D>>) -> D
 }
 
 /// Closes the inbox to its disk.
-pub fn close_inbox<D: Disk>(inbox: Inbox<LogJournal<D>>) -> D
+pub fn close_inbox<D: Disk>(inbox: Inbox<SegJournal<D>>) -> D
     ensures disk { result ≡ disk_of (inboxes.journal_of inbox) }
     ensures faults { D.faults result ≡ inboxes.faults_of inbox }
 {

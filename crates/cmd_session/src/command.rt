@@ -4,8 +4,8 @@ ghost use Rattle.std.specs.Prelude.{◌≡◌, ◌+◌, ◌<◌, ◌≤◌, ◌^
 ghost use Rattle.gw_outside.specs.Faults.{HasRisen};
 ghost use Rattle.cmd_config.specs.Settings.{IsLinkInRange, IsTradeInRange};
 ghost use Rattle.fixp_msgs.specs.declared.flow.Flow.TheVariants as flows;
-ghost use Rattle.jr_boxes.specs.Outbox as outboxes;
-ghost use Rattle.jr_boxes.specs.Inbox as inboxes;
+ghost use Rattle.jr_kept.specs.Outbox as outboxes;
+ghost use Rattle.jr_kept.specs.Inbox as inboxes;
 ghost use Rattle.cmd_base.specs.Causes.{NoneFellInSession};
 ghost use Rattle.plan_values.specs.Plans.{payloads_of};
 ghost use Rattle.cmd_session.specs.Inputs.{ArePlanned};
@@ -23,16 +23,16 @@ use cmd_config::Configuration;
 use fixp_shake::{EndConfig, Flow, Role};
 use gw_links::{Clock, Dialer};
 use gw_outside::{Disk, Sink, Source};
-use jr_boxes::{Inbox, Outbox};
-use jr_log::LogJournal;
-use jr_record::Journal;
+use jr_dated::Journal;
+use jr_kept::{Inbox, Outbox};
+use jr_segments::SegJournal;
 use plan_values::Plan;
 use std::alloc::Global;
 use std::sync::Wait;
 use std::thread::Threads;
 
 /// The outbox and the inbox of a session on one kind of disk.
-type Boxes<D> = (Outbox<LogJournal<D>>, Inbox<LogJournal<D>>);
+type Boxes<D> = (Outbox<SegJournal<D>>, Inbox<SegJournal<D>>);
 
 /// Opens the boxes on their disks, the outbox first.
 ///
@@ -48,9 +48,9 @@ fn open_boxes<D: Disk>(
     ensures opened { IfOk result (λ boxes. OpensOutbox (D.told out_disk) boxes.0 × OpensInbox (D.told in_disk) boxes.1) }
     ensures sound { IfOk result (λ boxes. outboxes.is_broken boxes.0 ≡ false) }
     ensures in_sound { IfOk result (λ boxes. inboxes.is_broken boxes.1 ≡ false) }
-    ensures out_limit { IfOk result (λ boxes. ((outboxes.limits_of boxes.0).entries ≡ 2 ^ 24) × ((outboxes.limits_of boxes.0).bytes ≡ 2 ^ 30)) }
+    ensures out_limit { IfOk result (λ boxes. ((outboxes.limits_of boxes.0).entries ≡ 2 ^ 26) × ((outboxes.limits_of boxes.0).bytes ≡ 2 ^ 33)) }
     ensures flow { IfOk result (λ boxes. inboxes.flow_of boxes.1 ≡ flow) }
-    ensures limit { IfOk result (λ boxes. ((inboxes.limits_of boxes.1).entries ≡ 2 ^ 24) × ((inboxes.limits_of boxes.1).bytes ≡ 2 ^ 30)) }
+    ensures limit { IfOk result (λ boxes. ((inboxes.limits_of boxes.1).entries ≡ 2 ^ 26) × ((inboxes.limits_of boxes.1).bytes ≡ 2 ^ 33)) }
     ensures numbered { IfOk result (λ boxes. flow ≡ flows.Recoverable → inboxes.next_of boxes.1 + 1 < 2 ^ 64) }
     ensures few { IfOk result (λ boxes. outboxes.front_of boxes.0 < 2 ^ 40) }
     ensures never_falls { IfOk result (λ boxes. (D.faults out_disk ≤ outboxes.faults_of boxes.0) × (D.faults in_disk ≤ inboxes.faults_of boxes.1)) }
@@ -68,7 +68,7 @@ fn open_boxes<D: Disk>(
 }
 
 /// What a session lives on: its outbox, its inbox, and the plans of its senders, that of sender 1 first.
-type Opened<D> = (Outbox<LogJournal<D>>, Inbox<LogJournal<D>>, Vec<Plan>);
+type Opened<D> = (Outbox<SegJournal<D>>, Inbox<SegJournal<D>>, Vec<Plan>);
 
 /// Opens the boxes on their disks, and reads INPUT, whose plans, for so many senders, go on from the outbox.
 ///
@@ -86,12 +86,12 @@ fn open_session<S: Source, D: Disk>(
     ensures opened { IfOk result (λ s. OpensOutbox (D.told out_disk) s.0 × OpensInbox (D.told in_disk) s.1) }
     ensures planned { IfOk result (λ s. ArePlanned senders (S.left input.old) (map payloads_of s.2.items)) }
     ensures many { IfOk result (λ s. vec_len s.2 ≡ senders) }
-    ensures goes_on { IfOk result (λ s. GoOn (map payloads_of s.2.items) s.0) }
+    ensures goes_on { IfOk result (λ s. GoOn (map payloads_of s.2.items) (D.told out_disk) s.0) }
     ensures sound { IfOk result (λ s. outboxes.is_broken s.0 ≡ false) }
     ensures in_sound { IfOk result (λ s. inboxes.is_broken s.1 ≡ false) }
-    ensures out_limit { IfOk result (λ s. ((outboxes.limits_of s.0).entries ≡ 2 ^ 24) × ((outboxes.limits_of s.0).bytes ≡ 2 ^ 30)) }
+    ensures out_limit { IfOk result (λ s. ((outboxes.limits_of s.0).entries ≡ 2 ^ 26) × ((outboxes.limits_of s.0).bytes ≡ 2 ^ 33)) }
     ensures flow { IfOk result (λ s. inboxes.flow_of s.1 ≡ flow) }
-    ensures limit { IfOk result (λ s. ((inboxes.limits_of s.1).entries ≡ 2 ^ 24) × ((inboxes.limits_of s.1).bytes ≡ 2 ^ 30)) }
+    ensures limit { IfOk result (λ s. ((inboxes.limits_of s.1).entries ≡ 2 ^ 26) × ((inboxes.limits_of s.1).bytes ≡ 2 ^ 33)) }
     ensures numbered { IfOk result (λ s. flow ≡ flows.Recoverable → inboxes.next_of s.1 + 1 < 2 ^ 64) }
     ensures few { IfOk result (λ s. outboxes.front_of s.0 < 2 ^ 40) }
     ensures never_falls { IfOk result (λ s. (D.faults out_disk ≤ outboxes.faults_of s.0) × (D.faults in_disk ≤ inboxes.faults_of s.1)) }
@@ -120,9 +120,9 @@ fn run_over_boxes<K: Sink, D: Disk + Send, N: Dialer, C: Clock, R: Threads + Wai
     config: EndConfig,
     plans: Vec<Plan>,
     devices: &mut Live<K, N, C>,
-    outbox: Outbox<LogJournal<D>>,
-    inbox: &mut Inbox<LogJournal<D>>,
-) -> (Status, Outbox<LogJournal<D>>)
+    outbox: Outbox<SegJournal<D>>,
+    inbox: &mut Inbox<SegJournal<D>>,
+) -> (Status, Outbox<SegJournal<D>>)
     requires least { 100 ≤ config.keepalive }
     requires greatest { config.keepalive ≤ 60000 }
     requires credentials { length config.credentials ≤ 2048 }
@@ -131,7 +131,7 @@ fn run_over_boxes<K: Sink, D: Disk + Send, N: Dialer, C: Clock, R: Threads + Wai
     requires in_sound { inboxes.is_broken inbox.old ≡ false }
     requires lent { N.lent devices.old.dialer ≡ false }
     requires flow { inboxes.flow_of inbox.old ≡ config.peer_flow }
-    requires limit { (inboxes.limits_of inbox.old).entries ≡ 2 ^ 24 }
+    requires limit { (inboxes.limits_of inbox.old).entries ≡ 2 ^ 26 }
     requires numbered { inboxes.flow_of inbox.old ≡ flows.Recoverable → inboxes.next_of inbox.old + 1 < 2 ^ 64 }
     requires few_entries { outboxes.front_of outbox < 2 ^ 40 }
     ensures lived { BeganNone K.faults (over_boxes devices.old outbox inbox.old) (over_boxes devices.new result.1 inbox.new) result.0
@@ -169,7 +169,7 @@ fn run_over_disks<
     requires link { IsLinkInRange configuration.link }
     requires trade { IsTradeInRange configuration.trade }
     requires lent { N.lent outside.dialer ≡ false }
-    ensures ended { (config : S) → EndsBehindConfig ⟦<LogJournal<D> as Journal>⟧ (sees S.Source K.Sink D.Disk N.Dialer N.Link.Link C.Clock) role configuration (record outside { config = config }) result.1 result.0 }
+    ensures ended { (config : S) → EndsBehindConfig ⟦<SegJournal<D> as Journal>⟧ (sees S.Source K.Sink D.Disk N.Dialer N.Link.Link C.Clock) role configuration (record outside { config = config }) result.1 result.0 }
     ensures config { result.1.config ≡ outside.config }
     ensures lent { N.lent result.1.dialer ≡ false }
     ensures none_fell { NoneFellInSession (counts_of (sees S.Source K.Sink D.Disk N.Dialer N.Link.Link C.Clock) outside) (counts_of (sees S.Source K.Sink D.Disk N.Dialer N.Link.Link C.Clock) result.1) }
@@ -195,7 +195,10 @@ fn run_over_disks<
         in_disk,
     ) {
         Ok(opened) => {
-            let (outbox, mut inbox, plans) = opened;
+            let (mut outbox, mut inbox, plans) = opened;
+            // A sender may add an entry before the first turn of a connection.
+            let now = devices.clock.now();
+            outbox.at(now);
             let (status, outbox) = run_over_boxes(
                 rt,
                 alloc,
@@ -239,7 +242,7 @@ pub fn run_session<
     outside: SessionOutside<S, K, D, N, C>,
 ) -> (Status, SessionOutside<S, K, D, N, C>)
     requires lent { N.lent outside.dialer ≡ false }
-    ensures steps { Steps ⟦<LogJournal<D> as Journal>⟧ (sees S.Source K.Sink D.Disk N.Dialer N.Link.Link C.Clock) role outside result.1 result.0 }
+    ensures steps { Steps ⟦<SegJournal<D> as Journal>⟧ (sees S.Source K.Sink D.Disk N.Dialer N.Link.Link C.Clock) role outside result.1 result.0 }
     ensures lent { N.lent result.1.dialer ≡ false }
     ensures none_fell { NoneFellInSession (counts_of (sees S.Source K.Sink D.Disk N.Dialer N.Link.Link C.Clock) outside) (counts_of (sees S.Source K.Sink D.Disk N.Dialer N.Link.Link C.Clock) result.1) }
 {

@@ -1,88 +1,59 @@
 //! INPUT beside what OUTBOX holds: a session goes on where the plan of each sender has, at the places of the entries that the outbox has of it,
 //! the payloads of these, and nothing behind them where the outbox has its finish.
 
-ghost use Rattle.std.specs.Prelude.{◌≡◌, ◌⊎◌, ℕ, ◌≤◌, ◌<◌, ◌^◌, false, List, [], map, length, vec_len, Option, IfOk, IfErr};
+ghost use Rattle.std.specs.Prelude.{◌≡◌, ◌⊎◌, ℕ, ◌≤◌, ◌<◌, ◌^◌, false, List, map, length, vec_len, Option, IfOk, IfErr};
 ghost use Rattle.std.specs.Option.{ForSome};
 ghost use Rattle.gw_outside.specs.Faults.{HasRisen};
 ghost use Rattle.plan_values.specs.Plans.{payloads_of};
 ghost use Rattle.plan_text.specs.Plans.{HasPlans};
-ghost use Rattle.jr_record.specs.Images.{IsJournal};
-ghost use Rattle.jr_record.specs.Journals.{Holds};
-ghost use Rattle.jr_record.specs.declared.record.Record.{Record};
-ghost use Rattle.jr_log.specs.Log.{StandsFor, MayLeave, broken_of, disk_of, limits_of, records_of};
-ghost use Rattle.jr_boxes.specs.Outboxes.{IsWrongAt};
-ghost use Rattle.jr_boxes.specs.Outbox as outboxes;
-ghost use Rattle.jr_boxes.specs.declared.faults.BoxFault.TheVariants as box_fault;
+ghost use Rattle.jr_dated.specs.declared.faults.FetchFault.TheVariants as fetch;
+ghost use Rattle.jr_kept.specs.Outbox as outboxes;
 ghost use Rattle.cmd_session.specs.Inputs.{ArePlanned, RefusesPlans};
 ghost use Rattle.cmd_session.specs.Lived.{KeepsRecords, OpensOutbox, GoOn};
 ghost use Rattle.cmd_session.specs.Steps.{RefusedInput, RefusedPlans};
 
 use crate::boxes::close_outbox;
 use crate::inputs::{Given, read_input};
-use cmd_base::{Bad, Status};
+use cmd_base::{Bad, JournalCause, Status, Which};
 use gw_outside::{Disk, Source};
-use jr_boxes::{BoxFault, Outbox};
-use jr_log::LogJournal;
-use jr_record::Limits;
+use jr_dated::FetchFault;
+use jr_kept::Outbox;
+use jr_segments::SegJournal;
 use plan_outbox::first_past;
 use plan_values::Plan;
 use std::alloc::Global;
 
-/// The status of an outbox that was opened, and could not be opened once more.
-fn not_again(fault: BoxFault) -> Status
-    requires never { (at : ℕ) → fault ≡ box_fault.Wrong at → ⊥ }
-    ensures cause { result ≡ Status.JournalFault → fault ≡ box_fault.Fault }
-    ensures refused { (senders : ℕ) (input told : Option (List ℕ)) → RefusesPlans senders input told result }
+/// The status where an entry of an outbox was not read.
+fn not_read(fault: FetchFault) -> Status
+    requires sound { fault ≡ fetch.Broken → ⊥ }
+    ensures cause { result ≡ Status.JournalFault → fault ≡ fetch.Fault }
+    ensures refused { (senders : ℕ) (input told : Option (List ℕ)) → ((at : ℕ) → fault ≡ fetch.Changed at → ForSome told (λ _. ⊥)) → RefusesPlans senders input told result }
 {
     match fault {
-        BoxFault::Fault => Status::JournalFault,
-        BoxFault::Memory => Status::Memory,
-        BoxFault::Wrong { .. } => unreachable!(),
-    }
-}
-
-/// The outbox of a journal that has one's records.
-///
-/// # Errors
-/// The disk comes back with each: `JournalFault` where a call of it failed; and `Memory`.
-fn opened_again<D: Disk>(
-    alloc: Global,
-    journal: LogJournal<D>,
-    limits: Limits,
-) -> Result<Outbox<LogJournal<D>>, (D, Status)>
-    requires sound { broken_of journal ≡ false }
-    requires limited { limits_of journal ≡ limits }
-    requires whole { (at : ℕ) → IsWrongAt (records_of journal) at → ⊥ }
-    ensures opened { IfOk result (λ box. outboxes.OpensOn journal box (records_of journal)) }
-    ensures sound { IfOk result (λ box. outboxes.is_broken box ≡ false) }
-    ensures limit { IfOk result (λ box. outboxes.limits_of box ≡ limits) }
-    ensures few { IfOk result (λ box. outboxes.front_of box < 2 ^ 40) }
-    ensures never_falls { IfOk result (λ box. D.faults (disk_of journal) ≤ outboxes.faults_of box) }
-    ensures refused { IfErr result (λ e. (senders : ℕ) (input told : Option (List ℕ)) → RefusesPlans senders input told e.1) }
-    ensures kept { IfErr result (λ e. (before : D) (records : List Record) → ForSome (D.told before) (λ content. IsJournal content records)
-        → Holds StandsFor MayLeave journal records [] → KeepsRecords D.told D.may_leave before e.0) }
-    ensures refused_never_falls { IfErr result (λ e. D.faults (disk_of journal) ≤ D.faults e.0) }
-    ensures cause { IfErr result (λ e. e.1 ≡ Status.JournalFault → HasRisen (D.faults (disk_of journal)) (D.faults e.0)) }
-{
-    match Outbox::open(alloc, journal, limits) {
-        Ok(outbox) => Ok(outbox),
-        Err((journal, fault)) => Err((journal.close(), not_again(fault))),
+        FetchFault::Broken => unreachable!(),
+        FetchFault::Memory => Status::Memory,
+        FetchFault::Fault => Status::JournalFault,
+        FetchFault::Changed { at } => Status::JournalBad {
+            which: Which::Outbox,
+            cause: JournalCause::Changed { at },
+        },
     }
 }
 
 /// The outbox, as it was, where the plans of a text go on from it.
 ///
 /// # Errors
-/// The disk comes back with each: `Message` with the first line whose payload may not stand in its sender's plan, `JournalFault` where a call
-/// of the disk failed, and `Memory`.
+/// The disk comes back with each: `Message` with the first line whose payload may not stand in its sender's plan, `JournalBad` with the first
+/// entry that the disk gives otherwise than it was written, `JournalFault` where a call of the disk failed, and `Memory`.
 fn compared<D: Disk>(
     alloc: Global,
     given: &Given,
-    outbox: Outbox<LogJournal<D>>,
-) -> Result<Outbox<LogJournal<D>>, (D, Status)>
+    outbox: Outbox<SegJournal<D>>,
+) -> Result<Outbox<SegJournal<D>>, (D, Status)>
     requires sound { outboxes.is_broken outbox ≡ false }
+    requires few { outboxes.front_of outbox < 2 ^ 40 }
     requires has { HasPlans (length given.now.plans.items) given.now.text.items (map payloads_of given.now.plans.items) }
-    ensures goes_on { IfOk result (λ box. GoOn (map payloads_of given.now.plans.items) box) }
+    ensures goes_on { IfOk result (λ box. (told : Option (List ℕ)) → OpensOutbox told outbox → GoOn (map payloads_of given.now.plans.items) told box) }
     ensures opened { IfOk result (λ box. (told : Option (List ℕ)) → OpensOutbox told outbox → OpensOutbox told box) }
     ensures sound { IfOk result (λ box. outboxes.is_broken box ≡ false) }
     ensures limit { IfOk result (λ box. outboxes.limits_of box ≡ outboxes.limits_of outbox) }
@@ -94,20 +65,16 @@ fn compared<D: Disk>(
     ensures refused_never_falls { IfErr result (λ e. outboxes.faults_of outbox ≤ D.faults e.0) }
     ensures cause { IfErr result (λ e. e.1 ≡ Status.JournalFault → HasRisen (outboxes.faults_of outbox) (D.faults e.0)) }
 {
-    let limits = outbox.limits();
-    let journal = outbox.into_journal();
-    let past = match first_past(
+    let mut outbox = outbox;
+    match first_past(
         alloc,
         given.text.as_slice(),
         given.plans.as_slice(),
-        journal.records(),
+        &mut outbox,
     ) {
-        Ok(past) => past,
-        Err(_) => return Err((journal.close(), Status::Memory)),
-    };
-    match past {
-        None => opened_again(alloc, journal, limits),
-        Some(line) => Err((journal.close(), Status::Message(Bad::Line { line }))),
+        Ok(None) => Ok(outbox),
+        Ok(Some(line)) => Err((close_outbox(outbox), Status::Message(Bad::Line { line }))),
+        Err(fault) => Err((close_outbox(outbox), not_read(fault))),
     }
 }
 
@@ -115,17 +82,19 @@ fn compared<D: Disk>(
 ///
 /// # Errors
 /// The status, and the disk of the outbox: `Message` with the first line of INPUT that gives no payload to a sender, or, where each gives one,
-/// with the first whose payload may not stand in its sender's plan, or where INPUT is too long; `InputFault`, `JournalFault` and `Memory`.
+/// with the first whose payload may not stand in its sender's plan, or where INPUT is too long; `JournalBad` with the first entry of the outbox
+/// that its disk gives otherwise than it was written; `InputFault`, `JournalFault` and `Memory`.
 pub fn plans_on<S: Source, D: Disk>(
     alloc: Global,
     senders: u8,
     input: &mut S,
-    outbox: Outbox<LogJournal<D>>,
-) -> Result<(Vec<Plan>, Outbox<LogJournal<D>>), (Status, D)>
+    outbox: Outbox<SegJournal<D>>,
+) -> Result<(Vec<Plan>, Outbox<SegJournal<D>>), (Status, D)>
     requires sound { outboxes.is_broken outbox ≡ false }
+    requires few { outboxes.front_of outbox < 2 ^ 40 }
     ensures planned { IfOk result (λ r. ArePlanned senders (S.left input.old) (map payloads_of r.0.items)) }
     ensures many { IfOk result (λ r. vec_len r.0 ≡ senders) }
-    ensures goes_on { IfOk result (λ r. GoOn (map payloads_of r.0.items) r.1) }
+    ensures goes_on { IfOk result (λ r. (told : Option (List ℕ)) → OpensOutbox told outbox → GoOn (map payloads_of r.0.items) told r.1) }
     ensures opened { IfOk result (λ r. (told : Option (List ℕ)) → OpensOutbox told outbox → OpensOutbox told r.1) }
     ensures sound { IfOk result (λ r. outboxes.is_broken r.1 ≡ false) }
     ensures limit { IfOk result (λ r. outboxes.limits_of r.1 ≡ outboxes.limits_of outbox) }

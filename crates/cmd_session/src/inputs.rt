@@ -25,6 +25,7 @@ pub fn end_config(role: Role, link: Link) -> EndConfig
         client_flow,
         server_flow,
         credentials,
+        version,
     } = link;
     EndConfig {
         role,
@@ -33,7 +34,7 @@ pub fn end_config(role: Role, link: Link) -> EndConfig
         peer_flow: peer_flow(role, client_flow, server_flow),
         keepalive,
         credentials,
-        version: 0,
+        version,
     }
 }
 

@@ -5,8 +5,8 @@ ghost use Rattle.std.specs.Prelude.{◌≡◌, ◌⊎◌, ◌+◌, ◌<◌, ◌�
 ghost use Rattle.gw_outside.specs.Faults.{HasRisen};
 ghost use Rattle.session_model.specs.Journal.{BeginsHistory};
 ghost use Rattle.fixp_msgs.specs.declared.flow.Flow.TheVariants as flows;
-ghost use Rattle.jr_boxes.specs.Outbox as outboxes;
-ghost use Rattle.jr_boxes.specs.Inbox as inboxes;
+ghost use Rattle.jr_kept.specs.Outbox as outboxes;
+ghost use Rattle.jr_kept.specs.Inbox as inboxes;
 ghost use Rattle.gate_senders.specs.Gate.{opening_of, senders_of, OpensOn, IsPassAt, MadeAt, AllBackAt};
 ghost use Rattle.fixp_machine.specs.Machine.{fresh};
 ghost use Rattle.plan_values.specs.Plans.{payloads_of};
@@ -25,7 +25,7 @@ ghost use Rattle.cmd_session.specs.Lived.{status_of, over_boxes, IsOfLife, Began
 
 use crate::boxes::MOST;
 use crate::outside::Live;
-use cmd_base::Status;
+use cmd_base::{JournalCause, Status, Which};
 use conn_serve::{ServeFault, serve};
 use fixp_shake::EndConfig;
 use gate_plans::{Sender, count_done, give_last, seat, take_last, unseat};
@@ -33,9 +33,9 @@ use gate_senders::{Gate, Kept};
 use gate_turn::{Pass, Passes};
 use gw_links::{Clock, Dialer};
 use gw_outside::{Disk, Sink};
-use jr_boxes::{Inbox, Outbox};
-use jr_log::LogJournal;
-use jr_record::Journal;
+use jr_dated::Journal;
+use jr_kept::{Inbox, Outbox};
+use jr_segments::SegJournal;
 use plan_values::Plan;
 use std::alloc::Global;
 use std::sync::Wait;
@@ -52,6 +52,10 @@ fn status_of(answer: Result<(), ServeFault>) -> Status
         Ok(()) => Status::Done,
         Err(ServeFault::Output) => Status::OutputFault,
         Err(ServeFault::Journal) => Status::JournalFault,
+        Err(ServeFault::Changed { at }) => Status::JournalBad {
+            which: Which::Outbox,
+            cause: JournalCause::Changed { at },
+        },
         Err(ServeFault::Dial) => Status::DialFault,
         Err(ServeFault::Unfinished { phase }) => Status::Unfinished { phase },
         Err(ServeFault::Rejected { template, code }) => Status::Rejected { template, code },
@@ -88,7 +92,7 @@ fn serve_beside<
     requires sent { length (opening_of gate.now).history.made < 2 ^ 40 }
     requires lent { N.lent dialer.old ≡ false }
     requires flow { inboxes.flow_of inbox.old ≡ config.peer_flow }
-    requires limit { (inboxes.limits_of inbox.old).entries ≡ 2 ^ 24 }
+    requires limit { (inboxes.limits_of inbox.old).entries ≡ 2 ^ 26 }
     requires numbered { inboxes.flow_of inbox.old ≡ flows.Recoverable → inboxes.next_of inbox.old + 1 < 2 ^ 64 }
     requires least { 100 ≤ config.keepalive }
     requires greatest { config.keepalive ≤ 60000 }
@@ -98,7 +102,7 @@ fn serve_beside<
     ensures own { IsPassAt gate.now pass.new }
     ensures free { IsFree pass.new }
     ensures looks { Looks (known pass.old) (known pass.new) }
-    ensures through { ServedThrough N.Link.Link (C.last clock.old) (C.last clock.new) gate.now (serving_at (N.told dialer.old) (K.taken out.old) (K.faults out.old) (N.faults dialer.old) (known pass.old) inbox.old senders.old.items) (serving_at (N.told dialer.new) (K.taken out.new) (K.faults out.new) (N.faults dialer.new) (known pass.new) inbox.new senders.new.items) (fresh config (opened_state (opening_of gate.now).history inbox.old) (2 ^ 24)) result }
+    ensures through { ServedThrough N.Link.Link (C.last clock.old) (C.last clock.new) gate.now (serving_at (N.told dialer.old) (K.taken out.old) (K.faults out.old) (N.faults dialer.old) (known pass.old) inbox.old senders.old.items) (serving_at (N.told dialer.new) (K.taken out.new) (K.faults out.new) (N.faults dialer.new) (known pass.new) inbox.new senders.new.items) (fresh config (opened_state (opening_of gate.now).history inbox.old) (2 ^ 26)) result }
     ensures marked { IsUnrefused result → 0 < vec_len senders.old → SomeMarked senders.new.items }
     ensures limits { inboxes.limits_of inbox.new ≡ inboxes.limits_of inbox.old }
     ensures output { result ≡ Err faults.Output → HasRisen (K.faults out.old) (K.faults out.new) }
@@ -151,13 +155,13 @@ fn serve_seated<
     requires sent { length (opening_of gate.now).history.made < 2 ^ 40 }
     requires lent { N.lent dialer.old ≡ false }
     requires flow { inboxes.flow_of inbox.old ≡ config.peer_flow }
-    requires limit { (inboxes.limits_of inbox.old).entries ≡ 2 ^ 24 }
+    requires limit { (inboxes.limits_of inbox.old).entries ≡ 2 ^ 26 }
     requires numbered { inboxes.flow_of inbox.old ≡ flows.Recoverable → inboxes.next_of inbox.old + 1 < 2 ^ 64 }
     requires least { 100 ≤ config.keepalive }
     requires greatest { config.keepalive ≤ 60000 }
     requires credentials { length config.credentials ≤ 2048 }
     ensures back { AllBackAt gate.now passes.new }
-    ensures served { ServedAt (clocked N.Link.Link (C.last clock.old) (C.last clock.new)) (opening_of gate.now) (map payloads_of plans.items) (known_at passes.new) (beside (N.told dialer.old) (K.taken out.old) inbox.old) (beside (N.told dialer.new) (K.taken out.new) inbox.new) (fresh config (opened_state (opening_of gate.now).history inbox.old) (2 ^ 24)) result }
+    ensures served { ServedAt (clocked O.tells N.Link.Link (C.last clock.old) (C.last clock.new)) (opening_of gate.now) (map payloads_of plans.items) (known_at passes.new) (beside (N.told dialer.old) (K.taken out.old) inbox.old) (beside (N.told dialer.new) (K.taken out.new) inbox.new) (fresh config (opened_state (opening_of gate.now).history inbox.old) (2 ^ 26)) result }
     ensures output { result ≡ Err faults.Output → HasRisen (K.faults out.old) (K.faults out.new) }
     ensures dial { result ≡ Err faults.Dial → HasRisen (N.faults dialer.old) (N.faults dialer.new) }
     ensures lent { N.lent dialer.new ≡ false }
@@ -187,7 +191,7 @@ fn serve_seated<
 }
 
 /// The passes and the gate of an outbox.
-type Made<D> = (Gate<LogJournal<D>>, Passes<Kept<LogJournal<D>>>);
+type Made<D> = (Gate<SegJournal<D>>, Passes<Kept<SegJournal<D>>>);
 
 /// A gate round an outbox for so many senders, and its passes.
 ///
@@ -195,9 +199,9 @@ type Made<D> = (Gate<LogJournal<D>>, Passes<Kept<LogJournal<D>>>);
 /// The outbox comes back where memory runs out.
 fn made_gate<D: Disk>(
     alloc: Global,
-    outbox: Outbox<LogJournal<D>>,
+    outbox: Outbox<SegJournal<D>>,
     senders: u16,
-) -> Result<Made<D>, Outbox<LogJournal<D>>>
+) -> Result<Made<D>, Outbox<SegJournal<D>>>
     requires few { senders ≤ 16 }
     requires sound { outboxes.is_broken outbox ≡ false }
     requires few_entries { outboxes.front_of outbox < 2 ^ 40 }
@@ -220,16 +224,16 @@ pub fn live<K: Sink, D: Disk + Send, N: Dialer, C: Clock, R: Threads + Wait + Sy
     config: EndConfig,
     plans: Vec<Plan>,
     devices: &mut Live<K, N, C>,
-    outbox: Outbox<LogJournal<D>>,
-    inbox: &mut Inbox<LogJournal<D>>,
-) -> (Status, Outbox<LogJournal<D>>)
+    outbox: Outbox<SegJournal<D>>,
+    inbox: &mut Inbox<SegJournal<D>>,
+) -> (Status, Outbox<SegJournal<D>>)
     requires sound { outboxes.is_broken outbox ≡ false }
     requires in_sound { inboxes.is_broken inbox.old ≡ false }
     requires few_entries { outboxes.front_of outbox < 2 ^ 40 }
     requires few { vec_len plans ≤ 16 }
     requires lent { N.lent devices.old.dialer ≡ false }
     requires flow { inboxes.flow_of inbox.old ≡ config.peer_flow }
-    requires limit { (inboxes.limits_of inbox.old).entries ≡ 2 ^ 24 }
+    requires limit { (inboxes.limits_of inbox.old).entries ≡ 2 ^ 26 }
     requires numbered { inboxes.flow_of inbox.old ≡ flows.Recoverable → inboxes.next_of inbox.old + 1 < 2 ^ 64 }
     requires least { 100 ≤ config.keepalive }
     requires greatest { config.keepalive ≤ 60000 }

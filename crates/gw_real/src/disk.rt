@@ -38,10 +38,11 @@ impl From<io::Error> for DiskReason<'_> {
 /// How the files of a kind begin, so that one of another kind is known before it is written over.
 #[derive(Clone, Copy, Debug, PartialEq, Eq)]
 pub struct Begun {
-    /// The bytes that each begins with.
+    /// The bytes that each begins with, and those that one of an earlier form began with.
     pub mark: &'static [u8],
-    /// How many bytes are written when one is made: the mark, and zeros behind it. Where that was cut off, the file has no more
-    /// bytes than these, and each is zero or that of the mark.
+    pub older: &'static [u8],
+    /// How many bytes are written when one is made: a mark, and zeros behind it. Where that was cut off, the file has no more
+    /// bytes than these, and each is zero or that of a mark.
     pub length: usize,
 }
 
@@ -55,6 +56,9 @@ pub enum Opening {
     /// The same, and it is made where there is none; its folder is synced then, so that it is there after a power cut. One that
     /// stands there is empty, begins so, or was cut off while it was made; every call fails over any other.
     Make(Begun),
+    /// The same, for a command that writes the first byte last, and judges itself a file with a header that begins with no zero. Any
+    /// other that stands there was cut off while it was begun so; every call fails over one that was not.
+    Begin(Begun),
 }
 
 /// What stands behind a disk.
@@ -138,10 +142,16 @@ fn made<'a, R: Files<File = File>>(
 const FRONT: usize = 64;
 
 impl Begun {
-    /// Whether each of these bytes, which stand at the front of a file, is zero or that of the mark.
+    /// Whether a byte stands at a place of a mark.
+    fn is_marked(self, at: usize, byte: u8) -> bool {
+        matches!(self.mark.get(at), Some(marked) if *marked == byte)
+            || matches!(self.older.get(at), Some(marked) if *marked == byte)
+    }
+
+    /// Whether each of these bytes, which stand at the front of a file, is zero or that of a mark.
     fn is_part(self, front: &[u8]) -> bool {
         for (at, byte) in front.iter().enumerate() {
-            if *byte != 0 && !matches!(self.mark.get(at), Some(marked) if marked == byte) {
+            if *byte != 0 && !self.is_marked(at, *byte) {
                 return false;
             }
         }
@@ -151,19 +161,41 @@ impl Begun {
     /// Whether a file whose first bytes are these, at most `FRONT`, is of the kind, or becomes it without a loss: it is empty, or was
     /// cut off while it was made.
     fn admits(self, front: &[u8]) -> bool {
-        front.starts_with(self.mark) || (front.len() <= self.length && self.is_part(front))
+        front.starts_with(self.mark)
+            || front.starts_with(self.older)
+            || (front.len() <= self.length && self.is_part(front))
+    }
+
+    /// Whether a file whose first bytes are these, at most `FRONT`, has a header that begins with no zero, or no more of one than
+    /// where it was cut off before its first byte was written.
+    fn may_begin(self, front: &[u8]) -> bool {
+        let header = self.length.saturating_sub(1);
+        let is_begun = front.len() >= header && !front.starts_with(&[0]);
+        let (head, _) = front.split_at(front.len().min(header));
+        is_begun || self.is_part(head)
     }
 }
 
-/// A file that stands there already and may be made one of this kind. A device keeps nothing that could be lost.
-fn of_kind<'a>(file: File, begun: Begun) -> Result<File, DiskReason<'a>> {
+impl Opening {
+    /// Whether a file whose first bytes are these, at most `FRONT`, may be opened so.
+    fn admits(self, front: &[u8]) -> bool {
+        match self {
+            Opening::Make(begun) => begun.admits(front),
+            Opening::Begin(begun) => begun.may_begin(front),
+            Opening::Read | Opening::Write => true,
+        }
+    }
+}
+
+/// A file that stands there already and may be opened so. A device keeps nothing that could be lost.
+fn admitted<'a>(file: File, opening: Opening) -> Result<File, DiskReason<'a>> {
     if !file.metadata()?.is_file() {
         return Ok(file);
     }
     let mut front = [0; FRONT];
     let count = read_some(&file, 0, &mut front)?;
     let (front, _) = front.split_at(count);
-    if begun.admits(front) {
+    if opening.admits(front) {
         Ok(file)
     } else {
         Err(DiskReason::Foreign)
@@ -186,23 +218,23 @@ const fn standing<'a>(file: Result<File, DiskReason<'a>>) -> Opened<'a> {
     }
 }
 
-/// A file of this kind that stands there already.
-fn found_of_kind<'a, R: Files<File = File>>(
+/// A file that stands there already, where it may be opened so.
+fn found_admitted<'a, R: Files<File = File>>(
     rt: &R,
     name: Named<'a>,
     others: &'a [Named<'a>],
-    begun: Begun,
+    opening: Opening,
 ) -> Result<File, DiskReason<'a>> {
     let file = found(rt, name, others, true)?;
-    of_kind(file, begun)
+    admitted(file, opening)
 }
 
-/// A file of this kind, made where there is none.
+/// A file made where there is none; one that stands there may be opened so.
 fn found_or_made<'a, R: Files<File = File>>(
     rt: &R,
     name: Named<'a>,
     others: &'a [Named<'a>],
-    begun: Begun,
+    opening: Opening,
 ) -> Opened<'a> {
     match File::create_new(rt, name.path) {
         Ok(file) => Opened {
@@ -210,7 +242,7 @@ fn found_or_made<'a, R: Files<File = File>>(
             is_new: true,
         },
         Err(error) if error.kind() == ErrorKind::AlreadyExists => {
-            standing(found_of_kind(rt, name, others, begun))
+            standing(found_admitted(rt, name, others, opening))
         }
         Err(error) => standing(Err(DiskReason::System(error))),
     }
@@ -329,7 +361,9 @@ impl<'a, R: Files<File = File>> FileDisk<'a, R> {
         let Opened { file, is_new } = match self.opening {
             Opening::Read => standing(found(self.rt, self.name, self.others, false)),
             Opening::Write => standing(found(self.rt, self.name, self.others, true)),
-            Opening::Make(begun) => found_or_made(self.rt, self.name, self.others, begun),
+            Opening::Make(_) | Opening::Begin(_) => {
+                found_or_made(self.rt, self.name, self.others, self.opening)
+            }
         };
         self.is_new = is_new;
         self.held = match file {

@@ -1,7 +1,7 @@
 -- Connections of a served life, one behind another.
 use Rattle.std.proofs.Common.{◌≡◌, ◌≤◌, List, [], ◌∷◌, ◌++◌, length, Option, Some, None, refl, sym, ap, subst, ◌∙◌, append-nil, append_assoc, arith}
 use Rattle.std.specs.Prelude.{option_to_list, Result}
-use Rattle.std.specs.List.{flat_map}
+use Rattle.std.specs.List.{AllByRecursion, flat_map}
 use Rattle.std.proofs.lemmas.List.{map-append}
 use Rattle.std.proofs.lemmas.Grind.{flat_map-append}
 use mathlib.Core.List.{IsPrefix}
@@ -9,9 +9,9 @@ use Rattle.session_model.specs.Journal.{Entry, History}
 use Rattle.session_model.specs.Inbox.{InboxRecord, next_number}
 use Rattle.session_model.proofs.Lists.{prefix_trans, prefix_equal, prefix_length}
 use Rattle.fixp_machine.specs.Machine.{State}
-use Rattle.jr_record.specs.declared.journal.Journal.{Ghosts}
-use Rattle.jr_boxes.specs.declared.inbox.Inbox.{Inbox}
-use Rattle.jr_boxes.specs.Inbox.{HoldsBox}
+use Rattle.jr_dated.specs.declared.journal.Journal.{Ghosts}
+use Rattle.jr_kept.specs.declared.inbox.Inbox.{Inbox}
+use Rattle.jr_kept.specs.Inbox.{HoldsBox}
 use Rattle.conn_turns.specs.Lines.{Line}
 use Rattle.conn_turns.specs.Turns.{Turn, calls_of}
 use Rattle.connection_laws.specs.Courses.{Course, inbox_of, beginning, course_after}
@@ -23,7 +23,7 @@ use Rattle.turn_laws.specs.Lives.{AllAreTurns, state_after, inbox_after}
 use Rattle.turn_laws.proofs.Running.{all_seen, leg_stands}
 use Rattle.conn_serve.specs.declared.answer.ServeFault.{ServeFault}
 use Rattle.conn_serve.specs.declared.answer.LifeEnd.{LifeEnd}
-use Rattle.conn_serve.specs.Connections.{Connection, turned, all_of, IsConnection, HasEnded, AllEnded, adds_of, refused_of_all}
+use Rattle.conn_serve.specs.Connections.{Connection, IsFaithfulLeg, turned, all_of, IsConnection, HasEnded, AllEnded, adds_of, refused_of_all}
 use Rattle.conn_serve.specs.Served.{WasGivenUp, ServedLife}
 use Rattle.life_laws.specs.Lives.{LifeOpens, ServedIsTurned}
 use Rattle.conn_serve.proofs.Following.{plain, plain_are_turns}
@@ -60,24 +60,33 @@ pub record AreBehind (h : List Entry) (m mid : State) (i : List InboxRecord) (cs
   pub awaits : mid.facts.recorded.inbox_next ≡ next_number (inbox_after m i (turned cs))
   pub enough : mid.facts.recorded.sent ≤ length h
 
+-- what is so of each of several is so of those in front, and of the last
+front_faithful : (cs ds : List Connection) → AllByRecursion IsFaithfulLeg (turned (cs ++ ds)) → AllByRecursion IsFaithfulLeg (turned cs)
+front_faithful [] ds all = tt
+front_faithful (c ∷ cs) ds all = (all.0, front_faithful cs ds all.1)
+
+pub last_faithful : (cs : List Connection) (c : Connection) → AllByRecursion IsFaithfulLeg (turned (cs ++ c ∷ [])) → IsFaithfulLeg c.leg
+last_faithful [] c all = all.0
+last_faithful (d ∷ cs) c all = last_faithful cs c all.1
+
 pub all_behind : (h : List Entry) (before after : History) (m mid : State) (i : List InboxRecord) (cs : List Connection) → m.facts.recorded.inbox_next ≡ next_number i → m.facts.recorded.sent ≤ length h
-    → Has h after → AllEnded before after m mid cs → AreBehind h m mid i cs
-all_behind h before after m mid i [] awaits enough has all = record {
+    → Has h after → AllEnded before after m mid cs → AllByRecursion IsFaithfulLeg (turned cs) → AreBehind h m mid i cs
+all_behind h before after m mid i [] awaits enough has all faithful = record {
   turns = tt;
   machine = sym all.0;
   adds = sym (append-nil i);
   awaits = subst (λ (s : State). s.facts.recorded.inbox_next ≡ next_number i) (sym all.0) awaits;
   enough = subst (λ (s : State). s.facts.recorded.sent ≤ length h) (sym all.0) enough;
 }
-all_behind h before after m mid i (c ∷ later) awaits enough has all =
+all_behind h before after m mid i (c ∷ later) awaits enough has all faithful =
     let k : HasEnded before all.0 m all.1 c = all.2 in
-    let x : IsTurnedOne h m i k.last c = connection_turned h before all.0 m i k.last c awaits enough (has_before h all.0 after has (seen_over_all all.0 after all.1 mid later all.3)) k.is in
+    let x : IsTurnedOne h m i k.last c = connection_turned h before all.0 m i k.last c awaits enough (has_before h all.0 after has (seen_over_all all.0 after all.1 mid later all.3)) k.is faithful.0 in
     let d : Course = course_on m i c.leg in
     let here : d.state ≡ all.1 = ended_machine h before all.0 m all.1 i c k x in
     let st : Stands h d = calls_keep h (beginning m i c.leg.moment) (calls_on c.leg) (connection_begins h m i c.leg.moment awaits enough) (leg_stands h m i c.leg awaits enough x.turns) in
     let rest : AreBehind h all.1 mid (inbox_of d) later =
     all_behind h all.0 after all.1 mid (inbox_of d) later (subst (λ (s : State). s.facts.recorded.inbox_next ≡ next_number (inbox_of d)) here st.agrees.recorded)
-    (subst (λ (s : State). s.facts.recorded.sent ≤ length h) here st.own.enough) has all.3 in
+    (subst (λ (s : State). s.facts.recorded.sent ≤ length h) here st.own.enough) has all.3 faithful.1 in
     let same : inbox_after d.state (inbox_of d) (turned later) ≡ inbox_after all.1 (inbox_of d) (turned later) = ap (λ (s : State). inbox_after s (inbox_of d) (turned later)) here in
     record {
       turns = (x.turns, subst (λ (s : State). AllAreTurns h s (inbox_of d) (turned later)) (sym here) rest.turns);
@@ -104,9 +113,9 @@ turned_append cs c = map-append (λ (d : Connection). d.leg) cs (c ∷ [])
 
 -- the one that was given up behind those that ended
 pub given_turned : (h : List Entry) (before after : History) (m mid : State) (i : List InboxRecord) (cs : List Connection) (c : Connection) → AreBehind h m mid i cs → Has h after
-    → (k : WasGivenUp before after mid (Some c)) → IsTurnedOne h (state_after m i (turned cs)) (inbox_after m i (turned cs)) k.0 c
-given_turned h before after m mid i cs c b has k =
-    subst (λ (s : State). IsTurnedOne h s (inbox_after m i (turned cs)) k.0 c) (sym b.machine) (connection_turned h before after mid (inbox_after m i (turned cs)) k.0 c b.awaits b.enough has k.1)
+    → (k : WasGivenUp before after mid (Some c)) → IsFaithfulLeg c.leg → IsTurnedOne h (state_after m i (turned cs)) (inbox_after m i (turned cs)) k.0 c
+given_turned h before after m mid i cs c b has k faithful =
+    subst (λ (s : State). IsTurnedOne h s (inbox_after m i (turned cs)) k.0 c) (sym b.machine) (connection_turned h before after mid (inbox_after m i (turned cs)) k.0 c b.awaits b.enough has k.1 faithful)
 
 -- and what they all add
 pub given_adds : (h : List Entry) (m mid : State) (i : List InboxRecord) (last : Line) (cs : List Connection) (c : Connection) → AreBehind h m mid i cs
@@ -128,9 +137,9 @@ with_given h m mid i last cs c b x = record {
 }
 
 pub all_turned : (h : List Entry) (before after : History) (m mid : State) (i : List InboxRecord) (cs : List Connection) (given_up : Option Connection) → AreBehind h m mid i cs → Has h after
-    → WasGivenUp before after mid given_up → AllTurned h m i (all_of cs given_up)
-all_turned h before after m mid i cs None b has k = subst (λ (xs : List Connection). AllTurned h m i xs) (sym (append-nil cs)) (record { turns = b.turns; adds = b.adds })
-all_turned h before after m mid i cs (Some c) b has k = with_given h m mid i k.0 cs c b (given_turned h before after m mid i cs c b has k)
+    → WasGivenUp before after mid given_up → AllByRecursion IsFaithfulLeg (turned (all_of cs given_up)) → AllTurned h m i (all_of cs given_up)
+all_turned h before after m mid i cs None b has k faithful = subst (λ (xs : List Connection). AllTurned h m i xs) (sym (append-nil cs)) (record { turns = b.turns; adds = b.adds })
+all_turned h before after m mid i cs (Some c) b has k faithful = with_given h m mid i k.0 cs c b (given_turned h before after m mid i cs c b has k (last_faithful cs c faithful))
 
 module _ {J : Type 0} {G : Ghosts J} where
   pub life_opens : (box : Inbox J G) → LifeOpens box
@@ -140,15 +149,15 @@ module _ {J : Type 0} {G : Ghosts J} where
       record { awaits = sym may.agrees.next ∙ holds.noticed.next; enough = omega (arith, sent, seen); before = before }
 
   -- where the connections that ended have led
-  pub life_behind : (old new : LifeAt J G) (m : State) (result : Result LifeEnd ServeFault) (h : List Entry) (i : List InboxRecord) (k : ServedLife old new m result)
+  pub life_behind : {tells : Type 0} (old new : LifeAt J G) (m : State) (result : Result LifeEnd ServeFault) (h : List Entry) (i : List InboxRecord) (k : ServedLife tells old new m result) → tells
       → Has h new.seen → m.facts.recorded.inbox_next ≡ next_number i → m.facts.recorded.sent ≤ length h → AreBehind h m k.mid i k.ended
-  life_behind old new m result h i k has awaits enough =
-      all_behind h old.seen k.behind m k.mid i k.ended awaits enough (has_before h k.behind new.seen has (seen_behind k.behind new.seen k.mid k.given_up k.gave_up)) k.were
+  life_behind old new m result h i k t has awaits enough =
+      all_behind h old.seen k.behind m k.mid i k.ended awaits enough (has_before h k.behind new.seen has (seen_behind k.behind new.seen k.mid k.given_up k.gave_up)) k.were (front_faithful k.ended (option_to_list k.given_up) (k.faithful t))
 
-  pub served_is_turned : (box : Inbox J G) → ServedIsTurned box
-  served_is_turned box old new m result h i k holds has awaits enough =
-      let b : AreBehind h m k.mid i k.ended = life_behind old new m result h i k has awaits enough in
-      let all : AllTurned h m i (all_of k.ended k.given_up) = all_turned h k.behind new.seen m k.mid i k.ended k.given_up b has k.gave_up in
+  pub served_is_turned : (tells : Type 0) (box : Inbox J G) → ServedIsTurned tells box
+  served_is_turned tells box old new m result h i k t holds has awaits enough =
+      let b : AreBehind h m k.mid i k.ended = life_behind old new m result h i k t has awaits enough in
+      let all : AllTurned h m i (all_of k.ended k.given_up) = all_turned h k.behind new.seen m k.mid i k.ended k.given_up b has k.gave_up (k.faithful t) in
       record {
         turns = all.turns;
         machine = b.machine;

@@ -6,11 +6,11 @@ use Rattle.session_model.specs.Journal.{Entry, History, BeginsHistory, entries_o
 use Rattle.fixp_shake.specs.declared.config.EndConfig.{EndConfig}
 use Rattle.fixp_machine.specs.Machine.{fresh}
 use Rattle.gw_links.specs.Dialers.{DialerTold}
-use Rattle.jr_record.specs.declared.journal.Journal.{Ghosts}
-use Rattle.jr_boxes.specs.declared.inbox.Inbox.{Inbox}
-use Rattle.jr_boxes.specs.Inbox as inboxes
-use Rattle.jr_boxes.specs.declared.outbox.Outbox.{Outbox}
-use Rattle.jr_boxes.specs.Outbox.{front_of, limits_of, faults_of, is_broken}
+use Rattle.jr_dated.specs.declared.journal.Journal.{Ghosts}
+use Rattle.jr_kept.specs.declared.inbox.Inbox.{Inbox}
+use Rattle.jr_kept.specs.Inbox as inboxes
+use Rattle.jr_kept.specs.declared.outbox.Outbox.{Outbox}
+use Rattle.jr_kept.specs.Outbox.{front_of, limits_of, faults_of, is_broken}
 use Rattle.gate_turn.specs.Views.{Account, HasFailed, Part}
 use Rattle.gate_turn.specs.Rule.{In, Sound}
 use Rattle.gate_turn.specs.Listed.{known_at}
@@ -38,7 +38,7 @@ risen_of old new false false sound f = omega (arith, f.disk)
 
 module _ {J : Type 0} {G : Ghosts J} {O : Type 0} {H : Ghosts O} {L : Type 0} (over : Clocked L) (gate : Gate O H) (passes : Passes (Kept O H)) (plans : List (List (List ℕ))) (dialed later : Option DialerTold) (out now_out : Option (List ℕ)) (config : EndConfig)
     (outbox closed : Outbox O H) (box since : Inbox J G) (result : Result (Unit {0}) ServeFault) (o : OpensOn gate outbox) (sound : is_broken outbox ≡ false) (in_sound : inboxes.is_broken box ≡ false) (k : ClosedWith gate passes closed) (few : front_of closed < 2 ^ 40)
-    (s : ServedAt over (opening_of gate) plans (known_at passes) (beside dialed out box) (beside later now_out since) (fresh config (opened_state (opening_of gate).history box) (2 ^ 24)) result) where
+    (s : ServedAt over (opening_of gate) plans (known_at passes) (beside dialed out box) (beside later now_out since) (fresh config (opened_state (opening_of gate).history box) (2 ^ 26)) result) where
   within : (n : ℕ) → In (length plans + 1) n → In (known_at passes 1).made n
   within n h = record { from_one = h.from_one; up_to = omega (arith, h.up_to, s.made.made) }
 
@@ -116,6 +116,7 @@ module _ {J : Type 0} {G : Ghosts J} {O : Type 0} {H : Ghosts O} {L : Type 0} (o
     answer = s.answer;
     refusal = s.refusal;
     marked = λ u many. marked (s.marked u many);
+    changed = s.changed;
     journal = λ e. ⊎_elim (λ b. inl (inbox_risen b)) (λ m. inr (failed m)) (s.journal e);
     full = λ entries bytes e. ⊎_elim (λ b. inl b) (λ m. inr (was_full entries bytes m)) (s.full entries bytes e);
   }

@@ -6,8 +6,8 @@ use Rattle.session_model.specs.Journal.{Entry, OutboxRecord, entries}
 use Rattle.session_model.specs.Inbox.{InboxRecord}
 use Rattle.fixp_msgs.specs.Payload.{IsApplication}
 use Rattle.fixp_machine.specs.Machine.{State}
-use Rattle.jr_record.specs.declared.journal.Journal.{Ghosts}
-use Rattle.jr_boxes.specs.declared.inbox.Inbox.{Inbox}
+use Rattle.jr_dated.specs.declared.journal.Journal.{Ghosts}
+use Rattle.jr_kept.specs.declared.inbox.Inbox.{Inbox}
 use Rattle.conn_turns.specs.Lines.{Line}
 use Rattle.connection_laws.specs.Living.{Leg, AllMayRun, Opens}
 use Rattle.connection_laws.proofs.Living.{opening_on, none_refused, closing_on}
@@ -16,11 +16,11 @@ use Rattle.turn_laws.specs.Legs.{TurnedLeg, IsTimely, course_on}
 use Rattle.turn_laws.specs.Lives.{AllAreTurns, legs_of, state_after, inbox_after}
 use Rattle.turn_laws.proofs.Running.{all_run, turns_serve, turns_refused}
 use Rattle.two_ends.specs.Loops.{IsRefusedOn}
-use Rattle.conn_serve.specs.Connections.{Connection, turned, all_of, refused_of_all}
+use Rattle.conn_serve.specs.Connections.{Connection, IsFaithfulLeg, turned, all_of, refused_of_all}
 use Rattle.conn_serve.specs.Served.{WasGivenUp}
 use Rattle.life_laws.specs.Lives.{LifeOfLoop, LifeMayTurn, ServedKeeps}
 use Rattle.life_laws.proofs.Turned.{IsTurnedOne}
-use Rattle.life_laws.proofs.Behind.{AreBehind, given_turned, turned_append, given_adds, AllTurned, with_given, all_turned, life_behind}
+use Rattle.life_laws.proofs.Behind.{AreBehind, last_faithful, given_turned, turned_append, given_adds, AllTurned, with_given, all_turned, life_behind}
 use Rattle.life_laws.proofs.Waits.{Waits, waits_or_none}
 
 -- a life of which a stop may leave nothing that was refused
@@ -59,22 +59,22 @@ waiting_life opening closing refused m mid i last cs c left o b x w =
     }
 
 module _ {J : Type 0} {G : Ghosts J} where
-  pub served_keeps : (box : Inbox J G) → ServedKeeps box
-  served_keeps box old new m result opening closing refused i k has o =
-      by_given k.given_up k.gave_up
+  pub served_keeps : (tells : Type 0) (box : Inbox J G) → ServedKeeps tells box
+  served_keeps tells box old new m result opening closing refused i k t has o =
+      by_given k.given_up k.gave_up (k.faithful t)
     where
       h : List Entry
       h = entries closing
 
       b : AreBehind h m k.mid i k.ended
-      b = life_behind old new m result h i k has o.awaits o.enough
+      b = life_behind old new m result h i k t has o.awaits o.enough
 
-      by_given : (given_up : Option Connection) → WasGivenUp k.behind new.seen k.mid given_up → LifeOfLoop opening closing refused m i (all_of k.ended given_up) (refused_of_all (option_to_list given_up))
-      by_given None g = whole_life opening closing refused m i (all_of k.ended None) [] o (all_turned h k.behind new.seen m k.mid i k.ended None b has g) refl
-      by_given (Some c) g = subst (λ (rs : List InboxRecord). LifeOfLoop opening closing refused m i (all_of k.ended (Some c)) rs) (sym (append-nil c.refused)) (by_waiting (waits_or_none h k.behind new.seen (state_after m i (turned k.ended)) k.mid (inbox_after m i (turned k.ended)) g.0 c g.1 x))
+      by_given : (given_up : Option Connection) → WasGivenUp k.behind new.seen k.mid given_up → AllByRecursion IsFaithfulLeg (turned (all_of k.ended given_up)) → LifeOfLoop opening closing refused m i (all_of k.ended given_up) (refused_of_all (option_to_list given_up))
+      by_given None g faithful = whole_life opening closing refused m i (all_of k.ended None) [] o (all_turned h k.behind new.seen m k.mid i k.ended None b has g faithful) refl
+      by_given (Some c) g faithful = subst (λ (rs : List InboxRecord). LifeOfLoop opening closing refused m i (all_of k.ended (Some c)) rs) (sym (append-nil c.refused)) (by_waiting (waits_or_none h k.behind new.seen (state_after m i (turned k.ended)) k.mid (inbox_after m i (turned k.ended)) g.0 c g.1 x))
         where
           x : IsTurnedOne h (state_after m i (turned k.ended)) (inbox_after m i (turned k.ended)) g.0 c
-          x = given_turned h k.behind new.seen m k.mid i k.ended c b has g
+          x = given_turned h k.behind new.seen m k.mid i k.ended c b has g (last_faithful k.ended c faithful)
 
           by_waiting : (c.refused ≡ []) ⊎ Waits (course_on (state_after m i (turned k.ended)) (inbox_after m i (turned k.ended)) c.leg) c.refused → LifeOfLoop opening closing refused m i (k.ended ++ c ∷ []) c.refused
           by_waiting (inl none) = whole_life opening closing refused m i (k.ended ++ c ∷ []) c.refused o (with_given h m k.mid i g.0 k.ended c b x) none

@@ -5,8 +5,8 @@ use mathlib.Core.List.{IsPrefix}
 use Rattle.session_model.specs.Journal.{Entry, entries}
 use Rattle.session_model.proofs.Lists.{prefix_trans, prefix_length}
 use Rattle.fixp_machine.specs.Machine.{State, fresh}
-use Rattle.jr_record.specs.declared.journal.Journal.{Ghosts}
-use Rattle.jr_boxes.specs.declared.inbox.Inbox.{Inbox}
+use Rattle.jr_dated.specs.declared.journal.Journal.{Ghosts}
+use Rattle.jr_kept.specs.declared.inbox.Inbox.{Inbox}
 use Rattle.connection_laws.specs.Living.{Opens}
 use Rattle.conn_serve.specs.Connections.{all_of, refused_of_all}
 use Rattle.conn_serve.specs.Opening.{opened_state}
@@ -27,8 +27,8 @@ module _ {J : Type 0} {G : Ghosts J} where
     next = next;
   }
 
-  pub served_is_a_loop_life : (box : Inbox J G) → ServedIsALoopLife box
-  served_is_a_loop_life box old new opened config most result opening closing refused i k same begins has holds range payloads =
+  pub served_is_a_loop_life : (tells : Type 0) (box : Inbox J G) → ServedIsALoopLife tells box
+  served_is_a_loop_life tells box old new opened config most result opening closing refused i k t same begins has holds range payloads =
       let m : State = fresh config (opened_state opened old.box) most in
       let h : List Entry = entries closing in
       let earlier : IsPrefix opened.made h =
@@ -36,5 +36,5 @@ module _ {J : Type 0} {G : Ghosts J} where
       (prefix_trans k.behind.made new.seen.made h (seen_behind k.behind new.seen k.mid k.given_up k.gave_up) has.begins)) in
       let o : Opens (entries opening) h m i = subst (λ (es : List Entry). Opens es h m i) (sym same) (opened_opens old.box opened config most h i earlier holds) in
       let l : LifeOfLoop opening closing refused m i (all_of k.ended k.given_up) (refused_of_all (option_to_list k.given_up)) =
-      served_keeps box old new m result opening closing refused i k has o in
+      served_keeps tells box old new m result opening closing refused i k t has o in
       (l, life_may_turn opening closing refused m i (all_of k.ended k.given_up) (refused_of_all (option_to_list k.given_up)) l o range payloads k.timely)

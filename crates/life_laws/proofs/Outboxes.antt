@@ -25,12 +25,12 @@ mark_of_records (e ∷ es) b = mark_of_records es b
 pub entries-outbox_of : (h : History) → entries (outbox_of h) ≡ h.made
 entries-outbox_of h = entries_of_records h.made h.finished
 
-history_of-outbox_of : (h : History) → history_of (outbox_of h) ≡ h
+pub history_of-outbox_of : (h : History) → history_of (outbox_of h) ≡ h
 history_of-outbox_of h =
     ap (λ (es : List Entry). record { made = es; finished = is_finished (outbox_of h) }) (entries-outbox_of h) ∙ ap (λ (b : Bool). record { made = h.made; finished = b }) (mark_of_records h.made h.finished)
 
 -- a history that begins another has records that begin the other's
-outbox_begins : (o c : History) → BeginsHistory o c → IsPrefix (outbox_of o) (outbox_of c)
+pub outbox_begins : (o c : History) → BeginsHistory o c → IsPrefix (outbox_of o) (outbox_of c)
 outbox_begins o c b = by_mark o.finished refl
   where
     made : IsPrefix (map (λ (e : Entry). entry e) o.made) (outbox_of c)

@@ -7,9 +7,9 @@ use native.Mathlib.Decide.{ℕ_discrete}
 use Rattle.session_model.specs.Journal.{History, entries_of, BeginsHistory}
 use Rattle.fixp_machine.specs.Machine.{State}
 use Rattle.gw_links.specs.Dialers.{DialerTold}
-use Rattle.jr_record.specs.declared.journal.Journal.{Ghosts}
-use Rattle.jr_boxes.specs.declared.inbox.Inbox.{Inbox}
-use Rattle.jr_boxes.specs.Inbox.{limits_of}
+use Rattle.jr_dated.specs.declared.journal.Journal.{Ghosts}
+use Rattle.jr_kept.specs.declared.inbox.Inbox.{Inbox}
+use Rattle.jr_kept.specs.Inbox.{limits_of}
 use Rattle.jr_boxes.specs.declared.faults.SubmitFault.{SubmitFault}
 use Rattle.jr_boxes.specs.declared.faults.SubmitFault.TheVariants as submit
 use Rattle.gate_turn.specs.Views.{Account, HasFailed, Part, new_part}
@@ -36,7 +36,7 @@ use Rattle.conn_serve.specs.Senders.{refusal_of, MetRefusal, IsRefusal, Finishes
 use Rattle.conn_serve.specs.Served.{ServedOver}
 use Rattle.conn_serve.specs.Opening.{ServedThrough, IsUnrefused}
 use Rattle.life_laws.specs.Plans.{plan_in, MadeOf, IsAllMade, LosesMessage, LosesOwn, PlansMade}
-use Rattle.life_laws.specs.PlanLives.{Clocked, SomePass, IsOfSender, SeesMark, SeesFailure, MetFull, BlamesInbox, FillsInbox, ServedAt}
+use Rattle.life_laws.specs.PlanLives.{Clocked, clocked, SomePass, IsOfSender, SeesMark, SeesFailure, MetFull, BlamesInbox, FillsInbox, ServedAt}
 use Rattle.life_laws.proofs.Senders.{PartMade, AllFresh, EachMade, NoneEnded, PartLoses, SendersMade, senders_made, ran_part, ran_at, ran_next_at, ran_seen_at}
 use Rattle.conn_serve.specs.Moments.{life_at, faults_at, serving_at, beside}
 
@@ -308,7 +308,7 @@ module _ {J : Type 0} {G : Ghosts J} (gate : Gate J G) (a : Account) (plans : Li
 
     journal_at : result ≡ Err faults.Journal → BlamesInbox box since ⊎ SomePass (length plans + 1) SeesFailure (known_at new)
     journal_at e = ⊎_elim
-        (λ c. by_blame ((blamed_at (IsBlamed (faults_at out_faults dial_faults first box) (faults_at now_out_faults now_dial_faults now since)) s.connections faults.Journal s.blamed c).journal refl))
+        (λ c. by_blame ((blamed_at (IsBlamed G.tells (faults_at out_faults dial_faults first box) (faults_at now_out_faults now_dial_faults now since)) s.connections faults.Journal s.blamed c).journal refl))
         (λ r. inr (by_refusal faults.Journal (SomePass (length plans + 1) SeesFailure (known_at new)) r (λ h. refused_journal_shown s.refused h r)))
         (answer_blames s.connections s.refused faults.Journal (λ x. cc) (sym s.answer ∙ e))
       where
@@ -317,17 +317,25 @@ module _ {J : Type 0} {G : Ghosts J} (gate : Gate J G) (a : Account) (plans : Li
         by_blame (inr (inl broken)) = inl (inr broken)
         by_blame (inr (inr failed)) = inr (last_failed all_made failed)
 
-    life : ServedOver over.links over.before over.behind (life_at dialed out a.history box) (life_at later now_out (known_at new (length plans + 1)).seen since) m s.connections
-    life = subst (λ (p : Part). ServedOver over.links over.before over.behind (life_at dialed out a.history box) (life_at later now_out p.seen since) m s.connections) (sym (last_at all_made))
-        (subst (λ (h : History). ServedOver over.links over.before over.behind (life_at dialed out h box) (life_at later now_out now.seen since) m s.connections) (ap (λ (p : Part). p.seen) was.1) s.life)
+    life : ServedOver G.tells over.links over.before over.behind (life_at dialed out a.history box) (life_at later now_out (known_at new (length plans + 1)).seen since) m s.connections
+    life = subst (λ (p : Part). ServedOver G.tells over.links over.before over.behind (life_at dialed out a.history box) (life_at later now_out p.seen since) m s.connections) (sym (last_at all_made))
+        (subst (λ (h : History). ServedOver G.tells over.links over.before over.behind (life_at dialed out h box) (life_at later now_out now.seen since) m s.connections) (ap (λ (p : Part). p.seen) was.1) s.life)
 
     full_at : (entries bytes : ℕ) → result ≡ Err (faults.Full entries bytes) → FillsInbox since (wanted_of_all (option_to_list life.life.given_up)) entries bytes ⊎ SomePass (length plans + 1) (MetFull plans entries bytes) (known_at new)
     full_at entries bytes e = ⊎_elim
         (λ c.
-        let b = (blamed_at (IsBlamed (faults_at out_faults dial_faults first box) (faults_at now_out_faults now_dial_faults now since)) s.connections (faults.Full entries bytes) s.blamed c).full entries bytes refl in
+        let b = (blamed_at (IsBlamed G.tells (faults_at out_faults dial_faults first box) (faults_at now_out_faults now_dial_faults now since)) s.connections (faults.Full entries bytes) s.blamed c).full entries bytes refl in
         inl (record { entries_are = b.0; bytes_are = b.1; past = life.life.past entries bytes c }))
         (λ r. inr (by_refusal (faults.Full entries bytes) (SomePass (length plans + 1) (MetFull plans entries bytes) (known_at new)) r (λ h. refused_full_shown s.refused h entries bytes r)))
         (answer_blames s.connections s.refused (faults.Full entries bytes) (λ x. cc) (sym s.answer ∙ e))
+
+    changed_at : (at : ℕ) → result ≡ Err (faults.Changed at) → (at < length (known_at new (length plans + 1)).seen.made) × (G.tells → ⊥)
+    changed_at at e = ⊎_elim
+        (λ c.
+        let b = (blamed_at (IsBlamed G.tells (faults_at out_faults dial_faults first box) (faults_at now_out_faults now_dial_faults now since)) s.connections (faults.Changed at) s.blamed c).changed at refl in
+        (subst (λ (p : Part). at < length p.seen.made) (sym (last_at all_made)) b.0, b.1))
+        (λ r. absurd (by_refusal (faults.Changed at) (IsOfSender (faults.Changed at)) r (λ h. refused_of_sender s.refused h (faults.Changed at) r)))
+        (answer_blames s.connections s.refused (faults.Changed at) (λ x. cc) (sym s.answer ∙ e))
 
     refusal_at : IfSome s.refused IsOfSender
     refusal_at = where_some s.refused (λ x e. by_refusal x (IsOfSender x) e (λ h. refused_of_sender s.refused h x e))
@@ -336,7 +344,7 @@ module _ {J : Type 0} {G : Ghosts J} (gate : Gate J G) (a : Account) (plans : Li
         where_some None h = tt
         where_some (Some x) h = h x refl
 
-    pub served_at : ServedAt over a plans (known_at new) (beside dialed out box) (beside later now_out since) m result
+    pub served_at : ServedAt (clocked G.tells over.links over.before over.behind) a plans (known_at new) (beside dialed out box) (beside later now_out since) m result
     served_at = record {
       connections = s.connections;
       refused = s.refused;
@@ -347,5 +355,6 @@ module _ {J : Type 0} {G : Ghosts J} (gate : Gate J G) (a : Account) (plans : Li
       refusal = refusal_at;
       marked = λ u many. marked_at all_made (marked u (omega (arith, many, count.long, fresh.long)));
       journal = journal_at;
+      changed = changed_at;
       full = full_at;
     }

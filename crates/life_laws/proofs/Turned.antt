@@ -1,7 +1,7 @@
 -- A connection of a served life is a list of turns, and adds to the inbox what it is said to add.
 use Rattle.std.proofs.Common.{◌≡◌, ◌≤◌, ℕ, Bool, true, false, if◌then◌else◌, List, [], ◌∷◌, ◌++◌, length, Option, Some, None, refl, sym, ap, subst, ◌∙◌, true≢false, append-nil, append_assoc}
 use Rattle.std.specs.Prelude.{IfSome, option_to_list}
-use Rattle.std.specs.List.{flat_map}
+use Rattle.std.specs.List.{AllByRecursion, flat_map}
 use Rattle.std.proofs.lemmas.Grind.{flat_map-append}
 use mathlib.Core.List.{IsPrefix}
 use Rattle.session_model.specs.Journal.{Entry, History}
@@ -19,7 +19,7 @@ use Rattle.fixp_machine.specs.Accepting.{records_of}
 use Rattle.conn_turns.specs.declared.news.NewsItem.{NewsItem}
 use Rattle.conn_turns.specs.Lines.{Line, TakenFrame}
 use Rattle.conn_turns.specs.Frames.{added}
-use Rattle.conn_turns.specs.Turns.{Turn, cut_short, first_calls, calls_of_frames, calls_of}
+use Rattle.conn_turns.specs.Turns.{Turn, IsFaithful, cut_short, first_calls, calls_of_frames, calls_of}
 use Rattle.connection_laws.specs.Courses.{Waiting, Course, inbox_of, beginning, counting, called, next_course, course_after}
 use Rattle.connection_laws.proofs.Continuing.{calls_go_on}
 use Rattle.turn_laws.specs.Turns.{line_received, IsCutShort, IsCut, adds_in}
@@ -29,7 +29,7 @@ use Rattle.turn_laws.proofs.Going.{after_append}
 use Rattle.turn_laws.proofs.Working.{turn_may_stand}
 use Rattle.turn_laws.proofs.Running.{all_seen, turns_stand, begin_stands, leg_stands}
 use Rattle.turn_laws.proofs.Adding.{turn_adds, cut_adds}
-use Rattle.conn_serve.specs.Connections.{Connection, IsConnection}
+use Rattle.conn_serve.specs.Connections.{Connection, IsFaithfulLeg, IsConnection}
 use Rattle.conn_serve.proofs.Following.{PlainTurns, PlainCut, PlainConnection, plain, plain_are_turns}
 
 -- an outbox that begins with what was seen begins with what was seen before
@@ -38,16 +38,16 @@ has_before h before after has p = record { begins = prefix_trans before.made aft
 
 -- what whole turns add
 turns_add : (h : List Entry) (before after : History) (old new : Line) (ts : List Turn) (news : List NewsItem) (adds : List InboxRecord) (c : Course) → StandsAt h c old → Has h after
-    → PlainTurns before after old new ts news adds → (course_after c (flat_map calls_of ts)).added ≡ c.added ++ adds
-turns_add h before after old new [] news adds c s has w = sym (append-nil c.added) ∙ ap (λ (rs : List InboxRecord). c.added ++ rs) (sym w.3)
-turns_add h before after old new (t ∷ later) news adds c s has w =
+    → PlainTurns before after old new ts news adds → AllByRecursion IsFaithful ts → (course_after c (flat_map calls_of ts)).added ≡ c.added ++ adds
+turns_add h before after old new [] news adds c s has w faithful = sym (append-nil c.added) ∙ ap (λ (rs : List InboxRecord). c.added ++ rs) (sym w.3)
+turns_add h before after old new (t ∷ later) news adds c s has w faithful =
     let mid : Line = w.1 in
     let between : History = w.2 in
     let so_far : Has h between = has_before h between after has (all_seen between after mid new later (plain_are_turns between after mid new later w.4 w.5 w.8)) in
-    let x = turn_may_stand h before between old mid t c s so_far w.3 in
+    let x = turn_may_stand h before between old mid t c s so_far w.3 faithful.0 in
     let d : Course = course_after c (calls_of t) in
     ap (λ (e : Course). e.added) (after_append c (calls_of t) (flat_map calls_of later))
-    ∙ (turns_add h between after mid new later w.4 w.5 d x.after has w.8
+    ∙ (turns_add h between after mid new later w.4 w.5 d x.after has w.8 faithful.1
     ∙ (ap (λ (rs : List InboxRecord). rs ++ w.5) (turn_adds h before between old mid t c s w.3)
     ∙ (append_assoc c.added (adds_in old t) w.5 ∙ ap (λ (rs : List InboxRecord). c.added ++ rs) (sym w.7))))
 
@@ -108,23 +108,23 @@ pub record IsTurnedOne (h : List Entry) (m : State) (i : List InboxRecord) (last
   pub adds : inbox_of (course_on m i c.leg) ≡ i ++ c.adds
 
 pub connection_turned : (h : List Entry) (before after : History) (m : State) (i : List InboxRecord) (last : Line) (c : Connection) → m.facts.recorded.inbox_next ≡ next_number i → m.facts.recorded.sent ≤ length h
-    → Has h after → IsConnection before after m last c → IsTurnedOne h m i last c
-connection_turned h before after m i last c awaits enough has real =
+    → Has h after → IsConnection before after m last c → IsFaithfulLeg c.leg → IsTurnedOne h m i last c
+connection_turned h before after m i last c awaits enough has real faithful =
     let k : PlainConnection before after m last c = plain before after m last c real in
     let t : TurnedLeg = c.leg in
     let b : Course = beginning m i t.moment in
     let first : List Call = flat_map calls_of t.turns in
     let so_far : Has h k.seen = has_before h k.seen after has k.grows.made in
     let are : AreTurns before k.seen (first_line m t.moment) last t.turns = plain_are_turns before k.seen (first_line m t.moment) last t.turns k.told k.added k.turns in
-    let turns : AreTurnsOf h m t = record { before = before; after = k.seen; last = last; turns = are; cut = is_cut last t.cut k.cut_told k.cut_added c.refused c.wanted k.cut; has = so_far } in
+    let turns : AreTurnsOf h m t = record { before = before; after = k.seen; last = last; turns = are; cut = is_cut last t.cut k.cut_told k.cut_added c.refused c.wanted k.cut; has = so_far; faithful = faithful } in
     let start : StandsAt h b (first_line m t.moment) = begin_stands h m i t.moment awaits enough in
-    let x = turns_stand h before k.seen (first_line m t.moment) last t.turns b start so_far are in
+    let x = turns_stand h before k.seen (first_line m t.moment) last t.turns b start so_far are faithful in
     let joined : course_on m i t ≡ course_after (course_after b first) (flat_map calls_of (option_to_list t.cut)) =
     ap (λ (cs : List Call). course_after b cs) (flat_map-append calls_of t.turns (option_to_list t.cut)) ∙ after_append b first (flat_map calls_of (option_to_list t.cut)) in
     let adds : (course_on m i t).added ≡ c.adds =
     ap (λ (d : Course). d.added) joined
     ∙ (cut_part_adds h (course_after b first) last t.cut k.cut_told k.cut_added c.refused c.wanted x.after k.cut
-    ∙ (ap (λ (rs : List InboxRecord). rs ++ k.cut_added) (turns_add h before k.seen (first_line m t.moment) last t.turns k.told k.added b start so_far k.turns) ∙ sym k.adds)) in
+    ∙ (ap (λ (rs : List InboxRecord). rs ++ k.cut_added) (turns_add h before k.seen (first_line m t.moment) last t.turns k.told k.added b start so_far k.turns faithful) ∙ sym k.adds)) in
     let begun : (course_on m i t).start ≡ i = (calls_go_on h b (calls_on t) (leg_stands h m i t awaits enough turns)).start in
     record {
       turns = turns;

@@ -38,6 +38,7 @@ refused_none : (fault : TurnFault) → refused_by fault [] ≡ []
 refused_none faults.Link = refl
 refused_none faults.Inbox = refl
 refused_none faults.Outbox = refl
+refused_none (faults.Changed at) = refl
 refused_none faults.Broken = refl
 refused_none (faults.Full entries bytes) = refl
 refused_none faults.Memory = refl
@@ -85,6 +86,7 @@ by_record fault now l t d refused false e is waits = inl (is ∙ (ap (λ (rs : L
 by_record faults.Link now l t d refused true e is waits = inl is
 by_record faults.Inbox now l t d refused true e is waits = inr (subst (λ (rs : List InboxRecord). Waits d rs) (sym is) (waits e))
 by_record faults.Outbox now l t d refused true e is waits = inl is
+by_record (faults.Changed at) now l t d refused true e is waits = inl is
 by_record faults.Broken now l t d refused true e is waits = inl is
 by_record (faults.Full entries bytes) now l t d refused true e is waits = inl is
 by_record faults.Memory now l t d refused true e is waits = inl is

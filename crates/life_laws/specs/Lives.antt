@@ -13,9 +13,9 @@ use Rattle.fixp_machine.specs.Accepting.{model_flow}
 use Rattle.connection_laws.specs.Living.{Opens}
 use Rattle.connection_laws.specs.Ranges.{IsInRange}
 use Rattle.two_ends.specs.Meeting.{life_in}
-use Rattle.jr_record.specs.declared.journal.Journal.{Ghosts}
-use Rattle.jr_boxes.specs.declared.inbox.Inbox.{Inbox}
-use Rattle.jr_boxes.specs.Inbox.{HoldsBox, next_of}
+use Rattle.jr_dated.specs.declared.journal.Journal.{Ghosts}
+use Rattle.jr_kept.specs.declared.inbox.Inbox.{Inbox}
+use Rattle.jr_kept.specs.Inbox.{HoldsBox, next_of}
 use Rattle.gate_turn.specs.Views.{Part}
 use Rattle.conn_loop.specs.Conn.{Looks}
 use Rattle.turn_laws.specs.Standing.{Has}
@@ -74,19 +74,19 @@ module _ {J : Type 0} {G : Ghosts J} where
     pub adds : inbox_after m i (turned (all_of ended given_up)) ≡ i ++ adds_of (all_of ended given_up)
     pub holds : HoldsBox box' (inbox_after m i (turned (all_of ended given_up))) (refused_of_all (option_to_list given_up))
 
-  -- what is ensured of a served life says so of its connections, whatever the inboxes of this kind
-  abbrev pub ServedIsTurned : Inbox J G → Type 0
-  ServedIsTurned box =
+  -- what is ensured of a served life says so of its connections, whatever the inboxes of this kind, where the outbox's disk tells its content
+  abbrev pub ServedIsTurned : (tells : Type 0) → Inbox J G → Type 0
+  ServedIsTurned tells box =
       (old new : LifeAt J G) (m : State) (result : Result LifeEnd ServeFault) (h : List Entry) (i : List InboxRecord)
-      → (k : ServedLife old new m result)
+      → (k : ServedLife tells old new m result) → tells
       → HoldsBox old.box i [] → Has h new.seen → m.facts.recorded.inbox_next ≡ next_number i → m.facts.recorded.sent ≤ length h
       → IsTurned h m k.mid i k.ended k.given_up new.box
 
-  -- a served life is a life of the loop that keeps on its connections what the session model asks of it
-  abbrev pub ServedKeeps : Inbox J G → Type 0
-  ServedKeeps box =
+  -- a served life is a life of the loop that keeps on its connections what the session model asks of it, where the outbox's disk tells its content
+  abbrev pub ServedKeeps : (tells : Type 0) → Inbox J G → Type 0
+  ServedKeeps tells box =
       (old new : LifeAt J G) (m : State) (result : Result LifeEnd ServeFault) (opening closing refused : List OutboxRecord) (i : List InboxRecord)
-      → (k : ServedLife old new m result)
+      → (k : ServedLife tells old new m result) → tells
       → Has (entries closing) new.seen → Opens (entries opening) (entries closing) m i
       → LifeOfLoop opening closing refused m i (all_of k.ended k.given_up) (refused_of_all (option_to_list k.given_up))
 
@@ -100,16 +100,16 @@ module _ {J : Type 0} {G : Ghosts J} where
   abbrev pub OpenedInRange : Inbox J G → Type 0
   OpenedInRange box =
       (opened : History) (config : EndConfig) (most : ℕ)
-      → length config.session ≡ 16 → config.keepalive ≤ 60000 → length config.credentials ≤ 2048 → most ≤ 2 ^ 24 → next_of box ≤ most + 1
+      → length config.session ≡ 16 → config.keepalive ≤ 60000 → length config.credentials ≤ 2048 → most ≤ 2 ^ 26 → next_of box ≤ most + 1
       → IsInRange (fresh config (opened_state opened box) most)
 
-  -- So what `serve` ensures of a life is a life of the loop that may turn, where the machine is in range, the closing outbox has less than
-  -- 2^40 entries, payloads of application messages, and begins with what its pass came to see
-  abbrev pub ServedIsALoopLife : Inbox J G → Type 0
-  ServedIsALoopLife box =
+  -- So what `serve` ensures of a life is a life of the loop that may turn, where the outbox's disk tells its content, the machine is in range, and
+  -- the closing outbox has less than 2^40 entries, payloads of application messages, and begins with what its pass came to see
+  abbrev pub ServedIsALoopLife : (tells : Type 0) → Inbox J G → Type 0
+  ServedIsALoopLife tells box =
       (old new : LifeAt J G) (opened : History) (config : EndConfig) (most : ℕ) (result : Result LifeEnd ServeFault)
       (opening closing refused : List OutboxRecord) (i : List InboxRecord)
-      → (k : ServedLife old new (fresh config (opened_state opened old.box) most) result)
+      → (k : ServedLife tells old new (fresh config (opened_state opened old.box) most) result) → tells
       → entries opening ≡ opened.made → BeginsHistory opened old.seen → Has (entries closing) new.seen → HoldsBox old.box i []
       → IsInRange (fresh config (opened_state opened old.box) most) → AllByRecursion (λ (e : Entry). IsApplication e.payload) (entries closing)
       → (l : LifeOfLoop opening closing refused (fresh config (opened_state opened old.box) most) i (all_of k.ended k.given_up)

@@ -7,11 +7,11 @@ use Rattle.session_model.specs.Inbox.{InboxRecord}
 use Rattle.fixp_shake.specs.declared.config.EndConfig.{EndConfig}
 use Rattle.fixp_machine.specs.Machine.{State, fresh}
 use Rattle.gw_links.specs.declared.link.Link.{Ghosts as LinkGhosts}
-use Rattle.jr_record.specs.declared.journal.Journal.{Ghosts}
-use Rattle.jr_boxes.specs.declared.inbox.Inbox.{Inbox}
-use Rattle.jr_boxes.specs.Inbox as inboxes
-use Rattle.jr_boxes.specs.declared.outbox.Outbox.{Outbox}
-use Rattle.jr_boxes.specs.Outbox as outboxes
+use Rattle.jr_dated.specs.declared.journal.Journal.{Ghosts}
+use Rattle.jr_kept.specs.declared.inbox.Inbox.{Inbox}
+use Rattle.jr_kept.specs.Inbox as inboxes
+use Rattle.jr_kept.specs.declared.outbox.Outbox.{Outbox}
+use Rattle.jr_kept.specs.Outbox as outboxes
 use Rattle.gate_turn.specs.Views.{Account, HasFailed, Limits, Part}
 use Rattle.gate_turn.specs.Rule.{In}
 use Rattle.gate_senders.specs.Kept.{next_entry, IsFullAt}
@@ -26,14 +26,16 @@ use Rattle.conn_serve.specs.Served.{ServedOver}
 use Rattle.conn_serve.specs.Opening.{opened_state, IsUnrefused}
 use Rattle.life_laws.specs.Plans.{plan_in, PlansMade, KeepsPlans, LosesNext}
 
--- What a life is served over: links, as the contracts of its dialer have them, and what its clock gave last before and behind it
+-- What a life is served over: whether the outbox's disk tells its content; links, as the contracts of its dialer have them; and what its clock
+-- gave last before and behind it
 pub record Clocked (L : Type 0) : Type 1 where
+  pub tells : Type 0
   pub links : LinkGhosts L
   pub before : ℕ
   pub behind : ℕ
 
-abbrev pub clocked : {L : Type 0} → LinkGhosts L → (before behind : ℕ) → Clocked L
-clocked links before behind = record { links = links; before = before; behind = behind }
+abbrev pub clocked : {L : Type 0} → (tells : Type 0) → LinkGhosts L → (before behind : ℕ) → Clocked L
+clocked tells links before behind = record { tells = tells; links = links; before = before; behind = behind }
 
 -- of what so many passes know, this is so of one
 pub record SomePass (made : ℕ) (P : Part → Type 0) (known : ℕ → Part) : Type 0 where
@@ -99,12 +101,14 @@ module _ {J : Type 0} {G : Ghosts J} where
     pub connections : Result LifeEnd ServeFault
     pub refused : Option ServeFault
     pub made : PlansMade opening plans known
-    pub life : ServedOver over.links over.before over.behind (with_seen old opening.history) (with_seen new (known (length plans + 1)).seen) m connections
+    pub life : ServedOver over.tells over.links over.before over.behind (with_seen old opening.history)
+        (with_seen new (known (length plans + 1)).seen) m connections
     pub limits : inboxes.limits_of new.box ≡ inboxes.limits_of old.box
     pub answer : result ≡ answer_of connections refused
     pub refusal : IfSome refused IsOfSender
     pub marked : IsUnrefused result → 0 < length plans → SomePass (length plans + 1) SeesMark known
     pub journal : result ≡ Err faults.Journal → BlamesInbox old.box new.box ⊎ SomePass (length plans + 1) SeesFailure known
+    pub changed : (at : ℕ) → result ≡ Err (faults.Changed at) → (at < length (known (length plans + 1)).seen.made) × (over.tells → ⊥)
     pub full : (entries bytes : ℕ) → result ≡ Err (faults.Full entries bytes)
         → FillsInbox new.box (wanted_of_all (option_to_list life.life.given_up)) entries bytes ⊎ SomePass (length plans + 1) (MetFull plans entries bytes) known
 
@@ -132,13 +136,14 @@ module _ {J : Type 0} {G : Ghosts J} {O : Type 0} {H : Ghosts O} where
     pub broken : outboxes.is_broken outbox' ≡ true → HasRisen (outboxes.faults_of outbox) (outboxes.faults_of outbox')
     pub plans_kept : KeepsPlans plans opening closing
     pub begins : BeginsHistory seen closing
-    pub served : ServedOver over.links over.before over.behind (with_seen old opening) (with_seen new seen)
-        (fresh config (opened_state opening old.box) (2 ^ 24)) connections
+    pub served : ServedOver over.tells over.links over.before over.behind (with_seen old opening) (with_seen new seen)
+        (fresh config (opened_state opening old.box) (2 ^ 26)) connections
     pub limits : inboxes.limits_of new.box ≡ inboxes.limits_of old.box
     pub answer : result ≡ answer_of connections refused
     pub refusal : IfSome refused IsOfSender
     pub marked : IsUnrefused result → 0 < length plans → closing.finished ≡ true
     pub journal : result ≡ Err faults.Journal → BlamesBoxes old.box new.box outbox outbox'
+    pub changed : (at : ℕ) → result ≡ Err (faults.Changed at) → (at < length seen.made) × (over.tells → ⊥)
     pub full : (entries bytes : ℕ) → result ≡ Err (faults.Full entries bytes)
         → FillsInbox new.box (wanted_of_all (option_to_list served.life.given_up)) entries bytes
         ⊎ WasFull (record { entries = (outboxes.limits_of outbox).entries; bytes = (outboxes.limits_of outbox).bytes }) plans opening closing entries bytes

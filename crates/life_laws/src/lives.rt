@@ -2,8 +2,8 @@
 
 ghost use Rattle.life_laws.specs.Lives.{LifeMayTurn, LifeOpens, OpenedInRange, OpenedOpens, ServedIsALoopLife, ServedIsTurned, ServedKeeps};
 
-use jr_boxes::Inbox;
-use jr_record::Journal;
+use jr_dated::Journal;
+use jr_kept::Inbox;
 
 /// A life opens where its first connection may begin.
 pub fn life_opens<I: Journal>(inbox: &Inbox<I>)
@@ -11,15 +11,15 @@ pub fn life_opens<I: Journal>(inbox: &Inbox<I>)
 {}
 
 /// The connections of a served life are turns, one behind another, and the inbox that is left holds what they add, whatever the
-/// inboxes of this kind.
-pub fn served_is_turned<I: Journal>(inbox: &Inbox<I>)
-    ensures law { ServedIsTurned inbox.now }
+/// inboxes of this kind, where the disks of the outboxes tell their content.
+pub fn served_is_turned<O: Journal, I: Journal>(inbox: &Inbox<I>)
+    ensures law { ServedIsTurned O.tells inbox.now }
 {}
 
 /// A served life is one of the loop that keeps on its connections what the session model asks of it, whatever the inboxes of this
-/// kind.
-pub fn served_keeps<I: Journal>(inbox: &Inbox<I>)
-    ensures law { ServedKeeps inbox.now }
+/// kind, where the disks of the outboxes tell their content.
+pub fn served_keeps<O: Journal, I: Journal>(inbox: &Inbox<I>)
+    ensures law { ServedKeeps O.tells inbox.now }
 {}
 
 /// A life of the loop may be one of two ends that run the loop, where its numbers are in range, its outbox has payloads of application
@@ -38,7 +38,8 @@ pub fn opened_in_range<I: Journal>(inbox: &Inbox<I>)
     ensures law { OpenedInRange inbox.now }
 {}
 
-/// What `serve` ensures of a life is a life of the loop that may be one of two ends that run it, whatever the inboxes of this kind.
-pub fn served_is_a_loop_life<I: Journal>(inbox: &Inbox<I>)
-    ensures law { ServedIsALoopLife inbox.now }
+/// What `serve` ensures of a life is a life of the loop that may be one of two ends that run it, whatever the inboxes of this kind,
+/// where the disks of the outboxes tell their content.
+pub fn served_is_a_loop_life<O: Journal, I: Journal>(inbox: &Inbox<I>)
+    ensures law { ServedIsALoopLife O.tells inbox.now }
 {}

@@ -8,7 +8,7 @@ use Rattle.session_model.specs.Inbox.{InboxRecord, next_number}
 use Rattle.session_model.proofs.Lists.{prefix_self, prefix_trans, all_append}
 use Rattle.fixp_machine.specs.Machine.{State, Call, connected}
 use Rattle.conn_turns.specs.Lines.{Line}
-use Rattle.conn_turns.specs.Turns.{Turn, calls_of}
+use Rattle.conn_turns.specs.Turns.{Turn, IsFaithful, calls_of}
 use Rattle.connection_laws.specs.Courses.{Course, inbox_of, beginning, course_after}
 use Rattle.connection_laws.specs.Standing.{Stands}
 use Rattle.connection_laws.proofs.Going.{calls_keep, connection_begins}
@@ -95,7 +95,7 @@ during_stands h m past leg e first has d =
     let s : State = state_after m [] past in
     let i : List InboxRecord = inbox_after m [] past in
     let b : Behind h s i = first_behind h m past first d.turns in
-    turns_stand h d.before e.seen (first_line s leg.moment) e.line leg.turns (beginning s i leg.moment) (begin_stands h s i leg.moment b.awaits b.enough) has d.made
+    turns_stand h d.before e.seen (first_line s leg.moment) e.line leg.turns (beginning s i leg.moment) (begin_stands h s i leg.moment b.awaits b.enough) has d.made d.faithful
 
 -- ---- the laws
 
@@ -108,20 +108,21 @@ leg_begins m legs e now k time h has =
       timely = b.timely;
       before = e.seen;
       made = (ap (λ (x : State). record { machine = x; held = []; place = 0; over = false }) (b.next now), refl);
+      faithful = tt;
       uncut = refl;
       in_time = record { begins = time; turns = tt };
       inbox = append-nil (inbox_after m [] legs) ∙ b.inbox;
     }
 
 pub turn_goes_on : TurnGoesOn
-turn_goes_on m past leg e e' t first k unended grows is timely adds h has =
+turn_goes_on m past leg e e' t first k unended grows is faithful timely adds h has =
     let so_far : Has h e.seen = record { begins = prefix_trans e.seen.made e'.seen.made h grows has.begins; few = has.few } in
     let d : IsDuring h m past leg e = k h so_far in
     let s : State = state_after m [] past in
     let i : List InboxRecord = inbox_after m [] past in
     let c : Course = course_after (beginning s i leg.moment) (flat_map calls_of leg.turns) in
     let x = during_stands h m past leg e first so_far d in
-    let y = turn_may_stand h e.seen e'.seen e.line e'.line t c x.after has is in
+    let y = turn_may_stand h e.seen e'.seen e.line e'.line t c x.after has is faithful in
     let begun : (course_after c (calls_of t)).start ≡ c.start = (calls_go_on h c (calls_of t) y.may).start in
     let added : (course_after c (calls_of t)).added ≡ c.added ++ adds_in e.line t = turn_adds h e.seen e'.seen e.line e'.line t c x.after is in
     record {
@@ -129,6 +130,7 @@ turn_goes_on m past leg e e' t first k unended grows is timely adds h has =
       timely = d.timely;
       before = d.before;
       made = turns_append d.before e.seen e'.seen (first_line s leg.moment) e.line e'.line leg.turns t d.made unended is;
+      faithful = all_append IsFaithful leg.turns (t ∷ []) d.faithful (faithful, tt);
       uncut = d.uncut;
       in_time = record {
         begins = d.in_time.begins;
@@ -152,7 +154,7 @@ leg_ends m past leg e first k h has =
     let i : List InboxRecord = inbox_after m [] past in
     let x = during_stands h m past leg e first has d in
     let one : AreTurnsOf h s leg =
-    record { before = d.before; after = e.seen; last = e.line; turns = d.made; cut = subst (λ (c : Option Turn). IfSome c (IsCut e.line)) (sym d.uncut) tt; has = has } in
+    record { before = d.before; after = e.seen; last = e.line; turns = d.made; cut = subst (λ (c : Option Turn). IfSome c (IsCut e.line)) (sym d.uncut) tt; has = has; faithful = d.faithful } in
     let state : state_after m [] (past ++ leg ∷ []) ≡ e.line.machine =
     state_append m [] past leg ∙ (ap (λ (y : Course). y.state) (course_uncut s i leg d.uncut) ∙ x.after.machine) in
     record {

@@ -5,7 +5,7 @@ use Rattle.session_model.specs.Journal.{Entry, History}
 use Rattle.session_model.specs.Inbox.{InboxRecord}
 use Rattle.fixp_machine.specs.Machine.{State, connected}
 use Rattle.conn_turns.specs.Lines.{Line}
-use Rattle.conn_turns.specs.Turns.{Turn}
+use Rattle.conn_turns.specs.Turns.{Turn, IsFaithful}
 use Rattle.connection_laws.specs.Courses.{inbox_of}
 use Rattle.turn_laws.specs.Standing.{Has}
 use Rattle.turn_laws.specs.Legs.{AreTurns, TurnedLeg, first_line, IsTimely, course_on}
@@ -37,12 +37,13 @@ pub record IsBetween (h : List Entry) (m : State) (legs : List TurnedLeg) (e : E
   pub next : (now : ℕ) → connected e.line.machine now ≡ connected (state_after m [] legs) now
   pub inbox : inbox_after m [] legs ≡ e.inbox
 
--- behind those that are over one goes on, whose turns so far led to the line, and were of what the pass has seen
+-- behind those that are over one goes on, whose turns so far led to the line, and were of what the pass has seen, and sent just that
 pub record IsDuring (h : List Entry) (m : State) (past : List TurnedLeg) (leg : TurnedLeg) (e : EndNow) : Type 0 where
   pub turns : AllAreTurns h m [] past
   pub timely : AllByRecursion IsTimely past
   pub before : History
   pub made : AreTurns before e.seen (first_line (state_after m [] past) leg.moment) e.line leg.turns
+  pub faithful : AllByRecursion IsFaithful leg.turns
   pub uncut : leg.cut ≡ None
   pub in_time : IsTimely leg
   pub inbox : inbox_of (course_on (state_after m [] past) (inbox_after m [] past) leg) ≡ e.inbox

@@ -6,7 +6,7 @@ use Rattle.session_model.specs.Journal.{OutboxRecord, entries}
 use Rattle.session_model.specs.Inbox.{InboxRecord}
 use Rattle.fixp_msgs.specs.declared.flow.Flow.{Flow}
 use Rattle.fixp_machine.specs.Machine.{State, taken, link_end, run}
-use Rattle.conn_turns.specs.Turns.{Turn}
+use Rattle.conn_turns.specs.Turns.{Turn, IsFaithful}
 use Rattle.connection_laws.specs.Ranges.{IsInTime}
 use Rattle.turn_laws.specs.Turns.{IsTurn, adds_in}
 use Rattle.turn_laws.specs.Legs.{TurnedLeg, first_line, given_in, sent_in, IsTimelyTurn}
@@ -19,11 +19,11 @@ abbrev pub LegBegins : Type 0
 LegBegins = (m : State) (legs : List TurnedLeg) (e : EndNow) (now : ℕ) → Between m legs e → IsInTime now
     → During m legs (begun_leg now) (record e { line = first_line e.line.machine now })
 
--- it goes on by a turn
+-- it goes on by a turn that sent of the outbox what it had seen
 abbrev pub TurnGoesOn : Type 0
 TurnGoesOn = (m : State) (past : List TurnedLeg) (leg : TurnedLeg) (e e' : EndNow) (t : Turn) → IsFirst m → During m past leg e
-    → e.line.machine.ending ≡ None → IsPrefix e.seen.made e'.seen.made → IsTurn e.seen e'.seen e.line e'.line t → IsTimelyTurn t
-    → e'.inbox ≡ e.inbox ++ adds_in e.line t → During m past (with_turn leg t) e'
+    → e.line.machine.ending ≡ None → IsPrefix e.seen.made e'.seen.made → IsTurn e.seen e'.seen e.line e'.line t → IsFaithful t
+    → IsTimelyTurn t → e'.inbox ≡ e.inbox ++ adds_in e.line t → During m past (with_turn leg t) e'
 
 -- it is over
 abbrev pub LegEnds : Type 0

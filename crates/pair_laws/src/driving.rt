@@ -7,7 +7,7 @@ pub fn leg_begins()
     ensures law { LegBegins }
 {}
 
-/// A connection goes on by a turn.
+/// A connection goes on by a turn that sent of the outbox what it had seen.
 pub fn turn_goes_on()
     ensures law { TurnGoesOn }
 {}

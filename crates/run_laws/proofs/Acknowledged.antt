@@ -7,8 +7,8 @@ use Rattle.session_model.proofs.Lists.{prefix_trans}
 use Rattle.gate_turn.proofs.Histories.{begins_self, begins_on}
 use Rattle.fixp_shake.specs.declared.config.EndConfig.{EndConfig}
 use Rattle.fixp_shake.specs.declared.config.Role.{Role}
-use Rattle.jr_record.specs.declared.journal.Journal.{Ghosts}
-use Rattle.jr_record.specs.Images.{IsJournal, Leaves}
+use Rattle.jr_dated.specs.declared.journal.Journal.{Ghosts}
+use Rattle.cmd_session.specs.Journals.{IsJournal, Leaves}
 use Rattle.jr_boxes.specs.Outboxes.{record_of, outbox_of, records_of_history}
 use Rattle.cmd_config.specs.declared.configuration.Configuration.{Configuration}
 use Rattle.cmd_session.specs.Inputs.{end_of}
@@ -17,7 +17,8 @@ use Rattle.cmd_session.specs.Outsides.{Sees}
 use Rattle.cmd_session.specs.Steps.{StopsAtInput, EndsBehindConfig, Steps}
 use Rattle.run_laws.specs.Several.{Run, IsEmptyJournal, IsAt, RunsOver, IsRun}
 use Rattle.run_laws.specs.Standing.{LifeStands, BoxesStand, ConfigStands, RunStands, AllStand, ClosingsStand}
-use Rattle.run_laws.proofs.Telling.{same_image, out_tells}
+use Rattle.cmd_session.proofs.Histories.{out_tells}
+use Rattle.run_laws.proofs.Telling.{same_image}
 use Rattle.run_laws.proofs.Ordered.{begins_within, history_of-records}
 use Rattle.run_laws.proofs.Merely.{image_left}
 use Rattle.run_laws.proofs.Ways.{Unlived, config_kept, boxes_kept, input_kept, unbegun_kept}

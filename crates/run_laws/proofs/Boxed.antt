@@ -8,10 +8,10 @@ use Rattle.session_model.specs.Inbox.{InboxRecord}
 use Rattle.session_model.specs.Lives.{IsImage}
 use Rattle.session_model.proofs.Journals.{prefix_entries}
 use Rattle.fixp_shake.specs.declared.config.Role.{Role}
-use Rattle.jr_record.specs.declared.journal.Journal.{Ghosts}
+use Rattle.jr_dated.specs.declared.journal.Journal.{Ghosts}
 use Rattle.jr_record.specs.declared.record.Record.{Record}
-use Rattle.jr_record.specs.Images.{Leaves}
-use Rattle.jr_record.proofs.Verdicts.{at_most_one_verdict}
+use Rattle.cmd_session.specs.Journals.{Leaves}
+use Rattle.cmd_session.proofs.Verdicts.{at_most_one_verdict}
 use Rattle.jr_boxes.specs.Outboxes.{record_of, mark_of, outbox_of, records_of_history}
 use Rattle.jr_boxes.specs.Inboxes as in_boxes
 use Rattle.jr_boxes.specs.Inboxes.{records_of_inbox}
@@ -20,7 +20,8 @@ use Rattle.life_laws.proofs.Outboxes.{entries-outbox_of}
 use Rattle.cmd_session.specs.Outsides.{Sees}
 use Rattle.run_laws.specs.Several.{Run, IsEmptyJournal, IsAt, RunsOver, IsRun}
 use Rattle.run_laws.specs.Holding.{AreBoxes, BoxesAreLeft}
-use Rattle.run_laws.proofs.Telling.{first_of_images, out_tells, in_tells}
+use Rattle.cmd_session.proofs.Histories.{out_tells}
+use Rattle.run_laws.proofs.Telling.{first_of_images, in_tells}
 use Rattle.run_laws.proofs.Ordered.{order_of_first}
 use Rattle.run_laws.proofs.Merely.{image_left}
 use Rattle.run_laws.proofs.Chaining.{kept_was}

@@ -12,7 +12,7 @@ use Rattle.gw_links.specs.Links.{Carried}
 use Rattle.turn_laws.specs.Legs.{TurnedLeg, given_on, sent_on}
 use Rattle.two_ends.specs.Loops.{LinkedLinks}
 use Rattle.two_ends.specs.Loops as links
-use Rattle.jr_record.specs.declared.journal.Journal.{Ghosts}
+use Rattle.jr_dated.specs.declared.journal.Journal.{Ghosts}
 use Rattle.cmd_base.specs.declared.status.Status.{Status}
 use Rattle.cmd_config.specs.declared.configuration.Configuration.{Configuration}
 use Rattle.conn_serve.specs.Connections.{Connection, turned, all_of}

@@ -20,13 +20,13 @@ use Rattle.gw_links.specs.Links.{Carried}
 use Rattle.turn_laws.specs.Legs.{TurnedLeg}
 use Rattle.two_ends.specs.Meeting.{life_in}
 use Rattle.two_ends.specs.Loops.{LoopLife, machine_life, lives_of, legs_in, MayTurn}
-use Rattle.jr_record.specs.declared.journal.Journal.{Ghosts}
+use Rattle.jr_dated.specs.declared.journal.Journal.{Ghosts}
 use Rattle.jr_record.specs.declared.record.Record.{Record}
-use Rattle.jr_record.specs.Images.{IsJournal, Leaves}
+use Rattle.cmd_session.specs.Journals.{IsJournal, Leaves}
 use Rattle.jr_boxes.specs.Outboxes.{record_of, outbox_of, records_of_history}
 use Rattle.jr_boxes.specs.Inboxes as in_boxes
 use Rattle.jr_boxes.specs.Inboxes.{records_of_inbox}
-use Rattle.jr_boxes.specs.Inbox.{next_of}
+use Rattle.jr_kept.specs.Inbox.{next_of}
 use Rattle.cmd_base.specs.declared.status.Status.{Status}
 use Rattle.conn_serve.specs.Connections.{Connection, all_of, adds_of, refused_of_all}
 use Rattle.conn_serve.specs.Served.{carried_by}
@@ -34,14 +34,15 @@ use Rattle.conn_serve.specs.Opening.{opened_state}
 use Rattle.life_laws.specs.Lives.{LifeOfLoop}
 use Rattle.life_laws.proofs.Loops.{life_may_turn}
 use Rattle.life_laws.proofs.Opened.{opened_opens, opened_in_range}
-use Rattle.life_laws.proofs.Outboxes.{entries-outbox_of}
+use Rattle.life_laws.proofs.Outboxes.{entries-outbox_of, outbox_begins}
 use Rattle.cmd_session.specs.Lived.{IsKept, LivedOver, HasLivedOver}
 use Rattle.cmd_session.specs.Outsides.{Sees}
 use Rattle.cmd_session.specs.declared.outside.SessionOutside.{SessionOutside}
 use Rattle.run_laws.specs.Several.{brought_by, IsAt}
 use Rattle.run_laws.specs.Linked.{CarriedOn}
 use Rattle.run_laws.proofs.Refusing.{some_of}
-use Rattle.run_laws.proofs.Telling.{same_image, out_tells, in_tells}
+use Rattle.cmd_session.proofs.Histories.{out_tells}
+use Rattle.run_laws.proofs.Telling.{same_image, in_tells}
 use Rattle.run_laws.proofs.Ordered.{begins_within}
 use Rattle.run_laws.proofs.Sending.{plan_of, keeps_outbox}
 use Rattle.run_laws.proofs.Bounded.{images_within}
@@ -62,7 +63,7 @@ pub record Comes (own peer : Flow) (outboxes inboxes : List ℕ → Type 0) (car
   pub history : BeginsHistory (history_of opened) (history_of o)
   pub chained : Chained opened waiting (lives_of lives) o i
   pub keeps : AllByRecursion (KeepsOutbox (plan_of o)) (lives_of lives)
-  pub may_turn : next_number waiting ≤ 2 ^ 24 + 1 → AllByRecursion (MayTurn own peer) lives
+  pub may_turn : next_number waiting ≤ 2 ^ 26 + 1 → AllByRecursion (MayTurn own peer) lives
   pub links : AllZip CarriedOn carried (flat_map legs_in lives)
 
 module _ {S K D N C : Type 0} (sees : Sees S K D N C) where
@@ -101,13 +102,13 @@ module _ {S K D N C J : Type 0} (G : Ghosts J) (sees : Sees S K D N C) (own peer
         (sym (brought_none (sees.carried before.dialer) (sees.carried after.dialer) (ap sees.carried kept.dialer_is))) later.links;
   }
 
-  module _ (config : EndConfig) (plans : List (List (List ℕ))) (status : Status) (lived : HasLivedOver G sees config plans before after status)
+  module _ (t : G.tells) (config : EndConfig) (plans : List (List (List ℕ))) (status : Status) (lived : HasLivedOver G sees config plans before after status)
       (own_is : config.own_flow ≡ own) (peer_is : config.peer_flow ≡ peer) (session : length config.session ≡ 16) (keepalive : config.keepalive ≤ 60000) (credentials : length config.credentials ≤ 2048) where
     abbrev v : LivedOver sees config plans before after lived.old lived.new lived.result
     v = lived.over
 
     abbrev machine : State
-    machine = fresh config (opened_state v.opening lived.old) (2 ^ 24)
+    machine = fresh config (opened_state v.opening lived.old) (2 ^ 26)
 
     abbrev cs : List Connection
     cs = all_of v.served.life.ended v.served.life.given_up
@@ -128,27 +129,26 @@ module _ {S K D N C J : Type 0} (G : Ghosts J) (sees : Sees S K D N C) (own peer
 
     -- the life, of which a stop left that of the outbox
     abbrev life : LoopLife
-    life = record v.life.life { refused_outbox = kept }
+    life = record (v.life t).life { refused_outbox = kept }
 
     is_life : LifeOfLoop (outbox_of v.opening) (outbox_of v.closing) kept machine v.inbox cs left
     is_life = record {
       life = life;
-      outboxes = (v.life.outboxes.0, v.life.outboxes.1, refl);
-      begins = v.life.begins;
-      legs = v.life.legs;
-      turns = v.life.turns;
-      last = v.life.last;
-      inbox = v.life.inbox;
-      keeps = v.life.keeps;
+      outboxes = ((v.life t).outboxes.0, (v.life t).outboxes.1, refl);
+      begins = (v.life t).begins;
+      legs = (v.life t).legs;
+      turns = (v.life t).turns;
+      last = (v.life t).last;
+      inbox = (v.life t).inbox;
+      keeps = (v.life t).keeps;
     }
 
     closing_kept : life.closing_outbox ++ kept ≡ later.opened
-    closing_kept = ap (λ (rs : List OutboxRecord). rs ++ kept) v.life.outboxes.1 ∙ sym out_image.holds
+    closing_kept = ap (λ (rs : List OutboxRecord). rs ++ kept) (v.life t).outboxes.1 ∙ sym out_image.holds
 
     -- how the outbox went on
     opened_closing : IsPrefix (outbox_of v.opening) (outbox_of v.closing)
-    opened_closing = subst (λ (rs : List OutboxRecord). IsPrefix rs (outbox_of v.closing)) v.life.outboxes.0
-        (subst (λ (rs : List OutboxRecord). IsPrefix v.life.life.opening_outbox rs) v.life.outboxes.1 v.contract.outbox.outbox_grows)
+    opened_closing = outbox_begins v.opening v.closing v.grows
 
     closing_found : IsPrefix (outbox_of v.closing) later.opened
     closing_found = (kept, sym out_image.holds)
@@ -167,25 +167,25 @@ module _ {S K D N C J : Type 0} (G : Ghosts J) (sees : Sees S K D N C) (own peer
     keeps_its_outbox = keeps_outbox (life_in (machine_life life)) o (record {
       whole = v.whole;
       in_order = v.in_order;
-      opened = v.contract.outbox.outbox_grows;
+      opened = (v.contract t).outbox.outbox_grows;
       within = subst (λ (rs : List OutboxRecord). IsPrefix rs (outbox_of v.whole)) (sym closing_kept) found_within;
       begins = subst (λ (rs : List OutboxRecord). BeginsHistory (history_of rs) (history_of o)) (sym closing_kept) later.history;
-      grown = (_, sym v.life.keeps.inbox_adds);
+      grown = (_, sym (v.life t).keeps.inbox_adds);
     })
 
     leads : Leads (life_in (machine_life life)) (outbox_of v.opening) v.inbox later.opened later.waiting
     leads = record {
-      opens_outbox = v.life.outboxes.0;
-      opens_inbox = v.life.inbox.0;
+      opens_outbox = (v.life t).outboxes.0;
+      opens_inbox = (v.life t).inbox.0;
       outbox_image = record { kept = kept; beginning = prefix_self kept; holds = sym closing_kept };
-      inbox_image = subst (λ (rs : List InboxRecord). IsImage rs (life_in (machine_life life)).served.refused_inbox later.waiting) (sym v.life.inbox.1)
-          (subst (λ (rs : List InboxRecord). IsImage (v.inbox ++ adds_of cs) rs later.waiting) (sym v.life.inbox.2) in_image);
+      inbox_image = subst (λ (rs : List InboxRecord). IsImage rs (life_in (machine_life life)).served.refused_inbox later.waiting) (sym (v.life t).inbox.1)
+          (subst (λ (rs : List InboxRecord). IsImage (v.inbox ++ adds_of cs) rs later.waiting) (sym (v.life t).inbox.2) in_image);
     }
 
     -- it may turn
     opens : Opens (entries (outbox_of v.opening)) (entries (outbox_of v.closing)) machine v.inbox
     opens = subst (λ (es : List Entry). Opens es (entries (outbox_of v.closing)) machine v.inbox) (sym (entries-outbox_of v.opening))
-        (opened_opens lived.old v.opening config (2 ^ 24) (entries (outbox_of v.closing)) v.inbox
+        (opened_opens lived.old v.opening config (2 ^ 26) (entries (outbox_of v.closing)) v.inbox
         (subst (λ (es : List Entry). IsPrefix es (entries (outbox_of v.closing))) (entries-outbox_of v.opening) (prefix_entries (outbox_of v.opening) (outbox_of v.closing) opened_closing)) v.holds)
 
     closing_payloads : AllByRecursion (λ (e : Entry). IsApplication e.payload) (entries (outbox_of v.closing))
@@ -193,19 +193,19 @@ module _ {S K D N C J : Type 0} (G : Ghosts J) (sees : Sees S K D N C) (own peer
         let p = prefix_entries (outbox_of v.closing) o (prefix_trans (outbox_of v.closing) later.opened o closing_found later.begins) in
         all_first (λ (e : Entry). IsApplication e.payload) (entries (outbox_of v.closing)) p.0 (subst (λ (es : List Entry). AllByRecursion (λ (e : Entry). IsApplication e.payload) es) (sym p.1) payloads)
 
-    in_range : next_number v.inbox ≤ 2 ^ 24 + 1 → IsInRange machine
-    in_range few = opened_in_range lived.old v.opening config (2 ^ 24) session keepalive credentials (omega arith)
+    in_range : next_number v.inbox ≤ 2 ^ 26 + 1 → IsInRange machine
+    in_range few = opened_in_range lived.old v.opening config (2 ^ 26) session keepalive credentials (omega arith)
         (let next : next_of lived.old ≡ next_number v.inbox = v.holds.noticed.next in omega (arith, next, few))
 
-    may_turn_so : next_number v.inbox ≤ 2 ^ 24 + 1 → MayTurn own peer life
+    may_turn_so : next_number v.inbox ≤ 2 ^ 26 + 1 → MayTurn own peer life
     unfolding is_life
     may_turn_so few =
         subst (λ (f : Flow). MayTurn f peer life) own_is (subst (λ (f : Flow). MayTurn config.own_flow f life) peer_is
         (life_may_turn (outbox_of v.opening) (outbox_of v.closing) kept machine v.inbox cs left is_life opens (in_range few) closing_payloads v.served.life.timely))
 
-    next_found : next_number v.inbox ≤ 2 ^ 24 + 1 → next_number later.waiting ≤ 2 ^ 24 + 1
+    next_found : next_number v.inbox ≤ 2 ^ 26 + 1 → next_number later.waiting ≤ 2 ^ 26 + 1
     next_found few =
-        let most : life.state.most ≡ 2 ^ 24 = ap (λ (s : State). s.most) v.life.begins.0 in
+        let most : life.state.most ≡ 2 ^ 26 = ap (λ (s : State). s.most) (v.life t).begins.0 in
         let found : next_number later.waiting ≤ life.state.most + 1 = images_within own peer life (may_turn_so few) later.waiting leads.inbox_image in
         omega (arith, most, found)
 
@@ -215,7 +215,7 @@ module _ {S K D N C J : Type 0} (G : Ghosts J) (sees : Sees S K D N C) (own peer
 
     links : AllZip CarriedOn came (legs_in life)
     links = subst (λ (xs : List (Option Carried)). AllZip CarriedOn xs (legs_in life)) (sym came_so)
-        (subst (λ (ts : List TurnedLeg). AllZip CarriedOn (carried_by cs) ts) (sym v.life.legs)
+        (subst (λ (ts : List TurnedLeg). AllZip CarriedOn (carried_by cs) ts) (sym (v.life t).legs)
         (all_carried v.opening v.served.life.behind v.seen machine v.served.life.mid v.served.life.ended v.served.life.given_up v.served.life.were v.served.life.gave_up))
 
     pub lived_on : Comes own peer outboxes inboxes (came ++ carried) o i

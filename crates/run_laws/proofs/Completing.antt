@@ -3,7 +3,7 @@ use Rattle.std.proofs.Common.{◌≡◌, ◌⊎◌, inl, inr, ⊎_elim, ℕ, ◌
 use Rattle.fixp_shake.specs.declared.config.Role.{Role}
 use Rattle.cmd_config.specs.declared.configuration.Configuration.{Configuration}
 use Rattle.plan_text.specs.Plans.{HasPlans}
-use Rattle.jr_record.specs.declared.journal.Journal.{Ghosts}
+use Rattle.jr_dated.specs.declared.journal.Journal.{Ghosts}
 use Rattle.jr_boxes.specs.declared.faults.Which.TheVariants.{Outbox, Inbox}
 use Rattle.cmd_base.specs.declared.status.Status.{Status}
 use Rattle.cmd_base.specs.declared.status.Status.TheVariants.{Memory}
@@ -24,7 +24,7 @@ as_many : (senders : ℕ) (text : List ℕ) (plans : List (List (List ℕ))) →
 as_many senders text plans h = ap length h.plans_are ∙ many_plans 1 senders h.gifts
 
 module _ {S K D N C J : Type 0} (G : Ghosts J) (sees : Sees S K D N C)
-    (before after : SessionOutside S K D N C) (role : Role) (c : Configuration) (status : Status) (set_up : IsSetUp sees role c before) (none : NoneRose (counts_of sees before) (counts_of sees after)) where
+    (before after : SessionOutside S K D N C) (role : Role) (c : Configuration) (status : Status) (set_up : IsSetUp sees role c before) (none : NoneRose (counts_of sees before) (counts_of sees after)) (told : G.tells) where
   abbrev LeftEnds : Type 0
   LeftEnds = WantsMemory before after status ⊎ Completed G sees role c before after status
 
@@ -56,6 +56,7 @@ module _ {S K D N C J : Type 0} (G : Ghosts J) (sees : Sees S K D N C)
     blames_none : BlamesNone h.result
     blames_none faults.Output of e = none.out (life.output (h.status_is ∙ ap status_of e))
     blames_none faults.Journal of e = ⊎_elim none.out_disk none.in_disk (h.over.journal e)
+    blames_none (faults.Changed at) of e = (h.over.changed at e).1 told
     blames_none faults.Dial of e = none.dialer (life.dial (h.status_is ∙ ap status_of e))
     blames_none _ of e = of
 
@@ -107,4 +108,4 @@ module _ {S K D N C J : Type 0} (G : Ghosts J) (sees : Sees S K D N C)
 
 pub run_completes : {S K D N C J : Type 0} (G : Ghosts J) (sees : Sees S K D N C)
     (before after : SessionOutside S K D N C) → RunCompletes G sees before after
-run_completes G sees before after role c status set_up none steps = at_step G sees before after role c status set_up none steps
+run_completes G sees before after told role c status set_up none steps = at_step G sees before after role c status set_up none told steps

@@ -52,7 +52,7 @@ cut_at_frame s k enough pends = by_cut s.leg.cut refl k.turns.cut
     whole = course_after (course_at s) (flat_map calls_of s.leg.turns)
 
     x : TurnsStand h (course_at s) last s.leg.turns
-    x = turns_stand h k.turns.before k.turns.after (line_at s) last s.leg.turns (course_at s) (begin_stands h s.state s.inbox s.leg.moment k.ready.awaits enough) k.turns.has k.turns.turns
+    x = turns_stand h k.turns.before k.turns.after (line_at s) last s.leg.turns (course_at s) (begin_stands h s.state s.inbox s.leg.moment k.ready.awaits enough) k.turns.has k.turns.turns k.turns.faithful
 
     by_cut : (cut : Option Turn) → s.leg.cut ≡ cut → IfSome cut (IsCut last) → CutAtFrame s
     by_cut None e c = absurd (some_none (behind s).pending pends (ap (λ (m : State). m.pending) (behind_last s k enough e) ∙ x.after.done))

@@ -22,10 +22,11 @@ use Rattle.life_laws.specs.PlanLives.{IsOfSender}
 use Rattle.cmd_session.specs.Lived.{status_of}
 use Rattle.run_laws.specs.Completeness.{OneFinished, EndsAs, IsBehindFinish, IsOfConnections}
 
--- the faults that blame a device
+-- the faults that blame a device, or a record that has changed
 abbrev pub IsOfDevice : ServeFault → Type 0
 IsOfDevice faults.Output = ⊤
 IsOfDevice faults.Journal = ⊤
+IsOfDevice (faults.Changed at) = ⊤
 IsOfDevice faults.Dial = ⊤
 IsOfDevice _ = ⊥
 
@@ -72,6 +73,8 @@ module _ (behind seen : History) (m : State) (later : Option DialerTold) (ended 
   ends_as (Err faults.Output) (Some x) of none answer = absurd (none faults.Output tt refl)
   ends_as (Err faults.Journal) None of none answer = absurd (none faults.Journal tt refl)
   ends_as (Err faults.Journal) (Some x) of none answer = absurd (none faults.Journal tt refl)
+  ends_as (Err (faults.Changed at)) None of none answer = absurd (none (faults.Changed at) tt refl)
+  ends_as (Err (faults.Changed at)) (Some x) of none answer = absurd (none (faults.Changed at) tt refl)
   ends_as (Err faults.Dial) None of none answer = absurd (none faults.Dial tt refl)
   ends_as (Err faults.Dial) (Some x) of none answer = absurd (dial_blames x of none)
   ends_as (Err (faults.Unfinished phase)) None of none answer = answer
@@ -100,6 +103,7 @@ module _ (behind seen : History) (m : State) (later : Option DialerTold) (ended 
   behind_finish (Err faults.Output) None of none answer one = absurd (none faults.Output tt refl)
   behind_finish (Err faults.Output) (Some x) of none answer one = absurd (none faults.Output tt refl)
   behind_finish (Err faults.Journal) refused of none answer one = absurd (none_finished ended answer.0 one)
+  behind_finish (Err (faults.Changed at)) refused of none answer one = absurd (none_finished ended answer.0 one)
   behind_finish (Err faults.Dial) refused of none answer one = absurd (none_finished ended answer.0 one)
   behind_finish (Err (faults.Unfinished phase)) refused of none answer one = absurd (none_finished ended answer.0 one)
   behind_finish (Err (faults.Rejected template code)) refused of none answer one = absurd (not_rejected template code ended answer.1 one)
@@ -113,6 +117,7 @@ pub unrefused : (result : Result (Unit {0}) ServeFault) → IsOfConnections (sta
 unrefused (Ok done) of = tt
 unrefused (Err faults.Output) of = absurd of
 unrefused (Err faults.Journal) of = absurd of
+unrefused (Err (faults.Changed at)) of = absurd of
 unrefused (Err faults.Dial) of = absurd of
 unrefused (Err (faults.Unfinished phase)) of = refl
 unrefused (Err (faults.Rejected template code)) of = refl
@@ -125,6 +130,7 @@ pub full_is : (result : Result (Unit {0}) ServeFault) (entries bytes : ℕ) → 
 full_is (Ok done) entries bytes e = cc
 full_is (Err faults.Output) entries bytes e = cc
 full_is (Err faults.Journal) entries bytes e = cc
+full_is (Err (faults.Changed at)) entries bytes e = cc
 full_is (Err faults.Dial) entries bytes e = cc
 full_is (Err (faults.Unfinished phase)) entries bytes e = cc
 full_is (Err (faults.Rejected template code)) entries bytes e = cc

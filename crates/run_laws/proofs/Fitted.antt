@@ -18,7 +18,7 @@ use Rattle.cmd_config.specs.declared.purpose.Purpose.{Purpose}
 use Rattle.cmd_config.specs.declared.purpose.Purpose.TheVariants.{Live}
 use Rattle.cmd_config.specs.declared.configuration.Link.{Link}
 use Rattle.cmd_config.specs.declared.configuration.Configuration.{Configuration}
-use Rattle.cmd_config.specs.Settings.{session_of, flow_of, credentials_of, known_keys, ensure_in_range, allows_client, allows_server, link_of, trade_of, configuration_of, configuration_of_document}
+use Rattle.cmd_config.specs.Settings.{session_of, flow_of, credentials_of, known_keys, ensure_in_range, allows_client, allows_server, link_of, trade_of, version_of, configuration_of, configuration_of_document}
 use Rattle.cmd_config.proofs.Readings.{credentials_le}
 use Rattle.run_laws.specs.Pieces.{LinkFits, ConfigurationsFit}
 
@@ -113,7 +113,7 @@ link_fits purpose keys link e =
     let server = got (required (codes "server_flow") flow_of keys) _ link client_in.goes_on in
     let server_in = got (ensure_in_range (codes "server_flow") (allows_server purpose server.value)) _ link server.goes_on in
     let credentials = got (get_or_default (codes "credentials") [] credentials_of keys) _ link server_in.goes_on in
-    let built : Link = record { session = session.value; keepalive = keepalive.value; client_flow = client.value; server_flow = server.value; credentials = credentials.value } in
+    let built : Link = record { session = session.value; keepalive = keepalive.value; client_flow = client.value; server_flow = server.value; credentials = credentials.value; version = 1 } in
     let last = credentials.goes_on in
     let same : built ≡ link = cc in
     subst LinkFits same (record {
@@ -122,15 +122,20 @@ link_fits purpose keys link e =
       credentials = credentials_le keys credentials.value credentials.is;
     })
 
+-- whichever version it speaks
+versioned : (link : Link) (version : ℕ) → LinkFits link → LinkFits (record link { version = version })
+versioned link version f = record { session = f.session; keepalive = f.keepalive; credentials = f.credentials }
+
 keys_fit : (purpose : Purpose) (keys : Data) (c : Configuration) → configuration_of purpose keys ≡ Ok c → LinkFits c.link
 keys_fit purpose keys c e =
     let link = got (link_of purpose keys) _ c e in
     let trade = got (trade_of purpose link.value.client_flow link.value.server_flow keys) _ c link.goes_on in
-    let known = got (deny_unknown_keys known_keys keys) _ c trade.goes_on in
-    let built : Configuration = record { link = link.value; trade = trade.value } in
+    let version = got (version_of keys) _ c trade.goes_on in
+    let known = got (deny_unknown_keys known_keys keys) _ c version.goes_on in
+    let built : Configuration = record { link = record link.value { version = version.value }; trade = trade.value } in
     let last = known.goes_on in
     let same : built ≡ c = cc in
-    subst (λ (d : Configuration). LinkFits d.link) same (link_fits purpose keys link.value link.is)
+    subst (λ (d : Configuration). LinkFits d.link) same (versioned link.value version.value (link_fits purpose keys link.value link.is))
 
 document_fits : (purpose : Purpose) (text : List ℕ) (c : Configuration) → configuration_of_document purpose text ≡ Ok c → LinkFits c.link
 document_fits purpose text c e = let document = got (document_of text) (configuration_of purpose) c e in keys_fit purpose document.value c document.goes_on

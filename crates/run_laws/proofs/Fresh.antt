@@ -5,8 +5,8 @@ use Rattle.session_model.specs.Journal.{Entry}
 use Rattle.session_model.specs.Plans.{sent_by}
 use Rattle.session_model.specs.Inbox.{InboxRecord}
 use Rattle.fixp_msgs.specs.declared.flow.Flow.{Flow}
-use Rattle.jr_record.specs.Images.{IsJournal}
-use Rattle.jr_record.proofs.Verdicts.{at_most_one_verdict}
+use Rattle.cmd_session.specs.Journals.{IsJournal}
+use Rattle.cmd_session.proofs.Verdicts.{at_most_one_verdict}
 use Rattle.jr_boxes.specs.Outboxes.{records_of_history}
 use Rattle.plan_outbox.specs.Behind.{GoesOnFrom}
 use Rattle.jr_boxes.specs.declared.faults.Which.{Which}

@@ -13,9 +13,9 @@ use Rattle.session_model.proofs.Journals.{prefix_entries}
 use Rattle.fixp_shake.specs.declared.config.Role.{Role}
 use Rattle.plan_text.specs.Plans.{HasPlans}
 use Rattle.plan_outbox.specs.Behind.{MayStand, GoesOnFrom}
-use Rattle.jr_record.specs.declared.journal.Journal.{Ghosts}
-use Rattle.jr_record.specs.Images.{IsJournal, Leaves}
-use Rattle.jr_record.proofs.Verdicts.{at_most_one_verdict}
+use Rattle.jr_dated.specs.declared.journal.Journal.{Ghosts}
+use Rattle.cmd_session.specs.Journals.{IsJournal, Leaves}
+use Rattle.cmd_session.proofs.Verdicts.{at_most_one_verdict}
 use Rattle.jr_boxes.specs.Outboxes.{record_of, outbox_of, records_of_history}
 use Rattle.life_laws.specs.Plans.{plan_in, KeepsPlans}
 use Rattle.life_laws.proofs.Outboxes.{entries-outbox_of}
@@ -23,7 +23,9 @@ use Rattle.cmd_session.specs.Lived.{IsKept}
 use Rattle.cmd_session.specs.Outsides.{Sees}
 use Rattle.run_laws.specs.Several.{Run, IsEmptyJournal, IsAt, RunsOver}
 use Rattle.run_laws.specs.Senders.{AllSent, SomeSent, GivesAt, SomeGave, HoldsGiven, TellsInput, InputsHold}
-use Rattle.run_laws.proofs.Telling.{same_outbox, same_image, out_tells}
+use Rattle.cmd_session.proofs.Histories.{out_tells}
+use Rattle.run_laws.proofs.Refusing.{some_of}
+use Rattle.run_laws.proofs.Telling.{same_outbox, same_image}
 use Rattle.run_laws.proofs.Ordered.{begins_within, order_of_first, history_of-records}
 use Rattle.run_laws.proofs.Sending.{prefix_sent}
 use Rattle.run_laws.proofs.Submitted.{opening_closing}
@@ -164,6 +166,7 @@ module _ {S K D N C J : Type 0} (G : Ghosts J) (sees : Sees S K D N C) (role : R
     by_way (inr by) =
         let v = by.lived.over in
         let t = told_text (sees.left r.before.input) input in
+        let found = some_of (sees.told r.before.out_disk) outboxes at.tells in
         let senders = by.configuration.trade.senders in
         let has : HasPlans senders t.0 by.plans = (by.planned t.0 t.1).1 in
         let image : IsImage (outbox_of v.closing) v.lost later.opened =
@@ -174,7 +177,7 @@ module _ {S K D N C J : Type 0} (G : Ghosts J) (sees : Sees S K D N C) (role : R
           was = told_was sees outboxes r.before.out_disk (records_of_history v.opening) at v.out_opened;
           begins = prefix_trans (outbox_of v.opening) (outbox_of v.closing) (outbox_of h) (opening_closing v)
               (prefix_trans (outbox_of v.closing) later.opened (outbox_of h) (image.kept, sym image.holds) later.begins);
-          stays = λ was. later.stays (gave_now by.plans v.opening v.closing v.whole v.lost t.0 t.1 senders has v.goes_on v.in_order v.keeps v.goes_on_from image was);
+          stays = λ was. later.stays (gave_now by.plans v.opening v.closing v.whole v.lost t.0 t.1 senders has v.goes_on v.in_order v.keeps (v.goes_on_from found.0 found.1) image was);
         }
 
   stays_over : (runs : List (Run S K D N C)) (outboxes inboxes : List ℕ → Type 0) (outbox inbox : List ℕ) → ((r : Run S K D N C) → Contains runs r → Contains all r) → IsJournal outbox (records_of_history h)

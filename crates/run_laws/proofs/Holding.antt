@@ -16,9 +16,9 @@ use Rattle.gw_links.specs.Links.{Carried}
 use Rattle.two_ends.specs.Meeting.{Holds}
 use Rattle.two_ends.specs.Loops.{LoopLife, lives_of, legs_in, MayTurn}
 use Rattle.two_ends.proofs.Ends.{loops_hold}
-use Rattle.jr_record.specs.declared.journal.Journal.{Ghosts}
-use Rattle.jr_record.specs.Images.{IsJournal}
-use Rattle.jr_record.proofs.Verdicts.{at_most_one_verdict}
+use Rattle.jr_dated.specs.declared.journal.Journal.{Ghosts}
+use Rattle.cmd_session.specs.Journals.{IsJournal}
+use Rattle.cmd_session.proofs.Verdicts.{at_most_one_verdict}
 use Rattle.jr_boxes.specs.Outboxes.{record_of, outbox_of}
 use Rattle.jr_boxes.specs.Inboxes.{records_of_inbox}
 use Rattle.cmd_config.specs.Settings.{own_flow, peer_flow}
@@ -43,7 +43,7 @@ abbrev peer : Role → Flows → Flow
 peer role flows = peer_flow role flows.client flows.server
 
 module _ {S K D N C J : Type 0} (G : Ghosts J) (sees : Sees S K D N C) (role : Role) (flows : Flows) (o : List OutboxRecord) (i : List InboxRecord)
-    (payloads : AllByRecursion (λ (e : Entry). IsApplication e.payload) (entries o)) where
+    (told : G.tells) (payloads : AllByRecursion (λ (e : Entry). IsApplication e.payload) (entries o)) where
   module _ (r : Run S K D N C) (carried : List (Option Carried)) (outboxes inboxes : List ℕ → Type 0)
       (out_at : IsAt sees outboxes r.before.out_disk) (in_at : IsAt sees inboxes r.before.in_disk) (was : WasRun G sees role flows r)
       (later : Comes (own role flows) (peer role flows) (sees.may_leave r.after.out_disk) (sees.may_leave r.after.in_disk) carried o i) where
@@ -58,7 +58,7 @@ module _ {S K D N C J : Type 0} (G : Ghosts J) (sees : Sees S K D N C) (role : R
         let spelled : configuration_at role t.0 ≡ Ok c = by.spelled t.0 t.1 in
         let same : (c.link.client_flow ≡ flows.client) × (c.link.server_flow ≡ flows.server) = t.2 c spelled in
         let fits = configurations_fit role t.0 c spelled in
-        lived_on G sees (own role flows) (peer role flows) o i payloads r.before r.after carried outboxes inboxes out_at in_at was.links later (end_of role c.link) by.plans r.status by.lived
+        lived_on G sees (own role flows) (peer role flows) o i payloads r.before r.after carried outboxes inboxes out_at in_at was.links later told (end_of role c.link) by.plans r.status by.lived
         (ap (λ (f : Flow). own_flow role f c.link.server_flow) same.0 ∙ ap (λ (f : Flow). own_flow role flows.client f) same.1)
         (ap (λ (f : Flow). peer_flow role f c.link.server_flow) same.0 ∙ ap (λ (f : Flow). peer_flow role flows.client f) same.1)
         fits.session fits.keepalive fits.credentials
@@ -93,12 +93,12 @@ pub record AreLives (own peer : Flow) (carried : List (Option Carried)) (h : His
   pub may_turn : AllByRecursion (MayTurn own peer) lives
   pub links : AllZip CarriedOn carried (flat_map legs_in lives)
 
-module _ {S K D N C J : Type 0} (G : Ghosts J) (sees : Sees S K D N C) (role : Role) (flows : Flows) (runs : List (Run S K D N C)) (h : History) (i : List InboxRecord) (ran : HasRun G sees role flows runs h i) where
+module _ {S K D N C J : Type 0} (G : Ghosts J) (sees : Sees S K D N C) (role : Role) (flows : Flows) (runs : List (Run S K D N C)) (h : History) (i : List InboxRecord) (told : G.tells) (ran : HasRun G sees role flows runs h i) where
   abbrev from_empty : Type 0
   from_empty = Comes (own_flow role flows.client flows.server) (peer_flow role flows.client flows.server) IsEmptyJournal IsEmptyJournal (flat_map (brought sees) runs) (outbox_of h) i
 
   came : from_empty
-  came = comes G sees role flows (outbox_of h) i (subst (λ (es : List Entry). AllByRecursion (λ (e : Entry). IsApplication e.payload) es) (sym (entries-outbox_of h)) ran.payloads)
+  came = comes G sees role flows (outbox_of h) i told (subst (λ (es : List Entry). AllByRecursion (λ (e : Entry). IsApplication e.payload) es) (sym (entries-outbox_of h)) ran.payloads)
       runs IsEmptyJournal IsEmptyJournal ran.outbox ran.inbox ran.outbox_is ran.inbox_is ran.over
 
   none_opened : came.opened ≡ []
@@ -113,14 +113,14 @@ module _ {S K D N C J : Type 0} (G : Ghosts J) (sees : Sees S K D N C) (role : R
     chained = subst (λ (rs : List OutboxRecord). Chained rs [] (lives_of came.lives) (outbox_of h) i) none_opened
         (subst (λ (rs : List InboxRecord). Chained came.opened rs (lives_of came.lives) (outbox_of h) i) none_waiting came.chained);
     keeps = came.keeps;
-    may_turn = came.may_turn (subst (λ (rs : List InboxRecord). next_number rs ≤ 2 ^ 24 + 1) (sym none_waiting) (omega arith));
+    may_turn = came.may_turn (subst (λ (rs : List InboxRecord). next_number rs ≤ 2 ^ 26 + 1) (sym none_waiting) (omega arith));
     links = came.links;
   }
 
 pub runs_hold : {S K D N C J : Type 0} (G : Ghosts J) (sees : Sees S K D N C) → RunsHold G sees
-runs_hold G sees flows runs_i runs_a h_i h_a i_i i_a ran_i ran_a linked =
-    let a = are_lives G sees Initiator flows runs_i h_i i_i ran_i in
-    let b = are_lives G sees Acceptor flows runs_a h_a i_a ran_a in
+runs_hold G sees told flows runs_i runs_a h_i h_a i_i i_a ran_i ran_a linked =
+    let a = are_lives G sees Initiator flows runs_i h_i i_i told ran_i in
+    let b = are_lives G sees Acceptor flows runs_a h_a i_a told ran_a in
     let end_i : OneEnd Flow LoopLife = record { flow = flows.client; plan = plan_of (outbox_of h_i); lives = a.lives; outbox = outbox_of h_i; inbox = i_i } in
     let end_a : OneEnd Flow LoopLife = record { flow = flows.server; plan = plan_of (outbox_of h_a); lives = b.lives; outbox = outbox_of h_a; inbox = i_a } in
     let both = loops_hold end_i end_a (record {

@@ -118,6 +118,7 @@ widen s h begins entries m = record {
     turns = m.turns.turns;
     cut = m.turns.cut;
     has = record { begins = prefix_trans m.turns.after.made s.outbox.made h.made m.seen.made begins.made; few = entries.few };
+    faithful = m.turns.faithful;
   };
   seen = begins_on m.turns.after s.outbox h m.seen begins;
   timely = m.timely;

@@ -1,9 +1,9 @@
 -- Whatever a stop leaves of the disks of an end has a list of records.
 use Rattle.std.proofs.Common.{inl, inr, ℕ, List, [], ◌∷◌, map, None}
 use Rattle.fixp_shake.specs.declared.config.Role.{Role}
-use Rattle.jr_record.specs.declared.journal.Journal.{Ghosts}
-use Rattle.jr_record.specs.Images.{Leaves}
-use Rattle.jr_record.proofs.Verdicts.{at_most_one_verdict}
+use Rattle.jr_dated.specs.declared.journal.Journal.{Ghosts}
+use Rattle.cmd_session.specs.Journals.{Leaves}
+use Rattle.cmd_session.proofs.Verdicts.{at_most_one_verdict}
 use Rattle.jr_boxes.specs.Outboxes.{record_of, records_of_history}
 use Rattle.cmd_session.specs.Lived.{IsKept}
 use Rattle.cmd_session.specs.Outsides.{Sees}

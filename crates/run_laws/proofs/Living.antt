@@ -22,17 +22,17 @@ use Rattle.conn_turns.specs.Turns.{Turn}
 use Rattle.turn_laws.specs.Standing.{Has}
 use Rattle.turn_laws.specs.Legs.{TurnedLeg, AreTurns, first_line, course_on}
 use Rattle.turn_laws.specs.Lives.{state_after, inbox_after}
-use Rattle.jr_record.specs.declared.journal.Journal.{Ghosts}
+use Rattle.jr_dated.specs.declared.journal.Journal.{Ghosts}
 use Rattle.jr_boxes.specs.Outboxes.{outbox_of}
-use Rattle.jr_boxes.specs.Inbox.{HoldsBox, next_of}
+use Rattle.jr_kept.specs.Inbox.{HoldsBox, next_of}
 use Rattle.conn_serve.specs.declared.answer.ServeFault.{ServeFault}
 use Rattle.conn_serve.specs.declared.answer.LifeEnd.{LifeEnd}
-use Rattle.conn_serve.specs.Connections.{Connection, turned, all_of, adds_of, refused_of_all}
+use Rattle.conn_serve.specs.Connections.{Connection, turned, IsFaithfulLeg, all_of, adds_of, refused_of_all}
 use Rattle.conn_serve.specs.Moments.{LifeAt}
 use Rattle.conn_serve.specs.Opening.{opened_state}
 use Rattle.conn_serve.specs.Served.{WasGivenUp, ServedLife}
 use Rattle.life_laws.proofs.Opened.{opened_in_range}
-use Rattle.life_laws.proofs.Behind.{AreBehind, life_behind, given_turned, served_is_turned}
+use Rattle.life_laws.proofs.Behind.{AreBehind, life_behind, given_turned, last_faithful, served_is_turned}
 use Rattle.life_laws.proofs.Turned.{IsTurnedOne}
 use Rattle.life_laws.proofs.Waits.{Waits, waits_or_none}
 use Rattle.run_laws.proofs.Ordered.{begins_within, history_of-records}
@@ -99,17 +99,17 @@ pub record Legs (e : End) (ended : List Connection) (given_up : Option Connectio
   pub over : (s : State) → machine ≡ Some s → Left (EndsIn s) e (turned ended ++ given)
 
 -- the outbox went on over a life
-pub went_on : {J : Type 0} {G : Ghosts J} (at behind : LifeAt J G) (m : State) (result : Result LifeEnd ServeFault) (opening closing : History) → ServedLife at behind m result → at.seen ≡ opening
+pub went_on : {J : Type 0} {G : Ghosts J} {tells : Type 0} (at behind : LifeAt J G) (m : State) (result : Result LifeEnd ServeFault) (opening closing : History) → ServedLife tells at behind m result → at.seen ≡ opening
     → BeginsHistory behind.seen closing → BeginsHistory opening closing
 went_on at behind m result opening closing k opened begins =
     subst (λ (h : History). BeginsHistory h closing) opened
     (begins_on at.seen k.behind closing (seen_all at.seen k.behind m k.mid k.ended k.were) (begins_on k.behind behind.seen closing (seen_given k.behind behind.seen k.mid k.given_up k.gave_up) begins))
 
-module _ {J : Type 0} {G : Ghosts J} (at behind : LifeAt J G) (opening closing : History) (config : EndConfig) (result : Result LifeEnd ServeFault) (inbox : List InboxRecord) (holds : HoldsBox at.box inbox [])
-    (k : ServedLife at behind (fresh config (opened_state opening at.box) (2 ^ 24)) result) (opened : at.seen ≡ opening) (begins : BeginsHistory behind.seen closing)
-    (entries : IsOutbox closing.made) (session : length config.session ≡ 16) (keepalive : config.keepalive ≤ 60000) (credentials : length config.credentials ≤ 2048) (next : next_number inbox ≤ 2 ^ 24 + 1) where
+module _ {J : Type 0} {G : Ghosts J} {tells : Type 0} (at behind : LifeAt J G) (opening closing : History) (config : EndConfig) (result : Result LifeEnd ServeFault) (inbox : List InboxRecord) (holds : HoldsBox at.box inbox [])
+    (k : ServedLife tells at behind (fresh config (opened_state opening at.box) (2 ^ 26)) result) (told : tells) (opened : at.seen ≡ opening) (begins : BeginsHistory behind.seen closing)
+    (entries : IsOutbox closing.made) (session : length config.session ≡ 16) (keepalive : config.keepalive ≤ 60000) (credentials : length config.credentials ≤ 2048) (next : next_number inbox ≤ 2 ^ 26 + 1) where
   abbrev pub m : State
-  m = fresh config (opened_state opening at.box) (2 ^ 24)
+  m = fresh config (opened_state opening at.box) (2 ^ 26)
 
   abbrev pub end : End
   end = record { outbox = closing; state = m; inbox = inbox }
@@ -118,7 +118,7 @@ module _ {J : Type 0} {G : Ghosts J} (at behind : LifeAt J G) (opening closing :
   on = went_on at behind m result opening closing k opened begins
 
   range : IsInRange m
-  range = opened_in_range at.box opening config (2 ^ 24) session keepalive credentials (omega arith) (let is : next_of at.box ≡ next_number inbox = holds.noticed.next in omega (arith, is, next))
+  range = opened_in_range at.box opening config (2 ^ 26) session keepalive credentials (omega arith) (let is : next_of at.box ≡ next_number inbox = holds.noticed.next in omega (arith, is, next))
 
   enough : length opening.made ≤ length closing.made
   enough = prefix_length opening.made closing.made on.made
@@ -157,16 +157,16 @@ module _ {J : Type 0} {G : Ghosts J} (at behind : LifeAt J G) (opening closing :
   }
 
   served : ServedAs at behind end k.ended k.given_up
-  served = served_as at behind end result k opens.ready enough begins
+  served = served_as at behind end result k told opens.ready enough begins
 
   has : Has closing.made behind.seen
   has = record { begins = begins.made; few = entries.few }
 
   all_inbox : (end_after end (turned (all_of k.ended k.given_up))).inbox ≡ inbox ++ adds_of (all_of k.ended k.given_up)
-  all_inbox = inbox_behind_all end (turned (all_of k.ended k.given_up)) ∙ (served_is_turned at.box at behind m result closing.made inbox k holds has opens.ready.awaits enough).adds
+  all_inbox = inbox_behind_all end (turned (all_of k.ended k.given_up)) ∙ (served_is_turned tells at.box at behind m result closing.made inbox k told holds has opens.ready.awaits enough).adds
 
   there : (end_after end (turned k.ended)).state ≡ k.mid
-  there = state_behind_all end (turned k.ended) ∙ (served_is_turned at.box at behind m result closing.made inbox k holds has opens.ready.awaits enough).machine
+  there = state_behind_all end (turned k.ended) ∙ (served_is_turned tells at.box at behind m result closing.made inbox k told holds has opens.ready.awaits enough).machine
 
   -- the connection that was given up left that line
   led_to : (c : Connection) (g : WasGivenUp k.behind behind.seen k.mid (Some c)) (t : TurnedLeg) → t.moment ≡ c.leg.moment → t.turns ≡ c.leg.turns → LedTo (end_after end (turned k.ended)) t g.0
@@ -316,10 +316,10 @@ module _ {J : Type 0} {G : Ghosts J} (at behind : LifeAt J G) (opening closing :
       by_given (Some c) e g' = by_waiting (waits_or_none closing.made k.behind behind.seen (state_after m inbox (turned k.ended)) k.mid (inbox_after m inbox (turned k.ended)) g'.0 c g'.1 turned_one)
         where
           b : AreBehind closing.made m k.mid inbox k.ended
-          b = life_behind at behind m result closing.made inbox k has opens.ready.awaits enough
+          b = life_behind at behind m result closing.made inbox k told has opens.ready.awaits enough
 
           turned_one : IsTurnedOne closing.made (state_after m inbox (turned k.ended)) (inbox_after m inbox (turned k.ended)) g'.0 c
-          turned_one = given_turned closing.made k.behind behind.seen m k.mid inbox k.ended c b has g'
+          turned_one = given_turned closing.made k.behind behind.seen m k.mid inbox k.ended c b has g' (last_faithful k.ended c (subst (λ (o : Option Connection). AllByRecursion IsFaithfulLeg (turned (all_of k.ended o))) e (k.faithful told)))
 
           beginning : IsPrefix g.kept c.refused
           beginning = subst (λ (rs : List InboxRecord). IsPrefix g.kept rs) (append-nil c.refused) (subst (λ (o : Option Connection). IsPrefix g.kept (refused_of_all (option_to_list o))) e g.beginning)

@@ -8,7 +8,7 @@ use native.Mathlib.Nat.{ℕ_set}
 use Rattle.session_model.specs.Lives.{IsImage}
 use Rattle.session_model.proofs.Lists.{drop_length}
 use Rattle.jr_record.specs.declared.record.Record.{Record}
-use Rattle.jr_record.specs.Images.{Leaves}
+use Rattle.cmd_session.specs.Journals.{Leaves}
 use Rattle.cmd_session.specs.Lived.{LeavesImages}
 
 record_set : IsSet Record

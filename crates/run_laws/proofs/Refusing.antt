@@ -1,5 +1,5 @@
 -- Where what is read at a step is in order, a run that stops there wants memory.
-use Rattle.std.proofs.Common.{◌≡◌, ℕ, ◌+◌, ◌<◌, List, length, Option, Some, None, Result, Ok, IsSomeAnd, refl, subst, arith}
+use Rattle.std.proofs.Common.{◌≡◌, ℕ, ◌+◌, ◌<◌, List, get_or, length, Option, Some, None, Result, Ok, IsSomeAnd, refl, sym, ap, ◌∙◌, subst, arith}
 use Rattle.std.specs.Option.{ForSome}
 use Rattle.session_model.specs.Journal.{History}
 use Rattle.fixp_msgs.specs.declared.flow.Flow.{Flow}
@@ -10,13 +10,13 @@ use Rattle.plan_text.proofs.OneReading.{none_among}
 use Rattle.plan_outbox.specs.Behind.{IsPastAt}
 use Rattle.plan_outbox.proofs.Excluding.{past_excludes}
 use Rattle.jr_record.specs.declared.record.Record.{Record}
-use Rattle.jr_record.specs.Images.{IsJournal}
+use Rattle.cmd_session.specs.Journals.{IsJournal}
 use Rattle.jr_boxes.specs.Outboxes.{records_of_history}
-use Rattle.jr_record.proofs.Verdicts.{at_most_one_verdict}
+use Rattle.cmd_session.proofs.Verdicts.{at_most_one_verdict}
 use Rattle.jr_boxes.specs.declared.faults.Which.{Which}
 use Rattle.jr_boxes.specs.declared.faults.Which.TheVariants.{Outbox, Inbox}
 use Rattle.jr_boxes.specs.declared.faults.JournalCause.{JournalCause}
-use Rattle.jr_boxes.specs.declared.faults.JournalCause.TheVariants.{NotFormatted, Damaged, Wrong, Already}
+use Rattle.jr_boxes.specs.declared.faults.JournalCause.TheVariants.{NotFormatted, OldFormat, Damaged, Wrong, Changed, Already, NotFresh}
 use Rattle.jr_judge.proofs.Prefixes.{outbox_first, inbox_first}
 use Rattle.cmd_base.specs.Texts.{Refuses, input_limit}
 use Rattle.cmd_base.specs.declared.status.Bad.TheVariants.{Line, TooLong}
@@ -44,11 +44,16 @@ none_wrong Inbox flow records at those wrong = let first = inbox_first flow reco
 
 -- a content is not a journal of a box and none
 not_both : (which : Which) (flow : Flow) (cause : JournalCause) (content : List ℕ) → IsBox which flow content → IsNoBox which flow cause content → ⊥
-not_both which flow NotFormatted content box none = at_most_one_verdict.formatted content box.records box.journal none
+not_both which flow NotFormatted content box none = at_most_one_verdict.formatted content box.records box.journal none.0
+not_both which flow OldFormat content box none =
+    at_most_one_verdict.formatted content box.records box.journal (λ is.
+    let eighth : 0x31 ≡ 0x32 = ap (λ (xs : List ℕ). get_or xs 7 0) (sym none ∙ is) in omega (arith, eighth))
 not_both which flow (Damaged at) content box none = at_most_one_verdict.whole content box.records at box.journal none
 not_both which flow (Wrong at) content box none = none_wrong which flow box.records at box.those
     (subst (λ (rs : List Record). IsWrongIn which flow rs at) (at_most_one_verdict.one_list content none.records box.records none.journal box.journal) none.wrong)
+not_both which flow (Changed at) content box none = none
 not_both which flow Already content box none = none
+not_both which flow NotFresh content box none = none
 
 pub box_memory : (which : Which) (flow : Flow) (told : Option (List ℕ)) (status : Status) → IsSomeAnd told (IsBox which flow) → IsNotOpened which flow told status → (status ≡ JournalFault → ⊥) → status ≡ Memory
 box_memory which flow told (JournalBad box cause) is refused never =
@@ -89,6 +94,9 @@ plans_memory flow senders input told (Message (Line line)) is box goes refused n
     let t = some_of input (TellsPlans senders) is in
     let c = some_of told (IsBox Outbox flow) box in
     absurd (not_past flow senders line c.0 t.0 c.2 (goes c.0 c.1 t.0 t.1) (refused t.0 t.1 c.0 c.1))
+plans_memory flow senders input told (JournalBad Outbox (Changed at)) is box goes refused never =
+    let c = some_of told (IsBox Outbox flow) box in
+    absurd (refused c.0 c.1)
 plans_memory flow senders input told JournalFault is box goes refused never = absurd (never refl)
 plans_memory flow senders input told Memory is box goes refused never = refl
 plans_memory flow senders input told _ is box goes refused never = absurd refused

@@ -11,7 +11,7 @@ use Rattle.fixp_replies.specs.Facts.{finishes_exchanged}
 use Rattle.fixp_machine.specs.Machine.{State, around}
 use Rattle.conn_turns.specs.Lines.{Line}
 use Rattle.turn_laws.specs.Legs.{TurnedLeg, first_line}
-use Rattle.jr_record.specs.declared.journal.Journal.{Ghosts}
+use Rattle.jr_dated.specs.declared.journal.Journal.{Ghosts}
 use Rattle.cmd_config.specs.declared.configuration.Link.{Link}
 use Rattle.cmd_session.specs.Inputs.{end_of}
 use Rattle.cmd_session.specs.Outsides.{Sees}
@@ -94,7 +94,7 @@ machine_led e t m s enough whole (inr is) = sym (behind_last (side_of e t) m eno
 over_so : (x s : State) → x ≡ s → finishes_exchanged (around s 0 0) s.facts ≡ true → finishes_exchanged (around x 0 0) x.facts ≡ true
 over_so x s is e = ap (λ (z : State). finishes_exchanged (around z 0 0) z.facts) is ∙ e
 
-module _ {S K D N C J : Type 0} (G : Ghosts J) (sees : Sees S K D N C) (li la : Link) (i : EndRan G sees Initiator li) (a : EndRan G sees Acceptor la) (matches : Matching li la)
+module _ {S K D N C J : Type 0} (G : Ghosts J) (told : G.tells) (sees : Sees S K D N C) (li la : Link) (i : EndRan G sees Initiator li) (a : EndRan G sees Acceptor la) (matches : Matching li la)
     (m : MeetLast (lives G sees Initiator li i) (lives G sees Acceptor la a)) where
   abbrev lives_i : List Served
   lives_i = lives G sees Initiator li i
@@ -116,10 +116,10 @@ module _ {S K D N C J : Type 0} (G : Ghosts J) (sees : Sees S K D N C) (li la : 
   from_a = unlived G sees Acceptor la a
 
   x : Way i.outbox i.inbox (end_of Initiator li) lives_i from_i
-  x = way_i G sees li la i a l
+  x = way_i G told sees li la i a l
 
   y : Way a.outbox a.inbox (end_of Acceptor la) lives_a from_a
-  y = way_a G sees li la i a l
+  y = way_a G told sees li la i a l
 
   module _ (P Q : End → TurnedLeg → Type 0) (left_i : LeavesAt P from_i x.behind x.legs x.path) (left_a : LeavesAt Q from_a y.behind y.legs y.path) where
     b : Came P from_i x.behind m.before_i m.last_i
@@ -135,7 +135,7 @@ module _ {S K D N C J : Type 0} (G : Ghosts J) (sees : Sees S K D N C) (li la : 
     mid_a = c.before.mid
 
     agree : AgreeAt mid_i mid_a
-    agree = (both_hold from_i mid_i b.legs b.before.path from_a mid_a c.legs c.before.path (in_time_so m.before_i m.before_a b.legs c.legs m.before b.links c.links) (starts G sees li la i a l)).agree
+    agree = (both_hold from_i mid_i b.legs b.before.path from_a mid_a c.legs c.before.path (in_time_so m.before_i m.before_a b.legs c.legs m.before b.links c.links) (starts G told sees li la i a l)).agree
 
     outbox_i : mid_i.outbox ≡ i.outbox
     outbox_i = same_outbox from_i mid_i b.legs b.before.path
@@ -159,7 +159,7 @@ module _ {S K D N C J : Type 0} (G : Ghosts J) (sees : Sees S K D N C) (li la : 
 
     both_whole : AtRest → HasWhole li.client_flow i.outbox a.inbox × HasWhole la.server_flow a.outbox i.inbox
     both_whole rest =
-        let holds = runs_hold_so G sees li la i a l in
+        let holds = runs_hold_so G told sees li la i a l in
         (whole li.client_flow i.outbox a.inbox (next_a rest) holds.0, whole la.server_flow a.outbox i.inbox (next_i rest) holds.1)
 
   quiet : WereQuiet i.outbox a.outbox lives_i lives_a m → HasWhole li.client_flow i.outbox a.inbox × HasWhole la.server_flow a.outbox i.inbox
@@ -193,5 +193,5 @@ module _ {S K D N C J : Type 0} (G : Ghosts J) (sees : Sees S K D N C) (li la : 
       }))
 
 pub rest_is_whole : {S K D N C J : Type 0} (G : Ghosts J) (sees : Sees S K D N C) → RestIsWhole G sees
-rest_is_whole G sees li la i a matches m (inl q) = quiet G sees li la i a matches m q
-rest_is_whole G sees li la i a matches m (inr o) = over G sees li la i a matches m o
+rest_is_whole G sees told li la i a matches m (inl q) = quiet G told sees li la i a matches m q
+rest_is_whole G sees told li la i a matches m (inr o) = over G told sees li la i a matches m o

@@ -34,13 +34,15 @@ use Rattle.turn_laws.specs.Legs.{TurnedLeg, IsTimely, first_line}
 use Rattle.turn_laws.specs.Standing.{Has}
 use Rattle.two_ends.specs.Meeting.{life_in}
 use Rattle.two_ends.specs.Loops.{machine_life}
-use Rattle.jr_record.specs.declared.journal.Journal.{Ghosts}
-use Rattle.jr_record.specs.Images.{IsJournal, journal_size}
-use Rattle.jr_record.proofs.Verdicts.{at_most_one_verdict}
+use Rattle.jr_dated.specs.declared.journal.Journal.{Ghosts}
+use Rattle.jr_dated.specs.Dated.{dated}
+use Rattle.jr_dated.specs.Images.{journal_size}
+use Rattle.cmd_session.specs.Journals.{IsJournal}
+use Rattle.cmd_session.proofs.Verdicts.{at_most_one_verdict}
 use Rattle.jr_boxes.specs.Outboxes.{IsOutbox, record_of, outbox_of, records_of_history}
 use Rattle.jr_boxes.specs.declared.faults.Which.TheVariants.{Outbox, Inbox as InboxBox}
-use Rattle.jr_boxes.specs.declared.inbox.Inbox.{Inbox}
-use Rattle.jr_boxes.specs.Inbox.{HoldsBox, next_of, is_negotiated}
+use Rattle.jr_kept.specs.declared.inbox.Inbox.{Inbox}
+use Rattle.jr_kept.specs.Inbox.{HoldsBox, next_of, is_negotiated}
 use Rattle.cmd_config.specs.declared.configuration.Configuration.{Configuration}
 use Rattle.conn_lines.specs.Lines.{connection_line}
 use Rattle.conn_lines.specs.declared.close.Close.TheVariants as closes
@@ -48,7 +50,7 @@ use Rattle.conn_serve.specs.declared.answer.ServeFault.{ServeFault}
 use Rattle.conn_serve.specs.declared.answer.ServeFault.TheVariants as faults
 use Rattle.conn_serve.specs.declared.answer.LifeEnd.{LifeEnd}
 use Rattle.conn_serve.specs.declared.answer.LifeEnd.TheVariants as ends
-use Rattle.conn_serve.specs.Connections.{LinkSeen, IsOver, ByClock, Connection, all_of, MadeNoMore, IsConnection, AllEnded, IsFollowed, adds_of, refused_of_all}
+use Rattle.conn_serve.specs.Connections.{LinkSeen, IsOver, ByClock, Connection, all_of, MadeNoMore, IsConnection, AllEnded, IsFollowed, IsFaithfulLeg, adds_of, refused_of_all}
 use Rattle.conn_serve.specs.Answers.{answer_of}
 use Rattle.conn_steps.specs.Settling.{HaveRoom}
 use Rattle.gw_outside.specs.Faults.{HasRisen}
@@ -88,16 +90,20 @@ in_order s = by_test (1 == s)
     by_test false = refl
 
 pub journal_nothing : IsJournal (journal_of nothing) (records_of_history nothing)
-journal_nothing = record { legal = tt; closed = 0; is_closed = λ e. omega (arith, e); behind = []; whole = refl }
+journal_nothing = ([], record { legal = tt; closed = 0; is_closed = λ e. omega (arith, e); behind = []; whole = refl }, refl)
 
 pub journal_one : IsJournal (journal_of with_one) (records_of_history with_one)
-journal_one = record {
-  legal = (((omega arith, omega arith), (omega arith, omega arith), (omega arith, omega arith)), tt);
-  closed = 0;
-  is_closed = λ e. omega (arith, e);
-  behind = [];
-  whole = refl;
-}
+journal_one = (
+  dated 0 (records_of_history with_one),
+  record {
+    legal = ((((omega arith, omega arith), (omega arith, omega arith), (omega arith, omega arith)), omega arith), tt);
+    closed = 0;
+    is_closed = λ e. omega (arith, e);
+    behind = [];
+    whole = refl;
+  },
+  refl,
+)
 
 -- what a disk leaves that was settled, or torn, are journals of these
 pub settled_leaves : (h : History) → IsJournal (journal_of h) (records_of_history h) → LeavesImages (λ content. IsOneOf content (settled h).left) (records_of_history h) []
@@ -168,15 +174,15 @@ module _ {J : Type 0} {G : Ghosts J} (box : Inbox J G) (held : HoldsBox box [] [
     (order : InOrder h.made) (unmarked : h.finished ≡ false) (few : length h.made < 2 ^ 40)
     (j : IsJournal (journal_of h) (records_of_history h)) (before after : MemoryOutside) (out_is : before.out_disk ≡ settled h) (in_was : before.in_disk ≡ settled nothing) (in_is : after.in_disk ≡ settled nothing)
     (connections : Result LifeEnd ServeFault) (refused : Option ServeFault) (of_sender : IfSome refused IsOfSender) (result : Result (Unit {0}) ServeFault) (answer : result ≡ answer_of connections refused)
-    (served : ServedOver memory.links (memory.last before.clock) (memory.last after.clock) (life_at (memory.carried before.dialer) (memory.taken before.out) h box) (life_at (memory.carried after.dialer) (memory.taken after.out) h box) (fresh config (opened_state h box) (2 ^ 24)) connections)
+    (served : ServedOver G.tells memory.links (memory.last before.clock) (memory.last after.clock) (life_at (memory.carried before.dialer) (memory.taken before.out) h box) (life_at (memory.carried after.dialer) (memory.taken after.out) h box) (fresh config (opened_state h box) (2 ^ 26)) connections)
     (adds : adds_of (all_of served.life.ended served.life.given_up) ≡ []) (none : refused_of_all (option_to_list served.life.given_up) ≡ [])
     (out_left : ∥ LeavesImages (memory.may_leave after.out_disk) (records_of_history h) (map record_of lost) ∥₁)
     (out_whole : (HasRisen (memory.disk before.out_disk) (memory.disk after.out_disk) → ⊥) → lost ≡ [])
     (marked : IsUnrefused result → 0 < length plans → h.finished ≡ true)
     (journal : result ≡ Err faults.Journal → HasRisen (memory.disk before.out_disk) (memory.disk after.out_disk) ⊎ HasRisen (memory.disk before.in_disk) (memory.disk after.in_disk))
-    (not_full : (es bytes : ℕ) → result ≡ Err (faults.Full es bytes) → ⊥) where
+    (not_changed : (at : ℕ) → result ≡ Err (faults.Changed at) → ⊥) (not_full : (es bytes : ℕ) → result ≡ Err (faults.Full es bytes) → ⊥) where
   abbrev machine : State
-  machine = fresh config (opened_state h box) (2 ^ 24)
+  machine = fresh config (opened_state h box) (2 ^ 26)
 
   abbrev made : List Entry
   made = entries (outbox_of h)
@@ -185,23 +191,27 @@ module _ {J : Type 0} {G : Ghosts J} (box : Inbox J G) (held : HoldsBox box [] [
   has = record { begins = prefix_equal h.made made (sym (entries-outbox_of h)); few = subst (λ (es : List Entry). length es < 2 ^ 40) (sym (entries-outbox_of h)) few }
 
   opens : Opens made made machine []
-  opens = subst (λ (es : List Entry). Opens es made machine []) (sym (entries-outbox_of h)) (opened_opens box h config (2 ^ 24) made [] (prefix_equal h.made made (sym (entries-outbox_of h))) held)
+  opens = subst (λ (es : List Entry). Opens es made machine []) (sym (entries-outbox_of h)) (opened_opens box h config (2 ^ 26) made [] (prefix_equal h.made made (sym (entries-outbox_of h))) held)
 
-  pub life : LifeOfLoop (outbox_of h) (outbox_of h) lost machine [] (all_of served.life.ended served.life.given_up) (refused_of_all (option_to_list served.life.given_up))
-  life = served_keeps box (life_at (memory.carried before.dialer) (memory.taken before.out) h box) (life_at (memory.carried after.dialer) (memory.taken after.out) h box) machine connections (outbox_of h) (outbox_of h) lost [] served.life has opens
+  pub life : G.tells → LifeOfLoop (outbox_of h) (outbox_of h) lost machine [] (all_of served.life.ended served.life.given_up) (refused_of_all (option_to_list served.life.given_up))
+  life t = served_keeps G.tells box (life_at (memory.carried before.dialer) (memory.taken before.out) h box) (life_at (memory.carried after.dialer) (memory.taken after.out) h box) machine connections (outbox_of h) (outbox_of h) lost [] served.life t has opens
 
-  pub keeps : KeepsConnections (model_flow config.own_flow) (model_flow config.peer_flow) (entries (life_in (machine_life life.life)).opening_outbox) (entries (life_in (machine_life life.life)).closing_outbox) (served_of life.life)
-  keeps = subst (λ (rs : List OutboxRecord). KeepsConnections (model_flow config.own_flow) (model_flow config.peer_flow) (entries rs) (entries life.life.closing_outbox) (served_of life.life)) (sym life.outboxes.0)
-      (subst (λ (rs : List OutboxRecord). KeepsConnections (model_flow config.own_flow) (model_flow config.peer_flow) made (entries rs) (served_of life.life)) (sym life.outboxes.1) life.keeps)
+  pub keeps : (t : G.tells) → KeepsConnections (model_flow config.own_flow) (model_flow config.peer_flow) (entries (life_in (machine_life (life t).life)).opening_outbox) (entries (life_in (machine_life (life t).life)).closing_outbox) (served_of (life t).life)
+  keeps t =
+      let k = life t in
+      subst (λ (rs : List OutboxRecord). KeepsConnections (model_flow config.own_flow) (model_flow config.peer_flow) (entries rs) (entries k.life.closing_outbox) (served_of k.life)) (sym k.outboxes.0)
+      (subst (λ (rs : List OutboxRecord). KeepsConnections (model_flow config.own_flow) (model_flow config.peer_flow) made (entries rs) (served_of k.life)) (sym k.outboxes.1) k.keeps)
 
   pub goes : GoesOnWith plans h h lost
   goes = plans_go_on plans h h lost (keeps_same plans h unmarked) loses
 
-  pub outbox_is_kept : KeepsOutbox (plan_in plans) (life_in (machine_life life.life))
-  outbox_is_kept = plans_keep_outbox plans h h goes.whole (life_in (machine_life life.life)) (keeps_same plans h unmarked) order goes.keeps (goes.in_order order) life.outboxes.0 life.outboxes.1
-      (ap (λ (rs : List OutboxRecord). rs ++ life.life.refused_outbox) life.outboxes.1 ∙ (ap (λ (rs : List OutboxRecord). outbox_of h ++ rs) life.outboxes.2 ∙ goes.goes_on))
-      (subst (λ (rs : List OutboxRecord). length rs ≤ 1) (sym life.outboxes.2) (lost_few plans h h lost loses))
-      (_, sym life.keeps.inbox_adds)
+  pub outbox_is_kept : (t : G.tells) → KeepsOutbox (plan_in plans) (life_in (machine_life (life t).life))
+  outbox_is_kept t =
+      let k = life t in
+      plans_keep_outbox plans h h goes.whole (life_in (machine_life k.life)) (keeps_same plans h unmarked) order goes.keeps (goes.in_order order) k.outboxes.0 k.outboxes.1
+      (ap (λ (rs : List OutboxRecord). rs ++ k.life.refused_outbox) k.outboxes.1 ∙ (ap (λ (rs : List OutboxRecord). outbox_of h ++ rs) k.outboxes.2 ∙ goes.goes_on))
+      (subst (λ (rs : List OutboxRecord). length rs ≤ 1) (sym k.outboxes.2) (lost_few plans h h lost loses))
+      (_, sym k.keeps.inbox_adds)
 
   abbrev quiet : LivedOver memory config plans before after box box result
   quiet = record {
@@ -213,12 +223,13 @@ module _ {J : Type 0} {G : Ghosts J} (box : Inbox J G) (held : HoldsBox box [] [
     refused = refused;
     out_opened = subst (λ (d : MemoryDisk). ForSome (memory.told d) (λ content. IsJournal content (records_of_history h))) (sym out_is) (told_so (λ content. IsJournal content (records_of_history h)) (journal_of h) j);
     in_opened = subst (λ (d : MemoryDisk). ForSome (memory.told d) (λ content. IsJournal content [])) (sym in_was) (told_so (λ content. IsJournal content []) (journal_of nothing) journal_nothing);
-    goes_on_from = from;
+    goes_on_from = λ content is. from;
     holds = held;
     served = served;
     answer = answer;
     refusal = of_sender;
     begins = begins_self h;
+    grows = begins_self h;
     lost = lost;
     loses = loses;
     whole = goes.whole;
@@ -226,17 +237,18 @@ module _ {J : Type 0} {G : Ghosts J} (box : Inbox J G) (held : HoldsBox box [] [
     in_order = goes.in_order order;
     keeps = goes.keeps;
     life = life;
-    contract = record { connections = keeps; outbox = outbox_is_kept };
+    contract = λ t. record { connections = keeps t; outbox = outbox_is_kept t };
     out_left = out_left;
     out_whole = out_whole;
     in_left = subst (λ (d : MemoryDisk). LeavesImages (memory.may_leave d) (records_of_inbox ([] ++ adds_of (all_of served.life.ended served.life.given_up))) (records_of_inbox (refused_of_all (option_to_list served.life.given_up)))) (sym in_is)
         (subst (λ (rs : List InboxRecord). LeavesImages (memory.may_leave (settled nothing)) (records_of_inbox rs) (records_of_inbox (refused_of_all (option_to_list served.life.given_up)))) (sym adds)
         (subst (λ (rs : List InboxRecord). LeavesImages (memory.may_leave (settled nothing)) [] (records_of_inbox rs)) (sym none) (settled_leaves nothing journal_nothing)));
-    room = subst (λ (rs : List InboxRecord). HaveRoom (2 ^ 30) (journal_size []) (rs ++ refused_of_all (option_to_list served.life.given_up))) (sym adds)
-        (subst (λ (rs : List InboxRecord). HaveRoom (2 ^ 30) (journal_size []) rs) (sym none) tt);
+    room = subst (λ (rs : List InboxRecord). HaveRoom (2 ^ 33) (journal_size []) (rs ++ refused_of_all (option_to_list served.life.given_up))) (sym adds)
+        (subst (λ (rs : List InboxRecord). HaveRoom (2 ^ 33) (journal_size []) rs) (sym none) tt);
     marked = marked;
     none = λ e. refl;
     journal = journal;
+    changed = λ at e. absurd (not_changed at e);
     full = λ es bytes e. absurd (not_full es bytes e);
   }
 
@@ -245,6 +257,12 @@ journal_not_full es bytes e = cc
 
 pub cut_not_full : (es bytes : ℕ) → (◌≡◌ {A = Result (Unit {0}) ServeFault} (Err (faults.Unfinished Ended)) (Err (faults.Full es bytes))) → ⊥
 cut_not_full es bytes e = cc
+
+pub journal_not_changed : (at : ℕ) → (◌≡◌ {A = Result (Unit {0}) ServeFault} (Err faults.Journal) (Err (faults.Changed at))) → ⊥
+journal_not_changed at e = cc
+
+pub cut_not_changed : (at : ℕ) → (◌≡◌ {A = Result (Unit {0}) ServeFault} (Err (faults.Unfinished Ended)) (Err (faults.Changed at))) → ⊥
+cut_not_changed at e = cc
 
 pub cut_no_journal : (◌≡◌ {A = Result (Unit {0}) ServeFault} (Err (faults.Unfinished Ended)) (Err faults.Journal)) → ⊥
 cut_no_journal e = cc
@@ -267,16 +285,17 @@ module _ {J : Type 0} {G : Ghosts J} (box : Inbox J G) (held : HoldsBox box [] [
   abbrev first : MemoryRun
   first = stopped_run text
 
-  abbrev none_served : ServedLife (life_at (Some one_left) (Some []) nothing box) (life_at (Some one_left) (Some []) nothing box) (fresh (end_of role configured.link) (opened_state nothing box) (2 ^ 24)) (Ok ends.Stopped)
+  abbrev none_served : ServedLife G.tells (life_at (Some one_left) (Some []) nothing box) (life_at (Some one_left) (Some []) nothing box) (fresh (end_of role configured.link) (opened_state nothing box) (2 ^ 26)) (Ok ends.Stopped)
   none_served = record {
     ended = [];
     given_up = None;
     behind = nothing;
-    mid = fresh (end_of role configured.link) (opened_state nothing box) (2 ^ 24);
+    mid = fresh (end_of role configured.link) (opened_state nothing box) (2 ^ 26);
     were = (refl, refl);
     gave_up = refl;
     followed = tt;
     timely = tt;
+    faithful = λ t. tt;
     refuses = record { holds = λ i holds. subst (λ (rs : List InboxRecord). HoldsBox box rs []) (sym (append-nil i)) holds; room = tt };
     lines = record { earlier = []; late = []; are = refl; few = inl ([], omega arith, refl); told = record { between = Some []; first = refl; last = refl } };
     came = record { back = refl; left = refl };
@@ -288,7 +307,7 @@ module _ {J : Type 0} {G : Ghosts J} (box : Inbox J G) (held : HoldsBox box [] [
   abbrev first_lived : LivedOver memory (end_of role configured.link) first_plans first.before first.after box box (Err faults.Journal)
   first_lived = quiet box held (end_of role configured.link) first_plans nothing (goes_on_nothing first_plans [] false refl refl) (entry submitted ∷ []) loses_first (λ s. refl) refl (omega arith) journal_nothing first.before first.after refl refl refl
       (Ok ends.Stopped) (Some faults.Journal) tt (Err faults.Journal) refl (record { life = none_served; links = tt; clock = omega arith }) refl refl ∣ torn_leaves ∣₁ (λ never. absurd (never (omega arith))) (λ unrefused some. absurd (true≢false (sym unrefused)))
-      (λ e. inl (omega arith)) journal_not_full
+      (λ e. inl (omega arith)) journal_not_changed journal_not_full
 
 -- no plan goes on from anything
 pub no_plans : (h : History) → GoesOnFrom [] h
@@ -304,10 +323,10 @@ module _ {J : Type 0} {G : Ghosts J} (box : Inbox J G) (held : HoldsBox box [] [
   abbrev connection : Connection
   connection = record { link = link; leg = leg; news = []; adds = []; refused = []; wanted = []; close = Some closes.LinkFault; carried = Some carried }
 
-  abbrev cut_served : AllEnded h h (fresh (end_of role configured.link) (opened_state h box) (2 ^ 24)) mid (connection ∷ []) → phase_of mid ≡ Ended → IsTimely leg
-      → ServedLife (life_at (Some one_left) (Some []) h box) (life_at (Some (record { left = 0; back = Some carried ∷ [] })) (Some (connection_line 1 closes.LinkFault)) h box)
-      (fresh (end_of role configured.link) (opened_state h box) (2 ^ 24)) (Err (faults.Unfinished Ended))
-  cut_served ended phase timely = record {
+  abbrev cut_served : AllEnded h h (fresh (end_of role configured.link) (opened_state h box) (2 ^ 26)) mid (connection ∷ []) → phase_of mid ≡ Ended → IsTimely leg → IsFaithfulLeg leg
+      → ServedLife G.tells (life_at (Some one_left) (Some []) h box) (life_at (Some (record { left = 0; back = Some carried ∷ [] })) (Some (connection_line 1 closes.LinkFault)) h box)
+      (fresh (end_of role configured.link) (opened_state h box) (2 ^ 26)) (Err (faults.Unfinished Ended))
+  cut_served ended phase timely faithful = record {
     ended = connection ∷ [];
     given_up = None;
     behind = h;
@@ -316,6 +335,7 @@ module _ {J : Type 0} {G : Ghosts J} (box : Inbox J G) (held : HoldsBox box [] [
     gave_up = refl;
     followed = tt;
     timely = (timely, tt);
+    faithful = λ t. (faithful, tt);
     refuses = record { holds = λ i holds. subst (λ (rs : List InboxRecord). HoldsBox box rs []) (sym (append-nil i)) holds; room = tt };
     lines = record {
       earlier = [];
@@ -331,14 +351,14 @@ module _ {J : Type 0} {G : Ghosts J} (box : Inbox J G) (held : HoldsBox box [] [
   }
 
   module _ (order : InOrder h.made) (unmarked : h.finished ≡ false) (few : length h.made < 2 ^ 40) (j : IsJournal (journal_of h) (records_of_history h)) (text : List ℕ)
-      (ended : AllEnded h h (fresh (end_of role configured.link) (opened_state h box) (2 ^ 24)) mid (connection ∷ [])) (phase : phase_of mid ≡ Ended) (timely : IsTimely leg)
+      (ended : AllEnded h h (fresh (end_of role configured.link) (opened_state h box) (2 ^ 26)) mid (connection ∷ [])) (phase : phase_of mid ≡ Ended) (timely : IsTimely leg) (faithful : IsFaithfulLeg leg)
       (over : IsOver memory_links link) (by_clock : ByClock 0 0 (connection ∷ [])) where
     abbrev second : MemoryRun
     second = cut_run text h carried
 
     abbrev second_lived : LivedOver memory (end_of role configured.link) [] second.before second.after box box (Err (faults.Unfinished Ended))
     second_lived = quiet box held (end_of role configured.link) [] h (no_plans h) [] (inl refl) order unmarked few j second.before second.after refl refl refl (Err (faults.Unfinished Ended)) None tt (Err (faults.Unfinished Ended)) refl
-        (record { life = cut_served ended phase timely; links = (over, tt); clock = by_clock }) refl refl ∣ settled_leaves h j ∣₁ (λ never. refl) (λ unrefused some. absurd (omega (arith, some))) (λ e. absurd (cut_no_journal e)) cut_not_full
+        (record { life = cut_served ended phase timely faithful; links = (over, tt); clock = by_clock }) refl refl ∣ settled_leaves h j ∣₁ (λ never. refl) (λ unrefused some. absurd (omega (arith, some))) (λ e. absurd (cut_no_journal e)) cut_not_changed cut_not_full
 
 -- what is recorded as a life opens on an inbox without records
 abbrev found_state : History → EndState
@@ -391,7 +411,7 @@ not_lost e = absurd (true≢false e)
 -- ---- the initiator's link took three bytes, and failed
 
 abbrev pub start_i : State
-start_i = fresh (end_of Initiator configured.link) (found_state with_one) (2 ^ 24)
+start_i = fresh (end_of Initiator configured.link) (found_state with_one) (2 ^ 26)
 
 abbrev ticked_i : Line
 ticked_i = line_ticked (first_line start_i 0) 0
@@ -454,7 +474,7 @@ ended_i = (
 -- ---- the acceptor's link gave two of them, and then it failed too
 
 abbrev pub start_a : State
-start_a = fresh (end_of Acceptor configured.link) (found_state nothing) (2 ^ 24)
+start_a = fresh (end_of Acceptor configured.link) (found_state nothing) (2 ^ 26)
 
 abbrev begun_a : Line
 begun_a = first_line start_a 0
@@ -467,6 +487,8 @@ heard = record {
   frames = [];
   broken = None;
   link_over = false;
+  due_again = None;
+  due_live = None;
   again = None;
   live = None;
   at_again = nothing;
@@ -500,8 +522,10 @@ works_a = record {
     last = inr (inr (inr refl));
     broken = refl;
     link_over = refl;
-    again = refl;
-    live = refl;
+    due_again = refl;
+    due_live = refl;
+    again = tt;
+    live = tt;
     finish = refl;
     seen_again = begins_self nothing;
     seen_live = begins_self nothing;
@@ -658,14 +682,14 @@ module _ {J : Type 0} {G : Ghosts J} (box : Inbox J G) (held : HoldsBox box [] [
 module _ {J : Type 0} {G : Ghosts J} (box : Inbox J G) where
   abbrev pub ran_i : HoldsBox box [] [] → (text : List ℕ) → configuration_at Initiator text ≡ Ok configured → HasRun G memory Initiator both_recoverable (runs_of_initiator text) with_one []
   ran_i held text spelled =
-      let ended : AllEnded with_one with_one (fresh (end_of Initiator configured.link) (opened_state with_one box) (2 ^ 24)) last_i.machine (connection_i ∷ []) =
-      subst (λ (s : EndState). AllEnded with_one with_one (fresh (end_of Initiator configured.link) s (2 ^ 24)) last_i.machine (connection_i ∷ [])) (opened_is box held (submitted ∷ [])) ended_i in
+      let ended : AllEnded with_one with_one (fresh (end_of Initiator configured.link) (opened_state with_one box) (2 ^ 26)) last_i.machine (connection_i ∷ []) =
+      subst (λ (s : EndState). AllEnded with_one with_one (fresh (end_of Initiator configured.link) s (2 ^ 26)) last_i.machine (connection_i ∷ [])) (opened_is box held (submitted ∷ [])) ended_i in
       record {
         outbox = journal_of with_one;
         inbox = journal_of nothing;
         over = runs_over box held Initiator text spelled with_one of_initiator (inr (inl refl))
             (was box held Initiator text spelled (cut_run text with_one of_initiator) with_one [] (Err (faults.Unfinished Ended)) refl refl refl refl journal_one outbox_one refl tt (λ e. cc) (λ e. cc)
-            (second_lived box held Initiator with_one last_i.machine link_i leg_i of_initiator in_order refl (omega arith) journal_one text ended refl timely_i (over_memory first_i end_i) (omega arith, omega arith)));
+            (second_lived box held Initiator with_one last_i.machine link_i leg_i of_initiator in_order refl (omega arith) journal_one text ended refl timely_i (tt, tt) (over_memory first_i end_i) (omega arith, omega arith)));
         outbox_is = journal_one;
         inbox_is = journal_nothing;
         payloads = (is_application, tt);
@@ -673,14 +697,14 @@ module _ {J : Type 0} {G : Ghosts J} (box : Inbox J G) where
 
   abbrev pub ran_a : HoldsBox box [] [] → (text : List ℕ) → configuration_at Acceptor text ≡ Ok configured → HasRun G memory Acceptor both_recoverable (runs_of_acceptor text) nothing []
   ran_a held text spelled =
-      let ended : AllEnded nothing nothing (fresh (end_of Acceptor configured.link) (opened_state nothing box) (2 ^ 24)) last_a.machine (connection_a ∷ []) =
-      subst (λ (s : EndState). AllEnded nothing nothing (fresh (end_of Acceptor configured.link) s (2 ^ 24)) last_a.machine (connection_a ∷ [])) (opened_is box held []) ended_a in
+      let ended : AllEnded nothing nothing (fresh (end_of Acceptor configured.link) (opened_state nothing box) (2 ^ 26)) last_a.machine (connection_a ∷ []) =
+      subst (λ (s : EndState). AllEnded nothing nothing (fresh (end_of Acceptor configured.link) s (2 ^ 26)) last_a.machine (connection_a ∷ [])) (opened_is box held []) ended_a in
       record {
         outbox = journal_of nothing;
         inbox = journal_of nothing;
         over = runs_over box held Acceptor text spelled nothing of_acceptor (inl refl)
             (was box held Acceptor text spelled (cut_run text nothing of_acceptor) nothing [] (Err (faults.Unfinished Ended)) refl refl refl refl journal_nothing outbox_nothing refl tt (λ e. cc) (λ e. cc)
-            (second_lived box held Acceptor nothing last_a.machine link_a leg_a of_acceptor (λ s. refl) refl (omega arith) journal_nothing text ended refl timely_a (over_memory first_a end_a) (omega arith, omega arith)));
+            (second_lived box held Acceptor nothing last_a.machine link_a leg_a of_acceptor (λ s. refl) refl (omega arith) journal_nothing text ended refl timely_a ((refl, refl), (tt, tt)) (over_memory first_a end_a) (omega arith, omega arith)));
         outbox_is = journal_nothing;
         inbox_is = journal_nothing;
         payloads = tt;

@@ -16,11 +16,11 @@ use Rattle.turn_laws.specs.Made.{TurnAt}
 use Rattle.conn_turns.specs.declared.news.NewsItem.{NewsItem}
 use Rattle.turn_laws.specs.Legs.{AreTurns, TurnedLeg, IsTimely, first_line}
 use Rattle.honest_ends.specs.PhaseLaws.{IsOfTime, EndsBy}
-use Rattle.jr_record.specs.declared.journal.Journal.{Ghosts}
-use Rattle.jr_boxes.specs.declared.inbox.Inbox.{Inbox}
+use Rattle.jr_dated.specs.declared.journal.Journal.{Ghosts}
+use Rattle.jr_kept.specs.declared.inbox.Inbox.{Inbox}
 use Rattle.conn_lines.specs.declared.close.Close.{Close}
 use Rattle.conn_lines.specs.declared.close.Close.TheVariants as closes
-use Rattle.conn_serve.specs.Connections.{Connection, turned, all_of, CutAt, IsConnection, ClosesAs, HasEnded, AllEnded}
+use Rattle.conn_serve.specs.Connections.{Connection, IsFaithfulLeg, turned, all_of, CutAt, IsConnection, ClosesAs, HasEnded, AllEnded}
 use Rattle.conn_serve.specs.declared.answer.ServeFault.{ServeFault}
 use Rattle.conn_serve.specs.declared.answer.LifeEnd.{LifeEnd}
 use Rattle.conn_serve.specs.Moments.{LifeAt}
@@ -60,9 +60,9 @@ cut_of eager old new None news adds refused wanted k = tt
 cut_of eager old new (Some t) news adds refused wanted k = subst (λ (u : Turn). IsCut old.line u) (sym k.is) k.made.cut
 
 -- a connection is a side
-makes_turns : (e : End) (before between : History) (last : Line) (c : Connection) → IsReady e.outbox e.state e.inbox → BeginsHistory between e.outbox → IsTimely c.leg
+makes_turns : (e : End) (before between : History) (last : Line) (c : Connection) → IsReady e.outbox e.state e.inbox → BeginsHistory between e.outbox → IsTimely c.leg → IsFaithfulLeg c.leg
     → IsConnection before between e.state last c → MakesTurns (side_of e c.leg)
-makes_turns e before between last c ready begins timely k =
+makes_turns e before between last c ready begins timely faithful k =
     let seen : BeginsHistory k.behind.seen e.outbox = begins_on k.behind.seen between e.outbox k.grows begins in
     record {
       ready = ready;
@@ -73,6 +73,7 @@ makes_turns e before between last c ready begins timely k =
         turns = turns_of before between e.state last c k;
         cut = subst (λ (l : Line). IfSome c.leg.cut (IsCut l)) k.line (cut_of c.link.eager k.behind c.link.end c.leg.cut k.cut_told k.cut_added c.refused c.wanted k.cut);
         has = record { begins = seen.made; few = ready.entries.few };
+        faithful = faithful;
       };
       seen = seen;
       timely = timely;
@@ -84,6 +85,7 @@ pub record EndedOn (e : End) (before after : History) (new : State) (cs : List C
   enough : e.state.facts.recorded.sent ≤ length e.outbox.made
   begins : BeginsHistory after e.outbox
   timely : AllByRecursion IsTimely (turned cs)
+  faithful : AllByRecursion IsFaithfulLeg (turned cs)
   were : AllEnded before after e.state new cs
 
 -- the first of them, and where the next ones begin
@@ -102,7 +104,7 @@ first_on e before after new c later k =
     let mid : State = k.were.1 in
     let h : HasEnded before between e.state mid c = k.were.2 in
     let side : Side = side_of e c.leg in
-    let x : MakesTurns side = makes_turns e before between h.last c k.ready (begins_on between after e.outbox (seen_all between after mid new later k.were.3) k.begins) k.timely.0 h.is in
+    let x : MakesTurns side = makes_turns e before between h.last c k.ready (begins_on between after e.outbox (seen_all between after mid new later k.were.3) k.begins) k.timely.0 k.faithful.0 h.is in
     let is : mid ≡ behind side = h.machine ∙ sym (behind_last side x k.enough h.whole) in
     record {
       between = between;
@@ -115,19 +117,20 @@ first_on e before after new c later k =
         enough = enough_behind side x k.enough;
         begins = k.begins;
         timely = k.timely.1;
+        faithful = k.faithful.1;
         were = subst (λ (m : State). AllEnded between after m new later) is k.were.3;
       };
     }
 
 -- all connections of a life are sides, also the one that was given up
 all_make : (e : End) (before after seen : History) (new : State) (cs : List Connection) (given : Option Connection) → EndedOn e before after new cs → BeginsHistory seen e.outbox
-    → AllByRecursion IsTimely (turned (option_to_list given)) → WasGivenUp after seen new given → AllByRecursion MakesTurns (sides e (turned (cs ++ option_to_list given)))
-all_make e before after seen new [] None k begins timely gave = tt
-all_make e before after seen new [] (Some c) k begins timely gave =
-    (makes_turns e after seen gave.0 c k.ready begins timely.0 (subst (λ (m : State). IsConnection after seen m gave.0 c) k.were.0 gave.1), tt)
-all_make e before after seen new (c ∷ later) given k begins timely gave =
+    → AllByRecursion IsTimely (turned (option_to_list given)) → AllByRecursion IsFaithfulLeg (turned (option_to_list given)) → WasGivenUp after seen new given → AllByRecursion MakesTurns (sides e (turned (cs ++ option_to_list given)))
+all_make e before after seen new [] None k begins timely faithful gave = tt
+all_make e before after seen new [] (Some c) k begins timely faithful gave =
+    (makes_turns e after seen gave.0 c k.ready begins timely.0 faithful.0 (subst (λ (m : State). IsConnection after seen m gave.0 c) k.were.0 gave.1), tt)
+all_make e before after seen new (c ∷ later) given k begins timely faithful gave =
     let x = first_on e before after new c later k in
-    (x.makes, all_make (end_behind e c.leg) x.between after seen new later given x.next begins timely gave)
+    (x.makes, all_make (end_behind e c.leg) x.between after seen new later given x.next begins timely faithful gave)
 
 -- how one that ended is told to have ended
 closes_so : (e : End) (before between : History) (mid : State) (c : Connection) → HasEnded before between e.state mid c → mid ≡ behind (side_of e c.leg) → EndsBy IsOfTime (behind (side_of e c.leg)) → ClosesInTime c
@@ -156,30 +159,32 @@ module _ {J : Type 0} {G : Ghosts J} where
     pub on : EndedOn e old.seen behind mid ended
     pub makes : AllByRecursion MakesTurns (sides e (turned (all_of ended given)))
 
-  pub served_as : (old new : LifeAt J G) (e : End) (result : Result LifeEnd ServeFault) → (k : ServedLife old new e.state result) → IsReady e.outbox e.state e.inbox
+  pub served_as : {tells : Type 0} (old new : LifeAt J G) (e : End) (result : Result LifeEnd ServeFault) → (k : ServedLife tells old new e.state result) → tells → IsReady e.outbox e.state e.inbox
       → e.state.facts.recorded.sent ≤ length e.outbox.made → BeginsHistory new.seen e.outbox → ServedAs old new e k.ended k.given_up
-  served_as old new e result k ready enough begins =
+  served_as old new e result k t ready enough begins =
       let later : List TurnedLeg = turned (option_to_list k.given_up) in
       let timely : AllByRecursion IsTimely (turned k.ended ++ later) = subst (λ (ts : List TurnedLeg). AllByRecursion IsTimely ts) (turned_append k.ended (option_to_list k.given_up)) k.timely in
+      let faithful : AllByRecursion IsFaithfulLeg (turned k.ended ++ later) = subst (λ (ts : List TurnedLeg). AllByRecursion IsFaithfulLeg ts) (turned_append k.ended (option_to_list k.given_up)) (k.faithful t) in
       let on : EndedOn e old.seen k.behind k.mid k.ended =
       record {
         ready = ready;
         enough = enough;
         begins = begins_on k.behind new.seen e.outbox (seen_given k.behind new.seen k.mid k.given_up k.gave_up) begins;
         timely = all_first IsTimely (turned k.ended) later timely;
+        faithful = all_first IsFaithfulLeg (turned k.ended) later faithful;
         were = k.were;
       } in
       record {
         behind = k.behind;
         mid = k.mid;
         on = on;
-        makes = all_make e old.seen k.behind new.seen k.mid k.ended k.given_up on begins (all_second IsTimely (turned k.ended) later timely) k.gave_up;
+        makes = all_make e old.seen k.behind new.seen k.mid k.ended k.given_up on begins (all_second IsTimely (turned k.ended) later timely) (all_second IsFaithfulLeg (turned k.ended) later faithful) k.gave_up;
       }
 
-  pub served_holds : (box : Inbox J G) → ServedHolds box
-  served_holds box old_i new_i old_a new_a i a result_i result_a k_i k_a begins_i begins_a agree link =
-      let x = served_as old_i new_i i result_i k_i agree.initiator agree.agree.outward.sent begins_i in
-      let y = served_as old_a new_a a result_a k_a agree.acceptor agree.agree.homeward.sent begins_a in
+  pub served_holds : (tells : Type 0) (box : Inbox J G) → ServedHolds tells box
+  served_holds tells box old_i new_i old_a new_a i a result_i result_a k_i k_a t begins_i begins_a agree link =
+      let x = served_as old_i new_i i result_i k_i t agree.initiator agree.agree.outward.sent begins_i in
+      let y = served_as old_a new_a a result_a k_a t agree.acceptor agree.agree.homeward.sent begins_a in
       let holds = life_holds i a (turned (all_of k_i.ended k_i.given_up)) (turned (all_of k_a.ended k_a.given_up)) agree x.makes y.makes link in (
         all_close i old_i.seen x.behind x.mid k_i.ended (turned (option_to_list k_i.given_up)) x.on
             (subst (λ (ts : List TurnedLeg). EndInTime (sides i ts)) (turned_append k_i.ended (option_to_list k_i.given_up)) holds.0),

@@ -11,21 +11,22 @@ use Rattle.session_model.proofs.Journals.{prefix_entries}
 use Rattle.fixp_shake.specs.declared.config.EndConfig.{EndConfig}
 use Rattle.fixp_shake.specs.declared.config.Role.{Role}
 use Rattle.plan_text.specs.Plans.{HasPlans}
-use Rattle.jr_record.specs.declared.journal.Journal.{Ghosts}
-use Rattle.jr_boxes.specs.declared.inbox.Inbox.{Inbox}
+use Rattle.jr_dated.specs.declared.journal.Journal.{Ghosts}
+use Rattle.jr_kept.specs.declared.inbox.Inbox.{Inbox}
 use Rattle.conn_serve.specs.declared.answer.ServeFault.{ServeFault}
 use Rattle.cmd_session.specs.declared.outside.SessionOutside.{SessionOutside}
-use Rattle.jr_record.specs.Images.{IsJournal, Leaves}
-use Rattle.jr_record.proofs.Verdicts.{at_most_one_verdict}
+use Rattle.cmd_session.specs.Journals.{IsJournal, Leaves}
+use Rattle.cmd_session.proofs.Verdicts.{at_most_one_verdict}
 use Rattle.jr_boxes.specs.Outboxes.{record_of, outbox_of, records_of_history}
 use Rattle.life_laws.specs.Plans.{plan_in, KeepsPlans}
-use Rattle.life_laws.proofs.Outboxes.{entries-outbox_of}
+use Rattle.life_laws.proofs.Outboxes.{entries-outbox_of, outbox_begins}
 use Rattle.cmd_session.specs.Lived.{IsKept, LivedOver}
 use Rattle.cmd_session.specs.Outsides.{Sees}
 use Rattle.run_laws.specs.Several.{Run, IsEmptyJournal, IsAt, RunsOver}
 use Rattle.run_laws.specs.Senders.{IsPartOf, AllSent, SomeSent, HoldsSent, SendsPart, SendersHold}
 use Rattle.run_laws.proofs.Refusing.{some_of}
-use Rattle.run_laws.proofs.Telling.{same_outbox, same_image, out_tells}
+use Rattle.cmd_session.proofs.Histories.{out_tells}
+use Rattle.run_laws.proofs.Telling.{same_outbox, same_image}
 use Rattle.run_laws.proofs.Ordered.{begins_within, order_of_first, history_of-records}
 use Rattle.run_laws.proofs.Sending.{prefix_sent}
 use Rattle.run_laws.proofs.Merely.{image_left}
@@ -60,8 +61,7 @@ continued plan whole before after part begun c =
 -- a life only adds to its outbox
 pub opening_closing : {J : Type 0} {G : Ghosts J} {S K D N C : Type 0} {sees : Sees S K D N C} {config : EndConfig} {plans : List (List (List ℕ))} {before after : SessionOutside S K D N C} {old new : Inbox J G} {result : Result (Unit {0}) ServeFault}
     (v : LivedOver sees config plans before after old new result) → IsPrefix (outbox_of v.opening) (outbox_of v.closing)
-opening_closing v = subst (λ (rs : List OutboxRecord). IsPrefix rs (outbox_of v.closing)) v.life.outboxes.0
-    (subst (λ (rs : List OutboxRecord). IsPrefix v.life.life.opening_outbox rs) v.life.outboxes.1 v.contract.outbox.outbox_grows)
+opening_closing v = outbox_begins v.opening v.closing v.grows
 
 module _ {S K D N C J : Type 0} (G : Ghosts J) (sees : Sees S K D N C) (role : Role) (plan : ℕ → List (List ℕ)) (all : List (Run S K D N C)) (h : History) where
   -- what is so of the outbox between two runs

@@ -2,24 +2,16 @@
 use Rattle.std.proofs.Common.{◌≡◌, ℕ, List, [], ◌∷◌, ◌++◌, map, refl, sym, ap, ◌∙◌}
 use Rattle.std.proofs.lemmas.List.{map-append}
 use mathlib.Core.List.{IsPrefix}
-use Rattle.session_model.specs.Journal.{Entry, OutboxRecord, entry, finish}
+use Rattle.session_model.specs.Journal.{OutboxRecord}
 use Rattle.session_model.specs.Inbox.{Numbered, Range, InboxRecord, apply, skip, negotiated, peer_finished}
 use Rattle.session_model.specs.Lives.{IsImage}
 use Rattle.jr_boxes.specs.Outboxes as outboxes
 use Rattle.jr_boxes.specs.Inboxes as inboxes
 use Rattle.jr_boxes.specs.Inboxes.{records_of_inbox}
+use Rattle.cmd_session.proofs.Histories.{same_lists, out_tells}
 use Rattle.run_laws.specs.Pieces.{BoxesTell}
 
 module _ {A B : Type 0} (f : A → B) (tells : (x y : A) → f x ≡ f y → x ≡ y) where
-  same_lists : (xs ys : List A) → map f xs ≡ map f ys → xs ≡ ys
-  same_lists [] [] e = refl
-  same_lists [] (y ∷ ys) e = absurd cc
-  same_lists (x ∷ xs) [] e = absurd cc
-  same_lists (x ∷ xs) (y ∷ ys) e =
-      let head : f x ≡ f y = cc in
-      let tails : map f xs ≡ map f ys = cc in
-      ap (λ (z : A). z ∷ xs) (tells x y head) ∙ ap (λ (zs : List A). y ∷ zs) (same_lists xs ys tails)
-
   -- a beginning of some images is those of a beginning
   pub first_of_images : (zs : List B) (ys : List A) → IsPrefix zs (map f ys) → (xs : List A) × IsPrefix xs ys × (map f xs ≡ zs)
   first_of_images [] ys p = ([], (ys, refl), refl)
@@ -37,14 +29,8 @@ module _ {A B : Type 0} (f : A → B) (tells : (x y : A) → f x ≡ f y → x �
       record {
         kept = r.0;
         beginning = r.1;
-        holds = same_lists image (closing ++ r.0) (g.holds ∙ (ap (λ (ws : List B). map f closing ++ ws) (sym r.2) ∙ sym (map-append f closing r.0)));
+        holds = same_lists f tells image (closing ++ r.0) (g.holds ∙ (ap (λ (ws : List B). map f closing ++ ws) (sym r.2) ∙ sym (map-append f closing r.0)));
       }
-
-same_entry : (d e : Entry) → d.sender ≡ e.sender → d.own_number ≡ e.own_number → d.payload ≡ e.payload → d ≡ e
-same_entry d e senders numbers payloads =
-    ap (λ (s : ℕ). record { sender = s; own_number = d.own_number; payload = d.payload }) senders
-    ∙ ap (λ (k : ℕ). record { sender = e.sender; own_number = k; payload = d.payload }) numbers
-    ∙ ap (λ (p : List ℕ). record { sender = e.sender; own_number = e.own_number; payload = p }) payloads
 
 same_numbered : (m n : Numbered) → m.number ≡ n.number → m.payload ≡ n.payload → m ≡ n
 same_numbered m n numbers payloads =
@@ -52,16 +38,6 @@ same_numbered m n numbers payloads =
 
 same_range : (r s : Range) → r.first ≡ s.first → r.count ≡ s.count → r ≡ s
 same_range r s firsts counts = ap (λ (k : ℕ). record { first = k; count = r.count }) firsts ∙ ap (λ (k : ℕ). record { first = s.first; count = k }) counts
-
-pub out_tells : (x y : OutboxRecord) → outboxes.record_of x ≡ outboxes.record_of y → x ≡ y
-out_tells (entry d) (entry e) is =
-    let senders : d.sender ≡ e.sender = cc in
-    let numbers : d.own_number ≡ e.own_number = cc in
-    let payloads : d.payload ≡ e.payload = cc in
-    ap (λ (x : Entry). entry x) (same_entry d e senders numbers payloads)
-out_tells (entry d) finish is = absurd cc
-out_tells finish (entry e) is = absurd cc
-out_tells finish finish is = refl
 
 pub in_tells : (x y : InboxRecord) → inboxes.record_of x ≡ inboxes.record_of y → x ≡ y
 in_tells (apply m) (apply n) is =

@@ -15,8 +15,8 @@ use Rattle.fixp_machine.specs.Machine.{State, fresh}
 use Rattle.connection_laws.specs.Ranges.{IsOutbox}
 use Rattle.conn_turns.specs.Lines.{Line}
 use Rattle.turn_laws.specs.Legs.{TurnedLeg}
-use Rattle.jr_record.specs.declared.journal.Journal.{Ghosts}
-use Rattle.jr_record.specs.Images.{IsJournal, Leaves}
+use Rattle.jr_dated.specs.declared.journal.Journal.{Ghosts}
+use Rattle.cmd_session.specs.Journals.{IsJournal, Leaves}
 use Rattle.jr_boxes.specs.Outboxes.{record_of, outbox_of, records_of_history}
 use Rattle.jr_boxes.specs.Inboxes as in_boxes
 use Rattle.jr_boxes.specs.Inboxes.{records_of_inbox, peer_last_in}
@@ -35,7 +35,8 @@ use Rattle.cmd_session.specs.declared.outside.SessionOutside.{SessionOutside}
 use Rattle.run_laws.specs.Pieces.{LinkFits}
 use Rattle.run_laws.specs.Several.{Run, Flows, IsAt, RunsOver, WasRun}
 use Rattle.run_laws.proofs.Refusing.{some_of}
-use Rattle.run_laws.proofs.Telling.{same_image, out_tells, in_tells}
+use Rattle.cmd_session.proofs.Histories.{out_tells}
+use Rattle.run_laws.proofs.Telling.{same_image, in_tells}
 use Rattle.run_laws.proofs.Merely.{image_left}
 use Rattle.run_laws.proofs.Ways.{Unlived, config_kept, boxes_kept, input_kept, unbegun_kept}
 use Rattle.run_laws.proofs.Chaining.{told_was, kept_was}
@@ -56,9 +57,9 @@ use Rattle.run_laws.proofs.Leaving.{LedTo, EndsIn, LeavesAt, along_leaves, along
 pub record Found (h : History) (config : EndConfig) (e : End) (opened : History) (waiting : List InboxRecord) : Type 0 where
   pub outbox : e.outbox ≡ h
   pub config_is : e.state.config ≡ config
-  pub most : e.state.most ≡ 2 ^ 24
+  pub most : e.state.most ≡ 2 ^ 26
   pub next : next_number waiting ≡ e.state.facts.recorded.inbox_next
-  pub within : e.state.facts.recorded.inbox_next ≤ 2 ^ 24 + 1
+  pub within : e.state.facts.recorded.inbox_next ≤ 2 ^ 26 + 1
   pub last : e.state.facts.recorded.peer_last ≡ peer_last_in waiting
   pub sent : e.state.facts.recorded.sent ≤ length opened.made
   pub finish : IfSome e.state.facts.recorded.finish (IsLast opened)
@@ -98,7 +99,7 @@ last_of : (a : History) (o : Option ℕ) (n : ℕ) → o ≡ Some n → IfSome o
 last_of a None n e k = absurd (cc e)
 last_of a (Some m) n e k = subst (λ (j : ℕ). IsLast a j) (same_Some m n e) k
 
-module _ {S K D N C J : Type 0} (G : Ghosts J) (sees : Sees S K D N C) (role : Role) (link : Link) (fits : LinkFits link) (h : History) (i : List InboxRecord) (entries : IsOutbox h.made)
+module _ {S K D N C J : Type 0} (G : Ghosts J) (told : G.tells) (sees : Sees S K D N C) (role : Role) (link : Link) (fits : LinkFits link) (h : History) (i : List InboxRecord) (entries : IsOutbox h.made)
     (before after : SessionOutside S K D N C) (outboxes inboxes : List ℕ → Type 0) (lives : List Served)
     (out_at : IsAt sees outboxes before.out_disk) (in_at : IsAt sees inboxes before.in_disk)
     (later : Comes h i (end_of role link) (sees.may_leave after.out_disk) (sees.may_leave after.in_disk) lives) where
@@ -127,9 +128,9 @@ module _ {S K D N C J : Type 0} (G : Ghosts J) (sees : Sees S K D N C) (role : R
     behind = life_at (sees.carried after.dialer) (sees.taken after.out) v.seen lived.new
 
     abbrev m : State
-    m = fresh config (opened_state v.opening lived.old) (2 ^ 24)
+    m = fresh config (opened_state v.opening lived.old) (2 ^ 26)
 
-    abbrev k : ServedLife at behind m v.connections
+    abbrev k : ServedLife G.tells at behind m v.connections
     k = v.served.life
 
     fits_so : LinkFits mine
@@ -177,17 +178,17 @@ module _ {S K D N C J : Type 0} (G : Ghosts J) (sees : Sees S K D N C) (role : R
       over = λ s f. over_so lives rest s f;
     }
       where
-        next : next_number v.inbox ≤ 2 ^ 24 + 1
+        next : next_number v.inbox ≤ 2 ^ 26 + 1
         next = let is = found.next in let within = found.within in omega (arith, is, within)
 
         mine_end : End
         mine_end = record { outbox = v.closing; state = m; inbox = v.inbox }
 
         stays : Stays mine_end
-        stays = living.opens at behind v.opening v.closing config v.connections v.inbox v.holds k refl v.begins closing_entries fits_so.session fits_so.keepalive fits_so.credentials next
+        stays = living.opens at behind v.opening v.closing config v.connections v.inbox v.holds k told refl v.begins closing_entries fits_so.session fits_so.keepalive fits_so.credentials next
 
         legs : Legs mine_end k.ended k.given_up here.line here.machine later.waiting
-        legs = living.legs at behind v.opening v.closing config v.connections v.inbox v.holds k refl v.begins closing_entries fits_so.session fits_so.keepalive fits_so.credentials next later.waiting in_image
+        legs = living.legs at behind v.opening v.closing config v.connections v.inbox v.holds k told refl v.begins closing_entries fits_so.session fits_so.keepalive fits_so.credentials next later.waiting in_image
 
         ts : List TurnedLeg
         ts = turned k.ended ++ legs.given
@@ -305,7 +306,7 @@ module _ {S K D N C J : Type 0} (G : Ghosts J) (sees : Sees S K D N C) (role : R
     by_steps (inl stopped) = unlived (config_kept sees before after status role stopped)
     by_steps (inr was) = by_config was.configuration (configured was.configuration was.spelled) was.ended
 
-module _ {S K D N C J : Type 0} (G : Ghosts J) (sees : Sees S K D N C) (role : Role) (link : Link) (flows : Flows) (fits : LinkFits link) (h : History) (i : List InboxRecord) (entries : IsOutbox h.made)
+module _ {S K D N C J : Type 0} (G : Ghosts J) (told : G.tells) (sees : Sees S K D N C) (role : Role) (link : Link) (flows : Flows) (fits : LinkFits link) (h : History) (i : List InboxRecord) (entries : IsOutbox h.made)
     (outbox inbox : List ℕ) (outbox_is : IsJournal outbox (records_of_history h)) (inbox_is : IsJournal inbox (records_of_inbox i)) where
   spelled_so : (r : Run S K D N C) → ConfiguresLink sees role link r → (c : Configuration) → IsConfigured role (sees.left r.before.config) c → c.link ≡ link
   spelled_so r k c spelled = let t = some_of (sees.left r.before.config) (HasLink role link) k in t.2 c (spelled t.0 t.1)
@@ -321,6 +322,6 @@ module _ {S K D N C J : Type 0} (G : Ghosts J) (sees : Sees S K D N C) (role : R
     way = λ e found. record { behind = e; legs = []; links = tt; path = arrives; found = found; closes = λ _. tt; left = λ x f. absurd (cc f); over = λ s f. absurd (cc f) };
   }
   comes (r ∷ later) outboxes inboxes o configured =
-      by_steps G sees role link fits h i entries r.before r.after outboxes inboxes
+      by_steps G told sees role link fits h i entries r.before r.after outboxes inboxes
       (served_over G sees role flows outbox inbox later (sees.may_leave r.after.out_disk) (sees.may_leave r.after.in_disk) o.3) o.0 o.1
       (comes later (sees.may_leave r.after.out_disk) (sees.may_leave r.after.in_disk) o.3 configured.1) r.status (spelled_so r configured.0) o.2.steps

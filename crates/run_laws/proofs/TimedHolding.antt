@@ -13,8 +13,8 @@ use Rattle.fixp_shake.specs.declared.config.Role.TheVariants.{Initiator, Accepto
 use Rattle.fixp_machine.specs.Machine.{fresh}
 use Rattle.connection_laws.specs.Ranges.{IsOutbox}
 use Rattle.two_ends.specs.Meeting.{Holds}
-use Rattle.jr_record.specs.declared.journal.Journal.{Ghosts}
-use Rattle.jr_record.proofs.Verdicts.{at_most_one_verdict}
+use Rattle.jr_dated.specs.declared.journal.Journal.{Ghosts}
+use Rattle.cmd_session.proofs.Verdicts.{at_most_one_verdict}
 use Rattle.jr_boxes.specs.Outboxes.{outbox_of, records_of_history}
 use Rattle.jr_boxes.specs.Inboxes.{records_of_inbox, peer_last_in}
 use Rattle.cmd_config.specs.declared.configuration.Link.{Link}
@@ -47,12 +47,9 @@ abbrev nothing : History
 nothing = record { made = []; finished = false }
 
 module _ {S K D N C J : Type 0} (G : Ghosts J) (sees : Sees S K D N C) (role : Role) (link : Link) (e : EndRan G sees role link) where
-  abbrev config : EndConfig
-  config = end_of role link
-
   -- the end before its first life
   abbrev pub unlived : End
-  unlived = record { outbox = e.outbox; state = fresh config unwritten (2 ^ 24); inbox = [] }
+  unlived = record { outbox = e.outbox; state = fresh (end_of role link) unwritten (2 ^ 26); inbox = [] }
 
   entries : IsOutbox e.outbox.made
   entries = record { payloads = e.ran.payloads; few = let few = e.few in omega (arith, few) }
@@ -70,8 +67,15 @@ module _ {S K D N C J : Type 0} (G : Ghosts J) (sees : Sees S K D N C) (role : R
     entries = entries;
   }
 
+module _ {S K D N C J : Type 0} (G : Ghosts J) (told : G.tells) (sees : Sees S K D N C) (role : Role) (link : Link) (e : EndRan G sees role link) where
+  abbrev config : EndConfig
+  config = end_of role link
+
+  abbrev first : End
+  first = unlived G sees role link e
+
   came : Comes e.outbox e.inbox config IsEmptyJournal IsEmptyJournal (lives G sees role link e)
-  came = comes G sees role link (flows_in link) e.fits e.outbox e.inbox entries e.ran.outbox e.ran.inbox e.ran.outbox_is e.ran.inbox_is e.runs IsEmptyJournal IsEmptyJournal e.ran.over e.configured
+  came = comes G told sees role link (flows_in link) e.fits e.outbox e.inbox (entries G sees role link e) e.ran.outbox e.ran.inbox e.ran.outbox_is e.ran.inbox_is e.runs IsEmptyJournal IsEmptyJournal e.ran.over e.configured
 
   none_opened : came.opened ≡ nothing
   none_opened =
@@ -81,15 +85,15 @@ module _ {S K D N C J : Type 0} (G : Ghosts J) (sees : Sees S K D N C) (role : R
   none_waiting : came.waiting ≡ []
   none_waiting = same_inbox came.waiting [] (at_most_one_verdict.one_list came.in_was.0 (records_of_inbox came.waiting) [] came.in_was.2 came.in_was.1)
 
-  unlived_found : Found e.outbox config unlived nothing []
+  unlived_found : Found e.outbox config first nothing []
   unlived_found = record { outbox = refl; config_is = refl; most = refl; next = refl; within = omega arith; last = refl; sent = omega arith; finish = tt }
 
   -- its way over all its lives
-  pub way : Way e.outbox e.inbox config (lives G sees role link e) unlived
-  way = came.way unlived (subst (λ (o : History). Found e.outbox config unlived o came.waiting) (sym none_opened)
-      (subst (λ (i : List InboxRecord). Found e.outbox config unlived nothing i) (sym none_waiting) unlived_found))
+  pub way : Way e.outbox e.inbox config (lives G sees role link e) first
+  way = came.way first (subst (λ (o : History). Found e.outbox config first o came.waiting) (sym none_opened)
+      (subst (λ (i : List InboxRecord). Found e.outbox config first nothing i) (sym none_waiting) unlived_found))
 
-module _ {S K D N C J : Type 0} (G : Ghosts J) (sees : Sees S K D N C) (li la : Link) (i : EndRan G sees Initiator li) (a : EndRan G sees Acceptor la) (l : AreLinked G sees li la i a) where
+module _ {S K D N C J : Type 0} (G : Ghosts J) (told : G.tells) (sees : Sees S K D N C) (li la : Link) (i : EndRan G sees Initiator li) (a : EndRan G sees Acceptor la) (l : AreLinked G sees li la i a) where
   match : Match (end_of Initiator li) (end_of Acceptor la)
   match = record {
     initiates = refl;
@@ -99,20 +103,19 @@ module _ {S K D N C J : Type 0} (G : Ghosts J) (sees : Sees S K D N C) (li la : 
     outward = l.matches.client;
     homeward = sym l.matches.server;
     keepalive = (i.interval, i.fits.keepalive);
-    versions = (refl, refl);
   }
 
   pub way_i : Way i.outbox i.inbox (end_of Initiator li) (lives G sees Initiator li i) (unlived G sees Initiator li i)
-  way_i = way G sees Initiator li i
+  way_i = way G told sees Initiator li i
 
   pub way_a : Way a.outbox a.inbox (end_of Acceptor la) (lives G sees Acceptor la a) (unlived G sees Acceptor la a)
-  way_a = way G sees Acceptor la a
+  way_a = way G told sees Acceptor la a
 
   pub starts : AgreeAt (unlived G sees Initiator li i) (unlived G sees Acceptor la a)
   starts = record {
     initiator = unlived_ready G sees Initiator li i;
     acceptor = unlived_ready G sees Acceptor la a;
-    agree = unwritten_agree i.outbox.made a.outbox.made (end_of Initiator li) (end_of Acceptor la) (2 ^ 24) match i.few a.few;
+    agree = unwritten_agree i.outbox.made a.outbox.made (end_of Initiator li) (end_of Acceptor la) (2 ^ 26) match i.few a.few;
   }
 
   pub both : BothHold (unlived G sees Initiator li i) way_i.behind (unlived G sees Acceptor la a) way_a.behind way_i.legs way_a.legs way_i.path way_a.path
@@ -130,7 +133,7 @@ module _ {S K D N C J : Type 0} (G : Ghosts J) (sees : Sees S K D N C) (li la : 
       (time_is_linked (legs_of (lives G sees Initiator li i)) (legs_of (lives G sees Acceptor la a)) l.in_time)
 
 pub runs_end_in_time : {S K D N C J : Type 0} (G : Ghosts J) (sees : Sees S K D N C) → RunsEndInTime G sees
-runs_end_in_time G sees li la i a l = all_close G sees li la i a l
+runs_end_in_time G sees told li la i a l = all_close G told sees li la i a l
 
 -- ---- an inbox that has the finish of its peer
 
@@ -179,20 +182,20 @@ whole flow h inbox next holds = record {
       all_is_equal h.made inbox applies (next (ap is_sequenced e));
 }
 
-pub runs_hold_so : {S K D N C J : Type 0} (G : Ghosts J) (sees : Sees S K D N C) (li la : Link) (i : EndRan G sees Initiator li) (a : EndRan G sees Acceptor la) → AreLinked G sees li la i a
+pub runs_hold_so : {S K D N C J : Type 0} (G : Ghosts J) (told : G.tells) (sees : Sees S K D N C) (li la : Link) (i : EndRan G sees Initiator li) (a : EndRan G sees Acceptor la) → AreLinked G sees li la i a
     → Holds li.client_flow i.outbox.made a.inbox × Holds la.server_flow a.outbox.made i.inbox
-runs_hold_so G sees li la i a l =
+runs_hold_so G told sees li la i a l =
     let same : flows_in la ≡ flows_in li =
     ap (λ (f : Flow). record { client = f; server = la.server_flow }) l.matches.client ∙ ap (λ (f : Flow). record { client = li.client_flow; server = f }) l.matches.server in
-    let holds = runs_hold G sees (flows_in li) i.runs a.runs i.outbox a.outbox i.inbox a.inbox i.ran (subst (λ (f : Flows). HasRun G sees Acceptor f a.runs a.outbox a.inbox) same a.ran) (carried G sees li la i a l) in
+    let holds = runs_hold G sees told (flows_in li) i.runs a.runs i.outbox a.outbox i.inbox a.inbox i.ran (subst (λ (f : Flows). HasRun G sees Acceptor f a.runs a.outbox a.inbox) same a.ran) (carried G told sees li la i a l) in
     (holds.0, subst (λ (f : Flow). Holds f a.outbox.made i.inbox) (sym l.matches.server) holds.1)
 
 pub finish_is_whole : {S K D N C J : Type 0} (G : Ghosts J) (sees : Sees S K D N C) → FinishIsWhole G sees
-finish_is_whole G sees li la i a l =
-    let b = both G sees li la i a l in
-    let x = way_i G sees li la i a l in
-    let y = way_a G sees li la i a l in
-    let holds = runs_hold_so G sees li la i a l in (
+finish_is_whole G sees told li la i a l =
+    let b = both G told sees li la i a l in
+    let x = way_i G told sees li la i a l in
+    let y = way_a G told sees li la i a l in
+    let holds = runs_hold_so G told sees li la i a l in (
       λ there.
           let w = awaits li.client_flow i.outbox a.outbox (end_of Initiator li) (end_of Acceptor la) x.behind y.behind i.inbox a.inbox x.found y.found refl l.matches.client b.agree.agree.outward b.agree.agree.last_a there in
           (w.finished, whole li.client_flow i.outbox a.inbox w.next holds.0),

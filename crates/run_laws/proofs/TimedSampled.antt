@@ -3,9 +3,9 @@ use Rattle.std.proofs.Common.{◌≡◌, [], ◌∷◌, ◌++◌, map, Ok, refl,
 use Rattle.fixp_shake.specs.declared.config.Role.{Role}
 use Rattle.fixp_shake.specs.declared.config.Role.TheVariants.{Initiator, Acceptor}
 use Rattle.turn_laws.specs.Legs.{all_turns}
-use Rattle.jr_record.specs.declared.journal.Journal.{Ghosts}
-use Rattle.jr_boxes.specs.declared.inbox.Inbox.{Inbox}
-use Rattle.jr_boxes.specs.Inbox.{HoldsBox}
+use Rattle.jr_dated.specs.declared.journal.Journal.{Ghosts}
+use Rattle.jr_kept.specs.declared.inbox.Inbox.{Inbox}
+use Rattle.jr_kept.specs.Inbox.{HoldsBox}
 use Rattle.cmd_config.specs.declared.configuration.Configuration.{Configuration}
 use Rattle.cmd_session.specs.Inputs.{configuration_at}
 use Rattle.run_laws.specs.Pieces.{LinkFits}

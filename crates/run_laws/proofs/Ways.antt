@@ -1,7 +1,7 @@
 -- A run kept both disks, each by itself, or lived over them.
 use Rattle.std.proofs.Common.{◌≡◌, ◌⊎◌, inl, inr, ℕ, List, ap, subst}
 use Rattle.fixp_shake.specs.declared.config.Role.{Role}
-use Rattle.jr_record.specs.declared.journal.Journal.{Ghosts}
+use Rattle.jr_dated.specs.declared.journal.Journal.{Ghosts}
 use Rattle.cmd_base.specs.declared.status.Status.{Status}
 use Rattle.cmd_config.specs.declared.configuration.Configuration.{Configuration}
 use Rattle.cmd_session.specs.Inputs.{IsConfigured, ArePlanned, flow_received, end_of}

@@ -11,8 +11,8 @@ use Rattle.cmd_config.specs.declared.configuration.Configuration.{Configuration}
 use Rattle.plan_text.specs.Plans.{HasPlans}
 use Rattle.plan_outbox.specs.Behind.{GoesOnFrom}
 use Rattle.gw_links.specs.Dialers.{DialerTold}
-use Rattle.jr_record.specs.declared.journal.Journal.{Ghosts}
-use Rattle.jr_record.specs.Images.{IsJournal}
+use Rattle.jr_dated.specs.declared.journal.Journal.{Ghosts}
+use Rattle.cmd_session.specs.Journals.{IsJournal}
 use Rattle.jr_boxes.specs.Outboxes.{records_of_history}
 use Rattle.jr_boxes.specs.declared.faults.Which.TheVariants.{Outbox, Inbox}
 use Rattle.conn_lines.specs.declared.close.Close.TheVariants as closes
@@ -115,11 +115,11 @@ module _ {S K D N C J : Type 0} where
     pub full : (entries bytes : ℕ) → status ≡ Full entries bytes → lived.result ≡ Err (faults.Full entries bytes)
     pub marked : IsOfConnections status → 0 < c.trade.senders → lived.over.closing.finished ≡ true
 
-  -- Whatever a run keeps to, by its clause `steps`: set up so, and where no call of a device failed, it lived and completed, or memory ran out
-  -- before
+  -- Whatever a run keeps to, by its clause `steps`: set up so, over disks that tell their content, and where no call of a device failed, it lived
+  -- and completed, or memory ran out before
   abbrev pub RunCompletes : Ghosts J → Sees S K D N C → (before after : SessionOutside S K D N C) → Type 0
   RunCompletes G sees before after =
-      (role : Role) (c : Configuration) (status : Status)
+      G.tells → (role : Role) (c : Configuration) (status : Status)
       → IsSetUp sees role c before → NoneRose (counts_of sees before) (counts_of sees after) → Steps G sees role before after status
       → WantsMemory before after status ⊎ Completed G sees role c before after status
 

@@ -5,9 +5,10 @@ use Rattle.session_model.specs.Inbox.{InboxRecord}
 use Rattle.fixp_shake.specs.declared.config.Role.{Role}
 use Rattle.fixp_shake.specs.declared.config.Role.TheVariants.{Initiator, Acceptor}
 use Rattle.two_ends.specs.Meeting.{Holds}
-use Rattle.jr_record.specs.declared.journal.Journal.{Ghosts}
+use Rattle.jr_dated.specs.declared.journal.Journal.{Ghosts}
 use Rattle.jr_record.specs.declared.record.Record.{Record}
-use Rattle.jr_record.specs.Images.{IsJournal, IsDamaged, IsNotFormatted}
+use Rattle.jr_dated.specs.Images.{IsDamaged, IsNotFormatted}
+use Rattle.cmd_session.specs.Journals.{IsJournal}
 use Rattle.jr_boxes.specs.Outboxes.{records_of_history}
 use Rattle.jr_boxes.specs.Inboxes.{records_of_inbox}
 use Rattle.cmd_session.specs.Outsides.{Sees}
@@ -17,9 +18,10 @@ use Rattle.run_laws.specs.Linked.{LinkedCarried}
 module _ {S K D N C J : Type 0} where
   -- Two ends ran, each any number of times, and the links that came back to both are linked. Then the inbox of each holds of the outbox of the
   -- other what its flow promises: on a recoverable flow the messages applied are the first of those submitted, in order; on an idempotent
-  -- one each is applied or told to be missing, once; on one without numbers only what was submitted is delivered, in order, and nothing twice
+  -- one each is applied or told to be missing, once; on one without numbers only what was submitted is delivered, in order, and nothing twice. Each
+  -- disk is one that tells its content
   abbrev pub RunsHold : Ghosts J → Sees S K D N C → Type 0
-  RunsHold G sees = (flows : Flows) (runs_i runs_a : List (Run S K D N C)) (h_i h_a : History) (i_i i_a : List InboxRecord)
+  RunsHold G sees = G.tells → (flows : Flows) (runs_i runs_a : List (Run S K D N C)) (h_i h_a : History) (i_i i_a : List InboxRecord)
       → HasRun G sees Initiator flows runs_i h_i i_i → HasRun G sees Acceptor flows runs_a h_a i_a
       → LinkedCarried (flat_map (brought sees) runs_i) (flat_map (brought sees) runs_a)
       → Holds flows.client h_i.made i_a × Holds flows.server h_a.made i_i

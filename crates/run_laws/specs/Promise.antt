@@ -7,8 +7,8 @@ use Rattle.fixp_msgs.specs.declared.flow.Flow.{Flow}
 use Rattle.fixp_machine.specs.Accepting.{model_flow}
 use Rattle.fixp_shake.specs.declared.config.Role.{Role}
 use Rattle.plan_text.specs.Plans.{HasPlans}
-use Rattle.jr_record.specs.declared.journal.Journal.{Ghosts}
-use Rattle.jr_record.specs.Images.{IsJournal}
+use Rattle.jr_dated.specs.declared.journal.Journal.{Ghosts}
+use Rattle.cmd_session.specs.Journals.{IsJournal}
 use Rattle.jr_boxes.specs.Outboxes.{record_of}
 use Rattle.jr_boxes.specs.Inboxes.{records_of_inbox}
 use Rattle.cmd_config.specs.Settings.{own_flow, peer_flow}
@@ -42,8 +42,8 @@ module _ {S K D N C : Type 0} where
   KeepsSession sees own peer before after = KeepsBoth sees before after ⊎ LivedOne sees own peer before after
 
 module _ {S K D N C J : Type 0} where
-  -- so it is of each run whose CONFIG tells these flows, whatever its peer does
+  -- so it is of each run over disks that tell their content, whose CONFIG tells these flows, whatever its peer does
   abbrev pub RunKeeps : Ghosts J → Sees S K D N C → Type 0
-  RunKeeps G sees = (role : Role) (flows : Flows) (r : Run S K D N C)
+  RunKeeps G sees = G.tells → (role : Role) (flows : Flows) (r : Run S K D N C)
       → IsSomeAnd (sees.left r.before.config) (HasFlows role flows) → IsRun G sees role r
       → KeepsSession sees (own_flow role flows.client flows.server) (peer_flow role flows.client flows.server) r.before r.after

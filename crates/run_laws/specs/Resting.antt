@@ -6,7 +6,7 @@ use Rattle.fixp_replies.specs.Facts.{finishes_exchanged}
 use Rattle.fixp_machine.specs.Machine.{State, around}
 use Rattle.conn_turns.specs.Lines.{Line}
 use Rattle.turn_laws.specs.Legs.{TurnedLeg}
-use Rattle.jr_record.specs.declared.journal.Journal.{Ghosts}
+use Rattle.jr_dated.specs.declared.journal.Journal.{Ghosts}
 use Rattle.cmd_config.specs.declared.configuration.Link.{Link}
 use Rattle.cmd_session.specs.Outsides.{Sees}
 use Rattle.honest_ends.specs.Resting.{IsIdle}
@@ -51,9 +51,9 @@ pub record WereOver (i a : List Served) : Type 0 where
   pub acceptor : finishes_exchanged (around machine_a 0 0) machine_a.facts ≡ true
 
 module _ {S K D N C J : Type 0} (G : Ghosts J) (sees : Sees S K D N C) where
-  -- then each inbox has all of the other end's outbox
+  -- then, over disks that tell their content, each inbox has all of the other end's outbox
   abbrev pub RestIsWhole : Type 0
-  RestIsWhole = (li la : Link) (i : EndRan G sees Initiator li) (a : EndRan G sees Acceptor la) → Matching li la
+  RestIsWhole = G.tells → (li la : Link) (i : EndRan G sees Initiator li) (a : EndRan G sees Acceptor la) → Matching li la
       → (m : MeetLast (lives G sees Initiator li i) (lives G sees Acceptor la a))
       → WereQuiet i.outbox a.outbox (lives G sees Initiator li i) (lives G sees Acceptor la a) m
       ⊎ WereOver (lives G sees Initiator li i) (lives G sees Acceptor la a)

@@ -11,12 +11,13 @@ use Rattle.fixp_shake.specs.declared.config.Role.TheVariants.{Initiator, Accepto
 use Rattle.gw_links.specs.Links.{LinkTold, Carried}
 use Rattle.gw_links.specs.declared.link.Link.{Ghosts as LinkGhosts}
 use Rattle.gw_links.specs.Dialers.{DialerTold}
-use Rattle.jr_record.specs.declared.journal.Journal.{Ghosts}
-use Rattle.jr_record.specs.Images.{header, gated}
-use Rattle.jr_record.specs.Records.{spelled}
+use Rattle.jr_dated.specs.declared.journal.Journal.{Ghosts}
+use Rattle.jr_record.specs.Images.{gated}
+use Rattle.jr_dated.specs.Dated.{dated, spelled}
+use Rattle.jr_dated.specs.Images.{header}
 use Rattle.jr_boxes.specs.Outboxes.{records_of_history}
-use Rattle.jr_boxes.specs.declared.inbox.Inbox.{Inbox}
-use Rattle.jr_boxes.specs.Inbox.{HoldsBox}
+use Rattle.jr_kept.specs.declared.inbox.Inbox.{Inbox}
+use Rattle.jr_kept.specs.Inbox.{HoldsBox}
 use Rattle.cmd_config.specs.declared.configuration.Configuration.{Configuration}
 use Rattle.conn_lines.specs.Lines.{connection_line}
 use Rattle.conn_lines.specs.declared.close.Close.TheVariants.{LinkFault}
@@ -29,7 +30,7 @@ use Rattle.run_laws.specs.Linked.{LinkedCarried}
 -- what both texts spell
 abbrev pub configured : Configuration
 configured = record {
-  link = record { session = replicate 16 7; keepalive = 1000; client_flow = Recoverable; server_flow = Recoverable; credentials = [] };
+  link = record { session = replicate 16 7; keepalive = 1000; client_flow = Recoverable; server_flow = Recoverable; credentials = []; version = 0 };
   trade = record { senders = 1; desks = 0; order_version = 1; reference = 1000000 };
 }
 
@@ -37,7 +38,7 @@ configured = record {
 abbrev pub config_text : List ℕ
 config_text =
     codes "session = \"07070707-0707-0707-0707-070707070707\"\n" ++ codes "keepalive = 1000\n" ++ codes "client_flow = \"recoverable\"\n"
-    ++ codes "server_flow = \"recoverable\"\n"
+    ++ codes "server_flow = \"recoverable\"\n" ++ codes "session_version = 0\n"
 
 abbrev pub both_recoverable : Flows
 both_recoverable = record { client = Recoverable; server = Recoverable }
@@ -56,9 +57,9 @@ nothing = record { made = []; finished = false }
 abbrev pub with_one : History
 with_one = record { made = submitted ∷ []; finished = false }
 
--- the journal of a history, to the closed byte
+-- the journal of a history, each record at the moment 0, to the closed byte
 abbrev pub journal_of : History → List ℕ
-journal_of h = header ++ gated spelled (records_of_history h) ++ 0 ∷ []
+journal_of h = header ++ gated spelled (dated 0 (records_of_history h)) ++ 0 ∷ []
 
 -- a disk in memory: what it tells, what a stop may leave, and how many calls of it failed
 pub record MemoryDisk : Type 0 where
@@ -150,7 +151,7 @@ abbrev pub runs_of_acceptor : List ℕ → List MemoryRun
 runs_of_acceptor text = stopped_run text ∷ cut_run text nothing of_acceptor ∷ []
 
 module _ {J : Type 0} {G : Ghosts J} where
-  -- All premises are met, where an inbox holds no records, as one does that was opened on a journal without records
+  -- All premises on runs are met, where an inbox holds no records, as one does that was opened on a journal without records
   abbrev pub RunsSample : Inbox J G → Type 0
   RunsSample empty = HoldsBox empty [] []
       → HasRun G memory Initiator both_recoverable (runs_of_initiator config_text) with_one []

@@ -5,8 +5,8 @@ use Rattle.session_model.specs.Journal.{History, InOrder}
 use Rattle.session_model.specs.Plans.{sent_by}
 use Rattle.fixp_shake.specs.declared.config.Role.{Role}
 use Rattle.plan_text.specs.Plans.{HasPlans}
-use Rattle.jr_record.specs.declared.journal.Journal.{Ghosts}
-use Rattle.jr_record.specs.Images.{IsJournal}
+use Rattle.jr_dated.specs.declared.journal.Journal.{Ghosts}
+use Rattle.cmd_session.specs.Journals.{IsJournal}
 use Rattle.jr_boxes.specs.Outboxes.{records_of_history}
 use Rattle.life_laws.specs.Plans.{plan_in}
 use Rattle.cmd_session.specs.Outsides.{Sees}

@@ -9,8 +9,8 @@ use Rattle.fixp_msgs.specs.declared.flow.Flow.{Flow}
 use Rattle.fixp_shake.specs.declared.config.Role.{Role}
 use Rattle.gw_links.specs.Links.{Carried}
 use Rattle.gw_links.specs.Dialers.{DialerTold}
-use Rattle.jr_record.specs.declared.journal.Journal.{Ghosts}
-use Rattle.jr_record.specs.Images.{IsJournal}
+use Rattle.jr_dated.specs.declared.journal.Journal.{Ghosts}
+use Rattle.cmd_session.specs.Journals.{IsJournal}
 use Rattle.jr_boxes.specs.Outboxes.{records_of_history}
 use Rattle.jr_boxes.specs.Inboxes.{records_of_inbox}
 use Rattle.cmd_base.specs.declared.status.Status.{Status}

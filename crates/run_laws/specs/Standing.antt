@@ -4,8 +4,8 @@ use Rattle.std.proofs.Common.{inl, inr}
 use Rattle.session_model.specs.Journal.{History, BeginsHistory}
 use Rattle.fixp_shake.specs.declared.config.EndConfig.{EndConfig}
 use Rattle.fixp_shake.specs.declared.config.Role.{Role}
-use Rattle.jr_record.specs.declared.journal.Journal.{Ghosts}
-use Rattle.jr_record.specs.Images.{IsJournal}
+use Rattle.jr_dated.specs.declared.journal.Journal.{Ghosts}
+use Rattle.cmd_session.specs.Journals.{IsJournal}
 use Rattle.jr_boxes.specs.Outboxes.{records_of_history}
 use Rattle.cmd_base.specs.declared.status.Status.{Status}
 use Rattle.cmd_config.specs.declared.configuration.Configuration.{Configuration}

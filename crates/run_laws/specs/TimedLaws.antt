@@ -7,7 +7,7 @@ use Rattle.fixp_msgs.specs.declared.flow.Flow.{Flow}
 use Rattle.fixp_msgs.specs.declared.flow.Flow.TheVariants.{Recoverable}
 use Rattle.fixp_shake.specs.Flows.{is_sequenced}
 use Rattle.fixp_shake.specs.declared.config.Role.TheVariants.{Initiator, Acceptor}
-use Rattle.jr_record.specs.declared.journal.Journal.{Ghosts}
+use Rattle.jr_dated.specs.declared.journal.Journal.{Ghosts}
 use Rattle.cmd_config.specs.declared.configuration.Link.{Link}
 use Rattle.cmd_session.specs.Outsides.{Sees}
 use Rattle.honest_turns.specs.Lives.{InTime}
@@ -38,12 +38,12 @@ module _ {S K D N C J : Type 0} (G : Ghosts J) (sees : Sees S K D N C) where
     pub matches : Matching li la
     pub in_time : InTime (legs_of (lives G sees Initiator li i)) (legs_of (lives G sees Acceptor la a))
 
-  -- then no connection of any run of either ended closed by a violation but silence and a late handshake
+  -- then, over disks that tell their content, no connection of any run of either ended closed by a violation but silence and a late handshake
   abbrev pub RunsEndInTime : Type 0
-  RunsEndInTime = (li la : Link) (i : EndRan G sees Initiator li) (a : EndRan G sees Acceptor la) → AreLinked li la i a
+  RunsEndInTime = G.tells → (li la : Link) (i : EndRan G sees Initiator li) (a : EndRan G sees Acceptor la) → AreLinked li la i a
       → AllByRecursion ClosesInTime (ended_of (lives G sees Initiator li i)) × AllByRecursion ClosesInTime (ended_of (lives G sees Acceptor la a))
 
   -- and an inbox that has the finish of its peer has all of the peer's outbox
   abbrev pub FinishIsWhole : Type 0
-  FinishIsWhole = (li la : Link) (i : EndRan G sees Initiator li) (a : EndRan G sees Acceptor la) → AreLinked li la i a
+  FinishIsWhole = G.tells → (li la : Link) (i : EndRan G sees Initiator li) (a : EndRan G sees Acceptor la) → AreLinked li la i a
       → FinishHas li.client_flow i.outbox a.inbox × FinishHas la.server_flow a.outbox i.inbox

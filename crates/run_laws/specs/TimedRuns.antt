@@ -9,7 +9,7 @@ use Rattle.fixp_shake.specs.declared.config.Role.{Role}
 use Rattle.fixp_machine.specs.Machine.{State}
 use Rattle.conn_turns.specs.Lines.{Line}
 use Rattle.turn_laws.specs.Legs.{TurnedLeg}
-use Rattle.jr_record.specs.declared.journal.Journal.{Ghosts}
+use Rattle.jr_dated.specs.declared.journal.Journal.{Ghosts}
 use Rattle.cmd_base.specs.declared.status.Status.{Status}
 use Rattle.cmd_config.specs.declared.configuration.Link.{Link}
 use Rattle.cmd_config.specs.declared.configuration.Configuration.{Configuration}
@@ -43,8 +43,8 @@ machine_left ended mid (Some l) = Some l.machine
 machine_left [] mid None = None
 machine_left (c ∷ cs) mid None = Some mid
 
-module _ {J : Type 0} {G : Ghosts J} where
-  abbrev pub served_of : (old new : LifeAt J G) (m : State) (result : Result LifeEnd ServeFault) → ServedLife old new m result → Served
+module _ {J : Type 0} {G : Ghosts J} {tells : Type 0} where
+  abbrev pub served_of : (old new : LifeAt J G) (m : State) (result : Result LifeEnd ServeFault) → ServedLife tells old new m result → Served
   served_of old new m result k = record {
     ended = k.ended;
     given_up = k.given_up;
@@ -123,7 +123,7 @@ module _ {S K D N C J : Type 0} where
     pub fits : LinkFits link
     pub interval : 100 ≤ link.keepalive
     pub configured : AllByRecursion (ConfiguresLink sees role link) runs
-    pub few : length outbox.made ≤ 2 ^ 24
+    pub few : length outbox.made ≤ 2 ^ 26
 
   -- the lives of its runs
   abbrev pub lives : (G : Ghosts J) (sees : Sees S K D N C) (role : Role) (link : Link) → EndRan G sees role link → List Served

@@ -2,9 +2,9 @@
 -- stopped in an append; in the second, a next life, the initiator sends three bytes of its first message, the acceptor is given two, and the link fails.
 use Rattle.std.specs.Prelude.{◌≡◌, [], length}
 use Rattle.fixp_shake.specs.declared.config.Role.TheVariants.{Initiator, Acceptor}
-use Rattle.jr_record.specs.declared.journal.Journal.{Ghosts}
-use Rattle.jr_boxes.specs.declared.inbox.Inbox.{Inbox}
-use Rattle.jr_boxes.specs.Inbox.{HoldsBox}
+use Rattle.jr_dated.specs.declared.journal.Journal.{Ghosts}
+use Rattle.jr_kept.specs.declared.inbox.Inbox.{Inbox}
+use Rattle.jr_kept.specs.Inbox.{HoldsBox}
 use Rattle.run_laws.specs.Samples.{configured, config_text, memory, runs_of_initiator, runs_of_acceptor}
 use Rattle.run_laws.specs.TimedRuns.{EndRan, lives, legs_of}
 use Rattle.run_laws.specs.TimedLaws.{AreLinked}

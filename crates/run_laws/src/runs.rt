@@ -6,16 +6,16 @@ ghost use Rattle.run_laws.specs.Completeness.{FreshIsSetUp, RunCompletes};
 use cmd_session::SessionOutside;
 use gw_links::{Clock, Dialer};
 use gw_outside::{Disk, Sink, Source};
-use jr_log::LogJournal;
-use jr_record::Journal;
+use jr_dated::Journal;
+use jr_segments::SegJournal;
 
-/// What the clause of `run_session` leaves for a run over told devices that are in order, where no call of one failed: it lived
+/// What the clause of `run_session` leaves for a run over told devices that are in order, whose disks all tell, where no call failed: it lived
 /// over both disks, and ended by its connections, at a limit or for want of memory; or memory ran out before.
 pub fn run_completes<S: Source, K: Sink, D: Disk, N: Dialer, C: Clock>(
     before: &SessionOutside<S, K, D, N, C>,
     after: &SessionOutside<S, K, D, N, C>,
 )
-    ensures law { RunCompletes ⟦<LogJournal<D> as Journal>⟧ (sees S.Source K.Sink D.Disk N.Dialer N.Link.Link C.Clock) before.now after.now }
+    ensures law { RunCompletes ⟦<SegJournal<D> as Journal>⟧ (sees S.Source K.Sink D.Disk N.Dialer N.Link.Link C.Clock) before.now after.now }
 {}
 
 /// Journals without records and an INPUT without bytes are in order, with any CONFIG that spells a configuration.

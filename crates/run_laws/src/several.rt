@@ -9,49 +9,49 @@ ghost use Rattle.run_laws.specs.Standing.{ClosingsStand};
 
 use gw_links::{Clock, Dialer};
 use gw_outside::{Disk, Sink, Source};
-use jr_boxes::Inbox;
-use jr_log::LogJournal;
-use jr_record::Journal;
+use jr_dated::Journal;
+use jr_kept::Inbox;
+use jr_segments::SegJournal;
 
-/// Two ends ran, each any number of times: the inbox of each holds of the outbox of the other what its flow promises.
+/// Two ends ran, each any number of times, over disks that tell their content: the inbox of each holds of the outbox of the other what its flow promises.
 pub fn runs_hold<S: Source, K: Sink, D: Disk, N: Dialer, C: Clock>()
-    ensures law { RunsHold ⟦<LogJournal<D> as Journal>⟧ (sees S.Source K.Sink D.Disk N.Dialer N.Link.Link C.Clock) }
+    ensures law { RunsHold ⟦<SegJournal<D> as Journal>⟧ (sees S.Source K.Sink D.Disk N.Dialer N.Link.Link C.Clock) }
 {}
 
 /// Behind any runs of an end, whatever a stop leaves of its disks has a list of records.
 pub fn none_is_lost<S: Source, K: Sink, D: Disk, N: Dialer, C: Clock>()
-    ensures law { NoneIsLost ⟦<LogJournal<D> as Journal>⟧ (sees S.Source K.Sink D.Disk N.Dialer N.Link.Link C.Clock) }
+    ensures law { NoneIsLost ⟦<SegJournal<D> as Journal>⟧ (sees S.Source K.Sink D.Disk N.Dialer N.Link.Link C.Clock) }
 {}
 
 /// Behind any runs of an end, over INPUTs that are parts of one plan, the outbox holds each sender's messages once and in order, and
 /// where it has its finish, all that one of them had.
 pub fn senders_hold<S: Source, K: Sink, D: Disk, N: Dialer, C: Clock>()
-    ensures law { SendersHold ⟦<LogJournal<D> as Journal>⟧ (sees S.Source K.Sink D.Disk N.Dialer N.Link.Link C.Clock) }
+    ensures law { SendersHold ⟦<SegJournal<D> as Journal>⟧ (sees S.Source K.Sink D.Disk N.Dialer N.Link.Link C.Clock) }
 {}
 
 /// Behind any runs of an end, whatever INPUT each had, the outbox holds each sender's messages once and in order, each of which INPUT of one
 /// of them gave at its place; and where it has its finish, all that INPUT of one of them had.
 pub fn inputs_hold<S: Source, K: Sink, D: Disk, N: Dialer, C: Clock>()
-    ensures law { InputsHold ⟦<LogJournal<D> as Journal>⟧ (sees S.Source K.Sink D.Disk N.Dialer N.Link.Link C.Clock) }
+    ensures law { InputsHold ⟦<SegJournal<D> as Journal>⟧ (sees S.Source K.Sink D.Disk N.Dialer N.Link.Link C.Clock) }
 {}
 
-/// A run kept both journals, each by itself, or lived one life of the session model over them.
+/// A run over disks that tell their content kept both journals, each by itself, or lived one life of the session model over them.
 pub fn run_keeps<S: Source, K: Sink, D: Disk, N: Dialer, C: Clock>()
-    ensures law { RunKeeps ⟦<LogJournal<D> as Journal>⟧ (sees S.Source K.Sink D.Disk N.Dialer N.Link.Link C.Clock) }
+    ensures law { RunKeeps ⟦<SegJournal<D> as Journal>⟧ (sees S.Source K.Sink D.Disk N.Dialer N.Link.Link C.Clock) }
 {}
 
-/// Two ends meet all premises of `runs_hold`, each by two runs in memory: either is stopped in the midst of an append, and the link
-/// between them is cut.
+/// Two ends meet all premises of `runs_hold` on runs, each by two runs in memory: either is stopped in the midst of an append, and the
+/// link between them is cut.
 pub fn runs_sample<I: Journal>(empty: &Inbox<I>)
     ensures law { RunsSample empty.now }
 {}
 
 /// Behind any runs of an end, what each life closed on stands in the outbox: each message that was acknowledged, at its number.
 pub fn closings_stand<S: Source, K: Sink, D: Disk, N: Dialer, C: Clock>()
-    ensures law { ClosingsStand ⟦<LogJournal<D> as Journal>⟧ (sees S.Source K.Sink D.Disk N.Dialer N.Link.Link C.Clock) }
+    ensures law { ClosingsStand ⟦<SegJournal<D> as Journal>⟧ (sees S.Source K.Sink D.Disk N.Dialer N.Link.Link C.Clock) }
 {}
 
 /// Behind any runs of an end, whatever records a stop leaves of its disks are those of a history in order, and of a list.
 pub fn boxes_are_left<S: Source, K: Sink, D: Disk, N: Dialer, C: Clock>()
-    ensures law { BoxesAreLeft ⟦<LogJournal<D> as Journal>⟧ (sees S.Source K.Sink D.Disk N.Dialer N.Link.Link C.Clock) }
+    ensures law { BoxesAreLeft ⟦<SegJournal<D> as Journal>⟧ (sees S.Source K.Sink D.Disk N.Dialer N.Link.Link C.Clock) }
 {}

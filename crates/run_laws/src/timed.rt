@@ -8,35 +8,35 @@ ghost use Rattle.run_laws.specs.TimedSamples.{RunsInTimeSample};
 
 use gw_links::{Clock, Dialer};
 use gw_outside::{Disk, Sink, Source};
-use jr_boxes::Inbox;
-use jr_log::LogJournal;
-use jr_record::Journal;
+use jr_dated::Journal;
+use jr_kept::Inbox;
+use jr_segments::SegJournal;
 
 /// Of two lives that were served, whose links are linked in time and whose ends knew no more of each other than was sent, no connection
 /// that ended closed by a violation but silence and a late handshake, and the ends know no more of each other behind them, whatever
-/// the inboxes of this kind.
-pub fn served_holds<I: Journal>(inbox: &Inbox<I>)
-    ensures law { ServedHolds inbox.now }
+/// the inboxes of this kind, where the disks of the outboxes tell their content.
+pub fn served_holds<O: Journal, I: Journal>(inbox: &Inbox<I>)
+    ensures law { ServedHolds O.tells inbox.now }
 {}
 
 /// Two ends ran, each any number of times, by matching links: none of their connections that ended closed by a violation but silence
 /// and a late handshake, whichever call of a device failed and wherever they were stopped.
 pub fn runs_end_in_time<S: Source, K: Sink, D: Disk, N: Dialer, C: Clock>()
-    ensures law { RunsEndInTime ⟦<LogJournal<D> as Journal>⟧ (sees S.Source K.Sink D.Disk N.Dialer N.Link.Link C.Clock) }
+    ensures law { RunsEndInTime ⟦<SegJournal<D> as Journal>⟧ (sees S.Source K.Sink D.Disk N.Dialer N.Link.Link C.Clock) }
 {}
 
 /// Behind them an inbox that has the finish of its peer has all of the peer's outbox.
 pub fn finish_is_whole<S: Source, K: Sink, D: Disk, N: Dialer, C: Clock>()
-    ensures law { FinishIsWhole ⟦<LogJournal<D> as Journal>⟧ (sees S.Source K.Sink D.Disk N.Dialer N.Link.Link C.Clock) }
+    ensures law { FinishIsWhole ⟦<SegJournal<D> as Journal>⟧ (sees S.Source K.Sink D.Disk N.Dialer N.Link.Link C.Clock) }
 {}
 
 /// Where both ends were at rest as their last runs left them, quiet or with both finishes exchanged, each inbox has all of the other end's
 /// outbox.
 pub fn rest_is_whole<S: Source, K: Sink, D: Disk, N: Dialer, C: Clock>()
-    ensures law { RestIsWhole ⟦<LogJournal<D> as Journal>⟧ (sees S.Source K.Sink D.Disk N.Dialer N.Link.Link C.Clock) }
+    ensures law { RestIsWhole ⟦<SegJournal<D> as Journal>⟧ (sees S.Source K.Sink D.Disk N.Dialer N.Link.Link C.Clock) }
 {}
 
-/// Two runs of each of two ends in memory, the second of either a next life, meet all premises of `runs_end_in_time`.
+/// Two runs of each of two ends in memory, the second of either a next life, meet all premises of `runs_end_in_time` on runs.
 pub fn runs_in_time_sample<I: Journal>(empty: &Inbox<I>)
     ensures law { RunsInTimeSample empty.now }
 {}

@@ -13,6 +13,9 @@ const PIECE: usize = 32_768;
 /// The size of a journal's header in bytes.
 const HEADER: u64 = 16;
 
+/// The size of a record's moment in bytes.
+const MOMENT: usize = 8;
+
 /// The byte of a gate that is open: a record stands behind it.
 const OPEN: u8 = 1;
 
@@ -165,6 +168,8 @@ impl<'a, R: Files<File = File>> Records<'a, R> {
             return None;
         }
         let kind = self.byte()?;
+        // nothing is said of moments
+        self.number(MOMENT)?;
         let length = self.number(4)?;
         match kind {
             1 => {

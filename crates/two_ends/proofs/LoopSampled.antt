@@ -82,8 +82,10 @@ works_a = record {
     last = inr (inr (inr refl));
     broken = refl;
     link_over = refl;
-    again = refl;
-    live = refl;
+    due_again = refl;
+    due_live = refl;
+    again = tt;
+    live = (refl, tt);
     finish = refl;
     seen_again = same;
     seen_live = same;
@@ -105,6 +107,7 @@ of_a = record {
   turns = (refl, mid_a, nothing, (sends_a, refl), nothing, same, (refl, sent_in mid_a work_a, nothing, works_a, nothing, same, (refl, refl)));
   cut = tt;
   has = record { begins = prefix_self []; few = omega arith };
+  faithful = (tt, ((refl, refl), tt));
 }
 
 abbrev first_b : Line
@@ -123,8 +126,10 @@ works_b = record {
     last = inr (inr (inr refl));
     broken = refl;
     link_over = refl;
-    again = refl;
-    live = refl;
+    due_again = refl;
+    due_live = refl;
+    again = tt;
+    live = (refl, tt);
     finish = refl;
     seen_again = same;
     seen_live = same;
@@ -146,6 +151,7 @@ of_b = record {
   turns = (refl, sent_in first_b work_b, nothing, works_b, nothing, same, (refl, refl));
   cut = tt;
   has = record { begins = prefix_self []; few = omega arith };
+  faithful = ((refl, refl), tt);
 }
 
 -- the machine is in range, and what came on a connection

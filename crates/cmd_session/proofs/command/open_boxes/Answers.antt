@@ -1,5 +1,5 @@
 use Rattle.std.proofs.Common.{inl, inr, refl}
-use Rattle.jr_log.specs.Log.{disk_of}
+use Rattle.jr_segments.specs.Journal.{disk_of}
 use Rattle.cmd_session.proofs.Kept.{outbox_kept}
 use Rattle.cmd_session.proofs.command.open_boxes.Goals as goal
 

@@ -1,5 +1,5 @@
 use Rattle.std.proofs.Common.{inl, inr, refl}
-use Rattle.jr_log.specs.Log.{disk_of}
+use Rattle.jr_segments.specs.Journal.{disk_of}
 use Rattle.cmd_session.proofs.Kept.{inbox_kept}
 use Rattle.cmd_session.proofs.command.open_session.Goals as goal
 
@@ -21,3 +21,6 @@ returns-in-Err-plans_on-clause-refused g c =
 
 pub returns-in-Ok-plans_on-clause-opened : goal.returns-in-Ok-plans_on-clause-opened
 returns-in-Ok-plans_on-clause-opened g c = (c.in-Ok-plans_on.ensures.opened (g.D.Disk.told c.args.out_disk) c.in-Ok.ensures.opened.0, c.in-Ok.ensures.opened.1)
+
+pub returns-in-Ok-plans_on-clause-goes_on : goal.returns-in-Ok-plans_on-clause-goes_on
+returns-in-Ok-plans_on-clause-goes_on g c = c.in-Ok-plans_on.ensures.goes_on (g.D.Disk.told c.args.out_disk) c.in-Ok.ensures.opened.0

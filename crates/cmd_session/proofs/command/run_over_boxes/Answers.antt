@@ -1,4 +1,4 @@
-use Rattle.std.proofs.Common.{refl, inl, inr, ⊎_elim, subst}
+use Rattle.std.proofs.Common.{refl, inl, inr, ⊎_elim, subst, arith}
 use Rattle.gw_outside.specs.Faults.{HasRisen}
 use Rattle.cmd_session.specs.Outsides.{hears}
 use Rattle.cmd_session.proofs.Served.{lived_from}
@@ -17,7 +17,7 @@ returns-clause-lived g c =
       box_is = b.box_is;
       outbox_is = b.outbox_is;
     }))
-    (λ h. inr (lived_from (hears g.K.Sink g.N.Dialer g.N.Link.Link g.C.Clock) _ _ c.args.devices.now _ _ _ _ _ c.in-Ok.ensures.nothing h))
+    (λ h. inr (lived_from (hears g.K.Sink g.N.Dialer g.N.Link.Link g.C.Clock) _ _ c.args.devices.now _ _ _ _ _ _ c.in-Ok.ensures.nothing (omega arith) h))
     c.live.ensures.lived
 
 pub returns-clause-output : goal.returns-clause-output

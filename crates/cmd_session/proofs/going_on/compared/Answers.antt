@@ -1,60 +1,43 @@
-use Rattle.std.proofs.Common.{◌≡◌, ℕ, List, [], map, length, Some, None, Ok, sym, ap, ◌∙◌, subst}
-use Rattle.std.proofs.Math.Logic.{∥∥₁_elim}
-use Rattle.session_model.specs.Journal.{History}
+use Rattle.std.proofs.Common.{ℕ, List, map, length, Err, ap, subst}
 use Rattle.plan_values.specs.Plans.{payloads_of}
 use Rattle.plan_values.specs.declared.plan.Plan.{Plan}
 use Rattle.plan_outbox.specs.Behind.{GoesOnFrom, IsPastAt}
-use Rattle.jr_record.specs.Journals.{Holds}
-use Rattle.jr_boxes.specs.Outboxes.{records_of_history}
-use Rattle.jr_log.specs.Log.{StandsFor, MayLeave, disk_of, records_of}
-use Rattle.jr_log.specs.declared.log.LogJournal.{LogJournal}
-use Rattle.cmd_session.proofs.GoingOn.{none_wrong, past_told, if_ok, if_err, found_none, found_some}
-use Rattle.cmd_session.proofs.Kept.{outbox_kept}
+use Rattle.jr_segments.specs.Journal.{disk_of}
+use Rattle.cmd_session.proofs.GoingOn.{past_told, still_opens, found_none, found_some}
+use Rattle.cmd_session.proofs.Kept.{standing, outbox_kept}
 use Rattle.cmd_session.proofs.going_on.compared.Goals as goal
 
-pub opened_again-requires-clause-whole : goal.opened_again-requires-clause-whole
-opened_again-requires-clause-whole g c = λ at wrong.
-    let same = c.into_journal-journal.ensures.value in
-    ∥∥₁_elim (c.args.outbox.held c.requires.sound) (λ x y. absurd x)
-    (λ held. none_wrong (records_of c.into_journal-journal.result) held.0 at (ap (λ (j : LogJournal _ g.D.Disk). records_of j) same ∙ held.1.journal.stands_for) held.1.outbox wrong)
+pub returns-in-Ok-None-clause-goes_on : goal.returns-in-Ok-None-clause-goes_on
+returns-in-Ok-None-clause-goes_on g c = λ told o content is h stands.
+    let on = found_none c.in-Ok-None.field-0 _ c.in-Ok-None.field-0-is c.in-Ok-None.ensures.goes_on (o.is_told content is) h ((c.first_past.ensures.read.content.stands h).1 stands) in
+    subst (λ (ps : List Plan). GoesOnFrom (map payloads_of ps) h) c.as_slice-2.ensures.value on
 
-pub returns-in-None-clause-goes_on : goal.returns-in-None-clause-goes_on
-returns-in-None-clause-goes_on g c =
-    if_ok c.opened_again.result _ _
-    (λ box o h stands.
-    subst (λ (ps : List Plan). GoesOnFrom (map payloads_of ps) h) c.as_slice-2.ensures.value
-    (found_none c.in-Ok.past _ c.in-None.is c.in-Ok.ensures.goes_on h (c.records.ensures.records ∙ (o.outbox.spelled ∙ (sym o.stands.journal ∙ stands)))))
-    c.opened_again.ensures.opened
+pub returns-in-Ok-None-clause-opened : goal.returns-in-Ok-None-clause-opened
+returns-in-Ok-None-clause-opened g c = λ told o. still_opens told c.args.outbox c.first_past.new.outbox c.first_past.ensures.read o
 
-pub returns-in-None-clause-refused : goal.returns-in-None-clause-refused
-returns-in-None-clause-refused g c =
-    if_err c.opened_again.result _ _ (λ e refused input told read o. refused (length c.args.given.now.plans.items) input told) c.opened_again.ensures.refused
-
-pub returns-in-None-clause-kept : goal.returns-in-None-clause-kept
-returns-in-None-clause-kept g c =
-    let same = c.into_journal-journal.ensures.value in
-    if_err c.opened_again.result _ _
-    (λ e kept before o.
-    kept before (records_of_history o.history) o.told (subst (λ (j : LogJournal _ g.D.Disk). Holds StandsFor MayLeave j (records_of_history o.history) []) (sym same) o.holds.journal))
-    c.opened_again.ensures.kept
-
-pub returns-in-Some-clause-refused : goal.returns-in-Some-clause-refused
-returns-in-Some-clause-refused g c = λ input told read o.
-    let same = c.into_journal-journal.ensures.value in
+pub returns-in-Ok-Some-clause-refused : goal.returns-in-Ok-Some-clause-refused
+returns-in-Ok-Some-clause-refused g c = λ input told read o.
     let plans : List Plan = c.args.given.now.plans.items in
-    past_told c.records.result.now told input c.args.given.now.text.items (length plans) c.in-Some.line o.history o.told
-    (c.records.ensures.records ∙ (ap (λ (j : LogJournal _ g.D.Disk). records_of j) same ∙ o.holds.journal.stands_for)) read
-    (λ k is.
-    subst (λ (t : List ℕ). IsPastAt k (length plans) t c.in-Some.line) c.as_slice.ensures.value
-    (subst (λ (ps : List Plan). IsPastAt k (length ps) c.as_slice.result.now c.in-Some.line) c.as_slice-2.ensures.value
-    (found_some c.in-Ok.past c.in-Some.line _ c.in-Some.is c.in-Ok.ensures.past k is)))
+    let line : ℕ = c.in-Ok-Some.line in
+    let stands = standing c.args.outbox o.history o.holds in
+    past_told told input c.args.given.now.text.items (length plans) line o.history (o.told o.history stands) read (λ content is.
+    let past = found_some c.in-Ok-Some.field-0 line _ c.in-Ok-Some.field-0-is c.in-Ok-Some.ensures.past (o.is_told content is) o.history stands in
+    subst (λ (t : List ℕ). IsPastAt o.history (length plans) t line) c.as_slice.ensures.value
+    (subst (λ (ps : List Plan). IsPastAt o.history (length ps) c.as_slice.result.now line) c.as_slice-2.ensures.value past))
 
-pub returns-in-Some-clause-kept : goal.returns-in-Some-clause-kept
-returns-in-Some-clause-kept g c = λ before o.
-    let same = c.into_journal-journal.ensures.value in
-    outbox_kept g.D.Disk.told g.D.Disk.may_leave (disk_of {G = g.D.Disk}) c.args.outbox before _ o (λ image h. h) (c.close-in-Some.ensures ∙ ap (λ (j : LogJournal _ g.D.Disk). disk_of j) same)
+pub returns-in-Ok-Some-clause-kept : goal.returns-in-Ok-Some-clause-kept
+returns-in-Ok-Some-clause-kept g c = λ before o.
+    let read = c.first_past.new.outbox in
+    outbox_kept g.D.Disk.told g.D.Disk.may_leave (disk_of {G = g.D.Disk}) read before _ (still_opens (g.D.Disk.told before) c.args.outbox read c.first_past.ensures.read o) (λ image h. h) c.close_outbox.ensures.disk
 
 pub returns-in-Err-clause-kept : goal.returns-in-Err-clause-kept
 returns-in-Err-clause-kept g c = λ before o.
-    let same = c.into_journal-journal.ensures.value in
-    outbox_kept g.D.Disk.told g.D.Disk.may_leave (disk_of {G = g.D.Disk}) c.args.outbox before _ o (λ image h. h) (c.close.ensures ∙ ap (λ (j : LogJournal _ g.D.Disk). disk_of j) same)
+    let read = c.first_past.new.outbox in
+    outbox_kept g.D.Disk.told g.D.Disk.may_leave (disk_of {G = g.D.Disk}) read before _ (still_opens (g.D.Disk.told before) c.args.outbox read c.first_past.ensures.read o) (λ image h. h) c.close_outbox-in-Err.ensures.disk
+
+pub returns-in-Err-clause-refused : goal.returns-in-Err-clause-refused
+returns-in-Err-clause-refused g c = λ input told read o.
+    c.not_read.ensures.refused (length c.args.given.now.plans.items) input told (λ at is content there. c.in-Err.ensures.changed at (ap (λ f. Err f) is) (o.is_told content there))
+
+pub not_read-requires : goal.not_read-requires
+not_read-requires g c = record { sound = λ is. c.in-Err.ensures.whole (ap (λ f. Err f) is) }

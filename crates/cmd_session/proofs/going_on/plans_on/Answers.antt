@@ -1,5 +1,5 @@
 use Rattle.std.proofs.Common.{ℕ, inr, refl, sym, ◌∙◌, subst}
-use Rattle.jr_log.specs.Log.{disk_of}
+use Rattle.jr_segments.specs.Journal.{disk_of}
 use Rattle.cmd_session.specs.Inputs.{RefusesPlans}
 use Rattle.cmd_session.proofs.Kept.{outbox_kept}
 use Rattle.cmd_session.proofs.Over.{risen_over}

@@ -1,7 +1,6 @@
 use Rattle.std.proofs.Common.{◌∙◌, inl, inr, refl, subst, arith}
-use Rattle.jr_log.specs.Behind.{few_records}
 use Rattle.life_laws.proofs.Boxes.{lived_boxes}
-use Rattle.jr_boxes.specs.Outbox.{faults_of, is_broken}
+use Rattle.jr_kept.specs.Outbox.{faults_of, is_broken}
 use Rattle.gate_turn.specs.Rule.{In, Sound}
 use Rattle.gate_turn.specs.Listed.{known_at}
 use Rattle.gate_senders.specs.Kept.{account}
@@ -22,7 +21,7 @@ returns-clause-lived g c =
     inr (record {
       result = c.serve_seated-answer.result;
       status_is = c.status_of.ensures.value;
-      boxes = lived_boxes _ _ _ _ _ _ _ _ _ _ _ _ _ _ c.in-Ok-made_gate.ensures.opened c.requires.sound c.requires.in_sound c.close.ensures.closed (omega (arith, c.close.result.within.all, few_records j.records.items j.size j.sized j.small)) c.serve_seated-answer.ensures.served;
+      boxes = lived_boxes _ _ _ _ _ _ _ _ _ _ _ _ _ _ c.in-Ok-made_gate.ensures.opened c.requires.sound c.requires.in_sound c.close.ensures.closed (omega (arith, c.close.result.within.all, j.counted, j.small)) c.serve_seated-answer.ensures.served;
     })
 
 pub returns-in_default-clause-lived : goal.returns-in_default-clause-lived

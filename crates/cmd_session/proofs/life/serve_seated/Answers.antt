@@ -46,4 +46,4 @@ returns-clause-served g c =
     (subst (λ (k : ℕ). Seated gate served.new.senders.items (k + 1)) (served.ensures.count ∙ (c.count_done.ensures.count ∙ (c.seat-senders.ensures.count ∙ same))) served.ensures.seated)
     c.unseat.ensures.theirs (subst (λ (k : ℕ). pass_at c.give_last.new.passes (k + 1) ≡ Some served.new.pass) (c.len-count.ensures ∙ same) c.give_last.ensures.there)
     (of_made, part ∙ ap (λ (k : ℕ). new_part (k + 1) of_made (opening_of gate)) same) served.ensures.looks refl (λ e. c.take_last-pass.ensures.first (c.len-count.ensures ∙ (same ∙ e)))
-    (clocked g.N.Link.Link (g.C.Clock.last c.args.clock.now) (g.C.Clock.last served.new.clock)) _ _ _ _ _ _ _ _ _ _ _ _ served.ensures.through (λ u some. served.ensures.marked u (omega (arith, some, counted.ok.0))) served.ensures.limits
+    (clocked g.O.Journal.tells g.N.Link.Link (g.C.Clock.last c.args.clock.now) (g.C.Clock.last served.new.clock)) _ _ _ _ _ _ _ _ _ _ _ _ served.ensures.through (λ u some. served.ensures.marked u (omega (arith, some, counted.ok.0))) served.ensures.limits

@@ -2,4 +2,4 @@ use Rattle.life_laws.proofs.Loops.{served_keeps}
 use Rattle.life_laws.proofs.lives.served_keeps.Goals as goal
 
 pub returns : goal.returns
-returns c args = record { law = served_keeps args.args.inbox.now }
+returns g c = record { law = served_keeps g.O.Journal.tells c.args.inbox.now }
