@@ -1,5 +1,5 @@
 -- What OUT was given behind its beginning, which gives nothing.
-use Rattle.std.proofs.Common.{◌≡◌, ◌⊎◌, inl, inr, ℕ, List, [], ◌++◌, take, Option, Some, None, refl, ◌∙◌, append-nil}
+use Rattle.std.proofs.Common.{◌⊎◌, inl, inr, ℕ, List, [], take, Option, Some, None, refl, ◌∙◌, append-nil}
 use Rattle.std.specs.Io.KnownBytes.{Appends, Keeps}
 use Rattle.std.proofs.KnownBytes.{Appends-trans}
 use Rattle.gw_outside.specs.Faults.{TakesFront}

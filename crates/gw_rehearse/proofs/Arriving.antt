@@ -8,8 +8,8 @@ use Rattle.session_model.specs.Growth.{AppliesPrefix}
 use Rattle.fixp_msgs.specs.declared.flow.Flow.{Flow}
 use Rattle.fixp_msgs.specs.declared.flow.Flow.TheVariants as flows
 use Rattle.jr_boxes.proofs.Kept.{length-places}
-use Rattle.jr_boxes.specs.Inbox as inboxes
-use Rattle.jr_boxes.specs.Outbox as outboxes
+use Rattle.jr_kept.specs.Inbox as inboxes
+use Rattle.jr_kept.specs.Outbox as outboxes
 use Rattle.two_ends.specs.Meeting.{Holds}
 use Rattle.gw_rehearse.specs.declared.journals.Journals.{Journals}
 use Rattle.gw_rehearse.specs.declared.rehearsal.Rehearsal.{Rehearsal}

@@ -8,12 +8,12 @@ use Rattle.session_model.specs.Inbox.{InboxRecord}
 use Rattle.fixp_msgs.specs.Payload.{IsApplication}
 use Rattle.fixp_msgs.specs.declared.flow.Flow.{Flow}
 use Rattle.fixp_machine.specs.Machine.{State}
-use Rattle.jr_record.specs.declared.journal.Journal.{Ghosts}
+use Rattle.jr_dated.specs.declared.journal.Journal.{Ghosts}
 use Rattle.jr_boxes.specs.Outboxes.{mark_of, outbox_of}
-use Rattle.jr_boxes.specs.declared.outbox.Outbox.{Outbox}
-use Rattle.jr_boxes.specs.Outbox as outboxes
-use Rattle.jr_boxes.specs.declared.inbox.Inbox.{Inbox}
-use Rattle.jr_boxes.specs.Inbox as inboxes
+use Rattle.jr_kept.specs.declared.outbox.Outbox.{Outbox}
+use Rattle.jr_kept.specs.Outbox as outboxes
+use Rattle.jr_kept.specs.declared.inbox.Inbox.{Inbox}
+use Rattle.jr_kept.specs.Inbox as inboxes
 use Rattle.gate_turn.specs.Places.{known}
 use Rattle.gw_link_fakes.specs.Pipes.{Held}
 use Rattle.turn_laws.specs.Standing.{Has}
@@ -121,7 +121,7 @@ driven own peer m legs e j c began o s =
 
 -- an inbox that holds a list stands for it
 holds_stands : {J : Type 0} {G : Ghosts J} (box : Inbox J G) (i : List InboxRecord) → inboxes.HoldsBox box i [] → inboxes.StandsFor box i
-holds_stands box i held = record { journal = held.journal.stands_for; inbox = held.inbox; noticed = held.noticed }
+holds_stands box i held = record { dated = held.dated; bare = held.bare; journal = held.journal.stands_for; inbox = held.inbox; noticed = held.noticed }
 
 kept : (client server : Flow) (i a : DrivenEnd) (j k : Journals) (c : ClosedOn i j) (d : ClosedOn a k) → BothOver client server i a → outboxes.StandsFor j.outbox c.history → outboxes.StandsFor k.outbox d.history
     → KeepsSession client server j k

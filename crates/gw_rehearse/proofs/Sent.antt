@@ -6,9 +6,9 @@ use Rattle.std.proofs.Math.Seq.{take-suc}
 use Rattle.std.proofs.Math.Logic.{∥∥₁_elim}
 use native.Mathlib.Nat.{ℕ_set}
 use Rattle.session_model.specs.Journal.{entries_of, BeginsHistory}
-use Rattle.jr_record.specs.declared.journal.Journal.{Ghosts}
-use Rattle.jr_boxes.specs.declared.outbox.Outbox.{Outbox}
-use Rattle.jr_boxes.specs.Outbox.{mine_of}
+use Rattle.jr_dated.specs.declared.journal.Journal.{Ghosts}
+use Rattle.jr_kept.specs.declared.outbox.Outbox.{Outbox}
+use Rattle.jr_kept.specs.Outbox.{mine_of}
 use Rattle.gate_turn.specs.Views.{Part}
 use Rattle.gate_turn.specs.Places.{known}
 use Rattle.gate_turn.specs.Listed.{pass_at, known_if, known_at}

@@ -1,10 +1,11 @@
 -- What is known of an end over the connections that it had, behind each of its calls.
 use Rattle.std.proofs.Common.{◌≡◌, ◌≤◌, ◌^◌, ℕ, false, Bool, List, [], ◌∷◌, ◌++◌, length, Option, Some, None, refl, sym, ap, subst, ◌∙◌, append-nil, arith, true≢false}
+use Rattle.std.specs.Prelude.{⊤}
 use Rattle.gw_links.specs.Links.{LinkTold, Steps}
 use Rattle.session_model.specs.Inbox.{InboxRecord}
 use Rattle.fixp_machine.specs.Machine.{State, fresh}
 use Rattle.fixp_shake.specs.declared.config.EndConfig.{EndConfig}
-use Rattle.jr_boxes.specs.Inbox.{HoldsBox, next_of}
+use Rattle.jr_kept.specs.Inbox.{HoldsBox, next_of}
 use Rattle.gate_turn.specs.Places.{known}
 use Rattle.gate_turn.specs.Views.{Part}
 use Rattle.connection_laws.specs.Ranges.{IsInTime, IsInRange}
@@ -52,12 +53,12 @@ begun m legs e e' now time going line pass box k =
 -- it goes on by a turn
 pub turned : (m : State) (past : List TurnedLeg) (leg : TurnedLeg) (e e' : DrivenEnd) (eager : Bool) (before after : ℕ) (told told' : Option LinkTold) (carried carried' : _) (news : List NewsItem)
     → IsFirst m → e.standing ≡ standings.Open → (line_of e.conn).machine.ending ≡ None → Looks (known e.pass) (known e'.pass)
-    → WasTurn eager before after (live_end told carried (known e.pass).seen (line_of e.conn) e.inbox []) (live_end told' carried' (known e'.pass).seen (line_of e'.conn) e'.inbox news)
+    → WasTurn ⊤ eager before after (live_end told carried (known e.pass).seen (line_of e.conn) e.inbox []) (live_end told' carried' (known e'.pass).seen (line_of e'.conn) e'.inbox news)
     → RunsOver m past leg e → TurnedOn m past leg e' told told'
 turned m past leg e e' eager before after told told' carried carried' news first going unended looks w k =
     let inbox : List InboxRecord = k.inbox ++ adds_in (line_of e.conn) w.turn in
     let later : TurnedLeg = with_turn leg w.turn in
-    let at : During m past later (now_of e' inbox) = turn_goes_on m past leg (now_of e k.inbox) (now_of e' inbox) w.turn first (k.during going) unended looks.seen.made w.made.is w.timely refl in
+    let at : During m past later (now_of e' inbox) = turn_goes_on m past leg (now_of e k.inbox) (now_of e' inbox) w.turn first (k.during going) unended looks.seen.made w.made.is (w.faithful tt) w.timely refl in
     record {
       later = later;
       given = given_in w.turn;

@@ -2,7 +2,7 @@
 use Rattle.std.proofs.Common.{◌≡◌, ℕ, true, false, ◌||◌, if◌then◌else◌, Bool, List, [], ◌∷◌, ◌++◌, Option, Some, None, refl, sym, ap, subst, ◌∙◌, true≢false}
 use Rattle.std.proofs.Math.Logic.{∥∥₁_map}
 use Rattle.session_model.specs.Inbox.{InboxRecord}
-use Rattle.jr_boxes.specs.Inbox.{HoldsBox}
+use Rattle.jr_kept.specs.Inbox.{HoldsBox}
 use Rattle.gate_turn.specs.Places.{known}
 use Rattle.conn_loop.specs.Conn.{line_of}
 use Rattle.std.proofs.lemmas.List.Elements.{AllZip-push}

@@ -7,8 +7,8 @@ use Rattle.fixp_msgs.specs.declared.flow.Flow.{Flow}
 use Rattle.fixp_shake.specs.declared.config.EndConfig.{EndConfig}
 use Rattle.fixp_replies.specs.declared.facts.EndState.{EndState}
 use Rattle.fixp_machine.specs.Machine.{State, fresh}
-use Rattle.jr_boxes.specs.Inbox.{HoldsBox}
-use Rattle.jr_boxes.specs.Outbox as outboxes
+use Rattle.jr_kept.specs.Inbox.{HoldsBox}
+use Rattle.jr_kept.specs.Outbox as outboxes
 use Rattle.gate_turn.specs.Places.{known}
 use Rattle.connection_laws.specs.Ranges.{IsInRange}
 use Rattle.conn_loop.specs.Conn.{line_of, new_line}

@@ -2,9 +2,9 @@
 use Rattle.std.specs.Prelude.{◌≡◌, ℕ, zero, suc, ◌+◌, ◌-◌, List, [], ◌∷◌, ◌++◌, length}
 use Rattle.session_model.specs.Journal.{History, entries_of}
 use Rattle.session_model.specs.Inbox.{InboxRecord, applied, next_number}
-use Rattle.jr_record.specs.declared.journal.Journal.{Ghosts}
-use Rattle.jr_boxes.specs.declared.outbox.Outbox.{Outbox}
-use Rattle.jr_boxes.specs.Outbox.{mine_of}
+use Rattle.jr_dated.specs.declared.journal.Journal.{Ghosts}
+use Rattle.jr_kept.specs.declared.outbox.Outbox.{Outbox}
+use Rattle.jr_kept.specs.Outbox.{mine_of}
 use Rattle.gw_rehearse.specs.declared.rehearsal.Rehearsal.{Rehearsal}
 use Rattle.gw_rehearse.specs.declared.summary.EndSummary.{EndSummary}
 

@@ -6,8 +6,8 @@ use Rattle.session_model.specs.Inbox.{InboxRecord, applied, skips, payloads_of, 
 use Rattle.fixp_msgs.specs.declared.flow.Flow.{Flow}
 use Rattle.fixp_msgs.specs.declared.flow.Flow.TheVariants as flows
 use Rattle.fixp_machine.specs.Machine.{State}
-use Rattle.jr_boxes.specs.Inbox as inboxes
-use Rattle.jr_boxes.specs.Outbox as outboxes
+use Rattle.jr_kept.specs.Inbox as inboxes
+use Rattle.jr_kept.specs.Outbox as outboxes
 use Rattle.gw_link_fakes.specs.Pipes.{Held}
 use Rattle.turn_laws.specs.Legs.{TurnedLeg}
 use Rattle.two_ends.specs.Meeting.{Holds}

@@ -3,7 +3,7 @@
 ghost use Rattle.std.specs.Prelude.{◌≡◌, ℕ, ◌+◌, ◌≤◌, ◌<◌, ◌^◌, All, List, [], ◌∷◌, ◌++◌, length, vec_len, false, if◌then◌else◌, Some, None, IfOk, IfSome, IsTrue};
 ghost use Rattle.fixp_machine.specs.Machine.{State, fresh};
 ghost use Rattle.session_model.specs.Journal.{BeginsHistory};
-ghost use Rattle.jr_boxes.specs.Inbox.{HoldsBox, flow_of, limits_of, next_of, is_negotiated, peer_last_of};
+ghost use Rattle.jr_kept.specs.Inbox.{HoldsBox, flow_of, limits_of, next_of, is_negotiated, peer_last_of};
 ghost use Rattle.gate_turn.specs.Views.{Part};
 ghost use Rattle.gate_senders.specs.Gate.{opening_of};
 ghost use Rattle.conn_loop.specs.Conn.{line_of, new_line};
@@ -26,7 +26,7 @@ use gate_senders::{Gate, Kept};
 use gate_turn::{Pass, Passes};
 use gw_link_fakes::MemClock;
 use gw_links::Link;
-use jr_boxes::Inbox;
+use jr_kept::Inbox;
 use plan_values::Plan;
 use std::alloc::{AllocError, Global};
 use std::sync::Wait;

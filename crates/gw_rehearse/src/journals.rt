@@ -2,23 +2,23 @@
 
 ghost use Rattle.std.specs.Prelude.{◌≡◌, ◌+◌, ◌<◌, ◌≤◌, ◌^◌, false, [], IfSome};
 ghost use Rattle.gw_fakes.specs.MemDisks.{state_of};
-ghost use Rattle.jr_record.specs.Images.{IsJournal};
-ghost use Rattle.jr_record.specs.Journals.{Holds};
-ghost use Rattle.jr_log.specs.Log.{MayLeave, StandsFor, broken_of, limits_of};
-ghost use Rattle.jr_boxes.specs.Outbox as outboxes;
-ghost use Rattle.jr_boxes.specs.Inbox as inboxes;
+ghost use Rattle.jr_dated.specs.Images.{IsJournal};
+ghost use Rattle.jr_dated.specs.Journals.{Holds};
+ghost use Rattle.jr_segments.specs.Journal.{MayLeave, StandsFor, broken_of, limits_of};
+ghost use Rattle.jr_kept.specs.Outbox as outboxes;
+ghost use Rattle.jr_kept.specs.Inbox as inboxes;
 
 use fixp_msgs::Flow;
 use gw_fakes::MemDisk;
-use jr_boxes::{Inbox, Outbox};
-use jr_log::{LogJournal, format};
-use jr_record::{Limits, one_verdict};
+use jr_dated::{Limits, one_dated_verdict};
+use jr_kept::{Inbox, Outbox};
+use jr_segments::{SegJournal, format};
 use std::alloc::Global;
 
 /// A journal on a disk in memory.
-pub type Log = LogJournal<MemDisk>;
+pub type Log = SegJournal<MemDisk>;
 
-/// The greatest number of an application message.
+/// The greatest number of an application message here.
 pub(crate) const MOST: u64 = 1 << 24;
 
 /// The room of a disk, in bytes.
@@ -55,9 +55,9 @@ fn new_journal(alloc: Global, limits: Limits) -> Option<Log>
     ensures limits { IfSome result (λ j. limits_of j ≡ limits) }
 {
     // A disk has one list of records at most.
-    one_verdict();
+    one_dated_verdict();
     let disk = formatted(alloc)?;
-    LogJournal::open(alloc, disk, limits).ok()
+    SegJournal::open(alloc, disk, limits).ok()
 }
 
 /// An outbox without entries; none where memory runs out.

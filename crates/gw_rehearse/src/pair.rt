@@ -2,7 +2,7 @@
 
 ghost use Rattle.std.specs.Prelude.{◌≡◌, ◌≤◌, ◌||◌, All, length, false, if◌then◌else◌, None, Some, IfOk, IfSome, IsTrue, OnErr, OnOk};
 ghost use Rattle.fixp_msgs.specs.declared.flow.Flow.{Flow};
-ghost use Rattle.jr_boxes.specs.Inbox.{flow_of, next_of};
+ghost use Rattle.jr_kept.specs.Inbox.{flow_of, next_of};
 ghost use Rattle.gw_link_fakes.specs.Pipes.{told_at};
 ghost use Rattle.gw_link_fakes.specs.declared.pipe.Side.TheVariants.{Left, Right};
 ghost use Rattle.cmd_config.specs.Settings.{own_flow, peer_flow};

@@ -10,7 +10,7 @@ use crate::journals::Log;
 use crate::payloads::message_of;
 use gate_plans::{OpenDoor, Plan, Sender, count_done, run_seated};
 use gate_senders::Gate;
-use jr_boxes::CloseFault;
+use jr_kept::CloseFault;
 use std::alloc::{AllocError, Global};
 use std::sync::Wait;
 use std::thread::Threads;

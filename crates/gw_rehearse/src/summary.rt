@@ -3,13 +3,13 @@
 ghost use Rattle.std.specs.Prelude.{◌≡◌, ◌≤◌, List, length, IfOk};
 ghost use Rattle.session_model.specs.Journal.{History};
 ghost use Rattle.session_model.specs.Inbox.{InboxRecord};
-ghost use Rattle.jr_boxes.specs.Outbox as outboxes;
-ghost use Rattle.jr_boxes.specs.Inbox as inboxes;
+ghost use Rattle.jr_kept.specs.Outbox as outboxes;
+ghost use Rattle.jr_kept.specs.Inbox as inboxes;
 ghost use Rattle.gw_rehearse.specs.Summaries.{IsSummaryOf, counts_to, entries_to};
 
 use crate::journals::{Journals, Log};
 use cmd_script::Counts;
-use jr_boxes::Outbox;
+use jr_kept::Outbox;
 use std::alloc::{AllocError, Global};
 
 /// What the journals of an end hold.

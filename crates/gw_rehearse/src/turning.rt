@@ -1,12 +1,12 @@
 //! One turn, and where the end stands behind it.
 
-ghost use Rattle.std.specs.Prelude.{◌≡◌, ◌+◌, ◌<◌, ◌^◌, [], false};
+ghost use Rattle.std.specs.Prelude.{◌≡◌, ◌+◌, ◌<◌, ◌^◌, [], false, ⊤};
 ghost use Rattle.gate_turn.specs.Places.{known};
 ghost use Rattle.gate_turn.specs.Calls.{IsFree};
 ghost use Rattle.gate_senders.specs.Gate.{IsPassAt};
 ghost use Rattle.conn_steps.specs.Agreeing.{Agrees};
 ghost use Rattle.conn_turns.specs.News.{items_of};
-ghost use Rattle.jr_boxes.specs.Inbox.{flow_of};
+ghost use Rattle.jr_kept.specs.Inbox.{flow_of};
 ghost use Rattle.conn_loop.specs.Conn.{line_of, GoesOn, HasSeen, Looks};
 ghost use Rattle.conn_loop.specs.Live.{live_end};
 ghost use Rattle.turn_laws.specs.Turned.{WasTurn};
@@ -19,7 +19,7 @@ use gate_senders::{Gate, Kept};
 use gate_turn::Pass;
 use gw_link_fakes::MemClock;
 use gw_links::Link;
-use jr_boxes::Inbox;
+use jr_kept::Inbox;
 use std::sync::Wait;
 
 /// Makes a turn, and answers where the end stands then.
@@ -42,7 +42,7 @@ pub(crate) fn make_turn<L: Link, R: Wait>(
     ensures own { IsPassAt gate.now pass.new }
     ensures free { IsFree pass.new }
     ensures looks { Looks (known pass.old) (known pass.new) }
-    ensures whole { is_given result ≡ false → WasTurn L.eager clock.old clock.new (live_end (L.told link.old) (L.carried link.old) (known pass.old).seen (line_of conn.old) inbox.old []) (live_end (L.told link.new) (L.carried link.new) (known pass.new).seen (line_of conn.new) inbox.new (items_of news.new)) }
+    ensures whole { is_given result ≡ false → WasTurn ⊤ L.eager clock.old clock.new (live_end (L.told link.old) (L.carried link.old) (known pass.old).seen (line_of conn.old) inbox.old []) (live_end (L.told link.new) (L.carried link.new) (known pass.new).seen (line_of conn.new) inbox.new (items_of news.new)) }
     ensures flow { flow_of inbox.new ≡ flow_of inbox.old }
     ensures place { L.place link.new ≡ L.place link.old }
     ensures number { (known pass.new).number ≡ (known pass.old).number }

@@ -1,6 +1,6 @@
 use Rattle.std.proofs.Common.{◌≡◌, length}
 use Rattle.session_model.specs.Journal.{History}
-use Rattle.jr_boxes.specs.Outbox as outboxes
+use Rattle.jr_kept.specs.Outbox as outboxes
 use Rattle.gw_rehearse.specs.Summaries.{counts_to, entries_to}
 use Rattle.gw_rehearse.proofs.summary.entries_of.Given as goal
 

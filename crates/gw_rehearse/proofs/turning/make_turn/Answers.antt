@@ -1,10 +1,10 @@
-use Rattle.std.proofs.Common.{◌+◌, [], is_some, sym, ap, subst}
+use Rattle.std.proofs.Common.{◌+◌, [], is_some, refl, sym, ap, subst}
 use Rattle.std.proofs.lemmas.Result.{on_ok_weaker}
 use Rattle.gate_turn.specs.Places.{known}
 use Rattle.conn_loop.specs.Conn.{line_of}
 use Rattle.conn_loop.specs.Live.{live_end}
 use Rattle.gw_rehearse.specs.Standing.{Stands}
-use Rattle.gw_rehearse.proofs.Driving.{turn_place, stands_behind, whole_behind}
+use Rattle.gw_rehearse.proofs.Driving.{turn_place, told_turn, stands_behind, whole_behind}
 use Rattle.turn_laws.proofs.Repacking.{turn_is_one}
 use Rattle.gw_rehearse.proofs.turning.make_turn.Goals as goal
 
@@ -13,11 +13,13 @@ returns-clause-stands g c =
     let e = c.turn.ensures in
     subst (λ s. Stands s (line_of c.turn.new.self) ((line_of c.args.conn.now).place + 262240) (known c.turn.new.pass) c.turn.new.inbox) (sym c.behind.ensures)
     (stands_behind c.turn.result (line_of c.turn.new.self) ((line_of c.args.conn.now).place + 262240) (known c.turn.new.pass) c.turn.new.inbox
-    (on_ok_weaker c.turn.result (turn_place _ _ (live_end _ _ _ (line_of c.args.conn.now) c.args.inbox.now []) (live_end _ _ _ (line_of c.turn.new.self) c.turn.new.inbox _) c.turn.result) e.did)
+    (on_ok_weaker c.turn.result (turn_place _ _ _ (live_end _ _ _ (line_of c.args.conn.now) c.args.inbox.now []) (live_end _ _ _ (line_of c.turn.new.self) c.turn.new.inbox _) c.turn.result) e.did)
     e.goes e.leaves e.leaves_lost e.answer (λ lost. ap is_some (e.ended_lost lost)))
 
 pub returns-clause-whole : goal.returns-clause-whole
 returns-clause-whole g c =
     let e = c.turn.ensures in
-    let one = turn_is_one c.args.inbox.now _ _ _ (live_end _ _ (known c.args.pass.now).seen (line_of c.args.conn.now) c.args.inbox.now []) (live_end _ _ (known c.turn.new.pass).seen (line_of c.turn.new.self) c.turn.new.inbox _) c.turn.result in
-    λ sound. whole_behind _ c.turn.result c.behind.result c.behind.ensures (on_ok_weaker c.turn.result (one e.limit e.ticks) e.did) (λ lost. one e.limit e.ticks (e.lost lost)) sound
+    let one = turn_is_one _ c.args.inbox.now _ _ _ (live_end _ _ (known c.args.pass.now).seen (line_of c.args.conn.now) c.args.inbox.now []) (live_end _ _ (known c.turn.new.pass).seen (line_of c.turn.new.self) c.turn.new.inbox _) c.turn.result in
+    λ sound.
+    told_turn _ _ _ _ _ _ (whole_behind _ c.turn.result c.behind.result c.behind.ensures (on_ok_weaker c.turn.result (one e.limit e.ticks) e.did) (λ lost. one e.limit e.ticks (e.lost lost)) sound)
+    (λ disk. refl)

@@ -1,5 +1,6 @@
-use Rattle.std.proofs.Common.{ℕ, ◌+◌, refl, sym, ◌∙◌, subst, arith}
-use Rattle.jr_log.specs.Behind.{few_records}
+use Rattle.std.proofs.Common.{ℕ, ◌+◌, length, refl, sym, ◌∙◌, subst, arith}
+use Rattle.jr_segments.specs.Lawful.{few_by}
+use Rattle.jr_segments.specs.Numbers.{numbers_of}
 use Rattle.gate_senders.proofs.Keeping.{keeps_stands}
 use Rattle.gate_plans.specs.Seats.{Seated}
 use Rattle.gw_rehearse.proofs.Sent.{sent_back, last_found}
@@ -23,7 +24,7 @@ returns-clause-closed c =
     record {
       history = closed.history;
       stands = keeps_stands c.close.result closed.history closed.refused closed.holds;
-      few = omega (arith, c.close.result.within.all, few_records j.records.items j.size j.sized j.small);
+      few = omega (arith, c.close.result.within.all, few_by (length (numbers_of j.places)) j.size j.counted j.small);
       seen = last_found c.args.self.gate c.give_last.new.passes c.unseat.new.passes senders.items c.len-count.result c.close.result c.args.self.pass (count ∙ senders.ok.0)
           (subst (λ (k : ℕ). Seated c.args.self.gate senders.items (k + 1)) (sym count) seats.seated) (λ none. seats.first (sym count ∙ none)) c.give_last.ensures.there c.unseat.ensures.theirs closed;
       inbox = refl;
