@@ -11,9 +11,9 @@ use Rattle.std.proofs.lemmas.Bool.{false≢true}
 use Rattle.fixp_replies.specs.declared.act.Ending.{Ending}
 use Rattle.fixp_replies.specs.Events.{link_ending}
 use Rattle.fixp_machine.specs.Machine.{State, around, step, taken, fresh}
-use Rattle.jr_record.specs.declared.journal.Journal.{Ghosts}
-use Rattle.jr_boxes.specs.declared.inbox.Inbox.{Inbox}
-use Rattle.jr_boxes.specs.Inbox.{flow_of, limits_of, next_of, is_negotiated, peer_last_of}
+use Rattle.jr_dated.specs.declared.journal.Journal.{Ghosts}
+use Rattle.jr_kept.specs.declared.inbox.Inbox.{Inbox}
+use Rattle.jr_kept.specs.Inbox.{flow_of, limits_of, next_of, is_negotiated, peer_last_of}
 use Rattle.gate_turn.specs.Views.{Part}
 use Rattle.gate_turn.specs.Places.{known}
 use Rattle.gate_turn.specs.Listed.{pass_at, known_if, known_at}
@@ -137,14 +137,14 @@ module _ {J : Type 0} {G : Ghosts J} where
   rests m p box some l = record { over = λ _. some; time = l.time; sent = l.sent; credentials = l.credentials; seen = l.seen; agrees = l.agrees }
 
   -- a turn moves the place by the bytes of at most 16 frames
-  worked_place : (now : ℕ) (eager : Bool) (old new : EndAt J G) (result : Result TurnEnd TurnFault) → Exchanged now eager old new result → new.line.place ≤ old.line.place + 262240
-  worked_place now eager old new result (inl w) =
+  worked_place : (tells : Type 0) (now : ℕ) (eager : Bool) (old new : EndAt J G) (result : Result TurnEnd TurnFault) → Exchanged tells now eager old new result → new.line.place ≤ old.line.place + 262240
+  worked_place tells now eager old new result (inl w) =
       omega (arith, ap (λ (x : Line). x.place) w.line, w.served.place, frames_place w.work.now _ w.work.frames w.served.frames, w.served.few)
-  worked_place now eager old new result (inr z) = omega (arith, ap (λ (x : Line). x.place) z.line)
+  worked_place tells now eager old new result (inr z) = omega (arith, ap (λ (x : Line). x.place) z.line)
 
-  pub turn_place : (now : ℕ) (eager : Bool) (old new : EndAt J G) (result : Result TurnEnd TurnFault) → DidTurn now eager old new result → new.line.place ≤ old.line.place + 262240
-  turn_place now eager old new result (inl x) = omega (arith, ap (λ (y : Line). y.place) x.sent.line)
-  turn_place now eager old new result (inr y) = worked_place now eager (record old { line = line_ticked old.line now }) new result y.exchanged
+  pub turn_place : (tells : Type 0) (now : ℕ) (eager : Bool) (old new : EndAt J G) (result : Result TurnEnd TurnFault) → DidTurn tells now eager old new result → new.line.place ≤ old.line.place + 262240
+  turn_place tells now eager old new result (inl x) = omega (arith, ap (λ (y : Line). y.place) x.sent.line)
+  turn_place tells now eager old new result (inr y) = worked_place tells now eager (record old { line = line_ticked old.line now }) new result y.exchanged
 
   -- where it stands behind a turn
   pub stands_behind : (r : Result TurnEnd TurnFault) (new : Line) (most : ℕ) (p : Part) (box : Inbox J G) → OnOk r (new.place ≤ most) → (r ≡ Ok ends.Go → GoesOn new.machine) → OnOk r (Leaves new.machine p box)
@@ -154,6 +154,7 @@ module _ {J : Type 0} {G : Ghosts J} where
   stands_behind (Err faults.Link) new most p box place goes leaves lost answer ended = record { turns = λ e. cc; begins = λ _. rests new.machine p box (ended refl) (lost refl) }
   stands_behind (Err faults.Inbox) new most p box place goes leaves lost answer ended = record { turns = λ e. cc; begins = λ e. cc }
   stands_behind (Err faults.Outbox) new most p box place goes leaves lost answer ended = record { turns = λ e. cc; begins = λ e. cc }
+  stands_behind (Err (faults.Changed at)) new most p box place goes leaves lost answer ended = record { turns = λ e. cc; begins = λ e. cc }
   stands_behind (Err faults.Broken) new most p box place goes leaves lost answer ended = record { turns = λ e. cc; begins = λ e. cc }
   stands_behind (Err (faults.Full entries bytes)) new most p box place goes leaves lost answer ended = record { turns = λ e. cc; begins = λ e. cc }
   stands_behind (Err faults.Memory) new most p box place goes leaves lost answer ended = record { turns = λ e. cc; begins = λ e. cc }

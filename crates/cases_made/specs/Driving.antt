@@ -1,7 +1,7 @@
 -- What holds of an end between the calls that drive it (this project's profile).
 use Rattle.std.specs.Prelude.{◌≡◌, ℕ, ◌+◌, ◌<◌, ◌≤◌, ◌^◌, true, length, IsSome, Result, Ok, Err}
-use Rattle.jr_record.specs.declared.journal.Journal.{Ghosts}
-use Rattle.jr_boxes.specs.declared.inbox.Inbox.{Inbox}
+use Rattle.jr_dated.specs.declared.journal.Journal.{Ghosts}
+use Rattle.jr_kept.specs.declared.inbox.Inbox.{Inbox}
 use Rattle.gate_turn.specs.Views.{Part}
 use Rattle.gate_turn.specs.Listed.{known_at}
 use Rattle.gate_turn.specs.declared.passes.Passes.{Passes}
@@ -26,6 +26,7 @@ standing_of (Ok (ends.Ended ending)) = standings.Over
 standing_of (Err faults.Link) = standings.Over
 standing_of (Err faults.Inbox) = standings.GivenUp
 standing_of (Err faults.Outbox) = standings.GivenUp
+standing_of (Err (faults.Changed at)) = standings.GivenUp
 standing_of (Err faults.Broken) = standings.GivenUp
 standing_of (Err (faults.Full entries bytes)) = standings.GivenUp
 standing_of (Err faults.Memory) = standings.GivenUp

@@ -3,7 +3,7 @@
 ghost use Rattle.std.specs.Prelude.{◌≡◌, ◌+◌, ◌≤◌, ◌<◌, ◌^◌, length, if◌then◌else◌, Some, None, IfOk, IfSome};
 ghost use Rattle.fixp_machine.specs.Machine.{fresh};
 ghost use Rattle.session_model.specs.Journal.{BeginsHistory};
-ghost use Rattle.jr_boxes.specs.Inbox.{flow_of, limits_of, next_of, is_negotiated, peer_last_of};
+ghost use Rattle.jr_kept.specs.Inbox.{flow_of, limits_of, next_of, is_negotiated, peer_last_of};
 ghost use Rattle.gate_turn.specs.Views.{Part};
 ghost use Rattle.gate_senders.specs.Gate.{opening_of};
 ghost use Rattle.conn_loop.specs.Conn.{line_of, new_line};
@@ -21,7 +21,7 @@ use gate_turn::Passes;
 use gw_link_fakes::MemClock;
 use gw_links::Link;
 use gw_outside::Bytes;
-use jr_boxes::Inbox;
+use jr_kept::Inbox;
 use std::alloc::{AllocError, Global};
 use std::marker::Model;
 use std::sync::Wait;

@@ -1,20 +1,21 @@
 //! The two journals of an end, on disks in memory.
 
 ghost use Rattle.std.specs.Prelude.{◌≡◌, ◌+◌, ◌<◌, ◌^◌, false, IfSome};
-ghost use Rattle.jr_boxes.specs.Outbox as outboxes;
-ghost use Rattle.jr_boxes.specs.Inbox as inboxes;
+ghost use Rattle.jr_kept.specs.Outbox as outboxes;
+ghost use Rattle.jr_kept.specs.Inbox as inboxes;
 
 use fixp_msgs::Flow;
 use gw_fakes::MemDisk;
-use jr_boxes::{Inbox, Outbox};
-use jr_log::{LogJournal, format};
-use jr_record::Limits;
+use jr_dated::{Journal, Limits};
+use jr_kept::{Inbox, Outbox};
+use jr_record::Record;
+use jr_segments::{SegJournal, format};
 use std::alloc::Global;
 
 /// A journal on a disk in memory.
-pub type Log = LogJournal<MemDisk>;
+pub type Log = SegJournal<MemDisk>;
 
-/// The greatest number of an application message.
+/// The greatest number of an application message here.
 pub(crate) const MOST: u64 = 1 << 24;
 
 /// The limits of both journals, which no disk in memory here has room for.
@@ -45,9 +46,21 @@ pub fn fresh_disks(alloc: Global, room: usize) -> Option<Disks> {
     })
 }
 
-/// The journal on a disk; none where there is none.
-pub fn journal(alloc: Global, disk: MemDisk) -> Option<Log> {
-    LogJournal::open(alloc, disk, LIMITS).ok()
+/// The records of a journal; none where one is not read.
+fn read_all<J: Journal>(alloc: Global, journal: &mut J) -> Option<Vec<Record>> {
+    let mut records = Vec::new(alloc);
+    let count = journal.len();
+    for i in 0..count {
+        let (record, _) = journal.read(i).ok()?;
+        records.push(record).ok()?;
+    }
+    Some(records)
+}
+
+/// The records of the journal on a disk; none where there is none.
+pub fn records(alloc: Global, disk: MemDisk) -> Option<Vec<Record>> {
+    let mut journal = SegJournal::open(alloc, disk, LIMITS).ok()?;
+    read_all(alloc, &mut journal)
 }
 
 /// The outbox on a disk; none where there is none.
@@ -55,7 +68,7 @@ pub(crate) fn open_outbox(alloc: Global, disk: MemDisk) -> Option<Outbox<Log>>
     ensures sound { IfSome result (λ box. outboxes.is_broken box ≡ false) }
 {
     let limits = LIMITS;
-    let journal = LogJournal::open(alloc, disk, limits).ok()?;
+    let journal = SegJournal::open(alloc, disk, limits).ok()?;
     Outbox::open(alloc, journal, limits).ok()
 }
 
@@ -66,7 +79,7 @@ pub(crate) fn open_inbox(alloc: Global, disk: MemDisk, flow: Flow) -> Option<Inb
     ensures numbered { IfSome result (λ box. inboxes.next_of box + 1 < 2 ^ 64) }
 {
     let limits = LIMITS;
-    let journal = LogJournal::open(alloc, disk, limits).ok()?;
+    let journal = SegJournal::open(alloc, disk, limits).ok()?;
     let inbox = Inbox::open(alloc, journal, limits, flow).ok()?;
     (inbox.next() <= MOST + 1).then_some(inbox)
 }

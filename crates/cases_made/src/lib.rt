@@ -10,5 +10,5 @@ mod standing;
 mod turning;
 
 pub use driven::{DrivenEnd, Setup};
-pub use journals::{Disks, Log, fresh_disks, journal};
+pub use journals::{Disks, Log, fresh_disks, records};
 pub use standing::Standing;

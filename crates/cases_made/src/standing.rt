@@ -28,6 +28,7 @@ impl Standing {
             Err(
                 TurnFault::Inbox
                 | TurnFault::Outbox
+                | TurnFault::Changed { .. }
                 | TurnFault::Broken
                 | TurnFault::Full { .. }
                 | TurnFault::Memory,

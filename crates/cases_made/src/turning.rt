@@ -15,7 +15,7 @@ use gate_senders::{Gate, Kept};
 use gate_turn::Pass;
 use gw_link_fakes::MemClock;
 use gw_links::Link;
-use jr_boxes::Inbox;
+use jr_kept::Inbox;
 use std::sync::Wait;
 
 /// Makes a turn of a live end, and answers where it stands then.

@@ -6,7 +6,7 @@ ghost use Rattle.std.specs.Prelude.{◌≡◌, ◌≤◌, ◌<◌, ◌^◌, leng
 use fixp_end::{Act, End, EndConfig, EndState, Ending, Flow, Phase, Role};
 use fixp_shake::{is_absent, is_established};
 use gw_outside::Bytes;
-use jr_boxes::Stable;
+use jr_kept::Stable;
 use sbe_prim::Order;
 use std::alloc::{AllocError, Global};
 use std::marker::Model;

@@ -2,9 +2,9 @@
 
 use cases_made::{Log, fresh_disks};
 use fixp_msgs::is_application;
-use jr_boxes::{Outbox, Stable};
-use jr_log::LogJournal;
-use jr_record::Limits;
+use jr_dated::Limits;
+use jr_kept::{Outbox, Stable};
+use jr_segments::SegJournal;
 use std::alloc::{AllocError, Global};
 
 /// The room of the disk, in bytes.
@@ -20,7 +20,7 @@ const WIDE: Limits = Limits {
 fn new_outbox(alloc: Global) -> Option<Outbox<Log>> {
     let disks = fresh_disks(alloc, SIZE)?;
     let limits = WIDE;
-    let journal = LogJournal::open(alloc, disks.outbox, limits).ok()?;
+    let journal = SegJournal::open(alloc, disks.outbox, limits).ok()?;
     Outbox::open(alloc, journal, limits).ok()
 }
 

@@ -1,17 +1,17 @@
 //! Journals and outboxes on disks in memory, as the sections begin with them.
 
 ghost use Rattle.std.specs.Prelude.{◌≡◌, false, IfSome};
-ghost use Rattle.jr_boxes.specs.Outbox.{is_broken};
+ghost use Rattle.jr_kept.specs.Outbox.{is_broken};
 
 use gw_fakes::MemDisk;
 use gw_outside::Disk;
-use jr_boxes::Outbox;
-use jr_log::{LogJournal, format};
-use jr_record::Limits;
+use jr_dated::Limits;
+use jr_kept::Outbox;
+use jr_segments::{SegJournal, format};
 use std::alloc::Global;
 
 /// A journal on a disk in memory.
-pub type Log = LogJournal<MemDisk>;
+pub type Log = SegJournal<MemDisk>;
 
 /// More than any case submits but those that give their own limits.
 pub const WIDE: Limits = Limits {
@@ -31,9 +31,9 @@ pub fn opened<D: Disk + Drop>(
     alloc: Global,
     disk: D,
     limits: Limits,
-) -> Option<Outbox<LogJournal<D>>>
+) -> Option<Outbox<SegJournal<D>>>
     ensures sound { IfSome result (λ box. is_broken box ≡ false) }
 {
-    let journal = LogJournal::open(alloc, disk, limits).ok()?;
+    let journal = SegJournal::open(alloc, disk, limits).ok()?;
     Outbox::open(alloc, journal, limits).ok()
 }

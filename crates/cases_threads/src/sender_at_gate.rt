@@ -11,7 +11,7 @@ use crate::made::{Log, WIDE, formatted, opened};
 use fixp_msgs::is_application;
 use gate_senders::{Gate, Kept};
 use gate_turn::{Pass, Passes};
-use jr_boxes::Outbox;
+use jr_kept::Outbox;
 use std::sync::Wait;
 use std::thread::Threads;
 use std::{io, thread};
@@ -72,7 +72,7 @@ fn ended<R: Wait>(rt: &R, gate: &Gate<Log>, mut pass: Pass<Kept<Log>>) -> Pass<K
 {
     let _ = gate.mine(&mut pass, rt);
     let _ = gate.finish(&mut pass, rt);
-    let _ = gate.closed(&mut pass, rt);
+    let _ = gate.closed(&mut pass, 0, rt);
     pass
 }
 

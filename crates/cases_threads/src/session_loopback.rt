@@ -28,8 +28,8 @@ fn print_end<R: Print + AllocGlobal>(
     peer: &Ended,
 ) -> io::Result<()> {
     let status = end.status;
-    let applied = applied(peer.outbox.records(), end.inbox.records());
-    let senders = sent(end.outbox.records());
+    let applied = applied(peer.outbox.as_slice(), end.inbox.as_slice());
+    let senders = sent(end.outbox.as_slice());
     println!(rt; "{name}: status {status}, applied {applied:?}, senders {senders:?}")
 }
 

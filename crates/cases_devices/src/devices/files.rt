@@ -77,6 +77,7 @@ fn add_kept<R: Files<File = File> + AllocGlobal>(
 ) -> Result<(), AllocError> {
     let begun = Begun {
         mark,
+        older: mark,
         length: mark.len(),
     };
     let mut disk = FileDisk::new(rt, outbox(file), &[], Opening::Make(begun));

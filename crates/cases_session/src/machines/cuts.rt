@@ -5,7 +5,7 @@ use crate::machines::judge::Moment;
 use crate::machines::line::Passage;
 use crate::machines::session::Session;
 use fixp_end::Flow;
-use jr_boxes::Stable;
+use jr_kept::Stable;
 use std::alloc::{AllocError, Global};
 
 /// At how many places a second connection is cut, at most: at more than it has.

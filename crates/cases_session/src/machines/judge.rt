@@ -3,7 +3,7 @@
 use crate::machines::COUNT;
 use crate::machines::side::Settled;
 use fixp_end::Flow;
-use jr_boxes::Stable;
+use jr_kept::Stable;
 
 /// When it is judged.
 #[derive(Clone, Copy, PartialEq, Eq)]

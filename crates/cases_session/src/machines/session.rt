@@ -4,7 +4,7 @@ use crate::machines::judge::{Moment, fault};
 use crate::machines::line::{Line, Passage};
 use crate::machines::side::Side;
 use fixp_end::{Ending, Flow, Role};
-use jr_boxes::Stable;
+use jr_kept::Stable;
 use std::alloc::{AllocError, Global};
 
 /// How many turns each end has in a connection, at most.

@@ -7,7 +7,7 @@ use crate::machines::COUNT;
 use crate::machines::line::{Line, Passage};
 use fixp_end::{Act, EndState, Ending, Flow, Role};
 use fixp_shake::is_absent;
-use jr_boxes::Stable;
+use jr_kept::Stable;
 use sbe_prim::Order;
 use sofh_frame::{FirstFrame, next};
 use std::alloc::{AllocError, Global};

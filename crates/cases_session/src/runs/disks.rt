@@ -5,7 +5,7 @@ use cmd_base::Outside;
 use cmd_journal::journal;
 use gw_fakes::{MemDisk, MemSink, MemSource};
 use gw_outside::{Bytes, Disk, Sink};
-use jr_log::format;
+use jr_segments::format;
 use std::alloc::{AllocError, Global};
 
 /// The disk of the outbox, and that of the inbox.

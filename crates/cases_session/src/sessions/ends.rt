@@ -7,7 +7,7 @@ use crate::sessions::named::Named;
 use crate::sessions::words::parted;
 use cases_words::{digits, halves, number};
 use fixp_end::{Act, EndState, Flow, Role};
-use jr_boxes::Stable;
+use jr_kept::Stable;
 use sbe_prim::Order;
 use sofh_frame::{FirstFrame, next};
 use std::alloc::{AllocError, Global};

@@ -1,7 +1,7 @@
 //! What the journals of a session hold, judged by plain lists: the records of an outbox, and those of the peer's inbox.
 
 use crate::turns::session::{EACH, message};
-use cases_made::{Disks, Log, journal};
+use cases_made::{Disks, records};
 use fixp_end::Flow;
 use jr_record::Record;
 use std::alloc::Global;
@@ -9,16 +9,16 @@ use std::alloc::Global;
 /// The records of both journals of an end, opened again.
 #[derive(Drop)]
 pub struct Journals {
-    outbox: Log,
-    inbox: Log,
+    outbox: Vec<Record>,
+    inbox: Vec<Record>,
 }
 
 /// The journals on an end's disks; none where one is no journal.
 fn opened(alloc: Global, disks: Disks) -> Option<Journals> {
     let Disks { outbox, inbox } = disks;
     Some(Journals {
-        outbox: journal(alloc, outbox)?,
-        inbox: journal(alloc, inbox)?,
+        outbox: records(alloc, outbox)?,
+        inbox: records(alloc, inbox)?,
     })
 }
 
@@ -129,7 +129,7 @@ fn outbox_fault(outbox: &[Record], senders: u8) -> Option<&'static str> {
 
 /// What is wrong with what an end's senders have sent by this flow and its peer has settled, if anything is.
 pub fn fault(flow: Flow, senders: u8, sender: &Journals, peer: &Journals) -> Option<&'static str> {
-    let outbox = sender.outbox.records();
+    let outbox = sender.outbox.as_slice();
     let count = u64::from(senders) * u64::from(EACH);
-    outbox_fault(outbox, senders).or(inbox_fault(flow, outbox, peer.inbox.records(), count))
+    outbox_fault(outbox, senders).or(inbox_fault(flow, outbox, peer.inbox.as_slice(), count))
 }

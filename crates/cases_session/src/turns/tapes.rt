@@ -3,7 +3,7 @@
 
 ghost use Rattle.std.specs.Prelude.{◌≡◌};
 
-use cases_made::{Disks, DrivenEnd, Log, Setup, Standing, fresh_disks, journal};
+use cases_made::{Disks, DrivenEnd, Setup, Standing, fresh_disks, records};
 use cases_words::{bytes, halves};
 use fixp_end::{Ending, Flow, Role, Violation};
 use gw_fakes::MemDisk;
@@ -72,7 +72,7 @@ pub struct Tape {
 #[derive(Drop)]
 struct Came {
     ending: Option<Ending>,
-    inbox: Log,
+    inbox: Vec<Record>,
 }
 
 /// The payloads that an inbox has.
@@ -343,8 +343,8 @@ fn connect<R: Wait>(end: &mut DrivenEnd, link: &mut MemTape, rt: &R) {
 fn came_of(alloc: Global, end: DrivenEnd) -> Option<Came> {
     let ending = end.ending();
     let Disks { outbox, inbox } = end.close();
-    let _ = journal(alloc, outbox)?;
-    let inbox = journal(alloc, inbox)?;
+    let _ = records(alloc, outbox)?;
+    let inbox = records(alloc, inbox)?;
     Some(Came { ending, inbox })
 }
 
@@ -368,7 +368,12 @@ fn is_right(place: Place, size: u64, bytes: &[u8], came: &Came) -> bool {
     match came.ending {
         Some(ending) => {
             ends_so(verdict, place.start, ending)
-                && holds_so(verdict, place.behind, frame, payloads(came.inbox.records()))
+                && holds_so(
+                    verdict,
+                    place.behind,
+                    frame,
+                    payloads(came.inbox.as_slice()),
+                )
         }
         None => false,
     }

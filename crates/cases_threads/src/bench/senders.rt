@@ -2,14 +2,14 @@
 //! Relies on `gate_plans`.
 
 ghost use Rattle.std.specs.Prelude.{◌≡◌, ◌≤◌, ◌^◌, false, vec_len, IfSome};
-ghost use Rattle.jr_boxes.specs.Outbox.{is_broken};
+ghost use Rattle.jr_kept.specs.Outbox.{is_broken};
 
 use crate::made::{Log, formatted, opened};
 use gate_plans::{OpenDoor, Plan, run_seated, seat, unseat};
 use gate_senders::Gate;
 use gw_outside::{Bytes, Payloads};
-use jr_boxes::Outbox;
-use jr_record::Limits;
+use jr_dated::Limits;
+use jr_kept::Outbox;
 use std::alloc::Global;
 use std::sync::Wait;
 use std::thread::Threads;
@@ -18,7 +18,7 @@ use std::thread::Threads;
 const PAYLOAD: usize = 62;
 
 /// The bytes that an entry of such a payload takes in a journal, with its gate.
-const ENTRY: u64 = 78;
+const ENTRY: u64 = 86;
 
 /// The most messages of a sender.
 const MOST: u64 = 1 << 19;

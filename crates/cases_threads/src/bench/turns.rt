@@ -16,7 +16,7 @@ const MOST: u64 = 1 << 20;
 const LARGEST: u64 = 4096;
 
 /// The bytes that an entry takes in a journal beside its payload, at most.
-const BESIDE: u64 = 16;
+const BESIDE: u64 = 24;
 
 /// The room of the pipe each way, in bytes.
 const ROOM: usize = 1 << 17;

@@ -14,7 +14,7 @@ use gate_plans::{OpenDoor, Plan, Sender, give_last, run_seated, seat, take_last,
 use gate_senders::{Gate, Kept};
 use gate_turn::{Pass, Passes};
 use jr_boxes::SubmitFault;
-use jr_record::Journal;
+use jr_dated::Journal;
 use std::sync::Wait;
 use std::thread::{Threads, join_mut, sleep};
 use std::time::{Clock, Duration};

@@ -1,13 +1,13 @@
 //! Outboxes on disks in memory, and the plans of their senders.
 ghost use Rattle.std.specs.Prelude.{◌≡◌, ◌≤◌, false, vec_len, IfSome};
-ghost use Rattle.jr_boxes.specs.Outbox.{is_broken};
+ghost use Rattle.jr_kept.specs.Outbox.{is_broken};
 
 use crate::made::{Log, WIDE, formatted, opened};
 use gate_plans::Plan;
 use gw_fakes::Pick;
 use gw_outside::{Bytes, Payloads};
-use jr_boxes::Outbox;
-use jr_record::Limits;
+use jr_dated::Limits;
+use jr_kept::Outbox;
 use std::alloc::{AllocError, Global};
 
 /// The room of each disk, in bytes.

@@ -1,6 +1,6 @@
 //! Runs of senders through a gate, and what became of each.
 ghost use Rattle.std.specs.Prelude.{◌≡◌, ◌≤◌, ◌+◌, vec_len, false};
-ghost use Rattle.jr_boxes.specs.Outbox.{is_broken};
+ghost use Rattle.jr_kept.specs.Outbox.{is_broken};
 ghost use Rattle.gate_turn.specs.Places.{known};
 ghost use Rattle.gate_turn.specs.Calls.{IsFree};
 ghost use Rattle.gate_senders.specs.Gate.{IsPassAt};
@@ -11,7 +11,8 @@ use crate::senders_at_once::doors::Closing;
 use gate_plans::{Door, Plan, Sender, give_last, run_seated, seat, take_last, unseat};
 use gate_senders::{Gate, Kept};
 use gate_turn::Pass;
-use jr_boxes::{CloseFault, Outbox, SubmitFault};
+use jr_boxes::{CloseFault, SubmitFault};
+use jr_kept::Outbox;
 use std::alloc::Global;
 use std::sync::Wait;
 use std::thread;

@@ -2,13 +2,14 @@
 
 ghost use Rattle.std.specs.Prelude.{◌≡◌, false};
 
-use cases_made::{Disks, Log, fresh_disks, journal};
+use cases_made::{Disks, fresh_disks, records};
 use cmd_base::Status;
 use cmd_session::{Role, SessionOutside, run_session};
 use gw_fakes::{MemDisk, MemSink, MemSource};
 use gw_links::{Clock as LinkClock, Dialer};
 use gw_outside::{Bytes, Disk, Sink, Source};
 use gw_sockets::{AcceptDialer, ConnectDialer, MachineClock};
+use jr_record::Record;
 use std::alloc::{AllocError, Global};
 use std::net::{Net, TcpListener, TcpStream};
 use std::sync::Wait;
@@ -35,12 +36,12 @@ server_flow = \"recoverable\"
 senders = 2
 ";
 
-/// What an end leaves: its status, and its journals.
+/// What an end leaves: its status, and the records of its journals.
 #[derive(Drop)]
 pub struct Ended {
     pub status: u8,
-    pub outbox: Log,
-    pub inbox: Log,
+    pub outbox: Vec<Record>,
+    pub inbox: Vec<Record>,
 }
 
 /// The streams of an end.
@@ -171,8 +172,8 @@ fn run_devices<N: Dialer + Drop, R: Threads + Wait + Sync + Clock>(
 /// What an end leaves whose status has this number, and whose journals stand on these disks.
 fn left_by(alloc: Global, status: u8, disks: Disks) -> Option<Ended> {
     let Disks { outbox, inbox } = disks;
-    let outbox = journal(alloc, outbox)?;
-    let inbox = journal(alloc, inbox)?;
+    let outbox = records(alloc, outbox)?;
+    let inbox = records(alloc, inbox)?;
     Some(Ended {
         status,
         outbox,
