@@ -3,18 +3,19 @@
 use std::fs::File;
 use std::io::{BufWriter, Write};
 
-const HEADER: &[u8; 16] = b"FIXPJRN1\0\0\0\0\0\0\0\0";
+const HEADER: &[u8; 16] = b"FIXPJRN2\0\0\0\0\0\0\0\0";
 const DIGITS: &[u8; 16] = b"0123456789abcdef";
 
 fn number(bytes: &[u8]) -> u64 {
     u64::from_le_bytes(bytes[..8].try_into().unwrap())
 }
 
-/// The record at the front of these bytes, where the format has it: its kind and its body.
-fn record(bytes: &[u8]) -> Option<(u8, &[u8])> {
-    let length = u32::from_le_bytes(bytes.get(1..5)?.try_into().ok()?) as usize;
-    let body = bytes.get(5..5 + length)?;
-    let legal = match bytes[0] {
+/// The record at the front of these bytes, where the format has it: its kind, its moment and its body.
+fn record(bytes: &[u8]) -> Option<(u8, u64, &[u8])> {
+    let moment = number(bytes.get(1..9)?);
+    let length = u32::from_le_bytes(bytes.get(9..13)?.try_into().ok()?) as usize;
+    let body = bytes.get(13..13 + length)?;
+    let legal = moment < 1 << 44 && match bytes[0] {
         1 => {
             (20..=16396).contains(&length)
                 && (1..=16).contains(&u16::from_le_bytes([body[0], body[1]]))
@@ -26,7 +27,7 @@ fn record(bytes: &[u8]) -> Option<(u8, &[u8])> {
         5 => length == 8,
         _ => false,
     };
-    legal.then_some((bytes[0], body))
+    legal.then_some((bytes[0], moment, body))
 }
 
 /// What a box keeps of its records, to see which may follow.
@@ -79,7 +80,7 @@ fn opened(path: &str, is_outbox: bool, bytes: &mut Vec<u8>) -> std::io::Result<b
     let (mut at, mut seen) = (16, Seen::default());
     while bytes.get(at) == Some(&1) {
         match record(&bytes[at + 1..]) {
-            Some((kind, body)) if seen.admits(is_outbox, kind, body) => at += 6 + body.len(),
+            Some((kind, _, body)) if seen.admits(is_outbox, kind, body) => at += 14 + body.len(),
             _ => return Ok(false),
         }
     }
@@ -101,8 +102,9 @@ fn print(name: &str, bytes: &[u8], out: &mut impl Write) -> std::io::Result<()> 
     let mut hex = Vec::with_capacity(2 * 16386);
     let (mut at, mut place) = (16, 0u64);
     while bytes[at] == 1 {
-        let (kind, body) = record(&bytes[at + 1..]).unwrap();
+        let (kind, moment, body) = record(&bytes[at + 1..]).unwrap();
         place += 1;
+        write!(out, "at {moment} ")?;
         match kind {
             1 => {
                 let sender = u16::from_le_bytes([body[0], body[1]]);
@@ -118,7 +120,7 @@ fn print(name: &str, bytes: &[u8], out: &mut impl Write) -> std::io::Result<()> 
             5 => writeln!(out, "peer-finished {}", number(body))?,
             _ => writeln!(out, "finish")?,
         }
-        at += 6 + body.len();
+        at += 14 + body.len();
     }
     Ok(())
 }

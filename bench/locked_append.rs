@@ -9,7 +9,7 @@ use std::sync::Mutex;
 use std::thread;
 
 const PAYLOAD: usize = 62;
-const ENTRY: usize = 78;
+const ENTRY: usize = 86;
 
 #[allow(dead_code)]
 struct Entry {
@@ -32,8 +32,9 @@ impl Outbox {
             return None;
         }
         let number = self.counts[sender as usize] + 1;
-        let mut record = Vec::with_capacity(17 + payload.len());
+        let mut record = Vec::with_capacity(25 + payload.len());
         record.push(1);
+        record.extend_from_slice(&0u64.to_le_bytes());
         record.extend_from_slice(&(10 + payload.len() as u32).to_le_bytes());
         record.extend_from_slice(&sender.to_le_bytes());
         record.extend_from_slice(&number.to_le_bytes());

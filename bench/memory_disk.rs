@@ -14,7 +14,7 @@ impl Disk {
             synced: Vec::with_capacity(room),
             pending: 0..0,
         };
-        disk.write_at(0, b"FIXPJRN1\0\0\0\0\0\0\0\0\0");
+        disk.write_at(0, b"FIXPJRN2\0\0\0\0\0\0\0\0\0");
         disk.sync();
         disk
     }

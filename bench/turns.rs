@@ -9,10 +9,11 @@ use std::env;
 /// How many messages a turn submits, and sends.
 const LIVE: usize = 16;
 
-/// The front of a record: its kind and the size of its body.
+/// The front of a record: its kind, its moment and the size of its body.
 fn record(kind: u8, body: usize) -> Vec<u8> {
-    let mut record = Vec::with_capacity(6 + body);
+    let mut record = Vec::with_capacity(14 + body);
     record.push(kind);
+    record.extend_from_slice(&0u64.to_le_bytes());
     record.extend_from_slice(&(body as u32).to_le_bytes());
     record
 }
@@ -82,7 +83,7 @@ fn main() {
     let mut payload = vec![0x2A; size];
     let header = [0xEB, 0x50, (size - 10) as u8, ((size - 10) >> 8) as u8, 7, 0, 0x64, 0, 1, 0];
     payload[..10].copy_from_slice(&header);
-    let room = 64 + count * (size + 16);
+    let room = 64 + count * (size + 24);
     let mut outbox = Outbox { disk: Disk::formatted(room), entries: Vec::new() };
     let mut inbox = Inbox { disk: Disk::formatted(room), applied: Vec::new() };
     let (mut out, mut link, mut held) = (Vec::new(), Vec::new(), Vec::new());

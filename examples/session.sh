@@ -30,8 +30,8 @@ for end in venue broker; do
 done
 
 # The messages of a journal, each as `NUMBER HEX`: those sent from an outbox, those applied from an inbox.
-sent() { "$root/fixpgw" journal "$1" "$2" - | sed -n 's/^entry \([0-9]*\) sender [0-9]* k [0-9]* /\1 /p'; }
-applied() { "$root/fixpgw" journal "$1" "$2" - | sed -n 's/^apply //p'; }
+sent() { "$root/fixpgw" journal "$1" "$2" - | sed -n 's/^at [0-9]* entry \([0-9]*\) sender [0-9]* k [0-9]* /\1 /p'; }
+applied() { "$root/fixpgw" journal "$1" "$2" - | sed -n 's/^at [0-9]* apply //p'; }
 sent broker-out.jrn broker-in.jrn >orders-sent
 applied venue-out.jrn venue-in.jrn >orders-applied
 sent venue-out.jrn venue-in.jrn >reports-sent

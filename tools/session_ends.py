@@ -113,6 +113,7 @@ class End:
             raise SystemExit(f"{self.folder}: journal ends with {said.returncode}: {said.stderr.decode()}")
         entries, applied, skipped, marks = [], {}, set(), []
         for line in said.stdout.decode().splitlines():
+            line = line.split(" ", 2)[2] if line.startswith("at ") else line
             words = line.split(" ")
             if words[0] == "entry":
                 entries.append((int(words[1]), int(words[3]), int(words[5]), words[6]))
