@@ -1,6 +1,6 @@
 -- What a call of a business leaves of its passes: p before the call, q behind it, by their numbers from 1 to `count`. l are the applied messages
 -- behind which an Ok leaves it, and `finished` says whether the peer's finish is recorded. A business is this project's profile.
-use Rattle.std.specs.Prelude.{⊤, ◌≡◌, ◌≢◌, ◌⊎◌, ℕ, ◌<◌, ◌≤◌, Bool, true, List, [], ◌∷◌, Some, None, Result, Ok, Err}
+use Rattle.std.specs.Prelude.{⊤, ◌≡◌, ◌≢◌, ◌⊎◌, ℕ, ◌<◌, ◌≤◌, Bool, true, List, [], ◌∷◌, Some, None, Result, Ok, Err, OnOk}
 use Rattle.session_model.specs.Journal.{finish, BeginsHistory}
 use Rattle.jr_dated.specs.declared.journal.Journal.{Ghosts}
 use Rattle.jr_boxes.specs.declared.faults.SubmitFault.{SubmitFault}
@@ -13,7 +13,7 @@ use Rattle.gate_turn.specs.Calls.{IsFree}
 use Rattle.gate_turn.specs.declared.pass.Pass.{Pass}
 use Rattle.gate_turn.specs.declared.passes.Passes.{Passes}
 use Rattle.gate_senders.specs.declared.gate.Gate.{Gate}
-use Rattle.gate_business.specs.Made.{MadeOf, IsAllMade, LosesMessage, SeesMark}
+use Rattle.gate_business.specs.Made.{MadeOf, IsAllMade, LosesMessage, SeesMark, MetFull}
 use Rattle.gate_business.specs.declared.business.ResumeFault.{ResumeFault}
 use Rattle.gate_business.specs.declared.business.ResumeFault.TheVariants as resuming
 
@@ -77,3 +77,29 @@ abbrev pub StandsOnResume : Result (Unit {0}) ResumeFault → Type 0 → Type 0
 StandsOnResume (Ok _) A = A
 StandsOnResume (Err (resuming.Submit submit.Closed)) A = A
 StandsOnResume (Err _) A = ⊤
+
+-- the passes lost nothing with a call of the disk that failed
+abbrev pub LoseNothing : (count : ℕ) (p q : ℕ → Part) → Type 0
+LoseNothing count p q = (n : ℕ) → In count n → (q n).lost ≡ (p n).lost
+
+-- a turn in which the passes sent nothing
+pub record SendNothing (count : ℕ) (p q : ℕ → Part) : Type 0 where
+  pub same : (n : ℕ) → In count n → StaysPass (p n) (q n)
+  pub mine : (n : ℕ) → In count n → (q n).mine ≡ (p n).mine
+  pub ended : (n : ℕ) → In count n → (q n).ended ≡ (p n).ended
+  pub unlost : LoseNothing count p q
+
+-- What a call on applied messages leaves, by its answer: it is whole at Ok, and where an outbox was full, that was so for the next message of a
+-- plan; something was lost only at another refusal than that the mark stands
+pub record Answered (plan : ℕ → List (List ℕ)) (count : ℕ) (p q : ℕ → Part) (finished : Bool) (result : Result (Unit {0}) SubmitFault) : Type 0 where
+  pub grew : Grew plan count p q finished
+  pub whole : OnOk result (Whole plan count p q finished)
+  pub full : (entries bytes : ℕ) → result ≡ Err (submit.Full entries bytes) → MetFull plan count q entries bytes
+  pub unlost : StandsOn result (LoseNothing count p q)
+
+-- the same of a call on the messages of an inbox
+pub record Resumed (plan : ℕ → List (List ℕ)) (count : ℕ) (p q : ℕ → Part) (finished : Bool) (result : Result (Unit {0}) ResumeFault) : Type 0 where
+  pub grew : Grew plan count p q finished
+  pub whole : OnOk result (Whole plan count p q finished)
+  pub full : (entries bytes : ℕ) → result ≡ Err (resuming.Submit (submit.Full entries bytes)) → MetFull plan count q entries bytes
+  pub unlost : StandsOnResume result (LoseNothing count p q)

@@ -3,7 +3,10 @@
 #![tactic(auto)]
 
 mod business;
+mod hands;
 mod none;
+mod resume;
 
 pub use business::{Business, ResumeFault};
+pub use hands::run_hands;
 pub use none::NoBusiness;

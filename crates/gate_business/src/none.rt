@@ -6,29 +6,33 @@ ghost use Rattle.gate_turn.specs.Rule.{In};
 ghost use Rattle.gate_turn.specs.Listed.{known_at};
 ghost use Rattle.gate_business.specs.Business.{HasThese};
 
-use crate::business::{Business, ResumeFault};
+use crate::business::Business;
 use gate_senders::{Gate, Kept};
 use gate_turn::Passes;
 use jr_dated::Journal;
-use jr_kept::{Inbox, SubmitFault};
+use jr_kept::SubmitFault;
+use lists::List;
 use sbe_value::Payloads;
 use std::sync::Wait;
-use std::thread::Threads;
 
 /// No business: it has no passes, and does nothing.
 #[derive(Clone, Copy, Debug, Drop)]
 pub struct NoBusiness;
 
-impl<J: Journal> Business<J> for NoBusiness {
+impl<J: Journal + Send> Business<J> for NoBusiness {
     ghost use Rattle.std.proofs.Common.{rules};
 
     type Held = Kept<J>;
+
+    type Hand = ();
 
     ghost count = { λ _. 0 };
 
     ghost part = { λ _ n. new_part n 0 nothing };
 
     ghost has = { λ _ lock. ⊤ };
+
+    ghost lacks = { λ _. ⊤ };
 
     ghost own = { λ _ n. None };
 
@@ -38,16 +42,29 @@ impl<J: Journal> Business<J> for NoBusiness {
 
     ghost stands = { λ _ applied. ⊤ };
 
-    fn resume<I: Journal, R: Threads + Wait + Sync>(
-        &mut self,
-        _inbox: &mut Inbox<I>,
-        _gate: &Gate<J>,
-        _rt: &R,
-    ) -> Result<(), ResumeFault> {
-        Ok(())
+    ghost gave = { λ _ now hands. ⊤ };
+
+    ghost took = { λ _ now hands back. ⊤ };
+
+    ghost ready = { λ lock senders hand. ⊤ };
+
+    ghost worked = { λ lock senders payloads before after. ⊤ };
+
+    fn begin<R: Wait>(&mut self, _gate: &Gate<J>, _rt: &R) {}
+
+    fn give_hands(&mut self) -> Option<List<()>> {
+        None
     }
 
-    fn on_applied<R: Threads + Wait + Sync>(
+    fn work<R: Wait>(_hand: &mut (), _payloads: &Payloads, _gate: &Gate<J>, _rt: &R) {}
+
+    fn take_hands(&mut self, hands: Option<List<()>>)
+        ensures took { ⊤ }
+    {
+        let _ = hands;
+    }
+
+    fn settle<R: Wait>(
         &mut self,
         _payloads: &Payloads,
         _finished: bool,
