@@ -1,14 +1,24 @@
 //! Cases of journals with moments: reads `journals.txt`, plays each line on a disk in memory of its own, and prints its steps with
-//! what each gave. What it has to print stands in `stdout`, worked out by hand from the format.
+//! what each gave; and plays sequences of drawn calls and stops, and compares each with a plain list. What it has to print stands in
+//! `stdout`, worked out by hand from the format.
 #![tactic(auto)]
 
+mod chance;
 mod disks;
+mod drawn;
+mod ending;
+mod met;
 mod moving;
+mod noted;
 mod opened;
+mod plain;
 mod records;
+mod sequence;
+mod sequences;
 
 use crate::disks::{begun, limits_of};
 use crate::opened::step;
+use crate::sequences::shown;
 use cases_words::{asked, begins};
 use gw_fakes::MemDisk;
 use jr_dated::Limits;
@@ -73,6 +83,12 @@ fn main(rt: HostRuntime) -> io::Result<()> {
     let asked = asked(&rt)?;
     if begins(&rt, &asked, "journals")? {
         print(&rt)?;
+    }
+    if begins(&rt, &asked, "sequences")? {
+        let seeds = fs::read_to_string(&rt, "sequences.txt")?;
+        for words in seeds.lines() {
+            rt.println(shown(rt.alloc(), words)?)?;
+        }
     }
     Ok(())
 }
