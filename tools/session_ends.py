@@ -32,9 +32,9 @@ def plans(senders, messages, size=26):
     return "".join(lines)
 
 
-def configuration(client_flow, server_flow, senders, keepalive=1000):
+def configuration(client_flow, server_flow, senders, keepalive=1000, version=1):
     return (f'session = "{SESSION}"\nkeepalive = {keepalive}\nclient_flow = "{client_flow}"\n'
-            f'server_flow = "{server_flow}"\nsenders = {senders}\n')
+            f'server_flow = "{server_flow}"\nsenders = {senders}\nsession_version = {version}\n')
 
 
 def parted(text):
@@ -53,13 +53,13 @@ class End:
     """One end: its files in a folder of its own, and its process while it runs."""
 
     def __init__(self, folder, command, port, client_flow="recoverable", server_flow="recoverable", senders=2, messages=100,
-                 size=26, connections=65535, keepalive=1000):
+                 size=26, connections=65535, keepalive=1000, version=1):
         self.folder, self.command, self.senders, self.messages = folder, command, senders, messages
         self.words = [program, command, f"127.0.0.1:{port}", str(connections), "config.toml", "plans.txt", "out.jrn", "in.jrn", "out.txt"]
         self.process, self.statuses, self.said, self.told = None, [], [], []
         os.mkdir(folder)
         with open(self.at("config.toml"), "w") as f:
-            f.write(configuration(client_flow, server_flow, senders, keepalive))
+            f.write(configuration(client_flow, server_flow, senders, keepalive, version))
         with open(self.at("plans.txt"), "w") as f:
             f.write(plans(senders, messages, size) if senders else "")
         subprocess.run([program, "format", "out.jrn", "in.jrn"], cwd=folder, check=True, stdout=subprocess.DEVNULL)
