@@ -22,8 +22,8 @@ use Rattle.turn_laws.proofs.Working.{turn_may_stand}
 use Rattle.turn_laws.proofs.Running.{TurnsStand, turns_stand, begin_stands, leg_stands}
 use Rattle.turn_laws.proofs.Adding.{turn_adds}
 use Rattle.turn_laws.proofs.Sent.{given_up_begins}
-use Rattle.pair_laws.specs.Driving.{EndNow, IsFirst, with_turn, IsBetween, IsDuring}
-use Rattle.pair_laws.specs.Laws.{LegBegins, TurnGoesOn, LegEnds, CutEnds}
+use Rattle.two_ends.specs.Driving.{EndNow, IsFirst, with_turn, IsBetween, IsDuring}
+use Rattle.two_ends.specs.DrivingLaws.{LegBegins, TurnGoesOn, LegEnds, CutEnds}
 
 -- ---- lists of turns, and of connections
 

@@ -9,7 +9,7 @@ use Rattle.fixp_machine.specs.Machine.{State}
 use Rattle.connection_laws.specs.Ranges.{IsInRange}
 use Rattle.turn_laws.specs.Legs.{TurnedLeg, given_on, sent_on}
 use Rattle.two_ends.specs.Loops.{ReadsOf}
-use Rattle.pair_laws.specs.Driving.{EndNow, IsFirst, IsBetween}
+use Rattle.two_ends.specs.Driving.{EndNow, IsFirst, IsBetween}
 
 -- each of two connections was given of what the other sent
 abbrev pub ReadEachOther : TurnedLeg → TurnedLeg → Type 0

@@ -3,8 +3,8 @@
 use crate::lines::{push_disk, push_input, push_journal, push_sink, push_source};
 use crate::missing::push_missing;
 use crate::plans::{PlanLine, plan_line};
+use cmd_base::{Bad, JournalCause, Which};
 use cmd_config::{Purpose, Role, read_configuration};
-use cmd_run::{Bad, JournalCause, Which};
 use gw_real::{FileDisk, Kept, Named, Reason};
 use gw_sockets::{AcceptDialer, ConnectDialer, SocketReason};
 use say_config::{Wanted, push_config_fault};

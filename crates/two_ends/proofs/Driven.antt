@@ -17,8 +17,8 @@ use Rattle.turn_laws.proofs.Running.{all_run}
 use Rattle.two_ends.specs.Meeting.{life_in}
 use Rattle.two_ends.specs.Loops.{LoopLife, machine_life, lives_of, legs_in, MayTurn, LinkedLinks, no_more, paired}
 use Rattle.two_ends.proofs.Ends.{loops_hold}
-use Rattle.pair_laws.specs.Pairing.{ReadEachOther, DrivenLife}
-use Rattle.pair_laws.specs.Laws.{DrivenHold}
+use Rattle.two_ends.specs.Pairing.{ReadEachOther, DrivenLife}
+use Rattle.two_ends.specs.DrivingLaws.{DrivenHold}
 
 -- connections that are paired in order are linked
 linked : (as' bs : List TurnedLeg) → AllZip ReadEachOther as' bs → LinkedLinks as' bs

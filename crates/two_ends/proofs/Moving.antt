@@ -5,8 +5,8 @@ use Rattle.std.specs.List.{flat_map}
 use Rattle.std.proofs.lemmas.Grind.{flat_map-append}
 use Rattle.conn_turns.specs.Turns.{Turn}
 use Rattle.turn_laws.specs.Legs.{TurnedLeg, given_in, sent_in, given_on}
-use Rattle.pair_laws.specs.Pairing.{UnderWay}
-use Rattle.pair_laws.specs.Laws.{TurnCarries, BytesMove}
+use Rattle.two_ends.specs.Pairing.{UnderWay}
+use Rattle.two_ends.specs.DrivingLaws.{TurnCarries, BytesMove}
 
 -- what was read off the turns of a connection, with one more turn
 on_turn : (f : Turn → List ℕ) (t : TurnedLeg) (turn : Turn) → t.cut ≡ None

@@ -11,8 +11,8 @@ use Rattle.connection_laws.specs.Ranges.{IsInTime}
 use Rattle.turn_laws.specs.Turns.{IsTurn, adds_in}
 use Rattle.turn_laws.specs.Legs.{TurnedLeg, first_line, given_in, sent_in, IsTimelyTurn}
 use Rattle.two_ends.specs.Meeting.{Holds}
-use Rattle.pair_laws.specs.Driving.{EndNow, IsFirst, begun_leg, with_turn, Between, During}
-use Rattle.pair_laws.specs.Pairing.{ReadEachOther, UnderWay, Carries, DrivenLife}
+use Rattle.two_ends.specs.Driving.{EndNow, IsFirst, begun_leg, with_turn, Between, During}
+use Rattle.two_ends.specs.Pairing.{ReadEachOther, UnderWay, Carries, DrivenLife}
 
 -- a connection begins
 abbrev pub LegBegins : Type 0

@@ -1,6 +1,6 @@
 //! What is wrong with a file of a run, in a line.
 
-use cmd_run::{Bad, JournalCause, Which};
+use cmd_base::{Bad, JournalCause, Which};
 use fixp_shake::Violation;
 use gw_real::{DiskReason, Kept, Named, Reason, STANDARD_OUTPUT};
 use say_faults::{push_broken_rule, push_malformed, push_refused};

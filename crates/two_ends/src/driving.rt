@@ -1,6 +1,6 @@
 //! An end over one life, turn by turn, and two such ends.
 
-ghost use Rattle.pair_laws.specs.Laws.{LegBegins, TurnGoesOn, LegEnds, CutEnds, TurnCarries, BytesMove, DrivenHold};
+ghost use Rattle.two_ends.specs.DrivingLaws.{LegBegins, TurnGoesOn, LegEnds, CutEnds, TurnCarries, BytesMove, DrivenHold};
 
 /// Behind connections that are over the next one begins.
 pub fn leg_begins()
