@@ -51,6 +51,7 @@ pub fn push_disk(
         DiskReason::Foreign => {
             line.push_str("neither empty nor a journal, so it is left as it is")
         }
+        DiskReason::Pipe => line.push_str("a pipe, and a journal is read and written at places"),
     }
 }
 
