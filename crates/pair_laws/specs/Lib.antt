@@ -1,3 +1,4 @@
 pub mod Driving
 pub mod Pairing
+pub mod Stories
 pub mod Laws
