@@ -1,17 +1,20 @@
 //! The journals of an end, on disks in memory.
 
-ghost use Rattle.std.specs.Prelude.{◌≡◌, ◌+◌, ◌<◌, ◌≤◌, ◌^◌, false, [], IfSome};
-ghost use Rattle.gw_fakes.specs.MemDisks.{state_of};
-ghost use Rattle.jr_dated.specs.Images.{IsJournal};
-ghost use Rattle.jr_dated.specs.Journals.{Holds};
-ghost use Rattle.jr_segments.specs.Journal.{MayLeave, StandsFor, broken_of, limits_of};
+ghost use Rattle.std.specs.Prelude.{◌≡◌, ◌+◌, ◌≤◌, ◌^◌, false, List, [], IfOk, IfErr, IfSome};
+ghost use Rattle.session_model.specs.Inbox.{InboxRecord};
+ghost use Rattle.session_model.specs.Lives.{IsImage};
+ghost use Rattle.jr_dated.specs.Dated.{Dated};
+ghost use Rattle.jr_segments.specs.Journal.{StandsFor, broken_of, disk_of, limits_of};
 ghost use Rattle.jr_kept.specs.Outbox as outboxes;
 ghost use Rattle.jr_kept.specs.Inbox as inboxes;
+ghost use Rattle.gw_rehearse.specs.Stopped.{InboxIsLeft, LeavesImages, LeavesNoMore, OutboxIsLeft};
 
 use fixp_msgs::Flow;
 use gw_fakes::MemDisk;
-use jr_dated::{Limits, one_dated_verdict};
+use jr_boxes::BoxFault;
+use jr_dated::Limits;
 use jr_kept::{Inbox, Outbox};
+use jr_record::OpenFault;
 use jr_segments::{SegJournal, format};
 use std::alloc::Global;
 
@@ -40,44 +43,68 @@ pub struct Journals {
 }
 
 /// A disk that has a journal without records; none where memory runs out.
-fn formatted(alloc: Global) -> Option<MemDisk>
-    ensures { IfSome result (λ disk. IsJournal (state_of disk).content []) }
+pub(crate) fn formatted(alloc: Global) -> Option<MemDisk>
+    ensures { IfSome result (λ disk. LeavesImages disk [] []) }
 {
     let mut disk = MemDisk::without_faults(alloc, ROOM).ok()?;
     format(&mut disk).ok()?;
     Some(disk)
 }
 
-/// A journal of these limits without records; none where memory runs out.
-fn new_journal(alloc: Global, limits: Limits) -> Option<Log>
-    ensures holds { IfSome result (λ j. Holds StandsFor MayLeave j [] []) }
-    ensures sound { IfSome result (λ j. broken_of j ≡ false) }
-    ensures limits { IfSome result (λ j. limits_of j ≡ limits) }
+/// The journal of a disk. Where a call of the disk fails it comes back; none does where memory runs out.
+fn open_journal(alloc: Global, disk: MemDisk, limits: Limits) -> Result<Log, Option<MemDisk>>
+    ensures sound { IfOk result (λ j. broken_of j ≡ false) }
+    ensures limits { IfOk result (λ j. limits_of j ≡ limits) }
+    ensures left { IfOk result (λ j. (closing refused : List Dated) → LeavesImages disk closing refused → (h : List Dated) → StandsFor j h → IsImage closing refused h) }
+    ensures kept { IfOk result (λ j. LeavesNoMore disk (disk_of j)) }
+    ensures returned { IfErr result (λ o. IfSome o (LeavesNoMore disk)) }
 {
-    // A disk has one list of records at most.
-    one_dated_verdict();
-    let disk = formatted(alloc)?;
-    SegJournal::open(alloc, disk, limits).ok()
+    match SegJournal::open(alloc, disk, limits) {
+        Ok(journal) => Ok(journal),
+        Err((disk, OpenFault::Fault)) => Err(Some(disk)),
+        Err((_, _)) => Err(None),
+    }
 }
 
-/// An outbox without entries; none where memory runs out.
-pub(crate) fn new_outbox(alloc: Global) -> Option<Outbox<Log>>
-    ensures sound { IfSome result (λ box. outboxes.is_broken box ≡ false) }
-    ensures empty { IfSome result (λ box. outboxes.front_of box ≡ 0) }
+/// The outbox on a disk. Where a call of the disk fails it comes back; none does where memory runs out.
+pub(crate) fn open_outbox(alloc: Global, disk: MemDisk) -> Result<Outbox<Log>, Option<MemDisk>>
+    ensures sound { IfOk result (λ box. outboxes.is_broken box ≡ false) }
+    ensures left { IfOk result (OutboxIsLeft disk) }
+    ensures returned { IfErr result (λ o. IfSome o (LeavesNoMore disk)) }
 {
     let limits = LIMITS;
-    let journal = new_journal(alloc, limits)?;
-    Outbox::open(alloc, journal, limits).ok()
+    let journal = open_journal(alloc, disk, limits)?;
+    match Outbox::open(alloc, journal, limits) {
+        Ok(outbox) => Ok(outbox),
+        Err((journal, BoxFault::Fault)) => Err(Some(journal.close())),
+        Err((_, _)) => Err(None),
+    }
 }
 
-/// An inbox of a flow without records; none where memory runs out.
-pub(crate) fn new_inbox(alloc: Global, flow: Flow) -> Option<Inbox<Log>>
-    ensures flow { IfSome result (λ box. inboxes.flow_of box ≡ flow) }
-    ensures limit { IfSome result (λ box. (inboxes.limits_of box).entries ≡ 2 ^ 24) }
-    ensures numbered { IfSome result (λ box. inboxes.next_of box + 1 < 2 ^ 64) }
-    ensures empty { IfSome result (λ box. inboxes.HoldsBox box [] []) }
+/// The inbox of a flow on a disk. Where a call of the disk fails it comes back; none does where memory runs out, or the number that the
+/// inbox waits for is past the greatest.
+pub(crate) fn open_inbox(
+    alloc: Global,
+    disk: MemDisk,
+    flow: Flow,
+) -> Result<Inbox<Log>, Option<MemDisk>>
+    ensures flow { IfOk result (λ box. inboxes.flow_of box ≡ flow) }
+    ensures limit { IfOk result (λ box. (inboxes.limits_of box).entries ≡ 2 ^ 24) }
+    ensures next { IfOk result (λ box. inboxes.next_of box ≤ 2 ^ 24 + 1) }
+    ensures holds { IfOk result (λ box. ∥ ((i : List InboxRecord) × inboxes.HoldsBox box i []) ∥₁) }
+    ensures left { IfOk result (InboxIsLeft disk) }
+    ensures returned { IfErr result (λ o. IfSome o (LeavesNoMore disk)) }
 {
     let limits = LIMITS;
-    let journal = new_journal(alloc, limits)?;
-    Inbox::open(alloc, journal, limits, flow).ok()
+    let journal = open_journal(alloc, disk, limits)?;
+    match Inbox::open(alloc, journal, limits, flow) {
+        Ok(inbox) => {
+            if inbox.next() > MOST + 1 {
+                return Err(None);
+            }
+            Ok(inbox)
+        }
+        Err((journal, BoxFault::Fault)) => Err(Some(journal.close())),
+        Err((_, _)) => Err(None),
+    }
 }
