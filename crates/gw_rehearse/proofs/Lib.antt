@@ -7,3 +7,4 @@ mod Together
 mod Closing
 mod Arriving
 pub mod Outboxes
+pub mod Stopping

@@ -1,16 +1,16 @@
 //! The journals of an end, on disks in memory.
 
-ghost use Rattle.std.specs.Prelude.{◌≡◌, ◌+◌, ◌≤◌, ◌^◌, false, List, [], IfOk, IfErr, IfSome};
+ghost use Rattle.std.specs.Prelude.{◌≡◌, ◌+◌, ◌<◌, ◌≤◌, ◌^◌, false, List, [], IfOk, IfErr, IfSome};
 ghost use Rattle.session_model.specs.Inbox.{InboxRecord};
 ghost use Rattle.session_model.specs.Lives.{IsImage};
 ghost use Rattle.jr_dated.specs.Dated.{Dated};
 ghost use Rattle.jr_segments.specs.Journal.{StandsFor, broken_of, disk_of, limits_of};
 ghost use Rattle.jr_kept.specs.Outbox as outboxes;
 ghost use Rattle.jr_kept.specs.Inbox as inboxes;
-ghost use Rattle.gw_rehearse.specs.Stopped.{InboxIsLeft, LeavesImages, LeavesNoMore, OutboxIsLeft};
+ghost use Rattle.gw_rehearse.specs.Stopped.{DisksLeaveNoMore, InboxIsLeft, LeavesImages, LeavesNoMore, OutboxIsLeft};
 
 use fixp_msgs::Flow;
-use gw_fakes::MemDisk;
+use gw_fakes::{MemDisk, Pick};
 use jr_boxes::BoxFault;
 use jr_dated::Limits;
 use jr_kept::{Inbox, Outbox};
@@ -42,8 +42,66 @@ pub struct Journals {
     ghost few: { senders ≤ 16 },
 }
 
+/// The disks of both journals of an end.
+#[derive(Drop)]
+pub(crate) struct Disks {
+    pub outbox: MemDisk,
+    pub inbox: MemDisk,
+}
+
+impl Disks {
+    /// Disks that have journals without records; none where memory runs out.
+    pub(crate) fn formatted(alloc: Global) -> Option<Disks>
+        ensures outbox { IfSome result (λ disks. LeavesImages disks.outbox [] []) }
+        ensures inbox { IfSome result (λ disks. LeavesImages disks.inbox [] []) }
+    {
+        Some(Disks {
+            outbox: formatted(alloc)?,
+            inbox: formatted(alloc)?,
+        })
+    }
+}
+
+impl Disks {
+    /// Both behind a stop: all of each as the pick says.
+    pub(crate) fn stop(self, pick: Pick) -> Disks
+        ensures { DisksLeaveNoMore self result }
+    {
+        Disks {
+            outbox: self.outbox.stop(pick),
+            inbox: self.inbox.stop(pick),
+        }
+    }
+
+    /// Both, of each of which so many more calls pass.
+    pub(crate) fn fuse(self, calls: u64) -> Disks
+        ensures { DisksLeaveNoMore self result }
+    {
+        let Disks {
+            mut outbox,
+            mut inbox,
+        } = self;
+        outbox.fuse(calls);
+        inbox.fuse(calls);
+        Disks { outbox, inbox }
+    }
+}
+
+impl Journals {
+    /// The disks of both, as they stand.
+    pub(crate) fn into_disks(self) -> Disks
+        ensures outbox { result.outbox ≡ disk_of (outboxes.journal_of self.outbox) }
+        ensures inbox { result.inbox ≡ disk_of (inboxes.journal_of self.inbox) }
+    {
+        Disks {
+            outbox: self.outbox.into_journal().close(),
+            inbox: self.inbox.into_journal().close(),
+        }
+    }
+}
+
 /// A disk that has a journal without records; none where memory runs out.
-pub(crate) fn formatted(alloc: Global) -> Option<MemDisk>
+fn formatted(alloc: Global) -> Option<MemDisk>
     ensures { IfSome result (λ disk. LeavesImages disk [] []) }
 {
     let mut disk = MemDisk::without_faults(alloc, ROOM).ok()?;
@@ -69,7 +127,9 @@ fn open_journal(alloc: Global, disk: MemDisk, limits: Limits) -> Result<Log, Opt
 /// The outbox on a disk. Where a call of the disk fails it comes back; none does where memory runs out.
 pub(crate) fn open_outbox(alloc: Global, disk: MemDisk) -> Result<Outbox<Log>, Option<MemDisk>>
     ensures sound { IfOk result (λ box. outboxes.is_broken box ≡ false) }
+    ensures few { IfOk result (λ box. outboxes.front_of box < 2 ^ 40) }
     ensures left { IfOk result (OutboxIsLeft disk) }
+    ensures kept { IfOk result (λ box. LeavesNoMore disk (disk_of (outboxes.journal_of box))) }
     ensures returned { IfErr result (λ o. IfSome o (LeavesNoMore disk)) }
 {
     let limits = LIMITS;
