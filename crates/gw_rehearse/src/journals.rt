@@ -60,16 +60,15 @@ impl Disks {
             inbox: formatted(alloc)?,
         })
     }
-}
 
-impl Disks {
     /// Both behind a stop: all of each as the pick says.
     pub(crate) fn stop(self, pick: Pick) -> Disks
         ensures { DisksLeaveNoMore self result }
     {
+        let Disks { outbox, inbox } = self;
         Disks {
-            outbox: self.outbox.stop(pick),
-            inbox: self.inbox.stop(pick),
+            outbox: outbox.stop(pick),
+            inbox: inbox.stop(pick),
         }
     }
 
@@ -93,9 +92,14 @@ impl Journals {
         ensures outbox { result.outbox ≡ disk_of (outboxes.journal_of self.outbox) }
         ensures inbox { result.inbox ≡ disk_of (inboxes.journal_of self.inbox) }
     {
+        let Journals {
+            outbox,
+            inbox,
+            senders: _,
+        } = self;
         Disks {
-            outbox: self.outbox.into_journal().close(),
-            inbox: self.inbox.into_journal().close(),
+            outbox: outbox.into_journal().close(),
+            inbox: inbox.into_journal().close(),
         }
     }
 }
