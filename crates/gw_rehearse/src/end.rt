@@ -135,7 +135,10 @@ impl DrivenEnd {
         ensures first { IfSome result (λ end. ∥ BeginsOn config.own_flow config.peer_flow [] [] end ∥₁) }
     {
         let disks = Disks::formatted(alloc)?;
-        DrivenEnd::reopen(alloc, config, disks, senders, false).ok()
+        match DrivenEnd::reopen(alloc, config, disks, senders, false) {
+            Ok(end) => Some(end),
+            Err(_) => None,
+        }
     }
 
     /// An end over the journals of these disks, with so many senders, which has begun no connection, and which has finished in an earlier life
@@ -389,7 +392,10 @@ impl DrivenEnd {
         let journals = self.close();
         let senders = journals.senders;
         let disks = journals.into_disks().stop(pick);
-        DrivenEnd::reopen(alloc, config, disks, senders, finished).ok()
+        match DrivenEnd::reopen(alloc, config, disks, senders, finished) {
+            Ok(end) => Some(end),
+            Err(_) => None,
+        }
     }
 
     /// The end goes on from its disks, of each of which `after` more calls pass. Where one fails in the opening it is stopped at once, and goes on

@@ -109,8 +109,10 @@ fn formatted(alloc: Global) -> Option<MemDisk>
     ensures { IfSome result (λ disk. LeavesImages disk [] []) }
 {
     let mut disk = MemDisk::without_faults(alloc, ROOM).ok()?;
-    format(&mut disk).ok()?;
-    Some(disk)
+    match format(&mut disk) {
+        Ok(()) => Some(disk),
+        Err(_) => None,
+    }
 }
 
 /// The journal of a disk. Where a call of the disk fails it comes back; none does where memory runs out.

@@ -275,7 +275,9 @@ impl Pair {
     }
 
     /// Whether a call of a disk failed at an end.
-    fn has_failed(&self) -> bool {
+    fn has_failed(&self) -> bool
+        ensures { result ≡ self.now.failed }
+    {
         self.initiator.has_failed() || self.acceptor.has_failed()
     }
 
