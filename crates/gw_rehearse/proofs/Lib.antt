@@ -6,5 +6,5 @@ mod Stories
 mod Together
 mod Closing
 mod Arriving
-pub mod Outboxes
-pub mod Stopping
+mod Outboxes
+mod Stopping

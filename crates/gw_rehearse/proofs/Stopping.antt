@@ -115,7 +115,7 @@ next_life own peer l legs e e' j disks c o out_more in_more held n =
       lives = record {
         legs = l.legs ++ legs;
         begins = beginning_on n.begins.machine (outbox_of h) n.inbox;
-        story = lived l.story (record {
+        story = lived {b = l.begins} l.story (record {
           began = l.began;
           came_to = o.inbox;
           refused = o.refused;
