@@ -26,7 +26,7 @@ use Rattle.turn_laws.specs.Legs.{TurnedLeg}
 use Rattle.pair_laws.specs.Stories.{lived, OutboxGoesOn}
 use Rattle.gw_rehearse.specs.declared.end.DrivenEnd.{DrivenEnd}
 use Rattle.gw_rehearse.specs.declared.journals.Journals.{Journals}
-use Rattle.gw_rehearse.specs.declared.journals.Disks.{Disks}
+use Rattle.gw_rehearse.specs.declared.disks.Disks.{Disks}
 use Rattle.gw_rehearse.specs.Driven.{IsEnded, ClosedOn, beginning_on}
 use Rattle.gw_rehearse.specs.Stopped.{LeavesNoMore, IsLeft, BeginsOnLeft}
 use Rattle.gw_rehearse.specs.Together.{Lives, NextLife}

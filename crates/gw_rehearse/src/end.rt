@@ -22,7 +22,8 @@ ghost use Rattle.gw_rehearse.specs.Together.{GoesOnBehind};
 ghost use Rattle.gw_rehearse.specs.declared.standing.Standing.TheVariants as standings;
 
 use crate::configs::config_of;
-use crate::journals::{Disks, Journals, Log, MOST, open_inbox, open_outbox};
+use crate::disks::{Disks, open_inbox, open_outbox};
+use crate::journals::{Journals, Log, MOST};
 use crate::senders::{finish, go_on, have_sent, submit_next};
 use crate::standing::Standing;
 use crate::turning::make_turn;

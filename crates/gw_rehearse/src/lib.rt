@@ -4,6 +4,7 @@
 #![tactic(auto)]
 
 mod configs;
+mod disks;
 mod end;
 mod journals;
 mod pair;
