@@ -93,7 +93,7 @@ ended : (own peer : Flow) (l : Lives own peer) (legs : List TurnedLeg) (e : Driv
     → Story own peer (l.legs ++ legs) (outbox_of c.history) o.inbox
 ended own peer l legs e j c o s =
     let is : entries (outbox_of c.history) ≡ c.history.made = entries-outbox_of c.history in
-    lived l.story (record {
+    lived {b = l.begins} l.story (record {
       began = l.began;
       came_to = o.inbox;
       refused = [];

@@ -6,4 +6,4 @@ mod Stories
 mod Together
 mod Closing
 mod Arriving
-pub mod Outboxes
+mod Outboxes

@@ -1,8 +1,8 @@
 -- What stops leave of a disk, and what is opened on it.
-use Rattle.std.proofs.Common.{◌≡◌, ◌+◌, ℕ, List, [], ◌∷◌, ◌++◌, map, Option, Some, None, refl, sym, ap, subst, ◌∙◌, append-nil}
+use Rattle.std.proofs.Common.{◌<◌, ◌^◌, arith, ◌≡◌, ◌+◌, ℕ, List, [], ◌∷◌, ◌++◌, map, Option, Some, None, refl, sym, ap, subst, ◌∙◌, append-nil}
 use Rattle.std.specs.Prelude.{IsTrue, IsSomeAnd}
 use mathlib.Core.List.{IsPrefix}
-use Rattle.session_model.specs.Journal.{History}
+use Rattle.session_model.specs.Journal.{History, OutboxRecord}
 use Rattle.session_model.specs.Inbox.{InboxRecord}
 use Rattle.session_model.specs.Lives.{IsImage}
 use Rattle.gw_fakes.specs.Disks.{is_left}
@@ -20,7 +20,12 @@ use Rattle.jr_kept.specs.declared.outbox.Outbox.{Outbox}
 use Rattle.jr_kept.specs.Outbox as outboxes
 use Rattle.jr_kept.specs.declared.inbox.Inbox.{Inbox}
 use Rattle.jr_kept.specs.Inbox as inboxes
-use Rattle.gw_rehearse.specs.Stopped.{LeavesImages, LeavesNoMore, IsLeft}
+use Rattle.fixp_msgs.specs.declared.flow.Flow.{Flow}
+use Rattle.gate_senders.specs.Gate.{opening_of}
+use Rattle.gw_rehearse.specs.declared.end.DrivenEnd.{DrivenEnd}
+use Rattle.gw_rehearse.specs.declared.journals.Disks.{Disks}
+use Rattle.gw_rehearse.specs.Driven.{BeginsOn}
+use Rattle.gw_rehearse.specs.Stopped.{BeginsOnLeft, OutboxIsLeft, InboxIsLeft, LeavesImages, LeavesNoMore, IsLeft}
 
 -- what may be left of a disk
 abbrev pub may_leave : MemDisk → List ℕ → Type 0
@@ -89,3 +94,24 @@ none_added i l = empty i (none_left (records_of_inbox i) l)
     empty : (rs : List InboxRecord) → records_of_inbox rs ≡ [] → rs ≡ []
     empty [] e = refl
     empty (r ∷ rs) e = absurd (cc e)
+
+-- a life over disks that leave nothing begins on empty journals
+pub begins_empty : (own peer : Flow) (disks : Disks) (e : DrivenEnd) → LeavesImages disks.outbox [] [] → LeavesImages disks.inbox [] [] → BeginsOnLeft own peer disks e → BeginsOn own peer [] [] e
+begins_empty own peer disks e outbox inbox n =
+    subst (λ (rs : List OutboxRecord). BeginsOn own peer rs [] e) (none_made (opening_of e.gate).history (n.outbox_left [] [] outbox))
+    (subst (λ (i : List InboxRecord). BeginsOn own peer (outbox_of (opening_of e.gate).history) i e) (none_added n.inbox (n.inbox_left [] [] inbox)) n.begins)
+
+-- a life over boxes that were opened on disks begins on what is left of those
+pub begins_on_left : {J : Type 0} {G : Ghosts J} (own peer : Flow) (disks : Disks) (box : Outbox J G) (ibox : Inbox J G) (e : DrivenEnd) → outboxes.front_of box < 2 ^ 40 → OutboxIsLeft disks.outbox box → InboxIsLeft disks.inbox ibox
+    → ((i : List InboxRecord) → inboxes.HoldsBox ibox i [] → BeginsOn own peer (outbox_of (opening_of e.gate).history) i e) → outboxes.StandsFor box (opening_of e.gate).history
+    → ((i : List InboxRecord) × inboxes.HoldsBox ibox i []) → BeginsOnLeft own peer disks e
+begins_on_left own peer disks box ibox e few left left_in begins s k =
+    let h : inboxes.HoldsBox ibox k.0 [] = k.1 in
+    record {
+      inbox = k.0;
+      begins = begins k.0 h;
+      history = s.outbox;
+      few = omega (arith, s.tallied.all, few);
+      outbox_left = λ closing refused leaves. left closing refused leaves (opening_of e.gate).history s;
+      inbox_left = λ closing refused leaves. left_in closing refused leaves k.0 (record { dated = h.dated; bare = h.bare; journal = h.journal.stands_for; inbox = h.inbox; noticed = h.noticed });
+    }

@@ -1,5 +1,5 @@
 -- What stops leave of the disks of an end (this project's profile).
-use Rattle.std.specs.Prelude.{◌≡◌, List, Option, IsTrue, IsSomeAnd}
+use Rattle.std.specs.Prelude.{◌≡◌, ◌<◌, ◌^◌, List, length, Option, IsTrue, IsSomeAnd}
 use Rattle.session_model.specs.Journal.{History}
 use Rattle.session_model.specs.Inbox.{InboxRecord}
 use Rattle.session_model.specs.Lives.{IsImage}
@@ -10,12 +10,17 @@ use Rattle.jr_record.specs.declared.record.Record.{Record}
 use Rattle.jr_dated.specs.Dated.{Dated, undated}
 use Rattle.jr_dated.specs.Images.{Leaves}
 use Rattle.jr_dated.specs.declared.journal.Journal.{Ghosts}
-use Rattle.jr_boxes.specs.Outboxes.{records_of_history}
+use Rattle.fixp_msgs.specs.declared.flow.Flow.{Flow}
+use Rattle.gate_senders.specs.Gate.{opening_of}
+use Rattle.jr_boxes.specs.Outboxes.{IsOutbox, outbox_of, records_of_history}
 use Rattle.jr_boxes.specs.Inboxes.{records_of_inbox}
 use Rattle.jr_kept.specs.declared.outbox.Outbox.{Outbox}
 use Rattle.jr_kept.specs.Outbox as outboxes
 use Rattle.jr_kept.specs.declared.inbox.Inbox.{Inbox}
 use Rattle.jr_kept.specs.Inbox as inboxes
+use Rattle.gw_rehearse.specs.declared.journals.Disks.{Disks}
+use Rattle.gw_rehearse.specs.declared.end.DrivenEnd.{DrivenEnd}
+use Rattle.gw_rehearse.specs.Driven.{BeginsOn}
 
 -- whatever records a stop leaves of a disk in memory are the closing ones, and behind them a beginning of those that were refused
 abbrev pub LeavesImages : MemDisk → (closing refused : List Dated) → Type 0
@@ -39,3 +44,17 @@ module _ {J : Type 0} {G : Ghosts J} where
 
   abbrev pub InboxIsLeft : MemDisk → Inbox J G → Type 0
   InboxIsLeft disk box = (closing refused : List Dated) → LeavesImages disk closing refused → (i : List InboxRecord) → inboxes.StandsFor box i → IsLeft closing refused (records_of_inbox i)
+
+-- neither disk of an end leaves more than it might have left
+pub record DisksLeaveNoMore (before after : Disks) : Type 0 where
+  pub outbox : LeavesNoMore before.outbox after.outbox
+  pub inbox : LeavesNoMore before.inbox after.inbox
+
+-- A life of an end with these flows begins on what stops left of these disks: a history, which its gate opened with, and a list
+pub record BeginsOnLeft (own peer : Flow) (disks : Disks) (e : DrivenEnd) : Type 0 where
+  pub inbox : List InboxRecord
+  pub begins : BeginsOn own peer (outbox_of (opening_of e.gate).history) inbox e
+  pub history : IsOutbox (records_of_history (opening_of e.gate).history) (opening_of e.gate).history
+  pub few : length (opening_of e.gate).history.made < 2 ^ 40
+  pub outbox_left : (closing refused : List Dated) → LeavesImages disks.outbox closing refused → IsLeft closing refused (records_of_history (opening_of e.gate).history)
+  pub inbox_left : (closing refused : List Dated) → LeavesImages disks.inbox closing refused → IsLeft closing refused (records_of_inbox inbox)

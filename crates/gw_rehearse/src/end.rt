@@ -1,6 +1,6 @@
 //! An end that is driven.
 
-ghost use Rattle.std.specs.Prelude.{◌≡◌, ℕ, ◌+◌, ◌≤◌, ◌<◌, ◌^◌, All, List, [], ◌∷◌, ◌++◌, length, vec_len, false, if◌then◌else◌, Some, None, IfOk, IfSome, IsTrue};
+ghost use Rattle.std.specs.Prelude.{◌≡◌, ℕ, ◌+◌, ◌≤◌, ◌<◌, ◌^◌, All, List, [], ◌∷◌, ◌++◌, length, vec_len, false, if◌then◌else◌, Some, None, IfErr, IfOk, IfSome, IsTrue};
 ghost use Rattle.fixp_machine.specs.Machine.{fresh};
 ghost use Rattle.session_model.specs.Journal.{BeginsHistory};
 ghost use Rattle.session_model.specs.Inbox.{InboxRecord};
@@ -15,10 +15,11 @@ ghost use Rattle.pair_laws.specs.Driving.{Beginning, Awaits, begun_leg};
 ghost use Rattle.cmd_script.specs.Script.{IsCount};
 ghost use Rattle.gw_rehearse.specs.Standing.{Rests, is_given, is_going, sent_by};
 ghost use Rattle.gw_rehearse.specs.Driven.{BeginsOn, ClosedOn, IsDriven, IsMadeOf, RunsOver, StandsBehind, TurnsOn};
+ghost use Rattle.gw_rehearse.specs.Stopped.{BeginsOnLeft, DisksLeaveNoMore};
 ghost use Rattle.gw_rehearse.specs.Summaries.{counts_to};
 ghost use Rattle.gw_rehearse.specs.declared.standing.Standing.TheVariants as standings;
 
-use crate::journals::{Journals, Log, MOST, formatted, open_inbox, open_outbox};
+use crate::journals::{Disks, Journals, Log, MOST, open_inbox, open_outbox};
 use crate::senders::{finish, have_sent, submit_next};
 use crate::standing::Standing;
 use crate::turning::make_turn;
@@ -127,9 +128,48 @@ impl DrivenEnd {
         ensures sound { IfSome result (λ end. is_given end.standing ≡ false) }
         ensures first { IfSome result (λ end. ∥ BeginsOn config.own_flow config.peer_flow [] [] end ∥₁) }
     {
-        let outbox = open_outbox(alloc, formatted(alloc)?).ok()?;
-        let inbox = open_inbox(alloc, formatted(alloc)?, config.peer_flow).ok()?;
-        DrivenEnd::over(alloc, config, outbox, inbox, senders)
+        let disks = Disks::formatted(alloc)?;
+        match DrivenEnd::reopen(alloc, config, disks, senders) {
+            Ok(end) => Some(end),
+            Err(_) => None,
+        }
+    }
+
+    /// An end over the journals of these disks, with so many senders, which has begun no connection. The disks come back where a call of one
+    /// failed; none do where memory runs out, or a journal has too many records.
+    pub(crate) fn reopen(
+        alloc: Global,
+        config: EndConfig,
+        disks: Disks,
+        senders: u16,
+    ) -> Result<DrivenEnd, Option<Disks>>
+        requires keepalive { (100 ≤ config.keepalive) × (config.keepalive ≤ 60000) }
+        requires credentials { length config.credentials ≤ 2048 }
+        requires senders { senders ≤ 16 }
+        requires session { length config.session ≡ 16 }
+        ensures driven { IfOk result (λ end. IsDriven end) }
+        ensures sound { IfOk result (λ end. is_given end.standing ≡ false) }
+        ensures begins { IfOk result (λ end. ∥ BeginsOnLeft config.own_flow config.peer_flow disks end ∥₁) }
+        ensures returned { IfErr result (λ o. IfSome o (DisksLeaveNoMore disks)) }
+    {
+        let Disks { outbox, inbox } = disks;
+        let outbox = match open_outbox(alloc, outbox) {
+            Ok(outbox) => outbox,
+            Err(Some(outbox)) => return Err(Some(Disks { outbox, inbox })),
+            Err(None) => return Err(None),
+        };
+        let inbox = match open_inbox(alloc, inbox, config.peer_flow) {
+            Ok(inbox) => inbox,
+            Err(Some(inbox)) => {
+                let outbox = outbox.into_journal().close();
+                return Err(Some(Disks { outbox, inbox }));
+            }
+            Err(None) => return Err(None),
+        };
+        match DrivenEnd::over(alloc, config, outbox, inbox, senders) {
+            Some(end) => Ok(end),
+            None => Err(None),
+        }
     }
 
     /// An end over these boxes, with so many senders, which has begun no connection; none where memory runs out, or the outbox has too

@@ -1,6 +1,6 @@
 //! The journals of an end, on disks in memory.
 
-ghost use Rattle.std.specs.Prelude.{◌≡◌, ◌+◌, ◌≤◌, ◌^◌, false, List, [], IfOk, IfErr, IfSome};
+ghost use Rattle.std.specs.Prelude.{◌≡◌, ◌+◌, ◌<◌, ◌≤◌, ◌^◌, false, List, [], IfOk, IfErr, IfSome};
 ghost use Rattle.session_model.specs.Inbox.{InboxRecord};
 ghost use Rattle.session_model.specs.Lives.{IsImage};
 ghost use Rattle.jr_dated.specs.Dated.{Dated};
@@ -42,13 +42,35 @@ pub struct Journals {
     ghost few: { senders ≤ 16 },
 }
 
+/// The disks of both journals of an end.
+#[derive(Drop)]
+pub(crate) struct Disks {
+    pub outbox: MemDisk,
+    pub inbox: MemDisk,
+}
+
+impl Disks {
+    /// Disks that have journals without records; none where memory runs out.
+    pub(crate) fn formatted(alloc: Global) -> Option<Disks>
+        ensures outbox { IfSome result (λ disks. LeavesImages disks.outbox [] []) }
+        ensures inbox { IfSome result (λ disks. LeavesImages disks.inbox [] []) }
+    {
+        Some(Disks {
+            outbox: formatted(alloc)?,
+            inbox: formatted(alloc)?,
+        })
+    }
+}
+
 /// A disk that has a journal without records; none where memory runs out.
-pub(crate) fn formatted(alloc: Global) -> Option<MemDisk>
+fn formatted(alloc: Global) -> Option<MemDisk>
     ensures { IfSome result (λ disk. LeavesImages disk [] []) }
 {
     let mut disk = MemDisk::without_faults(alloc, ROOM).ok()?;
-    format(&mut disk).ok()?;
-    Some(disk)
+    match format(&mut disk) {
+        Ok(()) => Some(disk),
+        Err(_) => None,
+    }
 }
 
 /// The journal of a disk. Where a call of the disk fails it comes back; none does where memory runs out.
@@ -69,7 +91,9 @@ fn open_journal(alloc: Global, disk: MemDisk, limits: Limits) -> Result<Log, Opt
 /// The outbox on a disk. Where a call of the disk fails it comes back; none does where memory runs out.
 pub(crate) fn open_outbox(alloc: Global, disk: MemDisk) -> Result<Outbox<Log>, Option<MemDisk>>
     ensures sound { IfOk result (λ box. outboxes.is_broken box ≡ false) }
+    ensures few { IfOk result (λ box. outboxes.front_of box < 2 ^ 40) }
     ensures left { IfOk result (OutboxIsLeft disk) }
+    ensures kept { IfOk result (λ box. LeavesNoMore disk (disk_of (outboxes.journal_of box))) }
     ensures returned { IfErr result (λ o. IfSome o (LeavesNoMore disk)) }
 {
     let limits = LIMITS;
