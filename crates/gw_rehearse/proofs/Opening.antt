@@ -23,7 +23,7 @@ use Rattle.jr_kept.specs.Inbox as inboxes
 use Rattle.fixp_msgs.specs.declared.flow.Flow.{Flow}
 use Rattle.gate_senders.specs.Gate.{opening_of}
 use Rattle.gw_rehearse.specs.declared.end.DrivenEnd.{DrivenEnd}
-use Rattle.gw_rehearse.specs.declared.journals.Disks.{Disks}
+use Rattle.gw_rehearse.specs.declared.disks.Disks.{Disks}
 use Rattle.gw_rehearse.specs.Driven.{BeginsOn}
 use Rattle.gw_rehearse.specs.Stopped.{BeginsOnLeft, OutboxIsLeft, InboxIsLeft, LeavesImages, LeavesNoMore, IsLeft}
 

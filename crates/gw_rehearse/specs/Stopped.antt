@@ -18,7 +18,7 @@ use Rattle.jr_kept.specs.declared.outbox.Outbox.{Outbox}
 use Rattle.jr_kept.specs.Outbox as outboxes
 use Rattle.jr_kept.specs.declared.inbox.Inbox.{Inbox}
 use Rattle.jr_kept.specs.Inbox as inboxes
-use Rattle.gw_rehearse.specs.declared.journals.Disks.{Disks}
+use Rattle.gw_rehearse.specs.declared.disks.Disks.{Disks}
 use Rattle.gw_rehearse.specs.declared.end.DrivenEnd.{DrivenEnd}
 use Rattle.gw_rehearse.specs.Driven.{BeginsOn}
 

@@ -19,7 +19,8 @@ ghost use Rattle.gw_rehearse.specs.Stopped.{BeginsOnLeft, DisksLeaveNoMore};
 ghost use Rattle.gw_rehearse.specs.Summaries.{counts_to};
 ghost use Rattle.gw_rehearse.specs.declared.standing.Standing.TheVariants as standings;
 
-use crate::journals::{Disks, Journals, Log, MOST, open_inbox, open_outbox};
+use crate::disks::{Disks, open_inbox, open_outbox};
+use crate::journals::{Journals, Log, MOST};
 use crate::senders::{finish, have_sent, submit_next};
 use crate::standing::Standing;
 use crate::turning::make_turn;

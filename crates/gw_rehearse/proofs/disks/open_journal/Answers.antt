@@ -2,7 +2,7 @@ use Rattle.std.proofs.Common.{subst}
 use Rattle.std.specs.Option.{ForSome}
 use Rattle.jr_dated.specs.Images.{IsJournal}
 use Rattle.gw_rehearse.proofs.Opening.{is_image, leaves_one, leaves_within}
-use Rattle.gw_rehearse.proofs.journals.open_journal.Goals as goal
+use Rattle.gw_rehearse.proofs.disks.open_journal.Goals as goal
 
 pub returns-in-Ok-clause-left : goal.returns-in-Ok-clause-left
 returns-in-Ok-clause-left c = λ closing refused leaves h s.

@@ -2,7 +2,7 @@ use Rattle.std.proofs.Common.{sym, subst}
 use Rattle.std.proofs.Math.Logic.{∥∥₁_map}
 use Rattle.gw_rehearse.specs.Stopped.{LeavesNoMore}
 use Rattle.gw_rehearse.proofs.Opening.{inbox_left}
-use Rattle.gw_rehearse.proofs.journals.open_inbox.Goals as goal
+use Rattle.gw_rehearse.proofs.disks.open_inbox.Goals as goal
 
 pub returns-in-Ok-clause-left : goal.returns-in-Ok-clause-left
 returns-in-Ok-clause-left c = λ closing refused leaves h s.

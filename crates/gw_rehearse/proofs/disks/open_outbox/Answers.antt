@@ -3,7 +3,7 @@ use Rattle.jr_segments.specs.Lawful.{few_by}
 use Rattle.jr_segments.specs.Numbers.{numbers_of}
 use Rattle.gw_rehearse.specs.Stopped.{LeavesNoMore}
 use Rattle.gw_rehearse.proofs.Opening.{outbox_left}
-use Rattle.gw_rehearse.proofs.journals.open_outbox.Goals as goal
+use Rattle.gw_rehearse.proofs.disks.open_outbox.Goals as goal
 
 pub returns-in-Ok-clause-left : goal.returns-in-Ok-clause-left
 returns-in-Ok-clause-left c = λ closing refused leaves h s.
