@@ -27,8 +27,8 @@ use Rattle.gate_plans.specs.Sent.{entries_behind}
 use Rattle.gate_plans.specs.Runs.{plan_of, IsThrough, Counted, CountedEach, Ran, WasRefused}
 use Rattle.gate_plans.specs.Seats.{SeatedFrom}
 use Rattle.gate_plans.specs.declared.sender.Sender.{Sender}
-use Rattle.conn_serve.specs.declared.answer.ServeFault.{ServeFault}
-use Rattle.conn_serve.specs.Senders.{LosesMark, IsRefusal, FinishedFirst, SubmittedAll}
+use Rattle.conn_door.specs.declared.answer.ServeFault.{ServeFault}
+use Rattle.conn_door.specs.Senders.{LosesMark, IsRefusal, FinishedFirst, SubmittedAll}
 use Rattle.life_laws.specs.Plans.{plan_in, MadeOf, IsAllMade, LosesMessage}
 use Rattle.life_laws.specs.PlanLives.{IsAmong}
 use Rattle.life_laws.proofs.Seen.{stand_long, stand_among, own_among}

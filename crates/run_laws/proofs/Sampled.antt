@@ -46,19 +46,19 @@ use Rattle.jr_kept.specs.Inbox.{HoldsBox, next_of, is_negotiated}
 use Rattle.cmd_config.specs.declared.configuration.Configuration.{Configuration}
 use Rattle.conn_lines.specs.Lines.{connection_line}
 use Rattle.conn_lines.specs.declared.close.Close.TheVariants as closes
-use Rattle.conn_serve.specs.declared.answer.ServeFault.{ServeFault}
-use Rattle.conn_serve.specs.declared.answer.ServeFault.TheVariants as faults
-use Rattle.conn_serve.specs.declared.answer.LifeEnd.{LifeEnd}
-use Rattle.conn_serve.specs.declared.answer.LifeEnd.TheVariants as ends
+use Rattle.conn_door.specs.declared.answer.ServeFault.{ServeFault}
+use Rattle.conn_door.specs.declared.answer.ServeFault.TheVariants as faults
+use Rattle.conn_door.specs.declared.answer.LifeEnd.{LifeEnd}
+use Rattle.conn_door.specs.declared.answer.LifeEnd.TheVariants as ends
 use Rattle.conn_serve.specs.Connections.{LinkSeen, IsOver, ByClock, Connection, all_of, MadeNoMore, IsConnection, AllEnded, IsFollowed, IsFaithfulLeg, adds_of, refused_of_all}
-use Rattle.conn_serve.specs.Answers.{answer_of}
+use Rattle.conn_door.specs.Answers.{answer_of, IsUnrefused}
 use Rattle.conn_steps.specs.Settling.{HaveRoom}
 use Rattle.gw_outside.specs.Faults.{HasRisen}
 use Rattle.fixp_msgs.specs.declared.flow.Flow.TheVariants.{Recoverable}
 use Rattle.jr_boxes.specs.Inboxes.{records_of_inbox}
 use Rattle.life_laws.specs.PlanLives.{IsOfSender}
 use Rattle.conn_serve.specs.Moments.{life_at}
-use Rattle.conn_serve.specs.Opening.{opened_state, IsUnrefused}
+use Rattle.conn_serve.specs.Opening.{opened_state}
 use Rattle.conn_serve.specs.Served.{ServedLife, ServedOver, IsTold}
 use Rattle.life_laws.specs.Lives.{LifeOfLoop, served_of}
 use Rattle.life_laws.specs.Plans.{plan_in, KeepsPlans, LosesNext, GoesOnWith}

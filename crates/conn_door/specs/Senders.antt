@@ -1,5 +1,5 @@
 -- What a life makes of its senders, and of the Finish behind them (this project's profile).
-use Rattle.std.specs.Prelude.{◌≡◌, ◌≢◌, ◌⊎◌, ℕ, ◌<◌, true, All, Contains, List, [], ◌∷◌, length, slice_index_or, Option, Some, None}
+use Rattle.std.specs.Prelude.{◌≡◌, ◌≢◌, ◌⊎◌, ℕ, ◌<◌, true, All, Contains, List, [], ◌∷◌, length, slice_index_or, Option, Some, None, Result}
 use Rattle.session_model.specs.Journal.{finish}
 use Rattle.jr_dated.specs.declared.journal.Journal.{Ghosts}
 use Rattle.jr_boxes.specs.declared.faults.SubmitFault.{SubmitFault}
@@ -7,11 +7,12 @@ use Rattle.gate_turn.specs.Views.{HasFailed, Part}
 use Rattle.gate_turn.specs.Places.{known}
 use Rattle.gate_senders.specs.Shown.{TakesTurn}
 use Rattle.gate_senders.specs.declared.gate.Gate.{Gate}
-use Rattle.gate_plans.specs.Runs.{IsReady, RanEach, IsThrough}
+use Rattle.gate_plans.specs.Runs.{IsReady, RanEach, IsAdmitted, IsThrough}
 use Rattle.gate_plans.specs.declared.sender.Sender.{Sender}
-use Rattle.conn_serve.specs.declared.answer.ServeFault.{ServeFault}
-use Rattle.conn_serve.specs.declared.answer.ServeFault.TheVariants as faults
-use Rattle.conn_serve.specs.Answers.{submit_fault}
+use Rattle.conn_door.specs.declared.answer.ServeFault.{ServeFault}
+use Rattle.conn_door.specs.declared.answer.ServeFault.TheVariants as faults
+use Rattle.conn_door.specs.declared.answer.LifeEnd.{LifeEnd}
+use Rattle.conn_door.specs.Answers.{submit_fault, answer_of, IsUnrefused}
 
 -- the mark was refused with a failed call, so a stop may leave it behind the history, which had none; a journal is to blame, and nothing
 -- is taken any more
@@ -74,6 +75,15 @@ module _ {J : Type 0} {G : Ghosts J} where
     pub each : RanEach gate before ran
     pub finished : IsFinished ran after refused
     pub ready : All (IsReady gate) after
+
+  -- The senders submitted, and it answers what comes first of them and of connections that ended so. Where no refusal is answered, and nothing
+  -- failed, none was turned away
+  pub record EndedSo (gate : Gate J G) (before after : List (Sender J G)) (connections : Result LifeEnd ServeFault) (result : Result (Unit {0}) ServeFault)
+      : Type 0 where
+    pub refused : Option ServeFault
+    pub submitted : SubmittedAll gate before after refused
+    pub answer : result ≡ answer_of connections refused
+    pub admitted : IsUnrefused result → All IsAdmitted after
 
   -- the pass of a sender has seen the mark
   pub record SomeMarked (senders : List (Sender J G)) : Type 0 where

@@ -6,7 +6,7 @@ ghost use Rattle.gate_turn.specs.Calls.{IsFree};
 ghost use Rattle.gate_senders.specs.Gate.{IsPassAt};
 ghost use Rattle.gate_plans.specs.Runs.{IsReady, RanEach, IsAdmitted, IsLowest};
 ghost use Rattle.gate_plans.specs.declared.sender.Sender.{Sender};
-ghost use Rattle.conn_serve.specs.Senders.{refusal_of, Finishes, IsRefusal, FinishedFirst, SubmittedAll};
+ghost use Rattle.conn_door.specs.Senders.{refusal_of, Finishes, IsRefusal, FinishedFirst, SubmittedAll};
 
 use crate::answer::{ServeFault, refused_finish, refused_submit};
 use crate::signals::Signals;
@@ -119,7 +119,7 @@ fn submit_and_finish<O: Journal + Send, R: Threads + Wait + Sync>(
 }
 
 /// Submits the plans and adds the Finish behind them, and tells the connections to stop where a refusal was met.
-pub(crate) fn submit_all<O: Journal + Send, R: Threads + Wait + Sync>(
+pub fn submit_all<O: Journal + Send, R: Threads + Wait + Sync>(
     gate: &Gate<O>,
     senders: &mut [Sender<O>],
     signals: &Signals,

@@ -1,6 +1,6 @@
 use Rattle.std.proofs.Common.{refl, arith}
-use Rattle.conn_serve.proofs.Resuming.{some_there, ran_before, finished_behind, refused_behind}
-use Rattle.conn_serve.proofs.senders.submit_turned.Goals as goal
+use Rattle.conn_door.proofs.Resuming.{some_there, ran_before, finished_behind, refused_behind}
+use Rattle.conn_door.proofs.senders.submit_turned.Goals as goal
 
 pub returns-in-Ok-clause-one_run : goal.returns-in-Ok-clause-one_run
 returns-in-Ok-clause-one_run g c = λ before s.

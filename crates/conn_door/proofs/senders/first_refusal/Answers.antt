@@ -2,8 +2,8 @@ use Rattle.std.proofs.Common.{◌≡◌, All, take, length, sym, subst, ◌∙�
 use Rattle.std.proofs.Math.Seq.{take-length}
 use Rattle.std.proofs.lemmas.List.{get_or_default}
 use Rattle.std.proofs.lemmas.List.Elements.{All-more}
-use Rattle.conn_serve.specs.Senders.{OnlyClosed}
-use Rattle.conn_serve.proofs.senders.first_refusal.Goals as goal
+use Rattle.conn_door.specs.Senders.{OnlyClosed}
+use Rattle.conn_door.proofs.senders.first_refusal.Goals as goal
 
 pub returns-in-Some : goal.returns-in-Some
 returns-in-Some g c =

@@ -1,6 +1,6 @@
 use Rattle.std.proofs.Common.{refl}
-use Rattle.conn_serve.proofs.Marking.{ended_kept, ended_late}
-use Rattle.conn_serve.proofs.serving.submit_behind.Goals as goal
+use Rattle.conn_door.proofs.Marking.{ended_kept, ended_late}
+use Rattle.conn_door.proofs.behind.submit_behind.Goals as goal
 
 pub returns-then-not-is_unrefused-clause-behind : goal.returns-then-not-is_unrefused-clause-behind
 returns-then-not-is_unrefused-clause-behind g c = λ before connections refused s is.

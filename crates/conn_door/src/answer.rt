@@ -1,11 +1,8 @@
-//! How a life of connections ends.
+//! How a life of connections ends, and what it answers for them and for the senders beside them.
 
 ghost use Rattle.std.specs.Prelude.{◌≡◌, IsTrue, IsFalse};
-ghost use Rattle.conn_serve.specs.Answers.{close_of, submit_fault, finish_fault, yields_to, late_answer, answer_of};
-ghost use Rattle.conn_serve.specs.Opening.{IsUnrefused};
+ghost use Rattle.conn_door.specs.Answers.{submit_fault, finish_fault, yields_to, late_answer, answer_of, IsUnrefused};
 
-use conn_lines::Close;
-use conn_turns::{TurnEnd, TurnFault};
 use fixp_shake::Phase;
 use jr_boxes::{CloseFault, SubmitFault};
 use thiserror::Error;
@@ -51,22 +48,7 @@ pub enum ServeFault {
     Memory,
 }
 
-/// How the connection came to its end, where it did: `None` where it goes on after the turn that answered so.
-pub(crate) fn close_of(answer: Result<TurnEnd, TurnFault>) -> Result<Option<Close>, ServeFault>
-    ensures { result ≡ close_of answer }
-{
-    match answer {
-        Ok(TurnEnd::Go) => Ok(None),
-        Ok(TurnEnd::Ended(ending)) => Ok(Some(Close::Ended(ending))),
-        Err(TurnFault::Link) => Ok(Some(Close::LinkFault)),
-        Err(TurnFault::Inbox | TurnFault::Outbox | TurnFault::Broken) => Err(ServeFault::Journal),
-        Err(TurnFault::Changed { at }) => Err(ServeFault::Changed { at }),
-        Err(TurnFault::Full { entries, bytes }) => Err(ServeFault::Full { entries, bytes }),
-        Err(TurnFault::Memory) => Err(ServeFault::Memory),
-    }
-}
-
-/// What a refusal of a sender is to `serve`: a closed outbox is none.
+/// What a refusal of a sender is to a life: a closed outbox is none.
 pub(crate) fn refused_submit(fault: SubmitFault) -> Option<ServeFault>
     ensures { result ≡ submit_fault fault }
 {
@@ -78,7 +60,7 @@ pub(crate) fn refused_submit(fault: SubmitFault) -> Option<ServeFault>
     }
 }
 
-/// What a refusal of the Finish is to `serve`: an outbox that is closed already is none.
+/// What a refusal of the Finish is to a life: an outbox that is closed already is none.
 pub(crate) fn refused_finish(fault: CloseFault) -> Option<ServeFault>
     ensures { result ≡ finish_fault fault }
 {
@@ -133,7 +115,7 @@ pub(crate) fn late_answer(
 /// The answer of a life whose connections ended so, and whose senders were refused so, if they were. A fault of the
 /// connections' side comes first, but that a journal failed comes before that the dialer did; then a refusal; and then that the
 /// session was not finished.
-pub(crate) fn answer_of(
+pub fn answer_of(
     connections: Result<LifeEnd, ServeFault>,
     refused: Option<ServeFault>,
 ) -> Result<(), ServeFault>

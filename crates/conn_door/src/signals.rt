@@ -93,8 +93,13 @@ impl Signals {
         }
     }
 
+    /// The word that says whether the connections are to stop. Nothing unsets it.
+    pub fn stop(&self) -> &AtomicBool {
+        &self.stop
+    }
+
     /// A turn was made, behind which the end stands so.
-    pub(crate) fn turned<R: Wait>(&self, end: &End, rt: &R) {
+    pub fn turned<R: Wait>(&self, end: &End, rt: &R) {
         if !self.open {
             let established = matches!(end.phase(), Phase::Established);
             self.progress.lock(rt).reach(end.sent(), established);
@@ -103,14 +108,14 @@ impl Signals {
     }
 
     /// The connection is over.
-    pub(crate) fn lost<R: Wait>(&self, end: &End, rt: &R) {
+    pub fn lost<R: Wait>(&self, end: &End, rt: &R) {
         if !self.open {
             self.progress.lock(rt).reach(end.sent(), false);
         }
     }
 
     /// No message is let in any more: no connection follows, or none would help.
-    pub(crate) fn shut<R: Wait>(&self, rt: &R) {
+    pub fn shut<R: Wait>(&self, rt: &R) {
         if !self.open {
             self.progress.lock(rt).shut = true;
             self.moved.notify_all();

@@ -7,8 +7,8 @@ use Rattle.jr_boxes.specs.declared.faults.SubmitFault.{SubmitFault}
 use Rattle.gate_senders.specs.declared.gate.Gate.{Gate}
 use Rattle.gate_plans.specs.Runs.{IsReady, RanEach, HasNone, IsAdmitted, IsThrough, IsLowestRefusal}
 use Rattle.gate_plans.specs.declared.sender.Sender.{Sender}
-use Rattle.conn_serve.specs.declared.answer.ServeFault.{ServeFault}
-use Rattle.conn_serve.specs.Senders.{IsRefusal, FinishedFirst, SubmittedAll}
+use Rattle.conn_door.specs.declared.answer.ServeFault.{ServeFault}
+use Rattle.conn_door.specs.Senders.{IsRefusal, FinishedFirst, SubmittedAll}
 
 module _ {O : Type 0} {H : Ghosts O} where
   pub some_there : (senders : List (Sender O H)) → (All IsAdmitted senders → ⊥) → 0 < length senders
