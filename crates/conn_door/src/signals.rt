@@ -145,6 +145,14 @@ impl Door for Signals {
         !progress.shut
     }
 
+    fn with_it<R: Wait>(&self, _sender: u16, _k: u64, rt: &R) -> bool {
+        if self.open {
+            return true;
+        }
+        let mut progress = self.progress.lock(rt);
+        !progress.shut && progress.enter()
+    }
+
     fn refused<R: Wait>(&self, fault: SubmitFault, rt: &R) {
         // A closed outbox has all that it is to have; any other refusal ends the life, and nobody waits for it.
         if !matches!(fault, SubmitFault::Closed) {
