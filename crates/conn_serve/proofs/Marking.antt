@@ -1,5 +1,5 @@
 -- Where no refusal of the senders of a life is answered, the pass of one of them has seen the mark.
-use Rattle.std.proofs.Common.{◌≡◌, ◌⊎◌, inl, inr, ℕ, ◌<◌, List, length, All, Option, Some, None, Result, Err, sym, ap, subst, ◌∙◌}
+use Rattle.std.proofs.Common.{◌≡◌, ◌⊎◌, inl, inr, ℕ, ◌<◌, List, length, All, Option, Some, None, Result, Err, refl, sym, ap, subst, ◌∙◌}
 use Rattle.std.proofs.lemmas.Bool.{false≢true}
 use Rattle.jr_dated.specs.declared.journal.Journal.{Ghosts}
 use Rattle.fixp_machine.specs.Machine.{State}

@@ -1,6 +1,6 @@
 //! A whole life: the connections, and the senders beside them.
 
-ghost use Rattle.std.specs.Prelude.{◌≡◌, ℕ, ◌≤◌, ◌<◌, ◌^◌, ◌+◌, false, All, List, IfOk, IfErr, if◌then◌else◌, Some, None, length};
+ghost use Rattle.std.specs.Prelude.{◌≡◌, ℕ, ◌≤◌, ◌<◌, ◌^◌, ◌+◌, false, All, IfOk, if◌then◌else◌, Some, None, length};
 ghost use Rattle.session_model.specs.Journal.{BeginsHistory};
 ghost use Rattle.fixp_msgs.specs.declared.flow.Flow.TheVariants.{Recoverable};
 ghost use Rattle.fixp_machine.specs.Machine.{fresh};
@@ -9,13 +9,12 @@ ghost use Rattle.gate_turn.specs.Places.{known};
 ghost use Rattle.gate_turn.specs.Calls.{IsFree};
 ghost use Rattle.gate_senders.specs.Gate.{IsPassAt, opening_of};
 ghost use Rattle.gate_plans.specs.Runs.{IsReady, IsAdmitted};
-ghost use Rattle.conn_door.specs.Answers.{answer_of, IsUnrefused};
+ghost use Rattle.conn_door.specs.Answers.{IsUnrefused};
 ghost use Rattle.gate_plans.specs.Seats.{Seated};
 ghost use Rattle.conn_steps.specs.Settling.{SameKind};
 ghost use Rattle.conn_loop.specs.Conn.{line_of, new_line, Looks};
 ghost use Rattle.conn_serve.specs.Turned.{MayBegin};
-ghost use Rattle.gate_plans.specs.declared.sender.Sender.{Sender};
-ghost use Rattle.conn_door.specs.Senders.{SubmittedAll, SomeMarked, EndedSo};
+ghost use Rattle.conn_door.specs.Senders.{SomeMarked};
 ghost use Rattle.conn_serve.specs.Opening.{opened_state, ServedBy, ServedThrough};
 ghost use Rattle.conn_serve.specs.Moments.{serving_at};
 
