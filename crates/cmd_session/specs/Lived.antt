@@ -128,7 +128,7 @@ module _ {J : Type 0} {G : Ghosts J} where
     -- connections is a machine that is made of both; what it came to see of the outbox begins the closing history, as the opening one does; and
     -- where the disks tell their content it keeps the contract of one end, by these plans. A record of OUTBOX changes only where they do not.
     -- What is left are the records of the closing history and list, and behind them a beginning of those refused by a failed call: in the outbox
-    -- of the one that the plans have next, if its disk failed, with which the closing history is one history in order, which keeps the plans too.
+    -- of what the plans have next, if its disk failed, with all of which the closing history is one history in order, which keeps the plans too.
     -- Every record that the life added to its inbox had room, and so had the one whose append the disk failed. Why it answers so: the
     -- connections and the refusal say it (`IsLifeAnswer`, `answer_of`), and the counts
     pub record LivedOver (sees : Sees S K D N C) (config : EndConfig) (plans : List (List (List ℕ)))
