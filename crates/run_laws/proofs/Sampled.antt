@@ -205,7 +205,7 @@ module _ {J : Type 0} {G : Ghosts J} (box : Inbox J G) (held : HoldsBox box [] [
   pub goes : GoesOnWith plans h h lost
   goes = plans_go_on plans h h lost (keeps_same plans h unmarked) loses
 
-  goes_whole : GoesOnBy plans h h lost
+  pub goes_whole : GoesOnBy plans h h lost
   goes_whole = goes lost (prefix_self lost)
 
   pub outbox_is_kept : (t : G.tells) → KeepsOutbox (plan_in plans) (life_in (machine_life (life t).life))
