@@ -1,8 +1,9 @@
 //! Cases of journals with moments, of both boxes over them, and of damaged journals of either format: reads a file of cases, plays each
 //! line on a disk in memory of its own, and prints its steps with what each gave; and plays sequences of drawn calls and stops, and
-//! compares each with a plain list. What it has to print stands in `stdout`, worked out by hand from the format.
+//! compares each with a plain list; and a measurement, `bench`. What it has to print stands in `stdout`, worked out by hand from the format.
 #![tactic(auto)]
 
+mod bench;
 mod chance;
 mod damage;
 mod disks;
@@ -95,6 +96,9 @@ fn main(rt: HostRuntime) -> io::Result<()> {
         for words in seeds.lines() {
             rt.println(shown(rt.alloc(), words)?)?;
         }
+    }
+    if begins(&rt, &asked, "bench")? {
+        bench::print(&rt)?;
     }
     Ok(())
 }
