@@ -18,9 +18,9 @@ use Rattle.gw_link_fakes.specs.Pipes.{Held}
 use Rattle.turn_laws.specs.Standing.{Has}
 use Rattle.turn_laws.specs.Legs.{TurnedLeg}
 use Rattle.two_ends.specs.Meeting.{Holds}
-use Rattle.pair_laws.specs.Pairing.{ReadEachOther}
-use Rattle.pair_laws.specs.Stories.{Story, lived, OutboxGoesOn}
-use Rattle.pair_laws.proofs.Meeting.{stories_hold}
+use Rattle.two_ends.specs.Pairing.{ReadEachOther}
+use Rattle.two_ends.specs.Stories.{Story, lived, OutboxGoesOn}
+use Rattle.two_ends.proofs.Driven.{stories_hold}
 use Rattle.gw_rehearse.specs.declared.end.DrivenEnd.{DrivenEnd}
 use Rattle.gw_rehearse.specs.declared.journals.Journals.{Journals}
 use Rattle.gw_rehearse.specs.Standing.{is_given}

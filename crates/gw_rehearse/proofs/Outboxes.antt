@@ -4,7 +4,7 @@ use mathlib.Core.List.{IsPrefix}
 use Rattle.session_model.specs.Journal.{Entry, OutboxRecord, entry, entries, History, is_finished, history_of, BeginsHistory}
 use Rattle.session_model.proofs.Lists.{prefix_equal, prefix_trans, prefix_map, prefix_of_append}
 use Rattle.jr_boxes.specs.Outboxes.{mark_of, outbox_of}
-use Rattle.pair_laws.specs.Stories.{OutboxGoesOn}
+use Rattle.two_ends.specs.Stories.{OutboxGoesOn}
 
 -- they have its entries, and its mark
 entries_of_records : (es : List Entry) (b : Bool) → entries (map (λ (e : Entry). entry e) es ++ mark_of b) ≡ es

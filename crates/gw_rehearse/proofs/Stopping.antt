@@ -23,7 +23,7 @@ use Rattle.gate_turn.proofs.Histories.{begins_on}
 use Rattle.gate_senders.specs.Gate.{opening_of}
 use Rattle.turn_laws.specs.Standing.{Has}
 use Rattle.turn_laws.specs.Legs.{TurnedLeg}
-use Rattle.pair_laws.specs.Stories.{lived, OutboxGoesOn}
+use Rattle.two_ends.specs.Stories.{lived, OutboxGoesOn}
 use Rattle.gw_rehearse.specs.declared.end.DrivenEnd.{DrivenEnd}
 use Rattle.gw_rehearse.specs.declared.journals.Journals.{Journals}
 use Rattle.gw_rehearse.specs.declared.disks.Disks.{Disks}

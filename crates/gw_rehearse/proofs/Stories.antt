@@ -26,10 +26,10 @@ use Rattle.turn_laws.specs.Legs.{TurnedLeg, given_in, sent_in}
 use Rattle.turn_laws.specs.Turns.{line_received, adds_in}
 use Rattle.turn_laws.specs.Turned.{WasTurn, WasCut}
 use Rattle.turn_laws.proofs.Refusing.{cut_waits}
-use Rattle.pair_laws.specs.Driving.{Beginning, Awaits, begun_leg, with_turn, cut_leg, Between, During}
-use Rattle.pair_laws.specs.Stories.{IsOver}
-use Rattle.pair_laws.proofs.Going.{leg_begins, turn_goes_on, leg_ends, cut_ends, life_ends, life_fails}
-use Rattle.pair_laws.proofs.Moving.{turn_carries}
+use Rattle.two_ends.specs.Driving.{Beginning, Awaits, begun_leg, with_turn, cut_leg, Between, During}
+use Rattle.two_ends.specs.Stories.{IsOver}
+use Rattle.two_ends.proofs.Going.{leg_begins, turn_goes_on, leg_ends, cut_ends, life_ends, life_fails}
+use Rattle.two_ends.proofs.Moving.{turn_carries}
 use Rattle.gw_rehearse.specs.declared.end.DrivenEnd.{DrivenEnd}
 use Rattle.gw_rehearse.specs.declared.standing.Standing.{Standing}
 use Rattle.gw_rehearse.specs.declared.standing.Standing.TheVariants as standings

@@ -10,9 +10,9 @@ use Rattle.jr_kept.specs.Outbox as outboxes
 use Rattle.gw_link_fakes.specs.Pipes.{Held}
 use Rattle.turn_laws.specs.Legs.{TurnedLeg}
 use Rattle.two_ends.specs.Meeting.{Holds}
-use Rattle.pair_laws.specs.Driving.{Beginning}
-use Rattle.pair_laws.specs.Pairing.{ReadEachOther, UnderWay}
-use Rattle.pair_laws.specs.Stories.{Began, Story}
+use Rattle.two_ends.specs.Driving.{Beginning}
+use Rattle.two_ends.specs.Pairing.{ReadEachOther, UnderWay}
+use Rattle.two_ends.specs.Stories.{Began, Story}
 use Rattle.cmd_script.specs.declared.script.Script.{Script}
 use Rattle.gw_rehearse.specs.declared.end.DrivenEnd.{DrivenEnd}
 use Rattle.gw_rehearse.specs.declared.journals.Journals.{Journals}

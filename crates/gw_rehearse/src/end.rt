@@ -11,7 +11,7 @@ ghost use Rattle.gate_turn.specs.Views.{Part};
 ghost use Rattle.gate_senders.specs.Gate.{opening_of};
 ghost use Rattle.conn_loop.specs.Conn.{line_of, new_line};
 ghost use Rattle.turn_laws.specs.Legs.{TurnedLeg};
-ghost use Rattle.pair_laws.specs.Driving.{Beginning, Awaits, begun_leg};
+ghost use Rattle.two_ends.specs.Driving.{Beginning, Awaits, begun_leg};
 ghost use Rattle.cmd_config.specs.Settings.{own_flow, peer_flow};
 ghost use Rattle.cmd_script.specs.Script.{IsCount, IsScript};
 ghost use Rattle.gw_rehearse.specs.Standing.{Rests, is_failed, is_given, is_going, sent_by};

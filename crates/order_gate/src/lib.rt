@@ -4,6 +4,10 @@
 
 mod call;
 mod desk;
+mod desks;
+mod form;
+mod hand;
 mod line;
-mod run;
 mod share;
+
+pub use desks::Desks;

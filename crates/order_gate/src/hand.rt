@@ -1,0 +1,167 @@
+//! A hand: a desk, and what it answers by.
+ghost use Rattle.std.specs.Prelude.{◌≡◌, ◌≢◌, ℕ, ◌+◌, ◌%◌, ◌<◌, ◌≤◌, length, slice_index_or, All, None, Some, IfSome, IfNone};
+ghost use Rattle.jr_boxes.specs.declared.faults.SubmitFault.TheVariants as submit;
+ghost use Rattle.gate_turn.specs.Rule.{In};
+ghost use Rattle.gate_turn.specs.Listed.{pass_at};
+ghost use Rattle.gate_senders.specs.Gate.{senders_of};
+ghost use Rattle.gate_business.specs.Business.{lock_of};
+ghost use Rattle.order_gate.specs.Desks.{IsQuiet, HasNone, HasMet, IsAnswer, HasNumber, IsSeated, Counted, with_pass, without_pass};
+
+use crate::call::Call;
+use crate::desk::Desk;
+use crate::form::Form;
+use gate_plans::Door;
+use gate_senders::{Gate, Kept};
+use gate_turn::Passes;
+use jr_boxes::SubmitFault;
+use jr_dated::Journal;
+use sbe_value::Payloads;
+use std::alloc::Global;
+use std::sync::Wait;
+
+/// A desk, and what it answers by.
+#[derive(Drop)]
+pub struct Hand<J: Journal, D> {
+    pub(crate) alloc: Global,
+    pub(crate) desk: Desk<J>,
+    pub(crate) form: Form,
+    /// The reference price, in ten-thousandths.
+    pub(crate) reference: i64,
+    /// How many desks there are.
+    pub(crate) desks: u16,
+    /// How many messages were applied, modulo the desks.
+    pub(crate) turn: u16,
+    /// What is asked before each submit.
+    pub(crate) door: D,
+}
+
+/// Whose turn it is behind so many more messages.
+fn turn_behind(turn: u16, count: usize, desks: u16) -> u16
+    requires some { 0 < desks }
+    requires most { count ≤ 512 }
+    ensures { result ≡ (turn + count) % desks }
+{
+    ((u64::from(turn) + count as u64) % u64::from(desks)) as u16
+}
+
+impl<J: Journal, D> Hand<J, D> {
+    ghost use Rattle.order_gate.specs.Desks.{IsSeated, IsAble, Worked, Counted};
+
+    /// Counts the entries that the outbox has of it: they are owed.
+    fn count<R: Wait>(&mut self, gate: &Gate<J>, rt: &R)
+        requires seated { IsSeated (lock_of gate.now) self.old.desk }
+        ensures counted { Counted (lock_of gate.now) self.old self.new }
+    {
+        self.desk.count(gate, rt);
+        self.turn = 0;
+    }
+
+    /// Answers its share of the messages.
+    pub(crate) fn answer<R: Wait>(&mut self, payloads: &Payloads, gate: &Gate<J>, rt: &R)
+    where
+        D: Door,
+        requires able { IsAble (lock_of gate.now) (senders_of gate.now) self.old }
+        requires most { length payloads.now ≤ 512 }
+        ensures worked { Worked (lock_of gate.now) (senders_of gate.now) payloads.now self.old self.new }
+    {
+        let form = &self.form;
+        let call = Call {
+            plan: &form.plan,
+            reference: self.reference,
+            desks: self.desks,
+            turn: self.turn,
+            payloads,
+        };
+        self.desk
+            .answer_share(self.alloc, gate, &call, &self.door, rt);
+        self.turn = turn_behind(self.turn, payloads.len(), self.desks);
+    }
+}
+
+/// Counts the entries that the outbox has of each.
+pub(crate) fn count_each<J: Journal, D, R: Wait>(
+    hands: &mut [Hand<J, D>],
+    gate: &Gate<J>,
+    rt: &R,
+)
+    requires seated { All (λ h. IsSeated (lock_of gate.now) h.desk) hands.old }
+    ensures long { length hands.new ≡ length hands.old }
+    ensures each { (i : ℕ) (h : Hand _ _ _) → i < length hands.old → Counted (lock_of gate.now) (slice_index_or hands.old i h) (slice_index_or hands.new i h) }
+{
+    for place in 0..hands.len() {
+        hands[place].count(gate, rt);
+    }
+}
+
+/// Takes the passes of all out, into their places.
+pub(crate) fn passes_of_all<J: Journal, D>(hands: &mut [Hand<J, D>]) -> Passes<Kept<J>>
+    requires numbered { (i : ℕ) (h : Hand _ _ _) → i < length hands.old → HasNumber (i + 1) (slice_index_or hands.old i h) }
+    ensures long { length hands.new ≡ length hands.old }
+    ensures each { (i : ℕ) (h : Hand _ _ _) → i < length hands.old → slice_index_or hands.new i h ≡ without_pass (slice_index_or hands.old i h) }
+    ensures passes { (i : ℕ) (h : Hand _ _ _) → i < length hands.old → pass_at result (i + 1) ≡ (slice_index_or hands.old i h).desk.pass }
+    ensures others { (n : ℕ) → ¬ In (length hands.old) n → pass_at result n ≡ None }
+{
+    let mut passes = Passes::new();
+    for place in 0..hands.len() {
+        if let Some(pass) = hands[place].desk.pass.take() {
+            passes.give(pass);
+        }
+    }
+    passes
+}
+
+/// Gives each the pass of its number.
+pub(crate) fn give_to_all<J: Journal, D>(hands: &mut [Hand<J, D>], passes: Passes<Kept<J>>)
+    requires few { length hands.old ≤ 16 }
+    ensures long { length hands.new ≡ length hands.old }
+    ensures each { (i : ℕ) (h : Hand _ _ _) → i < length hands.old → slice_index_or hands.new i h ≡ with_pass (pass_at passes (i + 1)) (slice_index_or hands.old i h) }
+{
+    let mut passes = passes;
+    for place in 0..hands.len() {
+        hands[place].desk.pass = passes.take(place as u16 + 1);
+    }
+}
+
+/// The refusal of the lowest that met another than that the outbox is closed.
+fn graver_refusal<J: Journal, D>(hands: &[Hand<J, D>]) -> Option<SubmitFault>
+    ensures some { IfSome result (λ f. HasMet hands.now f × (f ≢ submit.Closed)) }
+    ensures none { IfNone result (All IsQuiet hands.now) }
+{
+    for hand in hands {
+        if let Some(fault) = hand.desk.refused {
+            if fault != SubmitFault::Closed {
+                return Some(fault);
+            }
+        }
+    }
+    None
+}
+
+/// The refusal of the lowest that met one.
+fn lowest_refusal<J: Journal, D>(hands: &[Hand<J, D>]) -> Option<SubmitFault>
+    ensures some { IfSome result (λ f. HasMet hands.now f) }
+    ensures none { IfNone result (All HasNone hands.now) }
+{
+    for hand in hands {
+        if let Some(fault) = hand.desk.refused {
+            return Some(fault);
+        }
+    }
+    None
+}
+
+/// The refusal of the lowest that met one. That the outbox is closed comes behind all others.
+///
+/// # Errors
+/// That refusal.
+pub(crate) fn answer_of_all<J: Journal, D>(hands: &[Hand<J, D>]) -> Result<(), SubmitFault>
+    ensures answer { IsAnswer hands.now result }
+{
+    if let Some(fault) = graver_refusal(hands) {
+        return Err(fault);
+    }
+    match lowest_refusal(hands) {
+        Some(fault) => Err(fault),
+        None => Ok(()),
+    }
+}

@@ -1,4 +1,0 @@
-pub mod Driving
-pub mod Pairing
-pub mod Stories
-pub mod Laws
