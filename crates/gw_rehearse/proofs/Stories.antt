@@ -1,5 +1,5 @@
 -- What is known of an end over the connections that it had, behind each of its calls.
-use Rattle.std.proofs.Common.{◌≡◌, ◌≤◌, ◌^◌, ℕ, false, Bool, List, [], ◌∷◌, ◌++◌, length, Option, Some, None, refl, sym, ap, subst, ◌∙◌, append-nil, arith, true≢false}
+use Rattle.std.proofs.Common.{◌≡◌, ◌+◌, ◌≤◌, ◌^◌, ℕ, false, Bool, List, [], ◌∷◌, ◌++◌, length, Option, Some, None, refl, sym, ap, subst, ◌∙◌, append-nil, arith, true≢false}
 use Rattle.std.specs.Prelude.{⊤}
 use Rattle.gw_links.specs.Links.{LinkTold, Carried, Steps}
 use Rattle.session_model.specs.Journal.{Entry, History, BeginsHistory, OutboxRecord, entries}
@@ -132,7 +132,7 @@ module _ (b : Beginning) (past : List TurnedLeg) (leg : TurnedLeg) (e e' : Drive
           refused = lost;
           holds = w.refuses.holds k.inbox (holds_whole b past leg e k (ap is_failed going));
           whole = λ whole. absurd (unfailed e'.standing whole failed);
-          during = λ open. absurd (unfailed e'.standing (ap is_failed open) failed);
+          during = λ going'. absurd (unfailed e'.standing (ap is_failed going') failed);
           between = λ over. absurd (unfailed e'.standing (ap is_failed over) failed);
           failed = λ _ closing has. life_fails b past leg (now_of e k.inbox) w.now w.received w.frames w.refused lost closing awaits (k.during going) w.made.cut w.timely
               (λ h c stands. cut_waits h c (line_of e.conn) w.now w.received w.frames w.refused fault lost stands w.made.cut refl)
