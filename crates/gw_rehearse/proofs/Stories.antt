@@ -1,5 +1,5 @@
 -- What is known of an end over the connections that it had, behind each of its calls.
-use Rattle.std.proofs.Common.{◌≡◌, ◌≤◌, ◌^◌, ℕ, false, Bool, List, [], ◌∷◌, ◌++◌, length, Option, Some, None, refl, sym, ap, subst, ◌∙◌, append-nil, arith, true≢false}
+use Rattle.std.proofs.Common.{◌≡◌, ◌+◌, ◌≤◌, ◌^◌, ℕ, false, Bool, List, [], ◌∷◌, ◌++◌, length, Option, Some, None, refl, sym, ap, subst, ◌∙◌, append-nil, arith, true≢false}
 use Rattle.std.specs.Prelude.{⊤}
 use Rattle.gw_links.specs.Links.{LinkTold, Steps}
 use Rattle.session_model.specs.Journal.{Entry, History, BeginsHistory}

@@ -9,9 +9,9 @@ pub returns-in-Ok-clause-left : goal.returns-in-Ok-clause-left
 returns-in-Ok-clause-left c = λ closing refused leaves h s.
     outbox_left c.in_ok-journal.journal c.in-Ok.outbox closing refused c.in-Ok.ensures.unchanged (c.in_ok-journal.ensures.left closing refused leaves) h s
 
-pub returns-in-Err-Fault-clause-returned : goal.returns-in-Err-Fault-clause-returned
-returns-in-Err-Fault-clause-returned c = subst (λ d. LeavesNoMore c.args.disk d) (sym c.close.ensures)
-    (λ closing refused leaves image l. c.in_ok-journal.ensures.kept closing refused leaves image ((c.in-Err-Fault.ensures.returned.images image).1 l))
+pub returns-in-Err-default-Fault-clause-returned : goal.returns-in-Err-default-Fault-clause-returned
+returns-in-Err-default-Fault-clause-returned c = subst (λ d. LeavesNoMore c.args.disk d) (sym c.close.ensures)
+    (λ closing refused leaves image l. c.in_ok-journal.ensures.kept closing refused leaves image ((c.in-Err-default-Fault.ensures.returned.images image).1 l))
 
 pub returns-in-Ok-clause-kept : goal.returns-in-Ok-clause-kept
 returns-in-Ok-clause-kept c = λ closing refused leaves image l. c.in_ok-journal.ensures.kept closing refused leaves image ((c.in-Ok.ensures.unchanged.images image).1 l)
