@@ -41,7 +41,7 @@ pub leaves_within : (before after : MemDisk) → ((content : List ℕ) → may_l
 leaves_within before after within closing refused k None left = k None (left.0, within left.0 left.1, left.2)
 leaves_within before after within closing refused k (Some h) left = k (Some h) (left.0, within left.0 left.1, left.2)
 
-leaves_self : (disk : MemDisk) → LeavesNoMore disk disk
+pub leaves_self : (disk : MemDisk) → LeavesNoMore disk disk
 leaves_self disk = leaves_within disk disk (λ content left. left)
 
 pub leaves_on : (first second third : MemDisk) → LeavesNoMore first second → LeavesNoMore second third → LeavesNoMore first third
