@@ -41,7 +41,7 @@ pub(crate) fn make_turn<L: Link, R: Wait>(
     ensures own { IsPassAt gate.now pass.new }
     ensures free { IsFree pass.new }
     ensures looks { Looks (known pass.old) (known pass.new) }
-    ensures made { WasMade result L.eager clock.old clock.new (live_end (L.told link.old) (L.carried link.old) (known pass.old).seen (line_of conn.old) inbox.old []) (live_end (L.told link.new) (L.carried link.new) (known pass.new).seen (line_of conn.new) inbox.new (items_of news.new)) }
+    ensures turned { WasMade result L.eager clock.old clock.new (live_end (L.told link.old) (L.carried link.old) (known pass.old).seen (line_of conn.old) inbox.old []) (live_end (L.told link.new) (L.carried link.new) (known pass.new).seen (line_of conn.new) inbox.new (items_of news.new)) }
     ensures flow { flow_of inbox.new ≡ flow_of inbox.old }
     ensures place { L.place link.new ≡ L.place link.old }
     ensures number { (known pass.new).number ≡ (known pass.old).number }

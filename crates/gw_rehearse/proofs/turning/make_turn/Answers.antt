@@ -16,8 +16,8 @@ returns-clause-stands g c =
     (on_ok_weaker c.turn.result (turn_place _ _ _ (live_end _ _ _ (line_of c.args.conn.now) c.args.inbox.now []) (live_end _ _ _ (line_of c.turn.new.self) c.turn.new.inbox _) c.turn.result) e.did)
     e.goes e.leaves e.leaves_lost e.answer (λ lost. ap is_some (e.ended_lost lost)))
 
-pub returns-clause-made : goal.returns-clause-made
-returns-clause-made g c =
+pub returns-clause-turned : goal.returns-clause-turned
+returns-clause-turned g c =
     let e = c.turn.ensures in
     let old = live_end _ _ (known c.args.pass.now).seen (line_of c.args.conn.now) c.args.inbox.now [] in
     let new = live_end _ _ (known c.turn.new.pass).seen (line_of c.turn.new.self) c.turn.new.inbox _ in
