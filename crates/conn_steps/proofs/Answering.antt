@@ -17,7 +17,8 @@ use Rattle.fixp_replies.specs.Outcomes.{Outcome}
 use Rattle.fixp_replies.specs.Replies.{reply_of}
 use Rattle.fixp_machine.specs.Machine.{State, after_act, done_pending, run, around}
 use Rattle.fixp_machine.specs.Fitting.{CanTake}
-use Rattle.fixp_machine.specs.Accepting.{payload_in, records_of}
+use Rattle.fixp_machine.specs.Accepting.{records_of}
+use Rattle.fixp_replies.specs.Incoming.{payload_in}
 use Rattle.jr_dated.specs.declared.journal.Journal.{Ghosts}
 use Rattle.jr_kept.specs.declared.inbox.Inbox.{Inbox}
 use Rattle.jr_kept.specs.Inbox.{limits_of}

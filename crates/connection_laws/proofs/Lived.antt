@@ -23,7 +23,8 @@ use Rattle.fixp_replies.specs.declared.facts.Facts.{Facts}
 use Rattle.fixp_replies.specs.Incoming.{Incoming}
 use Rattle.fixp_shake.specs.Flows.{is_sequenced, is_absent}
 use Rattle.fixp_replies.specs.Acts.{is_record}
-use Rattle.fixp_machine.specs.Accepting.{model_flow, payload_in, records_of}
+use Rattle.fixp_machine.specs.Accepting.{model_flow, records_of}
+use Rattle.fixp_replies.specs.Incoming.{payload_in}
 use Rattle.connection_laws.specs.Writing.{Piece, events_written, ranges_told}
 use Rattle.connection_laws.specs.Courses.{Course, inbox_of, beginning, reply_to, accepted_by, course_after, Continues}
 use Rattle.connection_laws.specs.Standing.{OwnFlow, Stands}

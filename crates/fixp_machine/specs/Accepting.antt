@@ -18,7 +18,7 @@ use Rattle.fixp_replies.specs.declared.act.Act.{Act}
 use Rattle.fixp_replies.specs.declared.act.Act.TheVariants as acts
 use Rattle.fixp_replies.specs.declared.facts.EndState.{EndState}
 use Rattle.fixp_replies.specs.declared.facts.Facts.{Facts}
-use Rattle.fixp_replies.specs.Incoming.{Incoming, application, session, wrong_order, too_short, unknown}
+use Rattle.fixp_replies.specs.Incoming.{Incoming, application, session, wrong_order, too_short, unknown, payload_in}
 use Rattle.fixp_replies.specs.Facts.{Around, awaits_gap, serves}
 use Rattle.fixp_replies.specs.Events.{begun, turn_ended, finish_told}
 use Rattle.fixp_replies.specs.Replies.{reply_of}
@@ -38,14 +38,6 @@ event_of (session m) = announcement_of m
 event_of wrong_order = None
 event_of too_short = None
 event_of (unknown template) = None
-
--- the payload of an application message
-abbrev pub payload_in : Incoming → List ℕ
-payload_in (application payload) = payload
-payload_in (session m) = []
-payload_in wrong_order = []
-payload_in too_short = []
-payload_in (unknown template) = []
 
 -- the records that an act adds to the inbox
 abbrev pub records_of : Act → Incoming → List InboxRecord

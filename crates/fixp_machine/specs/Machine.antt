@@ -1,33 +1,39 @@
--- The session machine of one end, as definitions: its state, and what each call makes of it (FIXP 1.1, "Session lifecycle").
-use Rattle.std.specs.Prelude.{◌≡◌, ⊤, ℕ, ◌+◌, ◌-◌, ◌==◌, ◌<◌, ◌^◌, Bool, true, false, if◌then◌else◌, List, [], ◌∷◌, ◌++◌, length, drop, Option, Some, None, is_some, IfSome}
+-- The session machine of one end, as definitions: its state, and what each call makes of it (FIXP 1.1, "Session lifecycle"; that
+-- messages are held past a gap is this project's profile).
+use Rattle.std.specs.Prelude.{◌≡◌, ⊤, ℕ, ◌+◌, ◌-◌, ◌==◌, ◌<◌, ◌≤◌, ◌^◌, Bool, true, false, if◌then◌else◌, List, [], ◌∷◌, ◌++◌, length, drop, Option, Some, None, is_some, IfSome, IsSome}
 use Rattle.std.specs.Int.{w32, to_be_bytes}
-use Rattle.std.specs.List.{flat_map}
+use Rattle.std.specs.List.{flat_map, AllByRecursion}
+use Rattle.session_model.specs.Inbox.{Numbered, numbers_of}
 use Rattle.fixp_msgs.specs.declared.numbering.Range.{Range}
 use Rattle.fixp_msgs.specs.Canonical.{frame_bytes}
 use Rattle.fixp_msgs.specs.Message.{Message, sequence}
 use Rattle.flow_idem.specs.Runs.{runs_of}
+use Rattle.flow_recover.specs.Receiving.{past}
+use Rattle.flow_retrans.specs.Requests.{is_coming}
+use Rattle.flow_window.specs.Window.{holding, least, front, InReach}
 use Rattle.fixp_shake.specs.declared.config.EndConfig.{EndConfig}
 use Rattle.fixp_shake.specs.declared.phase.Phase.{Phase}
 use Rattle.fixp_shake.specs.declared.phase.Phase.TheVariants as phases
 use Rattle.fixp_shake.specs.declared.violation.Violation.{Violation}
-use Rattle.fixp_shake.specs.Flows.{is_idempotent}
+use Rattle.fixp_shake.specs.Flows.{is_idempotent, is_recoverable}
 use Rattle.fixp_replies.specs.declared.act.Act.{Act}
 use Rattle.fixp_replies.specs.declared.act.Act.TheVariants as acts
 use Rattle.fixp_replies.specs.declared.act.Ending.{Ending}
 use Rattle.fixp_replies.specs.declared.facts.EndState.{EndState}
 use Rattle.fixp_replies.specs.declared.facts.Facts.{Facts}
 use Rattle.fixp_replies.specs.Acts.{is_record}
-use Rattle.fixp_replies.specs.Incoming.{Incoming}
-use Rattle.fixp_replies.specs.Facts.{Around, connecting, serves}
+use Rattle.fixp_replies.specs.Incoming.{Incoming, payload_in}
+use Rattle.fixp_replies.specs.Facts.{Around, connecting, serves, receiving, awaiting}
 use Rattle.fixp_replies.specs.Outcomes.{Outcome, breaks}
 use Rattle.fixp_replies.specs.Replies.{reply_of, reply_to_bad_frame}
-use Rattle.fixp_machine.specs.Sound.{Sound, KeepsSound}
+use Rattle.fixp_machine.specs.Sound.{Sound, KeepsSound, HeldFits, KeepsHeld, InLine}
 use Rattle.fixp_replies.specs.Events.{Made, begun, heartbeats, lateness, turn_ended, outbox_finished, finish_told, link_ending}
 
 -- What an end is: its configuration, the greatest number that it takes, whether a connection was begun, the last moment that
 -- it was told in milliseconds, the facts, how the connection ended, the bytes written and not yet taken, the outcome whose act
 -- is still to be done, and for how many frames it has room. Of its connection: the moments of its beginning, of the last frame
--- written and of the last one received, and the numbers that an idempotent flow applied since the last turn's end
+-- written and of the last one received, the numbers that an idempotent flow applied since the last turn's end, and the messages of
+-- a recoverable flow that are held past a gap, by rising numbers
 pub record State : Type 0 where
   pub config : EndConfig
   pub most : ℕ
@@ -42,6 +48,7 @@ pub record State : Type 0 where
   pub last_sent : ℕ
   pub last_received : ℕ
   pub untold : List ℕ
+  pub held : List Numbered
 
 -- a new end, before its first connection
 abbrev pub fresh : EndConfig → EndState → ℕ → State
@@ -59,11 +66,12 @@ fresh cfg recorded most = record {
   last_sent = 0;
   last_received = 0;
   untold = [];
+  held = [];
 }
 
 -- what stands around an event at this place and moment
 abbrev pub around : State → ℕ → ℕ → Around
-around s at now = record { config = s.config; most = s.most; at = at; moment = now }
+around s at now = record { config = s.config; most = s.most; at = at; moment = now; held = least s.held }
 
 -- the bytes of some messages
 abbrev pub bytes_of : List Message → List ℕ
@@ -82,10 +90,10 @@ wrote s bytes now = record s { unsent = s.unsent ++ bytes; last_sent = sent_at s
 abbrev pub made : State → Made → ℕ → State
 made s m now = record (wrote s (bytes_of m.written) now) { facts = m.next }
 
--- A connection begins: what the one before left unsent is dropped
+-- A connection begins: what the one before left unsent is dropped, and nothing is held
 abbrev pub connected : State → ℕ → State
 connected s now =
-    made (record s { begun = true; moment = now; ending = None; unsent = []; pending = None; start = now; last_sent = now; last_received = now; untold = [] })
+    made (record s { begun = true; moment = now; ending = None; unsent = []; pending = None; start = now; last_sent = now; last_received = now; untold = []; held = [] })
     (begun (around s 0 now) s.facts.recorded) now
 
 -- the numbers that are to be told at the turn's end once an act is done
@@ -98,17 +106,27 @@ to_tell cfg (acts.PeerFinished last) = []
 to_tell cfg (acts.Told from count) = []
 to_tell cfg acts.Ended = []
 
+-- where a connection ends, nothing is held any more
+abbrev pub held_until : Option Ending → List Numbered → List Numbered
+held_until None ms = ms
+held_until (Some ending) ms = []
+
 -- an outcome takes effect
 abbrev pub reply_applied : State → Outcome → ℕ → State
 reply_applied s o now = record (wrote s (bytes_of o.written) now)
-    { facts = o.next; ending = o.ending; pending = None; untold = s.untold ++ to_tell s.config o.act }
+    { facts = o.next; ending = o.ending; pending = None; untold = s.untold ++ to_tell s.config o.act; held = held_until o.ending s.held }
 
--- the end after a frame with this outcome: where the act is a record, the outcome is pending
-abbrev pub after_frame : State → Outcome → ℕ → State
-after_frame s o now =
+-- a message with this payload is held under this number, if it is to be
+abbrev pub held_with : Option ℕ → List ℕ → List Numbered → List Numbered
+held_with None payload ms = ms
+held_with (Some n) payload ms = holding n payload ms
+
+-- the end after a frame with this message and this outcome: where the act is a record, the outcome is pending
+abbrev pub after_frame : State → Incoming → Outcome → ℕ → State
+after_frame s i o now =
     if is_record o.act
     then record s { moment = now; last_received = now; room = s.room - 1; pending = Some o }
-    else reply_applied (record s { moment = now; last_received = now; room = s.room - 1 }) o now
+    else reply_applied (record s { moment = now; last_received = now; room = s.room - 1; held = held_with o.holds (payload_in i) s.held }) o now
 
 -- bytes came that are no frame
 abbrev pub after_bad_frame : State → ℕ → ℕ → State
@@ -143,7 +161,19 @@ after_closed s last now =
 
 -- no more bytes come: a connection that has not ended ends
 abbrev pub link_ended : State → State
-link_ended s = if is_some s.ending then s else record s { ending = Some (link_ending (around s 0 s.moment) s.facts); pending = None }
+link_ended s = if is_some s.ending then s else record s { ending = Some (link_ending (around s 0 s.moment) s.facts); pending = None; held = [] }
+
+-- the held message that the inbox awaits
+abbrev pub front_of : State → Option Numbered
+front_of s = front s.facts.recorded.inbox_next s.held
+
+-- it was applied: the inbox awaits the number behind it
+abbrev pub past_held : Facts → Numbered → Facts
+past_held f m = receiving (awaiting f (m.number + 1)) (past f.connection.receiver)
+
+abbrev pub held_applied : State → Option Numbered → State
+held_applied s None = s
+held_applied s (Some m) = record s { facts = past_held s.facts m; held = drop 1 s.held }
 
 -- the frame of an entry of the outbox, whose payload begins with the encoding type (Simple Open Framing Header 1.0)
 abbrev pub payload_frame : List ℕ → List ℕ
@@ -193,6 +223,7 @@ pub data Call : Type 0 where
   again : (payloads : List (List ℕ)) → (now : ℕ) → Call
   taken : (count : ℕ) → Call
   reserve : Call
+  held_done : Call
 
 -- what a call makes of the end. Where nothing is pending `did` does nothing, and where nothing is served `again` does nothing:
 -- neither is called then
@@ -206,7 +237,7 @@ served_again s (Some r) payloads now = sent_again s r payloads now
 
 abbrev pub step : State → Call → State
 step s (begin now) = connected s now
-step s (frame incoming at now) = after_frame s (reply_of (around s at now) s.facts incoming) now
+step s (frame incoming at now) = after_frame s incoming (reply_of (around s at now) s.facts incoming) now
 step s (bad_frame at now) = after_bad_frame s at now
 step s (did now) = done_pending s s.pending now
 step s (tick now) = ticked s now
@@ -217,37 +248,64 @@ step s (live payloads now) = sent_live s payloads now
 step s (again payloads now) = served_again s s.facts.connection.serving payloads now
 step s (taken count) = record s { unsent = drop count s.unsent }
 step s reserve = record s { room = 16 }
+step s held_done = held_applied s (front_of s)
 
 -- a list of calls, one after another
 abbrev pub run : State → List Call → State
 run s [] = s
 run s (call ∷ later) = run (step s call) later
 
--- What a state keeps to: a greatest number below 2^40, sound facts, and a pending outcome that keeps them so
+-- What is held keeps to: it fits the facts, on a flow that is not recoverable nothing is held, nor once the connection has ended;
+-- what is held lies within reach of the number that the inbox awaits, and is not past the greatest one; and while an act is still to be
+-- done, the inbox awaits no message that is held, and the pending outcome keeps to the same
+pub record Windowed (s : State) : Type 0 where
+  pub fits : HeldFits (least s.held) s.facts
+  pub other : is_recoverable s.config.peer_flow ≡ false → s.held ≡ []
+  pub over : IsSome s.ending → s.held ≡ []
+  pub reach : InReach s.facts.recorded.inbox_next s.held
+  pub most : AllByRecursion (λ n. n ≤ s.most) (numbers_of s.held)
+  pub waits : IsSome s.pending → front_of s ≡ None
+  pub pending : IfSome s.pending (λ o. KeepsHeld s.config s.most s.facts o)
+
+-- What a state keeps to: a greatest number below 2^40, sound facts, a pending outcome that keeps them so, and what is held
 pub record StaysSound (s : State) : Type 0 where
   pub most : s.most < 2 ^ 40
   pub facts : Sound s.config s.facts
   pub pending : IfSome s.pending (λ o. KeepsSound s.config s.most s.facts o)
+  pub windowed : Windowed s
 
 -- When a call may come: but for the beginning of a connection, a tick and the link's end, no act is still to be done, but for
--- `did`; and the entries sent are those that an outbox may have
+-- `did`; the entries sent are those that an outbox may have; and a held message that the inbox awaits is applied before any frame
+-- and any turn's end
 abbrev pub IsDone : State → Type 0
 IsDone s = s.pending ≡ None
 
+-- no message is held that is to be applied first
+abbrev pub IsDrained : State → Type 0
+IsDrained s = front_of s ≡ None
+
 abbrev pub MayCall : State → Call → Type 0
 MayCall s (begin now) = ⊤
-MayCall s (frame incoming at now) = IsDone s
-MayCall s (bad_frame at now) = IsDone s
+MayCall s (frame incoming at now) = IsDone s × IsDrained s
+MayCall s (bad_frame at now) = IsDone s × IsDrained s
 MayCall s (did now) = ⊤
 MayCall s (tick now) = ⊤
-MayCall s (turn_done now) = IsDone s
-MayCall s (closed last now) = IsDone s
+MayCall s (turn_done now) = IsDone s × IsDrained s
+MayCall s (closed last now) = IsDone s × IsDrained s
 MayCall s link_end = ⊤
 MayCall s (live payloads now) = IsDone s × (s.facts.recorded.sent + length payloads < 2 ^ 40)
 MayCall s (again payloads now) = IsDone s
 MayCall s (taken count) = ⊤
 MayCall s reserve = ⊤
+MayCall s held_done = IsDone s × IsSome (front_of s)
 
 -- each call keeps it
 abbrev pub CallsKeepSound : Type 0
 CallsKeepSound = (s : State) (call : Call) → StaysSound s → MayCall s call → StaysSound (step s call)
+
+-- a reader of a recoverable flow whose connection goes on: what it asks for, what comes again and what it holds lies below the live
+-- number, and the number that its inbox awaits is held only while messages come again
+pub record StaysInLine (s : State) : Type 0 where
+  pub line : InLine s.facts
+  pub below : AllByRecursion (λ n. n < s.facts.connection.receiver.live) (numbers_of s.held)
+  pub coming : IsSome (front_of s) → is_coming s.facts.connection.requester ≡ true

@@ -1,7 +1,7 @@
 -- What the facts of a connection keep to: the receiver and the inbox wait for the same number, only a recoverable flow has gaps
 -- and a finish that waits for one, only an initiator waits for the answers of a handshake, and before that is done nothing is asked
 -- for, missing or served.
-use Rattle.std.specs.Prelude.{◌≡◌, ⊤, ℕ, ◌+◌, ◌<◌, ◌≤◌, ◌^◌, ◌||◌, ◌&&◌, Bool, true, false, not, length, Option, None}
+use Rattle.std.specs.Prelude.{◌≡◌, ⊤, ℕ, ◌+◌, ◌<◌, ◌≤◌, ◌^◌, ◌||◌, ◌&&◌, Bool, true, false, not, length, Option, Some, None, IfSome}
 use Rattle.std.specs.List.{AllByRecursion}
 use Rattle.fixp_msgs.specs.Message.{Message, negotiate, negotiation_response, negotiation_reject, establish, establishment_ack, establishment_reject, sequence, unsequenced_heartbeat, retransmit_request, retransmission, retransmit_reject, applied, not_applied, finished_sending, finished_receiving, terminate}
 use Rattle.fixp_msgs.specs.Canonical.{IsWritable}
@@ -9,7 +9,7 @@ use Rattle.fixp_shake.specs.declared.config.EndConfig.{EndConfig}
 use Rattle.fixp_shake.specs.Flows.{is_recoverable}
 use Rattle.fixp_shake.specs.Phases.{is_negotiating, is_establishing, is_shaken}
 use Rattle.fixp_msgs.specs.declared.numbering.Range.{Range}
-use Rattle.flow_recover.specs.Receiving.{Receiving}
+use Rattle.flow_recover.specs.Receiving.{Receiving, reach}
 use Rattle.flow_retrans.specs.declared.request.Request.{Request}
 use Rattle.flow_retrans.specs.declared.request.Request.TheVariants as requests
 use Rattle.fixp_replies.specs.declared.act.Act.{Act}
@@ -46,6 +46,22 @@ pub record Sound (cfg : EndConfig) (f : Facts) : Type 0 where
       → IsOpening f.connection.requester f.connection.receiver f.connection.serving f.connection.soft
   pub soft : f.connection.soft ≡ true → IsSoft cfg f.connection.requester
   pub role : is_initiator cfg.role ≡ false → (is_negotiating f.connection.phase || is_establishing f.connection.phase) ≡ false
+
+-- The least number held, where one is, fits the facts: none is held before the handshake is done, nor while the connection is soft
+pub record HeldFits (held : Option ℕ) (f : Facts) : Type 0 where
+  pub opening : is_shaken f.connection.phase ≡ false → held ≡ None
+  pub soft : f.connection.soft ≡ true → held ≡ None
+
+-- what is asked for, and what comes again, lies below the live number
+abbrev pub Matches : Receiving → Request → Type 0
+Matches r requests.Nothing = r.again ≡ None
+Matches r (requests.Asked range) = (r.again ≡ None) × (range.from + range.count ≤ r.live)
+Matches r (requests.Coming range next left) = (r.again ≡ Some next) × (next + left ≤ r.live)
+
+-- and the number awaited is not past it
+pub record InLine (f : Facts) : Type 0 where
+  pub low : f.connection.receiver.next ≤ f.connection.receiver.live
+  pub matches : Matches f.connection.receiver f.connection.requester
 
 -- the number that the inbox awaits, once an act is done: an Apply and a Skip begin at it, and move it behind themselves
 abbrev pub Advances : Act → (before after : ℕ) → Type 0
@@ -100,6 +116,26 @@ pub record KeepsSent (cfg : EndConfig) (f g : Facts) : Type 0 where
   pub most : g.recorded.sent ≤ f.recorded.sent
   pub same : may_return cfg f g ≡ false → g.recorded.sent ≡ f.recorded.sent
 
+-- a message is held under a number past the one that the inbox awaits, within reach of it, and not past the greatest; the connection
+-- goes on with it, its handshake is done, and it is not soft
+pub record MayHold (cfg : EndConfig) (most : ℕ) (f : Facts) (o : Outcome) (n : ℕ) : Type 0 where
+  pub flow : is_recoverable cfg.peer_flow ≡ true
+  pub above : f.recorded.inbox_next < n
+  pub near : n ≤ f.recorded.inbox_next + reach
+  pub most : n ≤ most
+  pub act : o.act ≡ acts.Nothing
+  pub goes_on : o.ending ≡ None
+  pub shaken : is_shaken o.next.connection.phase ≡ true
+  pub firm : o.next.connection.soft ≡ false
+
+-- what an outcome makes of what is held: on a recoverable flow the inbox goes on by one message at most, what fitted fits still, and
+-- a message that is to be held may be
+pub record KeepsHeld (cfg : EndConfig) (most : ℕ) (f : Facts) (o : Outcome) : Type 0 where
+  pub steps : is_recoverable cfg.peer_flow ≡ true
+      → (f.recorded.inbox_next ≤ o.next.recorded.inbox_next) × (o.next.recorded.inbox_next ≤ f.recorded.inbox_next + 1)
+  pub fits : (held : Option ℕ) → HeldFits held f → HeldFits held o.next
+  pub holds : IfSome o.holds (λ n. MayHold cfg most f o n)
+
 -- what an outcome keeps to
 pub record KeepsSound (cfg : EndConfig) (most : ℕ) (f : Facts) (o : Outcome) : Type 0 where
   pub next : Sound cfg o.next
@@ -110,4 +146,8 @@ pub record KeepsSound (cfg : EndConfig) (most : ℕ) (f : Facts) (o : Outcome) :
 
 -- of an end whose greatest number is below 2^40
 abbrev pub SoundGoesOn : Type 0
-SoundGoesOn = (x : Around) (f : Facts) (i : Incoming) → x.most < 2 ^ 40 → Sound x.config f → KeepsSound x.config x.most f (reply_of x f i)
+SoundGoesOn = (x : Around) (f : Facts) (i : Incoming) → x.most < 2 ^ 40 → Sound x.config f → HeldFits x.held f → KeepsSound x.config x.most f (reply_of x f i)
+
+-- whatever is held
+abbrev pub HoldingGoesOn : Type 0
+HoldingGoesOn = (x : Around) (f : Facts) (i : Incoming) → Sound x.config f → KeepsHeld x.config x.most f (reply_of x f i)

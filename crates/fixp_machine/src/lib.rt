@@ -13,4 +13,4 @@ pub use growth::{
     accepted_frame_grows, begins_agreeing, frame_tells, own_keeps_agreeing, refused_frame_spares,
 };
 pub use machine::calls_keep_sound;
-pub use sound::sound_goes_on;
+pub use sound::{holding_goes_on, sound_goes_on};

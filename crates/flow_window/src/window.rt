@@ -14,9 +14,6 @@ use std::alloc::{AllocError, Global};
 use std::collections::VecDeque;
 use std::marker::Model;
 
-/// How far past the number that the inbox waits for a message may lie, to be held.
-pub const REACH: u64 = 256;
-
 /// One place for the number that the inbox waits for, and one for each number within reach.
 const PLACES: usize = 257;
 
