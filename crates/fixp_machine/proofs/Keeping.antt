@@ -422,7 +422,7 @@ taking x f small rec shaken s top (Repeat n) is =
     (left_out x.config f rec shaken s ((passes r.next (receiver_is.number r) n).repeat is)) refl refl tt tt
 
 -- the number of a message that is not too large
-number_of : (x : Around) (f : Facts) → is_recoverable x.config.peer_flow ≡ true → nat_lt x.most (message_number x f) ≡ false → receiver_is.number f.connection.receiver ≤ x.most
+pub number_of : (x : Around) (f : Facts) → is_recoverable x.config.peer_flow ≡ true → nat_lt x.most (message_number x f) ≡ false → receiver_is.number f.connection.receiver ≤ x.most
 number_of x f rec e =
     subst (λ (b : Bool). (if b then receiver_is.number f.connection.receiver else f.recorded.inbox_next) ≤ x.most) rec (ltb-false x.most (message_number x f) e)
 

@@ -2,6 +2,7 @@ pub mod Tests
 pub mod Rows
 pub mod Expecting
 pub mod Keeping
+pub mod Holding
 pub mod Calls
 pub mod Moving
 pub mod Growing

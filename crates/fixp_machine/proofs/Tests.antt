@@ -49,7 +49,7 @@ holds next k n = by_tests (k == next) (nat_lt k next) (nat_le k (next + reach)) 
         → (if same then Deliver k else if below then Repeat k else if near then Hold k else Gap k) ≡ Hold n → (n ≡ k) × (next < k) × (k ≤ next + reach)
     by_tests true below near t u v e = absurd cc
     by_tests false true near t u v e = absurd cc
-    by_tests false false true t u v e = (cc e, (grind (arith, nat_tests), grind (arith, nat_tests)))
+    by_tests false false true t u v e = (cc e, grind (arith, nat_tests), grind (arith, nat_tests))
     by_tests false false false t u v e = absurd cc
 
 -- and any other is not
@@ -58,21 +58,21 @@ pub record Passes (next k n : ℕ) : Type 0 where
   pub gap : receiver_is.seen_as next k ≡ Gap n → (k == next) ≡ false
   pub repeat : receiver_is.seen_as next k ≡ Repeat n → (k == next) ≡ false
 
+abbrev seen_if : ℕ → ℕ → Bool → Seen
+seen_if next k same = if same then Deliver k else if nat_lt k next then Repeat k else if nat_le k (next + reach) then Hold k else Gap k
+
 pub passes : (next k n : ℕ) → Passes next k n
 passes next k n = record { hold = by_hold (k == next) refl; gap = by_gap (k == next) refl; repeat = by_repeat (k == next) refl }
   where
-    abbrev seen_if : Bool → Seen
-    seen_if same = if same then Deliver k else if nat_lt k next then Repeat k else if nat_le k (next + reach) then Hold k else Gap k
-
-    by_hold : (same : Bool) → (k == next) ≡ same → seen_if same ≡ Hold n → (k == next) ≡ false
+    by_hold : (same : Bool) → (k == next) ≡ same → seen_if next k same ≡ Hold n → (k == next) ≡ false
     by_hold true t e = absurd cc
     by_hold false t e = t
 
-    by_gap : (same : Bool) → (k == next) ≡ same → seen_if same ≡ Gap n → (k == next) ≡ false
+    by_gap : (same : Bool) → (k == next) ≡ same → seen_if next k same ≡ Gap n → (k == next) ≡ false
     by_gap true t e = absurd cc
     by_gap false t e = t
 
-    by_repeat : (same : Bool) → (k == next) ≡ same → seen_if same ≡ Repeat n → (k == next) ≡ false
+    by_repeat : (same : Bool) → (k == next) ≡ same → seen_if next k same ≡ Repeat n → (k == next) ≡ false
     by_repeat true t e = absurd cc
     by_repeat false t e = t
 

@@ -14,7 +14,7 @@ use Rattle.fixp_replies.specs.Incoming.{Incoming, application, session, wrong_or
 use Rattle.fixp_replies.specs.Facts.{Around}
 use Rattle.fixp_replies.specs.Outcomes.{Outcome}
 use Rattle.fixp_replies.specs.Replies.{reply_of, reply_to_bad_frame}
-use Rattle.fixp_machine.specs.Sound.{Sound}
+use Rattle.fixp_machine.specs.Sound.{Sound, HeldFits}
 
 -- a frame's message is an application message
 abbrev pub IsMessage : Incoming → Type 0
@@ -65,5 +65,5 @@ pub record Fits (cfg : EndConfig) (most : ℕ) (f : Facts) (i : Incoming) (o : O
       → ((f.connection.serving ≡ Some range) × (o.next.recorded.sent ≡ f.recorded.sent)) ⊎ WasSent o.next.recorded.sent range
 
 pub record ActsFit : Type 0 where
-  pub frames : (x : Around) (f : Facts) (i : Incoming) → x.most < 2 ^ 40 → Sound x.config f → Fits x.config x.most f i (reply_of x f i)
+  pub frames : (x : Around) (f : Facts) (i : Incoming) → x.most < 2 ^ 40 → Sound x.config f → HeldFits x.held f → Fits x.config x.most f i (reply_of x f i)
   pub bad_frames : (x : Around) (f : Facts) (i : Incoming) → Fits x.config x.most f i (reply_to_bad_frame x f)

@@ -122,7 +122,7 @@ pub record MayHold (cfg : EndConfig) (most : ℕ) (f : Facts) (o : Outcome) (n :
   pub flow : is_recoverable cfg.peer_flow ≡ true
   pub above : f.recorded.inbox_next < n
   pub near : n ≤ f.recorded.inbox_next + reach
-  pub most : n ≤ most
+  pub within : n ≤ most
   pub act : o.act ≡ acts.Nothing
   pub goes_on : o.ending ≡ None
   pub shaken : is_shaken o.next.connection.phase ≡ true
