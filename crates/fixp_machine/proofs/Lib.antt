@@ -3,6 +3,7 @@ pub mod Rows
 pub mod Expecting
 pub mod Keeping
 pub mod Holding
+pub mod Windowing
 pub mod Calls
 pub mod Moving
 pub mod Growing
