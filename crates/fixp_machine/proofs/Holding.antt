@@ -33,7 +33,9 @@ use Rattle.fixp_replies.specs.Handshake.{awaits_client, serves_client, establish
 use Rattle.fixp_replies.specs.Expecting.{answers_next, returned, told_return, softened}
 use Rattle.fixp_replies.specs.Flowing.{bad_retransmission, counted, taken_as, finish_act, peer_finished, answers_finish, is_filled, is_past_finish, sequence_taken, sequence_follows, restarted, finished_last, finish_fault, finished}
 use Rattle.fixp_replies.specs.Serving.{request_answered, own_finishing}
-use Rattle.fixp_replies.specs.Replies.{template_of, rows_of, answer_of, terminates}
+use Rattle.fixp_replies.specs.Replies.{template_of, rows_of, answer_of, terminates, reply_of}
+use Rattle.fixp_machine.specs.Fitting.{IsMessage}
+use Rattle.std.proofs.lemmas.Option.{none-some}
 use Rattle.fixp_machine.specs.Sound.{Sound, HeldFits, MayHold, KeepsHeld, HoldingGoesOn}
 use Rattle.fixp_machine.proofs.Expecting.{returned_stays}
 use Rattle.fixp_machine.proofs.Rows.{AllRows, by_row, all_rows, all_within, announced_rows, own_rows}
@@ -47,8 +49,10 @@ FitsStill f g = (held : Option ℕ) → HeldFits held f → HeldFits held g
 abbrev Steps : Around → (f g : Facts) → Type 0
 Steps x f g = is_recoverable x.config.peer_flow ≡ true → (f.recorded.inbox_next ≤ g.recorded.inbox_next) × (g.recorded.inbox_next ≤ f.recorded.inbox_next + 1)
 
-abbrev Kept : Around → Facts → Outcome → Type 0
-Kept x f o = KeepsHeld x.config x.most f o
+-- and nothing more is held
+record Kept (x : Around) (f : Facts) (o : Outcome) : Type 0 where
+  keeps : KeepsHeld x.config x.most f o
+  none : o.holds ≡ None
 
 -- the inbox stays, and so do the phase and softness
 still : (x : Around) (f g : Facts) → g.recorded.inbox_next ≡ f.recorded.inbox_next → Steps x f g
@@ -67,7 +71,7 @@ asked_fits f g None k = k
 asked_fits f g (Some r) k = λ held h. let b = k held h in record { opening = b.opening; soft = b.soft }
 
 going : (x : Around) (f g : Facts) (act : Act) (written : List Message) → Steps x f g → FitsStill f g → Kept x f (goes_on x act written g)
-going x f g act written s k = record { steps = asked_steps x f g (gap_to_ask x g) s; fits = asked_fits f g (gap_to_ask x g) k; holds = tt }
+going x f g act written s k = record { keeps = record { steps = asked_steps x f g (gap_to_ask x g) s; fits = asked_fits f g (gap_to_ask x g) k; holds = tt }; none = refl }
 
 -- nothing of it moves
 staying : (x : Around) (f g : Facts) (act : Act) (written : List Message) → g.recorded.inbox_next ≡ f.recorded.inbox_next
@@ -75,21 +79,21 @@ staying : (x : Around) (f g : Facts) (act : Act) (written : List Message) → g.
 staying x f g act written n p s = going x f g act written (still x f g n) (fits_still f g p s)
 
 rejecting : (x : Around) (f : Facts) (written : List Message) → Kept x f (rejects written f)
-rejecting x f written = record { steps = still x f f refl; fits = λ held k. k; holds = tt }
+rejecting x f written = record { keeps = record { steps = still x f f refl; fits = λ held k. k; holds = tt }; none = refl }
 
 ending : (x : Around) (f : Facts) (written : List Message) (e : Ending) → Kept x f (ends_with x f written e)
-ending x f written e = record { steps = still x f f refl; fits = λ held k. k; holds = tt }
+ending x f written e = record { keeps = record { steps = still x f f refl; fits = λ held k. k; holds = tt }; none = refl }
 
 -- the same of facts with other requests
 ending_of : (x : Around) (f : Facts) (q : Request) (written : List Message) (e : Ending) → Kept x f (ends_with x (requesting f q) written e)
-ending_of x f q written e = record { steps = still x f f refl; fits = λ held k. record { opening = k.opening; soft = k.soft }; holds = tt }
+ending_of x f q written e = record { keeps = record { steps = still x f f refl; fits = λ held k. record { opening = k.opening; soft = k.soft }; holds = tt }; none = refl }
 
 refusing : (x : Around) (f : Facts) (v : Option Violation) → Kept x f (refuses x f v)
 refusing x f None = rejecting x f []
 refusing x f (Some v) = ending x f _ _
 
 refusing_of : (x : Around) (f : Facts) (q : Request) (v : Option Violation) → Kept x f (refuses x (requesting f q) v)
-refusing_of x f q None = record { steps = still x f f refl; fits = λ held k. record { opening = k.opening; soft = k.soft }; holds = tt }
+refusing_of x f q None = record { keeps = record { steps = still x f f refl; fits = λ held k. record { opening = k.opening; soft = k.soft }; holds = tt }; none = refl }
 refusing_of x f q (Some v) = ending_of x f q _ _
 
 bad : (x : Around) (f : Facts) (b : Option BadStart) → Kept x f (bad_retransmission x f b)
@@ -145,12 +149,12 @@ following x f q next a is =
 
 -- a message of a recoverable flow
 taking : (x : Around) (f : Facts) → is_recoverable x.config.peer_flow ≡ true → is_shaken f.connection.phase ≡ true → Sound x.config f
-    → receiver_is.number f.connection.receiver ≤ x.most → (s : Seen) → receiver_is.seen f.connection.receiver ≡ s → Kept x f (taken_as x (counted f) s)
+    → receiver_is.number f.connection.receiver ≤ x.most → (s : Seen) → receiver_is.seen f.connection.receiver ≡ s → KeepsHeld x.config x.most f (taken_as x (counted f) s)
 taking x f rec shaken s top (Deliver n) is =
     let r = f.connection.receiver in
     let d = delivers r.next (receiver_is.number r) n is in
     let w = s.waits rec in
-    going x f (awaiting (counted f) (n + 1)) (acts.Apply n) [] (λ _. (omega (arith, d.0, d.1, w), omega (arith, d.0, d.1, w))) (started f (awaiting (counted f) (n + 1)) refl refl)
+    (going x f (awaiting (counted f) (n + 1)) (acts.Apply n) [] (λ _. (omega (arith, d.0, d.1, w), omega (arith, d.0, d.1, w))) (started f (awaiting (counted f) (n + 1)) refl refl)).keeps
   where
     started : (f g : Facts) → is_shaken g.connection.phase ≡ is_shaken f.connection.phase → g.connection.soft ≡ false → FitsStill f g
     started f g p s held k = record { opening = λ n. k.opening (sym p ∙ n); soft = λ t. absurd (true≢false (sym t ∙ s)) }
@@ -158,19 +162,22 @@ taking x f rec shaken s top (Hold n) is =
     let r = f.connection.receiver in
     let d = holds r.next (receiver_is.number r) n is in
     let w = s.waits rec in
-    let k = going (holding_too x n) f (counted f) acts.Nothing [] (still (holding_too x n) f (counted f) refl)
-    (λ held h. record { opening = h.opening; soft = λ t. absurd (true≢false (sym t)) }) in
+    let k = (going (holding_too x n) f (counted f) acts.Nothing [] (still (holding_too x n) f (counted f) refl)
+    (λ held h. record { opening = h.opening; soft = λ t. absurd (true≢false (sym t)) })).keeps in
     record {
       steps = k.steps;
       fits = k.fits;
       holds = record {
         flow = rec;
+        number = d.0;
         above = omega (arith, d.0, d.1, w);
         near = omega (arith, d.0, d.2, w);
         within = omega (arith, d.0, top);
         act = refl;
         goes_on = refl;
-        shaken = asked_shaken (gap_to_ask (holding_too x n) (counted f));
+        accepted = refl;
+        shaken = shaken;
+        shaken_still = asked_shaken (gap_to_ask (holding_too x n) (counted f));
         firm = asked_firm (gap_to_ask (holding_too x n) (counted f));
       };
     }
@@ -182,22 +189,22 @@ taking x f rec shaken s top (Hold n) is =
     asked_firm : (g : Option Range) → (having_asked (counted f) g).connection.soft ≡ false
     asked_firm None = refl
     asked_firm (Some g) = refl
-taking x f rec shaken s top (Gap n) is = going x f (counted f) acts.Nothing [] (still x f (counted f) refl)
-    (λ held h. record { opening = h.opening; soft = λ t. absurd (true≢false (sym t)) })
-taking x f rec shaken s top (Repeat n) is = going x f (counted f) acts.Nothing [] (still x f (counted f) refl)
-    (λ held h. record { opening = h.opening; soft = λ t. absurd (true≢false (sym t)) })
+taking x f rec shaken s top (Gap n) is = (going x f (counted f) acts.Nothing [] (still x f (counted f) refl)
+    (λ held h. record { opening = h.opening; soft = λ t. absurd (true≢false (sym t)) })).keeps
+taking x f rec shaken s top (Repeat n) is = (going x f (counted f) acts.Nothing [] (still x f (counted f) refl)
+    (λ held h. record { opening = h.opening; soft = λ t. absurd (true≢false (sym t)) })).keeps
 
-message_rows : (x : Around) (f : Facts) (p : List ℕ) → Sound x.config f → AllRows (Kept x f) (rows_of x f (application p))
-message_rows x f p s = all_within (Kept x f) (is_established f.connection.phase) _ (λ est. (
-  λ _. ending x f _ _,
+message_rows : (x : Around) (f : Facts) (p : List ℕ) → Sound x.config f → AllRows (KeepsHeld x.config x.most f) (rows_of x f (application p))
+message_rows x f p s = all_within (KeepsHeld x.config x.most f) (is_established f.connection.phase) _ (λ est. (
+  λ _. (ending x f _ _).keeps,
   λ _. (
-    λ _. ending x f _ _,
+    λ _. (ending x f _ _).keeps,
     λ _. (
-      λ _. ending x f _ _,
+      λ _. (ending x f _ _).keeps,
       λ small. (
-        λ e. going x f (awaiting f (f.recorded.inbox_next + 1)) (acts.Apply f.recorded.inbox_next) [] (λ _. (omega arith, omega arith)) (λ held k. record { opening = k.opening; soft = k.soft }),
+        λ e. (going x f (awaiting f (f.recorded.inbox_next + 1)) (acts.Apply f.recorded.inbox_next) [] (λ _. (omega arith, omega arith)) (λ held k. record { opening = k.opening; soft = k.soft })).keeps,
         λ e. (
-          λ _. bad x f (request_is.message_fault f.connection.requester),
+          λ _. (bad x f (request_is.message_fault f.connection.requester)).keeps,
           λ _. (
             λ _. taking x f (not_true (is_recoverable x.config.peer_flow) e) (is_done f.connection.phase est) s (number_of x f (not_true (is_recoverable x.config.peer_flow) e) small) (receiver_is.seen f.connection.receiver) refl,
             λ _. tt,
@@ -319,15 +326,28 @@ session_rows x f (terminate id code reason) =
     let rest : AllRows (Kept x f) (answer ∷ []) = (λ _. ending x f _ _, λ _. tt) in
     own_rows (Kept x f) x f 16 id (answer ∷ []) (λ e. ending x f _ e) rest
 
-each_row : (x : Around) (f : Facts) (i : Incoming) → Sound x.config f → AllRows (Kept x f) (rows_of x f i)
-each_row x f (application p) s = message_rows x f p s
-each_row x f (session m) s = session_rows x f m
-each_row x f wrong_order s = (λ _. ending x f _ _, λ _. tt)
-each_row x f too_short s = (λ _. ending x f _ _, λ _. tt)
-each_row x f (unknown template) s = (λ _. ending x f _ _, λ _. tt)
-
-pub holding_goes_on : HoldingGoesOn
-holding_goes_on x f i s =
+-- the reply to anything but an application message has none held
+quiet_reply : (x : Around) (f : Facts) (i : Incoming) → AllRows (Kept x f) (rows_of x f i) → Kept x f (reply_of x f i)
+quiet_reply x f i all =
     by_row (Kept x f) (is_closing f.connection.phase && not (terminates x i)) (ignores f) (answer_of x f i)
     (λ _. rejecting x f [])
-    (λ _. all_rows (Kept x f) (not_in_phase x f (template_of i)) (rows_of x f i) (ending x f _ _) (each_row x f i s))
+    (λ _. all_rows (Kept x f) (not_in_phase x f (template_of i)) (rows_of x f i) (ending x f _ _) all)
+
+pub holding_goes_on : HoldingGoesOn
+holding_goes_on x f (application p) s =
+    let P : Outcome → Type 0 = KeepsHeld x.config x.most f in
+    by_row P (is_closing f.connection.phase && not (terminates x (application p))) (ignores f) (answer_of x f (application p))
+    (λ _. (rejecting x f []).keeps)
+    (λ _. all_rows P (not_in_phase x f 0) (rows_of x f (application p)) (ending x f _ _).keeps (message_rows x f p s))
+holding_goes_on x f (session m) s = (quiet_reply x f (session m) (session_rows x f m)).keeps
+holding_goes_on x f wrong_order s = (quiet_reply x f wrong_order (λ _. ending x f _ _, λ _. tt)).keeps
+holding_goes_on x f too_short s = (quiet_reply x f too_short (λ _. ending x f _ _, λ _. tt)).keeps
+holding_goes_on x f (unknown template) s = (quiet_reply x f (unknown template) (λ _. ending x f _ _, λ _. tt)).keeps
+
+-- only an application message is held
+pub holds_messages : (x : Around) (f : Facts) (i : Incoming) (n : ℕ) → (reply_of x f i).holds ≡ Some n → IsMessage i
+holds_messages x f (application p) n e = tt
+holds_messages x f (session m) n e = none-some n (sym (quiet_reply x f (session m) (session_rows x f m)).none ∙ e)
+holds_messages x f wrong_order n e = none-some n (sym (quiet_reply x f wrong_order (λ _. ending x f _ _, λ _. tt)).none ∙ e)
+holds_messages x f too_short n e = none-some n (sym (quiet_reply x f too_short (λ _. ending x f _ _, λ _. tt)).none ∙ e)
+holds_messages x f (unknown template) n e = none-some n (sym (quiet_reply x f (unknown template) (λ _. ending x f _ _, λ _. tt)).none ∙ e)

@@ -8,3 +8,4 @@ pub mod Calls
 pub mod Moving
 pub mod Growing
 pub mod Accepted
+pub mod HeldGrowth

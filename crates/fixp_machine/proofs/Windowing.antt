@@ -20,23 +20,12 @@ use Rattle.fixp_replies.specs.Outcomes.{Outcome}
 use Rattle.fixp_machine.specs.Sound.{Sound, Advances, KeepsSound, HeldFits, MayHold, KeepsHeld}
 use Rattle.fixp_machine.specs.Machine.{State, held_until, held_with, front_of, past_held, Windowed}
 
--- what is held, whatever is pending
-pub record Windows (cfg : EndConfig) (top : ℕ) (f : Facts) (ending : Option Ending) (held : List Numbered) : Type 0 where
-  pub fits : HeldFits (least held) f
-  pub other : is_recoverable cfg.peer_flow ≡ false → held ≡ []
-  pub over : IsSome ending → held ≡ []
-  pub reach : InReach f.recorded.inbox_next held
-  pub most : AllByRecursion (λ n. n ≤ top) (numbers_of held)
-
-pub windows : (s : State) → Windowed s → Windows s.config s.most s.facts s.ending s.held
-windows s w = record { fits = w.fits; other = w.other; over = w.over; reach = w.reach; most = w.most }
-
 nothing_in_reach : (n : ℕ) → InReach n []
 nothing_in_reach n = record { rising = tt; near = tt }
 
 -- nothing is held
-pub windows_empty : (cfg : EndConfig) (top : ℕ) (f : Facts) (ending : Option Ending) → Windows cfg top f ending []
-windows_empty cfg top f ending = record {
+pub windowed_empty : (cfg : EndConfig) (top : ℕ) (f : Facts) (ending : Option Ending) → Windowed cfg top f ending []
+windowed_empty cfg top f ending = record {
   fits = record { opening = λ _. refl; soft = λ _. refl };
   other = λ _. refl;
   over = λ _. refl;
@@ -56,7 +45,7 @@ moved_in_reach n k ms low high all none = by_test (k == n) refl
 
 -- an outcome takes effect, and nothing more is held
 pub replied : (cfg : EndConfig) (top : ℕ) (f : Facts) (o : Outcome) (ending : Option Ending) (held : List Numbered)
-    → Windows cfg top f ending held → front f.recorded.inbox_next held ≡ None → KeepsHeld cfg top f o → Windows cfg top o.next None held
+    → Windowed cfg top f ending held → front f.recorded.inbox_next held ≡ None → KeepsHeld cfg top f o → Windowed cfg top o.next None held
 replied cfg top f o ending held w none k = record {
   fits = k.fits (least held) w.fits;
   other = w.other;
@@ -71,11 +60,11 @@ replied cfg top f o ending held w none k = record {
 
 -- a message more is held
 held_too : (cfg : EndConfig) (top : ℕ) (f : Facts) (o : Outcome) (ending : Option Ending) (held : List Numbered) (n : ℕ) (p : List ℕ)
-    → Windows cfg top f ending held → KeepsSound cfg top f o → MayHold cfg top f o n → Windows cfg top o.next None (holding n p held)
+    → Windowed cfg top f ending held → KeepsSound cfg top f o → MayHold cfg top f o n → Windowed cfg top o.next None (holding n p held)
 held_too cfg top f o ending held n p w s m =
     let same : o.next.recorded.inbox_next ≡ f.recorded.inbox_next = subst (λ (a : Act). Advances a f.recorded.inbox_next o.next.recorded.inbox_next) m.act s.advances in
     record {
-      fits = record { opening = λ b. absurd (true≢false (sym m.shaken ∙ b)); soft = λ t. absurd (true≢false (sym t ∙ m.firm)) };
+      fits = record { opening = λ b. absurd (true≢false (sym m.shaken_still ∙ b)); soft = λ t. absurd (true≢false (sym t ∙ m.firm)) };
       other = λ r. absurd (true≢false (sym m.flow ∙ r));
       over = λ some. absurd (false≢true some);
       reach = subst (λ k. InReach k (holding n p held)) (sym same)
@@ -85,18 +74,18 @@ held_too cfg top f o ending held n p w s m =
 
 -- a frame's outcome takes effect
 pub framed : (cfg : EndConfig) (top : ℕ) (f : Facts) (o : Outcome) (ending : Option Ending) (held : List Numbered) (p : List ℕ)
-    → Windows cfg top f ending held → front f.recorded.inbox_next held ≡ None → KeepsSound cfg top f o → KeepsHeld cfg top f o
-    → Windows cfg top o.next None (held_with o.holds p held)
+    → Windowed cfg top f ending held → front f.recorded.inbox_next held ≡ None → KeepsSound cfg top f o → KeepsHeld cfg top f o
+    → Windowed cfg top o.next None (held_with o.holds p held)
 framed cfg top f o ending held p w none s k = by_number o.holds k.holds
   where
-    by_number : (h : Option ℕ) → IfSome h (λ n. MayHold cfg top f o n) → Windows cfg top o.next None (held_with h p held)
+    by_number : (h : Option ℕ) → IfSome h (λ n. MayHold cfg top f o n) → Windowed cfg top o.next None (held_with h p held)
     by_number None m = replied cfg top f o ending held w none k
     by_number (Some n) m = held_too cfg top f o ending held n p w s m
 
 -- and where the connection ends, nothing is held any more
-pub until : (cfg : EndConfig) (top : ℕ) (f : Facts) (ending : Option Ending) (held : List Numbered) → Windows cfg top f None held → Windows cfg top f ending (held_until ending held)
+pub until : (cfg : EndConfig) (top : ℕ) (f : Facts) (ending : Option Ending) (held : List Numbered) → Windowed cfg top f None held → Windowed cfg top f ending (held_until ending held)
 until cfg top f None held w = w
-until cfg top f (Some e) held w = windows_empty cfg top f (Some e)
+until cfg top f (Some e) held w = windowed_empty cfg top f (Some e)
 
 -- the held message that the inbox awaits is the first
 pub record IsFront (next : ℕ) (held : List Numbered) : Type 0 where
@@ -122,7 +111,7 @@ some_least : (m : Numbered) (ms held : List Numbered) → held ≡ m ∷ ms → 
 some_least m ms held is none = none-some m.number (sym none ∙ ap least is)
 
 -- it is applied
-pub past_sound : (cfg : EndConfig) (top : ℕ) (f : Facts) (ending : Option Ending) (held : List Numbered) → top < 2 ^ 40 → Sound cfg f → Windows cfg top f ending held
+pub past_sound : (cfg : EndConfig) (top : ℕ) (f : Facts) (ending : Option Ending) (held : List Numbered) → top < 2 ^ 40 → Sound cfg f → Windowed cfg top f ending held
     → (k : IsFront f.recorded.inbox_next held) → Sound cfg (past_held f k.first)
 past_sound cfg top f ending held low s w k =
     let top_of : k.first.number ≤ top = (subst (λ (ms : List Numbered). AllByRecursion (λ n. n ≤ top) (numbers_of ms)) k.held_is w.most).0 in
@@ -138,9 +127,9 @@ past_sound cfg top f ending held low s w k =
       role = s.role;
     }
 
-pub past_windows : (cfg : EndConfig) (top : ℕ) (f : Facts) (ending : Option Ending) (held : List Numbered) → Windows cfg top f ending held
-    → (k : IsFront f.recorded.inbox_next held) → Windows cfg top (past_held f k.first) ending (drop 1 held)
-past_windows cfg top f ending held w k = subst (λ (ms : List Numbered). Windows cfg top (past_held f k.first) ending ms) (sym (ap (λ (ms : List Numbered). drop 1 ms) k.held_is)) (record {
+pub past_windowed : (cfg : EndConfig) (top : ℕ) (f : Facts) (ending : Option Ending) (held : List Numbered) → Windowed cfg top f ending held
+    → (k : IsFront f.recorded.inbox_next held) → Windowed cfg top (past_held f k.first) ending (drop 1 held)
+past_windowed cfg top f ending held w k = subst (λ (ms : List Numbered). Windowed cfg top (past_held f k.first) ending ms) (sym (ap (λ (ms : List Numbered). drop 1 ms) k.held_is)) (record {
   fits = record {
     opening = λ n. absurd (some_least k.first k.later held k.held_is (w.fits.opening n));
     soft = λ t. absurd (some_least k.first k.later held k.held_is (w.fits.soft t));

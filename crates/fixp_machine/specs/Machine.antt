@@ -255,24 +255,24 @@ abbrev pub run : State → List Call → State
 run s [] = s
 run s (call ∷ later) = run (step s call) later
 
--- What is held keeps to: it fits the facts, on a flow that is not recoverable nothing is held, nor once the connection has ended;
--- what is held lies within reach of the number that the inbox awaits, and is not past the greatest one; and while an act is still to be
--- done, the inbox awaits no message that is held, and the pending outcome keeps to the same
-pub record Windowed (s : State) : Type 0 where
-  pub fits : HeldFits (least s.held) s.facts
-  pub other : is_recoverable s.config.peer_flow ≡ false → s.held ≡ []
-  pub over : IsSome s.ending → s.held ≡ []
-  pub reach : InReach s.facts.recorded.inbox_next s.held
-  pub most : AllByRecursion (λ n. n ≤ s.most) (numbers_of s.held)
-  pub waits : IsSome s.pending → front_of s ≡ None
-  pub pending : IfSome s.pending (λ o. KeepsHeld s.config s.most s.facts o)
+-- What is held keeps to: it fits the facts, on a flow that is not recoverable nothing is held, nor once the connection has ended; and
+-- what is held lies within reach of the number that the inbox awaits, and is not past the greatest one
+pub record Windowed (cfg : EndConfig) (top : ℕ) (f : Facts) (ending : Option Ending) (held : List Numbered) : Type 0 where
+  pub fits : HeldFits (least held) f
+  pub other : is_recoverable cfg.peer_flow ≡ false → held ≡ []
+  pub over : IsSome ending → held ≡ []
+  pub reach : InReach f.recorded.inbox_next held
+  pub most : AllByRecursion (λ n. n ≤ top) (numbers_of held)
 
--- What a state keeps to: a greatest number below 2^40, sound facts, a pending outcome that keeps them so, and what is held
+-- What a state keeps to: a greatest number below 2^40, sound facts, what is held, and a pending outcome that keeps both; while an act
+-- is still to be done, the inbox awaits no message that is held
 pub record StaysSound (s : State) : Type 0 where
   pub most : s.most < 2 ^ 40
   pub facts : Sound s.config s.facts
+  pub windowed : Windowed s.config s.most s.facts s.ending s.held
   pub pending : IfSome s.pending (λ o. KeepsSound s.config s.most s.facts o)
-  pub windowed : Windowed s
+  pub holding : IfSome s.pending (λ o. KeepsHeld s.config s.most s.facts o)
+  pub waits : IsSome s.pending → front_of s ≡ None
 
 -- When a call may come: but for the beginning of a connection, a tick and the link's end, no act is still to be done, but for
 -- `did`; the entries sent are those that an outbox may have; and a held message that the inbox awaits is applied before any frame

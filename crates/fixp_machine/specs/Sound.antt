@@ -1,7 +1,7 @@
 -- What the facts of a connection keep to: the receiver and the inbox wait for the same number, only a recoverable flow has gaps
 -- and a finish that waits for one, only an initiator waits for the answers of a handshake, and before that is done nothing is asked
 -- for, missing or served.
-use Rattle.std.specs.Prelude.{◌≡◌, ⊤, ℕ, ◌+◌, ◌<◌, ◌≤◌, ◌^◌, ◌||◌, ◌&&◌, Bool, true, false, not, length, Option, Some, None, IfSome}
+use Rattle.std.specs.Prelude.{◌≡◌, ⊤, ℕ, ◌+◌, ◌<◌, ◌≤◌, ◌^◌, ◌||◌, ◌&&◌, Bool, true, false, not, length, Option, Some, None, IfSome, IsTrue}
 use Rattle.std.specs.List.{AllByRecursion}
 use Rattle.fixp_msgs.specs.Message.{Message, negotiate, negotiation_response, negotiation_reject, establish, establishment_ack, establishment_reject, sequence, unsequenced_heartbeat, retransmit_request, retransmission, retransmit_reject, applied, not_applied, finished_sending, finished_receiving, terminate}
 use Rattle.fixp_msgs.specs.Canonical.{IsWritable}
@@ -9,7 +9,7 @@ use Rattle.fixp_shake.specs.declared.config.EndConfig.{EndConfig}
 use Rattle.fixp_shake.specs.Flows.{is_recoverable}
 use Rattle.fixp_shake.specs.Phases.{is_negotiating, is_establishing, is_shaken}
 use Rattle.fixp_msgs.specs.declared.numbering.Range.{Range}
-use Rattle.flow_recover.specs.Receiving.{Receiving, reach}
+use Rattle.flow_recover.specs.Receiving.{Receiving, number, reach}
 use Rattle.flow_retrans.specs.declared.request.Request.{Request}
 use Rattle.flow_retrans.specs.declared.request.Request.TheVariants as requests
 use Rattle.fixp_replies.specs.declared.act.Act.{Act}
@@ -116,16 +116,19 @@ pub record KeepsSent (cfg : EndConfig) (f g : Facts) : Type 0 where
   pub most : g.recorded.sent ≤ f.recorded.sent
   pub same : may_return cfg f g ≡ false → g.recorded.sent ≡ f.recorded.sent
 
--- a message is held under a number past the one that the inbox awaits, within reach of it, and not past the greatest; the connection
--- goes on with it, its handshake is done, and it is not soft
+-- a message is held under its own number, which is past the one that the inbox awaits, within reach of it, and not past the greatest;
+-- the frame is accepted, and the connection goes on with it, its handshake done, and is not soft
 pub record MayHold (cfg : EndConfig) (most : ℕ) (f : Facts) (o : Outcome) (n : ℕ) : Type 0 where
   pub flow : is_recoverable cfg.peer_flow ≡ true
+  pub number : n ≡ number f.connection.receiver
   pub above : f.recorded.inbox_next < n
   pub near : n ≤ f.recorded.inbox_next + reach
   pub within : n ≤ most
   pub act : o.act ≡ acts.Nothing
   pub goes_on : o.ending ≡ None
-  pub shaken : is_shaken o.next.connection.phase ≡ true
+  pub accepted : IsTrue o.accepted
+  pub shaken : is_shaken f.connection.phase ≡ true
+  pub shaken_still : is_shaken o.next.connection.phase ≡ true
   pub firm : o.next.connection.soft ≡ false
 
 -- what an outcome makes of what is held: on a recoverable flow the inbox goes on by one message at most, what fitted fits still, and
