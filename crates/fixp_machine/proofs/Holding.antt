@@ -1,5 +1,5 @@
 -- What each reply makes of what is held, row by row.
-use Rattle.std.proofs.Common.{◌≡◌, ℕ, ◌+◌, ◌<◌, ◌≤◌, ◌==◌, ◌&&◌, ◌||◌, max, min, not, nat_lt, Bool, true, false, if◌then◌else◌, List, [], ◌∷◌, ◌++◌, Option, Some, None, refl, sym, ap, subst, ◌∙◌, arith, true≢false}
+use Rattle.std.proofs.Common.{◌≡◌, ℕ, ◌+◌, ◌<◌, ◌≤◌, ◌==◌, ◌&&◌, ◌||◌, max, min, not, nat_lt, Bool, true, false, if◌then◌else◌, List, [], ◌∷◌, ◌++◌, Option, Some, None, IsSome, refl, sym, ap, subst, ◌∙◌, arith, true≢false}
 use Rattle.std.specs.Prelude.{⊤, is_some, is_none, unwrap_or, Result, Ok, Err}
 use Rattle.fixp_msgs.specs.declared.numbering.Range.{Range}
 use Rattle.fixp_msgs.specs.Flow.{flow_code}
@@ -36,6 +36,7 @@ use Rattle.fixp_replies.specs.Serving.{request_answered, own_finishing}
 use Rattle.fixp_replies.specs.Replies.{template_of, rows_of, answer_of, terminates, reply_of}
 use Rattle.fixp_machine.specs.Fitting.{IsMessage}
 use Rattle.std.proofs.lemmas.Option.{none-some}
+use Rattle.std.proofs.lemmas.Bool.{false≢true}
 use Rattle.fixp_machine.specs.Sound.{Sound, HeldFits, MayHold, KeepsHeld, HoldingGoesOn}
 use Rattle.fixp_machine.proofs.Expecting.{returned_stays}
 use Rattle.fixp_machine.proofs.Rows.{AllRows, by_row, all_rows, all_within, announced_rows, own_rows}
@@ -351,3 +352,10 @@ holds_messages x f (session m) n e = none-some n (sym (quiet_reply x f (session 
 holds_messages x f wrong_order n e = none-some n (sym (quiet_reply x f wrong_order (λ _. ending x f _ _, λ _. tt)).none ∙ e)
 holds_messages x f too_short n e = none-some n (sym (quiet_reply x f too_short (λ _. ending x f _ _, λ _. tt)).none ∙ e)
 holds_messages x f (unknown template) n e = none-some n (sym (quiet_reply x f (unknown template) (λ _. ending x f _ _, λ _. tt)).none ∙ e)
+
+pub held_messages : (x : Around) (f : Facts) (i : Incoming) → IsSome (reply_of x f i).holds → IsMessage i
+held_messages x f i some = by_number (reply_of x f i).holds refl some
+  where
+    by_number : (h : Option ℕ) → (reply_of x f i).holds ≡ h → IsSome h → IsMessage i
+    by_number None e some = absurd (false≢true some)
+    by_number (Some n) e some = holds_messages x f i n e

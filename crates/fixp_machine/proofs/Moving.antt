@@ -41,6 +41,7 @@ use Rattle.fixp_replies.specs.Replies.{template_of, rows_of, answer_of, terminat
 use Rattle.fixp_machine.specs.Sound.{Sound, HeldFits, Advances, WithinMost}
 use Rattle.fixp_machine.specs.Fitting.{IsMessage, CanTake, recorded_after, WasSent, Records, Fits, ActsFit}
 use Rattle.fixp_machine.proofs.Expecting.{returned_stays}
+use Rattle.fixp_machine.proofs.Holding.{held_messages}
 use Rattle.fixp_machine.proofs.Rows.{AllRows, by_row, all_rows, all_within, announced_rows, own_rows}
 use Rattle.fixp_machine.proofs.Keeping.{in_bounds, or_right, expected_as, sound_goes_on}
 use Rattle.fixp_machine.proofs.Tests.{none-some, not_opened, not_established}
@@ -498,10 +499,11 @@ frame_fits x f i low s h =
       takes = can_take x.config.peer_flow x.most f.recorded i o.act o.next.recorded.inbox_next m.allows k.advances k.within;
       recorded = m.recorded;
       served = m.served;
+      holds = held_messages x f i;
     }
 
 pub acts_fit : ActsFit
 acts_fit = record {
   frames = frame_fits;
-  bad_frames = λ x f i. record { takes = tt; recorded = refl; served = still f f refl refl };
+  bad_frames = λ x f i. record { takes = tt; recorded = refl; served = still f f refl refl; holds = λ some. absurd (true≢false (sym some)) };
 }

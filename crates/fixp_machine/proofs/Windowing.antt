@@ -17,8 +17,13 @@ use Rattle.fixp_replies.specs.declared.act.Act.TheVariants as acts
 use Rattle.fixp_replies.specs.declared.act.Ending.{Ending}
 use Rattle.fixp_replies.specs.declared.facts.Facts.{Facts}
 use Rattle.fixp_replies.specs.Outcomes.{Outcome}
+use Rattle.fixp_replies.specs.Facts.{Around}
+use Rattle.fixp_replies.specs.Incoming.{Incoming, payload_in}
+use Rattle.fixp_replies.specs.Replies.{reply_of}
+use Rattle.fixp_machine.proofs.Keeping.{sound_goes_on}
+use Rattle.fixp_machine.proofs.Holding.{holding_goes_on}
 use Rattle.fixp_machine.specs.Sound.{Sound, Advances, KeepsSound, HeldFits, MayHold, KeepsHeld}
-use Rattle.fixp_machine.specs.Machine.{State, held_until, held_with, front_of, past_held, Windowed}
+use Rattle.fixp_machine.specs.Machine.{held_until, held_with, past_held, Windowed, WindowGoesOn}
 
 nothing_in_reach : (n : ℕ) → InReach n []
 nothing_in_reach n = record { rising = tt; near = tt }
@@ -143,3 +148,13 @@ past_windowed cfg top f ending held w k = subst (λ (ms : List Numbered). Window
   };
   most = (subst (λ (ms : List Numbered). AllByRecursion (λ n. n ≤ top) (numbers_of ms)) k.held_is w.most).1;
 })
+
+pub window_goes_on : WindowGoesOn
+window_goes_on x f i ending held low s least_is w none =
+    let o : Outcome = reply_of x f i in
+    let k = holding_goes_on x f i s in
+    let sound = sound_goes_on x f i low s (subst (λ (h : Option ℕ). HeldFits h f) (sym least_is) w.fits) in
+    record {
+      before = until x.config x.most o.next o.ending held (replied x.config x.most f o ending held w none k);
+      behind = until x.config x.most o.next o.ending (held_with o.holds (payload_in i) held) (framed x.config x.most f o ending held (payload_in i) w none sound k);
+    }

@@ -264,6 +264,16 @@ pub record Windowed (cfg : EndConfig) (top : ℕ) (f : Facts) (ending : Option E
   pub reach : InReach f.recorded.inbox_next held
   pub most : AllByRecursion (λ n. n ≤ top) (numbers_of held)
 
+-- Where the inbox awaits no message that is held, a reply leaves what is held, with the message of its frame where that is to be held
+-- and without it, keeping to the same
+pub record WindowStays (x : Around) (f : Facts) (i : Incoming) (o : Outcome) (held : List Numbered) : Type 0 where
+  pub before : Windowed x.config x.most o.next o.ending (held_until o.ending held)
+  pub behind : Windowed x.config x.most o.next o.ending (held_until o.ending (held_with o.holds (payload_in i) held))
+
+abbrev pub WindowGoesOn : Type 0
+WindowGoesOn = (x : Around) (f : Facts) (i : Incoming) (ending : Option Ending) (held : List Numbered) → x.most < 2 ^ 40 → Sound x.config f → x.held ≡ least held
+    → Windowed x.config x.most f ending held → front f.recorded.inbox_next held ≡ None → WindowStays x f i (reply_of x f i) held
+
 -- What a state keeps to: a greatest number below 2^40, sound facts, what is held, and a pending outcome that keeps both; while an act
 -- is still to be done, the inbox awaits no message that is held
 pub record StaysSound (s : State) : Type 0 where

@@ -15,7 +15,7 @@ use std::alloc::{AllocError, Global};
 use std::marker::Model;
 
 /// The receiving end of a recoverable flow on one connection, with its window (FIXP 1.1, recoverable flow type).
-#[derive(Drop)]
+#[derive(Debug, Drop)]
 pub struct Receiver {
     numbers: Numbers,
     window: Window,

@@ -1,0 +1,98 @@
+-- What is held in an end, and the facts that it fits.
+use Rattle.std.proofs.Common.{◌≡◌, ◌⊎◌, ℕ, ◌+◌, ◌<◌, ◌≤◌, ◌==◌, Bool, true, false, if◌then◌else◌, List, [], ◌∷◌, drop, Option, Some, None, IsSome, refl, sym, ap, subst, ◌∙◌, arith, nat_lt, eqb-true, true≢false}
+use Rattle.std.specs.Prelude.{⊤, is_some, IfSome}
+use Rattle.std.specs.List.{AllByRecursion}
+use Rattle.std.proofs.lemmas.Bool.{false≢true}
+use Rattle.std.proofs.lemmas.Option.{none-some}
+use Rattle.session_model.specs.Inbox.{Numbered}
+use Rattle.flow_window.specs.Window.{Holding, holding, front}
+use Rattle.sbe_prim.specs.declared.Order.{Order}
+use Rattle.fixp_msgs.specs.Numbering.{payload_of}
+use Rattle.fixp_msgs.specs.Payload.{IsApplication}
+use Rattle.fixp_shake.specs.declared.phase.Phase.TheVariants as phases
+use Rattle.fixp_replies.specs.declared.act.Act.{Act}
+use Rattle.fixp_replies.specs.declared.act.Act.TheVariants as acts
+use Rattle.fixp_replies.specs.declared.act.Ending.{Ending}
+use Rattle.fixp_replies.specs.declared.facts.Facts.{Facts}
+use Rattle.fixp_replies.specs.declared.facts.OwnFinish.TheVariants as own
+use Rattle.fixp_msgs.specs.declared.numbering.Range.{Range}
+use Rattle.fixp_replies.specs.Acts.{is_record}
+use Rattle.fixp_replies.specs.Facts.{Around, in_phase}
+use Rattle.fixp_replies.specs.Incoming.{Incoming, IsIncoming, application, session, wrong_order, too_short, unknown, payload_in}
+use Rattle.fixp_replies.specs.Events.{Made, outbox_finished, tells_finish, finish_told, closes, turn_ended}
+use Rattle.fixp_replies.specs.Outcomes.{Outcome}
+use Rattle.fixp_machine.specs.Fitting.{IsMessage}
+use Rattle.fixp_machine.specs.Sound.{Advances, HeldFits}
+use Rattle.fixp_machine.specs.Machine.{held_until, held_with}
+use Rattle.fixp_end.proofs.Told.{told_as}
+use Rattle.fixp_end.proofs.Turn.{turn_as}
+
+-- an act that is no record leaves the number that the inbox awaits
+pub plain_stays : (act : Act) (before after : ℕ) → is_record act ≡ false → Advances act before after → after ≡ before
+plain_stays acts.Nothing before after is a = a
+plain_stays (acts.Apply number) before after is a = absurd (true≢false is)
+plain_stays (acts.Skip from count) before after is a = absurd (true≢false is)
+plain_stays acts.Negotiated before after is a = absurd (true≢false is)
+plain_stays (acts.PeerFinished last) before after is a = absurd (true≢false is)
+plain_stays (acts.Told from count) before after is a = a
+plain_stays acts.Ended before after is a = a
+
+-- the outbox's finish and the end of a turn leave what is held fitting
+pub told_fits : (x : Around) (f : Facts) (last : ℕ) (held : Option ℕ) → HeldFits held f → HeldFits held (finish_told x f last).next
+told_fits x f last held k = by_case (tells_finish x f last)
+  where
+    by_case : (b : Bool) → HeldFits held (told_as x f last b).next
+    by_case true = record { opening = k.opening; soft = k.soft }
+    by_case false = record { opening = k.opening; soft = k.soft }
+
+pub turn_fits : (x : Around) (f : Facts) (runs : List Range) (held : Option ℕ) → HeldFits held f → HeldFits held (turn_ended x f runs).next
+turn_fits x f runs held k = by_case (closes x f)
+  where
+    by_case : (b : Bool) → HeldFits held (turn_as x f runs b).next
+    by_case true = record { opening = λ n. absurd (true≢false n); soft = k.soft }
+    by_case false = k
+
+-- what holds of all that is held holds of what is left where a connection ends
+pub all_until : (P : Numbered → Type 0) (ending : Option Ending) (ms : List Numbered) → AllByRecursion P ms → AllByRecursion P (held_until ending ms)
+all_until P None ms all = all
+all_until P (Some e) ms all = tt
+
+-- and with one more
+pub all_holding : (P : Numbered → Type 0) (n : ℕ) (p : List ℕ) (ms : List Numbered) → P (record { number = n; payload = p }) → AllByRecursion P ms → AllByRecursion P (holding n p ms)
+all_holding P n p [] new all = (new, tt)
+all_holding P n p (m ∷ ms) new all = by_tests (m.number == n) (nat_lt n m.number) (all_holding P n p ms new all.1)
+  where
+    by_tests : (same below : Bool) → AllByRecursion P (holding n p ms)
+        → AllByRecursion P (if same then m ∷ ms else if below then record { number = n; payload = p } ∷ m ∷ ms else m ∷ holding n p ms)
+    by_tests true below later = all
+    by_tests false true later = (new, all)
+    by_tests false false later = (all.0, later)
+
+pub all_with : (P : Numbered → Type 0) (h : Option ℕ) (p : List ℕ) (ms : List Numbered) → ((n : ℕ) → IsSome h → P (record { number = n; payload = p })) → AllByRecursion P ms
+    → AllByRecursion P (held_with h p ms)
+all_with P None p ms new all = all
+all_with P (Some n) p ms new all = all_holding P n p ms (new n refl) all
+
+-- of the one that the inbox awaits too
+pub front_all : (P : Numbered → Type 0) (next : ℕ) (ms : List Numbered) (m : Numbered) → front next ms ≡ Some m → AllByRecursion P ms → P m × (m.number ≡ next)
+front_all P next [] m e all = absurd cc
+front_all P next (k ∷ ks) m e all = by_test (k.number == next) refl e
+  where
+    by_test : (b : Bool) → (k.number == next) ≡ b → (if b then Some k else None) ≡ Some m → P m × (m.number ≡ next)
+    by_test true t e = let same : k ≡ m = cc e in (subst P same all.0, sym (ap (λ (j : Numbered). j.number) same) ∙ eqb-true k.number next t)
+    by_test false t e = absurd cc
+
+-- a message that is held is the frame's
+pub payload_is : (order : Order) (message : List ℕ) (i : Incoming) → IsIncoming order message i → IsMessage i → payload_in i ≡ payload_of (record { order = order; message = message })
+payload_is order message (application p) is here = is.1
+payload_is order message (session m) is here = absurd here
+payload_is order message wrong_order is here = absurd here
+payload_is order message too_short is here = absurd here
+payload_is order message (unknown template) is here = absurd here
+
+-- it is held before or behind the ending, if the connection goes on with it
+pub held_alike : (ending : Option Ending) (h : Option ℕ) (p q : List ℕ) (ms : List Numbered) → (IsSome h → (ending ≡ None) × (q ≡ p))
+    → held_with h p (held_until ending ms) ≡ held_until ending (held_with h q ms)
+held_alike ending None p q ms fits = refl
+held_alike None (Some n) p q ms fits = ap (λ (b : List ℕ). holding n b ms) (sym (fits refl).1)
+held_alike (Some e) (Some n) p q ms fits = absurd (none-some e (sym (fits refl).0))
