@@ -28,7 +28,7 @@ use Rattle.fixp_machine.proofs.Keeping.{sound_goes_on}
 use Rattle.fixp_machine.proofs.Tests.{none-some}
 
 -- one of two states
-either : (P : State → Type 0) (b : Bool) (first second : State) → (b ≡ true → P first) → (b ≡ false → P second) → P (if b then first else second)
+pub either : (P : State → Type 0) (b : Bool) (first second : State) → (b ≡ true → P first) → (b ≡ false → P second) → P (if b then first else second)
 either P true first second p q = p refl
 either P false first second p q = q refl
 
@@ -90,10 +90,10 @@ closed_sound cfg f last s = record { waits = s.waits; even = s.even; unread = s.
 told_sound : (cfg : EndConfig) (f : Facts) (last : ℕ) → Sound cfg f → Sound cfg (own_finishing (outbox_finished f last) own.Told)
 told_sound cfg f last s = record { waits = s.waits; even = s.even; unread = s.unread; credentials = s.credentials; sent = s.sent; next = s.next; opening = s.opening; soft = s.soft; role = s.role }
 
-abbrev chosen : Bool → Made → Made → Made
+abbrev pub chosen : Bool → Made → Made → Made
 chosen b first second = if b then first else second
 
-one_made : (P : Facts → Type 0) (b : Bool) (first second : Made) → P first.next → P second.next → P (chosen b first second).next
+pub one_made : (P : Facts → Type 0) (b : Bool) (first second : Made) → P first.next → P second.next → P (chosen b first second).next
 one_made P true first second p q = p
 one_made P false first second p q = q
 

@@ -5,6 +5,8 @@ pub mod Keeping
 pub mod Holding
 pub mod Windowing
 pub mod Calls
+pub mod Lining
+pub mod LineCalls
 pub mod Moving
 pub mod Growing
 pub mod Accepted

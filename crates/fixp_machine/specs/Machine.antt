@@ -9,7 +9,6 @@ use Rattle.fixp_msgs.specs.Canonical.{frame_bytes}
 use Rattle.fixp_msgs.specs.Message.{Message, sequence}
 use Rattle.flow_idem.specs.Runs.{runs_of}
 use Rattle.flow_recover.specs.Receiving.{past}
-use Rattle.flow_retrans.specs.Requests.{is_coming}
 use Rattle.flow_window.specs.Window.{holding, least, front, InReach}
 use Rattle.fixp_shake.specs.declared.config.EndConfig.{EndConfig}
 use Rattle.fixp_shake.specs.declared.phase.Phase.{Phase}
@@ -313,9 +312,23 @@ MayCall s held_done = IsDone s × IsSome (front_of s)
 abbrev pub CallsKeepSound : Type 0
 CallsKeepSound = (s : State) (call : Call) → StaysSound s → MayCall s call → StaysSound (step s call)
 
--- a reader of a recoverable flow whose connection goes on: what it asks for, what comes again and what it holds lies below the live
--- number, and the number that its inbox awaits is held only while messages come again
+-- a reply with which the connection goes on leaves what is asked for and held below the live number
+abbrev pub LineGoesOn : Type 0
+LineGoesOn = (x : Around) (f : Facts) (i : Incoming) (ending : Option Ending) (held : List Numbered) → Sound x.config f → x.held ≡ least held
+    → Windowed x.config x.most f ending held → front f.recorded.inbox_next held ≡ None → is_recoverable x.config.peer_flow ≡ true → InLine f held
+    → (reply_of x f i).ending ≡ None → InLine (reply_of x f i).next (held_with (reply_of x f i).holds (payload_in i) held)
+
+-- while a connection goes on, its reader is in line, and is so from a pending outcome on
 pub record StaysInLine (s : State) : Type 0 where
-  pub line : InLine s.facts
-  pub below : AllByRecursion (λ n. n < s.facts.connection.receiver.live) (numbers_of s.held)
-  pub coming : IsSome (front_of s) → is_coming s.facts.connection.requester ≡ true
+  pub line : is_recoverable s.config.peer_flow ≡ true → s.ending ≡ None → InLine s.facts s.held
+  pub line_then : is_recoverable s.config.peer_flow ≡ true → IfSome s.pending (λ o. o.ending ≡ None → InLine o.next s.held)
+
+-- no frame is told of a connection that has ended, and no act is done of one
+abbrev pub IsOpenAt : State → Call → Type 0
+IsOpenAt s (frame incoming at now) = s.ending ≡ None
+IsOpenAt s (did now) = s.ending ≡ None
+IsOpenAt s call = ⊤
+
+-- each call keeps it
+abbrev pub CallsKeepLine : Type 0
+CallsKeepLine = (s : State) (call : Call) → StaysSound s → StaysInLine s → MayCall s call → IsOpenAt s call → StaysInLine (step s call)

@@ -1,7 +1,7 @@
 -- What the facts of a connection keep to: the receiver and the inbox wait for the same number, only a recoverable flow has gaps
 -- and a finish that waits for one, only an initiator waits for the answers of a handshake, and before that is done nothing is asked
 -- for, missing or served.
-use Rattle.std.specs.Prelude.{◌≡◌, ⊤, ℕ, ◌+◌, ◌<◌, ◌≤◌, ◌^◌, ◌||◌, ◌&&◌, Bool, true, false, not, length, Option, Some, None, IfSome, IsTrue}
+use Rattle.std.specs.Prelude.{◌≡◌, ⊤, ℕ, ◌+◌, ◌<◌, ◌≤◌, ◌^◌, ◌||◌, ◌&&◌, Bool, true, false, not, length, Option, List, Some, None, IfSome, IsSome, IsTrue}
 use Rattle.std.specs.List.{AllByRecursion}
 use Rattle.fixp_msgs.specs.Message.{Message, negotiate, negotiation_response, negotiation_reject, establish, establishment_ack, establishment_reject, sequence, unsequenced_heartbeat, retransmit_request, retransmission, retransmit_reject, applied, not_applied, finished_sending, finished_receiving, terminate}
 use Rattle.fixp_msgs.specs.Canonical.{IsWritable}
@@ -10,6 +10,9 @@ use Rattle.fixp_shake.specs.Flows.{is_recoverable}
 use Rattle.fixp_shake.specs.Phases.{is_negotiating, is_establishing, is_shaken}
 use Rattle.fixp_msgs.specs.declared.numbering.Range.{Range}
 use Rattle.flow_recover.specs.Receiving.{Receiving, number, reach}
+use Rattle.session_model.specs.Inbox.{Numbered, numbers_of}
+use Rattle.flow_window.specs.Window.{front}
+use Rattle.flow_retrans.specs.Requests.{is_coming}
 use Rattle.flow_retrans.specs.declared.request.Request.{Request}
 use Rattle.flow_retrans.specs.declared.request.Request.TheVariants as requests
 use Rattle.fixp_replies.specs.declared.act.Act.{Act}
@@ -56,12 +59,15 @@ pub record HeldFits (held : Option ℕ) (f : Facts) : Type 0 where
 abbrev pub Matches : Receiving → Request → Type 0
 Matches r requests.Nothing = r.again ≡ None
 Matches r (requests.Asked range) = (r.again ≡ None) × (range.from + range.count ≤ r.live)
-Matches r (requests.Coming range next left) = (r.again ≡ Some next) × (next + left ≤ r.live)
+Matches r (requests.Coming range next left) = (r.again ≡ Some next) × (range.from + range.count ≤ r.live) × (next + left ≤ r.live)
 
--- and the number awaited is not past it
-pub record InLine (f : Facts) : Type 0 where
+-- A reader of a recoverable flow whose connection goes on: what it asks for, what comes again and what is held lies below the live
+-- number, which the number awaited is not past; and that number is held only while messages come again
+pub record InLine (f : Facts) (held : List Numbered) : Type 0 where
   pub low : f.connection.receiver.next ≤ f.connection.receiver.live
   pub matches : Matches f.connection.receiver f.connection.requester
+  pub below : AllByRecursion (λ n. n < f.connection.receiver.live) (numbers_of held)
+  pub coming : IsSome (front f.recorded.inbox_next held) → is_coming f.connection.requester ≡ true
 
 -- the number that the inbox awaits, once an act is done: an Apply and a Skip begin at it, and move it behind themselves
 abbrev pub Advances : Act → (before after : ℕ) → Type 0
