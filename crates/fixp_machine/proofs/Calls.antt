@@ -127,7 +127,7 @@ calls_keep_sound s (begin now) h may = none_pending (connected s now) h.most (be
 calls_keep_sound s (frame incoming at now) h may =
     let o : Outcome = reply_of (around s at now) s.facts incoming in
     let k : KeepsSound s.config s.most s.facts o = sound_goes_on (around s at now) s.facts incoming h.most h.facts h.windowed.fits in
-    let held : KeepsHeld s.config s.most s.facts o = holding_goes_on (around s at now) s.facts incoming h.facts in
+    let held : KeepsHeld s.config s.most s.facts o = holding_goes_on (around s at now) s.facts incoming h.facts.waits in
     let w = h.windowed in
     let more : List Numbered = held_with o.holds (payload_in incoming) s.held in
     let framed_to : State = record s { moment = now; last_received = now; room = s.room - 1; held = more } in

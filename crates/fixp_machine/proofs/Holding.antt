@@ -37,7 +37,7 @@ use Rattle.fixp_replies.specs.Replies.{template_of, rows_of, answer_of, terminat
 use Rattle.fixp_machine.specs.Fitting.{IsMessage}
 use Rattle.std.proofs.lemmas.Option.{none-some}
 use Rattle.std.proofs.lemmas.Bool.{false≢true}
-use Rattle.fixp_machine.specs.Sound.{Sound, HeldFits, MayHold, KeepsHeld, HoldingGoesOn}
+use Rattle.fixp_machine.specs.Sound.{AwaitsSame, HeldFits, MayHold, KeepsHeld, HoldingGoesOn}
 use Rattle.fixp_machine.proofs.Expecting.{returned_stays}
 use Rattle.fixp_machine.proofs.Rows.{AllRows, by_row, all_rows, all_within, announced_rows, own_rows}
 use Rattle.fixp_machine.proofs.Tests.{not_true, delivers, holds, is_done, not_negotiated, not_established, not_opened}
@@ -149,12 +149,12 @@ following x f q next a is =
     fits held k = record { opening = λ n. k.opening (ap (λ p. is_shaken p) (sym is.phase) ∙ n); soft = λ t. k.soft (is.soft t) }
 
 -- a message of a recoverable flow
-taking : (x : Around) (f : Facts) → is_recoverable x.config.peer_flow ≡ true → is_shaken f.connection.phase ≡ true → Sound x.config f
+taking : (x : Around) (f : Facts) → is_recoverable x.config.peer_flow ≡ true → is_shaken f.connection.phase ≡ true → AwaitsSame x.config f
     → receiver_is.number f.connection.receiver ≤ x.most → (s : Seen) → receiver_is.seen f.connection.receiver ≡ s → KeepsHeld x.config x.most f (taken_as x (counted f) s)
 taking x f rec shaken s top (Deliver n) is =
     let r = f.connection.receiver in
     let d = delivers r.next (receiver_is.number r) n is in
-    let w = s.waits rec in
+    let w = s rec in
     (going x f (awaiting (counted f) (n + 1)) (acts.Apply n) [] (λ _. (omega (arith, d.0, d.1, w), omega (arith, d.0, d.1, w))) (started f (awaiting (counted f) (n + 1)) refl refl)).keeps
   where
     started : (f g : Facts) → is_shaken g.connection.phase ≡ is_shaken f.connection.phase → g.connection.soft ≡ false → FitsStill f g
@@ -162,7 +162,7 @@ taking x f rec shaken s top (Deliver n) is =
 taking x f rec shaken s top (Hold n) is =
     let r = f.connection.receiver in
     let d = holds r.next (receiver_is.number r) n is in
-    let w = s.waits rec in
+    let w = s rec in
     let k = (going (holding_too x n) f (counted f) acts.Nothing [] (still (holding_too x n) f (counted f) refl)
     (λ held h. record { opening = h.opening; soft = λ t. absurd (true≢false (sym t)) })).keeps in
     record {
@@ -195,7 +195,7 @@ taking x f rec shaken s top (Gap n) is = (going x f (counted f) acts.Nothing [] 
 taking x f rec shaken s top (Repeat n) is = (going x f (counted f) acts.Nothing [] (still x f (counted f) refl)
     (λ held h. record { opening = h.opening; soft = λ t. absurd (true≢false (sym t)) })).keeps
 
-message_rows : (x : Around) (f : Facts) (p : List ℕ) → Sound x.config f → AllRows (KeepsHeld x.config x.most f) (rows_of x f (application p))
+message_rows : (x : Around) (f : Facts) (p : List ℕ) → AwaitsSame x.config f → AllRows (KeepsHeld x.config x.most f) (rows_of x f (application p))
 message_rows x f p s = all_within (KeepsHeld x.config x.most f) (is_established f.connection.phase) _ (λ est. (
   λ _. (ending x f _ _).keeps,
   λ _. (

@@ -95,7 +95,7 @@ calls_keep_line s (begin now) h l may at = record { line = λ _ _. begun_line (a
 calls_keep_line s (frame incoming at_place now) h l may at =
     let x : Around = around s at_place now in
     let o : Outcome = reply_of x s.facts incoming in
-    let k : KeepsHeld s.config s.most s.facts o = holding_goes_on x s.facts incoming h.facts in
+    let k : KeepsHeld s.config s.most s.facts o = holding_goes_on x s.facts incoming h.facts.waits in
     let more : List Numbered = held_with o.holds (payload_in incoming) s.held in
     either StaysInLine (is_record o.act) (record s { moment = now; last_received = now; room = s.room - 1; pending = Some o })
     (reply_applied (record s { moment = now; last_received = now; room = s.room - 1; held = more }) o now)

@@ -152,7 +152,7 @@ past_windowed cfg top f ending held w k = subst (λ (ms : List Numbered). Window
 pub window_goes_on : WindowGoesOn
 window_goes_on x f i ending held low s least_is w none =
     let o : Outcome = reply_of x f i in
-    let k = holding_goes_on x f i s in
+    let k = holding_goes_on x f i s.waits in
     let sound = sound_goes_on x f i low s (subst (λ (h : Option ℕ). HeldFits h f) (sym least_is) w.fits) in
     record {
       before = until x.config x.most o.next o.ending held (replied x.config x.most f o ending held w none k);

@@ -14,7 +14,6 @@ use Rattle.fixp_msgs.specs.Message.{Message, not_applied}
 use Rattle.fixp_msgs.specs.Numbering.{announcement_of}
 use Rattle.fixp_shake.specs.Flows.{is_recoverable, is_sequenced}
 use Rattle.fixp_shake.specs.Phases.{is_shaken}
-use Rattle.fixp_machine.specs.Sound.{Sound}
 use Rattle.fixp_replies.specs.declared.act.Act.{Act}
 use Rattle.fixp_replies.specs.declared.act.Act.TheVariants as acts
 use Rattle.fixp_replies.specs.declared.facts.EndState.{EndState}
@@ -84,7 +83,7 @@ AcceptedFrameGrows = (x : Around) (f : Facts) (i : Incoming) (c : Option ℕ) (i
 -- a message that is held came in this frame, under this number
 abbrev pub HoldsWhatCame : Type 0
 HoldsWhatCame = (x : Around) (f : Facts) (i : Incoming) (c : Option ℕ) (inbox : List InboxRecord) (n : ℕ)
-    → Sound x.config f → Agrees x.config.peer_flow c f inbox → (reply_of x f i).holds ≡ Some n
+    → Agrees x.config.peer_flow c f inbox → (reply_of x f i).holds ≡ Some n
     → IsTrue (reply_of x f i).accepted × (numbered c (option_to_list (event_of i)) ≡ record { number = n; payload = payload_in i } ∷ [])
 
 -- A held message is applied, which came earlier on the connection and is the one that the inbox awaits: the inbox is grown by it as the

@@ -157,6 +157,9 @@ pub record KeepsSound (cfg : EndConfig) (most : ℕ) (f : Facts) (o : Outcome) :
 abbrev pub SoundGoesOn : Type 0
 SoundGoesOn = (x : Around) (f : Facts) (i : Incoming) → x.most < 2 ^ 40 → Sound x.config f → HeldFits x.held f → KeepsSound x.config x.most f (reply_of x f i)
 
--- whatever is held
+-- whatever is held, where the receiver of a recoverable flow and the inbox wait for the same number
+abbrev pub AwaitsSame : EndConfig → Facts → Type 0
+AwaitsSame cfg f = is_recoverable cfg.peer_flow ≡ true → f.connection.receiver.next ≡ f.recorded.inbox_next
+
 abbrev pub HoldingGoesOn : Type 0
-HoldingGoesOn = (x : Around) (f : Facts) (i : Incoming) → Sound x.config f → KeepsHeld x.config x.most f (reply_of x f i)
+HoldingGoesOn = (x : Around) (f : Facts) (i : Incoming) → AwaitsSame x.config f → KeepsHeld x.config x.most f (reply_of x f i)

@@ -49,7 +49,7 @@ returns-clause-holding c =
     let x = around_of c.args.around.now in
     let i = incoming_of c.args.incoming.now in
     subst (λ (o : Outcome). KeepsHeld x.config x.most c.args.facts.now o) (sym c.reply_to.ensures.reply)
-    (c.holding_goes_on.ensures.law x c.args.facts.now i c.requires.sound)
+    (c.holding_goes_on.ensures.law x c.args.facts.now i c.requires.sound.waits)
 
 pub returns-clause-window : goal.returns-clause-window
 returns-clause-window c ending held is w none =
