@@ -2,8 +2,8 @@
 use Rattle.std.proofs.Common.{◌≡◌, ℕ, ◌&&◌, not, Bool, true, false, if◌then◌else◌, List, [], ◌∷◌, Option, Some, None, refl, sym, ap, ◌∙◌, true≢false}
 use Rattle.std.specs.Prelude.{is_some, unwrap_or}
 use Rattle.std.specs.Cmp.{first_so}
-use Rattle.flow_recover.specs.declared.receiver.Seen.{Seen}
-use Rattle.flow_recover.specs.declared.receiver.Seen.TheVariants.{Deliver, Gap, Repeat}
+use Rattle.flow_recover.specs.declared.numbers.Seen.{Seen}
+use Rattle.flow_recover.specs.declared.numbers.Seen.TheVariants.{Deliver, Hold, Gap, Repeat}
 use Rattle.flow_recover.specs.Receiving as receiver_is
 use Rattle.flow_retrans.specs.declared.requester.BadStart.{BadStart}
 use Rattle.flow_retrans.specs.Requests as request_is
@@ -78,6 +78,7 @@ sequence_all x f g i next a =
 
 taking : (x : Around) (f g : Facts) (i : Incoming) (s : Seen) → Refuses f i (taken_as x g s)
 taking x f g i (Deliver n) out = absurd (true≢false out)
+taking x f g i (Hold n) out = absurd (true≢false out)
 taking x f g i (Gap n) out = absurd (true≢false out)
 taking x f g i (Repeat n) out = absurd (true≢false out)
 
