@@ -70,7 +70,7 @@ establish_all x f id timestamp keepalive next expected credentials = by_place (a
 sequence_all : (x : Around) (f g : Facts) (i : Incoming) (next : ℕ) (a : Announced) → Refuses f i (sequence_follows x g next a)
 sequence_all x f g i next a =
     by_row (Refuses f i) (is_past_finish x g next) _ (sequence_taken x a) (λ _ _. ended refl)
-    (λ _. by_row (Refuses f i) (is_filled a.facts) (answers_finish x a.facts last) _ (λ _. takes f i (answers_finish x a.facts last) refl)
+    (λ _. by_row (Refuses f i) (is_filled x a.facts) (answers_finish x a.facts last) _ (λ _. takes f i (answers_finish x a.facts last) refl)
     (λ _. takes f i (goes_on x (skip_of a.skipped) (told_skip a.skipped) a.facts) refl))
   where
     last : ℕ
