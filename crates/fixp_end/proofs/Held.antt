@@ -9,6 +9,8 @@ use Rattle.flow_window.specs.Window.{Holding, holding, front}
 use Rattle.sbe_prim.specs.declared.Order.{Order}
 use Rattle.fixp_msgs.specs.Numbering.{payload_of}
 use Rattle.fixp_msgs.specs.Payload.{IsApplication}
+use Rattle.fixp_shake.specs.declared.config.EndConfig.{EndConfig}
+use Rattle.fixp_shake.specs.Flows.{is_recoverable}
 use Rattle.fixp_shake.specs.declared.phase.Phase.TheVariants as phases
 use Rattle.fixp_replies.specs.declared.act.Act.{Act}
 use Rattle.fixp_replies.specs.declared.act.Act.TheVariants as acts
@@ -22,7 +24,7 @@ use Rattle.fixp_replies.specs.Incoming.{Incoming, IsIncoming, application, sessi
 use Rattle.fixp_replies.specs.Events.{Made, outbox_finished, tells_finish, finish_told, closes, turn_ended}
 use Rattle.fixp_replies.specs.Outcomes.{Outcome}
 use Rattle.fixp_machine.specs.Fitting.{IsMessage}
-use Rattle.fixp_machine.specs.Sound.{Advances, HeldFits}
+use Rattle.fixp_machine.specs.Sound.{Advances, HeldFits, MayHold, KeepsHeld}
 use Rattle.fixp_machine.specs.Machine.{held_until, held_with}
 use Rattle.fixp_end.proofs.Told.{told_as}
 use Rattle.fixp_end.proofs.Turn.{turn_as}
@@ -96,3 +98,22 @@ pub held_alike : (ending : Option Ending) (h : Option ℕ) (p q : List ℕ) (ms 
 held_alike ending None p q ms fits = refl
 held_alike None (Some n) p q ms fits = ap (λ (b : List ℕ). holding n b ms) (sym (fits refl).1)
 held_alike (Some e) (Some n) p q ms fits = absurd (none-some e (sym (fits refl).0))
+
+-- where a message is held, the flow is recoverable, and the connection goes on; its number is near
+pub record HoldsOne (cfg : EndConfig) (o : Outcome) : Type 0 where
+  pub flow : is_recoverable cfg.peer_flow ≡ true
+  pub ends_not : o.ending ≡ None
+
+pub may_hold : (cfg : EndConfig) (top : ℕ) (f : Facts) (o : Outcome) → KeepsHeld cfg top f o → IsSome o.holds → HoldsOne cfg o
+may_hold cfg top f o k some = by_number o.holds k.holds some
+  where
+    by_number : (h : Option ℕ) → IfSome h (λ n. MayHold cfg top f o n) → IsSome h → HoldsOne cfg o
+    by_number None m some = absurd (false≢true some)
+    by_number (Some n) m some = record { flow = m.flow; ends_not = m.goes_on }
+
+pub hold_near : (cfg : EndConfig) (top : ℕ) (f : Facts) (o : Outcome) → KeepsHeld cfg top f o → IfSome o.holds (λ n. (f.recorded.inbox_next < n) × (n ≤ f.recorded.inbox_next + 256))
+hold_near cfg top f o k = by_number o.holds k.holds
+  where
+    by_number : (h : Option ℕ) → IfSome h (λ n. MayHold cfg top f o n) → IfSome h (λ n. (f.recorded.inbox_next < n) × (n ≤ f.recorded.inbox_next + 256))
+    by_number None m = tt
+    by_number (Some n) m = (m.above, m.near)

@@ -31,7 +31,7 @@ held_in (Some w) = w.held
 abbrev pub Awaits : Option Holding → ℕ → Type 0
 Awaits w next = IfSome w (λ held. held.next ≡ next)
 
--- a pending outcome moves the inbox of a recoverable flow by one message at most
+-- a pending outcome moves the inbox by one message at most, as it does where there is a window
 abbrev pub Steps : ℕ → Option Outcome → Type 0
 Steps next None = ⊤
 Steps next (Some o) = (next ≤ o.next.recorded.inbox_next) × (o.next.recorded.inbox_next ≤ next + 1)
@@ -55,6 +55,6 @@ pub record Keeps (e : Inside) : Type 0 where
   pub awaits : Awaits e.window e.facts.recorded.inbox_next
   pub windowed : Windowed e.config e.most e.facts e.ending (held_in e.window)
   pub windowed_then : IfSome (pending_in e) (λ o. Windowed e.config e.most o.next o.ending (held_until o.ending (held_in e.window)))
-  pub steps : is_recoverable e.config.peer_flow ≡ true → Steps e.facts.recorded.inbox_next (pending_in e)
+  pub steps : IsSome e.window → Steps e.facts.recorded.inbox_next (pending_in e)
   pub free : IsSome (pending_in e) → front e.facts.recorded.inbox_next (held_in e.window) ≡ None
   pub messages : AllByRecursion (λ (m : Numbered). IsApplication m.payload) (held_in e.window)

@@ -592,6 +592,8 @@ impl End {
         requires small { written_limit self.old.config reply.written ≤ reply_limit self.old.config }
         requires output { length self.old.unsent ≤ 5100000 }
         ensures applied { self.new ≡ reply_applied self.old (outcome_of self.old.config reply next) self.old.moment }
+        ensures facts { self.new.facts ≡ next }
+        ensures config { self.new.config ≡ self.old.config }
         ensures untold { self.new.untold ≡ self.old.untold }
         ensures small { length self.new.unsent ≤ length self.old.unsent + written_limit self.old.config reply.written }
     {

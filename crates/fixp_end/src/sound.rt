@@ -1,9 +1,10 @@
 //! The replies of the table to sound facts: they keep the facts sound, and what they write may be written.
 
-ghost use Rattle.std.specs.Prelude.{◌≡◌, ℕ, ◌+◌, ◌<◌, ◌≤◌, ◌^◌, ◌∷◌, ◌++◌, [], length, List, Option, Some, None, IsSome, false};
+ghost use Rattle.std.specs.Prelude.{◌≡◌, ℕ, ◌+◌, ◌<◌, ◌≤◌, ◌^◌, ◌∷◌, ◌++◌, [], length, List, Option, Some, None, IsSome, IfSome, true, false};
 ghost use Rattle.std.specs.List.{AllByRecursion};
 ghost use Rattle.fixp_msgs.specs.declared.numbering.Range.{Range};
 ghost use Rattle.fixp_replies.specs.Acts.{is_record};
+ghost use Rattle.fixp_shake.specs.Flows.{is_recoverable};
 ghost use Rattle.fixp_replies.specs.Facts.{around_of};
 ghost use Rattle.fixp_replies.specs.Events.{begun, heartbeats, finish_told, applied_runs, turn_ended};
 ghost use Rattle.fixp_replies.specs.Incoming.{incoming_of};
@@ -15,7 +16,7 @@ ghost use Rattle.flow_window.specs.Window.{least, front};
 ghost use Rattle.session_model.specs.Inbox.{Numbered};
 ghost use Rattle.fixp_replies.specs.declared.act.Ending.{Ending};
 ghost use Rattle.fixp_machine.specs.Machine.{Windowed, WindowStays};
-ghost use Rattle.fixp_machine.specs.Sound.{Sound, KeepsSound, KeepsHeld, HeldFits, MayWrite};
+ghost use Rattle.fixp_machine.specs.Sound.{Sound, KeepsSound, HeldFits, MayWrite};
 ghost use Rattle.fixp_end.specs.Doing.{Serves};
 
 use fixp_machine::{acts_fit, holding_goes_on, sound_goes_on, window_goes_on};
@@ -38,7 +39,10 @@ pub fn reply_to_frame(around: &Around<'_>, facts: &mut Facts, incoming: &Incomin
     ensures takes { CanTake around.now.config.now.peer_flow around.now.most facts.old.recorded (IsMessage (incoming_of incoming.now)) result.act }
     ensures recorded { Records result.act facts.old.recorded facts.new.recorded }
     ensures serves { Serves facts.new }
-    ensures holding { KeepsHeld around.now.config.now around.now.most facts.old (outcome_of around.now.config.now result facts.new) }
+    ensures steps { is_recoverable around.now.config.now.peer_flow ≡ true → (facts.old.recorded.inbox_next ≤ facts.new.recorded.inbox_next) × (facts.new.recorded.inbox_next ≤ facts.old.recorded.inbox_next + 1) }
+    ensures held_on { IsSome result.holds → is_recoverable around.now.config.now.peer_flow ≡ true }
+    ensures near { IfSome result.holds (λ n. (facts.old.recorded.inbox_next < n) × (n ≤ facts.old.recorded.inbox_next + 256)) }
+    ensures goes_on { IsSome result.holds → result.ending ≡ None }
     ensures window { (ending : Option Ending) (held : List Numbered) → around.now.held ≡ least held
         → Windowed around.now.config.now around.now.most facts.old ending held → front facts.old.recorded.inbox_next held ≡ None
         → WindowStays (around_of around.now) facts.old (incoming_of incoming.now) (outcome_of around.now.config.now result facts.new) held }

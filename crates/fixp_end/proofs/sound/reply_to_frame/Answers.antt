@@ -7,7 +7,7 @@ use Rattle.fixp_machine.specs.Fitting.{Fits}
 use Rattle.fixp_machine.specs.Machine.{WindowStays}
 use Rattle.fixp_machine.specs.Sound.{KeepsSound, KeepsHeld}
 use Rattle.fixp_end.proofs.Doing.{serves_next}
-use Rattle.fixp_end.proofs.Held.{plain_stays}
+use Rattle.fixp_end.proofs.Held.{plain_stays, may_hold, hold_near}
 use Rattle.fixp_end.proofs.sound.reply_to_frame.Goals as goal
 
 pub returns-clause-takes : goal.returns-clause-takes
@@ -44,12 +44,36 @@ returns-clause-still c is =
     (c.sound_goes_on.ensures.law x c.args.facts.now i (omega (arith, c.requires.most)) c.requires.sound c.requires.fits) in
     plain_stays c.reply_to.result.act c.args.facts.now.recorded.inbox_next c.reply_to.new.facts.recorded.inbox_next is k.advances
 
-pub returns-clause-holding : goal.returns-clause-holding
-returns-clause-holding c =
+pub returns-clause-steps : goal.returns-clause-steps
+returns-clause-steps c =
     let x = around_of c.args.around.now in
     let i = incoming_of c.args.incoming.now in
-    subst (λ (o : Outcome). KeepsHeld x.config x.most c.args.facts.now o) (sym c.reply_to.ensures.reply)
-    (c.holding_goes_on.ensures.law x c.args.facts.now i c.requires.sound.waits)
+    (subst (λ (o : Outcome). KeepsHeld x.config x.most c.args.facts.now o) (sym c.reply_to.ensures.reply)
+    (c.holding_goes_on.ensures.law x c.args.facts.now i c.requires.sound.waits)).steps
+
+pub returns-clause-held_on : goal.returns-clause-held_on
+returns-clause-held_on c some =
+    let x = around_of c.args.around.now in
+    let i = incoming_of c.args.incoming.now in
+    (may_hold x.config x.most c.args.facts.now (outcome_of x.config c.reply_to.result c.reply_to.new.facts)
+    (subst (λ (o : Outcome). KeepsHeld x.config x.most c.args.facts.now o) (sym c.reply_to.ensures.reply)
+    (c.holding_goes_on.ensures.law x c.args.facts.now i c.requires.sound.waits)) some).flow
+
+pub returns-clause-near : goal.returns-clause-near
+returns-clause-near c =
+    let x = around_of c.args.around.now in
+    let i = incoming_of c.args.incoming.now in
+    hold_near x.config x.most c.args.facts.now (outcome_of x.config c.reply_to.result c.reply_to.new.facts)
+    (subst (λ (o : Outcome). KeepsHeld x.config x.most c.args.facts.now o) (sym c.reply_to.ensures.reply)
+    (c.holding_goes_on.ensures.law x c.args.facts.now i c.requires.sound.waits))
+
+pub returns-clause-goes_on : goal.returns-clause-goes_on
+returns-clause-goes_on c some =
+    let x = around_of c.args.around.now in
+    let i = incoming_of c.args.incoming.now in
+    (may_hold x.config x.most c.args.facts.now (outcome_of x.config c.reply_to.result c.reply_to.new.facts)
+    (subst (λ (o : Outcome). KeepsHeld x.config x.most c.args.facts.now o) (sym c.reply_to.ensures.reply)
+    (c.holding_goes_on.ensures.law x c.args.facts.now i c.requires.sound.waits)) some).ends_not
 
 pub returns-clause-window : goal.returns-clause-window
 returns-clause-window c ending held is w none =
