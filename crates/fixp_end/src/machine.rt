@@ -436,6 +436,14 @@ impl End {
         }
     }
 
+    /// What is held lies within reach of the number that the inbox awaits, is not past the greatest one, and is there only on a
+    /// recoverable flow, behind the handshake, before the connection's end.
+    pub fn windowed(&self)
+        ensures { Windowed self.now.config self.now.most self.now.facts self.now.ending self.now.held }
+    {
+        let _ = &self.window;
+    }
+
     /// The held message that the inbox awaits, with its number. Its caller applies it, makes the record stable, and then calls
     /// `held_done`, before it tells a frame, bytes that are none, the end of a turn or the outbox's finish.
     pub fn held(&self) -> Option<(u64, &[u8])>
