@@ -8,7 +8,7 @@ use Rattle.flow_window.specs.Window.{Holding, front}
 use Rattle.fixp_shake.specs.Flows.{is_idempotent, is_recoverable}
 use Rattle.fixp_replies.specs.Outcomes.{Outcome}
 use Rattle.fixp_replies.specs.Outgoing.{outcome_of}
-use Rattle.fixp_machine.specs.Sound.{Sound, KeepsSound}
+use Rattle.fixp_machine.specs.Sound.{Sound, KeepsSound, GoesByOne}
 use Rattle.fixp_machine.specs.Machine.{held_until, Windowed}
 use Rattle.fixp_end.specs.Doing.{Serves}
 use Rattle.fixp_end.specs.declared.machine.End.TheInside.{Inside}
@@ -34,7 +34,7 @@ Awaits w next = IfSome w (λ held. held.next ≡ next)
 -- a pending outcome moves the inbox by one message at most, as it does where there is a window
 abbrev pub Steps : ℕ → Option Outcome → Type 0
 Steps next None = ⊤
-Steps next (Some o) = (next ≤ o.next.recorded.inbox_next) × (o.next.recorded.inbox_next ≤ next + 1)
+Steps next (Some o) = GoesByOne next o.next.recorded.inbox_next
 
 -- Sound facts, and a pending outcome that keeps them so; a range that is served was sent, now and from the outcome on; on an
 -- idempotent flow the receiver waits for the inbox's next number, and has room for the announcements of the frames that there is

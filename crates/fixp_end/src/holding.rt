@@ -6,6 +6,7 @@ ghost use Rattle.fixp_msgs.specs.Numbering.{payload_of};
 ghost use Rattle.fixp_shake.specs.Flows.{is_recoverable};
 ghost use Rattle.flow_window.specs.Window.{least, front};
 ghost use Rattle.fixp_machine.specs.Machine.{held_until, held_with};
+ghost use Rattle.fixp_machine.specs.Sound.{GoesByOne};
 ghost use Rattle.fixp_end.specs.Keeping.{held_in, Awaits};
 
 use fixp_replies::Ending;
@@ -84,7 +85,7 @@ pub fn hold_message(
 /// The inbox waits for `next` from now on: the number that it waited for, or the one behind it, which came and was not held.
 pub fn go_on(window: &mut Option<Window>, before: u64, next: u64)
     requires awaits { Awaits window.old before }
-    requires steps { IsSome window.old → (before ≤ next) × (next ≤ before + 1) }
+    requires steps { IsSome window.old → GoesByOne before next }
     requires free { front before (held_in window.old) ≡ None }
     ensures held { held_in window.new ≡ held_in window.old }
     ensures awaits { Awaits window.new next }

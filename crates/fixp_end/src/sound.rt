@@ -16,7 +16,7 @@ ghost use Rattle.flow_window.specs.Window.{least, front};
 ghost use Rattle.session_model.specs.Inbox.{Numbered};
 ghost use Rattle.fixp_replies.specs.declared.act.Ending.{Ending};
 ghost use Rattle.fixp_machine.specs.Machine.{Windowed, WindowStays};
-ghost use Rattle.fixp_machine.specs.Sound.{Sound, KeepsSound, HeldFits, MayWrite};
+ghost use Rattle.fixp_machine.specs.Sound.{Sound, KeepsSound, GoesByOne, HeldFits, MayWrite};
 ghost use Rattle.fixp_end.specs.Doing.{Serves};
 
 use fixp_machine::{acts_fit, holding_goes_on, sound_goes_on, window_goes_on};
@@ -39,7 +39,7 @@ pub fn reply_to_frame(around: &Around<'_>, facts: &mut Facts, incoming: &Incomin
     ensures takes { CanTake around.now.config.now.peer_flow around.now.most facts.old.recorded (IsMessage (incoming_of incoming.now)) result.act }
     ensures recorded { Records result.act facts.old.recorded facts.new.recorded }
     ensures serves { Serves facts.new }
-    ensures steps { is_recoverable around.now.config.now.peer_flow ≡ true → (facts.old.recorded.inbox_next ≤ facts.new.recorded.inbox_next) × (facts.new.recorded.inbox_next ≤ facts.old.recorded.inbox_next + 1) }
+    ensures steps { is_recoverable around.now.config.now.peer_flow ≡ true → GoesByOne facts.old.recorded.inbox_next facts.new.recorded.inbox_next }
     ensures held_on { IsSome result.holds → is_recoverable around.now.config.now.peer_flow ≡ true }
     ensures near { IfSome result.holds (λ n. (facts.old.recorded.inbox_next < n) × (n ≤ facts.old.recorded.inbox_next + 256)) }
     ensures goes_on { IsSome result.holds → result.ending ≡ None }

@@ -66,5 +66,6 @@ pub record Fits (cfg : EndConfig) (most : ℕ) (f : Facts) (i : Incoming) (o : O
   pub holds : IsSome o.holds → IsMessage i
 
 pub record ActsFit : Type 0 where
-  pub frames : (x : Around) (f : Facts) (i : Incoming) → x.most < 2 ^ 40 → Sound x.config f → HeldFits x.held f → Fits x.config x.most f i (reply_of x f i)
+  pub frames : (x : Around) (f : Facts) (i : Incoming) → x.most < 2 ^ 40 → Sound x.config f → HeldFits x.held f
+      → Fits x.config x.most f i (reply_of x f i)
   pub bad_frames : (x : Around) (f : Facts) (i : Incoming) → Fits x.config x.most f i (reply_to_bad_frame x f)

@@ -137,11 +137,14 @@ pub record MayHold (cfg : EndConfig) (most : ℕ) (f : Facts) (o : Outcome) (n :
   pub shaken_still : is_shaken o.next.connection.phase ≡ true
   pub firm : o.next.connection.soft ≡ false
 
+-- a number stays, or the next one takes its place
+abbrev pub GoesByOne : (before after : ℕ) → Type 0
+GoesByOne before after = (before ≤ after) × (after ≤ before + 1)
+
 -- what an outcome makes of what is held: on a recoverable flow the inbox goes on by one message at most, what fitted fits still, and
 -- a message that is to be held may be
 pub record KeepsHeld (cfg : EndConfig) (most : ℕ) (f : Facts) (o : Outcome) : Type 0 where
-  pub steps : is_recoverable cfg.peer_flow ≡ true
-      → (f.recorded.inbox_next ≤ o.next.recorded.inbox_next) × (o.next.recorded.inbox_next ≤ f.recorded.inbox_next + 1)
+  pub steps : is_recoverable cfg.peer_flow ≡ true → GoesByOne f.recorded.inbox_next o.next.recorded.inbox_next
   pub fits : (held : Option ℕ) → HeldFits held f → HeldFits held o.next
   pub holds : IfSome o.holds (λ n. MayHold cfg most f o n)
 
