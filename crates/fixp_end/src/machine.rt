@@ -611,7 +611,11 @@ impl End {
             reply.act,
             next.recorded.inbox_next,
         );
-        let_go_at(&mut self.window, reply.ending, next.recorded.inbox_next);
+        let_go_at(
+            &mut self.window,
+            reply.ending,
+            self.facts.recorded.inbox_next,
+        );
         write_reply(
             &self.config,
             &mut self.output,

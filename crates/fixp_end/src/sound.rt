@@ -15,7 +15,7 @@ ghost use Rattle.fixp_machine.specs.Fitting.{CanTake, IsMessage, Records};
 ghost use Rattle.flow_window.specs.Window.{least, front};
 ghost use Rattle.session_model.specs.Inbox.{Numbered};
 ghost use Rattle.fixp_replies.specs.declared.act.Ending.{Ending};
-ghost use Rattle.fixp_machine.specs.Machine.{Windowed, WindowStays};
+ghost use Rattle.fixp_machine.specs.Machine.{Windowed, WindowStays, held_until};
 ghost use Rattle.fixp_machine.specs.Sound.{Sound, KeepsSound, GoesByOne, HeldFits, MayWrite};
 ghost use Rattle.fixp_end.specs.Doing.{Serves};
 
@@ -61,6 +61,7 @@ pub fn reply_to_no_frame(around: &Around<'_>, facts: &Facts) -> Reply
     requires sound { Sound around.now.config.now facts.now }
     ensures reply { outcome_of around.now.config.now result facts.now ≡ reply_to_bad_frame (around_of around.now) facts.now }
     ensures keeps { KeepsSound around.now.config.now around.now.most facts.now (outcome_of around.now.config.now result facts.now) }
+    ensures window { (held : List Numbered) → Windowed around.now.config.now around.now.most facts.now result.ending (held_until result.ending held) }
     ensures small { written_limit around.now.config.now result.written ≤ reply_limit around.now.config.now }
 {
     reply_to_bad_frame(around, facts)
@@ -84,6 +85,7 @@ pub fn break_connection(around: &Around<'_>, facts: &Facts, violation: Violation
     requires sound { Sound around.now.config.now facts.now }
     ensures reply { outcome_of around.now.config.now result facts.now ≡ breaks (around_of around.now) facts.now violation }
     ensures keeps { KeepsSound around.now.config.now around.now.most facts.now (outcome_of around.now.config.now result facts.now) }
+    ensures window { (held : List Numbered) → Windowed around.now.config.now around.now.most facts.now result.ending (held_until result.ending held) }
     ensures small { written_limit around.now.config.now result.written ≤ 64 }
 {
     Reply::breaks(around, facts, violation)

@@ -1,11 +1,11 @@
-use Rattle.std.proofs.Common.{arith, subst, sym, List, ◌∙◌}
+use Rattle.std.proofs.Common.{◌≡◌, ℕ, arith, subst, sym, List, ◌∙◌}
 use Rattle.std.specs.List.{AllByRecursion}
 use Rattle.std.proofs.lemmas.Bool.{false≢true}
 use Rattle.session_model.specs.Inbox.{Numbered}
 use Rattle.fixp_msgs.specs.Payload.{IsApplication}
 use Rattle.fixp_machine.specs.Machine.{State, held_until, Windowed}
 use Rattle.fixp_machine.specs.Sound.{Sound}
-use Rattle.fixp_end.specs.Keeping.{held_in}
+use Rattle.fixp_end.specs.Keeping.{held_in, Awaits}
 use Rattle.fixp_end.proofs.Held.{all_until}
 use Rattle.fixp_end.proofs.machine.End.apply_reply.Goals as goal
 
@@ -23,7 +23,8 @@ invariant_of-self c = (
     sent = c.write_reply.ensures.within c.self.invariant.0.sent;
     received = c.self.invariant.0.received;
     made = c.let_go_at.ensures.made ∙ c.self.invariant.0.made;
-    awaits = c.let_go_at.ensures.awaits;
+    awaits = subst (λ (n : ℕ). Awaits c.let_go_at.new.window n) (sym (subst (λ (s : State). c.args.next.recorded.inbox_next ≡ s.facts.recorded.inbox_next) (sym c.self.view_is) c.requires.still))
+        c.let_go_at.ensures.awaits;
     windowed = subst (λ (ms : List Numbered). Windowed c.self.inside.config c.self.inside.most c.args.next c.args.reply.ending ms) (sym c.let_go_at.ensures.held)
         (subst (λ (s : State). Windowed s.config s.most c.args.next c.args.reply.ending (held_until c.args.reply.ending s.held)) (sym c.self.view_is) c.requires.window);
     windowed_then = tt;
