@@ -1,16 +1,21 @@
 -- What is held in an end, and the facts that it fits.
 use Rattle.std.proofs.Common.{◌≡◌, ◌⊎◌, ℕ, ◌+◌, ◌<◌, ◌≤◌, ◌==◌, Bool, true, false, if◌then◌else◌, List, [], ◌∷◌, drop, Option, Some, None, IsSome, refl, sym, ap, subst, ◌∙◌, arith, nat_lt, eqb-true, true≢false}
-use Rattle.std.specs.Prelude.{⊤, is_some, IfSome}
+use Rattle.std.specs.Prelude.{⊤, is_some, IfSome, option_map}
 use Rattle.std.specs.List.{AllByRecursion}
 use Rattle.std.proofs.lemmas.Bool.{false≢true}
 use Rattle.std.proofs.lemmas.Option.{none-some}
-use Rattle.session_model.specs.Inbox.{Numbered}
+use Rattle.session_model.specs.Inbox.{Numbered, numbers_of}
 use Rattle.flow_window.specs.Window.{Holding, holding, front}
 use Rattle.sbe_prim.specs.declared.Order.{Order}
 use Rattle.fixp_msgs.specs.Numbering.{payload_of}
 use Rattle.fixp_msgs.specs.Payload.{IsApplication}
 use Rattle.fixp_shake.specs.declared.config.EndConfig.{EndConfig}
-use Rattle.fixp_shake.specs.Flows.{is_recoverable}
+use Rattle.fixp_msgs.specs.declared.flow.Flow.{Flow}
+use Rattle.fixp_msgs.specs.declared.flow.Flow.TheVariants as flows
+use Rattle.flow_recover.specs.Receiving.{past}
+use Rattle.fixp_replies.specs.declared.facts.EndState.{EndState}
+use Rattle.fixp_machine.proofs.Windowing.{IsFront}
+use Rattle.fixp_shake.specs.Flows.{is_recoverable, is_idempotent}
 use Rattle.fixp_shake.specs.declared.phase.Phase.TheVariants as phases
 use Rattle.fixp_replies.specs.declared.act.Act.{Act}
 use Rattle.fixp_replies.specs.declared.act.Act.TheVariants as acts
@@ -19,13 +24,13 @@ use Rattle.fixp_replies.specs.declared.facts.Facts.{Facts}
 use Rattle.fixp_replies.specs.declared.facts.OwnFinish.TheVariants as own
 use Rattle.fixp_msgs.specs.declared.numbering.Range.{Range}
 use Rattle.fixp_replies.specs.Acts.{is_record}
-use Rattle.fixp_replies.specs.Facts.{Around, in_phase}
+use Rattle.fixp_replies.specs.Facts.{Around, in_phase, receiving, awaiting}
 use Rattle.fixp_replies.specs.Incoming.{Incoming, IsIncoming, application, session, wrong_order, too_short, unknown, payload_in}
 use Rattle.fixp_replies.specs.Events.{Made, outbox_finished, tells_finish, finish_told, closes, turn_ended}
 use Rattle.fixp_replies.specs.Outcomes.{Outcome}
-use Rattle.fixp_machine.specs.Fitting.{IsMessage}
+use Rattle.fixp_machine.specs.Fitting.{IsMessage, CanTake}
 use Rattle.fixp_machine.specs.Sound.{Advances, HeldFits, MayHold, KeepsHeld}
-use Rattle.fixp_machine.specs.Machine.{held_until, held_with}
+use Rattle.fixp_machine.specs.Machine.{State, held_until, held_with, held_applied, front_of}
 use Rattle.fixp_end.proofs.Told.{told_as}
 use Rattle.fixp_end.proofs.Turn.{turn_as}
 
@@ -117,3 +122,30 @@ hold_near cfg top f o k = by_number o.holds k.holds
     by_number : (h : Option ℕ) → IfSome h (λ n. MayHold cfg top f o n) → IfSome h (λ n. (f.recorded.inbox_next < n) × (n ≤ f.recorded.inbox_next + 256))
     by_number None m = tt
     by_number (Some n) m = (m.above, m.near)
+
+-- what the inbox awaits of what is held, it can take
+both_all : (top : ℕ) (ms : List Numbered) → AllByRecursion (λ (m : Numbered). IsApplication m.payload) ms → AllByRecursion (λ n. n ≤ top) (numbers_of ms)
+    → AllByRecursion (λ (m : Numbered). IsApplication m.payload × (m.number ≤ top)) ms
+both_all top [] messages numbers = tt
+both_all top (m ∷ ms) messages numbers = ((messages.0, numbers.0), both_all top ms messages.1 numbers.1)
+
+pub front_takes : {A : Type 0} (of : A → Numbered) (flow : Flow) (top : ℕ) (r : EndState) (ms : List Numbered) (o : Option A) → option_map of o ≡ front r.inbox_next ms
+    → AllByRecursion (λ (m : Numbered). IsApplication m.payload) ms → AllByRecursion (λ n. n ≤ top) (numbers_of ms)
+    → IfSome o (λ h. CanTake flow top r (IsApplication (of h).payload) (acts.Apply (of h).number))
+front_takes of flow top r ms None e messages numbers = tt
+front_takes of flow top r ms (Some h) e messages numbers =
+    let k = front_all (λ (m : Numbered). IsApplication m.payload × (m.number ≤ top)) r.inbox_next ms (of h) (sym e) (both_all top ms messages numbers) in
+    (k.0.0, k.1, k.0.1)
+
+-- it is applied
+pub applied_front : (s : State) → IsFront s.facts.recorded.inbox_next s.held
+    → record s { facts = receiving (awaiting s.facts (s.facts.recorded.inbox_next + 1)) (past s.facts.connection.receiver); held = drop 1 s.held } ≡ held_applied s (front_of s)
+applied_front s k =
+    subst (λ (o : Option Numbered). record s { facts = receiving (awaiting s.facts (s.facts.recorded.inbox_next + 1)) (past s.facts.connection.receiver); held = drop 1 s.held } ≡ held_applied s o)
+    (sym k.front_is) (ap (λ (n : ℕ). record s { facts = receiving (awaiting s.facts (n + 1)) (past s.facts.connection.receiver); held = drop 1 s.held }) (sym k.number))
+
+pub not_both : (flow : Flow) → is_recoverable flow ≡ true → is_idempotent flow ≡ true → ⊥
+not_both flows.Recoverable r i = true≢false (sym i)
+not_both flows.Idempotent r i = true≢false (sym r)
+not_both flows.Unsequenced r i = true≢false (sym r)
+not_both flows.None r i = true≢false (sym r)
