@@ -56,7 +56,7 @@ abbrev Lined : (payload : List ℕ) (held : List Numbered) → Outcome → Type 
 Lined payload held o = o.ending ≡ None → InLine o.next (held_with o.holds payload held)
 
 -- facts with the same receiver, the same request and the same number awaited
-same_line : (f g : Facts) (held : List Numbered) → g.connection.receiver ≡ f.connection.receiver → g.connection.requester ≡ f.connection.requester
+pub same_line : (f g : Facts) (held : List Numbered) → g.connection.receiver ≡ f.connection.receiver → g.connection.requester ≡ f.connection.requester
     → g.recorded.inbox_next ≡ f.recorded.inbox_next → InLine f held → InLine g held
 same_line f g held r q n l = record {
   low = subst (λ (k : Receiving). k.next ≤ k.live) (sym r) l.low;
@@ -100,16 +100,13 @@ going x p held g act written is l = λ _. asked_line x g held is l
 rejecting : (p : List ℕ) (held : List Numbered) (f : Facts) (written : List Message) → InLine f held → Lined p held (rejects written f)
 rejecting p held f written l = λ _. l
 
-ending : (p : List ℕ) (held : List Numbered) (x : Around) (f : Facts) (written : List Message) (e : Ending) → Lined p held (ends_with x f written e)
-ending p held x f written e = λ none. absurd cc
-
 refusing : (p : List ℕ) (held : List Numbered) (x : Around) (f : Facts) → (v : Option Violation) → (is_some v ≡ false → InLine f held) → Lined p held (refuses x f v)
 refusing p held x f None l = λ _. l refl
-refusing p held x f (Some v) l = ending p held x f _ _
+refusing p held x f (Some v) l = (λ none. absurd cc)
 
 bad : (p : List ℕ) (held : List Numbered) (x : Around) (f : Facts) (b : Option BadStart) → InLine f held → Lined p held (bad_retransmission x f b)
 bad p held x f None l = λ _. l
-bad p held x f (Some b) l = ending p held x f _ _
+bad p held x f (Some b) l = (λ none. absurd cc)
 
 -- nothing is held
 nothing_held : (held : List Numbered) → least held ≡ None → held ≡ []
@@ -349,11 +346,11 @@ restart_matches r (requests.Coming range n left) next count m none =
 message_rows : (x : Around) (f : Facts) (p : List ℕ) (ending_before : Option Ending) (held : List Numbered) → is_recoverable x.config.peer_flow ≡ true → Sound x.config f → x.held ≡ least held
     → Windowed x.config x.most f ending_before held → front f.recorded.inbox_next held ≡ None → InLine f held → AllRows (Lined p held) (rows_of x f (application p))
 message_rows x f p before held rec s is w drained l = all_within (Lined p held) (is_established f.connection.phase) _ (λ est. (
-  λ _. ending p held x f _ _,
+  λ _. (λ none. absurd cc),
   λ _. (
-    λ _. ending p held x f _ _,
+    λ _. (λ none. absurd cc),
     λ _. (
-      λ _. ending p held x f _ _,
+      λ _. (λ none. absurd cc),
       λ small. (
         λ e. absurd (true≢false (sym e ∙ ap not rec)),
         λ e. (
@@ -380,7 +377,7 @@ finishing x held f n is l = by_row (Lined [] held) (is_some (gap_of x f)) (accep
 
 following : (x : Around) (held : List Numbered) (f : Facts) (next : ℕ) (a : Announced) → x.held ≡ least held → InLine a.facts held → Lined [] held (sequence_follows x f next a)
 following x held f next a is l =
-    by_row (Lined [] held) (is_past_finish x f next) _ (sequence_taken x a) (λ _. ending [] held x f _ _)
+    by_row (Lined [] held) (is_past_finish x f next) _ (sequence_taken x a) (λ _. (λ none. absurd cc))
     (λ _. by_row (Lined [] held) (is_filled x a.facts) (answers_finish x a.facts (unwrap_or (awaits_gap a.facts.connection.peer_finish) 0)) (goes_on x (skip_of a.skipped) (told_skip a.skipped) a.facts)
     (λ _. let last : ℕ = unwrap_or (awaits_gap a.facts.connection.peer_finish) 0 in
         passing x held a.facts (peer_finished a.facts (peer.Exchanged last) (Some (unwrap_or a.facts.recorded.peer_last last))) (finish_act a.facts.recorded.peer_last last) (finished_receiving x.config.session ∷ []) is refl refl refl l)
@@ -389,7 +386,7 @@ following x held f next a is l =
 answered : (x : Around) (held : List Numbered) (f : Facts) (id : List ℕ) (timestamp : ℕ) (r : Result Range RetransmitCode) → x.held ≡ least held → InLine f held
     → Lined [] held (request_answered x f id timestamp r)
 answered x held f id timestamp (Ok range) is l = passing x held f (serves f (Some range)) acts.Nothing (retransmission x.config.session range.from timestamp range.count ∷ []) is refl refl refl l
-answered x held f id timestamp (Err code) is l = rejecting [] held f _ l
+answered x held f id timestamp (Err code) is l = (λ _. l)
 
 shaking : (x : Around) (held : List Numbered) (f : Facts) → x.held ≡ least held → InLine f held → Lined [] held (shaken x f)
 shaking x held f is l = passing x held f (in_phase (as_negotiated f) phases.Establishing) (if f.recorded.negotiated then acts.Nothing else acts.Negotiated) (opening_establish x f ∷ []) is refl refl refl l
@@ -397,27 +394,27 @@ shaking x held f is l = passing x held f (in_phase (as_negotiated f) phases.Esta
 session_rows : (x : Around) (f : Facts) (m : Message) (before : Option Ending) (held : List Numbered) → is_recoverable x.config.peer_flow ≡ true → Sound x.config f → x.held ≡ least held
     → Windowed x.config x.most f before held → front f.recorded.inbox_next held ≡ None → InLine f held → AllRows (Lined [] held) (rows_of x f (session m))
 session_rows x f (negotiate id timestamp flow credentials) before held rec s is w drained l = all_within (Lined [] held) (awaits_client x f) _ (λ _. (
-  λ _. rejecting [] held f _ l,
+  λ _. (λ _. l),
   λ _. (
-    λ _. rejecting [] held f _ l,
+    λ _. (λ _. l),
     λ _. (
-      λ _. rejecting [] held f _ l,
+      λ _. (λ _. l),
       λ _. (
-        λ _. rejecting [] held f _ l,
+        λ _. (λ _. l),
         λ _. (λ _. passing x held f (as_negotiated f) acts.Negotiated (negotiation_response x.config.session timestamp (flow_code x.config.own_flow) [] ∷ []) is refl refl refl l, λ _. tt),
       ),
     ),
   ),
 ))
 session_rows x f (negotiation_response id timestamp flow credentials) before held rec s is w drained l =
-    own_rows (Lined [] held) x f 2 id _ (λ e. ending [] held x f _ e) (all_within (Lined [] held) (is_negotiating f.connection.phase) _ (λ _. (
-      λ _. ending [] held x f _ _,
+    own_rows (Lined [] held) x f 2 id _ (λ e. (λ none. absurd cc)) (all_within (Lined [] held) (is_negotiating f.connection.phase) _ (λ _. (
+      λ _. (λ none. absurd cc),
       λ _. (λ _. shaking x held f is l, λ _. tt),
     )))
 session_rows x f (negotiation_reject id timestamp code reason) before held rec s is w drained l =
-    own_rows (Lined [] held) x f 3 id _ (λ e. ending [] held x f _ e) (all_within (Lined [] held) (is_negotiating f.connection.phase) _ (λ _. (
+    own_rows (Lined [] held) x f 3 id _ (λ e. (λ none. absurd cc)) (all_within (Lined [] held) (is_negotiating f.connection.phase) _ (λ _. (
       λ _. shaking x held f is l,
-      λ _. (λ _. ending [] held x f _ _, λ _. tt),
+      λ _. (λ _. (λ none. absurd cc), λ _. tt),
     )))
 session_rows x f (establish id timestamp keepalive next expected credentials) before held rec s is w drained l = by_place (awaits_client x f) (serves_client x f) refl
   where
@@ -438,19 +435,19 @@ session_rows x f (establish id timestamp keepalive next expected credentials) be
     by_place : (a b : Bool) → awaits_client x f ≡ a
         → AllRows (Lined [] held) (if a then establish_rows x f id timestamp keepalive next expected credentials else if b then established_again_rows x f id timestamp else [])
     by_place true b waits = (
-      λ _. rejecting [] held f _ l,
+      λ _. (λ _. l),
       λ _. (
-        λ _. rejecting [] held f _ l,
+        λ _. (λ _. l),
         λ _. (
-          λ _. rejecting [] held f _ l,
+          λ _. (λ _. l),
           λ _. announced_rows (Lined [] held) x f 4 next (acknowledges x timestamp keepalive expected) (λ v. refusing [] held x f v (λ _. l)) (acknowledged waits),
         ),
       ),
     )
-    by_place false true waits = (λ _. rejecting [] held f _ l, λ _. (λ _. rejecting [] held f _ l, λ _. tt))
+    by_place false true waits = (λ _. (λ _. l), λ _. (λ _. (λ _. l), λ _. tt))
     by_place false false waits = tt
 session_rows x f (establishment_ack id timestamp keepalive next expected) before held rec s is w drained l =
-    own_rows (Lined [] held) x f 5 id _ (λ e. ending [] held x f _ e) (all_within (Lined [] held) (is_establishing f.connection.phase) _ (λ n.
+    own_rows (Lined [] held) x f 5 id _ (λ e. (λ none. absurd cc)) (all_within (Lined [] held) (is_establishing f.connection.phase) _ (λ n.
     announced_rows (Lined [] held) x f 5 next (reached x keepalive expected) (λ v. refusing [] held x f v (λ _. l)) (λ none.
     let a : Announced = announced x f next in
     let g : Facts = returned x a.facts expected in
@@ -459,9 +456,9 @@ session_rows x f (establishment_ack id timestamp keepalive next expected) before
     going x [] held (established g interval) (skip_of a.skipped) (told_skip a.skipped ++ told_return x a.facts expected) is
     (shaken_line x f (established g interval) 5 next before held s w rec l (not_established f.connection.phase n) none (ap (λ c. c.receiver) r.connection) (ap (λ c. c.requester) r.connection)))))
 session_rows x f (establishment_reject id timestamp code reason) before held rec s is w drained l =
-    own_rows (Lined [] held) x f 6 id _ (λ e. ending [] held x f _ e) (all_within (Lined [] held) (is_establishing f.connection.phase) _ (λ _. (
+    own_rows (Lined [] held) x f 6 id _ (λ e. (λ none. absurd cc)) (all_within (Lined [] held) (is_establishing f.connection.phase) _ (λ _. (
       λ _. passing x held f (in_phase f phases.Negotiating) acts.Nothing (opening_negotiate x ∷ []) is refl refl refl l,
-      λ _. (λ _. ending [] held x f _ _, λ _. tt),
+      λ _. (λ _. (λ none. absurd cc), λ _. tt),
     )))
 session_rows x f (sequence next) before held rec s is w drained l = all_within (Lined [] held) (is_established f.connection.phase) _ (λ _. (
   λ _. bad [] held x f (request_is.sequence_fault f.connection.requester) l,
@@ -480,14 +477,14 @@ session_rows x f (sequence next) before held rec s is w drained l = all_within (
   where
     refused : (g : Facts) (v : Option Violation) → is_some v ≡ true → Lined [] held (refuses x g v)
     refused g None some = absurd (true≢false (sym some))
-    refused g (Some v) some = ending [] held x g _ _
+    refused g (Some v) some = (λ none. absurd cc)
 session_rows x f unsequenced_heartbeat before held rec s is w drained l = (λ _. passing x held f f acts.Nothing [] is refl refl refl l, λ _. tt)
 session_rows x f (retransmit_request id timestamp first count) before held rec s is w drained l = all_within (Lined [] held) (is_established f.connection.phase) _ (λ _. (
-  λ _. ending [] held x f _ _,
+  λ _. (λ none. absurd cc),
   λ _. (λ _. answered x held f id timestamp (judged (is_own x id) (is_recoverable x.config.own_flow) first count f.recorded.sent) is l, λ _. tt),
 ))
 session_rows x f (retransmission id next timestamp count) before held rec s is w drained l =
-    own_rows (Lined [] held) x f 10 id _ (λ e. ending [] held x f _ e) (all_within (Lined [] held) (is_established f.connection.phase) _ (λ _. (
+    own_rows (Lined [] held) x f 10 id _ (λ e. (λ none. absurd cc)) (all_within (Lined [] held) (is_established f.connection.phase) _ (λ _. (
       λ _. bad [] held x f (request_is.start_fault (request_is.outstanding f.connection.requester) next count) l,
       λ none. (
         λ _. going x [] held (restarted f next count) acts.Nothing [] is (record {
@@ -500,34 +497,34 @@ session_rows x f (retransmission id next timestamp count) before held rec s is w
       ),
     )))
 session_rows x f (retransmit_reject id timestamp code reason) before held rec s is w drained l =
-    own_rows (Lined [] held) x f 11 id _ (λ e. ending [] held x f _ e) (all_within (Lined [] held) (is_established f.connection.phase) _ (λ _. (λ _. ending [] held x f _ _, λ _. tt)))
+    own_rows (Lined [] held) x f 11 id _ (λ e. (λ none. absurd cc)) (all_within (Lined [] held) (is_established f.connection.phase) _ (λ _. (λ _. (λ none. absurd cc), λ _. tt)))
 session_rows x f (applied first count) before held rec s is w drained l = (λ _. passing x held f f acts.Nothing [] is refl refl refl l, λ _. tt)
 session_rows x f (not_applied first count) before held rec s is w drained l =
     (λ _. passing x held f f (acts.Told first count) [] is refl refl refl l, λ _. (λ _. passing x held f f acts.Nothing [] is refl refl refl l, λ _. tt))
 session_rows x f (finished_sending id last) before held rec s is w drained l =
-    own_rows (Lined [] held) x f 14 id _ (λ e. ending [] held x f _ e) (all_within (Lined [] held) (is_established f.connection.phase) _ (λ _. (
+    own_rows (Lined [] held) x f 14 id _ (λ e. (λ none. absurd cc)) (all_within (Lined [] held) (is_established f.connection.phase) _ (λ _. (
       λ _. refusing [] held x f (finish_fault x f last) (λ _. l),
       λ _. (λ _. finishing x held f (finished_last x last) is l, λ _. tt),
     )))
 session_rows x f (finished_receiving id) before held rec s is w drained l =
-    own_rows (Lined [] held) x f 15 id _ (λ e. ending [] held x f _ e) (all_within (Lined [] held) (is_established f.connection.phase) _ (λ _. (
+    own_rows (Lined [] held) x f 15 id _ (λ e. (λ none. absurd cc)) (all_within (Lined [] held) (is_established f.connection.phase) _ (λ _. (
       λ _. passing x held f (own_finishing f own.Exchanged) acts.Nothing [] is refl refl refl l,
       λ _. tt,
     )))
 session_rows x f (terminate id code reason) before held rec s is w drained l =
     let answer : Row = row true (ends x f 1 (endings.PeerTerminated code)) in
-    let rest : AllRows (Lined [] held) (answer ∷ []) = (λ _. ending [] held x f _ _, λ _. tt) in
-    own_rows (Lined [] held) x f 16 id (answer ∷ []) (λ e. ending [] held x f _ e) rest
+    let rest : AllRows (Lined [] held) (answer ∷ []) = (λ _. (λ none. absurd cc), λ _. tt) in
+    own_rows (Lined [] held) x f 16 id (answer ∷ []) (λ e. (λ none. absurd cc)) rest
 
 lined : (x : Around) (f : Facts) (i : Incoming) (held : List Numbered) → InLine f held → AllRows (Lined (payload_in i) held) (rows_of x f i) → Lined (payload_in i) held (reply_of x f i)
 lined x f i held l all =
     by_row (Lined (payload_in i) held) (is_closing f.connection.phase && not (terminates x i)) (ignores f) (answer_of x f i)
     (λ _. rejecting (payload_in i) held f [] l)
-    (λ _. all_rows (Lined (payload_in i) held) (not_in_phase x f (template_of i)) (rows_of x f i) (ending (payload_in i) held x f _ _) all)
+    (λ _. all_rows (Lined (payload_in i) held) (not_in_phase x f (template_of i)) (rows_of x f i) ((λ none. absurd cc)) all)
 
 pub line_goes_on : LineGoesOn
 line_goes_on x f (application p) before held s is w drained rec l = lined x f (application p) held l (message_rows x f p before held rec s is w drained l)
 line_goes_on x f (session m) before held s is w drained rec l = lined x f (session m) held l (session_rows x f m before held rec s is w drained l)
-line_goes_on x f wrong_order before held s is w drained rec l = lined x f wrong_order held l (λ _. ending [] held x f _ _, λ _. tt)
-line_goes_on x f too_short before held s is w drained rec l = lined x f too_short held l (λ _. ending [] held x f _ _, λ _. tt)
-line_goes_on x f (unknown template) before held s is w drained rec l = lined x f (unknown template) held l (λ _. ending [] held x f _ _, λ _. tt)
+line_goes_on x f wrong_order before held s is w drained rec l = lined x f wrong_order held l (λ _. (λ none. absurd cc), λ _. tt)
+line_goes_on x f too_short before held s is w drained rec l = lined x f too_short held l (λ _. (λ none. absurd cc), λ _. tt)
+line_goes_on x f (unknown template) before held s is w drained rec l = lined x f (unknown template) held l (λ _. (λ none. absurd cc), λ _. tt)
