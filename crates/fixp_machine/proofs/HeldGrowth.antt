@@ -35,10 +35,12 @@ pub holds_what_came : HoldsWhatCame
 holds_what_came x f i c inbox n a e =
     let o : Outcome = reply_of x f i in
     let m : MayHold x.config x.most f o n = subst (λ (h : Option ℕ). IfSome h (λ k. MayHold x.config x.most f o k)) e (holding_goes_on x f i (λ r. a.waits r ∙ sym a.recorded)).holds in
-    let stands = a.stands (sequenced x.config.peer_flow m.flow) in
-    (m.accepted, numbered_message c n i (holds_messages x f i n e)
-    (stands ∙ (ap (λ (b : Bool). if b then Some (if is_recoverable x.config.peer_flow then number f.connection.receiver else f.recorded.inbox_next) else None) m.shaken
-    ∙ (ap (λ (b : Bool). Some (if b then number f.connection.receiver else f.recorded.inbox_next)) m.flow ∙ ap Some (sym m.number)))))
+    let stands = a.stands (sequenced x.config.peer_flow m.flow) in (
+      m.accepted,
+      numbered_message c n i (holds_messages x f i n e)
+          (stands ∙ (ap (λ (b : Bool). if b then Some (if is_recoverable x.config.peer_flow then number f.connection.receiver else f.recorded.inbox_next) else None) m.shaken
+          ∙ (ap (λ (b : Bool). Some (if b then number f.connection.receiver else f.recorded.inbox_next)) m.flow ∙ ap Some (sym m.number)))),
+    )
   where
     sequenced : (flow : Flow) → is_recoverable flow ≡ true → is_sequenced flow ≡ true
     sequenced flows.Recoverable e = refl

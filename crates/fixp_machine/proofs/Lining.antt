@@ -380,7 +380,7 @@ following x held f next a is l =
     by_row (Lined [] held) (is_past_finish x f next) _ (sequence_taken x a) (λ _. (λ none. absurd cc))
     (λ _. by_row (Lined [] held) (is_filled x a.facts) (answers_finish x a.facts (unwrap_or (awaits_gap a.facts.connection.peer_finish) 0)) (goes_on x (skip_of a.skipped) (told_skip a.skipped) a.facts)
     (λ _. let last : ℕ = unwrap_or (awaits_gap a.facts.connection.peer_finish) 0 in
-        passing x held a.facts (peer_finished a.facts (peer.Exchanged last) (Some (unwrap_or a.facts.recorded.peer_last last))) (finish_act a.facts.recorded.peer_last last) (finished_receiving x.config.session ∷ []) is refl refl refl l)
+    passing x held a.facts (peer_finished a.facts (peer.Exchanged last) (Some (unwrap_or a.facts.recorded.peer_last last))) (finish_act a.facts.recorded.peer_last last) (finished_receiving x.config.session ∷ []) is refl refl refl l)
     (λ _. going x [] held a.facts (skip_of a.skipped) (told_skip a.skipped) is l))
 
 answered : (x : Around) (held : List Numbered) (f : Facts) (id : List ℕ) (timestamp : ℕ) (r : Result Range RetransmitCode) → x.held ≡ least held → InLine f held
@@ -463,8 +463,7 @@ session_rows x f (establishment_reject id timestamp code reason) before held rec
 session_rows x f (sequence next) before held rec s is w drained l = all_within (Lined [] held) (is_established f.connection.phase) _ (λ _. (
   λ _. bad [] held x f (request_is.sequence_fault f.connection.requester) l,
   λ _.
-      let g : Facts = requesting f (request_is.after_sequence f.connection.requester) in
-      (
+      let g : Facts = requesting f (request_is.after_sequence f.connection.requester) in (
         λ some. refused g (announcement_fault x g 7 (Some next)) some,
         λ none. (
           λ _. following x held g next (announced x g (Some next)) is

@@ -140,8 +140,7 @@ fn awaits_gap(finish: PeerFinish) -> Option<u64>
 fn is_filled(around: &Around<'_>, facts: &Facts) -> bool
     ensures { result ≡ is_filled (around_of around.now) facts.now }
 {
-    awaits_gap(facts.connection.peer_finish).is_some()
-        && gap(around, facts).is_none()
+    awaits_gap(facts.connection.peer_finish).is_some() && gap(around, facts).is_none()
 }
 
 /// The peer's finish is recorded, if it was not, and answered.

@@ -27,4 +27,3 @@ returns-then-is_record-clause-reply c =
       replies = ap (λ (o : Outcome). o.act) same;
       after = after-record (the_view c.self.inside) (incoming_of c.classify.result) _ _ c.args.now same is;
     })
-
