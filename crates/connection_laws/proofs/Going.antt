@@ -759,9 +759,11 @@ grown_held h c m st e = by_flow (is_recoverable flow) refl
     by_flow true r =
         let g = held_grows flow c.accepted (inbox_of c) c.state.facts m r st.agrees there number in
         let later : GrownLater (model_flow flow) None c.accepted [] (inbox_of c) (inbox_of c ++ InboxRecord.apply m ∷ []) =
-        subst (λ f. GrownLater f None c.accepted [] (inbox_of c) (inbox_of c ++ InboxRecord.apply m ∷ [])) (sym (as_model flow r)) g.grown in
-        (g, subst (λ es. Grown (model_flow flow) None es c.start (inbox_of c ++ InboxRecord.apply m ∷ [])) (append-nil c.accepted)
-        (held_goes_on (model_flow flow) None c.accepted [] c.start (inbox_of c) (inbox_of c ++ InboxRecord.apply m ∷ []) st.grown later))
+        subst (λ f. GrownLater f None c.accepted [] (inbox_of c) (inbox_of c ++ InboxRecord.apply m ∷ [])) (sym (as_model flow r)) g.grown in (
+          g,
+          subst (λ es. Grown (model_flow flow) None es c.start (inbox_of c ++ InboxRecord.apply m ∷ [])) (append-nil c.accepted)
+              (held_goes_on (model_flow flow) None c.accepted [] c.start (inbox_of c) (inbox_of c ++ InboxRecord.apply m ∷ []) st.grown later),
+        )
 
 -- a held message was applied
 applying : (h : List Entry) (c : Course) → Stands h c → (c.state.pending ≡ None) × IsSome (front_of c.state) → Stands h (next_course c held_done)
