@@ -121,9 +121,10 @@ module _ {J : Type 0} {G : Ghosts J} {D : Type 0} where
     pub reference : k.reference ≡ h.reference
     pub desks : k.desks ≡ h.desks
 
-  -- its pass, if it is there, has this number
+  -- it is the desk of this number, and so is its pass, if it is there
   pub record HasNumber (n : ℕ) (h : Hand J D G) : Type 0 where
-    pub number : (pass : Pass (Kept J G)) → h.desk.pass ≡ Some pass → pass.number ≡ n
+    pub number : h.desk.number ≡ n
+    pub pass : (p : Pass (Kept J G)) → h.desk.pass ≡ Some p → p.number ≡ n
 
   -- the same with another pass, or with none
   abbrev pub with_pass : Option (Pass (Kept J G)) → Hand J D G → Hand J D G
@@ -154,6 +155,10 @@ module _ {J : Type 0} {G : Ghosts J} {D : Type 0} where
   made_in hands n = made_if (hand_in hands n)
 
   -- ---- all of them
+
+  -- what each is to send over the applied messages
+  abbrev pub plan_of : Desks J D G → ℕ → List (List ℕ) → List (List ℕ)
+  plan_of d n applied = desk_plan d.desks d.version d.reference n applied
 
   -- the hand at a place, of so many desks
   pub record IsHandAt (d : Desks J D G) (place : ℕ) (h : Hand J D G) : Type 0 where

@@ -79,8 +79,7 @@ impl<J: Journal, D> Desks<J, D> {
 }
 
 impl<J: Journal + Send, D: Door + Send + Drop> Business<J> for Desks<J, D> {
-    ghost use Rattle.order_desk.specs.Plans.{desk_plan};
-    ghost use Rattle.order_gate.specs.Desks.{counted_if, part_in, made_in, HasPasses, LacksPasses, StandBehind, GaveOut, TookBack, IsAble, Worked};
+    ghost use Rattle.order_gate.specs.Desks.{counted_if, part_in, made_in, plan_of, HasPasses, LacksPasses, StandBehind, GaveOut, TookBack, IsAble, Worked};
     ghost use Rattle.order_gate.specs.Standing.{goes_on, numbered, owns, meets};
 
     type Held = Kept<J>;
@@ -99,7 +98,7 @@ impl<J: Journal + Send, D: Door + Send + Drop> Business<J> for Desks<J, D> {
 
     ghost met = { λ d. d.met };
 
-    ghost plan = { λ d n applied. desk_plan d.desks d.version d.reference n applied };
+    ghost plan = { λ d n applied. plan_of d n applied };
 
     ghost stands = { λ d applied. StandBehind d applied };
 
@@ -172,7 +171,7 @@ impl<J: Journal + Send, D: Door + Send + Drop> Business<J> for Desks<J, D> {
         requires met { self.old.met ≡ true → SeesMark self.old.desks (known_at passes) }
         ensures own { (lock : TableId) → HasThese lock passes self.old.desks → HasPasses lock self.new }
         ensures known { (n : ℕ) → In self.old.desks n → part_in self.new.hands.items n ≡ known_at passes n }
-        ensures same { (self.new.desks ≡ self.old.desks) × ((λ n applied. desk_plan self.new.desks self.new.version self.new.reference n applied) ≡ (λ n applied. desk_plan self.old.desks self.old.version self.old.reference n applied)) }
+        ensures same { (self.new.desks ≡ self.old.desks) × (plan_of self.new ≡ plan_of self.old) }
         ensures stands { (l : List (List ℕ)) → StandBehind self.old l → StandBehind self.new l }
     {
         give_to_all(self.hands.as_mut_slice(), passes);

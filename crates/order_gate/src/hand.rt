@@ -45,7 +45,7 @@ fn turn_behind(turn: u16, count: usize, desks: u16) -> u16
 }
 
 impl<J: Journal, D> Hand<J, D> {
-    ghost use Rattle.order_gate.specs.Desks.{IsSeated, IsAble, Worked, Counted};
+    ghost use Rattle.order_gate.specs.Desks.{IsSeated, IsAble, Worked, Counted, HasNumber, with_pass, without_pass};
 
     /// Counts the entries that the outbox has of it: they are owed.
     fn count<R: Wait>(&mut self, gate: &Gate<J>, rt: &R)
@@ -76,6 +76,27 @@ impl<J: Journal, D> Hand<J, D> {
             .answer_share(self.alloc, gate, &call, &self.door, rt);
         self.turn = turn_behind(self.turn, payloads.len(), self.desks);
     }
+
+    /// Puts its pass into its place.
+    fn lend(&mut self, passes: &mut Passes<Kept<J>>)
+        requires numbered { HasNumber self.old.desk.number self.old }
+        requires free { pass_at passes.old self.old.desk.number ≡ None }
+        ensures lent { self.new ≡ without_pass self.old }
+        ensures there { pass_at passes.new self.old.desk.number ≡ self.old.desk.pass }
+        ensures others { (n : ℕ) → n ≢ self.old.desk.number → pass_at passes.new n ≡ pass_at passes.old n }
+    {
+        if let Some(pass) = self.desk.pass.take() {
+            passes.give(pass);
+        }
+    }
+
+    /// Takes the pass of its number.
+    fn regain(&mut self, passes: &mut Passes<Kept<J>>)
+        ensures back { self.new ≡ with_pass (pass_at passes.old self.old.desk.number) self.old }
+        ensures others { (n : ℕ) → n ≢ self.old.desk.number → pass_at passes.new n ≡ pass_at passes.old n }
+    {
+        self.desk.pass = passes.take(self.desk.number);
+    }
 }
 
 /// Counts the entries that the outbox has of each.
@@ -103,22 +124,20 @@ pub(crate) fn passes_of_all<J: Journal, D>(hands: &mut [Hand<J, D>]) -> Passes<K
 {
     let mut passes = Passes::new();
     for place in 0..hands.len() {
-        if let Some(pass) = hands[place].desk.pass.take() {
-            passes.give(pass);
-        }
+        hands[place].lend(&mut passes);
     }
     passes
 }
 
 /// Gives each the pass of its number.
 pub(crate) fn give_to_all<J: Journal, D>(hands: &mut [Hand<J, D>], passes: Passes<Kept<J>>)
-    requires few { length hands.old ≤ 16 }
+    requires numbered { (i : ℕ) (h : Hand _ _ _) → i < length hands.old → (slice_index_or hands.old i h).desk.number ≡ i + 1 }
     ensures long { length hands.new ≡ length hands.old }
     ensures each { (i : ℕ) (h : Hand _ _ _) → i < length hands.old → slice_index_or hands.new i h ≡ with_pass (pass_at passes (i + 1)) (slice_index_or hands.old i h) }
 {
     let mut passes = passes;
     for place in 0..hands.len() {
-        hands[place].desk.pass = passes.take(place as u16 + 1);
+        hands[place].regain(&mut passes);
     }
 }
 
