@@ -1,5 +1,7 @@
 -- Passes that are lent, and given back.
 use Rattle.std.proofs.Common.{◌≡◌, ◌≢◌, ◌⊎◌, ◌↔◌, ℕ, zero, suc, ◌+◌, ◌<◌, ◌≤◌, true, List, [], ◌∷◌, length, slice_get, slice_index_or, Option, Some, None, inl, inr, refl, sym, ap, subst, ◌∙◌, arith}
+use Rattle.std.proofs.lemmas.List.{with_items_is}
+use Rattle.std.specs.Vec.{with_items}
 use Rattle.atomic_table.specs.Seated.{TableId}
 use Rattle.jr_dated.specs.declared.journal.Journal.{Ghosts}
 use Rattle.gate_turn.specs.Views.{Part}
@@ -101,7 +103,7 @@ module _ {J : Type 0} {G : Ghosts J} {D : Type 0} (d : Desks J D G) (hands : Lis
 module _ {J : Type 0} {G : Ghosts J} {D : Type 0} (d e : Desks J D G) (desks : e.desks ≡ d.desks) (version : e.version ≡ d.version) (reference : e.reference ≡ d.reference) (counted : e.counted ≡ d.counted) (met : e.met ≡ d.met)
     (pass : ℕ → Option (Pass (Kept J G))) (long : length e.hands.items ≡ length d.hands.items)
     (each : (i : ℕ) (h : Hand J D G) → i < length d.hands.items → slice_index_or e.hands.items i h ≡ with_pass (pass i) (slice_index_or d.hands.items i h)) where
-  pub own_still : (λ n. counted_if e.counted (made_in e.hands.items n)) ≡ (λ n. counted_if d.counted (made_in d.hands.items n))
+  pub own_still : ◌≡◌ {A = ℕ → Option ℕ} (λ n. counted_if e.counted (made_in e.hands.items n)) (λ n. counted_if d.counted (made_in d.hands.items n))
   own_still = λ i n. counted_if (counted i) (made_still d e.hands.items pass long each n i)
 
   pub plan_still : plan_of e ≡ plan_of d
@@ -201,10 +203,10 @@ module _ {J : Type 0} {G : Ghosts J} {D : Type 0} (d e : Desks J D G) (desks : e
         let number = has.each place h few in
         record {
           pass = p.0;
-          there = ap (λ (x : Hand J D G). x.desk.pass) z ∙ p.1.0;
-          own = p.1.1.0;
-          free = p.1.1.1;
-          number = p.0.numbered ∙ passes.in_place (place + 1) p.0 p.1.0 ∙ sym number.number ∙ sym (ap (λ (x : Hand J D G). x.desk.number) z);
+          there = ap (λ (x : Hand J D G). x.desk.pass) z ∙ p.1;
+          own = p.2;
+          free = p.3;
+          number = p.0.numbered ∙ passes.in_place (place + 1) p.0 p.1 ∙ sym number.number ∙ sym (ap (λ (x : Hand J D G). x.desk.number) z);
         }
 
     pub given_all : ((n k : ℕ) → In d.desks n → counted_if d.counted (made_in d.hands.items n) ≡ Some k → length (known_at passes n).mine ≡ k) → (d.met ≡ true → SeesMark d.desks (known_at passes)) → HasPasses lock e
@@ -230,3 +232,25 @@ module _ {J : Type 0} {G : Ghosts J} {D : Type 0} (d e : Desks J D G) (desks : e
             ap (λ p. length (known_if p).mine) (sym there)
             ∙ again (place + 1) (made_in d.hands.items (place + 1)) inside (ap (λ b. counted_if b (made_in d.hands.items (place + 1))) c)
             ∙ o.made ∙ ap (λ (x : Hand J D G). x.desk.made) (sym (o.at h) ∙ ap (λ k. slice_index_or d.hands.items k h) same) ∙ sym (ap (λ (x : Hand J D G). x.desk.made) z)
+
+-- ---- behind a call on the hands of all: d before, xs the hands behind it
+
+module _ {J : Type 0} {G : Ghosts J} {D : Type 0} (d : Desks J D G) (given xs : List (Hand J D G)) (same : given ≡ d.hands.items) (long : length xs ≡ length given) (pass : ℕ → Option (Pass (Kept J G)))
+    (each : (i : ℕ) (h : Hand J D G) → i < length given → slice_index_or xs i h ≡ with_pass (pass i) (slice_index_or given i h)) where
+  pub items_of : (with_items d.hands xs).items ≡ xs
+  items_of = with_items_is d.hands xs (long ∙ ap length same ∙ sym d.hands.ok.0)
+
+  pub long_of : length (with_items d.hands xs).items ≡ length d.hands.items
+  long_of = ap length items_of ∙ long ∙ ap length same
+
+  pub each_of : (i : ℕ) (h : Hand J D G) → i < length d.hands.items → slice_index_or (with_items d.hands xs).items i h ≡ with_pass (pass i) (slice_index_or d.hands.items i h)
+  each_of i h few =
+      let count = ap length same in
+      ap (λ ys. slice_index_or ys i h) items_of ∙ each i h (omega (arith, few, count)) ∙ ap (λ (ys : List (Hand J D G)). with_pass (pass i) (slice_index_or ys i h)) same
+
+  pub lent_of : (passes : Passes (Kept J G)) → ((i : ℕ) (h : Hand J D G) → i < length given → pass_at passes (i + 1) ≡ (slice_index_or given i h).desk.pass)
+      → (i : ℕ) (h : Hand J D G) → i < length d.hands.items → pass_at passes (i + 1) ≡ (slice_index_or d.hands.items i h).desk.pass
+  lent_of passes lent i h few = let count = ap length same in lent i h (omega (arith, few, count)) ∙ ap (λ (ys : List (Hand J D G)). (slice_index_or ys i h).desk.pass) same
+
+  pub others_of : (passes : Passes (Kept J G)) → ((n : ℕ) → ¬ In (length given) n → pass_at passes n ≡ None) → (n : ℕ) → ¬ In (length d.hands.items) n → pass_at passes n ≡ None
+  others_of passes others n out = others n (λ i. out (subst (λ ys. In (length ys) n) same i))
