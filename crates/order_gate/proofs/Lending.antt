@@ -1,6 +1,7 @@
 -- Passes that are lent, and given back.
-use Rattle.std.proofs.Common.{◌≡◌, ◌≢◌, ◌⊎◌, ◌↔◌, ℕ, zero, suc, ◌+◌, ◌<◌, ◌≤◌, true, List, [], ◌∷◌, length, slice_get, slice_index_or, Option, Some, None, inl, inr, refl, sym, ap, subst, ◌∙◌, arith}
-use Rattle.std.proofs.lemmas.List.{with_items_is}
+use Rattle.std.proofs.Common.{◌≡◌, ◌≢◌, ◌⊎◌, ◌↔◌, ℕ, zero, suc, ◌+◌, ◌<◌, ◌≤◌, true, List, [], ◌∷◌, ◌++◌, length, length-append, slice_get, slice_index_or, Option, Some, None, inl, inr, refl, sym, ap, subst, ◌∙◌, arith}
+use Rattle.std.proofs.lemmas.List.{with_items_is, get_or_append_left}
+use Rattle.std.proofs.Math.Seq.{get_or-append_seam}
 use Rattle.std.specs.Vec.{with_items}
 use Rattle.atomic_table.specs.Seated.{TableId}
 use Rattle.jr_dated.specs.declared.journal.Journal.{Ghosts}
@@ -15,8 +16,9 @@ use Rattle.gate_business.specs.Made.{SeesMark}
 use Rattle.gate_business.specs.Business.{HasThese}
 use Rattle.order_desk.specs.Plans.{desk_plan}
 use Rattle.order_gate.specs.declared.hand.Hand.{Hand}
+use Rattle.order_gate.specs.declared.terms.Terms.{Terms}
 use Rattle.order_gate.specs.declared.desks.Desks.{Desks}
-use Rattle.order_gate.specs.Desks.{known_of, counted_if, IsSeated, IsManned, IsHandAt, HasHands, HasPasses, LacksPasses, HasNumber, StandsAt, StandBehind, hand_in, part_if, part_in, made_if, made_in, plan_of, with_pass, without_pass}
+use Rattle.order_gate.specs.Desks.{known_of, counted_if, IsSeated, IsManned, IsHandAt, HasHands, HasPasses, LacksPasses, HasNumber, AreNew, StandsAt, StandBehind, hand_in, part_if, part_in, made_if, made_in, plan_of, with_pass, without_pass}
 use Rattle.order_gate.specs.Standing.{at_place, HandOf, hand_of, seated_of}
 use Rattle.order_gate.proofs.Places.{lt_or_eq}
 
@@ -254,3 +256,40 @@ module _ {J : Type 0} {G : Ghosts J} {D : Type 0} (d : Desks J D G) (given xs : 
 
   pub others_of : (passes : Passes (Kept J G)) → ((n : ℕ) → ¬ In (length given) n → pass_at passes n ≡ None) → (n : ℕ) → ¬ In (length d.hands.items) n → pass_at passes n ≡ None
   others_of passes others n out = others n (λ i. out (subst (λ ys. In (length ys) n) same i))
+
+-- ---- desks that are made
+
+-- one more in a list, behind the others
+pub one_behind : {A : Type 0} (P : ℕ → A → Type 0) (xs : List A) (x : A) → ((i : ℕ) (d : A) → i < length xs → P i (slice_index_or xs i d)) → P (length xs) x
+    → (i : ℕ) (d : A) → i < length (xs ++ x ∷ []) → P i (slice_index_or (xs ++ x ∷ []) i d)
+one_behind P xs x before this i d few = of (lt_or_eq i (length xs) (let long = length-append xs (x ∷ []) in omega (arith, few, long)))
+  where
+    of : (i < length xs) ⊎ (i ≡ length xs) → P i (slice_index_or (xs ++ x ∷ []) i d)
+    of (inl less) = subst (λ z. P i z) (sym (get_or_append_left xs (x ∷ []) d i less)) (before i d less)
+    of (inr e) = subst (λ k. P k (slice_index_or (xs ++ x ∷ []) k d)) (sym e) (subst (λ z. P (length xs) z) (sym (get_or-append_seam xs x [] d)) this)
+
+module _ {J : Type 0} {G : Ghosts J} {D : Type 0} (terms : Terms) where
+  pub one_new : (xs ys : List (Hand J D G)) (x : Hand J D G) → ys ≡ xs ++ x ∷ [] → AreNew terms xs → x.desk.number ≡ length xs + 1 → x.desks ≡ terms.desks → x.form.version ≡ terms.version → x.reference ≡ terms.reference
+      → x.desk.owed ≡ 0 → x.desk.made ≡ 0 → AreNew terms ys
+  one_new xs ys x is are number desks version reference owed made = subst (λ zs. AreNew terms zs) (sym is) (record {
+    number = one_behind (λ (i : ℕ) (h : Hand J D G). h.desk.number ≡ i + 1) xs x are.number number;
+    desks = one_behind (λ (i : ℕ) (h : Hand J D G). h.desks ≡ terms.desks) xs x are.desks desks;
+    version = one_behind (λ (i : ℕ) (h : Hand J D G). h.form.version ≡ terms.version) xs x are.version version;
+    reference = one_behind (λ (i : ℕ) (h : Hand J D G). h.reference ≡ terms.reference) xs x are.reference reference;
+    owed = one_behind (λ (i : ℕ) (h : Hand J D G). h.desk.owed ≡ 0) xs x are.owed owed;
+    made = one_behind (λ (i : ℕ) (h : Hand J D G). h.desk.made ≡ 0) xs x are.made made;
+  })
+
+  pub hands_new : (d : Desks J D G) → AreNew terms d.hands.items → length d.hands.items ≡ terms.desks → terms.desks ≤ 16 → d.desks ≡ terms.desks → d.version ≡ terms.version → d.reference ≡ terms.reference → HasHands d
+  hands_new d are long few desks version reference = record {
+    long = long ∙ sym desks;
+    few = omega (arith, few, desks);
+    each = λ place h less.
+        let inside : place < length d.hands.items = omega (arith, less, desks, long) in
+        record {
+          number = are.number place h inside;
+          desks = are.desks place h inside ∙ sym desks;
+          version = are.version place h inside ∙ sym version;
+          reference = are.reference place h inside ∙ sym reference;
+        };
+  }

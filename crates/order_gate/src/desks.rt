@@ -1,5 +1,5 @@
 //! Desks, as a business of an end.
-ghost use Rattle.std.specs.Prelude.{◌≡◌, ◌≢◌, ◌↔◌, ℕ, ◌<◌, ◌≤◌, true, false, List, length, Some, OnOk};
+ghost use Rattle.std.specs.Prelude.{◌≡◌, ◌≢◌, ◌↔◌, ℕ, ◌<◌, ◌≤◌, true, false, List, length, Some, OnOk, IfOk, IfErr};
 ghost use Rattle.atomic_table.specs.Seated.{TableId};
 ghost use Rattle.jr_boxes.specs.declared.faults.SubmitFault.TheVariants as submit;
 ghost use Rattle.gate_turn.specs.Rule.{In};
@@ -9,7 +9,8 @@ ghost use Rattle.gate_senders.specs.Gate.{senders_of};
 ghost use Rattle.gate_business.specs.Business.{lock_of, HasThese};
 ghost use Rattle.gate_business.specs.Hands.{hands_in};
 
-use crate::hand::{Hand, answer_of_all, count_each, give_to_all, passes_of_all};
+use crate::hand::{Hand, answer_of_all, count_each, give_to_all, new_hands, passes_of_all};
+use crate::terms::Terms;
 use gate_business::Business;
 use gate_plans::Door;
 use gate_senders::{Gate, Kept};
@@ -54,7 +55,43 @@ fn is_closed(fault: SubmitFault) -> bool
 
 impl<J: Journal, D> Desks<J, D> {
     ghost use Rattle.order_gate.specs.Reported.{Finishing};
-    ghost use Rattle.order_gate.specs.Desks.{part_in, HasPasses, SameTerms};
+    ghost use Rattle.order_gate.specs.Desks.{part_in, HasPasses, SameTerms, IsMadeOf};
+    ghost use Rattle.order_desk.specs.Schema.{IsVersion};
+
+    /// So many desks, which have the passes of the numbers from 1 on; each calls at the door before it sends. They have counted nothing yet, and
+    /// owe nothing.
+    ///
+    /// # Errors
+    /// The passes, for want of memory.
+    pub fn new(
+        alloc: Global,
+        passes: Passes<Kept<J>>,
+        terms: Terms,
+        door: D,
+    ) -> Result<Desks<J, D>, Passes<Kept<J>>>
+    where
+        D: Copy + Drop,
+        requires version { IsVersion terms.version }
+        requires few { terms.desks ≤ 16 }
+        ensures made { IfOk result (λ d. IsMadeOf passes terms d) }
+        ensures own { (lock : TableId) → HasThese lock passes terms.desks → IfOk result (λ d. HasPasses lock d) }
+        ensures back { IfErr result (λ p. p ≡ passes) }
+    {
+        let Ok(hands) = new_hands(alloc, terms, door) else {
+            return Err(passes);
+        };
+        let mut desks = Desks {
+            alloc,
+            hands,
+            desks: terms.desks,
+            version: terms.version,
+            reference: terms.reference,
+            counted: false,
+            met: false,
+        };
+        give_to_all(desks.hands.as_mut_slice(), passes);
+        Ok(desks)
+    }
 
     /// Adds the Finish by the first desk's pass; where it stands already there is nothing to add.
     fn finish<R: Wait>(&mut self, gate: &Gate<J>, rt: &R) -> Result<(), SubmitFault>

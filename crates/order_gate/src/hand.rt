@@ -1,22 +1,24 @@
 //! A hand: a desk, and what it answers by.
-ghost use Rattle.std.specs.Prelude.{◌≡◌, ◌≢◌, ℕ, ◌+◌, ◌%◌, ◌<◌, ◌≤◌, length, slice_index_or, All, None, Some, IfSome, IfNone};
+ghost use Rattle.std.specs.Prelude.{◌≡◌, ◌≢◌, ℕ, ◌+◌, ◌%◌, ◌<◌, ◌≤◌, length, slice_index_or, All, None, Some, IfSome, IfNone, IfOk, OnOk};
 ghost use Rattle.jr_boxes.specs.declared.faults.SubmitFault.TheVariants as submit;
 ghost use Rattle.gate_turn.specs.Rule.{In};
 ghost use Rattle.gate_turn.specs.Listed.{pass_at};
 ghost use Rattle.gate_senders.specs.Gate.{senders_of};
 ghost use Rattle.gate_business.specs.Business.{lock_of};
-ghost use Rattle.order_gate.specs.Desks.{IsQuiet, HasNone, HasMet, IsAnswer, HasNumber, IsSeated, Counted, with_pass, without_pass};
+ghost use Rattle.order_gate.specs.Desks.{IsQuiet, HasNone, HasMet, IsAnswer, HasNumber, IsSeated, Counted, AreNew, with_pass, without_pass};
+ghost use Rattle.order_desk.specs.Schema.{IsVersion};
 
 use crate::call::Call;
 use crate::desk::Desk;
 use crate::form::Form;
+use crate::terms::Terms;
 use gate_plans::Door;
 use gate_senders::{Gate, Kept};
 use gate_turn::Passes;
 use jr_boxes::SubmitFault;
 use jr_dated::Journal;
 use sbe_value::Payloads;
-use std::alloc::Global;
+use std::alloc::{AllocError, Global};
 use std::sync::Wait;
 
 /// A desk, and what it answers by.
@@ -112,6 +114,57 @@ pub(crate) fn count_each<J: Journal, D, R: Wait>(
     for place in 0..hands.len() {
         hands[place].count(gate, rt);
     }
+}
+
+/// Puts the hand of a desk behind those of the desks before it. It has no pass yet, and owes nothing.
+#[tactic(auto, using(crate::proofs::Lending::one_new))]
+fn add_hand<J: Journal, D: Drop>(
+    alloc: Global,
+    hands: &mut Vec<Hand<J, D>>,
+    number: u16,
+    terms: Terms,
+    door: D,
+) -> Result<(), AllocError>
+    requires version { IsVersion terms.version }
+    requires before { AreNew terms hands.old.items }
+    requires number { number ≡ length hands.old.items + 1 }
+    ensures long { OnOk result (length hands.new.items ≡ length hands.old.items + 1) }
+    ensures are_new { OnOk result (AreNew terms hands.new.items) }
+{
+    let form = Form::new(alloc, terms.version)?;
+    hands.push(Hand {
+        alloc,
+        desk: Desk {
+            number,
+            pass: None,
+            owed: 0,
+            made: 0,
+            refused: None,
+        },
+        form,
+        reference: terms.reference,
+        desks: terms.desks,
+        turn: 0,
+        door,
+    })?;
+    Ok(())
+}
+
+/// The hands of all desks, in their order.
+pub(crate) fn new_hands<J: Journal, D: Copy + Drop>(
+    alloc: Global,
+    terms: Terms,
+    door: D,
+) -> Result<Vec<Hand<J, D>>, AllocError>
+    requires version { IsVersion terms.version }
+    ensures long { IfOk result (λ hands. length hands.items ≡ terms.desks) }
+    ensures are_new { IfOk result (λ hands. AreNew terms hands.items) }
+{
+    let mut hands = Vec::new(alloc);
+    for place in 0..terms.desks {
+        add_hand(alloc, &mut hands, place + 1, terms, door)?;
+    }
+    Ok(hands)
 }
 
 /// Takes the passes of all out, into their places.
