@@ -102,11 +102,7 @@ impl<J: Journal, D> Hand<J, D> {
 }
 
 /// Counts the entries that the outbox has of each.
-pub(crate) fn count_each<J: Journal, D, R: Wait>(
-    hands: &mut [Hand<J, D>],
-    gate: &Gate<J>,
-    rt: &R,
-)
+pub(crate) fn count_each<J: Journal, D, R: Wait>(hands: &mut [Hand<J, D>], gate: &Gate<J>, rt: &R)
     requires seated { All (λ h. IsSeated (lock_of gate.now) h.desk) hands.old }
     ensures long { length hands.new ≡ length hands.old }
     ensures each { (i : ℕ) (h : Hand _ _ _) → i < length hands.old → Counted (lock_of gate.now) (slice_index_or hands.old i h) (slice_index_or hands.new i h) }

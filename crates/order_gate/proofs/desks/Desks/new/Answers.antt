@@ -7,10 +7,13 @@ use Rattle.order_gate.proofs.Lending.{long_of, each_of, part_given, given_all, h
 use Rattle.order_gate.proofs.desks.Desks.new.Goals as goal
 
 pub give_to_all-requires : goal.give_to_all-requires
-give_to_all-requires g c = (omega arith, λ i h few.
-    let same = c.as_mut_slice.ensures.value in
-    let count = ap length same in
-    ap (λ (xs : List (Hand _ _ _)). (slice_index_or xs i h).desk.number) same ∙ c.in-Ok.ensures.are_new.number i h (omega (arith, few, count)))
+give_to_all-requires g c = (
+  omega arith,
+  λ i h few.
+      let same = c.as_mut_slice.ensures.value in
+      let count = ap length same in
+      ap (λ (xs : List (Hand _ _ _)). (slice_index_or xs i h).desk.number) same ∙ c.in-Ok.ensures.are_new.number i h (omega (arith, few, count)),
+)
 
 pub returns-clause-made : goal.returns-clause-made
 returns-clause-made g c =

@@ -4,10 +4,13 @@ use Rattle.order_gate.proofs.Lending.{number_there, all_lent, known_lent, lent_o
 use Rattle.order_gate.proofs.desks.DesksBusiness.end.Goals as goal
 
 pub passes_of_all-requires : goal.passes_of_all-requires
-passes_of_all-requires g c = (omega arith, λ i h few.
-    let same = c.as_mut_slice.ensures.value in
-    let count = ap length same in
-    subst (λ xs. HasNumber (i + 1) (slice_index_or xs i h)) (sym same) (number_there c.requires.own.0 c.args.self c.requires.own.1 i h (omega (arith, few, count))))
+passes_of_all-requires g c = (
+  omega arith,
+  λ i h few.
+      let same = c.as_mut_slice.ensures.value in
+      let count = ap length same in
+      subst (λ xs. HasNumber (i + 1) (slice_index_or xs i h)) (sym same) (number_there c.requires.own.0 c.args.self c.requires.own.1 i h (omega (arith, few, count))),
+)
 
 pub returns-clause-these : goal.returns-clause-these
 returns-clause-these g c = λ lock has.

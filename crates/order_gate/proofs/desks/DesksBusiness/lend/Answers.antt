@@ -5,10 +5,13 @@ use Rattle.order_gate.proofs.Lending.{number_there, all_lent, known_lent, long_o
 use Rattle.order_gate.proofs.desks.DesksBusiness.lend.Goals as goal
 
 pub passes_of_all-requires : goal.passes_of_all-requires
-passes_of_all-requires g c = (omega arith, λ i h few.
-    let same = c.as_mut_slice.ensures.value in
-    let count = ap length same in
-    subst (λ xs. HasNumber (i + 1) (slice_index_or xs i h)) (sym same) (number_there c.requires.own.0 c.args.self.now c.requires.own.1 i h (omega (arith, few, count))))
+passes_of_all-requires g c = (
+  omega arith,
+  λ i h few.
+      let same = c.as_mut_slice.ensures.value in
+      let count = ap length same in
+      subst (λ xs. HasNumber (i + 1) (slice_index_or xs i h)) (sym same) (number_there c.requires.own.0 c.args.self.now c.requires.own.1 i h (omega (arith, few, count))),
+)
 
 pub returns-clause-these : goal.returns-clause-these
 returns-clause-these g c = λ lock has.
@@ -49,6 +52,7 @@ returns-clause-stands g c = λ l.
     let given = c.as_mut_slice.result.now in
     let same = c.as_mut_slice.ensures.value in
     let long = long_of d given xs same e.long (λ _. None) e.each in
-    let each = each_of d given xs same e.long (λ _. None) e.each in
-    (λ st. behind_back d (record d { hands = with_items d.hands xs }) refl refl refl refl refl (λ _. None) long each c.requires.own.1.hands l st,
-    λ st. behind_still d (record d { hands = with_items d.hands xs }) refl refl refl refl refl (λ _. None) long each c.requires.own.1.hands l st)
+    let each = each_of d given xs same e.long (λ _. None) e.each in (
+      λ st. behind_back d (record d { hands = with_items d.hands xs }) refl refl refl refl refl (λ _. None) long each c.requires.own.1.hands l st,
+      λ st. behind_still d (record d { hands = with_items d.hands xs }) refl refl refl refl refl (λ _. None) long each c.requires.own.1.hands l st,
+    )

@@ -6,12 +6,15 @@ use Rattle.order_gate.proofs.Lending.{long_of, each_of, behind_still, part_given
 use Rattle.order_gate.proofs.desks.DesksBusiness.regain.Goals as goal
 
 pub give_to_all-requires : goal.give_to_all-requires
-give_to_all-requires g c = (omega arith, λ i h few.
-    let same = c.as_mut_slice.ensures.value in
-    let count = ap length same in
-    let has = c.requires.lent.hands in
-    let long = has.long in
-    ap (λ (xs : List (Hand _ _ _)). (slice_index_or xs i h).desk.number) same ∙ (has.each i h (omega (arith, few, count, long))).number)
+give_to_all-requires g c = (
+  omega arith,
+  λ i h few.
+      let same = c.as_mut_slice.ensures.value in
+      let count = ap length same in
+      let has = c.requires.lent.hands in
+      let long = has.long in
+      ap (λ (xs : List (Hand _ _ _)). (slice_index_or xs i h).desk.number) same ∙ (has.each i h (omega (arith, few, count, long))).number,
+)
 
 pub returns-clause-own : goal.returns-clause-own
 returns-clause-own g c = λ lock these.
