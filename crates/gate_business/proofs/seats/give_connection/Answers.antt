@@ -8,6 +8,7 @@ give-requires g c =
     (omega arith, c.requires.these.others c.args.pass.number (λ i. let up_to = i.up_to in omega (arith, at, up_to)))
 
 pub returns : goal.returns
-returns g c =
-    all_back c.args.gate.now c.args.senders c.args.passes.now c.give.new.self c.requires.few c.args.pass c.requires.own c.requires.free (sym c.args.pass.numbered ∙ c.requires.number) c.requires.alone c.requires.these
-    c.requires.first c.give.ensures.there c.give.ensures.others
+returns g c = record {
+  back = all_back c.args.gate.now c.args.senders c.args.passes.now c.give.new.self c.requires.few c.args.pass c.requires.own c.requires.free (sym c.args.pass.numbered ∙ c.requires.number) c.requires.alone c.requires.these
+      c.requires.first c.give.ensures.there c.give.ensures.others;
+}
