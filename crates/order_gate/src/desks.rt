@@ -77,10 +77,11 @@ impl<J: Journal, D> Desks<J, D> {
         ensures own { (lock : TableId) → HasThese lock passes terms.desks → IfOk result (λ d. HasPasses lock d) }
         ensures back { IfErr result (λ p. p ≡ passes) }
     {
-        let Ok(hands) = new_hands(alloc, terms, door) else {
+        let Ok(mut hands) = new_hands(alloc, terms, door) else {
             return Err(passes);
         };
-        let mut desks = Desks {
+        give_to_all(hands.as_mut_slice(), passes);
+        Ok(Desks {
             alloc,
             hands,
             desks: terms.desks,
@@ -88,9 +89,7 @@ impl<J: Journal, D> Desks<J, D> {
             reference: terms.reference,
             counted: false,
             met: false,
-        };
-        give_to_all(desks.hands.as_mut_slice(), passes);
-        Ok(desks)
+        })
     }
 
     /// Adds the Finish by the first desk's pass; where it stands already there is nothing to add.
