@@ -1,7 +1,8 @@
 //! What desks answer by.
+ghost use Rattle.order_gate.specs.Reported.{IsPrice};
 
 /// How many desks there are, and what they answer by.
-#[derive(Clone, Copy, Debug, PartialEq, Eq)]
+#[derive(Clone, Copy)]
 pub struct Terms {
     /// How many desks there are, at most 16.
     pub desks: u16,
@@ -9,4 +10,5 @@ pub struct Terms {
     pub version: u16,
     /// The reference price, in ten-thousandths.
     pub reference: i64,
+    pub ghost ranged: { IsPrice reference },
 }
