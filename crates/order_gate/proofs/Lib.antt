@@ -6,3 +6,4 @@ mod Answering
 mod Turns
 mod Settling
 mod Places
+mod Lending

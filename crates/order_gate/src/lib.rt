@@ -9,5 +9,7 @@ mod form;
 mod hand;
 mod line;
 mod share;
+mod terms;
 
 pub use desks::Desks;
+pub use terms::Terms;
