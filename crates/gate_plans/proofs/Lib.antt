@@ -1,3 +1,4 @@
 mod Lowest
 mod Running
+mod Piece
 pub mod Seating

@@ -1,8 +1,8 @@
 -- A run of one sender, put together from its first message and the rest.
-use Rattle.std.proofs.Common.{◌≡◌, inl, inr, ⊎_elim, ℕ, zero, suc, ◌+◌, ◌-◌, ◌<◌, ◌≤◌, Bool, true, false, List, [], ◌∷◌, ◌++◌, length, take, drop, slice_get, slice_index_or, Some, None, refl, sym, ap, ◌∙◌, subst, arith, append-nil, append_assoc, length-append, take-add, drop-drop}
+use Rattle.std.proofs.Common.{◌≡◌, ◌≢◌, inl, inr, ⊎_elim, ℕ, zero, suc, ◌+◌, ◌-◌, ◌<◌, ◌≤◌, Bool, true, false, List, [], ◌∷◌, ◌++◌, length, take, drop, slice_get, slice_index_or, Option, Some, None, refl, sym, ap, ◌∙◌, subst, arith, append-nil, append_assoc, length-append, take-add, drop-drop}
 use Rattle.std.proofs.lemmas.Bool.{false≢true}
-use Rattle.std.proofs.lemmas.Option.{none-some, same_Some, slice_get_within}
-use Rattle.session_model.specs.Journal.{Entry}
+use Rattle.std.proofs.lemmas.Option.{none-some, slice_get_within}
+use Rattle.session_model.specs.Journal.{Entry, counts_from}
 use Rattle.session_model.proofs.Lists.{prefix_get, prefix_length}
 use mathlib.Core.List.{IsPrefix}
 use Rattle.jr_dated.specs.declared.journal.Journal.{Ghosts}
@@ -12,24 +12,13 @@ use Rattle.gate_turn.specs.Views.{Part}
 use Rattle.gate_turn.specs.Places.{known}
 use Rattle.gate_turn.proofs.Histories.{begins_self, begins_on}
 use Rattle.gate_turn.proofs.Failing.{failed_before}
-use Rattle.gate_senders.specs.Shown.{TakesTurn, Submitted, entry_after}
+use Rattle.gate_senders.specs.Shown.{TakesTurn, SubmittedAll}
 use Rattle.gate_turn.specs.Calls.{IsFree}
 use Rattle.gate_senders.specs.Gate.{IsPassAt}
 use Rattle.gate_senders.specs.declared.gate.Gate.{Gate}
 use Rattle.gate_plans.specs.Sent.{entries_behind, StandAt, GoesOn, Sent, IsShown, refusals}
-use Rattle.gate_plans.specs.Runs.{plan_of, IsReady, WasRefused, Ran, RanEach, Resumed, ResumedEach, Counted, Accepted, Refused}
+use Rattle.gate_plans.specs.Runs.{plan_of, IsReady, WasRefused, Ran, RanEach, Resumed, ResumedEach, Counted, Pieced}
 use Rattle.gate_plans.specs.declared.sender.Sender.{Sender}
-
--- the part of a list from a place on, by its first element
-taken : {A : Type 0} (d k : ℕ) (xs : List A) (x : A) → slice_get xs d ≡ Some x → take (suc k) (drop d xs) ≡ x ∷ take k (drop (suc d) xs)
-taken d k [] x there = absurd (none-some x there)
-taken zero k (y ∷ ys) x there = ap (λ z. z ∷ take k ys) (same_Some y x there)
-taken (suc d) k (y ∷ ys) x there = taken d k ys x there
-
--- the last of some entries
-at_end : (es : List Entry) (e : Entry) → slice_get (es ++ e ∷ []) (length es) ≡ Some e
-at_end [] e = refl
-at_end (x ∷ es) e = at_end es e
 
 goes_self : (p : Part) → GoesOn p p
 goes_self p = record { seen = begins_self p.seen; faults = omega arith; number = refl; made = refl; opening = refl; ended = refl; looks = refl }
@@ -55,37 +44,6 @@ shown_before p q z payload f least s = record {
   failed = λ e. failed_before p.faults q.faults z.faults least (s.failed e);
   broken = s.broken;
 }
-
--- one message, and those behind it
-sent_on : (p q z : Part) (payload : List ℕ) (n : ℕ) (rest : List (List ℕ)) (numbers : List ℕ) → TakesTurn p q → Submitted p q payload n → GoesOn q z → Sent q z rest numbers
-    → Sent p z (payload ∷ rest) (n ∷ numbers)
-sent_on p q z payload n rest numbers turn did on sent = record {
-  mine = sent.mine ∙ ap (λ (es : List Entry). es ++ entries_behind q.number (length q.mine) rest) did.mine
-      ∙ append_assoc p.mine (e ∷ []) (entries_behind q.number (length q.mine) rest) ∙ ap (λ (es : List Entry). p.mine ++ e ∷ es) same;
-  stand = (
-    omega (arith, prefix_length p.seen.made q.seen.made turn.seen.made, did.count),
-    prefix_get q.seen.made z.seen.made (n - 1) e on.seen.made here,
-    subst (λ (es : List Entry). StandAt z.seen.made n numbers es) same (subst (λ k. StandAt z.seen.made k numbers (entries_behind q.number (length q.mine) rest)) did.count sent.stand),
-  );
-}
-  where
-    e : Entry
-    e = entry_after p payload
-
-    longer : length q.mine ≡ length p.mine + 1
-    longer = ap length did.mine ∙ length-append p.mine (e ∷ [])
-
-    same : entries_behind q.number (length q.mine) rest ≡ entries_behind p.number (length p.mine + 1) rest
-    same = ap (λ k. entries_behind k (length q.mine) rest) turn.number ∙ ap (λ k. entries_behind p.number k rest) longer
-
-    long : length q.seen.made ≡ length did.before + 1
-    long = ap length did.last ∙ length-append did.before (e ∷ [])
-
-    place : n - 1 ≡ length did.before
-    place = omega (arith, long, did.count)
-
-    here : slice_get q.seen.made (n - 1) ≡ Some e
-    here = ap (λ k. slice_get q.seen.made k) place ∙ (ap (λ (es : List Entry). slice_get es (length did.before)) did.last ∙ at_end did.before e)
 
 -- the entries of some payloads, and of those behind them
 behind_long : (sender own : ℕ) (xs : List (List ℕ)) → length (entries_behind sender own xs) ≡ length xs
@@ -133,6 +91,54 @@ sent_after p q z xs ys ks ls first on a b = record {
     joined = ap (λ (es : List Entry). entries_behind p.number (length p.mine) xs ++ es) (ap (λ k. entries_behind k (length q.mine) ys) first.number ∙ ap (λ k. entries_behind p.number k ys) longer)
         ∙ sym (behind_append p.number (length p.mine) xs ys)
 
+-- entries at the end of a history stand at its last numbers
+stand_end : (before es : List Entry) (n : ℕ) → n ≤ length before + 1 → StandAt (before ++ es) n (counts_from (length before + 1) (length es)) es
+stand_end before [] n least = tt
+stand_end before (e ∷ es) n least =
+    let at : length before + 1 - 1 ≡ length before = omega arith in
+    let one : length (before ++ e ∷ []) ≡ length before + 1 = length-append before (e ∷ []) in
+    let rest : StandAt ((before ++ e ∷ []) ++ es) (length before + 1) (counts_from (length (before ++ e ∷ []) + 1) (length es)) es =
+    stand_end (before ++ e ∷ []) es (length before + 1) (omega (arith, one)) in (
+      least,
+      ap (slice_get (before ++ e ∷ es)) at ∙ here before,
+      subst (λ (made : List Entry). StandAt made (length before + 1) (counts_from (length before + 1 + 1) (length es)) es) (append_assoc before (e ∷ []) es)
+          (subst (λ k. StandAt ((before ++ e ∷ []) ++ es) (length before + 1) (counts_from (k + 1) (length es)) es) one rest),
+    )
+  where
+    here : (xs : List Entry) → slice_get (xs ++ e ∷ es) (length xs) ≡ Some e
+    here [] = refl
+    here (x ∷ xs) = here xs
+
+-- a piece that was added
+sent_piece : (p q : Part) (ps : List (List ℕ)) (did : SubmittedAll p q ps) → Sent p q ps (counts_from (length did.before + 1) (length (entries_behind p.number (length p.mine) ps)))
+sent_piece p q ps did = record {
+  mine = did.mine;
+  stand = subst (λ (made : List Entry). StandAt made (length p.seen.made) (counts_from (length did.before + 1) (length es)) es) (sym did.last)
+      (stand_end did.before es (length p.seen.made) (omega (arith, prefix_length p.seen.made did.before did.begins)));
+}
+  where
+    es : List Entry
+    es = entries_behind p.number (length p.mine) ps
+
+-- what is not None is something
+pub some_of : {A : Type 0} (o : Option A) → o ≢ None → (a : A) × (o ≡ Some a)
+some_of None never = absurd (never refl)
+some_of (Some a) never = (a, refl)
+
+counts_long : (n k : ℕ) → length (counts_from n k) ≡ k
+counts_long n zero = refl
+counts_long n (suc k) = ap suc (counts_long (n + 1) k)
+
+pub length_taken : {A : Type 0} (n d : ℕ) (xs : List A) → d + n ≤ length xs → length (take n (drop d xs)) ≡ n
+length_taken {A} n zero xs within = whole n xs (omega (arith, within))
+  where
+    whole : (k : ℕ) (ys : List A) → k ≤ length ys → length (take k ys) ≡ k
+    whole zero ys least = refl
+    whole (suc k) [] least = absurd (omega (arith, least))
+    whole (suc k) (y ∷ ys) least = ap suc (whole k ys (omega (arith, least)))
+length_taken n (suc d) [] within = absurd (omega (arith, within))
+length_taken n (suc d) (x ∷ xs) within = length_taken n d xs (omega (arith, within))
+
 module _ {J : Type 0} {G : Ghosts J} (gate : Gate J G) where
   -- nothing more is submitted: all is done, or the door turned it away
   pub ran_still : (s t : Sender J G) → IsReady gate t → t.pass ≡ s.pass → plan_of t ≡ plan_of s → t.done ≡ s.done → t.refused ≡ None → (t.turned ≡ false → length (plan_of s) ≤ s.done)
@@ -161,65 +167,24 @@ module _ {J : Type 0} {G : Ghosts J} (gate : Gate J G) where
   pub ran_out : (s : Sender J G) → IsReady gate s → s.refused ≡ None → s.turned ≡ false → length (plan_of s) ≤ s.done → Ran gate s s
   ran_out s ready unrefused unturned whole = ran_still s s ready refl refl refl unrefused (λ _. whole) (λ e. absurd (false≢true (sym unturned ∙ e)))
 
-  -- the next message was refused
-  pub ran_refused : (s t : Sender J G) → s.turned ≡ false → Refused gate s t → Ran gate s t
-  ran_refused s t unturned r =
-      let nothing : t.done - s.done ≡ 0 = omega (arith, r.done) in
-      record {
-        ready = r.ready;
-        plan = r.plan;
-        pass = goes_turn (known s.pass) (known t.pass) r.turn r.ended;
-        done = omega (arith, r.done);
-        within = inl r.done;
-        numbers = [];
-        each = sym nothing;
-        sent = subst (λ k. Sent (known s.pass) (known t.pass) (take k (drop s.done (plan_of s))) []) (sym nothing) (record { mine = r.mine ∙ sym (append-nil _); stand = tt });
-        turns = omega (arith, nothing, r.turn.turns, ap refusals r.refused);
-        whole = λ e _. absurd (none-some r.fault (sym e ∙ r.refused));
-        turned = λ e. absurd (false≢true (sym unturned ∙ (sym r.turned ∙ e)));
-        refused = λ f e. subst (λ (g : SubmitFault). WasRefused s t g) (same_Some r.fault f (sym r.refused ∙ e)) r.was;
-        unlost = λ never. r.unlost (λ e. never (r.refused ∙ ap Some e));
-      }
+  -- What was submitted so far: all of it was accepted
+  record Went (s m : Sender J G) : Type 0 where
+    plan : plan_of m ≡ plan_of s
+    pass : GoesOn (known s.pass) (known m.pass)
+    done : s.done ≤ m.done
+    within : m.done ≤ length (plan_of s)
+    numbers : List ℕ
+    each : length numbers ≡ m.done - s.done
+    sent : Sent (known s.pass) (known m.pass) (take (m.done - s.done) (drop s.done (plan_of s))) numbers
+    turns : (known m.pass).turns ≤ (known s.pass).turns + (m.done - s.done)
+    lost : (known m.pass).lost ≡ (known s.pass).lost
 
-  -- the next message was accepted, and what came behind it
-  pub ran_on : (s m t : Sender J G) → Accepted gate s m → Ran gate m t → Ran gate s t
-  ran_on s m t a r =
+  -- and what came behind it
+  went_on : (s m t : Sender J G) → Went s m → Ran gate m t → Ran gate s t
+  went_on s m t a r =
       let p = known s.pass in
       let q = known m.pass in
       let z = known t.pass in
-      let first = goes_turn p q a.turn a.ended in
-      let inside = slice_get_within (plan_of s) s.done a.payload a.next in
-      let long : length (plan_of m) ≡ length (plan_of s) = ap length a.plan in
-      let fewer : t.done - s.done ≡ suc (t.done - m.done) = omega (arith, a.done, r.done) in
-      let behind : suc s.done ≡ m.done = omega (arith, a.done) in
-      let plan : take (t.done - m.done) (drop m.done (plan_of m)) ≡ take (t.done - m.done) (drop (suc s.done) (plan_of s)) =
-      ap (λ (xs : List (List ℕ)). take (t.done - m.done) (drop m.done xs)) a.plan ∙ ap (λ k. take (t.done - m.done) (drop k (plan_of s))) (sym behind) in
-      let parts : a.payload ∷ take (t.done - m.done) (drop m.done (plan_of m)) ≡ take (t.done - s.done) (drop s.done (plan_of s)) =
-      ap (λ (xs : List (List ℕ)). a.payload ∷ xs) plan ∙ sym (taken s.done (t.done - m.done) (plan_of s) a.payload a.next) ∙ ap (λ k. take k (drop s.done (plan_of s))) (sym fewer) in
-      record {
-        ready = r.ready;
-        plan = r.plan ∙ a.plan;
-        pass = goes_on p q z first r.pass;
-        done = omega (arith, a.done, r.done);
-        within = inr (⊎_elim (λ (e : t.done ≡ m.done). omega (arith, e, a.done, inside)) (λ (e : t.done ≤ length (plan_of m)). omega (arith, e, long)) r.within);
-        numbers = a.number ∷ r.numbers;
-        each = omega (arith, r.each, fewer);
-        sent = subst (λ (xs : List (List ℕ)). Sent p z xs (a.number ∷ r.numbers)) parts (sent_on p q z a.payload a.number _ r.numbers a.turn a.submitted r.pass r.sent);
-        turns = omega (arith, r.turns, fewer, a.turn.turns);
-        whole = λ e n. omega (arith, r.whole e n, long);
-        turned = λ e. let x = r.turned e in (x.0, omega (arith, x.1, long));
-        refused = λ f e. let w = r.refused f e in record { payload = w.payload; next = w.next; shown = shown_before p q z w.payload f first.faults w.shown; lost = w.lost };
-        unlost = λ never. r.unlost never ∙ a.lost;
-      }
-
-  -- a run that ended at the door, and one that went on behind it, are one run
-  ran_after : (s m t : Sender J G) → m.turned ≡ true → Ran gate s m → Ran gate m t → Ran gate s t
-  ran_after s m t away a r =
-      let p = known s.pass in
-      let q = known m.pass in
-      let z = known t.pass in
-      let unrefused : m.refused ≡ None = (a.turned away).0 in
-      let inside : m.done < length (plan_of s) = (a.turned away).1 in
       let long : length (plan_of m) ≡ length (plan_of s) = ap length a.plan in
       let more : t.done - s.done ≡ (m.done - s.done) + (t.done - m.done) = omega (arith, a.done, r.done) in
       let behind : s.done + (m.done - s.done) ≡ m.done = omega (arith, a.done) in
@@ -232,15 +197,81 @@ module _ {J : Type 0} {G : Ghosts J} (gate : Gate J G) where
         plan = r.plan ∙ a.plan;
         pass = goes_on p q z a.pass r.pass;
         done = omega (arith, a.done, r.done);
-        within = inr (⊎_elim (λ (e : t.done ≡ m.done). omega (arith, e, inside)) (λ (e : t.done ≤ length (plan_of m)). omega (arith, e, long)) r.within);
+        within = inr (⊎_elim (λ (e : t.done ≡ m.done). omega (arith, e, a.within)) (λ (e : t.done ≤ length (plan_of m)). omega (arith, e, long)) r.within);
         numbers = a.numbers ++ r.numbers;
         each = omega (arith, length-append a.numbers r.numbers, a.each, r.each, more);
         sent = subst (λ (xs : List (List ℕ)). Sent p z xs (a.numbers ++ r.numbers)) parts (sent_after p q z _ _ a.numbers r.numbers a.pass r.pass a.sent r.sent);
-        turns = omega (arith, r.turns, a.turns, ap refusals unrefused, more);
+        turns = omega (arith, r.turns, a.turns, more);
         whole = λ e n. omega (arith, r.whole e n, long);
         turned = λ e. let x = r.turned e in (x.0, omega (arith, x.1, long));
         refused = λ f e. let w = r.refused f e in record { payload = w.payload; next = w.next; shown = shown_before p q z w.payload f a.pass.faults w.shown; lost = w.lost };
-        unlost = λ never. r.unlost never ∙ a.unlost (λ e. none-some submit.Fault (sym unrefused ∙ e));
+        unlost = λ never. r.unlost never ∙ a.lost;
+      }
+
+  -- the messages of a piece that were accepted
+  piece_sent : (s t : Sender J G) (r : Pieced gate s t)
+      → Sent (known s.pass) (known t.pass) (take (t.done - s.done) (drop s.done (plan_of s))) (counts_from (length r.submitted.before + 1) (t.done - s.done))
+  piece_sent s t r =
+      let ps = take r.count (drop s.done (plan_of s)) in
+      let count : r.count ≡ t.done - s.done = omega (arith, r.done) in
+      let long : length (entries_behind (known s.pass).number (length (known s.pass).mine) ps) ≡ r.count =
+      behind_long (known s.pass).number (length (known s.pass).mine) ps ∙ length_taken r.count s.done (plan_of s) (omega (arith, r.done, r.within)) in
+      subst (λ k. Sent (known s.pass) (known t.pass) (take k (drop s.done (plan_of s))) (counts_from (length r.submitted.before + 1) k)) count
+      (subst (λ k. Sent (known s.pass) (known t.pass) ps (counts_from (length r.submitted.before + 1) k)) long (sent_piece (known s.pass) (known t.pass) ps r.submitted))
+
+  -- a piece was refused, or the rest of one
+  pub ran_refused : (s t : Sender J G) (f : SubmitFault) → s.turned ≡ false → t.refused ≡ Some f → Pieced gate s t → Ran gate s t
+  ran_refused s t f unturned is r = record {
+    ready = r.ready;
+    plan = r.plan;
+    pass = goes_turn (known s.pass) (known t.pass) r.turn r.ended;
+    done = omega (arith, r.done);
+    within = inr r.within;
+    numbers = counts_from (length r.submitted.before + 1) (t.done - s.done);
+    each = counts_long (length r.submitted.before + 1) (t.done - s.done);
+    sent = piece_sent s t r;
+    turns = omega (arith, r.turn.turns, ap refusals is, r.done);
+    whole = λ e _. absurd (none-some f (sym e ∙ is));
+    turned = λ e. absurd (false≢true (sym unturned ∙ (sym r.turned ∙ e)));
+    refused = r.refused;
+    unlost = r.unlost;
+  }
+
+  -- a piece was accepted, and what came behind it
+  pub ran_on : (s m t : Sender J G) → m.refused ≡ None → Pieced gate s m → Ran gate m t → Ran gate s t
+  ran_on s m t none a r = went_on s m t went r
+    where
+      went : Went s m
+      went = record {
+        plan = a.plan;
+        pass = goes_turn (known s.pass) (known m.pass) a.turn a.ended;
+        done = omega (arith, a.done);
+        within = a.within;
+        numbers = counts_from (length a.submitted.before + 1) (m.done - s.done);
+        each = counts_long (length a.submitted.before + 1) (m.done - s.done);
+        sent = piece_sent s m a;
+        turns = omega (arith, a.turn.turns, a.done, a.some none);
+        lost = a.unlost (λ e. none-some submit.Fault (sym none ∙ e));
+      }
+
+  -- a run that ended at the door, and one that went on behind it, are one run
+  ran_after : (s m t : Sender J G) → m.turned ≡ true → Ran gate s m → Ran gate m t → Ran gate s t
+  ran_after s m t away a r = went_on s m t went r
+    where
+      unrefused : m.refused ≡ None
+      unrefused = (a.turned away).0
+
+      went : Went s m
+      went = record {
+        plan = a.plan;
+        pass = a.pass;
+        done = a.done;
+        within = let inside = (a.turned away).1 in omega (arith, inside);
+        numbers = a.numbers;
+        each = a.each;
+        sent = a.sent;
+        turns = omega (arith, a.turns, ap refusals unrefused);
+        lost = a.unlost (λ e. none-some submit.Fault (sym unrefused ∙ e));
       }
 
   ran_resumed : (s m t : Sender J G) → Ran gate s m → Resumed gate m t → Ran gate s t

@@ -6,7 +6,7 @@ use Rattle.jr_boxes.specs.declared.faults.SubmitFault.TheVariants as submit
 use Rattle.gate_turn.specs.Places.{known}
 use Rattle.gate_turn.specs.Calls.{IsFree}
 use Rattle.gate_senders.specs.Gate.{IsSenderAt}
-use Rattle.gate_senders.specs.Shown.{TakesTurn, Submitted}
+use Rattle.gate_senders.specs.Shown.{TakesTurn, SubmittedAll}
 use Rattle.gate_senders.specs.declared.gate.Gate.{Gate}
 use Rattle.plan_values.specs.Plans.{payloads_of}
 use Rattle.gate_plans.specs.Sent.{GoesOn, Sent, IsShown, HasLost, refusals}
@@ -27,10 +27,10 @@ module _ {J : Type 0} {G : Ghosts J} where
     pub payload : List ℕ
     pub next : slice_get (plan_of t) t.done ≡ Some payload
     pub shown : IsShown (known s.pass) (known t.pass) payload f
-    pub lost : f ≡ submit.Fault → HasLost (known t.pass) payload
+    pub lost : f ≡ submit.Fault → HasLost (known t.pass) (drop t.done (plan_of t))
 
   -- It submitted its plan from `done` on. The messages accepted are those of the plan from the old `done` to the new one; it took
-  -- a turn for each of them and for a refusal; it stopped at the plan's end, or at a refusal, or before its next message where the door
+  -- a turn at most for each of them and for a refusal; it stopped at the plan's end, or at a refusal, or before its next message where the door
   -- turned it away; and it lost nothing but at a failed call
   pub record Ran (gate : Gate J G) (s t : Sender J G) : Type 0 where
     pub ready : IsReady gate t
@@ -41,7 +41,7 @@ module _ {J : Type 0} {G : Ghosts J} where
     pub numbers : List ℕ
     pub each : length numbers ≡ t.done - s.done
     pub sent : Sent (known s.pass) (known t.pass) (take (t.done - s.done) (drop s.done (plan_of s))) numbers
-    pub turns : (known t.pass).turns ≡ (known s.pass).turns + (t.done - s.done) + refusals t.refused
+    pub turns : (known t.pass).turns ≤ (known s.pass).turns + (t.done - s.done) + refusals t.refused
     pub whole : t.refused ≡ None → t.turned ≡ false → length (plan_of s) ≤ t.done
     pub turned : t.turned ≡ true → (t.refused ≡ None) × (t.done < length (plan_of s))
     pub refused : (f : SubmitFault) → t.refused ≡ Some f → WasRefused s t f
@@ -61,34 +61,21 @@ module _ {J : Type 0} {G : Ghosts J} where
     pub long : length after ≡ length before
     pub each : (i : ℕ) (d : Sender J G) → i < length before → Counted gate (slice_index_or before i d) (slice_index_or after i d)
 
-  -- the next message of the plan was accepted, as some number
-  pub record Accepted (gate : Gate J G) (s t : Sender J G) : Type 0 where
+  -- A piece of the plan was submitted, one message at least: so many were accepted in one turn, which are the first of it, all of
+  -- them where none was refused
+  pub record Pieced (gate : Gate J G) (s t : Sender J G) : Type 0 where
     pub ready : IsReady gate t
     pub plan : plan_of t ≡ plan_of s
-    pub done : t.done ≡ s.done + 1
-    pub refused : t.refused ≡ s.refused
+    pub count : ℕ
+    pub done : t.done ≡ s.done + count
+    pub within : t.done ≤ length (plan_of s)
     pub turned : t.turned ≡ s.turned
-    pub payload : List ℕ
-    pub next : slice_get (plan_of s) s.done ≡ Some payload
     pub turn : TakesTurn (known s.pass) (known t.pass)
     pub ended : (known t.pass).ended ≡ (known s.pass).ended
-    pub lost : (known t.pass).lost ≡ (known s.pass).lost
-    pub number : ℕ
-    pub submitted : Submitted (known s.pass) (known t.pass) payload number
-
-  -- the next message of the plan was refused
-  pub record Refused (gate : Gate J G) (s t : Sender J G) : Type 0 where
-    pub ready : IsReady gate t
-    pub plan : plan_of t ≡ plan_of s
-    pub done : t.done ≡ s.done
-    pub turn : TakesTurn (known s.pass) (known t.pass)
-    pub ended : (known t.pass).ended ≡ (known s.pass).ended
-    pub mine : (known t.pass).mine ≡ (known s.pass).mine
-    pub fault : SubmitFault
-    pub unlost : (fault ≡ submit.Fault → ⊥) → (known t.pass).lost ≡ (known s.pass).lost
-    pub refused : t.refused ≡ Some fault
-    pub turned : t.turned ≡ s.turned
-    pub was : WasRefused s t fault
+    pub submitted : SubmittedAll (known s.pass) (known t.pass) (take count (drop s.done (plan_of s)))
+    pub some : t.refused ≡ None → 0 < count
+    pub refused : (f : SubmitFault) → t.refused ≡ Some f → WasRefused s t f
+    pub unlost : (t.refused ≡ Some submit.Fault → ⊥) → (known t.pass).lost ≡ (known s.pass).lost
 
   -- each sender ran, in its place
   pub record RanEach (gate : Gate J G) (before after : List (Sender J G)) : Type 0 where

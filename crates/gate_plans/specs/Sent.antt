@@ -1,16 +1,17 @@
 -- What a sender's pass knows once messages of its plan were submitted: p before, q behind them.
-use Rattle.std.specs.Prelude.{⊤, ◌≡◌, ◌≢◌, ℕ, ◌+◌, ◌-◌, ◌<◌, ◌≤◌, true, List, [], ◌∷◌, ◌++◌, length, slice_get, Option, Some, None}
-use Rattle.session_model.specs.Journal.{Entry, OutboxRecord, entry, BeginsHistory}
+use Rattle.std.specs.Prelude.{⊤, ◌≡◌, ◌≢◌, ℕ, ◌-◌, ◌≤◌, true, List, [], ◌∷◌, ◌++◌, length, take, slice_get, Option, Some, None}
+use Rattle.session_model.specs.Journal.{Entry, BeginsHistory}
+use Rattle.jr_kept.specs.Entries as entries
+use Rattle.jr_kept.specs.Entries.{entries_made}
 use Rattle.jr_boxes.specs.declared.faults.SubmitFault.{SubmitFault}
 use Rattle.jr_boxes.specs.declared.faults.SubmitFault.TheVariants as submit
 use Rattle.gate_turn.specs.Views.{HasFailed, Part}
 use Rattle.gate_senders.specs.Kept.{next_entry, IsFullAt}
-use Rattle.gate_senders.specs.Shown.{entry_after}
+use Rattle.gate_senders.specs.Shown.{entries_after}
 
 -- the entries that a sender makes of these payloads, behind so many of its own
 abbrev pub entries_behind : ℕ → ℕ → List (List ℕ) → List Entry
-entries_behind sender own [] = []
-entries_behind sender own (payload ∷ more) = record { sender = sender; own_number = own + 1; payload = payload } ∷ entries_behind sender (own + 1) more
+entries_behind = entries.entries_behind
 
 -- the entries stand in the history at these numbers, which do not fall, from n on
 abbrev pub StandAt : List Entry → ℕ → List ℕ → List Entry → Type 0
@@ -44,10 +45,13 @@ pub record IsShown (p q : Part) (payload : List ℕ) (fault : SubmitFault) : Typ
   pub failed : fault ≡ submit.Fault → HasFailed p.faults q.faults
   pub broken : fault ≡ submit.Broken → HasFailed q.opening.faults q.faults
 
--- the entry that the pass makes next was refused with a failed call, so a stop may leave it behind the history, which the mark does
--- not end; and nothing is taken any more
-pub record HasLost (q : Part) (payload : List ℕ) : Type 0 where
-  pub lost : q.lost ≡ entry (entry_after q payload) ∷ []
+-- The entries that the pass makes next, of the first of these payloads, a piece at most, were refused with a failed call, so a stop may
+-- leave a beginning of them behind the history, which the mark does not end; and nothing is taken any more
+pub record HasLost (q : Part) (payloads : List (List ℕ)) : Type 0 where
+  pub count : ℕ
+  pub within : count ≤ length payloads
+  pub few : count ≤ 64
+  pub lost : q.lost ≡ entries_made (entries_after q (take count payloads))
   pub broken : q.broken ≡ true
   pub unmarked : q.seen.finished ≢ true
 

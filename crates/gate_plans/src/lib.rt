@@ -11,4 +11,4 @@ pub use door::{Door, OpenDoor};
 pub use plan_values::Plan;
 pub use run::{resume_turned, run_senders};
 pub use seats::{count_done, give_last, run_seated, seat, take_last, unseat};
-pub use sender::Sender;
+pub use sender::{PIECE_BYTES, PIECE_MESSAGES, Sender};

@@ -1,3 +1,5 @@
 pub mod Keeping
+pub mod Entering
 pub mod Submitting
+pub mod Piecing
 pub mod Fetching

@@ -34,7 +34,7 @@ takes_turn p q last a b entered is begins more = subst (λ (r : Part). TakesTurn
 })
 
 -- the pass after a turn in which the value became what b says of it
-after_turn : (p q last : Part) (a b : Account) (entered : Entered p q a) → last ≡ left b q → last ≡ left b (got a (drawn entered.ticket p))
+pub after_turn : (p q last : Part) (a b : Account) (entered : Entered p q a) → last ≡ left b q → last ≡ left b (got a (drawn entered.ticket p))
 after_turn p q last a b entered is = is ∙ ap (λ (r : Part). left b r) entered.after
 
 -- it lost nothing more, where nothing was refused in its turn
@@ -69,12 +69,12 @@ next_is p q sender payload a entered same = ap (λ k. next_entry a.history k pay
     ∙ ap (λ (es : List Entry). record { sender = p.number; own_number = length es + 1; payload = payload }) (sym entered.found.mine)
 
 -- what is refused is as it was, or just these records of the pass
-refuses_own : (q : Part) (p : Part) (a b : Account) (records : List OutboxRecord) → Entered p q a → OwnRecords q.number records → b.history ≡ a.history
+pub refuses_own : (q : Part) (p : Part) (a b : Account) (records : List OutboxRecord) → Entered p q a → OwnRecords q.number records → b.history ≡ a.history
     → (a.refused ≡ []) × (b.refused ≡ records) × (b.broken ≡ true) → Refuses q b
 refuses_own q p a b records entered own same lost = its_own
     (ap (λ (r : Part). r.refused) entered.after ∙ lost.0) lost.2 (same ∙ sym (ap (λ (r : Part). r.seen) entered.after)) (subst (OwnRecords q.number) (sym lost.1) own)
 
-refuses_none : (q : Part) (p : Part) (a b : Account) → Entered p q a → b.refused ≡ a.refused → Refuses q b
+pub refuses_none : (q : Part) (p : Part) (a b : Account) → Entered p q a → b.refused ≡ a.refused → Refuses q b
 refuses_none q p a b entered same = as_it_was (same ∙ sym (ap (λ (r : Part). r.refused) entered.after))
 
 pub refuses_submit : (answer : Result ℕ SubmitFault) (p q : Part) (sender : ℕ) (payload : List ℕ) (a b : Account) → Entered p q a → sender ≡ q.number

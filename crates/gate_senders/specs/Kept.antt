@@ -1,5 +1,5 @@
 -- What an outbox under a turn lock says of itself, and what a call on it leaves of that. Gates are this project's profile.
-use Rattle.std.specs.Prelude.{◌≡◌, ◌≢◌, ◌⊎◌, ℕ, ◌+◌, ◌-◌, ◌<◌, ◌≤◌, true, List, [], ◌∷◌, map, length, take, drop, if◌then◌else◌}
+use Rattle.std.specs.Prelude.{◌≡◌, ◌≢◌, ◌⊎◌, ℕ, ◌+◌, ◌-◌, ◌<◌, ◌≤◌, true, List, [], ◌∷◌, map, length, take, drop, slice_get, Some, if◌then◌else◌}
 use Rattle.session_model.specs.Journal.{Entry, History, OutboxRecord, entries_of}
 use Rattle.session_model.specs.Inbox.{Numbered}
 use Rattle.jr_dated.specs.declared.journal.Journal.{Ghosts}
@@ -7,6 +7,7 @@ use Rattle.jr_record.specs.declared.record.Record.TheVariants as kinds
 use Rattle.jr_dated.specs.Images.{record_size, journal_size}
 use Rattle.jr_kept.specs.declared.outbox.Outbox.{Outbox}
 use Rattle.jr_boxes.specs.Outboxes.{records_of_history}
+use Rattle.jr_kept.specs.Entries.{entries_behind, entries_made}
 use Rattle.jr_kept.specs.Outbox.{limits_of, faults_of, is_broken}
 use Rattle.gate_turn.specs.Views.{Account, HasFailed, Limits}
 use Rattle.gate_turn.specs.Rule.{StaysBroken}
@@ -30,6 +31,10 @@ module _ {J : Type 0} {G : Ghosts J} where
 abbrev pub next_entry : History → ℕ → List ℕ → Entry
 next_entry h sender payload = record { sender = sender; own_number = length (entries_of h.made sender) + 1; payload = payload }
 
+-- the entries that a sender adds next behind a history, with these payloads
+abbrev pub next_entries : History → ℕ → List (List ℕ) → List Entry
+next_entries h sender payloads = entries_behind sender (length (entries_of h.made sender)) payloads
+
 -- nothing of the limits changes, the count of failures does not fall, what is broken now was so before, or a call of its disk has
 -- failed since, and what is broken stays so, with what was refused
 pub record StaysSound (before after : Account) : Type 0 where
@@ -44,6 +49,21 @@ pub record IsFullAt (limits : Limits) (h : History) (e : Entry) (entries bytes :
   pub entries_are : entries ≡ length h.made
   pub bytes_are : bytes ≡ journal_size (records_of_history h)
   pub past : (limits.entries ≤ entries) ⊎ (limits.bytes < bytes + record_size (kinds.Entry e.sender e.own_number e.payload))
+
+-- of these payloads so many were added, and the entry of the next one is refused at this history, which the mark does not end
+pub record IsCutAt (limits : Limits) (h : History) (sender : ℕ) (payloads : List (List ℕ)) (count entries bytes : ℕ) : Type 0 where
+  pub payload : List ℕ
+  pub next : slice_get payloads count ≡ Some payload
+  pub full : IsFullAt limits h (next_entry h sender payload) entries bytes
+  pub unmarked : h.finished ≢ true
+
+-- an outbox that had refused nothing refused the next entries of a sender, with the first of these payloads, and is broken
+pub record RefusesAll (before after : Account) (sender : ℕ) (payloads : List (List ℕ)) : Type 0 where
+  pub count : ℕ
+  pub within : count ≤ length payloads
+  pub none : before.refused ≡ []
+  pub refused : after.refused ≡ entries_made (next_entries before.history sender (take count payloads))
+  pub broken : after.broken ≡ true
 
 -- the messages of entries, the first of which has the number n
 abbrev pub numbered_from : ℕ → List Entry → List Numbered

@@ -1,9 +1,11 @@
 //! The gate: senders submit messages at once, each by its pass, and the connection fetches what is stable.
-ghost use Rattle.std.specs.Prelude.{◌≡◌, ◌≢◌, ℕ, ◌+◌, ◌<◌, ◌≤◌, ◌^◌, true, false, [], ◌∷◌, length, Err, IfOk, IfErr, IfSome, IfNone, OnOk, IsErrOf, All};
+ghost use Rattle.std.specs.List.{AllByRecursion};
+ghost use Rattle.std.specs.Prelude.{◌≡◌, ◌≢◌, ℕ, ◌+◌, ◌<◌, ◌≤◌, ◌^◌, true, false, [], ◌∷◌, length, take, Some, None, Err, IfOk, IfErr, IfSome, IfNone, OnOk, IsErrOf, All};
 ghost use Rattle.session_model.specs.Journal.{entry, finish};
 ghost use Rattle.fixp_msgs.specs.Payload.{IsApplication};
 ghost use Rattle.jr_record.specs.Records.{IsPayload};
 ghost use Rattle.jr_kept.specs.Outbox.{is_broken};
+ghost use Rattle.jr_boxes.specs.declared.faults.SubmitFault.{SubmitFault};
 ghost use Rattle.jr_boxes.specs.declared.faults.SubmitFault.TheVariants as submit;
 ghost use Rattle.jr_boxes.specs.declared.faults.CloseFault.TheVariants as closing;
 ghost use Rattle.jr_dated.specs.declared.faults.FetchFault.TheVariants as fetching;
@@ -12,10 +14,12 @@ ghost use Rattle.gate_turn.specs.Places.{known};
 ghost use Rattle.gate_turn.specs.Calls.{IsFree, HasTurn, opened_with};
 ghost use Rattle.gate_senders.specs.Kept.{next_entry, GivenOf, ChangedIn, IsFullAt};
 ghost use Rattle.gate_senders.specs.Told.{told_by};
-ghost use Rattle.gate_senders.specs.Shown.{TakesTurn, Submitted, Finished, entry_after};
+ghost use Rattle.gate_senders.specs.Shown.{TakesTurn, Submitted, SubmittedAll, IsFullBehind, LosesAll, Finished, entry_after};
 
 use crate::kept::{Kept, Look};
+use crate::submission::Submission;
 use gate_turn::{Held, Logged, Pass, Passes, TurnLock};
+use gw_outside::Bytes;
 use jr_dated::{FetchFault, Journal};
 use jr_kept::{CloseFault, Outbox, Stable, SubmitFault};
 use std::alloc::Global;
@@ -113,6 +117,46 @@ impl<J: Journal> Gate<J> {
     {
         let Held { mut value } = self.lock.enter(pass, rt);
         let answer = value.add(pass.number(), payload);
+        self.lock.leave(pass, Held { value });
+        answer
+    }
+
+    /// Adds messages of the pass's sender, in order, in one turn and under one commit: all of them, or those before the first that would
+    /// pass one of the outbox's limits. Every later stop leaves those that were added, whatever refused the others.
+    ///
+    /// What refused them: `Broken` and `Fault` where a call of the disk has failed, before or now: after `Fault` a stop leaves a beginning
+    /// of those for which there was room. `Closed` where the mark stands. `Full` with the entries and bytes behind those that were
+    /// added. `Memory`. Only at `Full` were any added.
+    pub fn submit_all<R: Wait>(
+        &self,
+        pass: &mut Pass<Kept<J>>,
+        payloads: &[Bytes],
+        rt: &R,
+    ) -> Submission
+        requires own { IsSenderAt self.now pass.old }
+        requires free { IsFree pass.old }
+        requires payloads { AllByRecursion IsApplication payloads.now }
+        ensures own { IsSenderAt self.now pass.new }
+        ensures free { IsFree pass.new }
+        ensures turn { TakesTurn (known pass.old) (known pass.new) }
+        ensures within { result.count ≤ length payloads.now }
+        ensures added { SubmittedAll (known pass.old) (known pass.new) (take result.count payloads.now) }
+        ensures number { result.number ≡ length (known pass.new).seen.made }
+        ensures whole { result.refused ≡ None → result.count ≡ length payloads.now }
+        ensures unmarked { result.refused ≡ None → (known pass.new).seen.finished ≢ true }
+        ensures none { (f : SubmitFault) → result.refused ≡ Some f → ((entries bytes : ℕ) → f ≡ submit.Full entries bytes → ⊥) → result.count ≡ 0 }
+        ensures ended { (known pass.new).ended ≡ (known pass.old).ended }
+        ensures closed { result.refused ≡ Some submit.Closed → (known pass.new).seen.finished ≡ true }
+        ensures full { (entries bytes : ℕ) → result.refused ≡ Some (submit.Full entries bytes) → IsFullBehind (known pass.new) payloads.now result.count entries bytes }
+        ensures fault { result.refused ≡ Some submit.Fault → HasFailed (known pass.old).faults (known pass.new).faults }
+        ensures broken { result.refused ≡ Some submit.Broken → HasFailed (known pass.new).opening.faults (known pass.new).faults }
+        ensures refuses { (known pass.old).broken ≡ true → result.refused ≡ Some submit.Broken }
+        ensures lost { result.refused ≡ Some submit.Fault → LosesAll (known pass.new) payloads.now }
+        ensures unlost { (result.refused ≡ Some submit.Fault → ⊥) → (known pass.new).lost ≡ (known pass.old).lost }
+        ensures unended { result.refused ≡ Some submit.Fault → (known pass.new).seen.finished ≢ true }
+    {
+        let Held { mut value } = self.lock.enter(pass, rt);
+        let answer = value.add_all(pass.number(), payloads);
         self.lock.leave(pass, Held { value });
         answer
     }

@@ -1,18 +1,23 @@
 //! An outbox under the turn lock, with the history that is told of it and the records whose adding failed.
-ghost use Rattle.std.specs.Prelude.{◌≡◌, ◌≢◌, ◌↔◌, ℕ, ◌+◌, ◌-◌, ◌<◌, ◌≤◌, ◌^◌, true, false, [], ◌∷◌, length, slice_get, Some, Err, IfOk, IfErr, IfSome, IfNone, OnOk, IsErrOf, IsTrue, All};
+ghost use Rattle.std.specs.List.{AllByRecursion};
+ghost use Rattle.std.specs.Prelude.{◌≡◌, ◌≢◌, ◌↔◌, ℕ, ◌+◌, ◌-◌, ◌<◌, ◌≤◌, ◌^◌, true, false, [], ◌∷◌, length, take, slice_get, Some, None, Err, IfOk, IfErr, IfSome, IfNone, OnOk, IsErrOf, IsTrue, All};
 ghost use Rattle.session_model.specs.Journal.{History, entries_of, entry, finish, payloads};
 ghost use Rattle.fixp_msgs.specs.Payload.{IsApplication};
 ghost use Rattle.jr_record.specs.Records.{IsPayload, IsSender};
-ghost use Rattle.jr_kept.specs.Outbox.{HoldsBox, is_broken};
+ghost use Rattle.jr_kept.specs.Entries.{with_entries, entries_made};
+ghost use Rattle.jr_kept.specs.Outbox.{HoldsBox, next_fitting, is_broken};
 ghost use Rattle.jr_boxes.specs.Outboxes.{with_entry, with_mark};
+ghost use Rattle.jr_boxes.specs.declared.faults.SubmitFault.{SubmitFault};
 ghost use Rattle.jr_boxes.specs.declared.faults.SubmitFault.TheVariants as submit;
 ghost use Rattle.jr_boxes.specs.declared.faults.CloseFault.TheVariants as closing;
 ghost use Rattle.jr_dated.specs.declared.faults.FetchFault.TheVariants as fetching;
 ghost use Rattle.gate_turn.specs.Views.{HasFailed};
-ghost use Rattle.gate_senders.specs.Kept.{account, next_entry, GivenOf, ChangedIn, StaysSound, IsFullAt};
+ghost use Rattle.gate_senders.specs.Kept.{account, next_entry, next_entries, GivenOf, ChangedIn, StaysSound, IsFullAt, IsCutAt, RefusesAll};
 
+use crate::submission::Submission;
 use crate::told::{Says, Told};
 use gate_turn::Logged;
+use gw_outside::Bytes;
 use jr_dated::{FetchFault, Journal};
 use jr_kept::{CloseFault, Outbox, Stable, SubmitFault};
 use std::alloc::Global;
@@ -78,6 +83,23 @@ struct Refused;
 
 impl Says<Next<'_>> for Refused {
     ghost says = { λ n h refused. (h ≡ n.told.now.history) × (refused ≡ entry (record { sender = n.sender; own_number = n.own_number; payload = n.payload.now }) ∷ []) };
+}
+
+/// What is told of an outbox, the outbox, and messages of a sender that come next.
+type NextOnes<'a, J> = (&'a Told, &'a Outbox<J>, u16, &'a [Bytes]);
+
+/// The entries for which there is room stand behind the history.
+struct EnteredAll;
+
+impl<J: Journal> Says<NextOnes<'_, J>> for EnteredAll {
+    ghost says = { λ n h refused. (h ≡ with_entries n.0.now.history (next_fitting n.1.now n.2 n.3.now)) × (refused ≡ n.0.now.refused) };
+}
+
+/// The entries for which there is room were refused: a stop may leave them.
+struct RefusedAll;
+
+impl<J: Journal> Says<NextOnes<'_, J>> for RefusedAll {
+    ghost says = { λ n h refused. (h ≡ n.0.now.history) × (refused ≡ entries_made (next_fitting n.1.now n.2 n.3.now)) };
 }
 
 /// The mark stands behind the history.
@@ -275,6 +297,57 @@ impl<J: Journal> Kept<J> {
         }
     }
 
+    /// Adds entries of a sender from 1 to 16 under one commit, in order: all of them, or those before the first that is past a limit.
+    pub(crate) fn add_all(&mut self, sender: u16, payloads: &[Bytes]) -> Submission
+        requires sender { IsSender sender }
+        requires payloads { AllByRecursion IsApplication payloads.now }
+        ensures within { result.count ≤ length payloads.now }
+        ensures added { (told_by self.new).history ≡ with_entries (told_by self.old).history (next_entries (told_by self.old).history sender (take result.count payloads.now)) }
+        ensures number { result.number ≡ length (told_by self.new).history.made }
+        ensures opened { 0 < result.count → (told_by self.old).history.finished ≢ true }
+        ensures whole { result.refused ≡ None → result.count ≡ length payloads.now }
+        ensures unmarked { result.refused ≡ None → (told_by self.old).history.finished ≢ true }
+        ensures none { (f : SubmitFault) → result.refused ≡ Some f → ((entries bytes : ℕ) → f ≡ submit.Full entries bytes → ⊥) → result.count ≡ 0 }
+        ensures sound { StaysSound (told_by self.old) (told_by self.new) }
+        ensures closed { result.refused ≡ Some submit.Closed → (told_by self.old).history.finished ≡ true }
+        ensures full { (entries bytes : ℕ) → result.refused ≡ Some (submit.Full entries bytes)
+            → IsCutAt (told_by self.old).limits (told_by self.new).history sender payloads.now result.count entries bytes }
+        ensures fault { result.refused ≡ Some submit.Fault → HasFailed (told_by self.old).faults (told_by self.new).faults }
+        ensures broken { result.refused ≡ Some submit.Broken → (told_by self.old).broken ≡ true }
+        ensures stuck { (told_by self.old).broken ≡ true → result.refused ≡ Some submit.Broken }
+        ensures kept { (result.refused ≡ Some submit.Fault → ⊥) → (told_by self.new).refused ≡ (told_by self.old).refused }
+        ensures lost { result.refused ≡ Some submit.Fault → RefusesAll (told_by self.old) (told_by self.new) sender payloads.now }
+        ensures unended { result.refused ≡ Some submit.Fault → (told_by self.old).history.finished ≢ true }
+    {
+        let before = self.outbox.front();
+        let next: NextOnes<'_, J> = (&self.told, &self.outbox, sender, payloads);
+        let entered = Told::of::<NextOnes<'_, J>, EnteredAll>(&next);
+        let failed = Told::of::<NextOnes<'_, J>, RefusedAll>(&next);
+        match self.outbox.accept_all(sender, payloads) {
+            Ok(number) => {
+                self.told = entered;
+                Submission {
+                    number,
+                    count: number - before,
+                    refused: None,
+                }
+            }
+            Err(SubmitFault::Full { entries, bytes }) => {
+                self.told = entered;
+                Submission {
+                    number: entries,
+                    count: entries - before,
+                    refused: Some(SubmitFault::Full { entries, bytes }),
+                }
+            }
+            Err(SubmitFault::Fault) => {
+                self.told = failed;
+                none_added(before, SubmitFault::Fault)
+            }
+            Err(fault) => none_added(before, fault),
+        }
+    }
+
     /// Adds the mark that nothing more comes.
     pub(crate) fn finish(&mut self) -> Result<(), CloseFault>
         ensures open { OnOk result ((told_by self.old).history.finished ≢ true) }
@@ -302,5 +375,18 @@ impl<J: Journal> Kept<J> {
             }
             Err(fault) => Err(fault),
         }
+    }
+}
+
+/// None of some messages was added, for this reason, and there are so many entries.
+fn none_added(number: u64, fault: SubmitFault) -> Submission
+    ensures number { result.number ≡ number }
+    ensures none { result.count ≡ 0 }
+    ensures refused { result.refused ≡ Some fault }
+{
+    Submission {
+        number,
+        count: 0,
+        refused: Some(fault),
     }
 }

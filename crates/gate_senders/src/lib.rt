@@ -4,7 +4,9 @@
 
 mod gate;
 mod kept;
+mod submission;
 mod told;
 
 pub use gate::Gate;
 pub use kept::{Kept, Look};
+pub use submission::Submission;

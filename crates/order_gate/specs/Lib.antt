@@ -2,3 +2,4 @@ pub mod Line
 pub mod Places
 pub mod Reported
 pub mod Desks
+pub mod Standing

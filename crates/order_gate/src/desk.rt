@@ -32,7 +32,8 @@ pub(crate) struct Desk<J: Journal> {
 }
 
 impl<J: Journal> Desk<J> {
-    ghost use Rattle.order_gate.specs.Desks.{known_of, IsReady};
+    ghost use Rattle.gate_business.specs.Business.{lock_of};
+    ghost use Rattle.order_gate.specs.Desks.{known_of, IsSeated, IsManned, IsReady};
 
     /// Sends the report that comes next, or counts it where the outbox has it already.
     ///
@@ -148,8 +149,8 @@ impl<J: Journal> Desk<J> {
 
     /// Counts the entries that the outbox has of it: they are owed.
     pub(crate) fn count<R: Wait>(&mut self, gate: &Gate<J>, rt: &R)
-        requires ready { IsReady gate.now self.old }
-        ensures ready { IsReady gate.now self.new }
+        requires seated { IsSeated (lock_of gate.now) self.old }
+        ensures manned { IsManned (lock_of gate.now) self.new }
         ensures number { self.new.number ≡ self.old.number }
         ensures owed { self.new.owed ≡ self.new.made }
         ensures counted { Reported (known_of self.old) (known_of self.new) [] (Ok tt) }

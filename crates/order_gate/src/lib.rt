@@ -4,6 +4,12 @@
 
 mod call;
 mod desk;
+mod desks;
+mod form;
+mod hand;
 mod line;
-mod run;
 mod share;
+mod terms;
+
+pub use desks::Desks;
+pub use terms::Terms;

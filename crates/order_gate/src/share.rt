@@ -1,6 +1,8 @@
-//! A desk's share of the messages: dealt out into its line and answered from there, at once.
+//! A desk's share of the messages: dealt out into its line and answered from there.
 ghost use Rattle.std.specs.Prelude.{◌≡◌, ◌==◌, ◌+◌, ◌-◌, ◌<◌, ◌≤◌, true, false, [], drop, flat_map, length, slice_get, option_to_list, Some, None, IfOk, OnOk, IfSome, IfNone};
 ghost use Rattle.crossbeam_queue.specs.Passes.{view, IsPassOf};
+ghost use Rattle.gate_senders.specs.Gate.{senders_of};
+ghost use Rattle.gate_business.specs.Business.{lock_of};
 ghost use Rattle.order_desk.specs.Schema.{IsOrderPlan};
 ghost use Rattle.order_desk.specs.Plans.{answers, desk_at};
 ghost use Rattle.order_gate.specs.Line.{log};
@@ -18,7 +20,6 @@ use jr_dated::Journal;
 use sbe_value::Payloads;
 use std::alloc::{AllocError, Global};
 use std::sync::Wait;
-use std::thread::{Threads, join_mut};
 
 /// Whether the message at a place goes to a desk.
 fn is_for(call: &Call<'_>, number: u16, place: u64) -> bool
@@ -127,8 +128,8 @@ impl<J: Journal> Desk<J> {
         Ok(())
     }
 
-    /// Deals its places out into the line, and answers the messages as they come through, at once.
-    fn answer_dealt<G: Door + Sync, R: Threads + Wait + Sync>(
+    /// Deals its places out into the line, and answers the messages as they come through.
+    fn answer_dealt<G: Door, R: Wait>(
         &mut self,
         alloc: Global,
         gate: &Gate<J>,
@@ -140,8 +141,6 @@ impl<J: Journal> Desk<J> {
         door: &G,
         rt: &R,
     ) -> Result<(), SubmitFault>
-    where
-        J: Send,
         requires plan { IsOrderPlan call.now.plan.now }
         requires ready { IsReady gate.now self.old }
         requires writer { IsPassOf line.now writer.old × (view writer.old ≡ log true false [] []) }
@@ -154,28 +153,12 @@ impl<J: Journal> Desk<J> {
         ensures reported { Reported (known_of self.old) (known_of self.new) (drop self.old.owed (flat_map (answers call.now.plan.now self.old.number call.now.reference) (at_places call.now.payloads.now (view reader.new).popped))) result }
         ensures owed { OnOk result (self.new.owed ≡ self.old.owed - length (flat_map (answers call.now.plan.now self.old.number call.now.reference) (at_places call.now.payloads.now (view reader.new).popped))) }
     {
-        let count = places.len();
-        let (_, answer) = join_mut(
-            rt,
-            &mut || -> ()
-                requires { IsPassOf line.now writer.now × (view writer.now ≡ log true false [] []) }
-            { deal(rt, line, writer, places) },
-            &mut || -> Result<(), SubmitFault>
-                requires { IsOrderPlan call.now.plan.now × IsReady gate.now self.now × IsPassOf line.now reader.now × (view reader.now ≡ log false true [] []) }
-                ensures ready { IsReady gate.entry.now self.exit.now }
-                ensures number { self.exit.now.number ≡ self.entry.now.number }
-                ensures own { IsPassOf line.entry.now reader.exit.now }
-                ensures popped { view reader.exit.now ≡ log false true [] (view reader.exit.now).popped }
-                ensures count { OnOk result (length (view reader.exit.now).popped ≡ count) }
-                ensures reported { Reported (known_of self.entry.now) (known_of self.exit.now) (drop self.entry.now.owed (flat_map (answers call.entry.now.plan.now self.entry.now.number call.entry.now.reference) (at_places call.entry.now.payloads.now (view reader.exit.now).popped))) result }
-                ensures owed { OnOk result (self.exit.now.owed ≡ self.entry.now.owed - length (flat_map (answers call.entry.now.plan.now self.entry.now.number call.entry.now.reference) (at_places call.entry.now.payloads.now (view reader.exit.now).popped))) }
-            { self.answer_line(alloc, gate, call, line, reader, count, door, rt) },
-        );
-        answer
+        deal(rt, line, writer, places);
+        self.answer_line(alloc, gate, call, line, reader, places.len(), door, rt)
     }
 
     /// Answers its share of the messages.
-    fn answer_places<G: Door + Sync, R: Threads + Wait + Sync>(
+    fn answer_places<G: Door, R: Wait>(
         &mut self,
         alloc: Global,
         gate: &Gate<J>,
@@ -183,8 +166,6 @@ impl<J: Journal> Desk<J> {
         door: &G,
         rt: &R,
     ) -> Result<(), SubmitFault>
-    where
-        J: Send,
         requires plan { IsOrderPlan call.now.plan.now }
         requires some { 0 < call.now.desks }
         requires most { length call.now.payloads.now ≤ 512 }
@@ -219,7 +200,7 @@ impl<J: Journal> Desk<J> {
     }
 
     /// Answers its share of the messages, and keeps the refusal that it met.
-    pub(crate) fn answer_share<G: Door + Sync, R: Threads + Wait + Sync>(
+    pub(crate) fn answer_share<G: Door, R: Wait>(
         &mut self,
         alloc: Global,
         gate: &Gate<J>,
@@ -227,13 +208,11 @@ impl<J: Journal> Desk<J> {
         door: &G,
         rt: &R,
     )
-    where
-        J: Send,
         requires plan { IsOrderPlan call.now.plan.now }
         requires some { 0 < call.now.desks }
         requires most { length call.now.payloads.now ≤ 512 }
         requires ready { IsReady gate.now self.old }
-        ensures ran { Ran gate.now (due call.now.plan.now call.now.reference call.now.desks call.now.turn call.now.payloads.now) self.old self.new }
+        ensures ran { Ran (lock_of gate.now) (senders_of gate.now) (due call.now.plan.now call.now.reference call.now.desks call.now.turn call.now.payloads.now self.old.number) self.old self.new }
     {
         let answer = self.answer_places(alloc, gate, call, door, rt);
         self.refused = kept(answer);

@@ -1,5 +1,6 @@
 //! What a sender is to send.
-ghost use Rattle.std.specs.Prelude.{◌≡◌, ◌↔◌, ◌-◌, ◌≤◌, true, false, [], ◌∷◌, ◌++◌, All, length, slice_get, Some, IsTrue, IfOk, IfErr, OnErr};
+ghost use Rattle.std.specs.List.{AllByRecursion};
+ghost use Rattle.std.specs.Prelude.{◌≡◌, ◌↔◌, ◌+◌, ◌-◌, ◌≤◌, true, false, [], ◌∷◌, ◌++◌, All, length, take, drop, slice_get, Some, IsTrue, IfOk, IfErr, OnErr};
 ghost use Rattle.fixp_msgs.specs.Payload.{IsApplication};
 
 use fixp_msgs::is_application;
@@ -79,6 +80,21 @@ impl Plan {
             unreachable!()
         }
         payload
+    }
+
+    /// The payloads behind the first `done`, so many.
+    pub fn piece(&self, done: u64, count: u64) -> &[Bytes]
+        requires within { done + count ≤ length (payloads_of self.now) }
+        ensures value { result.now ≡ take count (drop done (payloads_of self.now)) }
+        ensures applications { AllByRecursion IsApplication result.now }
+    {
+        let (_, behind) = self.payloads.as_slice().split_at(done as usize);
+        let (piece, _) = behind.split_at(count as usize);
+        // Each is one, as the type says; the test tells its frame.
+        if !are_applications(piece) {
+            unreachable!()
+        }
+        piece
     }
 
     /// The payloads, in order.

@@ -1,9 +1,25 @@
-use Rattle.std.proofs.Common.{refl, sym}
-use Rattle.order_gate.proofs.Sending.{ready_still}
+use Rattle.std.proofs.Common.{refl, sym, ap, subst, ◌∙◌}
+use Rattle.std.proofs.lemmas.Option.{same_Some}
+use Rattle.gate_senders.specs.Gate.{IsPassAt}
+use Rattle.gate_turn.specs.Calls.{IsFree}
+use Rattle.gate_turn.specs.Places.{known}
 use Rattle.order_gate.proofs.desk.Desk.count.Goals as goal
 
-pub returns-clause-ready : goal.returns-clause-ready
-returns-clause-ready g c =
-    let d = c.args.self.now in
+pub mine-made-requires-clause-own : goal.mine-made-requires-clause-own
+mine-made-requires-clause-own g c = let s = c.requires.seated in subst (λ x. IsPassAt c.args.gate.now x) (same_Some s.pass c.in-Some.pass (sym s.there ∙ c.in-Some.is)) s.own
+
+pub mine-made-requires-clause-free : goal.mine-made-requires-clause-free
+mine-made-requires-clause-free g c = let s = c.requires.seated in subst (λ x. IsFree x) (same_Some s.pass c.in-Some.pass (sym s.there ∙ c.in-Some.is)) s.free
+
+pub returns-clause-manned : goal.returns-clause-manned
+returns-clause-manned g c =
+    let s = c.requires.seated in
     let e = c.mine-made.ensures in
-    ready_still c.args.gate.now d c.in-Some.pass c.mine-made.new.pass c.requires.ready c.in-Some.is _ refl refl e.own e.free e.turn.number (sym e.exact)
+    record {
+      pass = c.mine-made.new.pass;
+      there = refl;
+      own = e.own;
+      free = e.free;
+      number = e.turn.number ∙ ap (λ x. (known x).number) (sym (same_Some s.pass c.in-Some.pass (sym s.there ∙ c.in-Some.is))) ∙ s.number;
+      made = sym e.exact;
+    }
