@@ -20,6 +20,8 @@ use Rattle.fixp_machine.specs.Accepting.{records_of}
 use Rattle.conn_turns.specs.News.{told_by}
 use Rattle.conn_turns.specs.Lines.{TakenFrame, IsNext, IsTaken, AreTaken, reply_at, act_calls, ready_in, line_after, lines_after}
 use Rattle.conn_turns.specs.Frames.{applies, delivers, adds, tells, added, told}
+use Rattle.conn_turns.specs.Turns.{Refusal}
+use Rattle.conn_turns.specs.Refusals.{IsRefused, stood, told_before, refused, IsOfRecord, line_refused}
 use Rattle.conn_steps.specs.Ends.{AnsweringEnd, TakingEnd}
 use Rattle.conn_steps.specs.Settling.{IsPast, Gains, Refuses}
 
@@ -60,16 +62,16 @@ module _ {J : Type 0} {G : Ghosts J} where
     pub gains : Gains old.box new.box (adds now old.line frame)
     pub news_are : new.news ≡ old.news ++ tells now old.line frame
 
-  -- the act of a frame was refused: nothing was told, and nothing but the machine knows of the frame. At Full the journal has no room
-  -- for the act's record; and the act is a record, unless memory ran out
+  -- something was refused of the next frame: its act, of which nothing but the machine knows, or a held message behind it. What stood before
+  -- it stays, and was told. At Full the journal has no room for what was refused; and that is a record, unless memory ran out
   pub record RefusedFrame (now : ℕ) (old new : TakingEnd J G) (fault : TurnFault) : Type 0 where
-    pub frame : TakenFrame
-    pub next : IsNext old.line frame
-    pub line : new.line ≡ record old.line { machine = step old.line.machine (calls.frame frame.incoming frame.at now) }
-    pub refuses : Refuses old.box new.box [] (refused_by fault (adds now old.line frame))
-    pub past : (entries bytes : ℕ) → fault ≡ faults.Full entries bytes → IsPast (limits_of new.box).bytes bytes (adds now old.line frame)
-    pub recorded : (fault ≡ faults.Memory → ⊥) → is_record (reply_at now old.line frame).act ≡ true
-    pub news_are : new.news ≡ old.news
+    pub refusal : Refusal
+    pub is : IsRefused now old.line refusal
+    pub line : new.line ≡ line_refused now old.line refusal
+    pub refuses : Refuses old.box new.box (stood now old.line refusal) (refused_by fault (refused now old.line refusal))
+    pub past : (entries bytes : ℕ) → fault ≡ faults.Full entries bytes → IsPast (limits_of new.box).bytes bytes (refused now old.line refusal)
+    pub recorded : (fault ≡ faults.Memory → ⊥) → IsOfRecord now old.line refusal
+    pub news_are : new.news ≡ old.news ++ told_before now old.line refusal
 
   -- so many frames were taken, one after another
   pub record TookFrames (now count : ℕ) (old new : TakingEnd J G) : Type 0 where
@@ -80,20 +82,20 @@ module _ {J : Type 0} {G : Ghosts J} where
     pub gains : Gains old.box new.box (added now old.line frames)
     pub news_are : new.news ≡ old.news ++ told now old.line frames
 
-  -- frames were taken, and the act of the one behind them was refused: the machine was told of that frame alone
+  -- frames were taken, and something was refused of the one behind them
   pub record CutFrames (now : ℕ) (old new : TakingEnd J G) (fault : TurnFault) : Type 0 where
     pub frames : List TakenFrame
     pub few : length frames < 16
     pub taken : AreTaken now old.line frames
-    pub refused : TakenFrame
-    pub next : IsNext (lines_after now old.line frames) refused
-    pub line : new.line ≡ record (lines_after now old.line frames)
-        { machine = step (lines_after now old.line frames).machine (calls.frame refused.incoming refused.at now) }
-    pub refuses : Refuses old.box new.box (added now old.line frames) (refused_by fault (adds now (lines_after now old.line frames) refused))
+    pub refusal : Refusal
+    pub is : IsRefused now (lines_after now old.line frames) refusal
+    pub line : new.line ≡ line_refused now (lines_after now old.line frames) refusal
+    pub refuses : Refuses old.box new.box (added now old.line frames ++ stood now (lines_after now old.line frames) refusal)
+        (refused_by fault (refused now (lines_after now old.line frames) refusal))
     pub past : (entries bytes : ℕ) → fault ≡ faults.Full entries bytes
-        → IsPast (limits_of new.box).bytes bytes (adds now (lines_after now old.line frames) refused)
-    pub recorded : (fault ≡ faults.Memory → ⊥) → is_record (reply_at now (lines_after now old.line frames) refused).act ≡ true
-    pub news_are : new.news ≡ old.news ++ told now old.line frames
+        → IsPast (limits_of new.box).bytes bytes (refused now (lines_after now old.line frames) refusal)
+    pub recorded : (fault ≡ faults.Memory → ⊥) → IsOfRecord now (lines_after now old.line frames) refusal
+    pub news_are : new.news ≡ old.news ++ (told now old.line frames ++ told_before now (lines_after now old.line frames) refusal)
 
   -- the act of the frame at this place was done, and no held message applied yet: what becomes of the machine, the inbox and the news
   pub record AnsweredAct (now : ℕ) (old new : AnsweringEnd J G) (frame : Frame) (at : ℕ) : Type 0 where
