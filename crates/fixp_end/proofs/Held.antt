@@ -12,7 +12,7 @@ use Rattle.fixp_msgs.specs.Payload.{IsApplication}
 use Rattle.fixp_shake.specs.declared.config.EndConfig.{EndConfig}
 use Rattle.fixp_msgs.specs.declared.flow.Flow.{Flow}
 use Rattle.fixp_msgs.specs.declared.flow.Flow.TheVariants as flows
-use Rattle.flow_recover.specs.Receiving.{past}
+use Rattle.flow_recover.specs.Receiving.{Receiving, past}
 use Rattle.fixp_replies.specs.declared.facts.EndState.{EndState}
 use Rattle.fixp_machine.proofs.Windowing.{IsFront}
 use Rattle.fixp_shake.specs.Flows.{is_recoverable, is_idempotent}
@@ -30,7 +30,7 @@ use Rattle.fixp_replies.specs.Events.{Made, outbox_finished, tells_finish, finis
 use Rattle.fixp_replies.specs.Outcomes.{Outcome}
 use Rattle.fixp_machine.specs.Fitting.{IsMessage, CanTake}
 use Rattle.fixp_machine.specs.Sound.{Advances, HeldFits, MayHold, KeepsHeld}
-use Rattle.fixp_machine.specs.Machine.{State, held_until, held_with, held_applied, front_of}
+use Rattle.fixp_machine.specs.Machine.{State, held_until, held_with, past_held, held_applied, front_of}
 use Rattle.fixp_end.proofs.Told.{told_as}
 use Rattle.fixp_end.proofs.Turn.{turn_as}
 
@@ -149,3 +149,18 @@ not_both flows.Recoverable r i = true≢false (sym i)
 not_both flows.Idempotent r i = true≢false (sym r)
 not_both flows.Unsequenced r i = true≢false (sym r)
 not_both flows.None r i = true≢false (sym r)
+
+-- what is held is held on a recoverable flow
+pub not_idempotent : (flow : Flow) (next : ℕ) (held : List Numbered) → (is_recoverable flow ≡ false → held ≡ []) → IsFront next held → is_idempotent flow ≡ true → ⊥
+not_idempotent flow next held other k i = by_test (is_recoverable flow) refl
+  where
+    by_test : (b : Bool) → is_recoverable flow ≡ b → ⊥
+    by_test true r = not_both flow r i
+    by_test false r = let is = k.held_is in let none = other r in cc (is, none)
+
+-- what holds of the facts once the message was applied that the inbox awaited
+pub past_front : (P : Facts → Type 0) (f : Facts) (next : ℕ) (m : Numbered) (r : Receiving) → m.number ≡ next → r ≡ past f.connection.receiver → P (past_held f m)
+    → P (receiving (awaiting f (next + 1)) r)
+past_front P f next m r number passed k =
+    subst (λ (q : Receiving). P (receiving (awaiting f (next + 1)) q)) (sym passed)
+    (subst (λ (n : ℕ). P (receiving (awaiting f (n + 1)) (past f.connection.receiver))) number k)

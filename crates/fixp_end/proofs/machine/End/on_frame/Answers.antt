@@ -1,12 +1,16 @@
-use Rattle.std.proofs.Common.{sym, ap, subst, ◌∙◌}
-use Rattle.fixp_replies.specs.Incoming.{incoming_of}
+use Rattle.std.proofs.Common.{ℕ, List, Option, sym, ap, subst, ◌∙◌}
+use Rattle.session_model.specs.Inbox.{Numbered}
+use Rattle.fixp_msgs.specs.Numbering.{payload_of}
+use Rattle.fixp_replies.specs.Incoming.{Incoming, incoming_of}
+use Rattle.fixp_replies.specs.Replies.{reply_of}
 use Rattle.fixp_machine.specs.Fitting.{CanTake, IsMessage}
-use Rattle.fixp_machine.specs.Machine.{State}
+use Rattle.fixp_machine.specs.Machine.{State, around, held_with}
 use Rattle.fixp_end.proofs.Doing.{takes_payload}
 use Rattle.fixp_end.proofs.machine.End.on_frame.Goals as goal
 use Rattle.fixp_replies.specs.Outcomes.{Outcome}
 use Rattle.fixp_end.specs.contracts.machine.End.{the_view}
 use Rattle.fixp_end.proofs.Outcomes.{after-record, after-plain}
+use Rattle.fixp_end.proofs.Held.{payload_is}
 
 pub returns-then-is_record-clause-takes : goal.returns-then-is_record-clause-takes
 returns-then-is_record-clause-takes c =
@@ -19,11 +23,34 @@ returns-then-is_record-clause-takes c =
 
 pub returns-then-is_record-clause-reply : goal.returns-then-is_record-clause-reply
 returns-then-is_record-clause-reply c =
-    let same = c.reply_to_frame-reply.ensures.reply in
+    let s : State = the_view c.self.inside in
+    let i : Incoming = incoming_of c.classify.result in
+    let around_is = ap (λ (h : Option ℕ). reply_of (record (around s c.args.at c.args.now) { held = h }) s.facts i) c.least.ensures in
+    let same = c.reply_to_frame-reply.ensures.reply ∙ around_is in
     let is = sym c.is_record.ensures ∙ c.if-is_record.true in
     rw (← c.self.view_is) (record {
-      incoming = incoming_of c.classify.result;
+      incoming = i;
       is = c.classify.ensures;
       replies = ap (λ (o : Outcome). o.act) same;
-      after = after-record (the_view c.self.inside) (incoming_of c.classify.result) _ _ c.args.now same is;
+      after = after-record s i _ _ c.args.now same is;
+    })
+
+pub returns-else-is_record-clause-reply : goal.returns-else-is_record-clause-reply
+returns-else-is_record-clause-reply c =
+    let s : State = the_view c.self.inside in
+    let i : Incoming = incoming_of c.classify.result in
+    let reply = c.reply_to_frame-reply.ensures in
+    let around_is = ap (λ (h : Option ℕ). reply_of (record (around s c.args.at c.args.now) { held = h }) s.facts i) c.least.ensures in
+    let same = reply.reply ∙ around_is in
+    let is = sym c.is_record.ensures ∙ c.if-is_record.false in
+    let holds = c.reply_to_frame-reply.result.holds in
+    let payload = payload_of (record { order = c.args.order; message = c.args.message.now }) in
+    rw (← c.self.view_is) (record {
+      incoming = i;
+      is = c.classify.ensures;
+      replies = ap (λ (o : Outcome). o.act) same;
+      after = ap (λ (ms : List Numbered). record (the_view c.self-else-is_record.inside) { held = ms }) c.hold_message.ensures.held
+          ∙ (ap (λ (t : State). record t { held = held_with holds payload t.held }) (c.self-else-is_record.view_is ∙ c.apply_reply.ensures.applied)
+          ∙ after-plain s i _ _ c.args.now payload same is
+          (λ some. (reply.goes_on some, payload_is c.args.order c.args.message.now i c.classify.ensures (reply.message some))));
     })
