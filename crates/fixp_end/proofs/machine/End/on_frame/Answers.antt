@@ -1,4 +1,4 @@
-use Rattle.std.proofs.Common.{◌≡◌, ℕ, List, Option, None, IsSome, refl, sym, ap, subst, ◌∙◌}
+use Rattle.std.proofs.Common.{◌≡◌, ℕ, ◌<◌, ◌≤◌, List, Option, None, IsSome, arith, refl, sym, ap, subst, ◌∙◌}
 use Rattle.std.specs.Prelude.{IfSome}
 use Rattle.std.specs.List.{AllByRecursion}
 use Rattle.std.proofs.lemmas.Bool.{false≢true}
@@ -106,4 +106,34 @@ invariant_of-self-else-is_record-2 c =
             (λ n some. is_payload c.args.order c.args.message.now i c.classify.ensures c.requires.header c.requires.most (reply.message some)) k.messages);
       },
       c.self-else-is_record.invariant.1,
+    )
+
+pub invariant_of-self : goal.invariant_of-self
+invariant_of-self c =
+    let e = c.self.inside in
+    let k = c.self.invariant.0 in
+    let reply = c.reply_to_frame-reply.ensures in
+    let none : pending_in e ≡ None = subst (λ (s : State). s.pending ≡ None) (sym c.self.view_is) c.requires.done in
+    let first = subst (λ (s : State). 0 < s.room) (sym c.self.view_is) c.requires.room in
+    let drained = subst (λ (s : State). front_of s ≡ None) (sym c.self.view_is) c.requires.drained in (
+      record {
+        most = k.most;
+        facts = k.facts;
+        pending = reply.keeps;
+        serves = k.serves;
+        serves_then = reply.serves;
+        applied = k.applied;
+        room = omega (arith, k.room, first);
+        start = (let b = k.start in omega (arith, b, subst (λ (s : State). s.moment ≤ c.args.now) (sym c.self.view_is) c.requires.time.0));
+        sent = (let b = k.sent in omega (arith, b, subst (λ (s : State). s.moment ≤ c.args.now) (sym c.self.view_is) c.requires.time.0));
+        received = omega arith;
+        made = k.made;
+        awaits = k.awaits;
+        windowed = k.windowed;
+        windowed_then = (reply.window e.ending (held_in e.window) c.least.ensures k.windowed drained).before;
+        steps = λ some. reply.steps (sym k.made ∙ some);
+        free = λ some. drained;
+        messages = k.messages;
+      },
+      reply.small,
     )
