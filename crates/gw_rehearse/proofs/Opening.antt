@@ -23,7 +23,7 @@ use Rattle.jr_dated.specs.Laws.{AtMostOneVerdict}
 use Rattle.jr_segments.specs.declared.journal.SegJournal.{SegJournal}
 use Rattle.jr_segments.specs.Journal.{StandsFor, MayLeave, OpensOn}
 use Rattle.jr_segments.specs.Lawful.{counted_by}
-use Rattle.jr_segments.specs.Numbers.{numbers_of}
+use Rattle.jr_places.specs.Numbers.{numbers_of}
 use Rattle.jr_kept.specs.Undated.{Undated}
 use Rattle.jr_kept.specs.declared.outbox.Outbox.{Outbox}
 use Rattle.jr_kept.specs.Outbox as outboxes
