@@ -1,6 +1,6 @@
 //! A run of numbers: distances from the first of them, and whole numbers from the first on that does not stand near it.
 
-ghost use Rattle.std.specs.Prelude.{◌≡◌, ◌<◌, ◌^◌, ◌+◌, ◌-◌, [], ◌∷◌, ◌++◌, length, take, slice_index, IfSome, OnOk};
+ghost use Rattle.std.specs.Prelude.{◌≡◌, ◌<◌, ◌^◌, ◌+◌, ◌-◌, [], ◌∷◌, ◌++◌, length, take, slice_index, IfOk, IfSome, OnOk};
 
 use std::alloc::{AllocError, Global};
 

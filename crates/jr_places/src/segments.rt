@@ -125,13 +125,22 @@ impl Segments {
         ensures front { numbers_of self.new ≡ take (length (numbers_of self.old) - 1) (numbers_of self.old) }
         ensures count { self.new.count + 1 ≡ self.old.count }
     {
+        self.reopen_segment();
+        self.last.pop();
+        self.count -= 1;
+    }
+
+    /// Takes the last full segment back where there is nothing behind it.
+    fn reopen_segment(&mut self)
+        ensures same { numbers_of self.new ≡ numbers_of self.old }
+        ensures count { self.new.count ≡ self.old.count }
+        ensures some { 0 < length (numbers_of self.old) → 0 < length (listed self.new.last) }
+    {
         if self.last.len() == 0 {
             if let Some(segment) = self.full.pop() {
                 let Segment { numbers } = segment;
                 self.last = numbers;
             }
         }
-        self.last.pop();
-        self.count -= 1;
     }
 }

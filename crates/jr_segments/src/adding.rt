@@ -9,8 +9,8 @@ ghost use Rattle.jr_places.specs.Numbers.{numbers_of};
 ghost use Rattle.jr_segments.specs.Resting.{places_from};
 ghost use Rattle.jr_segments.specs.Growing.{GoesOn};
 
-use jr_places::Segments;
 use jr_dated::{Limits, record_size};
+use jr_places::Segments;
 use jr_record::Record;
 use std::alloc::AllocError;
 
