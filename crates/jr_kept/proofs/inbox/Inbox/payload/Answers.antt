@@ -28,7 +28,7 @@ pub returns-in-Some-clause-read : goal.returns-in-Some-clause-read
 returns-in-Some-clause-read g c =
     let old = c.args.self.now in
     let within : c.args.i - 1 < length (numbers_of old.notes.places) = omega (arith, c.requires.least, c.requires.within) in
-    let place : c.get-at.result ≡ slice_index (numbers_of old.notes.places) (c.args.i - 1) = c.get-at.ensures in
+    let place : c.get-at.result ≡ slice_index (numbers_of old.notes.places) (c.args.i - 1) = c.get-at.ensures.value in
     let found = c.in-Some.ensures.found in
     ∥∥₁_map c.in_ok-r.ensures.found (λ k. record {
       dated = k.0;
@@ -43,7 +43,7 @@ returns-in-Some-clause-payload g c tells list stands =
     let old = c.args.self.now in
     let sound = read_sound (g.J.Journal.is_broken old.journal) (g.J.Journal.is_broken c.read.new.self) c.read.result c.read.ensures.broken.1 c.read.ensures.breaks c.in_ok-r.ensures.breaks in
     let within : c.args.i - 1 < length (numbers_of old.notes.places) = omega (arith, c.requires.least, c.requires.within) in
-    let place : c.get-at.result ≡ slice_index (numbers_of old.notes.places) (c.args.i - 1) = c.get-at.ensures in
+    let place : c.get-at.result ≡ slice_index (numbers_of old.notes.places) (c.args.i - 1) = c.get-at.ensures.value in
     let read = read_told g.J.Journal.stands old.journal stands.dated c.get-at.result (stamped c.in_ok-r._moment c.in_ok-r.r)
     (λ k is_k. g.met.J.Journal.one old.journal k stands.dated (g.met.J.Journal.all_told old.journal tells) sound is_k stands.journal) c.in_ok-r.ensures.found in
     let at = message_there list old.notes (c.args.i - 1) c.in_ok-r.r stands.noticed within
@@ -58,7 +58,7 @@ returns-in-None-clause-changed g c at is =
     let old = c.args.self.now in
     let sound = read_sound (g.J.Journal.is_broken old.journal) (g.J.Journal.is_broken c.read.new.self) c.read.result c.read.ensures.broken.1 c.read.ensures.breaks c.in_ok-r.ensures.breaks in
     let within : c.args.i - 1 < length (numbers_of old.notes.places) = omega (arith, c.requires.least, c.requires.within) in
-    let place : c.get-at.result ≡ slice_index (numbers_of old.notes.places) (c.args.i - 1) = c.get-at.ensures in
+    let place : c.get-at.result ≡ slice_index (numbers_of old.notes.places) (c.args.i - 1) = c.get-at.ensures.value in
     let here : c.get-at.result ≡ at = cc in (
       sym here ∙ place,
       λ tells. ∥∥₁_elim (old.held sound) (λ x y. absurd x) (λ f.
