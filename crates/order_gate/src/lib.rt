@@ -10,4 +10,6 @@ mod hand;
 mod line;
 mod share;
 
+pub use desk::Desk;
 pub use desks::Desks;
+pub use form::Form;
