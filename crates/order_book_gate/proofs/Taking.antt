@@ -1,15 +1,21 @@
 -- What a book desk takes, put together from parts.
-use Rattle.std.proofs.Common.{◌≡◌, ℕ, ◌+◌, ◌-◌, ◌<◌, List, [], ◌∷◌, ◌++◌, length, take, drop, slice_index_or, take-append-drop, Result, Ok, Err, OnOk, refl, sym, ap, subst, ◌∙◌, arith, append-nil, length-append}
+use Rattle.std.proofs.Common.{◌≡◌, ℕ, ◌+◌, ◌-◌, ◌<◌, List, [], ◌∷◌, ◌++◌, length, map, take, drop, slice_index_or, take-append-drop, Result, Ok, Err, OnOk, refl, sym, ap, subst, ◌∙◌, arith, append-nil, length-append}
 use Rattle.std.proofs.lemmas.List.{take_more}
 use Rattle.atomic_table.specs.Seated.{TableId}
 use Rattle.jr_dated.specs.declared.journal.Journal.{Ghosts}
 use Rattle.jr_boxes.specs.declared.faults.SubmitFault.{SubmitFault}
 use Rattle.jr_boxes.specs.declared.faults.SubmitFault.TheVariants as submit
+use Rattle.std.specs.List.{AllByRecursion}
+use Rattle.order_desk.specs.Orders.{order_in}
+use Rattle.order_desk.specs.Reports.{report_bytes}
 use Rattle.sbe_layout.specs.declared.plan.Plan.{Plan}
 use Rattle.order_book.specs.declared.entries.BookOrder.{BookOrder}
+use Rattle.order_book.specs.Laws.{IsRested}
+use Rattle.order_book.specs.Book.{reports_of, book_after}
+use Rattle.order_gate.specs.declared.desk.Desk.{Desk}
 use Rattle.order_gate.specs.Reported.{Reported}
-use Rattle.order_gate.specs.Desks.{known_of}
-use Rattle.order_gate.proofs.Parts.{owed_none, owed_on, owed_more}
+use Rattle.order_gate.specs.Desks.{known_of, IsReadyAt}
+use Rattle.order_gate.proofs.Parts.{reported_nothing, owed_none, owed_on, owed_more}
 use Rattle.order_book_gate.specs.declared.book_desk.BookDesk.{BookDesk}
 use Rattle.order_book_gate.specs.Plan.{answers, resting_behind}
 use Rattle.order_book_gate.specs.Desk.{IsAble, SameBut, Took}
@@ -78,3 +84,34 @@ module _ {J : Type 0} {G : Ghosts J} (lock : TableId) (senders : ℕ) where
     took_cut f second =
         subst (λ l. Took lock senders l b d (Err f)) (ap (λ l. l ++ drop (i + 1) xs) taken ∙ take-append-drop (i + 1) xs)
         (took_more b d (take i xs ++ x ∷ []) (drop (i + 1) xs) f (took_on b c d (take i xs) (x ∷ []) (Err f) first second))
+
+  -- memory ran out: nothing was sent, whatever rests
+  pub took_failed : (b : BookDesk J G) → IsAble lock senders b → (rs : List BookOrder) → AllByRecursion IsRested rs → (messages : List (List ℕ)) → Took lock senders messages b (record b { book = rs }) (Err submit.Memory)
+  took_failed b able rs rested messages = record {
+    able = record { ready = able.ready; number = able.number; rested = rested };
+    same = record { form = refl; counted = refl; met = refl };
+    reported = reported_nothing (known_of b.desk) (drop b.desk.owed (answers b.form.plan b.book messages));
+    owed = tt;
+    resting = tt;
+  }
+
+  -- the reports on a message were sent, or one was refused
+  pub took_sent : (b : BookDesk J G) → IsAble lock senders b → (payload : List ℕ) (rs : List BookOrder) → rs ≡ book_after b.book (order_in b.form.plan payload) → AllByRecursion IsRested rs
+      → (k : Desk J G) (result : Result (Unit {0}) SubmitFault) → IsReadyAt lock senders k → k.number ≡ b.desk.number
+      → (list : List (List ℕ)) → list ≡ map (report_bytes b.form.plan) (reports_of b.book (order_in b.form.plan payload))
+      → Reported (known_of b.desk) (known_of k) (drop b.desk.owed list) result → OnOk result (k.owed ≡ b.desk.owed - length list)
+      → Took lock senders (payload ∷ []) b (record b { desk = k; book = rs }) result
+  took_sent b able payload rs after rested k result ready number list bytes reported owed = record {
+    able = record { ready = ready; number = number ∙ able.number; rested = rested };
+    same = record { form = refl; counted = refl; met = refl };
+    reported = subst (λ l. Reported (known_of b.desk) (known_of k) (drop b.desk.owed l) result) all reported;
+    owed = ok_then result (λ e. e ∙ ap (λ l. b.desk.owed - length l) all) owed;
+    resting = on_any result after;
+  }
+    where
+      all : list ≡ answers b.form.plan b.book (payload ∷ [])
+      all = bytes ∙ ap (λ l. map (report_bytes b.form.plan) l) (sym (append-nil (reports_of b.book (order_in b.form.plan payload))))
+
+      on_any : (r : Result (Unit {0}) SubmitFault) {A : Type 0} → A → OnOk r A
+      on_any (Ok _) a = a
+      on_any (Err f) a = tt
