@@ -62,9 +62,11 @@ impl<J: Journal> BookDesk<J> {
             return Err(passes);
         };
         let mut passes = passes;
+        let pass = passes.take(1);
+        let book = Book::new(alloc);
         let desk = Desk {
             number: 1,
-            pass: passes.take(1),
+            pass,
             owed: 0,
             made: 0,
             refused: None,
@@ -73,7 +75,7 @@ impl<J: Journal> BookDesk<J> {
             alloc,
             desk,
             form,
-            book: Book::new(alloc),
+            book,
             counted: false,
             met: false,
         })

@@ -49,5 +49,5 @@ returns g c =
     let e = c.send_all.ensures in
     record {
       took = took_sent (lock_of c.args.gate.now) (senders_of c.args.gate.now) b able c.args.payload.now c.on_order.new.self after rested c.send_all.new.self c.send_all.result e.ready e.number _
-          (c.as_slice-list.ensures ∙ c.in-Ok-written.ensures.bytes ∙ ap (λ rs. map (report_bytes p) rs) (c.as_slice.ensures.value ∙ c.in-Ok.ensures.reports ∙ ap (λ o. reports_of b.book o) found)) e.reported e.owed;
+          (c.as_slice-2.ensures ∙ c.in-Ok-written.ensures.bytes ∙ ap (λ rs. map (report_bytes p) rs) (c.as_slice.ensures.value ∙ c.in-Ok.ensures.reports ∙ ap (λ o. reports_of b.book o) found)) e.reported e.owed;
     }
