@@ -35,12 +35,7 @@ impl<J: Journal> BookDesk<J> {
     ghost use Rattle.order_book_gate.specs.Desk.{part_of, plan_of, HasPass, IsAble, SameBut, StandsBehind, Took};
 
     /// Takes a message as an order, and sends the book's reports on it.
-    fn answer<R: Wait>(
-        &mut self,
-        payload: &[u8],
-        gate: &Gate<J>,
-        rt: &R,
-    ) -> Result<(), SubmitFault>
+    fn answer<R: Wait>(&mut self, payload: &[u8], gate: &Gate<J>, rt: &R) -> Result<(), SubmitFault>
         requires able { IsAble (lock_of gate.now) (senders_of gate.now) self.old }
         ensures took { Took (lock_of gate.now) (senders_of gate.now) (payload.now ∷ []) self.old self.new result }
     {
