@@ -98,7 +98,8 @@ impl<J: Journal> BookDesk<J> {
         ensures own { HasPass (lock_of gate.now) self.new }
         ensures same { plan_of self.new ≡ plan_of self.old }
         ensures stands { (l : List (List ℕ)) → StandsBehind self.old l → StandsOn result (StandsBehind self.new (l ++ payloads.now)) }
-        ensures answered { (l : List (List ℕ)) → StandsBehind self.old l → Answered (λ n. plan_of self.old n (l ++ payloads.now)) 1 (part_of self.old) (part_of self.new) finished result }
+        ensures answered { (l : List (List ℕ)) → StandsBehind self.old l
+            → Answered (λ n. plan_of self.old n (l ++ payloads.now)) 1 (part_of self.old) (part_of self.new) finished result }
         ensures refused { (f : SubmitFault) → result ≡ Err f → f ≢ submit.Memory → ShownByOne 1 (part_of self.old) (part_of self.new) f }
     {
         if self.met || !self.counted {
