@@ -1,9 +1,8 @@
-//! Cases of disks, streams, links and clocks in memory, of files, of journals, and of both boxes over them. A word on the command line
-//! names one section. What the program has to print stands in `stdout`, worked out by hand.
+//! Cases of disks, streams, links and clocks in memory, and of files. A word on the command line names one section. What the program has
+//! to print stands in `stdout`, worked out by hand.
 #![tactic(auto)]
 
 mod devices;
-mod journals;
 mod links;
 
 use cases_words::{asked, begins};
@@ -16,12 +15,6 @@ fn main(rt: HostRuntime) -> io::Result<()> {
     }
     if begins(&rt, &asked, "links")? {
         links::print(&rt)?;
-    }
-    if begins(&rt, &asked, "journals")? {
-        journals::print(&rt, "journals.txt")?;
-    }
-    if begins(&rt, &asked, "boxes")? {
-        journals::print(&rt, "boxes.txt")?;
     }
     Ok(())
 }

@@ -1,9 +1,10 @@
 //! Disks in memory, and the steps that are taken on one which no journal holds.
 
+use crate::damage::{changed, cut};
 use crate::moving::{add_moved, holding};
 use cases_words::{digits, halves, number};
 use gw_fakes::{MemDisk, Pick};
-use jr_dated::Limits;
+use jr_dated::{Format, Limits};
 use jr_segments::{SegJournal, format};
 use std::alloc::{AllocError, Global};
 
@@ -80,7 +81,15 @@ fn stopped(disk: MemDisk, word: &str) -> MemDisk {
     })
 }
 
-/// Formats a disk, also as a journal without moments, moves a journal to it, or tells its content.
+/// The format in a word: `plain`, that without moments; that with moments otherwise.
+fn format_of(word: &str) -> Format {
+    match word {
+        "plain" => Format::One,
+        _ => Format::Two,
+    }
+}
+
+/// Formats a disk, moves a journal to it, tells its content, or tries all its damages.
 fn add_told(
     alloc: Global,
     disk: &mut MemDisk,
@@ -98,10 +107,8 @@ fn add_told(
             let content = digits(alloc, disk.content())?;
             write!(told, " -> {content}")
         }
-        "plain" => {
-            let answer = jr_log::format(disk);
-            write!(told, " -> {answer:?}")
-        }
+        "cuts" => cut(alloc, format_of(others), disk.content(), told),
+        "changes" => changed(alloc, format_of(others), disk.content(), told),
         _ => told.push_str(" -> no step"),
     }
 }

@@ -1,16 +1,20 @@
-//! Cases of journals with moments: reads `journals.txt`, plays each line on a disk in memory of its own, and prints its steps with
-//! what each gave; and plays sequences of drawn calls and stops, and compares each with a plain list. What it has to print stands in
-//! `stdout`, worked out by hand from the format.
+//! Cases of journals with moments, of both boxes over them, and of damaged journals of either format: reads a file of cases, plays each
+//! line on a disk in memory of its own, and prints its steps with what each gave; and plays sequences of drawn calls and stops, and
+//! compares each with a plain list; and a measurement, `bench`. What it has to print stands in `stdout`, worked out by hand from the format.
 #![tactic(auto)]
 
+mod bench;
 mod chance;
+mod damage;
 mod disks;
 mod drawn;
 mod ending;
+mod inboxes;
 mod met;
 mod moving;
 mod noted;
 mod opened;
+mod outboxes;
 mod plain;
 mod records;
 mod sequence;
@@ -67,9 +71,9 @@ fn add_line(
     }
 }
 
-/// Prints what the cases show.
-fn print<R: Files + Print + AllocGlobal>(rt: &R) -> io::Result<()> {
-    let text = fs::read_to_string(rt, "journals.txt")?;
+/// Prints what the cases of this file show.
+fn print<R: Files + Print + AllocGlobal>(rt: &R, file: &str) -> io::Result<()> {
+    let text = fs::read_to_string(rt, file)?;
     let mut disk = MemDisk::without_faults(rt.alloc(), 0)?;
     for line in text.lines() {
         let mut told = String::new(rt.alloc());
@@ -82,13 +86,19 @@ fn print<R: Files + Print + AllocGlobal>(rt: &R) -> io::Result<()> {
 fn main(rt: HostRuntime) -> io::Result<()> {
     let asked = asked(&rt)?;
     if begins(&rt, &asked, "journals")? {
-        print(&rt)?;
+        print(&rt, "journals.txt")?;
+    }
+    if begins(&rt, &asked, "boxes")? {
+        print(&rt, "boxes.txt")?;
     }
     if begins(&rt, &asked, "sequences")? {
         let seeds = fs::read_to_string(&rt, "sequences.txt")?;
         for words in seeds.lines() {
             rt.println(shown(rt.alloc(), words)?)?;
         }
+    }
+    if begins(&rt, &asked, "bench")? {
+        bench::print(&rt)?;
     }
     Ok(())
 }

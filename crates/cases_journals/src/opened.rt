@@ -1,7 +1,10 @@
-//! A step of a case, and the journals that steps open.
+//! A step of a case, and the journals that steps open, by themselves or as those of a box.
+
+ghost use Rattle.std.specs.Prelude.{◌≡◌, false};
 
 use crate::disks::on_disk;
 use crate::records::{applies, record_of};
+use crate::{inboxes, outboxes};
 use cases_words::{halves, number};
 use gw_fakes::MemDisk;
 use jr_dated::{Journal, Limits};
@@ -98,7 +101,29 @@ fn play<J: Journal>(
     Ok(())
 }
 
-/// Takes a step: opens a journal on the disk, makes its calls and closes it, or does what it says with the disk.
+/// The calls of what stands on a journal that is opened.
+fn on_journal<J: Journal + Drop>(
+    alloc: Global,
+    journal: J,
+    limits: Limits,
+    words: &str,
+    told: &mut String,
+) -> Result<J, AllocError>
+    requires sound { J.is_broken journal ≡ false }
+    requires limited { J.limits journal ≡ limits }
+{
+    match halves(words) {
+        ("outbox", calls) => outboxes::play(alloc, journal, limits, calls, told),
+        ("inbox", calls) => inboxes::play(alloc, journal, limits, calls, told),
+        (_, calls) => {
+            let mut journal = journal;
+            play(alloc, &mut journal, calls, told)?;
+            Ok(journal)
+        }
+    }
+}
+
+/// Takes a step: opens what it names on the disk, makes its calls and closes it, or does what it says with the disk.
 pub fn step(
     alloc: Global,
     disk: MemDisk,
@@ -106,16 +131,13 @@ pub fn step(
     words: &str,
     told: &mut String,
 ) -> Result<MemDisk, AllocError> {
-    let (kind, calls) = halves(words);
-    if kind != "journal" {
+    let (kind, _) = halves(words);
+    if !matches!(kind, "journal" | "outbox" | "inbox") {
         return on_disk(alloc, disk, words, told);
     }
     write!(told, " {kind}")?;
     match SegJournal::open(alloc, disk, limits) {
-        Ok(mut journal) => {
-            play(alloc, &mut journal, calls, told)?;
-            Ok(journal.close())
-        }
+        Ok(journal) => Ok(on_journal(alloc, journal, limits, words, told)?.close()),
         Err((disk, fault)) => {
             write!(told, " -> Err({fault:?})")?;
             Ok(disk)

@@ -1,8 +1,6 @@
 //! A run over the files that its words name.
 
 use crate::again::place_of_frame;
-use crate::lines::{push_disk, push_full, push_input, push_journal, push_sink, push_source};
-use crate::missing::{push_made, push_other};
 use crate::report::Report;
 use cmd_config::Purpose;
 use cmd_run::{Bad, Command, JournalCause, Outside, Status, Which, command_of, run};
@@ -12,6 +10,9 @@ use gw_real::{
 };
 use say_config::{Wanted, push_config_fault};
 use say_faults::{push_decode_fault, push_encode_fault, push_text_fault};
+use say_session::{
+    push_disk, push_full, push_input, push_journal, push_made, push_other, push_sink, push_source,
+};
 use sbe_layout::Plan;
 use schema_load::load;
 use schema_toml::{ConfigFault, TEXT_LIMIT};

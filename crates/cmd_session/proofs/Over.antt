@@ -11,6 +11,7 @@ use Rattle.gw_outside.specs.Faults.{HasRisen}
 use Rattle.session_model.specs.Journal.{Entry, History, OutboxRecord, entries, InOrder}
 use Rattle.session_model.specs.Inbox.{InboxRecord}
 use Rattle.session_model.specs.Lives.{KeepsConnections, KeepsOutbox}
+use Rattle.session_model.proofs.Lists.{prefix_self}
 use Rattle.fixp_shake.specs.declared.config.EndConfig.{EndConfig}
 use Rattle.fixp_machine.specs.Machine.{State, fresh}
 use Rattle.fixp_machine.specs.Accepting.{model_flow}
@@ -33,7 +34,7 @@ use Rattle.jr_kept.specs.Inbox as inboxes
 use Rattle.jr_boxes.proofs.Kept.{length-places}
 use Rattle.gate_turn.specs.Views.{Limits}
 use Rattle.conn_steps.specs.Settling.{IsPast, HaveRoom}
-use Rattle.conn_serve.specs.declared.answer.ServeFault.{ServeFault}
+use Rattle.conn_door.specs.declared.answer.ServeFault.{ServeFault}
 use Rattle.conn_serve.specs.Connections.{all_of, adds_of, refused_of_all, wanted_of_all}
 use Rattle.conn_serve.specs.Moments.{life_at, beside}
 use Rattle.conn_serve.specs.Opening.{opened_state}
@@ -41,8 +42,8 @@ use Rattle.life_laws.specs.Lives.{LifeOfLoop, served_of}
 use Rattle.life_laws.proofs.Loops.{served_keeps}
 use Rattle.life_laws.proofs.Opened.{opened_opens}
 use Rattle.life_laws.proofs.Seen.{order_prop}
-use Rattle.life_laws.specs.Plans.{plan_in, GoesOnWith}
-use Rattle.life_laws.proofs.Lost.{plans_go_on, lost_few}
+use Rattle.life_laws.specs.Plans.{plan_in, GoesOnBy, GoesOnWith}
+use Rattle.life_laws.proofs.Lost.{plans_go_on}
 use Rattle.life_laws.specs.PlanLives.{clocked, LivedBoxes, WasFull, FillsInbox}
 use Rattle.plan_outbox.specs.Behind.{GoesOnFrom}
 use Rattle.life_laws.proofs.Outboxes.{entries-outbox_of, plans_keep_outbox}
@@ -106,16 +107,18 @@ module _ {S K D N C J : Type 0} {H : Ghosts J} (outbox : Outbox J H) (sees : See
     order : InOrder l.closing.made
     order = ∥∥₁_elim l.holds (order_prop l.closing.made) (λ h. h.outbox.in_order)
 
-    -- the closing history goes on with what was lost
+    -- the closing history goes on with each beginning of what was lost, and so with all of it
     goes : GoesOnWith plans l.opening l.closing l.lost
     goes = plans_go_on plans l.opening l.closing l.lost l.plans_kept l.loses
+
+    goes_whole : GoesOnBy plans l.opening l.closing l.lost
+    goes_whole = goes l.lost (prefix_self l.lost)
 
     outbox_is_kept : (t : H.tells) → KeepsOutbox (plan_in plans) (life_in (machine_life (life t).life))
     outbox_is_kept t =
         let k = life t in
-        plans_keep_outbox plans l.opening l.closing goes.whole (life_in (machine_life k.life)) l.plans_kept order goes.keeps (goes.in_order order) k.outboxes.0 k.outboxes.1
-        (ap (λ (rs : List OutboxRecord). rs ++ k.life.refused_outbox) k.outboxes.1 ∙ (ap (λ (rs : List OutboxRecord). outbox_of l.closing ++ rs) k.outboxes.2 ∙ goes.goes_on))
-        (subst (λ (rs : List OutboxRecord). length rs ≤ 1) (sym k.outboxes.2) (lost_few plans l.opening l.closing l.lost l.loses))
+        plans_keep_outbox plans l.opening l.closing (life_in (machine_life k.life)) l.plans_kept order
+        (subst (λ (rs : List OutboxRecord). GoesOnWith plans l.opening l.closing rs) (sym k.outboxes.2) goes) k.outboxes.0 k.outboxes.1
         (_, sym k.keeps.inbox_adds)
 
     -- what is left of both journals
@@ -181,10 +184,10 @@ module _ {S K D N C J : Type 0} {H : Ghosts J} (outbox : Outbox J H) (sees : See
       grows = l.plans_kept.begins;
       lost = l.lost;
       loses = l.loses;
-      whole = goes.whole;
-      goes_on = goes.goes_on;
-      in_order = goes.in_order order;
-      keeps = goes.keeps;
+      whole = goes_whole.whole;
+      goes_on = goes_whole.goes_on;
+      in_order = goes_whole.in_order order;
+      keeps = goes_whole.keeps;
       life = life;
       contract = λ t. record { connections = connections t; outbox = outbox_is_kept t };
       out_left = out_left;

@@ -20,11 +20,11 @@ use Rattle.gate_plans.specs.Runs.{IsReady}
 use Rattle.gate_plans.specs.Seats.{Seated}
 use Rattle.gate_plans.specs.declared.sender.Sender.{Sender}
 use Rattle.gate_plans.proofs.Seating.{seated_still}
-use Rattle.conn_serve.specs.declared.answer.ServeFault.{ServeFault}
-use Rattle.conn_serve.specs.declared.answer.ServeFault.TheVariants as faults
-use Rattle.conn_serve.specs.declared.answer.LifeEnd.{LifeEnd}
-use Rattle.conn_serve.specs.Answers.{answer_of}
-use Rattle.conn_serve.specs.Senders.{refusal_of, IsRefusal, FinishedFirst, SubmittedAll}
+use Rattle.conn_door.specs.declared.answer.ServeFault.{ServeFault}
+use Rattle.conn_door.specs.declared.answer.ServeFault.TheVariants as faults
+use Rattle.conn_door.specs.declared.answer.LifeEnd.{LifeEnd}
+use Rattle.conn_door.specs.Answers.{answer_of}
+use Rattle.conn_door.specs.Senders.{refusal_of, IsRefusal, FinishedFirst, SubmittedAll}
 use Rattle.conn_serve.specs.Causes.{TellsAll}
 use Rattle.conn_serve.specs.Connections.{Connection, ByClock, all_of}
 use Rattle.conn_serve.specs.Lines.{lines_from}

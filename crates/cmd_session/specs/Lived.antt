@@ -27,14 +27,14 @@ use Rattle.jr_boxes.specs.declared.faults.JournalCause.TheVariants as causes
 use Rattle.cmd_base.specs.declared.status.Status.TheVariants.{Done, OutputFault, JournalFault, JournalBad, DialFault, Unfinished, Rejected, Full, Turns, Memory}
 use Rattle.gate_turn.specs.Views.{Limits}
 use Rattle.conn_steps.specs.Settling.{IsPast, HaveRoom}
-use Rattle.conn_serve.specs.declared.answer.ServeFault.{ServeFault}
-use Rattle.conn_serve.specs.declared.answer.ServeFault.TheVariants as faults
-use Rattle.conn_serve.specs.declared.answer.LifeEnd.{LifeEnd}
-use Rattle.conn_serve.specs.Answers.{answer_of}
+use Rattle.conn_door.specs.declared.answer.ServeFault.{ServeFault}
+use Rattle.conn_door.specs.declared.answer.ServeFault.TheVariants as faults
+use Rattle.conn_door.specs.declared.answer.LifeEnd.{LifeEnd}
+use Rattle.conn_door.specs.Answers.{answer_of, IsUnrefused}
 use Rattle.conn_serve.specs.Connections.{all_of, adds_of, refused_of_all, wanted_of_all}
 use Rattle.conn_serve.specs.Moments.{life_at, beside}
 use Rattle.conn_serve.specs.Served.{ServedOver}
-use Rattle.conn_serve.specs.Opening.{opened_state, IsUnrefused}
+use Rattle.conn_serve.specs.Opening.{opened_state}
 use Rattle.life_laws.specs.Lives.{LifeOfLoop}
 use Rattle.life_laws.specs.Plans.{plan_in, KeepsPlans, LosesNext}
 use Rattle.life_laws.specs.PlanLives.{IsOfSender, clocked, LivedBoxes, WasFull}
@@ -128,7 +128,7 @@ module _ {J : Type 0} {G : Ghosts J} where
     -- connections is a machine that is made of both; what it came to see of the outbox begins the closing history, as the opening one does; and
     -- where the disks tell their content it keeps the contract of one end, by these plans. A record of OUTBOX changes only where they do not.
     -- What is left are the records of the closing history and list, and behind them a beginning of those refused by a failed call: in the outbox
-    -- of the one that the plans have next, if its disk failed, with which the closing history is one history in order, which keeps the plans too.
+    -- of what the plans have next, if its disk failed, with all of which the closing history is one history in order, which keeps the plans too.
     -- Every record that the life added to its inbox had room, and so had the one whose append the disk failed. Why it answers so: the
     -- connections and the refusal say it (`IsLifeAnswer`, `answer_of`), and the counts
     pub record LivedOver (sees : Sees S K D N C) (config : EndConfig) (plans : List (List (List ℕ)))

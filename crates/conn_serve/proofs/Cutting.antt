@@ -14,7 +14,7 @@ use Rattle.conn_loop.specs.Ends.{line_in, pass_in, MayTurn}
 use Rattle.conn_loop.proofs.Working.{seen_same}
 use Rattle.conn_steps.specs.Agreeing.{Agrees}
 use Rattle.fixp_replies.specs.declared.facts.EndState.{EndState}
-use Rattle.conn_serve.specs.declared.answer.ServeFault.{ServeFault}
+use Rattle.conn_door.specs.declared.answer.ServeFault.{ServeFault}
 use Rattle.conn_serve.specs.Moments.{ConnectionAt, connection_at}
 use Rattle.conn_serve.specs.Ends.{connection_in}
 use Rattle.conn_serve.specs.Turned.{Turned, GivenUp, MayBegin}

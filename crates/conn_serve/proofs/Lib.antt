@@ -6,4 +6,3 @@ pub mod Living
 pub mod Opening
 pub mod Marking
 pub mod Following
-pub mod Resuming

@@ -32,10 +32,10 @@ use Rattle.conn_steps.proofs.Rooms.{gains_none, gains_on, refuses_on, refuses_no
 use Rattle.conn_loop.specs.Turned.{Leaves}
 use Rattle.turn_laws.specs.Legs.{TurnedLeg, first_line, given_in, sent_in, given_on, sent_on, IsTimelyTurn, IsTimely}
 use Rattle.turn_laws.specs.Made.{TurnAt}
-use Rattle.conn_serve.specs.declared.answer.ServeFault.{ServeFault}
-use Rattle.conn_serve.specs.declared.answer.ServeFault.TheVariants as faults
-use Rattle.conn_serve.specs.declared.answer.LifeEnd.{LifeEnd}
-use Rattle.conn_serve.specs.declared.answer.LifeEnd.TheVariants as ends
+use Rattle.conn_door.specs.declared.answer.ServeFault.{ServeFault}
+use Rattle.conn_door.specs.declared.answer.ServeFault.TheVariants as faults
+use Rattle.conn_door.specs.declared.answer.LifeEnd.{LifeEnd}
+use Rattle.conn_door.specs.declared.answer.LifeEnd.TheVariants as ends
 use Rattle.conn_serve.specs.Answers.{end_behind, IsOfConnection}
 use Rattle.conn_serve.specs.Connections.{LinkSeen, IsOver, ByClock, Connection, IsFaithfulLeg, turned, HasEnded, AllEnded, ClosesAs, Follows, IsFollowed, AreFollowed, adds_of}
 use Rattle.conn_serve.specs.Lines.{news_lines, close_line, lines_from}

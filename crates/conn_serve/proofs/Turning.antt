@@ -34,8 +34,8 @@ use Rattle.turn_laws.specs.Turns.{line_received, IsTurn, adds_in, tells_in}
 use Rattle.turn_laws.specs.Legs.{given_in, sent_in, IsTimelyTurn}
 use Rattle.turn_laws.specs.Made.{TurnAt, MadeTurn}
 use Rattle.turn_laws.specs.Turned.{WasTurn, WasCut}
-use Rattle.conn_serve.specs.declared.answer.ServeFault.{ServeFault}
-use Rattle.conn_serve.specs.declared.answer.ServeFault.TheVariants as faults
+use Rattle.conn_door.specs.declared.answer.ServeFault.{ServeFault}
+use Rattle.conn_door.specs.declared.answer.ServeFault.TheVariants as faults
 use Rattle.conn_serve.specs.Lines.{news_line, news_lines, IsShort}
 use Rattle.conn_serve.specs.Connections.{WereTurns, MadeNoMore, CutAt}
 use Rattle.conn_serve.specs.Causes.{lacks, lacks_at, Tells}

@@ -8,8 +8,8 @@ use Rattle.jr_kept.specs.Inbox.{faults_of, is_broken, size_of, count_of}
 use Rattle.gate_turn.specs.Views.{HasFailed, Part}
 use Rattle.conn_lines.specs.declared.close.Close.{Close}
 use Rattle.conn_turns.specs.declared.news.NewsItem.{NewsItem}
-use Rattle.conn_serve.specs.declared.answer.ServeFault.{ServeFault}
-use Rattle.conn_serve.specs.declared.answer.ServeFault.TheVariants as faults
+use Rattle.conn_door.specs.declared.answer.ServeFault.{ServeFault}
+use Rattle.conn_door.specs.declared.answer.ServeFault.TheVariants as faults
 use Rattle.conn_serve.specs.Lines.{news_lines, close_line}
 use Rattle.conn_serve.specs.Moments.{FaultsAt}
 

@@ -6,6 +6,5 @@ pub mod Lines
 pub mod Causes
 pub mod Turned
 pub mod Served
-pub mod Senders
 pub mod Opening
 pub mod Laws

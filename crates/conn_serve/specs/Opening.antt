@@ -1,5 +1,5 @@
 -- A whole life: where it opens, and what it did (this project's profile).
-use Rattle.std.specs.Prelude.{⊤, ℕ, All, List, ◌≡◌, ◌⊎◌, if◌then◌else◌, length, Option, Some, None, Result, Ok, Err, IfErr, IsTrue}
+use Rattle.std.specs.Prelude.{ℕ, ◌≡◌, ◌⊎◌, if◌then◌else◌, length, Option, Some, None, Result, Err, IfErr}
 use Rattle.session_model.specs.Journal.{History}
 use Rattle.fixp_replies.specs.declared.facts.EndState.{EndState}
 use Rattle.fixp_machine.specs.Machine.{State}
@@ -7,22 +7,15 @@ use Rattle.jr_dated.specs.declared.journal.Journal.{Ghosts}
 use Rattle.jr_kept.specs.declared.inbox.Inbox.{Inbox}
 use Rattle.jr_kept.specs.Inbox.{next_of, is_negotiated, peer_last_of}
 use Rattle.gate_senders.specs.declared.gate.Gate.{Gate}
-use Rattle.conn_serve.specs.declared.answer.ServeFault.{ServeFault}
-use Rattle.conn_serve.specs.declared.answer.ServeFault.TheVariants as faults
-use Rattle.conn_serve.specs.declared.answer.LifeEnd.{LifeEnd}
-use Rattle.conn_serve.specs.Answers.{answer_of, yields}
+use Rattle.conn_door.specs.declared.answer.ServeFault.{ServeFault}
+use Rattle.conn_door.specs.declared.answer.ServeFault.TheVariants as faults
+use Rattle.conn_door.specs.declared.answer.LifeEnd.{LifeEnd}
+use Rattle.conn_door.specs.Answers.{answer_of}
 use Rattle.gw_links.specs.declared.link.Link.{Ghosts as LinkGhosts}
 use Rattle.conn_serve.specs.Causes.{IsBlamed}
 use Rattle.conn_serve.specs.Moments.{ServingAt, life_in, faults_in}
 use Rattle.conn_serve.specs.Served.{ServedLife, ServedOver}
-use Rattle.conn_serve.specs.Senders.{SubmittedAll}
-use Rattle.gate_plans.specs.Runs.{IsAdmitted}
-use Rattle.gate_plans.specs.declared.sender.Sender.{Sender}
-
--- no refusal of a sender or of the Finish is answered, and nothing failed
-abbrev pub IsUnrefused : Result (Unit {0}) ServeFault → Type 0
-IsUnrefused (Ok done) = ⊤
-IsUnrefused (Err fault) = IsTrue (yields fault)
+use Rattle.conn_door.specs.Senders.{SubmittedAll}
 
 module _ {J : Type 0} {G : Ghosts J} where
   -- what is recorded as a life opens: what the inbox has, and, of the outbox, the entries that stood there and whether the mark did
@@ -34,16 +27,6 @@ module _ {J : Type 0} {G : Ghosts J} where
     sent = length h.made;
     finish = if h.finished then Some (length h.made) else None;
   }
-
-module _ {O : Type 0} {H : Ghosts O} where
-  -- The senders submitted, and it answers what comes first of them and of connections that ended so. Where no refusal is answered, and nothing
-  -- failed, none was turned away
-  pub record EndedSo (gate : Gate O H) (before after : List (Sender O H)) (connections : Result LifeEnd ServeFault) (result : Result (Unit {0}) ServeFault)
-      : Type 0 where
-    pub refused : Option ServeFault
-    pub submitted : SubmittedAll gate before after refused
-    pub answer : result ≡ answer_of connections refused
-    pub admitted : IsUnrefused result → All IsAdmitted after
 
 module _ {J : Type 0} {G : Ghosts J} {O : Type 0} {H : Ghosts O} where
   -- The connections were served so and the senders submitted, beside each other, and it answers what comes first of both. Where there was

@@ -16,10 +16,10 @@ use Rattle.conn_lines.specs.declared.close.Close.TheVariants as closes
 use Rattle.conn_turns.specs.Lines.{Line}
 use Rattle.conn_steps.specs.Settling.{IsPast, Gains, Refuses}
 use Rattle.turn_laws.specs.Legs.{given_on, sent_on, IsTimely}
-use Rattle.conn_serve.specs.declared.answer.ServeFault.{ServeFault}
-use Rattle.conn_serve.specs.declared.answer.ServeFault.TheVariants as faults
-use Rattle.conn_serve.specs.declared.answer.LifeEnd.{LifeEnd}
-use Rattle.conn_serve.specs.declared.answer.LifeEnd.TheVariants as ends
+use Rattle.conn_door.specs.declared.answer.ServeFault.{ServeFault}
+use Rattle.conn_door.specs.declared.answer.ServeFault.TheVariants as faults
+use Rattle.conn_door.specs.declared.answer.LifeEnd.{LifeEnd}
+use Rattle.conn_door.specs.declared.answer.LifeEnd.TheVariants as ends
 use Rattle.conn_serve.specs.Connections.{LinkSeen, IsOver, ByClock, Connection, turned, all_of, IsFaithfulLeg, IsConnection, HasEnded, AllEnded, Follows, IsFollowed, AreFollowed, adds_of, refused_of_all, wanted_of_all}
 use Rattle.conn_serve.specs.Lines.{news_lines, close_line, lines_from}
 use Rattle.conn_serve.specs.Causes.{lacks, lacks_at, TellsUntil, TellsNews, TellsAll}

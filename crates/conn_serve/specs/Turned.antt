@@ -23,8 +23,8 @@ use Rattle.connection_laws.specs.Ranges.{IsInTime}
 use Rattle.turn_laws.specs.Legs.{given_in, sent_in, first_line, IsTimelyTurn}
 use Rattle.turn_laws.specs.Made.{TurnAt}
 use Rattle.turn_laws.specs.Turned.{WasCut}
-use Rattle.conn_serve.specs.declared.answer.ServeFault.{ServeFault}
-use Rattle.conn_serve.specs.declared.answer.ServeFault.TheVariants as faults
+use Rattle.conn_door.specs.declared.answer.ServeFault.{ServeFault}
+use Rattle.conn_door.specs.declared.answer.ServeFault.TheVariants as faults
 use Rattle.conn_serve.specs.Answers.{close_of}
 use Rattle.conn_serve.specs.Connections.{WereTurns, CutAt}
 use Rattle.conn_serve.specs.Lines.{news_lines}

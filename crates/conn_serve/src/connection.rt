@@ -14,7 +14,7 @@ ghost use Rattle.conn_loop.specs.Conn.{line_of, Looks};
 ghost use Rattle.conn_loop.specs.Ends.{line_in, pass_in, in_turn, MayTurn, Stays};
 ghost use Rattle.conn_loop.specs.Turned.{Leaves};
 ghost use Rattle.turn_laws.specs.Turned.{WasTurn};
-ghost use Rattle.conn_serve.specs.Answers.{IsOfTurn, IsOfConnection};
+ghost use Rattle.conn_serve.specs.Answers.{close_of, IsOfTurn, IsOfConnection};
 ghost use Rattle.conn_serve.specs.Connections.{ClosesAs};
 ghost use Rattle.conn_serve.specs.Lines.{IsShort};
 ghost use Rattle.conn_serve.specs.Causes.{IsBlamed};
@@ -22,12 +22,11 @@ ghost use Rattle.conn_serve.specs.Turned.{CutOff, Turned, GivenUp, TurnedOn, Giv
 ghost use Rattle.conn_serve.specs.Ends.{connection_in, faults_in_end};
 ghost use Rattle.conn_serve.specs.Moments.{connection_at, faults_at};
 
-use crate::answer::{ServeFault, close_of};
 use crate::news::Teller;
-use crate::signals::Signals;
+use conn_door::{ServeFault, Signals};
 use conn_lines::Close;
 use conn_loop::{Conn, LiveEnd};
-use conn_turns::News;
+use conn_turns::{News, TurnEnd, TurnFault};
 use gate_senders::{Gate, Kept};
 use gate_turn::Pass;
 use gw_links::{Clock, Link};
@@ -39,6 +38,21 @@ use std::sync::atomic::Ordering;
 
 /// The most turns of a connection.
 const TURNS: u64 = 1 << 40;
+
+/// How the connection came to its end, where it did: `None` where it goes on after the turn that answered so.
+fn close_of(answer: Result<TurnEnd, TurnFault>) -> Result<Option<Close>, ServeFault>
+    ensures { result ≡ close_of answer }
+{
+    match answer {
+        Ok(TurnEnd::Go) => Ok(None),
+        Ok(TurnEnd::Ended(ending)) => Ok(Some(Close::Ended(ending))),
+        Err(TurnFault::Link) => Ok(Some(Close::LinkFault)),
+        Err(TurnFault::Inbox | TurnFault::Outbox | TurnFault::Broken) => Err(ServeFault::Journal),
+        Err(TurnFault::Changed { at }) => Err(ServeFault::Changed { at }),
+        Err(TurnFault::Full { entries, bytes }) => Err(ServeFault::Full { entries, bytes }),
+        Err(TurnFault::Memory) => Err(ServeFault::Memory),
+    }
+}
 
 /// One turn. Answers how the connection came to its end, where it did.
 fn make_turn<L: Link, O: Journal, I: Journal, C: Clock, R: Wait>(
@@ -124,7 +138,7 @@ fn one_connection<L: Link, K: Sink, O: Journal, I: Journal, C: Clock, R: Wait>(
 {
     end.begin();
     for _ in 0..TURNS {
-        if signals.stop.load(Ordering::SeqCst) {
+        if signals.stop().load(Ordering::SeqCst) {
             let _ = end.cut();
             return Ok(None);
         }

@@ -1,19 +1,15 @@
 //! One end serves the connections of a life, one after another, with its senders beside them: each turn's news and each
 //! connection's end stand on OUT as soon as they are known, and each link goes back to its dialer. Relies on `conn_loop` for a
-//! turn, on `conn_lines` for the lines, on `gate_plans` for the senders, and on std's threads.
+//! turn, on `conn_lines` for the lines, on `conn_door` for the senders and what is told between both, and on std's threads.
 #![tactic(auto)]
 
-mod answer;
 mod connection;
 mod laws;
 mod life;
 mod news;
-mod senders;
 mod serving;
-mod signals;
 
-pub use answer::{LifeEnd, ServeFault};
+pub use conn_door::{LifeEnd, ServeFault, Signals};
 pub use laws::were_are_turns;
 pub use life::serve_connections;
 pub use serving::serve;
-pub use signals::Signals;

@@ -10,16 +10,15 @@ ghost use Rattle.gate_senders.specs.Gate.{IsPassAt};
 ghost use Rattle.conn_steps.specs.Settling.{SameKind};
 ghost use Rattle.conn_loop.specs.Conn.{line_of, Looks};
 ghost use Rattle.conn_serve.specs.Answers.{end_behind};
-ghost use Rattle.conn_serve.specs.declared.answer.ServeFault.TheVariants as faults;
+ghost use Rattle.conn_door.specs.declared.answer.ServeFault.TheVariants as faults;
 ghost use Rattle.conn_serve.specs.Causes.{IsBlamed};
 ghost use Rattle.conn_serve.specs.Turned.{MayBegin};
 ghost use Rattle.conn_serve.specs.Served.{IsOverBy, IsRound, ServedOver, IsNext};
 ghost use Rattle.conn_serve.specs.Moments.{life_at, faults_at};
 
-use crate::answer::{LifeEnd, ServeFault};
 use crate::connection::lent_connection;
 use crate::news::Teller;
-use crate::signals::Signals;
+use conn_door::{LifeEnd, ServeFault, Signals};
 use conn_lines::Close;
 use conn_loop::Conn;
 use fixp_replies::Ending;
@@ -47,7 +46,7 @@ fn next_link<N: Dialer>(
     ensures dial { result ≡ Err faults.Dial → HasRisen (N.faults dialer.old) (N.faults dialer.new) }
     ensures never_falls { N.faults dialer.old ≤ N.faults dialer.new }
 {
-    match dialer.next(&signals.stop) {
+    match dialer.next(signals.stop()) {
         Ok(Next::Link(link)) => Ok(Some(link)),
         Ok(Next::NoneLeft) => Err(ServeFault::Unfinished {
             phase: conn.end().phase(),
@@ -163,7 +162,7 @@ pub fn serve_connections<N: Dialer, K: Sink, O: Journal, I: Journal, C: Clock, R
 {
     let mut teller = Teller::new(alloc);
     for number in 1..u64::MAX {
-        if signals.stop.load(Ordering::SeqCst) {
+        if signals.stop().load(Ordering::SeqCst) {
             return Ok(LifeEnd::Stopped);
         }
         let answer = serve_next(

@@ -6,9 +6,9 @@ ghost use Rattle.gw_outside.specs.Faults.{HasRisen, TakesFront};
 ghost use Rattle.conn_turns.specs.News.{items_of};
 ghost use Rattle.conn_lines.specs.Lines.{connection_line};
 ghost use Rattle.conn_serve.specs.Lines.{news_line, news_lines, IsShort};
-ghost use Rattle.conn_serve.specs.declared.answer.ServeFault.TheVariants as faults;
+ghost use Rattle.conn_door.specs.declared.answer.ServeFault.TheVariants as faults;
 
-use crate::answer::ServeFault;
+use conn_door::ServeFault;
 use conn_lines::{Close, push_connection_line, push_deliver_line, push_not_applied_line};
 use conn_turns::{News, NewsItem};
 use gw_outside::{Sink, push_all};

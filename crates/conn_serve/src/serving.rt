@@ -1,6 +1,6 @@
 //! A whole life: the connections, and the senders beside them.
 
-ghost use Rattle.std.specs.Prelude.{◌≡◌, ℕ, ◌≤◌, ◌<◌, ◌^◌, ◌+◌, false, All, List, IfOk, IfErr, if◌then◌else◌, Some, None, length};
+ghost use Rattle.std.specs.Prelude.{◌≡◌, ℕ, ◌≤◌, ◌<◌, ◌^◌, ◌+◌, false, All, IfOk, if◌then◌else◌, Some, None, length};
 ghost use Rattle.session_model.specs.Journal.{BeginsHistory};
 ghost use Rattle.fixp_msgs.specs.declared.flow.Flow.TheVariants.{Recoverable};
 ghost use Rattle.fixp_machine.specs.Machine.{fresh};
@@ -9,20 +9,17 @@ ghost use Rattle.gate_turn.specs.Places.{known};
 ghost use Rattle.gate_turn.specs.Calls.{IsFree};
 ghost use Rattle.gate_senders.specs.Gate.{IsPassAt, opening_of};
 ghost use Rattle.gate_plans.specs.Runs.{IsReady, IsAdmitted};
-ghost use Rattle.conn_serve.specs.Answers.{answer_of};
+ghost use Rattle.conn_door.specs.Answers.{IsUnrefused};
 ghost use Rattle.gate_plans.specs.Seats.{Seated};
 ghost use Rattle.conn_steps.specs.Settling.{SameKind};
 ghost use Rattle.conn_loop.specs.Conn.{line_of, new_line, Looks};
 ghost use Rattle.conn_serve.specs.Turned.{MayBegin};
-ghost use Rattle.gate_plans.specs.declared.sender.Sender.{Sender};
-ghost use Rattle.conn_serve.specs.Senders.{SubmittedAll, SomeMarked};
-ghost use Rattle.conn_serve.specs.Opening.{opened_state, EndedSo, ServedBy, ServedThrough, IsUnrefused};
+ghost use Rattle.conn_door.specs.Senders.{SomeMarked};
+ghost use Rattle.conn_serve.specs.Opening.{opened_state, ServedBy, ServedThrough};
 ghost use Rattle.conn_serve.specs.Moments.{serving_at};
 
-use crate::answer::{LifeEnd, ServeFault, answer_of, is_unrefused, late_answer};
 use crate::life::serve_then_shut;
-use crate::senders::{submit_all, submit_turned};
-use crate::signals::Signals;
+use conn_door::{LifeEnd, ServeFault, Signals, answer_of, submit_all, submit_behind};
 use conn_loop::Conn;
 use fixp_end::{End, EndConfig, EndState};
 use gate_plans::Sender;
@@ -119,26 +116,6 @@ fn serve_beside<
         },
     );
     answer_of(connections, refused)
-}
-
-/// What a life answers that answered so for its connections and the senders beside them. Where no refusal is answered, and nothing failed, the
-/// senders that were turned away go on first.
-fn submit_behind<O: Journal + Send, R: Threads + Wait + Sync>(
-    gate: &Gate<O>,
-    senders: &mut [Sender<O>],
-    answer: Result<(), ServeFault>,
-    rt: &R,
-) -> Result<(), ServeFault>
-    requires ready { All (λ s. IsReady gate.now s) senders.old }
-    ensures ready { All (λ s. IsReady gate.now s) senders.new }
-    ensures kept { (IsUnrefused answer → ⊥) → (senders.new ≡ senders.old) × (result ≡ answer) }
-    ensures behind { (before : List (Sender _ _)) (connections : _) (refused : _) → SubmittedAll gate.now before senders.old refused → answer ≡ answer_of connections refused → EndedSo gate.now before senders.new connections result }
-{
-    if !is_unrefused(answer) {
-        return answer;
-    }
-    let late = submit_turned(gate, senders, None, rt);
-    late_answer(answer, late)
 }
 
 /// Serves one life: the connections of the dialer, one after another, and beside them the senders, each of which submits its plan;

@@ -94,7 +94,7 @@ fn answer(around: &Around<'_>, facts: &mut Facts, incoming: &Incoming<'_>) -> Re
 }
 
 /// The reply to an incoming message, of which the facts become those from then on. An end that has written its Terminate looks
-/// at nothing but the peer's. The moment is below 2^44 milliseconds, the greatest number at most 2^24, and fewer than 2^40
+/// at nothing but the peer's. The moment is below 2^44 milliseconds, the greatest number at most 2^26, and fewer than 2^40
 /// entries were sent.
 pub fn reply_to(around: &Around<'_>, facts: &mut Facts, incoming: &Incoming<'_>) -> Reply
     requires moment { around.now.moment < 2 ^ 44 }

@@ -1,11 +1,11 @@
 //! A rehearsal over the files that its words name.
 
 use crate::sessions::out_of;
-use cmd_files::push_unwritten;
 use cmd_rehearse::{Outcome, RehearseDevices, run_rehearsal};
 use gw_outside::{Sink, Source};
 use gw_real::{FileSink, FileSource, Named, STANDARD_OUTPUT};
 use say_config::{Wanted, push_config_fault};
+use say_session::push_unwritten;
 use schema_toml::TEXT_LIMIT;
 use session_files::push_place;
 use std::alloc::{AllocError, Global};

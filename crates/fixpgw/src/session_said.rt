@@ -1,13 +1,13 @@
 //! What is wrong with a session, in a line.
 
-use cmd_files::{
-    SaysWhy, push_bad, push_config, push_failed, push_plans, push_reject, push_undialed,
-    push_unfinished, push_unread, push_unwritten,
-};
 use cmd_run::Status;
 use gw_outside::Disk;
 use gw_real::{FileSink, FileSource};
 use say_live::Teller;
+use say_session::{
+    SaysWhy, push_bad, push_config, push_failed, push_plans, push_reject, push_undialed,
+    push_unfinished, push_unread, push_unwritten,
+};
 use session_files::{Session, push_place};
 use std::alloc::{AllocError, Global};
 use std::fs::File;

@@ -4,7 +4,7 @@
 ghost use Rattle.std.specs.Prelude.{◌≡◌, false};
 
 use crate::session_said::{Said, line_of};
-use cmd_files::{Report, SaysWhy};
+use cmd_files::Report;
 use cmd_run::Status;
 use cmd_session::{Role, SessionOutside, run_session};
 use gw_links::{Clock as LinkClock, Dialer};
@@ -13,6 +13,7 @@ use gw_real::{FileSink, FileSource, Named};
 use gw_sockets::{AcceptDialer, ConnectDialer, MachineClock};
 use gw_watch::{Approaches, HasPeer, Pauses, WatchedDialer, WatchedSink, WatchedSource};
 use say_live::Teller;
+use say_session::SaysWhy;
 use schema_toml::TEXT_LIMIT;
 use session_files::Session;
 use std::alloc::Global;

@@ -9,7 +9,7 @@ use crate::named::{Named, same_file};
 use gw_outside::{Disk, Failed};
 use std::fs::{self, File, Files, OpenOptions, TryLockError};
 use std::io::{self, ErrorKind};
-use std::os::unix::fs::FileExt;
+use std::os::unix::fs::{FileExt, FileTypeExt};
 
 /// The greatest length of a disk, in bytes: 2^40.
 const LIMIT: u64 = 1 << 40;
@@ -27,6 +27,8 @@ pub enum DiskReason<'a> {
     TooLong,
     /// The file is neither empty nor of the kind that was to be made: it is left as it is.
     Foreign,
+    /// It is a pipe, which has no places.
+    Pipe,
 }
 
 impl From<io::Error> for DiskReason<'_> {
@@ -96,13 +98,16 @@ fn locked<'a>(file: File) -> Result<File, DiskReason<'a>> {
     }
 }
 
-/// A file that stands there already and is none of the others.
+/// A file that stands there already and is none of the others. A pipe is told before it is opened, since that waits for its other end.
 fn found<'a, R: Files<File = File>>(
     rt: &R,
     name: Named<'a>,
     others: &'a [Named<'a>],
     is_written: bool,
 ) -> Result<File, DiskReason<'a>> {
+    if fs::metadata(rt, name.path)?.file_type().is_fifo() {
+        return Err(DiskReason::Pipe);
+    }
     let file = OpenOptions::new()
         .read(true)
         .write(is_written)

@@ -19,10 +19,10 @@ use Rattle.gw_link_fakes.specs.Pipes.{Held}
 use Rattle.turn_laws.specs.Standing.{Has}
 use Rattle.turn_laws.specs.Legs.{TurnedLeg}
 use Rattle.two_ends.specs.Meeting.{Holds}
-use Rattle.pair_laws.specs.Driving.{IsFirst, Between}
-use Rattle.pair_laws.specs.Pairing.{ReadEachOther, DrivenLife}
-use Rattle.pair_laws.proofs.Going.{leg_ends}
-use Rattle.pair_laws.proofs.Meeting.{driven_hold}
+use Rattle.two_ends.specs.Driving.{IsFirst, Between}
+use Rattle.two_ends.specs.Pairing.{ReadEachOther, DrivenLife}
+use Rattle.two_ends.proofs.Going.{leg_ends}
+use Rattle.two_ends.proofs.Driven.{driven_hold}
 use Rattle.gw_rehearse.specs.declared.end.DrivenEnd.{DrivenEnd}
 use Rattle.gw_rehearse.specs.declared.journals.Journals.{Journals}
 use Rattle.gw_rehearse.specs.declared.standing.Standing.{Standing}

@@ -16,9 +16,9 @@ use Rattle.conn_loop.specs.Live.{live_end}
 use Rattle.turn_laws.specs.Legs.{TurnedLeg, given_in, sent_in}
 use Rattle.turn_laws.specs.Turns.{adds_in}
 use Rattle.turn_laws.specs.Turned.{WasTurn}
-use Rattle.pair_laws.specs.Driving.{IsFirst, begun_leg, with_turn, During}
-use Rattle.pair_laws.proofs.Going.{leg_begins, turn_goes_on, leg_ends, cut_ends}
-use Rattle.pair_laws.proofs.Moving.{turn_carries}
+use Rattle.two_ends.specs.Driving.{IsFirst, begun_leg, with_turn, During}
+use Rattle.two_ends.proofs.Going.{leg_begins, turn_goes_on, leg_ends, cut_ends}
+use Rattle.two_ends.proofs.Moving.{turn_carries}
 use Rattle.gw_rehearse.specs.declared.end.DrivenEnd.{DrivenEnd}
 use Rattle.gw_rehearse.specs.declared.standing.Standing.{Standing}
 use Rattle.gw_rehearse.specs.declared.standing.Standing.TheVariants as standings

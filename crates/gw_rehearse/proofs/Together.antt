@@ -11,9 +11,9 @@ use Rattle.fixp_machine.specs.Machine.{State}
 use Rattle.gw_link_fakes.specs.Pipes.{Held, new_pipe, told_at}
 use Rattle.gw_link_fakes.specs.declared.pipe.Side.TheVariants.{Left, Right}
 use Rattle.turn_laws.specs.Legs.{TurnedLeg}
-use Rattle.pair_laws.specs.Driving.{EndNow, IsFirst, begun_leg, Between, During}
-use Rattle.pair_laws.specs.Pairing.{ReadEachOther, UnderWay}
-use Rattle.pair_laws.proofs.Moving.{bytes_move, turned_round}
+use Rattle.two_ends.specs.Driving.{EndNow, IsFirst, begun_leg, Between, During}
+use Rattle.two_ends.specs.Pairing.{ReadEachOther, UnderWay}
+use Rattle.two_ends.proofs.Moving.{bytes_move, turned_round}
 use Rattle.gw_rehearse.specs.declared.end.DrivenEnd.{DrivenEnd}
 use Rattle.gw_rehearse.specs.declared.standing.Standing.{Standing}
 use Rattle.gw_rehearse.specs.declared.standing.Standing.TheVariants as standings

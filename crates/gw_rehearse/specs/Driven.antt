@@ -14,8 +14,8 @@ use Rattle.connection_laws.specs.Ranges.{IsInRange}
 use Rattle.conn_loop.specs.Conn.{line_of, new_line}
 use Rattle.conn_loop.specs.declared.conn.Conn.{Conn}
 use Rattle.turn_laws.specs.Legs.{TurnedLeg}
-use Rattle.pair_laws.specs.Driving.{EndNow, IsFirst, Between, During}
-use Rattle.pair_laws.specs.Pairing.{Carries}
+use Rattle.two_ends.specs.Driving.{EndNow, IsFirst, Between, During}
+use Rattle.two_ends.specs.Pairing.{Carries}
 use Rattle.gw_rehearse.specs.declared.end.DrivenEnd.{DrivenEnd}
 use Rattle.gw_rehearse.specs.declared.journals.Journals.{Journals}
 use Rattle.gw_rehearse.specs.declared.standing.Standing.TheVariants as standings

@@ -11,7 +11,7 @@ use Rattle.jr_kept.specs.Outbox as outboxes
 use Rattle.gw_link_fakes.specs.Pipes.{Held}
 use Rattle.turn_laws.specs.Legs.{TurnedLeg}
 use Rattle.two_ends.specs.Meeting.{Holds}
-use Rattle.pair_laws.specs.Pairing.{ReadEachOther, UnderWay}
+use Rattle.two_ends.specs.Pairing.{ReadEachOther, UnderWay}
 use Rattle.gw_rehearse.specs.declared.end.DrivenEnd.{DrivenEnd}
 use Rattle.gw_rehearse.specs.declared.journals.Journals.{Journals}
 use Rattle.gw_rehearse.specs.Standing.{is_given}

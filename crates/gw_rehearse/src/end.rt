@@ -8,7 +8,7 @@ ghost use Rattle.gate_turn.specs.Views.{Part};
 ghost use Rattle.gate_senders.specs.Gate.{opening_of};
 ghost use Rattle.conn_loop.specs.Conn.{line_of, new_line};
 ghost use Rattle.turn_laws.specs.Legs.{TurnedLeg};
-ghost use Rattle.pair_laws.specs.Driving.{IsFirst, begun_leg};
+ghost use Rattle.two_ends.specs.Driving.{IsFirst, begun_leg};
 ghost use Rattle.cmd_script.specs.Script.{IsCount};
 ghost use Rattle.gw_rehearse.specs.Standing.{Rests, is_given, is_going, sent_by};
 ghost use Rattle.gw_rehearse.specs.Driven.{ClosedOn, IsDriven, IsMadeOf, IsNew, RunsOver, StandsBehind, TurnsOn};

@@ -1,5 +1,5 @@
+pub mod Answering
 pub mod Counting
-pub mod Held
 pub mod Histories
 pub mod Kept
 pub mod Noting

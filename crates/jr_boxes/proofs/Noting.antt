@@ -1,6 +1,6 @@
 -- What was noted of the records of an inbox, and which record may follow.
-use Rattle.std.proofs.Common.{◌≡◌, ℕ, zero, suc, ◌+◌, ◌-◌, ◌≤◌, ◌<◌, max, false, List, [], ◌∷◌, ◌++◌, map, length, slice_get, slice_index, Some, None, refl, sym, ap, subst, ◌∙◌, arith, append-nil, zero-add}
-use Rattle.session_model.specs.Inbox.{Numbered, Range, InboxRecord, apply, skip, negotiated, peer_finished, next_number, past_greatest, settled, applied, payloads_of}
+use Rattle.std.proofs.Common.{◌≡◌, ℕ, zero, suc, ◌+◌, ◌-◌, ◌≤◌, ◌<◌, max, false, List, [], ◌∷◌, ◌++◌, length, slice_get, slice_index, Some, None, refl, sym, ap, subst, ◌∙◌, arith, append-nil, zero-add}
+use Rattle.session_model.specs.Inbox.{Numbered, Range, InboxRecord, apply, skip, negotiated, peer_finished, next_number, past_greatest, settled, applied}
 use Rattle.session_model.specs.Journal.{counts_from}
 use Rattle.session_model.proofs.Inboxes.{next_number-append}
 use Rattle.session_model.proofs.Lists.{past_greatest-counts_from, past_greatest-pos}
@@ -10,7 +10,6 @@ use Rattle.jr_record.specs.declared.record.Record.TheVariants as kinds
 use Rattle.jr_boxes.specs.declared.notes.Notes.{Notes}
 use Rattle.jr_boxes.specs.Inboxes.{record_of, records_of_inbox, Fits, IsInbox}
 use Rattle.jr_boxes.specs.Notes.{Notices, Noted, MayFollow, HasNoted, IsWithin, places_from}
-use Rattle.jr_boxes.specs.Payloads.{payload_in}
 use Rattle.jr_boxes.proofs.Settling.{inbox_push, inbox_ends, same_records, has_negotiated-push, has_negotiated-other, peer_last_in-push, peer_last_in-other, finished_once, unfinished, places_from-push}
 
 -- the number that is next behind one more record
@@ -173,33 +172,3 @@ placed n (negotiated ∷ i) k within =
 placed n (peer_finished last ∷ i) k within =
     let rest = placed (n + 1) i k within in
     record { message = rest.message; above = omega (arith, rest.above); found = shifted (peer_finished last) i (slice_index (places_from (n + 1) i) k) n (apply rest.message) rest.above rest.found; applied_is = rest.applied_is }
-
--- the message applied whose place is noted, among the records
-pub record MessageAt (i : List InboxRecord) (k : ℕ) (r : Record) : Type 0 where
-  pub payload : List ℕ
-  pub there : slice_get (payloads_of (applied i)) k ≡ Some payload
-  pub is : payload_in r ≡ Some payload
-
-mapped : {A B : Type 0} (f : A → B) (xs : List A) (k : ℕ) (x : A) → slice_get xs k ≡ Some x → slice_get (map f xs) k ≡ Some (f x)
-mapped f [] k x is = absurd (cc)
-mapped f (y ∷ xs) zero x is = let same : y ≡ x = cc in ap (λ z. Some (f z)) same
-mapped f (y ∷ xs) (suc k) x is = mapped f xs k x is
-
-pub message_at : (i : List InboxRecord) (n : Notes) (k : ℕ) (r : Record) → Notices n i → k < length n.places.items → slice_get (records_of_inbox i) (slice_index n.places.items k) ≡ Some r → MessageAt i k r
-message_at i n k r is within read =
-    let p = placed 0 i k (subst (λ (ks : List ℕ). k < length ks) is.places within) in
-    let here : slice_get i (slice_index n.places.items k) ≡ Some (apply p.message) =
-    ap (λ (ks : List ℕ). slice_get i (slice_index ks k)) is.places ∙ ap (λ (q : ℕ). slice_get i q) (from_none (slice_index (places_from 0 i) k)) ∙ p.found in
-    let spelled : slice_get (records_of_inbox i) (slice_index n.places.items k) ≡ Some (record_of (apply p.message)) = mapped record_of i (slice_index n.places.items k) (apply p.message) here in
-    let same : record_of (apply p.message) ≡ r = some_inj (sym spelled ∙ read) in
-    record {
-      payload = p.message.payload;
-      there = mapped (λ (m : Numbered). m.payload) (applied i) k p.message p.applied_is;
-      is = ap payload_in (sym same);
-    }
-  where
-    from_none : (q : ℕ) → q ≡ q - 0
-    from_none q = omega arith
-
-    some_inj : {x y : Record} → Some x ≡ Some y → x ≡ y
-    some_inj is = cc

@@ -2,20 +2,10 @@
 use Rattle.std.specs.Prelude.{ℕ}
 use Rattle.jr_record.specs.declared.faults.AppendFault.{AppendFault}
 use Rattle.jr_record.specs.declared.faults.AppendFault.TheVariants as append
-use Rattle.jr_record.specs.declared.faults.FetchFault.{FetchFault}
-use Rattle.jr_record.specs.declared.faults.FetchFault.TheVariants as fetch
-use Rattle.jr_boxes.specs.declared.faults.BoxFault.{BoxFault}
-use Rattle.jr_boxes.specs.declared.faults.BoxFault.TheVariants as box_fault
 use Rattle.jr_boxes.specs.declared.faults.SubmitFault.{SubmitFault}
 use Rattle.jr_boxes.specs.declared.faults.SubmitFault.TheVariants as submit
 use Rattle.jr_boxes.specs.declared.faults.CloseFault.{CloseFault}
 use Rattle.jr_boxes.specs.declared.faults.CloseFault.TheVariants as closing
-
--- of reading a record while a box is opened
-abbrev pub opening_fault : FetchFault → BoxFault
-opening_fault fetch.Broken = box_fault.Fault
-opening_fault fetch.Memory = box_fault.Memory
-opening_fault fetch.Fault = box_fault.Fault
 
 -- of appending an entry behind so many
 abbrev pub submit_fault : AppendFault → ℕ → SubmitFault

@@ -1,12 +1,11 @@
--- What an inbox notes of its records, and what it holds while its journal does.
-use Rattle.std.specs.Prelude.{◌≡◌, ℕ, ◌+◌, ◌<◌, ◌≤◌, ◌^◌, Bool, true, false, List, [], ◌∷◌, ◌++◌, map, length, slice_index, Option, Some, None}
+-- What an inbox notes of its records.
+use Rattle.std.specs.Prelude.{◌≡◌, ℕ, ◌+◌, ◌<◌, ◌≤◌, ◌^◌, Bool, true, false, List, [], ◌∷◌, ◌++◌, length, slice_index, Option, Some, None}
 use Rattle.session_model.specs.Inbox.{InboxRecord, apply, skip, negotiated, peer_finished, next_number}
 use Rattle.fixp_msgs.specs.declared.flow.Flow.{Flow}
 use Rattle.fixp_msgs.specs.declared.flow.Flow.TheVariants as flows
 use Rattle.jr_record.specs.declared.record.Record.{Record}
 use Rattle.jr_record.specs.declared.record.Record.TheVariants as kinds
-use Rattle.jr_record.specs.Journals.{Holds}
-use Rattle.jr_boxes.specs.Inboxes.{IsInbox, records_of_inbox, record_of, has_negotiated, peer_last_in}
+use Rattle.jr_boxes.specs.Inboxes.{IsInbox, has_negotiated, peer_last_in}
 use Rattle.jr_boxes.specs.declared.notes.Notes.{Notes}
 
 -- the places of the messages applied, the first record's place being n
@@ -57,16 +56,3 @@ HasNoted old new at (kinds.Skip from count) = Becomes old new (from + count) old
 HasNoted old new at kinds.Negotiated = Becomes old new old.next true old.peer_last old.places.items
 HasNoted old new at (kinds.PeerFinished last) = Becomes old new old.next old.negotiated (Some last) old.places.items
 HasNoted old new at kinds.Finish = ⊥
-
--- the journal stands for the records of an inbox, which were noted
-pub record StandsAs {J : Type 0} (stands : J → List Record → Type 0) (j : J) (flow : Flow) (n : Notes) (i : List InboxRecord) : Type 0 where
-  pub journal : stands j (records_of_inbox i)
-  pub inbox : IsInbox flow (records_of_inbox i) i
-  pub noticed : Notices n i
-
--- and every image of it holds these, and a beginning of the records refused
-pub record HoldsAs {J : Type 0} (stands : J → List Record → Type 0) (leaves : J → Option (List Record) → Type 0) (j : J) (flow : Flow) (n : Notes)
-    (i refused : List InboxRecord) : Type 0 where
-  pub journal : Holds stands leaves j (records_of_inbox i) (map record_of refused)
-  pub inbox : IsInbox flow (records_of_inbox i) i
-  pub noticed : Notices n i

@@ -1,12 +1,11 @@
--- What an outbox counts of its records, and what it holds while its journal does.
-use Rattle.std.specs.Prelude.{◌≡◌, ℕ, ◌+◌, ◌-◌, ◌≤◌, true, false, List, map, length, slice_index, Option}
-use Rattle.session_model.specs.Journal.{History, OutboxRecord, entries_of}
+-- What an outbox counts of its records.
+use Rattle.std.specs.Prelude.{◌≡◌, ℕ, ◌+◌, ◌-◌, ◌≤◌, true, false, List, length, slice_index}
+use Rattle.session_model.specs.Journal.{History, entries_of}
 use Rattle.fixp_msgs.specs.Payload.{IsApplication}
 use Rattle.jr_record.specs.declared.record.Record.{Record}
 use Rattle.jr_record.specs.declared.record.Record.TheVariants.{Entry, Apply, Skip, Negotiated, PeerFinished, Finish}
 use Rattle.jr_record.specs.Records.{IsSender}
-use Rattle.jr_record.specs.Journals.{Holds}
-use Rattle.jr_boxes.specs.Outboxes.{IsOutbox, records_of_history, record_of}
+use Rattle.jr_boxes.specs.Outboxes.{IsOutbox}
 use Rattle.jr_boxes.specs.declared.tally.Tally.{Tally}
 
 -- how many entries of a sender were counted
@@ -55,16 +54,3 @@ HasTaken old new (Skip _ _) = ⊥
 HasTaken old new Negotiated = ⊥
 HasTaken old new (PeerFinished _) = ⊥
 HasTaken old new Finish = new ≡ record old { closed = true }
-
--- the journal stands for the records of a history, which was counted
-pub record StandsAs {J : Type 0} (stands : J → List Record → Type 0) (j : J) (t : Tally) (h : History) : Type 0 where
-  pub journal : stands j (records_of_history h)
-  pub outbox : IsOutbox (records_of_history h) h
-  pub tallied : Tallies t h
-
--- and every image of it holds these, and a beginning of the records refused
-pub record HoldsAs {J : Type 0} (stands : J → List Record → Type 0) (leaves : J → Option (List Record) → Type 0) (j : J) (t : Tally) (h : History)
-    (refused : List OutboxRecord) : Type 0 where
-  pub journal : Holds stands leaves j (records_of_history h) (map record_of refused)
-  pub outbox : IsOutbox (records_of_history h) h
-  pub tallied : Tallies t h

@@ -3,7 +3,6 @@
 ghost use Rattle.jr_boxes.specs.declared.faults.BoxFault.TheVariants as box_fault;
 ghost use Rattle.jr_boxes.specs.declared.faults.SubmitFault.TheVariants as submit;
 
-use jr_record::FetchFault;
 use std::alloc::AllocError;
 use thiserror::Error;
 
@@ -104,19 +103,5 @@ impl From<AllocError> for BoxFault {
 
     fn from(_: AllocError) -> BoxFault {
         BoxFault::Memory
-    }
-}
-
-impl From<FetchFault> for BoxFault {
-    ghost use Rattle.std.specs.Prelude.{◌≡◌};
-    ghost use Rattle.jr_boxes.specs.Faults.{opening_fault};
-
-    ghost from_gives = { λ fault opening. opening ≡ opening_fault fault };
-
-    fn from(fault: FetchFault) -> BoxFault {
-        match fault {
-            FetchFault::Memory => BoxFault::Memory,
-            FetchFault::Broken | FetchFault::Fault => BoxFault::Fault,
-        }
     }
 }

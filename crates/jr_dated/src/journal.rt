@@ -4,7 +4,7 @@ ghost use Rattle.std.specs.Prelude.{◌≡◌, ◌≢◌, ◌↔◌, ℕ, ◌+�
 ghost use Rattle.std.specs.List.{AllByRecursion};
 ghost use Rattle.gw_outside.specs.Faults.{HasRisen};
 ghost use Rattle.jr_record.specs.Records.{IsRecord};
-ghost use Rattle.jr_record.specs.Journals.{OnRefused, OnFault, is_broken_after};
+ghost use Rattle.jr_record.specs.Appending.{OnRefused, OnFault, is_broken_after};
 ghost use Rattle.jr_record.specs.declared.record.Record.{Record};
 ghost use Rattle.jr_record.specs.declared.faults.AppendFault.TheVariants as append;
 ghost use Rattle.jr_dated.specs.Dated.{Dated, IsDated, stamped, dated, undated};

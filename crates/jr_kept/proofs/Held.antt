@@ -13,7 +13,7 @@ use Rattle.jr_record.specs.declared.record.Record.TheVariants as kinds
 use Rattle.jr_record.specs.Records.{IsSender}
 use Rattle.jr_record.specs.declared.faults.AppendFault.{AppendFault}
 use Rattle.jr_record.specs.declared.faults.AppendFault.TheVariants as append
-use Rattle.jr_record.specs.Journals.{OnFault}
+use Rattle.jr_record.specs.Appending.{OnFault}
 use Rattle.jr_dated.specs.declared.journal.Journal.{Ghosts}
 use Rattle.jr_dated.specs.declared.faults.FetchFault.{FetchFault}
 use Rattle.jr_dated.specs.declared.faults.FetchFault.TheVariants as fetch

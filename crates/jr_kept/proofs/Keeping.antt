@@ -14,7 +14,7 @@ use Rattle.jr_record.specs.declared.record.Record.TheVariants as kinds
 use Rattle.jr_record.specs.declared.faults.AppendFault.{AppendFault}
 use Rattle.jr_record.specs.declared.faults.AppendFault.TheVariants as append
 use Rattle.jr_record.specs.Records.{IsRecord}
-use Rattle.jr_record.specs.Journals.{OnRefused, OnFault, is_broken_after}
+use Rattle.jr_record.specs.Appending.{OnRefused, OnFault, is_broken_after}
 use Rattle.jr_dated.specs.declared.journal.Journal.{Ghosts}
 use Rattle.jr_dated.specs.declared.limits.Limits.{Limits}
 use Rattle.jr_dated.specs.Dated.{Dated, dated, undated}
@@ -23,8 +23,8 @@ use Rattle.jr_dated.specs.Journals.{Holds, HoldsEither, Unchanged as SameJournal
 use Rattle.jr_boxes.specs.declared.notes.Notes.{Notes}
 use Rattle.jr_boxes.specs.Inboxes.{record_of, records_of_inbox, has_negotiated, peer_last_in, IsInbox}
 use Rattle.jr_boxes.specs.Notes.{Becomes, MayFollow, HasNoted, places_from}
-use Rattle.jr_boxes.proofs.Held.{on_refused}
-use Rattle.jr_boxes.proofs.Kept.{SameNotes, notices_same, append_sound, refusal, success}
+use Rattle.jr_boxes.proofs.Answering.{on_refused, append_sound, refusal, success}
+use Rattle.jr_boxes.proofs.Kept.{SameNotes, notices_same}
 use Rattle.jr_boxes.proofs.Noting.{notices_more, fits_behind, length-records}
 use Rattle.jr_boxes.proofs.Settling.{inbox_push, has_negotiated-other, peer_last_in-other, places_from-push}
 use Rattle.jr_kept.specs.declared.faults.AddFault.{AddFault}

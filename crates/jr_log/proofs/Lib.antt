@@ -1,5 +1,2 @@
-mod Appends
 mod Fronts
-mod Headers
 mod Scans
-mod Writes

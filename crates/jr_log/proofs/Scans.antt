@@ -8,11 +8,11 @@ use Rattle.gw_outside.specs.Disk.{ReadsAt}
 use Rattle.jr_record.specs.declared.record.Record.{Record}
 use Rattle.jr_record.specs.Records.{IsRecord, spelled}
 use Rattle.jr_record.specs.Laws.{SizesAreBounded}
-use Rattle.jr_record.specs.Images.{header, gated, Breaks, IsJournal, IsDamaged}
+use Rattle.jr_record.specs.Images.{header, gated, Breaks, IsClosed, IsJournal, IsDamaged}
 use Rattle.jr_record.specs.declared.faults.OpenFault.{OpenFault}
 use Rattle.jr_record.specs.declared.faults.OpenFault.TheVariants.{Memory, Fault, NotFormatted, Damaged}
 use Rattle.std.proofs.lemmas.Bool.Decides.{nat_tests}
-use Rattle.jr_log.specs.Opening.{Refuses, LacksHeader, IsClosed, Takes, IsRead}
+use Rattle.jr_log.specs.Opening.{Refuses, LacksHeader, Takes, IsRead}
 use Rattle.jr_log.proofs.Fronts.{gated-append, legal-append}
 
 -- one record more was taken

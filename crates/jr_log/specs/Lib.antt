@@ -1,5 +1,1 @@
-pub mod Adding
-pub mod Behind
-pub mod Log
 pub mod Opening
-pub mod Settled

@@ -6,7 +6,7 @@ use Rattle.jr_record.specs.declared.record.Record.{Record}
 use Rattle.jr_record.specs.declared.faults.OpenFault.{OpenFault}
 use Rattle.jr_record.specs.declared.faults.OpenFault.TheVariants.{Memory, Fault, NotFormatted, Damaged}
 use Rattle.jr_record.specs.Records.{IsRecord, spelled}
-use Rattle.jr_record.specs.Images.{header, gated, Breaks, IsDamaged, IsNotFormatted}
+use Rattle.jr_record.specs.Images.{header, gated, Breaks, IsClosed, IsDamaged, IsNotFormatted}
 use Rattle.jr_log.specs.declared.scan.Front.{Front}
 use Rattle.jr_log.specs.declared.scan.Front.TheVariants as front
 use Rattle.jr_log.specs.declared.scan.Stop.{Stop}
@@ -25,13 +25,6 @@ LacksHeader first Memory = ⊤
 LacksHeader first Fault = ⊥
 LacksHeader first NotFormatted = take 16 first ≢ header
 LacksHeader first (Damaged at) = ⊥
-
--- the closed byte stands at the front
-pub record IsClosed (bytes : List ℕ) : Type 0 where
-  pub closed : ℕ
-  pub is_closed : closed ≢ 1
-  pub behind : List ℕ
-  pub whole : bytes ≡ closed ∷ behind
 
 -- what stands at the front of some bytes, where a gate or the closed byte is awaited
 abbrev pub IsFront : List ℕ → Front → Type 0

@@ -1,13 +1,7 @@
-//! A journal on one disk: its records are kept in memory, and each append makes four calls of the disk.
-//! Relies on `jr_record` for the records' bytes and on `gw_outside` for what a stop may leave of a disk.
+//! Reading a journal of format 1, whose records carry no moments: all of them, once from front to back.
+//! Relies on `jr_record` for the records' bytes and for what an image holds, on `gw_outside` for the disk.
 #![tactic(auto)]
 
-mod behind;
-mod faults;
-mod formatting;
-mod log;
 mod scan;
 
-pub use formatting::format;
-pub use log::LogJournal;
 pub use scan::{Found, read_journal};

@@ -10,10 +10,12 @@ ghost use Rattle.jr_record.specs.Images.{IsJournal, header, journal_size};
 ghost use Rattle.jr_record.specs.declared.faults.OpenFault.TheVariants.{Fault};
 ghost use Rattle.jr_log.specs.Opening.{Refuses, LacksHeader, IsFront, Takes, Stops, IsRead};
 
-use crate::behind::GATE;
 use gw_outside::Disk;
 use jr_record::{OpenFault, Record, read_record, record_bounds, record_size};
 use std::alloc::{AllocError, Global};
+
+/// A gate: a record stands behind it.
+const GATE: u8 = 1;
 
 /// The bytes that are read at a time.
 const PIECE: usize = 65_536;
@@ -25,7 +27,7 @@ const MOST: u64 = 1 << 40;
 const LONGEST: usize = 16_402;
 
 /// The first bytes of a journal.
-pub const HEADER: [u8; 16] = *b"FIXPJRN1\0\0\0\0\0\0\0\0";
+const HEADER: [u8; 16] = *b"FIXPJRN1\0\0\0\0\0\0\0\0";
 
 /// What stands where a gate or the closed byte is awaited.
 #[derive(Drop)]

@@ -1,6 +1,6 @@
 -- Which records an image of a journal holds. It reads no order of writes.
 -- A format has a header, tells which records it has, and spells each one.
-use Rattle.std.specs.Prelude.{◌≡◌, ◌≢◌, ℕ, ◌+◌, List, [], ◌∷◌, ◌++◌, length, take, Option, Some, None, ⊤}
+use Rattle.std.specs.Prelude.{◌≡◌, ◌≢◌, ℕ, ◌+◌, List, [], ◌∷◌, ◌++◌, length, take, ⊤}
 use Rattle.std.specs.List.{AllByRecursion, flat_map}
 use Rattle.jr_record.specs.declared.record.Record.{Record}
 use Rattle.jr_record.specs.Records.{IsRecord, spelled}
@@ -26,6 +26,13 @@ NoneSpelled {R} Legal spell bytes = (r : R) (behind : List ℕ) → Legal r → 
 abbrev pub Breaks : {R : Type 0} → (R → Type 0) → (R → List ℕ) → List ℕ → Type 0
 Breaks Legal spell [] = ⊤
 Breaks Legal spell (gate ∷ behind) = (gate ≡ 1) × NoneSpelled Legal spell behind
+
+-- the closed byte stands at the front
+pub record IsClosed (bytes : List ℕ) : Type 0 where
+  pub closed : ℕ
+  pub is_closed : closed ≢ 1
+  pub behind : List ℕ
+  pub whole : bytes ≡ closed ∷ behind
 
 -- The header is there, and `at` is the first place where a gate or the closed byte is awaited and the image breaks
 pub record ImageDamaged {R : Type 0} (header : List ℕ) (Legal : R → Type 0) (spell : R → List ℕ) (image : List ℕ) (at : ℕ) : Type 0 where
@@ -61,8 +68,3 @@ record_size r = 1 + length (spelled r)
 
 abbrev pub journal_size : List Record → ℕ
 journal_size records = 17 + length (gated spelled records)
-
--- some content that a stop may leave holds exactly these records, or, at None, no list of records
-abbrev pub Leaves : (List ℕ → Type 0) → Option (List Record) → Type 0
-Leaves may_leave (Some records) = (image : List ℕ) × may_leave image × IsJournal image records
-Leaves may_leave None = (image : List ℕ) × may_leave image × ((records : List Record) → IsJournal image records → ⊥)

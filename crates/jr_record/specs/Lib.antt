@@ -1,4 +1,4 @@
-pub mod Journals
+pub mod Appending
 pub mod Images
 pub mod Laws
 pub mod Records

@@ -1,7 +1,6 @@
 //! Why a call on a journal did not do what it was asked for.
 
 ghost use Rattle.jr_record.specs.declared.faults.AppendFault.TheVariants as append;
-ghost use Rattle.jr_record.specs.declared.faults.FetchFault.TheVariants as fetch;
 ghost use Rattle.jr_record.specs.declared.faults.OpenFault.TheVariants as open_fault;
 ghost use Rattle.jr_record.specs.declared.faults.FormatFault.TheVariants as format_fault;
 
@@ -21,18 +20,6 @@ pub enum AppendFault {
     #[error("out of memory")]
     Memory,
     /// A call of the disk failed: whether the record is there shows when the journal is opened again.
-    #[error("the journal's disk failed")]
-    Fault,
-}
-
-/// Why a record was not read.
-#[derive(Clone, Copy, Debug, PartialEq, Eq, Error)]
-pub enum FetchFault {
-    /// A call of the disk has failed since the opening.
-    #[error("the journal is broken")]
-    Broken,
-    #[error("out of memory")]
-    Memory,
     #[error("the journal's disk failed")]
     Fault,
 }
@@ -120,16 +107,6 @@ impl From<Failed> for OpenFault {
 
     fn from(_: Failed) -> OpenFault {
         OpenFault::Fault
-    }
-}
-
-impl From<AllocError> for FetchFault {
-    ghost use Rattle.std.specs.Prelude.{◌≡◌};
-
-    ghost from_gives = { λ _ fault. fault ≡ fetch.Memory };
-
-    fn from(_: AllocError) -> FetchFault {
-        FetchFault::Memory
     }
 }
 

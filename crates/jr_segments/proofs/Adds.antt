@@ -9,7 +9,7 @@ use Rattle.gw_outside.specs.declared.disk.Disk.{Ghosts}
 use Rattle.jr_record.specs.declared.record.Record.{Record}
 use Rattle.jr_record.specs.Records.{IsRecord}
 use Rattle.jr_record.specs.Images.{gated}
-use Rattle.jr_log.specs.Behind.{IsClosedBehind, GoesOn, AllClosed}
+use Rattle.jr_segments.specs.Behind.{IsClosedBehind, GoesOn, AllClosed}
 use Rattle.jr_dated.specs.Dated.{Dated, IsDated, dated, undated, spelled, latest_of}
 use Rattle.jr_dated.specs.Images.{IsJournal, sizes, journal_size}
 use Rattle.jr_dated.specs.declared.formats.Format.TheVariants.{Two}

@@ -7,7 +7,7 @@ use Rattle.std.specs.Option.{ForSome}
 use Rattle.gw_outside.specs.declared.disk.Disk.{Ghosts}
 use Rattle.jr_record.specs.declared.record.Record.{Record}
 use Rattle.jr_record.specs.Records.{IsRecord}
-use Rattle.jr_log.specs.Behind.{AllClosed}
+use Rattle.jr_segments.specs.Behind.{AllClosed}
 use Rattle.jr_dated.specs.Dated.{Dated, IsDated, dated, undated}
 use Rattle.jr_dated.specs.Images.{IsJournal, Leaves, sizes}
 use Rattle.jr_dated.specs.Journals.{Holds, HoldsEither, Unchanged}

@@ -7,9 +7,8 @@ use Rattle.gw_outside.specs.Disk.{ReadsAt}
 use Rattle.jr_record.specs.declared.record.Record.{Record}
 use Rattle.jr_record.specs.declared.faults.OpenFault.{OpenFault}
 use Rattle.jr_record.specs.declared.faults.OpenFault.TheVariants.{Memory, Fault, NotFormatted, Damaged}
-use Rattle.jr_record.specs.Images.{gated, Breaks}
+use Rattle.jr_record.specs.Images.{gated, Breaks, IsClosed}
 use Rattle.std.proofs.lemmas.Bool.Decides.{nat_tests}
-use Rattle.jr_log.specs.Opening.{IsClosed}
 use Rattle.jr_dated.specs.declared.formats.Format.{Format}
 use Rattle.jr_dated.specs.Dated.{Dated, stamped}
 use Rattle.jr_dated.specs.Formats.{header_of, LegalIn, spelled_in, IsDamagedIn}

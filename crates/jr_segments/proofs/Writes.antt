@@ -4,7 +4,7 @@ use Rattle.std.proofs.lemmas.Bool.{cases_eq}
 use Rattle.std.proofs.lemmas.List.{take_at, drop_at, drop_more, take_more, take-take, get_or-take}
 use Rattle.std.specs.Option.{option_map}
 use Rattle.gw_outside.specs.Disk.{written, Torn, Follows, IsAllLeft}
-use Rattle.jr_log.specs.Behind.{IsClosedBehind, GoesOn, AllClosed}
+use Rattle.jr_segments.specs.Behind.{IsClosedBehind, GoesOn, AllClosed}
 
 -- what was told is the step of what was told before
 pub mapped : {A B : Type 0} (f : A → B) (old : Option A) (new : B) → option_map f old ≡ Some new → (before : A) × (old ≡ Some before) × (f before ≡ new)

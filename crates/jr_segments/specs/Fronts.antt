@@ -6,7 +6,7 @@ use Rattle.std.specs.List.{AllByRecursion}
 use Rattle.jr_record.specs.declared.record.Record.{Record}
 use Rattle.jr_record.specs.Records.{IsRecord}
 use Rattle.jr_record.specs.Images.{gated}
-use Rattle.jr_log.specs.Behind.{IsClosedBehind, GoesOn}
+use Rattle.jr_segments.specs.Behind.{IsClosedBehind, GoesOn}
 use Rattle.jr_dated.specs.Dated.{Dated, IsDated, spelled, dated, undated, latest_of}
 use Rattle.jr_dated.specs.Images.{header, IsJournal, record_size, sizes}
 use Rattle.jr_dated.proofs.Spelling.{length-spelled}

@@ -6,7 +6,7 @@ use Rattle.gw_outside.specs.declared.disk.Disk.{Ghosts}
 use Rattle.gw_outside.specs.Disk.{LeavesSame}
 use Rattle.gw_outside.specs.Faults.{HasRisen}
 use Rattle.jr_record.specs.declared.record.Record.{Record}
-use Rattle.jr_log.specs.Behind.{AllClosed}
+use Rattle.jr_segments.specs.Behind.{AllClosed}
 use Rattle.jr_dated.specs.declared.limits.Limits.{Limits}
 use Rattle.jr_dated.specs.Dated.{Dated, IsDated, dated, undated, latest_of}
 use Rattle.jr_dated.specs.Images.{IsJournal, Leaves, sizes, journal_size}

@@ -1,4 +1,5 @@
 pub mod Adding
+pub mod Behind
 pub mod Crossing
 pub mod Fronts
 pub mod Growing

@@ -4,8 +4,7 @@ use Rattle.std.specs.Option.{ForSome}
 use Rattle.std.specs.List.{AllByRecursion}
 use Rattle.jr_record.specs.declared.faults.OpenFault.{OpenFault}
 use Rattle.jr_record.specs.declared.faults.OpenFault.TheVariants.{Memory, Fault, NotFormatted, Damaged}
-use Rattle.jr_record.specs.Images.{gated, Breaks}
-use Rattle.jr_log.specs.Opening.{IsClosed}
+use Rattle.jr_record.specs.Images.{gated, Breaks, IsClosed}
 use Rattle.jr_dated.specs.declared.formats.Format.{Format}
 use Rattle.jr_dated.specs.Dated.{Dated, stamped, latest_of}
 use Rattle.jr_dated.specs.Formats.{header_of, LegalIn, spelled_in, IsJournalIn, IsDamagedIn, IsNotFormattedIn}

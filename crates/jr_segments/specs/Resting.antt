@@ -3,7 +3,7 @@ use Rattle.std.specs.Prelude.{◌≡◌, ℕ, ◌+◌, ◌≤◌, List, [], ◌�
 use Rattle.std.specs.List.{AllByRecursion}
 use Rattle.jr_record.specs.declared.record.Record.{Record}
 use Rattle.jr_record.specs.Images.{gated}
-use Rattle.jr_log.specs.Behind.{AllClosed}
+use Rattle.jr_segments.specs.Behind.{AllClosed}
 use Rattle.jr_dated.specs.Dated.{Dated, IsDated, spelled, undated}
 use Rattle.jr_dated.specs.Images.{header, record_size, journal_size}
 

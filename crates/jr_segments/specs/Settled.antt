@@ -6,7 +6,7 @@ use Rattle.std.proofs.Props.{props}
 use Rattle.std.proofs.lemmas.List.{append-nil, drop_more}
 use Rattle.std.specs.List.{AllByRecursion}
 use Rattle.session_model.specs.Lives.{IsImage}
-use Rattle.jr_log.specs.Behind.{IsClosedBehind, AllClosed}
+use Rattle.jr_segments.specs.Behind.{IsClosedBehind, AllClosed}
 use Rattle.jr_dated.specs.Dated.{Dated, IsDated}
 use Rattle.jr_dated.specs.Images.{IsJournal, Leaves}
 use Rattle.jr_dated.proofs.Verdicts.{at_most_one_verdict}

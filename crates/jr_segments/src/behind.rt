@@ -6,7 +6,7 @@ ghost use Rattle.std.specs.List.{AllByRecursion};
 ghost use Rattle.gw_outside.specs.Faults.{HasCause};
 ghost use Rattle.jr_record.specs.Records.{IsRecord};
 ghost use Rattle.jr_record.specs.Images.{gated as with_gates};
-ghost use Rattle.jr_log.specs.Behind.{IsClosedBehind, GoesOn, AllClosed};
+ghost use Rattle.jr_segments.specs.Behind.{IsClosedBehind, GoesOn, AllClosed};
 ghost use Rattle.jr_dated.specs.Dated.{dated, spelled};
 
 use gw_outside::{Bytes, Disk, Failed};

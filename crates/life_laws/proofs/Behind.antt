@@ -21,8 +21,8 @@ use Rattle.turn_laws.specs.Standing.{Has}
 use Rattle.turn_laws.specs.Legs.{TurnedLeg, calls_on, first_line, AreTurnsOf, course_on}
 use Rattle.turn_laws.specs.Lives.{AllAreTurns, state_after, inbox_after}
 use Rattle.turn_laws.proofs.Running.{all_seen, leg_stands}
-use Rattle.conn_serve.specs.declared.answer.ServeFault.{ServeFault}
-use Rattle.conn_serve.specs.declared.answer.LifeEnd.{LifeEnd}
+use Rattle.conn_door.specs.declared.answer.ServeFault.{ServeFault}
+use Rattle.conn_door.specs.declared.answer.LifeEnd.{LifeEnd}
 use Rattle.conn_serve.specs.Connections.{Connection, IsFaithfulLeg, turned, all_of, IsConnection, HasEnded, AllEnded, adds_of, refused_of_all}
 use Rattle.conn_serve.specs.Served.{WasGivenUp, ServedLife}
 use Rattle.life_laws.specs.Lives.{LifeOpens, ServedIsTurned}

@@ -22,7 +22,7 @@ use Rattle.gate_senders.specs.Gate.{opening_of, OpensOn, ClosedWith}
 use Rattle.gate_senders.specs.declared.gate.Gate.{Gate}
 use Rattle.gate_senders.specs.declared.kept.Kept.{Kept}
 use Rattle.gate_senders.proofs.Keeping.{keeps_stands, front_is}
-use Rattle.conn_serve.specs.declared.answer.ServeFault.{ServeFault}
+use Rattle.conn_door.specs.declared.answer.ServeFault.{ServeFault}
 use Rattle.conn_serve.specs.Opening.{opened_state}
 use Rattle.life_laws.specs.Plans.{plan_in, KeepsPlans, LosesNext}
 use Rattle.life_laws.specs.PlanLives.{Clocked, SomePass, SeesMark, SeesFailure, MetFull, WasFull, BlamesInbox, ServedAt, LivedBoxes}

@@ -1,14 +1,13 @@
 -- An outbox that keeps plans, in the words of the session model.
-use Rattle.std.proofs.Common.{◌≡◌, inl, ℕ, zero, suc, ◌≤◌, Bool, true, false, List, [], ◌∷◌, ◌++◌, length, map, refl, sym, ap, subst, ◌∙◌, arith, append-nil}
+use Rattle.std.proofs.Common.{◌≡◌, inl, ℕ, zero, suc, Bool, true, false, List, [], ◌∷◌, ◌++◌, map, refl, sym, ap, subst, ◌∙◌, append-nil}
 use mathlib.Core.List.{IsPrefix}
 use Rattle.session_model.specs.Journal.{Entry, OutboxRecord, entry, entries, History, is_finished, history_of, BeginsHistory, InOrder}
 use Rattle.session_model.specs.Inbox.{applied, payloads_of}
 use Rattle.session_model.specs.Plans.{sent_by, Continues, Completes, SendersDone}
 use Rattle.session_model.specs.Lives.{Life, IsImage, KeepsOutbox}
 use Rattle.session_model.proofs.Lists.{prefix_self, prefix_equal, prefix_trans, prefix_map, prefix_of_append}
-use Rattle.session_model.proofs.Images.{image_of_none, image_of_one}
 use Rattle.jr_boxes.specs.Outboxes.{mark_of, outbox_of}
-use Rattle.life_laws.specs.Plans.{plan_in, KeepsPlans}
+use Rattle.life_laws.specs.Plans.{plan_in, KeepsPlans, GoesOnWith}
 use Rattle.life_laws.specs.PlanLaws.{PlansKeepOutbox}
 
 -- the records of a history have its entries, and its mark
@@ -46,12 +45,6 @@ plan_is : (plans : List (List (List ℕ))) (s : ℕ) (applied other : List (List
 plan_is plans zero applied other = refl
 plan_is plans (suc s) applied other = refl
 
--- what holds of the closing records, and of all of them with the one that was refused behind them, if one was, holds of each image
-image_of_few : {A : Type 0} (P : List A → Type 0) (closing refused image : List A) → length refused ≤ 1 → P closing → P (closing ++ refused) → IsImage closing refused image → P image
-image_of_few P closing [] image few at all g = image_of_none P closing image at g
-image_of_few P closing (r ∷ []) image few at all g = image_of_one P closing r image at all g
-image_of_few P closing (r ∷ s ∷ rs) image few at all g = absurd (omega (arith, few))
-
 -- a history that keeps plans, by its records
 module _ (plans : List (List (List ℕ))) (o x : History) (life : Life) (k : KeepsPlans plans o x) (grown : IsPrefix life.served.opening_inbox life.served.closing_inbox) where
   continues : (ps : List (List ℕ)) (s : ℕ) → Continues (plan_in plans s ps) (sent_by (entries (outbox_of o)) s) (sent_by (entries (outbox_of x)) s)
@@ -76,27 +69,29 @@ module _ (plans : List (List (List ℕ))) (o x : History) (life : Life) (k : Kee
   begins : BeginsHistory (history_of (outbox_of o)) (history_of (outbox_of x))
   begins = subst (λ (h : History). BeginsHistory h (history_of (outbox_of x))) (sym (history_of-outbox_of o)) (subst (λ (h : History). BeginsHistory o h) (sym (history_of-outbox_of x)) k.begins)
 
-module _ (plans : List (List (List ℕ))) (o c w : History) (refused : List OutboxRecord) (life : Life) (k : KeepsPlans plans o c) (order : InOrder c.made) (kw : KeepsPlans plans o w) (ordered : InOrder w.made)
-    (whole : outbox_of c ++ refused ≡ outbox_of w) (few : length refused ≤ 1) (grown : IsPrefix life.served.opening_inbox life.served.closing_inbox) where
+module _ (plans : List (List (List ℕ))) (o c : History) (refused : List OutboxRecord) (life : Life) (k : KeepsPlans plans o c) (order : InOrder c.made)
+    (goes : GoesOnWith plans o c refused) (grown : IsPrefix life.served.opening_inbox life.served.closing_inbox) where
   abbrev over : Life
   over = record { opening_outbox = outbox_of o; closing_outbox = outbox_of c; refused_outbox = refused; served = life.served }
 
-  -- what holds of the records of both histories holds of each image
-  each_image : (P : List OutboxRecord → Type 0) → P (outbox_of c) → P (outbox_of w) → (image : List OutboxRecord) → IsImage (outbox_of c) refused image → P image
-  each_image P at all image g = image_of_few P (outbox_of c) refused image few at (subst P (sym whole) all) g
+  -- what holds of the records of each history in order that keeps the plans holds of each image
+  each_image : (P : List OutboxRecord → Type 0) → ((x : History) → KeepsPlans plans o x → InOrder x.made → P (outbox_of x)) → (image : List OutboxRecord) → IsImage (outbox_of c) refused image → P image
+  each_image P at image g =
+      let by = goes g.kept g.beginning in
+      subst P (sym (g.holds ∙ by.goes_on)) (at by.whole by.keeps (by.in_order order))
 
   kept : KeepsOutbox (plan_in plans) over
   kept = record {
     outbox_grows = outbox_begins o c k.begins;
-    history_grows = each_image (λ (rs : List OutboxRecord). BeginsHistory (history_of (outbox_of o)) (history_of rs)) (begins plans o c life k grown) (begins plans o w life kw grown);
-    in_order = each_image (λ (rs : List OutboxRecord). InOrder (entries rs)) (subst InOrder (sym (entries-outbox_of c)) order) (subst InOrder (sym (entries-outbox_of w)) ordered);
+    history_grows = each_image (λ (rs : List OutboxRecord). BeginsHistory (history_of (outbox_of o)) (history_of rs)) (λ x kx _. begins plans o x life kx grown);
+    in_order = each_image (λ (rs : List OutboxRecord). InOrder (entries rs)) (λ x kx ordered. subst InOrder (sym (entries-outbox_of x)) ordered);
     plans = λ image g s.
         let applied_then : List (List ℕ) = payloads_of (applied life.served.closing_inbox) in
         each_image (λ (rs : List OutboxRecord). Continues (plan_in plans s applied_then) (sent_by (entries (outbox_of o)) s) (sent_by (entries rs) s))
-        (continues plans o c life k grown applied_then s) (continues plans o w life kw grown applied_then s) image g;
+        (λ x kx _. continues plans o x life kx grown applied_then s) image g;
     finishes = λ image g open_is.
         each_image (λ (rs : List OutboxRecord). is_finished rs ≡ true → SendersDone (plan_in plans) (entries (outbox_of o)) (entries rs) life.served.opening_inbox life.served.closing_inbox)
-        (done plans o c life k grown open_is) (done plans o w life kw grown open_is) image g;
+        (λ x kx _. done plans o x life kx grown open_is) image g;
   }
 
   same_life : life.opening_outbox ≡ outbox_of o → life.closing_outbox ≡ outbox_of c → life.refused_outbox ≡ refused → over ≡ life
@@ -106,8 +101,7 @@ module _ (plans : List (List (List ℕ))) (o c w : History) (refused : List Outb
       ∙ ap (λ (rs : List OutboxRecord). record { opening_outbox = life.opening_outbox; closing_outbox = life.closing_outbox; refused_outbox = rs; served = life.served }) (sym lost)
 
 pub plans_keep_outbox : PlansKeepOutbox
-plans_keep_outbox plans o c w life k order kw ordered opening closing whole few grown =
-    let all : outbox_of c ++ life.refused_outbox ≡ outbox_of w = ap (λ (rs : List OutboxRecord). rs ++ life.refused_outbox) (sym closing) ∙ whole in
+plans_keep_outbox plans o c life k order goes opening closing grown =
     subst (λ (l : Life). KeepsOutbox (plan_in plans) l)
-    (same_life plans o c w life.refused_outbox life k order kw ordered all few grown opening closing refl)
-    (kept plans o c w life.refused_outbox life k order kw ordered all few grown)
+    (same_life plans o c life.refused_outbox life k order goes grown opening closing refl)
+    (kept plans o c life.refused_outbox life k order goes grown)

@@ -25,17 +25,17 @@ use Rattle.conn_loop.specs.Conn.{Looks}
 use Rattle.gate_plans.specs.Runs.{IsThrough, CountedEach, WasRefused}
 use Rattle.gate_plans.specs.Seats.{Seated, HasTheirs}
 use Rattle.gate_plans.specs.declared.sender.Sender.{Sender}
-use Rattle.conn_serve.specs.declared.answer.ServeFault.{ServeFault}
-use Rattle.conn_serve.specs.declared.answer.ServeFault.TheVariants as faults
-use Rattle.conn_serve.specs.declared.answer.LifeEnd.{LifeEnd}
-use Rattle.conn_serve.specs.declared.answer.LifeEnd.TheVariants as ends
-use Rattle.conn_serve.specs.Answers.{answer_of, yields_to}
+use Rattle.conn_door.specs.declared.answer.ServeFault.{ServeFault}
+use Rattle.conn_door.specs.declared.answer.ServeFault.TheVariants as faults
+use Rattle.conn_door.specs.declared.answer.LifeEnd.{LifeEnd}
+use Rattle.conn_door.specs.declared.answer.LifeEnd.TheVariants as ends
+use Rattle.conn_door.specs.Answers.{answer_of, yields_to, IsUnrefused}
 use Rattle.conn_serve.specs.Causes.{BlamesJournal, IsBlamed}
 use Rattle.conn_serve.specs.Connections.{wanted_of_all}
-use Rattle.conn_serve.specs.Senders.{refusal_of, MetRefusal, IsRefusal, Finishes, FinishedFirst, SubmittedAll, SomeMarked}
+use Rattle.conn_door.specs.Senders.{refusal_of, MetRefusal, IsRefusal, Finishes, FinishedFirst, SubmittedAll, SomeMarked}
 use Rattle.conn_serve.specs.Served.{ServedOver}
-use Rattle.conn_serve.specs.Opening.{ServedThrough, IsUnrefused}
-use Rattle.life_laws.specs.Plans.{plan_in, MadeOf, IsAllMade, LosesMessage, LosesOwn, PlansMade}
+use Rattle.conn_serve.specs.Opening.{ServedThrough}
+use Rattle.life_laws.specs.Plans.{plan_in, MadeOf, IsAllMade, LosesMessages, LosesOwn, PlansMade}
 use Rattle.life_laws.specs.PlanLives.{Clocked, clocked, SomePass, IsOfSender, SeesMark, SeesFailure, MetFull, BlamesInbox, FillsInbox, ServedAt}
 use Rattle.life_laws.proofs.Senders.{PartMade, AllFresh, EachMade, NoneEnded, PartLoses, SendersMade, senders_made, ran_part, ran_at, ran_next_at, ran_seen_at}
 use Rattle.conn_serve.specs.Moments.{life_at, faults_at, serving_at, beside}
@@ -165,7 +165,7 @@ module _ {J : Type 0} {G : Ghosts J} (gate : Gate J G) (a : Account) (plans : Li
       opened = l.opened;
       unended = λ n h e. true≢false (sym e ∙ unended_at l.unended n h);
       what = ⊎_elim
-          (λ x. inl (subst (λ (p : Part). LosesMessage (plan_in plans (suc i) []) p) (sym (sender_at i d lt)) x))
+          (λ x. inl (subst (λ (p : Part). LosesMessages (plan_in plans (suc i) []) p) (sym (sender_at i d lt)) x))
           (λ x. inr (ap (λ (p : Part). p.lost) (sender_at i d lt) ∙ x.0, all_at x.1))
           l.what;
     }

@@ -6,18 +6,17 @@ use Rattle.std.proofs.lemmas.List.{map-append, get_or_past}
 use mathlib.Core.List.{IsPrefix}
 use mathlib.Core.Logic.{dite}
 use native.Mathlib.Decide.{ℕ_discrete}
-use Rattle.session_model.specs.Journal.{Entry, History, OutboxRecord, entry, entries_of, payloads, BeginsHistory}
+use Rattle.session_model.specs.Journal.{Entry, History, OutboxRecord, entries_of, payloads, BeginsHistory}
 use Rattle.session_model.specs.Plans.{sent_by, Continues, Completes}
 use Rattle.session_model.proofs.Lists.{prefix_take}
 use Rattle.session_model.proofs.Journals.{length-payloads}
+use Rattle.jr_kept.specs.Entries.{entries_made}
 use Rattle.gate_turn.specs.Views.{Account, Part}
 use Rattle.gate_turn.specs.Rule.{In}
 use Rattle.gate_turn.specs.Steps.{Closed}
 use Rattle.gate_turn.proofs.Histories.{entries_of-append}
 use Rattle.gate_plans.specs.Sent.{entries_behind}
-use Rattle.gate_senders.specs.Kept.{next_entry}
-use Rattle.gate_senders.specs.Shown.{entry_after}
-use Rattle.life_laws.specs.Plans.{plan_in, MadeOf, IsAllMade, LosesMessage, AllMade, LosesOwn, PlansMade, NextMessage, LosesNext}
+use Rattle.life_laws.specs.Plans.{plan_in, MadeOf, IsAllMade, LosesMessages, AllMade, LosesOwn, PlansMade, NextMessages, LosesNext}
 use Rattle.life_laws.specs.PlanLaws.{PlansAreKept}
 
 payloads-entries_behind : (sender n : ℕ) (ps : List (List ℕ)) → payloads (entries_behind sender n ps) ≡ ps
@@ -121,15 +120,16 @@ module _ (opening now : Account) (plans : List (List (List ℕ))) (known : ℕ �
       (λ is. is)
       (cases_Bool now.history.finished)
 
-  -- the message that a pass lost is the next one behind what the history has of it
-  next_of : (n : ℕ) → In (length plans + 1) n → (known n).lost ≡ now.refused → LosesMessage (plan_in plans n []) (known n) → NextMessage plans now.history now.refused
+  -- the messages that a pass lost are the next ones behind what the history has of it
+  next_of : (n : ℕ) → In (length plans + 1) n → (known n).lost ≡ now.refused → LosesMessages (plan_in plans n []) (known n) → NextMessages plans now.history now.refused
   next_of n h is l = record {
     sender = n;
-    payload = l.payload;
-    next = subst (λ (es : List Entry). slice_get (plan_in plans n []) (length es) ≡ Some l.payload) (its n h) l.next;
-    is = sym is ∙ l.is ∙ ap (λ (e : Entry). entry e ∷ [])
-        (ap (λ (k : ℕ). record { sender = k; own_number = length (known n).mine + 1; payload = l.payload }) (p.number n h)
-        ∙ ap (λ (es : List Entry). record { sender = n; own_number = length es + 1; payload = l.payload }) (its n h));
+    count = l.count;
+    within = subst (λ (es : List Entry). l.count ≤ length (drop (length es) (plan_in plans n []))) (its n h) l.within;
+    few = l.few;
+    is = sym is ∙ l.is
+        ∙ ap (λ (k : ℕ). entries_made (entries_behind k (length (known n).mine) (take l.count (drop (length (known n).mine) (plan_in plans n []))))) (p.number n h)
+        ∙ ap (λ (es : List Entry). entries_made (entries_behind n (length es) (take l.count (drop (length es) (plan_in plans n []))))) (its n h);
   }
 
   loses_of : (now.refused ≡ []) ⊎ ((n : ℕ) × In (known 1).made n × ((known n).lost ≡ now.refused)) → LosesNext plans opening.history now.history now.refused

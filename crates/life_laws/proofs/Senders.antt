@@ -23,13 +23,13 @@ use Rattle.gate_senders.specs.declared.kept.Kept.{Kept}
 use Rattle.gate_senders.proofs.Keeping.{submit_failed}
 use Rattle.plan_values.specs.Plans.{payloads_of}
 use Rattle.plan_values.specs.declared.plan.Plan.{Plan}
-use Rattle.gate_plans.specs.Sent.{entries_behind}
+use Rattle.gate_plans.specs.Sent.{entries_behind, HasLost}
 use Rattle.gate_plans.specs.Runs.{plan_of, IsThrough, Counted, CountedEach, Ran, WasRefused}
 use Rattle.gate_plans.specs.Seats.{SeatedFrom}
 use Rattle.gate_plans.specs.declared.sender.Sender.{Sender}
-use Rattle.conn_serve.specs.declared.answer.ServeFault.{ServeFault}
-use Rattle.conn_serve.specs.Senders.{LosesMark, IsRefusal, FinishedFirst, SubmittedAll}
-use Rattle.life_laws.specs.Plans.{plan_in, MadeOf, IsAllMade, LosesMessage}
+use Rattle.conn_door.specs.declared.answer.ServeFault.{ServeFault}
+use Rattle.conn_door.specs.Senders.{LosesMark, IsRefusal, FinishedFirst, SubmittedAll}
+use Rattle.life_laws.specs.Plans.{plan_in, MadeOf, IsAllMade, LosesMessages}
 use Rattle.life_laws.specs.PlanLives.{IsAmong}
 use Rattle.life_laws.proofs.Seen.{stand_long, stand_among, own_among}
 
@@ -109,15 +109,23 @@ module _ {J : Type 0} {G : Ghosts J} (gate : Gate J G) (a : Account) where
   counted_unlost : (n : ℕ) (plan : List (List ℕ)) (s c : Sender J G) → Fresh n plan s → Counted gate s c → (known c.pass).lost ≡ []
   counted_unlost n plan s c f k = k.lost ∙ ap (λ (p : Part). p.lost) f.part
 
-  -- it made as many as it counts as done, so what it met a refusal at is the next of its plan behind these
-  ran_next : (n : ℕ) (plan : List (List ℕ)) (s c t : Sender J G) → Fresh n plan s → Counted gate s c → Ran gate c t → (met : SubmitFault) (w : WasRefused c t met) → slice_get plan (length (known t.pass).mine) ≡ Some w.payload
-  ran_next n plan s c t f k r met w =
+  -- it made as many as it counts as done
+  ran_long : (n : ℕ) (plan : List (List ℕ)) (s c t : Sender J G) → Fresh n plan s → Counted gate s c → Ran gate c t → length (known t.pass).mine ≡ t.done
+  ran_long n plan s c t f k r =
       let had : List Entry = (known c.pass).mine in
       let more : List Entry = entries_behind (known c.pass).number (length had) (take (t.done - c.done) (drop c.done (plan_of c))) in
-      let long : length (known t.pass).mine ≡ t.done =
-      omega (arith, ap length r.sent.mine, length-append had more, stand_long (known t.pass).seen.made (length (known c.pass).seen.made) r.numbers more r.sent.stand, r.each, r.done, k.done) in
+      omega (arith, ap length r.sent.mine, length-append had more, stand_long (known t.pass).seen.made (length (known c.pass).seen.made) r.numbers more r.sent.stand, r.each, r.done, k.done)
+
+  -- so what it met a refusal at is the next of its plan behind these
+  ran_next : (n : ℕ) (plan : List (List ℕ)) (s c t : Sender J G) → Fresh n plan s → Counted gate s c → Ran gate c t → (met : SubmitFault) (w : WasRefused c t met) → slice_get plan (length (known t.pass).mine) ≡ Some w.payload
+  ran_next n plan s c t f k r met w =
       subst (λ (ps : List (List ℕ)). slice_get ps (length (known t.pass).mine) ≡ Some w.payload) (r.plan ∙ (k.plan ∙ f.plan_is))
-      (subst (λ (d : ℕ). slice_get (plan_of t) d ≡ Some w.payload) (sym long) w.next)
+      (subst (λ (d : ℕ). slice_get (plan_of t) d ≡ Some w.payload) (sym (ran_long n plan s c t f k r)) w.next)
+
+  -- and so is what it has left of its plan
+  ran_rest : (n : ℕ) (plan : List (List ℕ)) (s c t : Sender J G) → Fresh n plan s → Counted gate s c → Ran gate c t → drop t.done (plan_of t) ≡ drop (length (known t.pass).mine) plan
+  ran_rest n plan s c t f k r = ap (λ (d : ℕ). drop d (plan_of t)) (sym (ran_long n plan s c t f k r))
+      ∙ ap (λ (ps : List (List ℕ)). drop (length (known t.pass).mine) ps) (r.plan ∙ (k.plan ∙ f.plan_is))
 
   -- all that it made stands in what it has then seen
   ran_seen : (n : ℕ) (plan : List (List ℕ)) (s c t : Sender J G) → Fresh n plan s → Counted gate s c → Ran gate c t → AllByRecursion (IsAmong (known t.pass).seen.made) (known t.pass).mine
@@ -131,17 +139,17 @@ module _ {J : Type 0} {G : Ghosts J} (gate : Gate J G) (a : Account) where
       (all_append (IsAmong seen) had more (subst (λ (es : List Entry). AllByRecursion (IsAmong seen) es) (sym (counted_had n plan s c f k)) opened)
       (stand_among seen (length (known c.pass).seen.made) r.numbers more r.sent.stand))
 
-  -- what it lost: nothing, or the message behind those that it made
+  -- what it lost: nothing, or a piece of its plan behind the messages that it made
   ran_loses : (n : ℕ) (plan : List (List ℕ)) (s c t : Sender J G) → Fresh n plan s → Counted gate s c → Ran gate c t → (r : Option SubmitFault) → t.refused ≡ r
-      → ((known t.pass).lost ≡ []) ⊎ (LosesMessage plan (known t.pass) × (a.history.finished ≢ true))
+      → ((known t.pass).lost ≡ []) ⊎ (LosesMessages plan (known t.pass) × (a.history.finished ≢ true))
   ran_loses n plan s c t f k r None none = inl (r.unlost (λ e. none-some submit.Fault (sym none ∙ e)) ∙ counted_unlost n plan s c f k)
   ran_loses n plan s c t f k r (Some fault) met = ⊎_elim
       (λ failed.
-      let w = r.refused fault met in
-      let l = w.lost failed in
+      let l : HasLost (known t.pass) (drop (length (known t.pass).mine) plan) =
+      subst (λ (ps : List (List ℕ)). HasLost (known t.pass) ps) (ran_rest n plan s c t f k r) ((r.refused fault met).lost failed) in
       let behind : BeginsHistory a.history (known t.pass).seen = (ran_made n plan s c t f k r).behind in
       inr (
-        record { payload = w.payload; next = ran_next n plan s c t f k r fault w; is = l.lost },
+        record { count = l.count; within = l.within; few = l.few; is = l.lost },
         λ was. l.unmarked (sym (ap (λ (h : History). h.finished) (behind.alone was)) ∙ was),
       ))
       (λ other. inl (r.unlost (λ e. other (same_Some fault submit.Fault (sym met ∙ e))) ∙ counted_unlost n plan s c f k))
@@ -165,11 +173,11 @@ module _ {J : Type 0} {G : Ghosts J} (gate : Gate J G) (a : Account) (plans : Li
   abbrev pub NoneEnded : List (Sender J G) → Type 0
   NoneEnded after = (i : ℕ) (d : Sender J G) → i < length after → (known (slice_index_or after i d).pass).ended ≡ false
 
-  -- what a pass of theirs lost: the next message of its plan, or the mark behind all plans; and nothing marks the history
+  -- what a pass of theirs lost: the next messages of its plan, or the mark behind all plans; and nothing marks the history
   pub record PartLoses (after : List (Sender J G)) (i : ℕ) (p : Part) : Type 0 where
     pub opened : a.history.finished ≢ true
     pub unended : NoneEnded after
-    pub what : LosesMessage (plan_in plans (suc i) []) p ⊎ ((p.lost ≡ finish ∷ []) × EachMade after)
+    pub what : LosesMessages (plan_in plans (suc i) []) p ⊎ ((p.lost ≡ finish ∷ []) × EachMade after)
 
   -- what all of them know behind a life; where one made the mark, each made all of its plan
   pub record SendersMade (after : List (Sender J G)) : Type 0 where
@@ -222,7 +230,7 @@ module _ {J : Type 0} {G : Ghosts J} (gate : Gate J G) (a : Account) (plans : Li
           (fresh.each i d (ran_within i lt)) (count.each i d (ran_within i lt)) (ran_at i d lt) (through i d lt)
 
       lost_at : (i : ℕ) (d : Sender J G) (r : Option SubmitFault) → i < length s.ran → (slice_index_or s.ran i d).refused ≡ r
-          → ((known (slice_index_or s.ran i d).pass).lost ≡ []) ⊎ (LosesMessage (plan_in plans (suc i) []) (known (slice_index_or s.ran i d).pass) × (a.history.finished ≢ true))
+          → ((known (slice_index_or s.ran i d).pass).lost ≡ []) ⊎ (LosesMessages (plan_in plans (suc i) []) (known (slice_index_or s.ran i d).pass) × (a.history.finished ≢ true))
       lost_at i d r lt is = ran_loses gate a (suc i) (plan_in plans (suc i) []) (slice_index_or seated i d) (slice_index_or counted i d) (slice_index_or s.ran i d)
           (fresh.each i d (ran_within i lt)) (count.each i d (ran_within i lt)) (ran_at i d lt) r is
 

@@ -22,8 +22,8 @@ use Rattle.turn_laws.specs.Standing.{Has}
 use Rattle.turn_laws.specs.Legs.{IsTimely}
 use Rattle.turn_laws.specs.Lives.{AllAreTurns, state_after, inbox_after}
 use Rattle.two_ends.specs.Loops.{LoopLife, machine_life, IsRefusedOn, legs_in, MayTurn}
-use Rattle.conn_serve.specs.declared.answer.ServeFault.{ServeFault}
-use Rattle.conn_serve.specs.declared.answer.LifeEnd.{LifeEnd}
+use Rattle.conn_door.specs.declared.answer.ServeFault.{ServeFault}
+use Rattle.conn_door.specs.declared.answer.LifeEnd.{LifeEnd}
 use Rattle.conn_serve.specs.Connections.{Connection, turned, all_of, adds_of, refused_of_all}
 use Rattle.conn_serve.specs.Moments.{LifeAt}
 use Rattle.conn_serve.specs.Turned.{MayBegin}

@@ -15,15 +15,15 @@ use Rattle.jr_kept.specs.Outbox as outboxes
 use Rattle.gate_turn.specs.Views.{Account, HasFailed, Limits, Part}
 use Rattle.gate_turn.specs.Rule.{In}
 use Rattle.gate_senders.specs.Kept.{next_entry, IsFullAt}
-use Rattle.conn_serve.specs.declared.answer.ServeFault.{ServeFault}
-use Rattle.conn_serve.specs.declared.answer.ServeFault.TheVariants as faults
-use Rattle.conn_serve.specs.declared.answer.LifeEnd.{LifeEnd}
+use Rattle.conn_door.specs.declared.answer.ServeFault.{ServeFault}
+use Rattle.conn_door.specs.declared.answer.ServeFault.TheVariants as faults
+use Rattle.conn_door.specs.declared.answer.LifeEnd.{LifeEnd}
 use Rattle.conn_steps.specs.Settling.{IsPast}
-use Rattle.conn_serve.specs.Answers.{answer_of}
+use Rattle.conn_door.specs.Answers.{answer_of, IsUnrefused}
 use Rattle.conn_serve.specs.Connections.{wanted_of_all}
 use Rattle.conn_serve.specs.Moments.{Beside, with_seen}
 use Rattle.conn_serve.specs.Served.{ServedOver}
-use Rattle.conn_serve.specs.Opening.{opened_state, IsUnrefused}
+use Rattle.conn_serve.specs.Opening.{opened_state}
 use Rattle.life_laws.specs.Plans.{plan_in, PlansMade, KeepsPlans, LosesNext}
 
 -- What a life is served over: whether the outbox's disk tells its content; links, as the contracts of its dialer have them; and what its clock

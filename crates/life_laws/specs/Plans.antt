@@ -1,12 +1,14 @@
 -- What the passes of a gate know of the plans of its senders, and what an outbox keeps of them (this project's profile).
-use Rattle.std.specs.Prelude.{◌≡◌, ◌≢◌, ◌⊎◌, ℕ, zero, suc, ◌+◌, ◌<◌, true, false, List, [], ◌∷◌, ◌++◌, length, take, drop, slice_get, slice_index_or, Some}
-use Rattle.session_model.specs.Journal.{Entry, History, OutboxRecord, entry, finish, BeginsHistory, InOrder, entries_of}
+use Rattle.std.specs.Prelude.{◌≡◌, ◌≢◌, ◌⊎◌, ℕ, zero, suc, ◌+◌, ◌<◌, ◌≤◌, true, false, List, [], ◌∷◌, ◌++◌, length, take, drop, slice_index_or}
+use mathlib.Core.List.{IsPrefix}
+use Rattle.session_model.specs.Journal.{Entry, History, OutboxRecord, finish, BeginsHistory, InOrder, entries_of}
 use Rattle.session_model.specs.Plans.{sent_by, Continues, Completes}
 use Rattle.jr_boxes.specs.Outboxes.{outbox_of}
+use Rattle.jr_kept.specs.Entries.{entries_made}
 use Rattle.gate_turn.specs.Views.{Account, Part}
 use Rattle.gate_turn.specs.Rule.{In}
-use Rattle.gate_senders.specs.Kept.{next_entry}
-use Rattle.gate_senders.specs.Shown.{entry_after}
+use Rattle.gate_senders.specs.Kept.{next_entries}
+use Rattle.gate_senders.specs.Shown.{entries_after}
 use Rattle.gate_plans.specs.Sent.{entries_behind}
 
 -- the plan of each sender, whatever was applied: that of sender s is the s-th of these, and no other has one
@@ -23,23 +25,24 @@ pub record MadeOf (had : List Entry) (sender : ℕ) (plan : List (List ℕ)) (mi
 abbrev pub IsAllMade : List Entry → ℕ → List (List ℕ) → List Entry → Type 0
 IsAllMade had sender plan mine = mine ≡ had ++ entries_behind sender (length had) (drop (length had) plan)
 
--- what a pass was to add by a call that failed: the message of its sender's plan behind those that it made
-pub record LosesMessage (plan : List (List ℕ)) (p : Part) : Type 0 where
-  pub payload : List ℕ
-  pub next : slice_get plan (length p.mine) ≡ Some payload
-  pub is : p.lost ≡ entry (entry_after p payload) ∷ []
+-- what a pass was to add by a call that failed: so many messages of its sender's plan, a piece at most, behind those that it made
+pub record LosesMessages (plan : List (List ℕ)) (p : Part) : Type 0 where
+  pub count : ℕ
+  pub within : count ≤ length (drop (length p.mine) plan)
+  pub few : count ≤ 64
+  pub is : p.lost ≡ entries_made (entries_after p (take count (drop (length p.mine) plan)))
 
 -- each sender's pass made all of its plan
 abbrev pub AllMade : Account → List (List (List ℕ)) → (ℕ → Part) → Type 0
 AllMade opening plans known = (s : ℕ) → In (length plans) s → IsAllMade (entries_of opening.history.made s) s (plan_in plans s []) (known s).mine
 
--- the pass of a sender lost the next message of its plan, or, where each sender's pass made all of its plan, the mark; the mark stood not
+-- the pass of a sender lost the next messages of its plan, or, where each sender's pass made all of its plan, the mark; the mark stood not
 -- behind the opening history, and no pass made it
 pub record LosesOwn (opening : Account) (plans : List (List (List ℕ))) (known : ℕ → Part) (n : ℕ) : Type 0 where
   pub sender : In (length plans) n
   pub opened : opening.history.finished ≢ true
   pub unended : (m : ℕ) → In (length plans + 1) m → (known m).ended ≢ true
-  pub what : LosesMessage (plan_in plans n []) (known n) ⊎ (((known n).lost ≡ finish ∷ []) × AllMade opening plans known)
+  pub what : LosesMessages (plan_in plans n []) (known n) ⊎ (((known n).lost ≡ finish ∷ []) × AllMade opening plans known)
 
 -- What the passes know, one more than these plans: each sender's made messages of its plan, the last made nothing and no mark, and where one
 -- made the mark, each sender's made all of its plan; and what a pass lost was its own
@@ -59,13 +62,14 @@ pub record KeepsPlans (plans : List (List (List ℕ))) (opening closing : Histor
   pub done : opening.finished ≡ false → closing.finished ≡ true → (s : ℕ) → Completes (plan_in plans s []) (sent_by opening.made s) (sent_by closing.made s)
   pub none : plans ≡ [] → closing.finished ≡ opening.finished
 
--- the records behind a closing history of which a stop may leave a beginning are the message of a sender's plan behind those that the
--- history has of it
-pub record NextMessage (plans : List (List (List ℕ))) (closing : History) (lost : List OutboxRecord) : Type 0 where
+-- the records behind a closing history of which a stop may leave a beginning are so many messages of a sender's plan, a piece at most, behind
+-- those that the history has of it
+pub record NextMessages (plans : List (List (List ℕ))) (closing : History) (lost : List OutboxRecord) : Type 0 where
   pub sender : ℕ
-  pub payload : List ℕ
-  pub next : slice_get (plan_in plans sender []) (length (entries_of closing.made sender)) ≡ Some payload
-  pub is : lost ≡ entry (next_entry closing sender payload) ∷ []
+  pub count : ℕ
+  pub within : count ≤ length (drop (length (entries_of closing.made sender)) (plan_in plans sender []))
+  pub few : count ≤ 64
+  pub is : lost ≡ entries_made (next_entries closing sender (take count (drop (length (entries_of closing.made sender)) (plan_in plans sender []))))
 
 -- they are the mark, and each sender sent all of its plan
 pub record FinishBehind (plans : List (List (List ℕ))) (opening closing : History) (lost : List OutboxRecord) : Type 0 where
@@ -73,14 +77,19 @@ pub record FinishBehind (plans : List (List (List ℕ))) (opening closing : Hist
   pub all : (s : ℕ) → Completes (plan_in plans s []) (sent_by opening.made s) (sent_by closing.made s)
   pub is : lost ≡ finish ∷ []
 
--- what a life lost with a failed call of its outbox's disk: nothing, or one record, which the senders' plans have behind the closing history
+-- what a life lost with a failed call of its outbox's disk: nothing, or records that the senders' plans have behind the closing history, the
+-- next messages of one sender or the mark
 abbrev pub LosesNext : List (List (List ℕ)) → (opening closing : History) → List OutboxRecord → Type 0
 LosesNext plans opening closing lost =
-    (lost ≡ []) ⊎ ((closing.finished ≡ false) × (NextMessage plans closing lost ⊎ FinishBehind plans opening closing lost))
+    (lost ≡ []) ⊎ ((closing.finished ≡ false) × (NextMessages plans closing lost ⊎ FinishBehind plans opening closing lost))
 
--- the closing history with what was lost behind it is one history, in order as the closing one is, which keeps the plans too
-pub record GoesOnWith (plans : List (List (List ℕ))) (opening closing : History) (lost : List OutboxRecord) : Type 0 where
+-- the closing history goes on with these records behind it as one history, in order as the closing one is, which keeps the plans too
+pub record GoesOnBy (plans : List (List (List ℕ))) (opening closing : History) (kept : List OutboxRecord) : Type 0 where
   pub whole : History
-  pub goes_on : outbox_of closing ++ lost ≡ outbox_of whole
+  pub goes_on : outbox_of closing ++ kept ≡ outbox_of whole
   pub keeps : KeepsPlans plans opening whole
   pub in_order : InOrder closing.made → InOrder whole.made
+
+-- it does with each beginning of what was lost
+abbrev pub GoesOnWith : List (List (List ℕ)) → (opening closing : History) → List OutboxRecord → Type 0
+GoesOnWith plans opening closing lost = (kept : List OutboxRecord) → IsPrefix kept lost → GoesOnBy plans opening closing kept

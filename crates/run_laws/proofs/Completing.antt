@@ -7,8 +7,8 @@ use Rattle.jr_dated.specs.declared.journal.Journal.{Ghosts}
 use Rattle.jr_boxes.specs.declared.faults.Which.TheVariants.{Outbox, Inbox}
 use Rattle.cmd_base.specs.declared.status.Status.{Status}
 use Rattle.cmd_base.specs.declared.status.Status.TheVariants.{Memory}
-use Rattle.conn_serve.specs.declared.answer.ServeFault.TheVariants as faults
-use Rattle.conn_serve.specs.Answers.{answer_of}
+use Rattle.conn_door.specs.declared.answer.ServeFault.TheVariants as faults
+use Rattle.conn_door.specs.Answers.{answer_of}
 use Rattle.cmd_session.specs.Inputs.{configuration_at, flow_received, end_of}
 use Rattle.cmd_session.specs.Lived.{status_of, IsPlannedLife, HasLivedOver, Lived}
 use Rattle.cmd_session.specs.Outsides.{Sees, live_of, counts_of}

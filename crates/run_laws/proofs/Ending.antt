@@ -10,13 +10,12 @@ use Rattle.gw_links.specs.Dialers.{DialerTold}
 use Rattle.conn_lines.specs.declared.close.Close.{Close}
 use Rattle.conn_lines.specs.declared.close.Close.TheVariants as closes
 use Rattle.cmd_base.specs.declared.status.Status.TheVariants.{Full}
-use Rattle.conn_serve.specs.declared.answer.ServeFault.{ServeFault}
-use Rattle.conn_serve.specs.declared.answer.ServeFault.TheVariants as faults
-use Rattle.conn_serve.specs.declared.answer.LifeEnd.{LifeEnd}
-use Rattle.conn_serve.specs.declared.answer.LifeEnd.TheVariants as ends
-use Rattle.conn_serve.specs.Answers.{answer_of}
+use Rattle.conn_door.specs.declared.answer.ServeFault.{ServeFault}
+use Rattle.conn_door.specs.declared.answer.ServeFault.TheVariants as faults
+use Rattle.conn_door.specs.declared.answer.LifeEnd.{LifeEnd}
+use Rattle.conn_door.specs.declared.answer.LifeEnd.TheVariants as ends
+use Rattle.conn_door.specs.Answers.{answer_of, IsUnrefused}
 use Rattle.conn_serve.specs.Connections.{Connection, Follows, IsFollowed}
-use Rattle.conn_serve.specs.Opening.{IsUnrefused}
 use Rattle.conn_serve.specs.Served.{EndsWith, IsLifeAnswer}
 use Rattle.life_laws.specs.PlanLives.{IsOfSender}
 use Rattle.cmd_session.specs.Lived.{status_of}

@@ -1,5 +1,5 @@
 -- What the outbox holds of its senders behind any runs of one end, whatever INPUT each had.
-use Rattle.std.proofs.Common.{◌≡◌, ◌⊎◌, inl, inr, ⊎_elim, ℕ, zero, suc, ◌+◌, ◌≤◌, true, false, true≢false, Contains, List, [], ◌∷◌, ◌++◌, map, length, drop, slice_get, Option, Some, None, IsSomeAnd, Result, arith, refl, sym, ap, subst, ◌∙◌, append_assoc}
+use Rattle.std.proofs.Common.{◌≡◌, ◌⊎◌, inl, inr, ⊎_elim, ℕ, zero, suc, ◌+◌, ◌≤◌, true, false, true≢false, Contains, List, [], ◌∷◌, ◌++◌, map, length, drop, slice_get, Option, Some, None, IsSomeAnd, arith, refl, sym, ap, subst, ◌∙◌, append_assoc}
 use Rattle.std.specs.Prelude.{IsTrue, is_some}
 use Rattle.std.proofs.lemmas.Bool.{cases_Bool}
 use Rattle.std.proofs.lemmas.Option.{none-some}
@@ -12,7 +12,7 @@ use Rattle.session_model.proofs.Lists.{prefix_self, prefix_trans}
 use Rattle.session_model.proofs.Journals.{prefix_entries}
 use Rattle.fixp_shake.specs.declared.config.Role.{Role}
 use Rattle.plan_text.specs.Plans.{HasPlans}
-use Rattle.plan_outbox.specs.Behind.{MayStand, GoesOnFrom}
+use Rattle.plan_outbox.specs.Behind.{GoesOnFrom}
 use Rattle.jr_dated.specs.declared.journal.Journal.{Ghosts}
 use Rattle.cmd_session.specs.Journals.{IsJournal, Leaves}
 use Rattle.cmd_session.proofs.Verdicts.{at_most_one_verdict}

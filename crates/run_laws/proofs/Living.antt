@@ -25,8 +25,8 @@ use Rattle.turn_laws.specs.Lives.{state_after, inbox_after}
 use Rattle.jr_dated.specs.declared.journal.Journal.{Ghosts}
 use Rattle.jr_boxes.specs.Outboxes.{outbox_of}
 use Rattle.jr_kept.specs.Inbox.{HoldsBox, next_of}
-use Rattle.conn_serve.specs.declared.answer.ServeFault.{ServeFault}
-use Rattle.conn_serve.specs.declared.answer.LifeEnd.{LifeEnd}
+use Rattle.conn_door.specs.declared.answer.ServeFault.{ServeFault}
+use Rattle.conn_door.specs.declared.answer.LifeEnd.{LifeEnd}
 use Rattle.conn_serve.specs.Connections.{Connection, turned, IsFaithfulLeg, all_of, adds_of, refused_of_all}
 use Rattle.conn_serve.specs.Moments.{LifeAt}
 use Rattle.conn_serve.specs.Opening.{opened_state}

@@ -19,7 +19,7 @@ use Rattle.jr_boxes.specs.Outboxes.{record_of, records_of_history}
 use Rattle.jr_boxes.specs.Inboxes.{records_of_inbox}
 use Rattle.jr_kept.specs.declared.inbox.Inbox.{Inbox}
 use Rattle.cmd_config.specs.Settings.{own_flow, peer_flow}
-use Rattle.conn_serve.specs.declared.answer.ServeFault.{ServeFault}
+use Rattle.conn_door.specs.declared.answer.ServeFault.{ServeFault}
 use Rattle.conn_serve.specs.Connections.{all_of, adds_of}
 use Rattle.life_laws.specs.Plans.{plan_in}
 use Rattle.cmd_session.specs.Inputs.{end_of}

@@ -1,5 +1,5 @@
 -- The sample of several runs of two ends, computed.
-use Rattle.std.proofs.Common.{◌≡◌, ◌⊎◌, inl, inr, ℕ, zero, suc, ◌+◌, ◌<◌, ◌≤◌, ◌^◌, Bool, true, false, true≢false, cond, ◌==◌, List, [], ◌∷◌, ◌++◌, map, length, drop, Option, Some, None, Ok, Err, Result, refl, sym, ap, subst, ◌∙◌, append-nil, arith}
+use Rattle.std.proofs.Common.{◌≡◌, ◌⊎◌, inl, inr, ℕ, zero, suc, ◌+◌, ◌<◌, ◌^◌, Bool, true, false, true≢false, cond, ◌==◌, List, [], ◌∷◌, ◌++◌, map, length, drop, Option, Some, None, Ok, Err, Result, refl, sym, ap, subst, ◌∙◌, append-nil, arith}
 use Rattle.std.specs.Prelude.{option_to_list, IsSomeAnd, IfSome}
 use Rattle.sofh_frame.specs.Framing.{IsBytes}
 use Rattle.std.specs.Option.{ForSome}
@@ -9,7 +9,7 @@ use Rattle.session_model.specs.Journal.{Entry, OutboxRecord, entry, entries, His
 use Rattle.session_model.specs.Inbox.{InboxRecord}
 use Rattle.session_model.specs.Plans.{sent_by}
 use Rattle.session_model.specs.Lives.{IsImage, KeepsConnections, KeepsOutbox}
-use Rattle.session_model.proofs.Lists.{prefix_equal}
+use Rattle.session_model.proofs.Lists.{prefix_self, prefix_equal}
 use Rattle.gate_turn.proofs.Histories.{begins_self}
 use Rattle.fixp_msgs.specs.Payload.{IsApplication}
 use Rattle.fixp_shake.specs.declared.config.EndConfig.{EndConfig}
@@ -46,23 +46,23 @@ use Rattle.jr_kept.specs.Inbox.{HoldsBox, next_of, is_negotiated}
 use Rattle.cmd_config.specs.declared.configuration.Configuration.{Configuration}
 use Rattle.conn_lines.specs.Lines.{connection_line}
 use Rattle.conn_lines.specs.declared.close.Close.TheVariants as closes
-use Rattle.conn_serve.specs.declared.answer.ServeFault.{ServeFault}
-use Rattle.conn_serve.specs.declared.answer.ServeFault.TheVariants as faults
-use Rattle.conn_serve.specs.declared.answer.LifeEnd.{LifeEnd}
-use Rattle.conn_serve.specs.declared.answer.LifeEnd.TheVariants as ends
+use Rattle.conn_door.specs.declared.answer.ServeFault.{ServeFault}
+use Rattle.conn_door.specs.declared.answer.ServeFault.TheVariants as faults
+use Rattle.conn_door.specs.declared.answer.LifeEnd.{LifeEnd}
+use Rattle.conn_door.specs.declared.answer.LifeEnd.TheVariants as ends
 use Rattle.conn_serve.specs.Connections.{LinkSeen, IsOver, ByClock, Connection, all_of, MadeNoMore, IsConnection, AllEnded, IsFollowed, IsFaithfulLeg, adds_of, refused_of_all}
-use Rattle.conn_serve.specs.Answers.{answer_of}
+use Rattle.conn_door.specs.Answers.{answer_of, IsUnrefused}
 use Rattle.conn_steps.specs.Settling.{HaveRoom}
 use Rattle.gw_outside.specs.Faults.{HasRisen}
 use Rattle.fixp_msgs.specs.declared.flow.Flow.TheVariants.{Recoverable}
 use Rattle.jr_boxes.specs.Inboxes.{records_of_inbox}
 use Rattle.life_laws.specs.PlanLives.{IsOfSender}
 use Rattle.conn_serve.specs.Moments.{life_at}
-use Rattle.conn_serve.specs.Opening.{opened_state, IsUnrefused}
+use Rattle.conn_serve.specs.Opening.{opened_state}
 use Rattle.conn_serve.specs.Served.{ServedLife, ServedOver, IsTold}
 use Rattle.life_laws.specs.Lives.{LifeOfLoop, served_of}
-use Rattle.life_laws.specs.Plans.{plan_in, KeepsPlans, LosesNext, GoesOnWith}
-use Rattle.life_laws.proofs.Lost.{plans_go_on, lost_few}
+use Rattle.life_laws.specs.Plans.{plan_in, KeepsPlans, LosesNext, GoesOnBy, GoesOnWith}
+use Rattle.life_laws.proofs.Lost.{plans_go_on}
 use Rattle.life_laws.proofs.Loops.{served_keeps}
 use Rattle.life_laws.proofs.Opened.{opened_opens}
 use Rattle.life_laws.proofs.Outboxes.{entries-outbox_of, plans_keep_outbox}
@@ -205,12 +205,14 @@ module _ {J : Type 0} {G : Ghosts J} (box : Inbox J G) (held : HoldsBox box [] [
   pub goes : GoesOnWith plans h h lost
   goes = plans_go_on plans h h lost (keeps_same plans h unmarked) loses
 
+  pub goes_whole : GoesOnBy plans h h lost
+  goes_whole = goes lost (prefix_self lost)
+
   pub outbox_is_kept : (t : G.tells) → KeepsOutbox (plan_in plans) (life_in (machine_life (life t).life))
   outbox_is_kept t =
       let k = life t in
-      plans_keep_outbox plans h h goes.whole (life_in (machine_life k.life)) (keeps_same plans h unmarked) order goes.keeps (goes.in_order order) k.outboxes.0 k.outboxes.1
-      (ap (λ (rs : List OutboxRecord). rs ++ k.life.refused_outbox) k.outboxes.1 ∙ (ap (λ (rs : List OutboxRecord). outbox_of h ++ rs) k.outboxes.2 ∙ goes.goes_on))
-      (subst (λ (rs : List OutboxRecord). length rs ≤ 1) (sym k.outboxes.2) (lost_few plans h h lost loses))
+      plans_keep_outbox plans h h (life_in (machine_life k.life)) (keeps_same plans h unmarked) order
+      (subst (λ (rs : List OutboxRecord). GoesOnWith plans h h rs) (sym k.outboxes.2) goes) k.outboxes.0 k.outboxes.1
       (_, sym k.keeps.inbox_adds)
 
   abbrev quiet : LivedOver memory config plans before after box box result
@@ -232,10 +234,10 @@ module _ {J : Type 0} {G : Ghosts J} (box : Inbox J G) (held : HoldsBox box [] [
     grows = begins_self h;
     lost = lost;
     loses = loses;
-    whole = goes.whole;
-    goes_on = goes.goes_on;
-    in_order = goes.in_order order;
-    keeps = goes.keeps;
+    whole = goes_whole.whole;
+    goes_on = goes_whole.goes_on;
+    in_order = goes_whole.in_order order;
+    keeps = goes_whole.keeps;
     life = life;
     contract = λ t. record { connections = keeps t; outbox = outbox_is_kept t };
     out_left = out_left;
@@ -279,7 +281,7 @@ abbrev first_plans : List (List (List ℕ))
 first_plans = (submitted.payload ∷ []) ∷ []
 
 pub loses_first : LosesNext first_plans nothing nothing (entry submitted ∷ [])
-loses_first = inr (refl, inl (record { sender = 1; payload = submitted.payload; next = refl; is = refl }))
+loses_first = inr (refl, inl (record { sender = 1; count = 1; within = omega arith; few = omega arith; is = refl }))
 
 module _ {J : Type 0} {G : Ghosts J} (box : Inbox J G) (held : HoldsBox box [] []) (role : Role) (text : List ℕ) where
   abbrev first : MemoryRun

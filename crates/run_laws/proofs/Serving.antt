@@ -21,8 +21,8 @@ use Rattle.jr_kept.specs.declared.inbox.Inbox.{Inbox}
 use Rattle.conn_lines.specs.declared.close.Close.{Close}
 use Rattle.conn_lines.specs.declared.close.Close.TheVariants as closes
 use Rattle.conn_serve.specs.Connections.{Connection, IsFaithfulLeg, turned, all_of, CutAt, IsConnection, ClosesAs, HasEnded, AllEnded}
-use Rattle.conn_serve.specs.declared.answer.ServeFault.{ServeFault}
-use Rattle.conn_serve.specs.declared.answer.LifeEnd.{LifeEnd}
+use Rattle.conn_door.specs.declared.answer.ServeFault.{ServeFault}
+use Rattle.conn_door.specs.declared.answer.LifeEnd.{LifeEnd}
 use Rattle.conn_serve.specs.Moments.{LifeAt}
 use Rattle.conn_serve.specs.Served.{WasGivenUp, ServedLife}
 use Rattle.conn_serve.proofs.Following.{were_are_turns}

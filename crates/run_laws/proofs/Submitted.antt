@@ -13,7 +13,7 @@ use Rattle.fixp_shake.specs.declared.config.Role.{Role}
 use Rattle.plan_text.specs.Plans.{HasPlans}
 use Rattle.jr_dated.specs.declared.journal.Journal.{Ghosts}
 use Rattle.jr_kept.specs.declared.inbox.Inbox.{Inbox}
-use Rattle.conn_serve.specs.declared.answer.ServeFault.{ServeFault}
+use Rattle.conn_door.specs.declared.answer.ServeFault.{ServeFault}
 use Rattle.cmd_session.specs.declared.outside.SessionOutside.{SessionOutside}
 use Rattle.cmd_session.specs.Journals.{IsJournal, Leaves}
 use Rattle.cmd_session.proofs.Verdicts.{at_most_one_verdict}

@@ -20,9 +20,9 @@ use Rattle.cmd_base.specs.Causes.{SessionCounts}
 use Rattle.cmd_base.specs.Texts.{input_limit}
 use Rattle.cmd_base.specs.declared.status.Status.{Status}
 use Rattle.cmd_base.specs.declared.status.Status.TheVariants.{Done, Unfinished, Rejected, Full, Turns, Memory}
-use Rattle.conn_serve.specs.declared.answer.ServeFault.{ServeFault}
-use Rattle.conn_serve.specs.declared.answer.ServeFault.TheVariants as faults
-use Rattle.conn_serve.specs.declared.answer.LifeEnd.TheVariants as ends
+use Rattle.conn_door.specs.declared.answer.ServeFault.{ServeFault}
+use Rattle.conn_door.specs.declared.answer.ServeFault.TheVariants as faults
+use Rattle.conn_door.specs.declared.answer.LifeEnd.TheVariants as ends
 use Rattle.conn_serve.specs.Connections.{Connection}
 use Rattle.conn_serve.specs.Served.{IsLifeAnswer}
 use Rattle.cmd_session.specs.Inputs.{configuration_at, flow_received, end_of}

@@ -13,8 +13,8 @@ use Rattle.jr_dated.specs.declared.journal.Journal.{Ghosts}
 use Rattle.cmd_base.specs.declared.status.Status.{Status}
 use Rattle.cmd_config.specs.declared.configuration.Link.{Link}
 use Rattle.cmd_config.specs.declared.configuration.Configuration.{Configuration}
-use Rattle.conn_serve.specs.declared.answer.ServeFault.{ServeFault}
-use Rattle.conn_serve.specs.declared.answer.LifeEnd.{LifeEnd}
+use Rattle.conn_door.specs.declared.answer.ServeFault.{ServeFault}
+use Rattle.conn_door.specs.declared.answer.LifeEnd.{LifeEnd}
 use Rattle.conn_serve.specs.Connections.{Connection, turned, all_of}
 use Rattle.conn_serve.specs.Moments.{LifeAt}
 use Rattle.conn_serve.specs.Served.{WasGivenUp, ServedLife}

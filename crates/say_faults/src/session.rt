@@ -144,7 +144,7 @@ fn rule_on_numbers(violation: Violation) -> Filled {
             expected as u128,
         ),
         Violation::NumberTooLarge { announced } => with_one(
-            "number # is above the limit of 16777216 messages",
+            "number # is above the limit of messages that this run takes",
             announced as u128,
         ),
         Violation::BadRetransmission { expected, found } => retransmission_fault(expected, found),

@@ -8,3 +8,6 @@ pub mod Given
 pub mod Whole
 pub mod Ends
 pub mod LoopSampled
+pub mod Going
+pub mod Moving
+pub mod Driven

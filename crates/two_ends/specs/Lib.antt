@@ -6,3 +6,6 @@ pub mod Samples
 pub mod Loops
 pub mod LoopLaws
 pub mod LoopSamples
+pub mod Driving
+pub mod Pairing
+pub mod DrivingLaws

@@ -33,6 +33,7 @@ fn reason<R>(disk: &FileDisk<'_, R>) -> &'static str {
         Some(DiskReason::SameFile(_)) => "SameFile",
         Some(DiskReason::TooLong) => "TooLong",
         Some(DiskReason::Foreign) => "Foreign",
+        Some(DiskReason::Pipe) => "Pipe",
         None => "none",
     }
 }

@@ -94,13 +94,13 @@ pub struct Setting {
     pub plans: Vec<Plan>,
 }
 
-/// What a case begins with; None where a call is refused, or there are more than four plans.
+/// What a case begins with; None where a call is refused, or there are more than five plans.
 pub fn ready(alloc: Global, case: Case<'_>) -> Option<Setting>
     ensures sound { IfSome result (λ r. is_broken r.outbox ≡ false) }
-    ensures few { IfSome result (λ r. vec_len r.plans ≤ 4) }
+    ensures few { IfSome result (λ r. vec_len r.plans ≤ 5) }
 {
     let plans = plans(alloc, case.lengths)?;
-    if plans.len() > 4 {
+    if plans.len() > 5 {
         return None;
     }
     let calls = opening_calls(alloc).saturating_add(case.fuse);

@@ -114,7 +114,7 @@ fn turning<R: Threads + Wait + Sync>(
 }
 
 /// How many messages all senders were told of.
-fn all_done(done: &[u64; 4]) -> u64 {
+fn all_done(done: &[u64; 5]) -> u64 {
     let mut sum = 0u64;
     for count in done {
         sum = sum.saturating_add(*count);
@@ -155,10 +155,11 @@ fn add_each(ran: &mut Ran, line: &mut String) -> Result<(), AllocError> {
 fn add_entries(outbox: &mut Outbox<Log>, line: &mut String) -> Result<(), AllocError> {
     let (first, second) = (outbox.mine(1), outbox.mine(2));
     let (third, fourth) = (outbox.mine(3), outbox.mine(4));
-    let (front, ordered) = (outbox.front(), in_order(outbox));
+    let (fifth, front) = (outbox.mine(5), outbox.front());
+    let ordered = in_order(outbox);
     write!(
         line,
-        "{front} entries, {first} {second} {third} {fourth}, in order {ordered}"
+        "{front} entries, {first} {second} {third} {fourth} {fifth}, in order {ordered}"
     )
 }
 
@@ -222,8 +223,8 @@ fn add_finished(alloc: Global, ran: Ran, line: &mut String) -> Result<(), AllocE
 
 /// Adds what became of the two senders.
 fn add_closed(
-    done: &[u64; 4],
-    refused: &[Option<SubmitFault>; 4],
+    done: &[u64; 5],
+    refused: &[Option<SubmitFault>; 5],
     line: &mut String,
 ) -> Result<(), AllocError> {
     let [first, second, ..] = *refused;
@@ -241,7 +242,7 @@ fn add_closed(
 
 /// Adds whether what was told stands, in order, and the Finish behind it.
 fn add_standing(
-    done: &[u64; 4],
+    done: &[u64; 5],
     outbox: &mut Outbox<Log>,
     line: &mut String,
 ) -> Result<(), AllocError> {
@@ -274,7 +275,7 @@ fn add_left(alloc: Global, ran: Ran, pick: Pick, line: &mut String) -> Result<()
 }
 
 /// How many senders were refused for the failing call, and how many for another reason than it and the broken outbox.
-fn refusals(refused: &[Option<SubmitFault>; 4]) -> (u64, u64) {
+fn refusals(refused: &[Option<SubmitFault>; 5]) -> (u64, u64) {
     let (mut faults, mut others) = (0u64, 0u64);
     for fault in refused {
         match fault {
@@ -287,8 +288,8 @@ fn refusals(refused: &[Option<SubmitFault>; 4]) -> (u64, u64) {
 }
 
 fn add_refused(
-    done: &[u64; 4],
-    refused: &[Option<SubmitFault>; 4],
+    done: &[u64; 5],
+    refused: &[Option<SubmitFault>; 5],
     line: &mut String,
 ) -> Result<(), AllocError> {
     let (faults, others) = refusals(refused);
@@ -297,7 +298,7 @@ fn add_refused(
 }
 
 fn add_kept(
-    done: &[u64; 4],
+    done: &[u64; 5],
     outbox: &mut Outbox<Log>,
     line: &mut String,
 ) -> Result<(), AllocError> {

@@ -22,25 +22,25 @@ use std::thread::Threads;
 #[derive(Drop)]
 pub struct Ran {
     pub answer: Result<(), SubmitFault>,
-    /// How many messages each sender was told of, sender 1 first, up to 4.
-    pub done: [u64; 4],
-    pub refused: [Option<SubmitFault>; 4],
+    /// How many messages each sender was told of, sender 1 first, up to 5.
+    pub done: [u64; 5],
+    pub refused: [Option<SubmitFault>; 5],
     pub outbox: Outbox<Log>,
 }
 
 /// How many messages each sender was told of.
-fn told(senders: &[Sender<Log>]) -> [u64; 4] {
-    let mut done = [0; 4];
-    for place in 0..senders.len().min(4) {
+fn told(senders: &[Sender<Log>]) -> [u64; 5] {
+    let mut done = [0; 5];
+    for place in 0..senders.len().min(5) {
         done[place] = senders[place].done;
     }
     done
 }
 
 /// What each sender was refused for.
-fn refusals(senders: &[Sender<Log>]) -> [Option<SubmitFault>; 4] {
-    let mut refused = [None; 4];
-    for place in 0..senders.len().min(4) {
+fn refusals(senders: &[Sender<Log>]) -> [Option<SubmitFault>; 5] {
+    let mut refused = [None; 5];
+    for place in 0..senders.len().min(5) {
         refused[place] = senders[place].refused;
     }
     refused

@@ -2,7 +2,7 @@ use Rattle.std.proofs.Common.{◌≡◌, refl, ap, subst, ◌∙◌, arith}
 use Rattle.conn_turns.specs.Lines.{Line}
 use Rattle.conn_loop.specs.Ends.{line_in}
 use Rattle.conn_loop.proofs.Lasting.{stays_on}
-use Rattle.conn_serve.specs.declared.answer.ServeFault.TheVariants as faults
+use Rattle.conn_door.specs.declared.answer.ServeFault.TheVariants as faults
 use Rattle.conn_serve.specs.Answers.{IsOfTurn}
 use Rattle.conn_serve.specs.Ends.{connection_in, faults_in_end}
 use Rattle.conn_serve.proofs.Making.{blamed_since}

@@ -3,7 +3,7 @@ use Rattle.std.proofs.lemmas.Bool.{false≢true}
 use Rattle.gate_turn.specs.Places.{known}
 use Rattle.gate_senders.specs.Gate.{opening_of}
 use Rattle.conn_turns.specs.Lines.{Line}
-use Rattle.conn_serve.specs.declared.answer.ServeFault.TheVariants as faults
+use Rattle.conn_door.specs.declared.answer.ServeFault.TheVariants as faults
 use Rattle.conn_serve.specs.Moments.{faults_at, serving_at}
 use Rattle.conn_serve.proofs.Living.{nothing_served}
 use Rattle.conn_serve.proofs.Opening.{may_open, blamed_none, served_at, served_by}

@@ -7,7 +7,7 @@ use Rattle.jr_boxes.specs.declared.faults.SubmitFault.TheVariants as submit
 use Rattle.jr_boxes.specs.Outboxes.{with_entry}
 use Rattle.jr_boxes.specs.Tallies.{count_in}
 use Rattle.jr_kept.specs.Outbox.{mine_of, IsPastLimit}
-use Rattle.jr_boxes.proofs.Held.{on_refused}
+use Rattle.jr_boxes.proofs.Answering.{on_refused}
 use Rattle.jr_kept.proofs.Held.{held_entry, held_refused, held_same, some_on, submit_failed, entry_size}
 use Rattle.jr_kept.proofs.outbox.Outbox.accept.Goals as goal
 use Rattle.jr_kept.proofs.outbox.Outbox.accept.Goals.{then-entries-self-via-then-entries-self, then-entries-self-via-else-entries-self+then-payload-room}

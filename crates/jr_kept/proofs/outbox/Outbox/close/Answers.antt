@@ -2,7 +2,7 @@ use Rattle.std.proofs.Common.{◌≡◌, [], refl, sym, ◌∙◌, arith}
 use Rattle.jr_record.specs.declared.record.Record.TheVariants as kinds
 use Rattle.session_model.specs.Journal.{finish}
 use Rattle.jr_boxes.specs.Outboxes.{with_mark}
-use Rattle.jr_boxes.proofs.Held.{on_refused}
+use Rattle.jr_boxes.proofs.Answering.{on_refused}
 use Rattle.jr_boxes.specs.declared.faults.CloseFault.TheVariants as closing
 use Rattle.jr_kept.proofs.Held.{close_failed, held_mark, held_refused, held_same, some_on}
 use Rattle.jr_kept.proofs.outbox.Outbox.close.Goals as goal

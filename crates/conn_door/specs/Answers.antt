@@ -1,0 +1,80 @@
+-- What a life answers for its connections and the senders beside them (this project's profile).
+use Rattle.std.specs.Prelude.{⊤, Bool, true, false, if◌then◌else◌, Option, Some, None, Result, Ok, Err, IsTrue}
+use Rattle.jr_boxes.specs.declared.faults.SubmitFault.{SubmitFault}
+use Rattle.jr_boxes.specs.declared.faults.SubmitFault.TheVariants as submit
+use Rattle.jr_boxes.specs.declared.faults.CloseFault.{CloseFault}
+use Rattle.jr_boxes.specs.declared.faults.CloseFault.TheVariants as closing
+use Rattle.conn_door.specs.declared.answer.ServeFault.{ServeFault}
+use Rattle.conn_door.specs.declared.answer.ServeFault.TheVariants as faults
+use Rattle.conn_door.specs.declared.answer.LifeEnd.{LifeEnd}
+use Rattle.conn_door.specs.declared.answer.LifeEnd.TheVariants as ends
+
+-- what a refusal of a sender and one of the Finish are to a life; that the outbox is closed is none
+abbrev pub submit_fault : SubmitFault → Option ServeFault
+submit_fault submit.Broken = Some faults.Journal
+submit_fault submit.Closed = None
+submit_fault (submit.Full entries bytes) = Some (faults.Full entries bytes)
+submit_fault submit.Memory = Some faults.Memory
+submit_fault submit.Fault = Some faults.Journal
+
+abbrev pub finish_fault : CloseFault → Option ServeFault
+finish_fault closing.Broken = Some faults.Journal
+finish_fault closing.Closed = None
+finish_fault closing.Memory = Some faults.Memory
+finish_fault closing.Fault = Some faults.Journal
+
+-- a fault of the connections' side that yields to each refusal of a sender or of the Finish
+abbrev pub yields : ServeFault → Bool
+yields faults.Output = false
+yields faults.Journal = false
+yields (faults.Changed at) = false
+yields faults.Dial = false
+yields (faults.Unfinished phase) = true
+yields (faults.Rejected template code) = true
+yields (faults.Full entries bytes) = false
+yields faults.Turns = true
+yields faults.Memory = false
+
+-- that a journal failed
+abbrev pub is_journal : ServeFault → Bool
+is_journal faults.Output = false
+is_journal faults.Journal = true
+is_journal (faults.Changed at) = false
+is_journal faults.Dial = false
+is_journal (faults.Unfinished phase) = false
+is_journal (faults.Rejected template code) = false
+is_journal (faults.Full entries bytes) = false
+is_journal faults.Turns = false
+is_journal faults.Memory = false
+
+-- a fault of the connections' side that yields to this refusal: one that yields to each, and that of the dialer to a failed journal
+abbrev pub yields_to : (fault refusal : ServeFault) → Bool
+yields_to faults.Output refusal = false
+yields_to faults.Journal refusal = false
+yields_to (faults.Changed at) refusal = false
+yields_to faults.Dial refusal = is_journal refusal
+yields_to (faults.Unfinished phase) refusal = true
+yields_to (faults.Rejected template code) refusal = true
+yields_to (faults.Full entries bytes) refusal = false
+yields_to faults.Turns refusal = true
+yields_to faults.Memory refusal = false
+
+-- a refusal is answered unless the connections' side ended with a fault that does not yield to it. Connections that were told to stop
+-- without one want memory
+abbrev pub answer_of : Result LifeEnd ServeFault → Option ServeFault → Result (Unit {0}) ServeFault
+answer_of (Ok ends.Finished) None = Ok tt
+answer_of (Ok ends.Finished) (Some refusal) = Err refusal
+answer_of (Ok ends.Stopped) None = Err faults.Memory
+answer_of (Ok ends.Stopped) (Some refusal) = Err refusal
+answer_of (Err fault) None = Err fault
+answer_of (Err fault) (Some refusal) = if yields_to fault refusal then Err refusal else Err fault
+
+-- what is answered behind an answer, where senders that went on were refused so, if they were
+abbrev pub late_answer : Result (Unit {0}) ServeFault → Option ServeFault → Result (Unit {0}) ServeFault
+late_answer answer None = answer
+late_answer answer (Some fault) = Err fault
+
+-- no refusal of a sender or of the Finish is answered, and nothing failed
+abbrev pub IsUnrefused : Result (Unit {0}) ServeFault → Type 0
+IsUnrefused (Ok done) = ⊤
+IsUnrefused (Err fault) = IsTrue (yields fault)

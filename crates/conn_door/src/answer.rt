@@ -1,0 +1,136 @@
+//! How a life of connections ends, and what it answers for them and for the senders beside them.
+
+ghost use Rattle.std.specs.Prelude.{◌≡◌, IsTrue, IsFalse};
+ghost use Rattle.conn_door.specs.Answers.{submit_fault, finish_fault, yields_to, late_answer, answer_of, IsUnrefused};
+
+use fixp_shake::Phase;
+use jr_boxes::{CloseFault, SubmitFault};
+use thiserror::Error;
+
+/// How the connections of a life ended that did not fail.
+#[derive(Clone, Copy, Debug, PartialEq, Eq)]
+pub enum LifeEnd {
+    /// Both finishes were exchanged on the last connection.
+    Finished,
+    /// They were told to stop.
+    Stopped,
+}
+
+/// Why a life did not end with both finishes exchanged.
+#[derive(Clone, Copy, Debug, PartialEq, Eq, Error)]
+pub enum ServeFault {
+    /// OUT failed: it has taken a front of the lines.
+    #[error("the output failed")]
+    Output,
+    /// A call of the disk of the inbox or of the outbox failed, now or since its opening.
+    #[error("a journal's disk failed")]
+    Journal,
+    /// The outbox's disk gave another record than was written at this index, from 0 on.
+    #[error("record {at} of the outbox has changed")]
+    Changed { at: u64 },
+    /// The dialer failed: it gave no further connection.
+    #[error("the dialer failed")]
+    Dial,
+    /// No connection is left, and none ended with both finishes exchanged. The phase is `Idle` where there was no connection,
+    /// and else `Ended`.
+    #[error("no connection is left in phase {phase:?}")]
+    Unfinished { phase: Phase },
+    /// The peer rejected the session by a message of this template and code, on the last connection.
+    #[error("rejected by message {template} with code {code}")]
+    Rejected { template: u16, code: u8 },
+    /// A journal is at a limit for the record to be added: it has so many messages, and so many bytes.
+    #[error("a journal is full at {entries} messages and {bytes} bytes")]
+    Full { entries: u64, bytes: u64 },
+    /// One connection took 2^40 turns, and has not ended.
+    #[error("a connection took 2^40 turns")]
+    Turns,
+    #[error("out of memory")]
+    Memory,
+}
+
+/// What a refusal of a sender is to a life: a closed outbox is none.
+pub(crate) fn refused_submit(fault: SubmitFault) -> Option<ServeFault>
+    ensures { result ≡ submit_fault fault }
+{
+    match fault {
+        SubmitFault::Broken | SubmitFault::Fault => Some(ServeFault::Journal),
+        SubmitFault::Closed => None,
+        SubmitFault::Full { entries, bytes } => Some(ServeFault::Full { entries, bytes }),
+        SubmitFault::Memory => Some(ServeFault::Memory),
+    }
+}
+
+/// What a refusal of the Finish is to a life: an outbox that is closed already is none.
+pub(crate) fn refused_finish(fault: CloseFault) -> Option<ServeFault>
+    ensures { result ≡ finish_fault fault }
+{
+    match fault {
+        CloseFault::Broken | CloseFault::Fault => Some(ServeFault::Journal),
+        CloseFault::Closed => None,
+        CloseFault::Memory => Some(ServeFault::Memory),
+    }
+}
+
+/// Whether a fault of the connections' side yields to this refusal of a sender: where the life was not finished, and nothing failed;
+/// and where the dialer failed and the refusal is that of a journal, since no other dial would mend that.
+fn yields_to(fault: ServeFault, refusal: ServeFault) -> bool
+    ensures { result ≡ yields_to fault refusal }
+{
+    match fault {
+        ServeFault::Unfinished { .. } | ServeFault::Rejected { .. } | ServeFault::Turns => true,
+        ServeFault::Dial => matches!(refusal, ServeFault::Journal),
+        ServeFault::Output
+        | ServeFault::Journal
+        | ServeFault::Changed { .. }
+        | ServeFault::Full { .. }
+        | ServeFault::Memory => false,
+    }
+}
+
+/// Whether a life answers no refusal, and nothing failed.
+pub(crate) fn is_unrefused(answer: Result<(), ServeFault>) -> bool
+    ensures yes { IsTrue result → IsUnrefused answer }
+    ensures no { IsFalse result → IsUnrefused answer → ⊥ }
+{
+    matches!(
+        answer,
+        Ok(())
+            | Err(ServeFault::Unfinished { .. } | ServeFault::Rejected { .. } | ServeFault::Turns)
+    )
+}
+
+/// The answer of a life that answered so, behind which senders were refused so, if they were.
+pub(crate) fn late_answer(
+    answer: Result<(), ServeFault>,
+    late: Option<ServeFault>,
+) -> Result<(), ServeFault>
+    ensures { result ≡ late_answer answer late }
+{
+    match late {
+        Some(fault) => Err(fault),
+        None => answer,
+    }
+}
+
+/// The answer of a life whose connections ended so, and whose senders were refused so, if they were. A fault of the
+/// connections' side comes first, but that a journal failed comes before that the dialer did; then a refusal; and then that the
+/// session was not finished.
+pub fn answer_of(
+    connections: Result<LifeEnd, ServeFault>,
+    refused: Option<ServeFault>,
+) -> Result<(), ServeFault>
+    ensures { result ≡ answer_of connections refused }
+{
+    match connections {
+        Ok(LifeEnd::Finished) => match refused {
+            Some(fault) => Err(fault),
+            None => Ok(()),
+        },
+        // Only a refusal tells the connections to stop.
+        Ok(LifeEnd::Stopped) => Err(refused.unwrap_or(ServeFault::Memory)),
+        Err(fault) => match refused {
+            Some(refusal) if yields_to(fault, refusal) => Err(refusal),
+            _ => Err(fault),
+        },
+    }
+}

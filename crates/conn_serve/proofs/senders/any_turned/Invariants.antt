@@ -1,6 +1,0 @@
-use Rattle.std.proofs.Common.{All, take}
-use Rattle.gate_plans.specs.Runs.{IsAdmitted}
-use Rattle.conn_serve.proofs.senders.any_turned.Given as goal
-
-abbrev pub invariant-loop-sender : goal.invariant-loop-sender
-invariant-loop-sender g l = All IsAdmitted (take l.sender-index l.senders)

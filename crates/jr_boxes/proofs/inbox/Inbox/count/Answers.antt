@@ -1,6 +1,0 @@
-use Rattle.std.proofs.Common.{List, ℕ, length, ap, ◌∙◌}
-use Rattle.jr_boxes.proofs.Kept.{length-places}
-use Rattle.jr_boxes.proofs.inbox.Inbox.count.Goals as goal
-
-pub returns-clause-counts : goal.returns-clause-counts
-returns-clause-counts g c i stands = c.len.ensures ∙ c.args.self.now.notes.places.ok.0 ∙ ap (λ (ks : List ℕ). length ks) stands.noticed.places ∙ length-places 0 i

@@ -1,3 +1,0 @@
-pub mod Driving
-pub mod Pairing
-pub mod Laws
