@@ -6,7 +6,9 @@ mod business;
 mod hands;
 mod none;
 mod resume;
+mod seats;
 
 pub use business::{Business, ResumeFault};
 pub use hands::run_hands;
 pub use none::NoBusiness;
+pub use seats::{give_connection, take_connection};

@@ -6,7 +6,7 @@ use Rattle.jr_boxes.specs.declared.faults.SubmitFault.{SubmitFault}
 use Rattle.jr_boxes.specs.declared.faults.SubmitFault.TheVariants as submit
 use Rattle.gate_turn.specs.Views.{Part}
 use Rattle.gate_turn.specs.Rule.{In}
-use Rattle.gate_plans.specs.Sent.{entries_behind, GoesOn, IsShown, HasLost}
+use Rattle.gate_plans.specs.Sent.{entries_behind, GoesOn, IsShown}
 use Rattle.gate_business.specs.Made.{MadeOf, IsAllMade, LosesMessage, SeesMark, MetFull}
 use Rattle.gate_business.specs.Business.{StaysPass, AllMade, Loses, Grew, Whole, ShownByOne, StandsOn, LoseNothing, Answered}
 use Rattle.std.proofs.lemmas.List.{drop_all}

@@ -6,3 +6,4 @@ pub mod Answering
 mod Turns
 pub mod Settling
 mod Places
+mod Lending

@@ -8,8 +8,8 @@ use Rattle.gate_turn.specs.Views.{Part}
 use Rattle.gate_turn.proofs.Histories.{begins_self, begins_on}
 use Rattle.gate_turn.proofs.Failing.{failed_before}
 use Rattle.gate_senders.specs.Shown.{TakesTurn, Submitted}
-use Rattle.gate_plans.specs.Sent.{entries_behind, GoesOn, IsShown, HasLost}
-use Rattle.order_gate.specs.Reported.{RefusedAt, Reported}
+use Rattle.gate_plans.specs.Sent.{entries_behind, GoesOn, IsShown}
+use Rattle.order_gate.specs.Reported.{LosesNext, RefusedAt, Reported}
 
 pub drop_over : {A : Type 0} (n : ℕ) (xs ys : List A) → drop n (xs ++ ys) ≡ drop n xs ++ drop (n - length xs) ys
 drop_over n [] ys = let e : n ≡ n - 0 = omega arith in ap (λ k. drop k ys) e ∙ ap (λ zs. zs ++ drop (n - 0) ys) (sym (drop_all n [] (omega arith)))
@@ -98,7 +98,7 @@ reported_one p q payload n turn ended did lost = record {
   unlost = λ _. lost;
 }
 
-pub reported_refused : (p q : Part) (payload : List ℕ) (f : SubmitFault) → TakesTurn p q → q.ended ≡ p.ended → q.mine ≡ p.mine → IsShown p q payload f → (f ≡ submit.Fault → HasLost q payload)
+pub reported_refused : (p q : Part) (payload : List ℕ) (f : SubmitFault) → TakesTurn p q → q.ended ≡ p.ended → q.mine ≡ p.mine → IsShown p q payload f → (f ≡ submit.Fault → LosesNext q payload)
     → ((f ≡ submit.Fault → ⊥) → q.lost ≡ p.lost) → Reported p q (payload ∷ []) (Err f)
 reported_refused p q payload f turn ended mine shown lost unlost = record {
   pass = goes_turn p q turn ended;

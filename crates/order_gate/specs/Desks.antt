@@ -8,9 +8,10 @@ use Rattle.jr_boxes.specs.declared.faults.SubmitFault.TheVariants as submit
 use Rattle.gate_turn.specs.Views.{Part, new_part, nothing}
 use Rattle.gate_turn.specs.Rule.{In}
 use Rattle.gate_turn.specs.Places.{known}
-use Rattle.gate_turn.specs.Listed.{known_if}
+use Rattle.gate_turn.specs.Listed.{known_if, known_at}
 use Rattle.gate_turn.specs.Calls.{IsFree}
 use Rattle.gate_turn.specs.declared.pass.Pass.{Pass}
+use Rattle.gate_turn.specs.declared.passes.Passes.{Passes}
 use Rattle.gate_senders.specs.Gate.{senders_of}
 use Rattle.gate_senders.specs.declared.gate.Gate.{Gate}
 use Rattle.gate_senders.specs.declared.kept.Kept.{Kept}
@@ -20,6 +21,7 @@ use Rattle.order_desk.specs.Plans.{answers, share, desk_plan}
 use Rattle.order_gate.specs.Reported.{Reported}
 use Rattle.order_gate.specs.declared.desk.Desk.{Desk}
 use Rattle.order_gate.specs.declared.hand.Hand.{Hand}
+use Rattle.order_gate.specs.declared.terms.Terms.{Terms}
 use Rattle.order_gate.specs.declared.desks.Desks.{Desks}
 
 -- what desk s of d sends for its share of some messages, before which so many came, modulo d
@@ -121,9 +123,19 @@ module _ {J : Type 0} {G : Ghosts J} {D : Type 0} where
     pub reference : k.reference ≡ h.reference
     pub desks : k.desks ≡ h.desks
 
-  -- its pass, if it is there, has this number
+  -- it is the desk of this number, and so is its pass, if it is there
   pub record HasNumber (n : ℕ) (h : Hand J D G) : Type 0 where
-    pub number : (pass : Pass (Kept J G)) → h.desk.pass ≡ Some pass → pass.number ≡ n
+    pub number : h.desk.number ≡ n
+    pub pass : (p : Pass (Kept J G)) → h.desk.pass ≡ Some p → p.number ≡ n
+
+  -- the hands of new desks, in their order: they have no pass yet, and owe nothing
+  pub record AreNew (terms : Terms) (hands : List (Hand J D G)) : Type 0 where
+    pub number : (place : ℕ) (h : Hand J D G) → place < length hands → (slice_index_or hands place h).desk.number ≡ place + 1
+    pub desks : (place : ℕ) (h : Hand J D G) → place < length hands → (slice_index_or hands place h).desks ≡ terms.desks
+    pub version : (place : ℕ) (h : Hand J D G) → place < length hands → (slice_index_or hands place h).form.version ≡ terms.version
+    pub reference : (place : ℕ) (h : Hand J D G) → place < length hands → (slice_index_or hands place h).reference ≡ terms.reference
+    pub owed : (place : ℕ) (h : Hand J D G) → place < length hands → (slice_index_or hands place h).desk.owed ≡ 0
+    pub made : (place : ℕ) (h : Hand J D G) → place < length hands → (slice_index_or hands place h).desk.made ≡ 0
 
   -- the same with another pass, or with none
   abbrev pub with_pass : Option (Pass (Kept J G)) → Hand J D G → Hand J D G
@@ -155,6 +167,10 @@ module _ {J : Type 0} {G : Ghosts J} {D : Type 0} where
 
   -- ---- all of them
 
+  -- what each is to send over the applied messages
+  abbrev pub plan_of : Desks J D G → ℕ → List (List ℕ) → List (List ℕ)
+  plan_of d n applied = desk_plan d.desks d.version d.reference n applied
+
   -- the hand at a place, of so many desks
   pub record IsHandAt (d : Desks J D G) (place : ℕ) (h : Hand J D G) : Type 0 where
     pub number : h.desk.number ≡ place + 1
@@ -174,6 +190,16 @@ module _ {J : Type 0} {G : Ghosts J} {D : Type 0} where
     pub seated : (place : ℕ) (h : Hand J D G) → place < d.desks → IsSeated lock (slice_index_or d.hands.items place h).desk
     pub made : d.counted ≡ true → (place : ℕ) (h : Hand J D G) → place < d.desks → IsManned lock (slice_index_or d.hands.items place h).desk
     pub met : d.met ≡ true → SeesMark d.desks (part_in d.hands.items)
+
+  -- Desks as they are made: each has the pass of its number, and is to send what the plan of that number says; none has counted what the outbox has
+  -- of it, or owes any
+  pub record IsMadeOf (passes : Passes (Kept J G)) (terms : Terms) (d : Desks J D G) : Type 0 where
+    pub desks : d.desks ≡ terms.desks
+    pub plan : plan_of d ≡ desk_plan terms.desks terms.version terms.reference
+    pub part : (n : ℕ) → In terms.desks n → part_in d.hands.items n ≡ known_at passes n
+    pub uncounted : d.counted ≡ false
+    pub unmet : d.met ≡ false
+    pub owed : (place : ℕ) (h : Hand J D G) → place < terms.desks → (slice_index_or d.hands.items place h).desk.owed ≡ 0
 
   -- it has its hands, whose passes are lent
   pub record LacksPasses (d : Desks J D G) : Type 0 where

@@ -1,5 +1,5 @@
 //! Desks, as a business of an end.
-ghost use Rattle.std.specs.Prelude.{◌≡◌, ◌≢◌, ◌↔◌, ℕ, ◌<◌, ◌≤◌, true, false, List, length, Some, OnOk};
+ghost use Rattle.std.specs.Prelude.{◌≡◌, ◌≢◌, ◌↔◌, ℕ, ◌<◌, ◌≤◌, true, false, List, length, Some, OnOk, IfOk, IfErr};
 ghost use Rattle.atomic_table.specs.Seated.{TableId};
 ghost use Rattle.jr_boxes.specs.declared.faults.SubmitFault.TheVariants as submit;
 ghost use Rattle.gate_turn.specs.Rule.{In};
@@ -9,7 +9,8 @@ ghost use Rattle.gate_senders.specs.Gate.{senders_of};
 ghost use Rattle.gate_business.specs.Business.{lock_of, HasThese};
 ghost use Rattle.gate_business.specs.Hands.{hands_in};
 
-use crate::hand::{Hand, answer_of_all, count_each, give_to_all, passes_of_all};
+use crate::hand::{Hand, answer_of_all, count_each, give_to_all, new_hands, passes_of_all};
+use crate::terms::Terms;
 use gate_business::Business;
 use gate_plans::Door;
 use gate_senders::{Gate, Kept};
@@ -54,7 +55,43 @@ fn is_closed(fault: SubmitFault) -> bool
 
 impl<J: Journal, D> Desks<J, D> {
     ghost use Rattle.order_gate.specs.Reported.{Finishing};
-    ghost use Rattle.order_gate.specs.Desks.{part_in, HasPasses, SameTerms};
+    ghost use Rattle.order_gate.specs.Desks.{part_in, HasPasses, SameTerms, IsMadeOf};
+    ghost use Rattle.order_desk.specs.Schema.{IsVersion};
+
+    /// So many desks, which have the passes of the numbers from 1 on; each calls at the door before it sends. They have counted nothing yet, and
+    /// owe nothing.
+    ///
+    /// # Errors
+    /// The passes, for want of memory.
+    pub fn new(
+        alloc: Global,
+        passes: Passes<Kept<J>>,
+        terms: Terms,
+        door: D,
+    ) -> Result<Desks<J, D>, Passes<Kept<J>>>
+    where
+        D: Copy + Drop,
+        requires version { IsVersion terms.version }
+        requires few { terms.desks ≤ 16 }
+        ensures made { IfOk result (λ d. IsMadeOf passes terms d) }
+        ensures own { (lock : TableId) → HasThese lock passes terms.desks → IfOk result (λ d. HasPasses lock d) }
+        ensures back { IfErr result (λ p. p ≡ passes) }
+    {
+        let Ok(hands) = new_hands(alloc, terms, door) else {
+            return Err(passes);
+        };
+        let mut desks = Desks {
+            alloc,
+            hands,
+            desks: terms.desks,
+            version: terms.version,
+            reference: terms.reference,
+            counted: false,
+            met: false,
+        };
+        give_to_all(desks.hands.as_mut_slice(), passes);
+        Ok(desks)
+    }
 
     /// Adds the Finish by the first desk's pass; where it stands already there is nothing to add.
     fn finish<R: Wait>(&mut self, gate: &Gate<J>, rt: &R) -> Result<(), SubmitFault>
@@ -79,8 +116,7 @@ impl<J: Journal, D> Desks<J, D> {
 }
 
 impl<J: Journal + Send, D: Door + Send + Drop> Business<J> for Desks<J, D> {
-    ghost use Rattle.order_desk.specs.Plans.{desk_plan};
-    ghost use Rattle.order_gate.specs.Desks.{counted_if, part_in, made_in, HasPasses, LacksPasses, StandBehind, GaveOut, TookBack, IsAble, Worked};
+    ghost use Rattle.order_gate.specs.Desks.{counted_if, part_in, made_in, plan_of, HasPasses, LacksPasses, StandBehind, GaveOut, TookBack, IsAble, Worked};
     ghost use Rattle.order_gate.specs.Standing.{goes_on, numbered, owns, meets};
 
     type Held = Kept<J>;
@@ -99,7 +135,7 @@ impl<J: Journal + Send, D: Door + Send + Drop> Business<J> for Desks<J, D> {
 
     ghost met = { λ d. d.met };
 
-    ghost plan = { λ d n applied. desk_plan d.desks d.version d.reference n applied };
+    ghost plan = { λ d n applied. plan_of d n applied };
 
     ghost stands = { λ d applied. StandBehind d applied };
 
@@ -172,7 +208,7 @@ impl<J: Journal + Send, D: Door + Send + Drop> Business<J> for Desks<J, D> {
         requires met { self.old.met ≡ true → SeesMark self.old.desks (known_at passes) }
         ensures own { (lock : TableId) → HasThese lock passes self.old.desks → HasPasses lock self.new }
         ensures known { (n : ℕ) → In self.old.desks n → part_in self.new.hands.items n ≡ known_at passes n }
-        ensures same { (self.new.desks ≡ self.old.desks) × ((λ n applied. desk_plan self.new.desks self.new.version self.new.reference n applied) ≡ (λ n applied. desk_plan self.old.desks self.old.version self.old.reference n applied)) }
+        ensures same { (self.new.desks ≡ self.old.desks) × (plan_of self.new ≡ plan_of self.old) }
         ensures stands { (l : List (List ℕ)) → StandBehind self.old l → StandBehind self.new l }
     {
         give_to_all(self.hands.as_mut_slice(), passes);

@@ -9,7 +9,9 @@ mod form;
 mod hand;
 mod line;
 mod share;
+mod terms;
 
 pub use desk::Desk;
 pub use desks::Desks;
 pub use form::Form;
+pub use terms::Terms;

@@ -1,9 +1,10 @@
 use Rattle.std.proofs.Common.{rules, refl, ap, ◌∙◌, arith, [], ◌∷◌, drop, length, Ok, Err, ◌≡◌}
 use Rattle.jr_boxes.specs.declared.faults.SubmitFault.TheVariants as submit
 use Rattle.gate_turn.specs.Places.{known}
-use Rattle.gate_plans.specs.Sent.{IsShown, HasLost}
+use Rattle.gate_plans.specs.Sent.{IsShown}
 use Rattle.order_gate.proofs.Parts.{reported_one, reported_refused, reported_nothing, owed_one, unowed}
 use Rattle.order_gate.proofs.Sending.{ready_again, reported_by, its_made, one_longer}
+use Rattle.order_gate.specs.Reported.{LosesNext}
 use Rattle.order_gate.specs.Desks.{known_of}
 use Rattle.order_gate.proofs.desk.Desk.send.Goals as goal
 
@@ -48,7 +49,7 @@ returns-in-Err-clause-reported g c =
     let payload = c.args.payload.now in
     let f = c.in-Err.fault in
     let shown : IsShown (known p) (known q) payload f = search rules in
-    let lost : f ≡ submit.Fault → HasLost (known q) payload = search rules in
+    let lost : f ≡ submit.Fault → LosesNext (known q) payload = search rules in
     let unlost : (f ≡ submit.Fault → ⊥) → (known q).lost ≡ (known p).lost = search rules in
     reported_by c.args.gate.now d p q c.requires.ready c.in-Some-pass.is (drop d.owed (payload ∷ [])) (Err f)
     (unowed (known p) (known q) d.owed (payload ∷ []) (Err f) c.if-self-gt0.false

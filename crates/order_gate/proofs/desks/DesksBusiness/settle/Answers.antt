@@ -100,4 +100,3 @@ returns-else-finished-clause-answered g c = λ before has few again l st.
     let none : All HasNone c.args.self.now.hands.items = subst (λ xs. All HasNone xs) c.as_slice.ensures.value c.in_default.ensures.answer.none in
     ok_answered (lock_of c.args.gate.now) (senders_of c.args.gate.now) c.args._payloads.now before c.args.self.now has again counted unmet none l st c.args.finished
     (λ some done. elim c.else-finished.branch [ else-finished-via-then-finished+else-self-gt0 w ↦ omega (arith, w.if-self-gt0.false, some, again.took_back.same.desks) | else-finished-via-else-finished w ↦ cc (w.if-finished.false, done) ])
-
