@@ -1,11 +1,11 @@
 -- What a call leaves of a book desk: b before it, c once the messages were taken, d once the mark was added.
-use Rattle.std.proofs.Common.{◌≡◌, ◌≢◌, ◌⊎◌, ℕ, zero, suc, ◌+◌, ◌-◌, ◌≤◌, Bool, true, false, List, [], ◌∷◌, ◌++◌, length, drop, Result, Ok, Err, OnOk, inl, inr, refl, sym, ap, subst, ◌∙◌, arith, append-nil, length-append}
+use Rattle.std.proofs.Common.{◌≡◌, ◌≢◌, ◌⊎◌, ◌==◌, if◌then◌else◌, rules, ℕ, zero, suc, ◌+◌, ◌-◌, ◌≤◌, Bool, true, false, List, [], ◌∷◌, ◌++◌, length, drop, Result, Ok, Err, OnOk, inl, inr, refl, sym, ap, subst, ◌∙◌, arith, append-nil, length-append}
 use Rattle.std.proofs.lemmas.List.{length-drop}
 use Rattle.atomic_table.specs.Seated.{TableId}
 use Rattle.jr_dated.specs.declared.journal.Journal.{Ghosts}
 use Rattle.jr_boxes.specs.declared.faults.SubmitFault.{SubmitFault}
 use Rattle.jr_boxes.specs.declared.faults.SubmitFault.TheVariants as submit
-use Rattle.gate_turn.specs.Views.{Part}
+use Rattle.gate_turn.specs.Views.{Part, new_part, nothing}
 use Rattle.gate_turn.specs.Rule.{In}
 use Rattle.gate_turn.specs.Listed.{known_if}
 use Rattle.gate_turn.proofs.Failing.{failed_before}
@@ -32,6 +32,10 @@ pub only : (P : ℕ → Type 0) → P 1 → (n : ℕ) → In 1 n → P n
 only P first zero inside = absurd (omega (arith, inside.from_one))
 only P first (suc zero) inside = first
 only P first (suc (suc k)) inside = absurd (omega (arith, inside.up_to))
+
+-- and of no number but its own
+other_same : (p q : Part) (n : ℕ) → n ≢ 1 → (if n == 1 then p else new_part 0 0 nothing) ≡ (if n == 1 then q else new_part 0 0 nothing)
+other_same p q n ne = search (rules, ne)
 
 -- a refusal, by what stands behind it
 refused_on : (f : SubmitFault) (A : Type 0) → (f ≡ submit.Closed → A) → StandsOn (Err f) A
@@ -156,9 +160,7 @@ module _ {J : Type 0} {G : Ghosts J} where
           answered_finish (λ n. plan_of b n (l ++ payloads)) 1 (part_of b) (part_of c) (part_of d) (λ n. answer) sends (λ n inside. ok) one result fin others
         where
           others : (n : ℕ) → n ≢ 1 → part_of d n ≡ part_of c n
-          others zero ne = refl
-          others (suc zero) ne = absurd (ne refl)
-          others (suc (suc k)) ne = refl
+          others n ne = other_same (known_of d.desk) (known_of c.desk) n ne
 
     pub still_unmet : c.met ≡ false
     still_unmet = t.same.met ∙ unmet

@@ -1,3 +1,3 @@
 mod Taking
 mod Calls
-mod Passing
+mod Lending

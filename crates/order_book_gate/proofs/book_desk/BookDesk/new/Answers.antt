@@ -1,6 +1,6 @@
 use Rattle.std.proofs.Common.{refl, ap}
 use Rattle.gate_turn.specs.Listed.{known_if}
-use Rattle.order_book_gate.proofs.Passing.{made_new}
+use Rattle.order_book_gate.proofs.Lending.{made_new}
 use Rattle.order_book_gate.proofs.book_desk.BookDesk.new.Goals as goal
 
 pub returns-clause-own : goal.returns-clause-own

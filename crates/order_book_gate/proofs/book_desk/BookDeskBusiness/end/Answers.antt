@@ -1,5 +1,5 @@
 use Rattle.std.proofs.Common.{◌∙◌}
-use Rattle.order_book_gate.proofs.Passing.{these_of}
+use Rattle.order_book_gate.proofs.Lending.{these_of}
 use Rattle.order_book_gate.proofs.book_desk.BookDeskBusiness.end.Goals as goal
 
 pub returns-clause-these : goal.returns-clause-these

@@ -2,7 +2,7 @@ use Rattle.std.proofs.Common.{◌≡◌, ap}
 use Rattle.gate_turn.specs.Listed.{known_if, known_at}
 use Rattle.order_book_gate.specs.Desk.{part_of}
 use Rattle.order_book_gate.proofs.Calls.{only}
-use Rattle.order_book_gate.proofs.Passing.{regained, stands_given}
+use Rattle.order_book_gate.proofs.Lending.{regained, stands_given}
 use Rattle.order_book_gate.proofs.book_desk.BookDeskBusiness.regain.Goals as goal
 
 pub returns-clause-own : goal.returns-clause-own
