@@ -12,6 +12,10 @@ use Rattle.order_book_gate.specs.Plan.{answers, resting_behind, book_plan}
 use Rattle.order_book_gate.specs.declared.book_desk.BookDesk.{BookDesk}
 
 module _ {J : Type 0} {G : Ghosts J} where
+  -- how many passes it has
+  abbrev pub count_of : BookDesk J G → ℕ
+  count_of b = 1
+
   -- what the pass of a number knows: it has one, of the number 1
   abbrev pub part_of : BookDesk J G → ℕ → Part
   part_of b n = if n == 1 then known_of b.desk else new_part 0 0 nothing

@@ -83,14 +83,14 @@ impl<J: Journal> BookDesk<J> {
 }
 
 impl<J: Journal + Send> Business<J> for BookDesk<J> {
-    ghost use Rattle.order_book_gate.specs.Desk.{part_of, plan_of, own_of, is_met, HasPass, LacksPass, StandsBehind};
+    ghost use Rattle.order_book_gate.specs.Desk.{count_of, part_of, plan_of, own_of, is_met, HasPass, LacksPass, StandsBehind};
     ghost use Rattle.order_book_gate.specs.Standing.{goes_on, numbered, owns, meets};
 
     type Held = Kept<J>;
 
     type Hand = ();
 
-    ghost count = { λ b. 1 };
+    ghost count = { λ b. count_of b };
 
     ghost part = { λ b n. part_of b n };
 
@@ -153,7 +153,7 @@ impl<J: Journal + Send> Business<J> for BookDesk<J> {
         requires met { is_met self.old ≡ true → SeesMark 1 (known_at passes) }
         ensures own { (lock : TableId) → HasThese lock passes 1 → HasPass lock self.new }
         ensures known { (n : ℕ) → In 1 n → part_of self.new n ≡ known_at passes n }
-        ensures same { (1 ≡ 1) × (plan_of self.new ≡ plan_of self.old) }
+        ensures same { (count_of self.new ≡ count_of self.old) × (plan_of self.new ≡ plan_of self.old) }
         ensures stands { (l : List (List ℕ)) → StandsBehind self.old l → StandsBehind self.new l }
     {
         let mut passes = passes;

@@ -23,7 +23,7 @@ written-requires-clause-range g c =
     let b = c.args.self.now in
     let p = b.form.plan in
     let found : result_ok c.read_order-order.result ≡ order_in p c.args.payload.now = ap result_ok c.read_order-order.ensures.told ∙ read_back (order_in p c.args.payload.now) in
-    subst (λ rs. AllByRecursion InRange rs) (sym (c.as_slice.ensures.value ∙ c.in-Ok.ensures.reports ∙ ap (λ o. reports_of b.book o) found))
+    subst (λ rs. AllByRecursion InRange rs) (sym (c.as_slice.ensures.value ∙ c.in-Ok.ensures.reports ∙ ap (λ o. reports_of b.book o) {y = order_in p c.args.payload.now} found))
     (c.book_in_range.ensures p c.args.payload.now b.book c.requires.able.rested).0
 
 pub returns-in_default-written : goal.returns-in_default-written
@@ -32,7 +32,7 @@ returns-in_default-written g c =
     let p = b.form.plan in
     let able = c.requires.able in
     let found : result_ok c.read_order-order.result ≡ order_in p c.args.payload.now = ap result_ok c.read_order-order.ensures.told ∙ read_back (order_in p c.args.payload.now) in
-    let after : c.on_order.new.self ≡ book_after b.book (order_in p c.args.payload.now) = c.in-Ok.ensures.next ∙ ap (λ o. book_after b.book o) found in
+    let after : c.on_order.new.self ≡ book_after b.book (order_in p c.args.payload.now) = c.in-Ok.ensures.next ∙ ap (λ o. book_after b.book o) {y = order_in p c.args.payload.now} found in
     record {
       took = took_failed (lock_of c.args.gate.now) (senders_of c.args.gate.now) b able c.on_order.new.self
           (subst (λ rs. AllByRecursion IsRested rs) (sym after) (c.book_in_range.ensures p c.args.payload.now b.book able.rested).1) (c.args.payload.now ∷ []);
@@ -44,10 +44,10 @@ returns g c =
     let p = b.form.plan in
     let able = c.requires.able in
     let found : result_ok c.read_order-order.result ≡ order_in p c.args.payload.now = ap result_ok c.read_order-order.ensures.told ∙ read_back (order_in p c.args.payload.now) in
-    let after : c.on_order.new.self ≡ book_after b.book (order_in p c.args.payload.now) = c.in-Ok.ensures.next ∙ ap (λ o. book_after b.book o) found in
+    let after : c.on_order.new.self ≡ book_after b.book (order_in p c.args.payload.now) = c.in-Ok.ensures.next ∙ ap (λ o. book_after b.book o) {y = order_in p c.args.payload.now} found in
     let rested : AllByRecursion IsRested c.on_order.new.self = subst (λ rs. AllByRecursion IsRested rs) (sym after) (c.book_in_range.ensures p c.args.payload.now b.book able.rested).1 in
     let e = c.send_all.ensures in
     record {
       took = took_sent (lock_of c.args.gate.now) (senders_of c.args.gate.now) b able c.args.payload.now c.on_order.new.self after rested c.send_all.new.self c.send_all.result e.ready e.number _
-          (c.as_slice-2.ensures ∙ c.in-Ok-written.ensures.bytes ∙ ap (λ rs. map (report_bytes p) rs) (c.as_slice.ensures.value ∙ c.in-Ok.ensures.reports ∙ ap (λ o. reports_of b.book o) found)) e.reported e.owed;
+          (c.as_slice-2.ensures ∙ c.in-Ok-written.ensures.bytes ∙ ap (λ rs. map (report_bytes p) rs) (c.as_slice.ensures.value ∙ c.in-Ok.ensures.reports ∙ ap (λ o. reports_of b.book o) {y = order_in p c.args.payload.now} found)) e.reported e.owed;
     }
