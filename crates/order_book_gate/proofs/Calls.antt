@@ -1,5 +1,5 @@
 -- What a call leaves of a book desk: b before it, c once the messages were taken, d once the mark was added.
-use Rattle.std.proofs.Common.{◌≡◌, ◌≢◌, ◌⊎◌, ◌==◌, if◌then◌else◌, rules, ℕ, zero, suc, ◌+◌, ◌-◌, ◌≤◌, Bool, true, false, List, [], ◌∷◌, ◌++◌, length, drop, Result, Ok, Err, OnOk, inl, inr, refl, sym, ap, subst, ◌∙◌, arith, append-nil, length-append}
+use Rattle.std.proofs.Common.{◌≡◌, ◌≢◌, ◌⊎◌, ◌==◌, if◌then◌else◌, rules, ℕ, zero, suc, ◌+◌, ◌-◌, ◌≤◌, Bool, true, false, List, [], ◌++◌, length, drop, Result, Ok, Err, OnOk, inl, inr, refl, sym, ap, subst, ◌∙◌, arith, append-nil, length-append}
 use Rattle.std.proofs.lemmas.List.{length-drop}
 use Rattle.atomic_table.specs.Seated.{TableId}
 use Rattle.jr_dated.specs.declared.journal.Journal.{Ghosts}
@@ -9,18 +9,15 @@ use Rattle.gate_turn.specs.Views.{Part, new_part, nothing}
 use Rattle.gate_turn.specs.Rule.{In}
 use Rattle.gate_turn.specs.Listed.{known_if}
 use Rattle.gate_turn.proofs.Failing.{failed_before}
-use Rattle.gate_business.specs.Made.{SeesMark}
-use Rattle.gate_business.specs.Business.{ShownByOne, StandsOn, SendNothing, Answered}
-use Rattle.order_desk.specs.Schema.{order_plan}
-use Rattle.order_book.specs.declared.entries.BookOrder.{BookOrder}
+use Rattle.gate_business.specs.Business.{ShownByOne, StandsOn, Answered}
 use Rattle.order_gate.specs.declared.desk.Desk.{Desk}
 use Rattle.order_gate.specs.Reported.{Reported, Finishing}
-use Rattle.order_gate.specs.Desks.{known_of, IsSeated, IsManned, IsReadyAt}
+use Rattle.order_gate.specs.Desks.{known_of, IsSeated, IsManned}
 use Rattle.order_gate.proofs.Parts.{long_of}
 use Rattle.order_gate.proofs.Sending.{on_ok}
-use Rattle.order_gate.proofs.Answering.{Sends, behind_owed, stays, shown_of, answered_ok, answered_refused, answered_idle, answered_finish}
+use Rattle.order_gate.proofs.Answering.{Sends, behind_owed, shown_of, answered_ok, answered_refused, answered_idle, answered_finish}
 use Rattle.order_book_gate.specs.declared.book_desk.BookDesk.{BookDesk}
-use Rattle.order_book_gate.specs.Plan.{answers, resting_behind, book_plan}
+use Rattle.order_book_gate.specs.Plan.{answers, resting_behind}
 use Rattle.order_book_gate.specs.Desk.{part_of, plan_of, HasPass, IsAble, StandsAt, StandsBehind, Took}
 use Rattle.order_book_gate.specs.Standing.{answers_on, resting_on, meets}
 

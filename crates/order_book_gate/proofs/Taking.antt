@@ -1,14 +1,17 @@
 -- What a book desk takes, put together from parts.
-use Rattle.std.proofs.Common.{◌≡◌, ℕ, ◌+◌, ◌-◌, ◌<◌, List, [], ◌∷◌, ◌++◌, length, map, take, drop, slice_index_or, take-append-drop, Result, Ok, Err, OnOk, refl, sym, ap, subst, ◌∙◌, arith, append-nil, length-append}
+use Rattle.std.proofs.Common.{◌≡◌, ℕ, ◌+◌, ◌-◌, ◌<◌, List, [], ◌∷◌, ◌++◌, length, map, take, drop, slice_index_or, take-append-drop, Option, Result, Ok, Err, OnOk, refl, sym, ap, subst, ◌∙◌, arith, append-nil, length-append}
 use Rattle.std.proofs.lemmas.List.{take_more}
 use Rattle.atomic_table.specs.Seated.{TableId}
 use Rattle.jr_dated.specs.declared.journal.Journal.{Ghosts}
 use Rattle.jr_boxes.specs.declared.faults.SubmitFault.{SubmitFault}
 use Rattle.jr_boxes.specs.declared.faults.SubmitFault.TheVariants as submit
 use Rattle.std.specs.List.{AllByRecursion}
-use Rattle.order_desk.specs.Orders.{order_in}
+use Rattle.std.specs.Result.{result_ok}
+use Rattle.order_desk.specs.declared.order.Order.{Order}
+use Rattle.order_desk.specs.declared.order.OrderFault.{OrderFault}
+use Rattle.order_desk.specs.Orders.{order_in, answer_of}
+use Rattle.order_desk.proofs.Ranged.{read_back}
 use Rattle.order_desk.specs.Reports.{report_bytes}
-use Rattle.sbe_layout.specs.declared.plan.Plan.{Plan}
 use Rattle.order_book.specs.declared.entries.BookOrder.{BookOrder}
 use Rattle.order_book.specs.Laws.{IsRested}
 use Rattle.order_book.specs.Book.{reports_of, book_after}
@@ -18,12 +21,16 @@ use Rattle.order_gate.specs.Desks.{known_of, IsReadyAt}
 use Rattle.order_gate.proofs.Parts.{reported_nothing, owed_none, owed_on, owed_more}
 use Rattle.order_book_gate.specs.declared.book_desk.BookDesk.{BookDesk}
 use Rattle.order_book_gate.specs.Plan.{answers, resting_behind}
-use Rattle.order_book_gate.specs.Desk.{IsAble, SameBut, Took}
+use Rattle.order_book_gate.specs.Desk.{IsAble, Took}
 use Rattle.order_book_gate.specs.Standing.{answers_on, resting_on}
 
 pub ok_then : (result : Result (Unit {0}) SubmitFault) {A B : Type 0} → (A → B) → OnOk result A → OnOk result B
 ok_then (Ok _) f a = f a
 ok_then (Err e) f a = tt
+
+-- the order that a message was read as
+pub read_as : (read : Result Order OrderFault) (found : Option Order) → read ≡ answer_of found → result_ok read ≡ found
+read_as read found told = ap result_ok told ∙ read_back found
 
 module _ {J : Type 0} {G : Ghosts J} (lock : TableId) (senders : ℕ) where
   pub took_none : (b : BookDesk J G) → IsAble lock senders b → Took lock senders [] b b (Ok tt)

@@ -1,8 +1,7 @@
-use Rattle.std.proofs.Common.{◌≡◌, ◌+◌, ◌++◌, [], ◌∷◌, take, drop, Ok, Err, sym, ap, ◌∙◌, subst, take-append-drop}
-use Rattle.std.proofs.lemmas.List.{get_or_default, take_more}
+use Rattle.std.proofs.Common.{◌∙◌}
+use Rattle.std.proofs.lemmas.List.{get_or_default}
 use Rattle.gate_senders.specs.Gate.{senders_of}
 use Rattle.gate_business.specs.Business.{lock_of}
-use Rattle.order_book_gate.specs.Desk.{Took}
 use Rattle.order_book_gate.proofs.Taking.{took_none, took_next, took_cut}
 use Rattle.order_book_gate.proofs.book_desk.BookDesk.answer_each.Goals as goal
 
