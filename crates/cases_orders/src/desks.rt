@@ -1,17 +1,19 @@
-//! Cases of desks at a gate: reads `desks.txt`, and prints what the outbox has once the desks have answered. A case is KIND VERSION DESKS REFERENCE:
+//! Cases of desks and of a book at a gate: reads `desks.txt`, and prints what the outbox has once they have answered. A case is KIND VERSION DESKS REFERENCE:
 //! the payloads of the messages, in hexadecimal, with a comma between two; another line stands as it is. `all` shows the reports of each desk,
-//! `again` has the desks answer behind each beginning of what that left, and at `meet` desk 1 sends nothing before desk 2 has come.
+//! `again` has the desks answer behind each beginning of what that left, and at `meet` desk 1 sends nothing before desk 2 has come. Behind the
+//! word `book` a case is KIND VERSION, and a book answers, as sender 1.
 ghost use Rattle.std.specs.Prelude.{◌≡◌, ◌≤◌, false, length};
 ghost use Rattle.jr_kept.specs.Outbox.{is_broken};
 ghost use Rattle.order_desk.specs.Schema.{IsVersion};
 
+mod books;
 mod boxes;
 mod doors;
 mod runs;
 
 use crate::desks::boxes::{Log, add_reports, copied, empty};
 use crate::desks::doors::{At, Meeting};
-use crate::desks::runs::{Asked, Ran, answered};
+use crate::desks::runs::{Asked, By, Ran, answered};
 use cases_words::{bytes, halves, number};
 use gate_plans::{Door, OpenDoor};
 use jr_kept::Outbox;
@@ -53,6 +55,14 @@ fn terms_of(words: &str) -> Terms
         desks: number(desks).clamp(1, 16) as u16,
         version: version_of(version),
         reference: number(reference).min(1_000_000_000) as i64,
+    }
+}
+
+/// Who answers a case, and the rest of its words.
+fn by_of(head: &str) -> (By, &str) {
+    match head.strip_prefix("book ") {
+        Some(rest) => (By::Book, rest),
+        None => (By::Desks, head),
     }
 }
 
@@ -201,11 +211,13 @@ pub fn print<R: Files + Print + AllocGlobal + Threads + Wait + Sync>(rt: &R) -> 
         if line.starts_with("#") {
             continue;
         }
+        let (by, head) = by_of(head);
         let (kind, terms) = halves(head);
         let payloads = payloads_of(rt.alloc(), words)?;
         let mut told = String::new(rt.alloc());
         if payloads.len() <= 512 {
             let asked = Asked {
+                by,
                 terms: terms_of(terms),
                 payloads: &payloads,
             };

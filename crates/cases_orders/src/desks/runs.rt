@@ -6,6 +6,7 @@ ghost use Rattle.gate_senders.specs.Gate.{senders_of};
 ghost use Rattle.gate_business.specs.Business.{lock_of, HasThese};
 ghost use Rattle.order_desk.specs.Schema.{IsVersion};
 
+use crate::desks::books::answered_by_book;
 use crate::desks::boxes::Log;
 use gate_business::{Business, give_connection, take_connection};
 use gate_plans::Door;
@@ -19,9 +20,19 @@ use std::alloc::Global;
 use std::sync::Wait;
 use std::thread::Threads;
 
-/// What desks are asked.
+/// Who answers.
+#[derive(Clone, Copy)]
+pub enum By {
+    /// Desks, on these terms.
+    Desks,
+    /// A book of the version of these terms, as sender 1.
+    Book,
+}
+
+/// What is asked, and of whom.
 #[derive(Clone, Copy)]
 pub struct Asked<'a> {
+    pub by: By,
     pub terms: Terms,
     pub payloads: &'a Payloads,
 }
@@ -64,7 +75,7 @@ fn answer<D: Door + Send + Copy + Drop, R: Threads + Wait + Sync>(
 }
 
 /// Has desks answer messages in one call, behind what the outbox has of them already; None where there is no gate.
-pub fn answered<D: Door + Send + Copy + Drop, R: Threads + Wait + Sync>(
+fn answered_by_desks<D: Door + Send + Copy + Drop, R: Threads + Wait + Sync>(
     alloc: Global,
     outbox: Outbox<Log>,
     asked: Asked<'_>,
@@ -87,4 +98,23 @@ pub fn answered<D: Door + Send + Copy + Drop, R: Threads + Wait + Sync>(
         answer,
         outbox: gate.close(passes),
     })
+}
+
+/// Has desks or a book answer messages in one call, behind what the outbox has of them already; None where there is no gate.
+pub fn answered<D: Door + Send + Copy + Drop, R: Threads + Wait + Sync>(
+    alloc: Global,
+    outbox: Outbox<Log>,
+    asked: Asked<'_>,
+    door: D,
+    rt: &R,
+) -> Option<Ran>
+    requires sound { is_broken outbox ≡ false }
+    requires version { IsVersion asked.terms.version }
+    requires few { asked.terms.desks ≤ 16 }
+    requires most { length asked.payloads.now ≤ 512 }
+{
+    match asked.by {
+        By::Desks => answered_by_desks(alloc, outbox, asked, door, rt),
+        By::Book => answered_by_book(alloc, outbox, asked.terms.version, asked.payloads, rt),
+    }
 }
