@@ -155,7 +155,7 @@ impl<J: Journal + Send, D: Door + Send + Drop> Business<J> for Desks<J, D> {
         if self.met || !self.counted {
             return None;
         }
-        let hands = core::mem::replace(&mut self.hands, Vec::new(self.alloc));
+        let hands = std::mem::replace(&mut self.hands, Vec::new(self.alloc));
         Some(List::from(hands))
     }
 
