@@ -28,8 +28,10 @@ pub fn empty(alloc: Global) -> Option<Outbox<Log>>
 {
     let mut disk = MemDisk::without_faults(alloc, ROOM).ok()?;
     format(&mut disk).ok()?;
-    let journal = SegJournal::open(alloc, disk, WIDE).ok()?;
-    Outbox::open(alloc, journal, WIDE).ok()
+    // one value, since what the journal says of its limits is said of the one that it was given
+    let limits = WIDE;
+    let journal = SegJournal::open(alloc, disk, limits).ok()?;
+    Outbox::open(alloc, journal, limits).ok()
 }
 
 /// Adds the entry of a number behind those of another outbox; None where it is not there, or refused.

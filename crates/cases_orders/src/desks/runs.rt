@@ -49,8 +49,8 @@ fn answer<D: Door + Send + Copy + Drop, R: Threads + Wait + Sync>(
     requires most { length asked.payloads.now ≤ 512 }
     requires these { HasThese (lock_of gate.now) passes asked.terms.desks }
     requires first { 0 < asked.terms.desks → (known_at passes 1).made ≡ asked.terms.desks + 1 }
-    ensures these { HasThese (lock_of gate.now) result.0 asked.terms.desks }
-    ensures first { 0 < asked.terms.desks → (known_at result.0 1).made ≡ asked.terms.desks + 1 }
+    ensures these { HasThese (lock_of gate.now) result.0 asked.entry.terms.desks }
+    ensures first { 0 < asked.entry.terms.desks → (known_at result.0 1).made ≡ asked.entry.terms.desks + 1 }
 {
     match Desks::new(alloc, passes, asked.terms, door) {
         Ok(desks) => {
