@@ -4,7 +4,7 @@ mod Walk
 mod Queue
 mod Changes
 mod Finding
-mod Going
+pub mod Going
 mod Uncrossed
 mod Totals
 mod Maps

@@ -1,9 +1,9 @@
 mod Lines
-mod Parts
+pub mod Parts
 mod Shares
-mod Sending
-mod Answering
+pub mod Sending
+pub mod Answering
 mod Turns
-mod Settling
+pub mod Settling
 mod Places
 mod Lending

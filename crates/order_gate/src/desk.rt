@@ -18,17 +18,17 @@ use std::sync::Wait;
 
 /// A desk.
 #[derive(Drop)]
-pub(crate) struct Desk<J: Journal> {
+pub struct Desk<J: Journal> {
     /// Its number, from 1 on.
-    pub(crate) number: u16,
+    pub number: u16,
     /// The pass of its sender, while it is not lent.
-    pub(crate) pass: Option<Pass<Kept<J>>>,
+    pub pass: Option<Pass<Kept<J>>>,
     /// How many of the reports that come next the outbox has already.
-    pub(crate) owed: u64,
+    pub owed: u64,
     /// How many entries of its own the outbox has.
-    pub(crate) made: u64,
+    pub made: u64,
     /// The refusal that it met in the last call, or None.
-    pub(crate) refused: Option<SubmitFault>,
+    pub refused: Option<SubmitFault>,
 }
 
 impl<J: Journal> Desk<J> {
@@ -75,7 +75,7 @@ impl<J: Journal> Desk<J> {
     }
 
     /// Sends the reports that come next.
-    fn send_all<G: Door, R: Wait>(
+    pub fn send_all<G: Door, R: Wait>(
         &mut self,
         gate: &Gate<J>,
         reports: &[Bytes],
@@ -129,7 +129,7 @@ impl<J: Journal> Desk<J> {
     ///
     /// # Errors
     /// Those of the gate's `finish` but `Closed`.
-    pub(crate) fn finish<R: Wait>(&mut self, gate: &Gate<J>, rt: &R) -> Result<(), SubmitFault>
+    pub fn finish<R: Wait>(&mut self, gate: &Gate<J>, rt: &R) -> Result<(), SubmitFault>
         requires ready { IsReady gate.now self.old }
         ensures ready { IsReady gate.now self.new }
         ensures same { (self.new.number ≡ self.old.number) × (self.new.owed ≡ self.old.owed) × (self.new.made ≡ self.old.made) }
@@ -148,7 +148,7 @@ impl<J: Journal> Desk<J> {
     }
 
     /// Counts the entries that the outbox has of it: they are owed.
-    pub(crate) fn count<R: Wait>(&mut self, gate: &Gate<J>, rt: &R)
+    pub fn count<R: Wait>(&mut self, gate: &Gate<J>, rt: &R)
         requires seated { IsSeated (lock_of gate.now) self.old }
         ensures manned { IsManned (lock_of gate.now) self.new }
         ensures number { self.new.number ≡ self.old.number }

@@ -9,16 +9,16 @@ use std::alloc::{AllocError, Global};
 /// A version of the order schema, and its plan.
 #[derive(Drop)]
 pub struct Form {
-    pub(crate) version: u16,
-    pub(crate) plan: Plan,
-    pub(crate) ghost planned: { plan ≡ order_plan version },
-    pub(crate) ghost least: { 1 ≤ version },
-    pub(crate) ghost most: { version ≤ 2 },
+    pub version: u16,
+    pub plan: Plan,
+    pub ghost planned: { plan ≡ order_plan version },
+    pub ghost least: { 1 ≤ version },
+    pub ghost most: { version ≤ 2 },
 }
 
 impl Form {
     /// The form of a version.
-    pub(crate) fn new(alloc: Global, version: u16) -> Result<Form, AllocError>
+    pub fn new(alloc: Global, version: u16) -> Result<Form, AllocError>
         requires version { IsVersion version }
         ensures version { IfOk result (λ form. form.version ≡ version) }
     {

@@ -11,5 +11,7 @@ mod line;
 mod share;
 mod terms;
 
+pub use desk::Desk;
 pub use desks::Desks;
+pub use form::Form;
 pub use terms::Terms;
