@@ -1,123 +1,109 @@
 -- Both ends once their gates are closed: the session guarantee.
-use Rattle.std.proofs.Common.{◌≡◌, ◌<◌, ◌^◌, true, false, Bool, List, [], ◌∷◌, ◌++◌, length, map, Option, Some, None, refl, sym, ap, subst, ◌∙◌, arith, true≢false}
+use Rattle.std.proofs.Common.{◌≡◌, ◌<◌, ◌^◌, false, List, [], ◌∷◌, ◌++◌, length, Option, Some, None, refl, sym, ap, subst, ◌∙◌, append-nil, arith, true≢false}
 use Rattle.std.specs.List.{AllByRecursion, AllZip}
-use Rattle.std.proofs.lemmas.List.Elements.{AllZip-push}
 use Rattle.std.proofs.Math.Logic.{∥∥₁_map₂}
-use Rattle.session_model.specs.Journal.{Entry, History, entry, entries, InOrder}
+use Rattle.session_model.specs.Journal.{Entry, OutboxRecord, History, entries, InOrder}
 use Rattle.session_model.specs.Inbox.{InboxRecord}
 use Rattle.fixp_msgs.specs.Payload.{IsApplication}
 use Rattle.fixp_msgs.specs.declared.flow.Flow.{Flow}
-use Rattle.fixp_machine.specs.Machine.{State}
 use Rattle.jr_dated.specs.declared.journal.Journal.{Ghosts}
-use Rattle.jr_boxes.specs.Outboxes.{mark_of, outbox_of}
+use Rattle.jr_boxes.specs.Outboxes.{outbox_of}
 use Rattle.jr_kept.specs.declared.outbox.Outbox.{Outbox}
 use Rattle.jr_kept.specs.Outbox as outboxes
 use Rattle.jr_kept.specs.declared.inbox.Inbox.{Inbox}
 use Rattle.jr_kept.specs.Inbox as inboxes
+use Rattle.gate_senders.specs.Gate.{opening_of}
 use Rattle.gate_turn.specs.Places.{known}
 use Rattle.gw_link_fakes.specs.Pipes.{Held}
 use Rattle.turn_laws.specs.Standing.{Has}
 use Rattle.turn_laws.specs.Legs.{TurnedLeg}
 use Rattle.two_ends.specs.Meeting.{Holds}
-use Rattle.two_ends.specs.Driving.{IsFirst, Between}
-use Rattle.two_ends.specs.Pairing.{ReadEachOther, DrivenLife}
-use Rattle.two_ends.proofs.Going.{leg_ends}
-use Rattle.two_ends.proofs.Driven.{driven_hold}
+use Rattle.two_ends.specs.Driving.{Beginning, Awaits, Between}
+use Rattle.two_ends.specs.Pairing.{ReadEachOther}
+use Rattle.two_ends.specs.Stories.{Story, lived, OutboxGoesOn}
+use Rattle.two_ends.proofs.Going.{leg_ends, life_ends}
+use Rattle.two_ends.proofs.Driven.{stories_hold}
 use Rattle.gw_rehearse.specs.declared.end.DrivenEnd.{DrivenEnd}
 use Rattle.gw_rehearse.specs.declared.journals.Journals.{Journals}
 use Rattle.gw_rehearse.specs.declared.standing.Standing.{Standing}
 use Rattle.gw_rehearse.specs.declared.standing.Standing.TheVariants as standings
 use Rattle.gw_rehearse.specs.Standing.{is_given}
-use Rattle.gw_rehearse.specs.Driven.{now_of, Began, StandsBehind, RunsOver, ClosedOn}
-use Rattle.gw_rehearse.specs.Together.{Together, is_lost, KeepsSession}
-use Rattle.gw_rehearse.proofs.Together.{neither}
-
--- the records of a history have its entries
-entries_of_records : (es : List Entry) (b : Bool) → entries (map (λ (e : Entry). entry e) es ++ mark_of b) ≡ es
-entries_of_records [] true = refl
-entries_of_records [] false = refl
-entries_of_records (e ∷ es) b = ap (λ (ds : List Entry). e ∷ ds) (entries_of_records es b)
-
-pub entries-outbox_of : (h : History) → entries (outbox_of h) ≡ h.made
-entries-outbox_of h = entries_of_records h.made h.finished
+use Rattle.gw_rehearse.specs.Driven.{now_of, OpensWith, StandsBehind, RunsOver, ClosedOn}
+use Rattle.gw_rehearse.specs.Together.{Lives, Together, is_lost, KeepsSession}
+use Rattle.gw_rehearse.proofs.Together.{neither, paired_more}
+use Rattle.gw_rehearse.proofs.Outboxes.{entries-outbox_of, outbox_goes_on}
 
 -- an outbox has as many entries as it counts
 made_front : {J : Type 0} {G : Ghosts J} (box : Outbox J G) (h : History) → outboxes.StandsFor box h → outboxes.front_of box < 2 ^ 40 → length h.made < 2 ^ 40
 made_front box h s few = omega (arith, s.tallied.all, few)
 
 -- all connections of an end, whether the last goes on or not
-record AllOver (m : State) (legs : List TurnedLeg) (e : DrivenEnd) : Type 0 where
+record AllOver (b : Beginning) (legs : List TurnedLeg) (e : DrivenEnd) : Type 0 where
   inbox : List InboxRecord
+  opens : OpensWith b e
   holds : inboxes.HoldsBox e.inbox inbox []
-  between : Between m legs (now_of e inbox)
+  between : Between b legs (now_of e inbox)
 
-over_none : (m : State) (legs : List TurnedLeg) (e : DrivenEnd) → StandsBehind m legs e → AllOver m legs e
-over_none m legs e k = record { inbox = k.inbox; holds = k.holds; between = k.between }
+over_none : (b : Beginning) (legs : List TurnedLeg) (e : DrivenEnd) → StandsBehind b legs e → AllOver b legs e
+over_none b legs e k = record { inbox = k.inbox; opens = k.opens; holds = k.holds; between = k.between }
 
-over_one : (m : State) (past : List TurnedLeg) (leg : TurnedLeg) (e : DrivenEnd) → IsFirst m → is_given e.standing ≡ false → RunsOver m past leg e → AllOver m (past ++ leg ∷ []) e
-over_one m past leg e first sound k = by_standing e.standing refl
+over_one : (b : Beginning) (past : List TurnedLeg) (leg : TurnedLeg) (e : DrivenEnd) → Awaits b → is_given e.standing ≡ false → RunsOver b past leg e → AllOver b (past ++ leg ∷ []) e
+over_one b past leg e first sound k = by_standing e.standing refl
   where
-    by_standing : (s : Standing) → e.standing ≡ s → AllOver m (past ++ leg ∷ []) e
-    by_standing standings.Over is = record { inbox = k.inbox; holds = k.holds; between = k.between is }
-    by_standing standings.Open is = record { inbox = k.inbox; holds = k.holds; between = leg_ends m past leg (now_of e k.inbox) first (k.during is) }
+    by_standing : (s : Standing) → e.standing ≡ s → AllOver b (past ++ leg ∷ []) e
+    by_standing standings.Over is = record { inbox = k.inbox; opens = k.opens; holds = k.holds; between = k.between is }
+    by_standing standings.Open is = record { inbox = k.inbox; opens = k.opens; holds = k.holds; between = leg_ends b past leg (now_of e k.inbox) first (k.during is) }
     by_standing standings.GivenUp is = absurd (true≢false (ap is_given (sym is) ∙ sound))
 
 -- of both, paired in order
 record BothOver (client server : Flow) (i a : DrivenEnd) : Type 0 where
-  machine : State
-  machine_a : State
-  began : Began client server machine
-  began_a : Began server client machine_a
+  lives : Lives client server
+  lives_a : Lives server client
   legs : List TurnedLeg
   legs_a : List TurnedLeg
-  paired : AllZip ReadEachOther legs legs_a
-  over : AllOver machine legs i
-  over_a : AllOver machine_a legs_a a
+  paired : AllZip ReadEachOther (lives.legs ++ legs) (lives_a.legs ++ legs_a)
+  over : AllOver lives.begins legs i
+  over_a : AllOver lives_a.begins legs_a a
 
 both_over : (client server : Flow) (i a : DrivenEnd) (pipe : Option Held) → is_lost i a ≡ false → Together client server i a pipe → BothOver client server i a
 both_over client server i a None sound t = record {
-  machine = t.machine;
-  machine_a = t.machine_a;
-  began = t.began;
-  began_a = t.began_a;
+  lives = t.lives;
+  lives_a = t.lives_a;
   legs = t.past;
   legs_a = t.past_a;
   paired = t.paired;
-  over = over_none t.machine t.past i t.meet.0;
-  over_a = over_none t.machine_a t.past_a a t.meet.1;
+  over = over_none t.lives.begins t.past i t.meet.0;
+  over_a = over_none t.lives_a.begins t.past_a a t.meet.1;
 }
 both_over client server i a (Some p) sound t =
     let k = t.meet in
     let parts = neither (is_given i.standing) (is_given a.standing) sound in
     record {
-      machine = t.machine;
-      machine_a = t.machine_a;
-      began = t.began;
-      began_a = t.began_a;
+      lives = t.lives;
+      lives_a = t.lives_a;
       legs = t.past ++ k.leg ∷ [];
       legs_a = t.past_a ++ k.leg_a ∷ [];
-      paired = AllZip-push ReadEachOther t.past t.past_a k.leg k.leg_a t.paired ((p.to_left, sym k.way.homeward), (p.to_right, sym k.way.outward));
-      over = over_one t.machine t.past k.leg i t.began.first parts.0 k.runs;
-      over_a = over_one t.machine_a t.past_a k.leg_a a t.began_a.first parts.1 k.runs_a;
+      paired = paired_more t.lives.legs t.past t.lives_a.legs t.past_a k.leg k.leg_a t.paired ((p.to_left, sym k.way.homeward), (p.to_right, sym k.way.outward));
+      over = over_one t.lives.begins t.past k.leg i t.lives.began.awaits parts.0 k.runs;
+      over_a = over_one t.lives_a.begins t.past_a k.leg_a a t.lives_a.began.awaits parts.1 k.runs_a;
     }
 
--- a life over the outbox that came out of the gate
-driven : (own peer : Flow) (m : State) (legs : List TurnedLeg) (e : DrivenEnd) (j : Journals) (c : ClosedOn e j) → Began own peer m → (o : AllOver m legs e) → outboxes.StandsFor j.outbox c.history
-    → DrivenLife own peer (outbox_of c.history) legs o.inbox
-driven own peer m legs e j c began o s =
+-- the story of an end, with the life that is over where it is closed
+ended : (own peer : Flow) (l : Lives own peer) (legs : List TurnedLeg) (e : DrivenEnd) (j : Journals) (c : ClosedOn e j) → (o : AllOver l.begins legs e) → outboxes.StandsFor j.outbox c.history
+    → Story own peer (l.legs ++ legs) (outbox_of c.history) o.inbox
+ended own peer l legs e j c o s =
     let is : entries (outbox_of c.history) ≡ c.history.made = entries-outbox_of c.history in
-    record {
-      machine = m;
-      first = began.first;
-      range = began.range;
-      own_flow = began.own_flow;
-      peer_flow = began.peer_flow;
-      behind = now_of e o.inbox;
-      inbox_is = refl;
-      between = o.between (entries (outbox_of c.history)) (subst (λ (es : List Entry). Has es (known e.pass).seen) (sym is) (record { begins = c.seen.made; few = made_front j.outbox c.history s c.few }));
+    lived {b = l.begins} l.story (record {
+      began = l.began;
+      came_to = o.inbox;
+      refused = [];
+      over = life_ends l.begins legs (now_of e o.inbox) (outbox_of c.history) l.began.awaits o.between
+          (subst (λ (es : List Entry). Has es (known e.pass).seen) (sym is) (record { begins = c.seen.made; few = made_front j.outbox c.history s c.few }));
+      image = record { kept = []; beginning = ([], refl); holds = sym (append-nil o.inbox) };
+      goes_on = subst (λ (rs : List OutboxRecord). OutboxGoesOn rs (outbox_of c.history)) (sym o.opens) (outbox_goes_on (opening_of e.gate).history c.history c.opened);
       payloads = subst (λ (es : List Entry). AllByRecursion (λ (x : Entry). IsApplication x.payload) es) (sym is) s.outbox.payloads;
       in_order = subst (λ (es : List Entry). InOrder es) (sym is) s.outbox.in_order;
-    }
+    })
 
 -- an inbox that holds a list stands for it
 holds_stands : {J : Type 0} {G : Ghosts J} (box : Inbox J G) (i : List InboxRecord) → inboxes.HoldsBox box i [] → inboxes.StandsFor box i
@@ -126,8 +112,8 @@ holds_stands box i held = record { dated = held.dated; bare = held.bare; journal
 kept : (client server : Flow) (i a : DrivenEnd) (j k : Journals) (c : ClosedOn i j) (d : ClosedOn a k) → BothOver client server i a → outboxes.StandsFor j.outbox c.history → outboxes.StandsFor k.outbox d.history
     → KeepsSession client server j k
 kept client server i a j k c d b s s' =
-    let held = driven_hold client server (outbox_of c.history) (outbox_of d.history) b.legs b.legs_a b.over.inbox b.over_a.inbox
-    (driven client server b.machine b.legs i j c b.began b.over s) (driven server client b.machine_a b.legs_a a k d b.began_a b.over_a s') b.paired in
+    let held = stories_hold client server (outbox_of c.history) (outbox_of d.history) (b.lives.legs ++ b.legs) (b.lives_a.legs ++ b.legs_a) b.over.inbox b.over_a.inbox
+    (ended client server b.lives b.legs i j c b.over s) (ended server client b.lives_a b.legs_a a k d b.over_a s') b.paired in
     record {
       history = c.history;
       history_a = d.history;

@@ -6,3 +6,4 @@ mod Stories
 mod Together
 mod Closing
 mod Arriving
+mod Outboxes

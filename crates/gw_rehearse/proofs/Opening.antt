@@ -1,125 +1,117 @@
--- Boxes over journals without records.
-use Rattle.std.proofs.Common.{◌≡◌, ◌+◌, ◌<◌, ◌^◌, ℕ, List, [], ◌∷◌, ◌++◌, length, map, Option, Some, None, Result, Ok, Err, refl, sym, ap, subst, ◌∙◌, arith, length-append}
-use Rattle.std.proofs.Math.Logic.{∥∥₁_elim}
-use Rattle.std.proofs.Props.{props}
-use native.Mathlib.Nat.{ℕ_set}
-use Rattle.std.specs.Prelude.{IfOk, IfSome}
-use Rattle.std.specs.Result.{result_ok}
-use Rattle.std.proofs.lemmas.List.{length-map}
-use Rattle.session_model.specs.Journal.{Entry, History, entry}
+-- What stops leave of a disk, and what is opened on it.
+use Rattle.std.proofs.Common.{◌<◌, ◌^◌, arith, ◌≡◌, ℕ, List, [], ◌∷◌, ◌++◌, map, Option, Some, None, refl, sym, ap, subst, ◌∙◌, append-nil}
+use Rattle.std.specs.Prelude.{IsTrue, IsSomeAnd}
+use mathlib.Core.List.{IsPrefix}
+use Rattle.session_model.specs.Journal.{History, OutboxRecord}
 use Rattle.session_model.specs.Inbox.{InboxRecord}
-use Rattle.fixp_msgs.specs.declared.flow.Flow.{Flow}
-use Rattle.gw_outside.specs.declared.disk.Disk.{Ghosts as DiskGhosts}
+use Rattle.session_model.specs.Lives.{IsImage}
+use Rattle.gw_fakes.specs.Disks.{is_left}
+use Rattle.gw_fakes.specs.MemDisks.{state_of}
+use Rattle.gw_fakes.specs.declared.disk.MemDisk.{MemDisk}
 use Rattle.jr_record.specs.declared.record.Record.{Record}
-use Rattle.jr_boxes.specs.Outboxes.{mark_of, outbox_of, record_of, records_of_history}
-use Rattle.jr_boxes.specs.Inboxes as records
-use Rattle.jr_boxes.specs.Notes.{Notices}
-use Rattle.jr_boxes.specs.declared.notes.Notes.{Notes}
+use Rattle.jr_boxes.specs.Outboxes.{outbox_of, record_of, records_of_history}
+use Rattle.jr_boxes.specs.Inboxes.{records_of_inbox}
 use Rattle.jr_dated.specs.declared.journal.Journal.{Ghosts}
 use Rattle.jr_dated.specs.Dated.{Dated, undated}
 use Rattle.jr_dated.specs.Images.{IsJournal}
-use Rattle.jr_dated.specs.Journals.{Holds, Unchanged}
-use Rattle.jr_dated.specs.Laws.{AtMostOneVerdict}
-use Rattle.jr_segments.specs.declared.journal.SegJournal.{SegJournal}
-use Rattle.jr_segments.specs.Journal.{StandsFor, MayLeave, OpensOn}
-use Rattle.jr_segments.specs.Lawful.{counted_by}
-use Rattle.jr_segments.specs.Numbers.{numbers_of}
-use Rattle.jr_kept.specs.Undated.{Undated}
+use Rattle.jr_dated.specs.Journals.{Unchanged}
+use Rattle.jr_dated.proofs.Verdicts.{at_most_one_verdict}
 use Rattle.jr_kept.specs.declared.outbox.Outbox.{Outbox}
 use Rattle.jr_kept.specs.Outbox as outboxes
 use Rattle.jr_kept.specs.declared.inbox.Inbox.{Inbox}
 use Rattle.jr_kept.specs.Inbox as inboxes
-use Rattle.jr_kept.proofs.Held.{holds_same}
+use Rattle.fixp_msgs.specs.declared.flow.Flow.{Flow}
+use Rattle.gate_senders.specs.Gate.{opening_of}
+use Rattle.gw_rehearse.specs.declared.end.DrivenEnd.{DrivenEnd}
+use Rattle.gw_rehearse.specs.declared.disks.Disks.{Disks}
+use Rattle.gw_rehearse.specs.Driven.{BeginsOn}
+use Rattle.gw_rehearse.specs.Stopped.{BeginsOnLeft, OutboxIsLeft, InboxIsLeft, LeavesImages, LeavesNoMore, IsLeft}
 
-none_long : (h : List Dated) → length h ≡ 0 → h ≡ []
-none_long [] long = refl
-none_long (d ∷ h) long = absurd (omega (arith, long))
+-- what may be left of a disk
+abbrev pub may_leave : MemDisk → List ℕ → Type 0
+may_leave disk content = IsTrue (is_left (state_of disk).synced (state_of disk).pending content)
 
-module _ {D : Type 0} {G : DiskGhosts D} where
-  -- a journal that was opened on a disk that has one without records
-  pub journal_holds : {E : Type 0} (content : List ℕ) (r : Result (SegJournal D G) E) (o : Option (SegJournal D G)) → o ≡ result_ok r → AtMostOneVerdict → IsJournal content []
-      → IfOk r (OpensOn (Some content)) → IfSome o (λ j. Holds StandsFor MayLeave j [] [])
-  journal_holds {E} content r o is one none opened = subst (λ (x : Option (SegJournal D G)). IfSome x (λ j. Holds StandsFor MayLeave j [] [])) (sym is) (of_result r opened)
-    where
-      of_result : (r : Result (SegJournal D G) E) → IfOk r (OpensOn (Some content)) → IfSome (result_ok r) (λ j. Holds StandsFor MayLeave j [] [])
-      of_result (Ok j) k = subst (λ (h : List Dated). Holds StandsFor MayLeave j h []) (one.one_list content k.list [] (k.content content refl) none) k.holds
-      of_result (Err e) k = tt
+-- a disk that leaves nothing but journals without records
+pub none_leaves : (disk : MemDisk) → ((content : List ℕ) → may_leave disk content → IsJournal content []) → LeavesImages disk [] []
+none_leaves disk all None left = absurd (left.2 [] (all left.0 left.1))
+none_leaves disk all (Some h) left = subst (λ (ds : List Dated). IsImage [] [] ds) (at_most_one_verdict.one_list left.0 [] h (all left.0 left.1) left.2) (record { kept = []; beginning = ([], refl); holds = refl })
 
-  -- it stands for no others
-  pub stands_alone : (j : SegJournal D G) → Holds StandsFor MayLeave j [] [] → (h : List Dated) → StandsFor j h → h ≡ []
-  stands_alone j none h stands =
-      let places = numbers_of j.places in
-      none_long h ((counted_by places j.size j.moment h stands.keeps).0 ∙ sym (counted_by places j.size j.moment [] none.stands_for.keeps).0)
+-- one that leaves no content that another would not leave
+pub leaves_within : (before after : MemDisk) → ((content : List ℕ) → may_leave after content → may_leave before content) → LeavesNoMore before after
+leaves_within before after within closing refused k None left = k None (left.0, within left.0 left.1, left.2)
+leaves_within before after within closing refused k (Some h) left = k (Some h) (left.0, within left.0 left.1, left.2)
 
-none_made : (h : History) → [] ≡ records_of_history h → length h.made ≡ 0
-none_made h e =
-    let all : 0 ≡ length (records_of_history h) = ap (λ (rs : List Record). length rs) e in
-    let long = length-map (outbox_of h) record_of in
-    let parts = length-append (map (λ (x : Entry). entry x) h.made) (mark_of h.finished) in
-    let made = length-map h.made (λ (x : Entry). entry x) in
-    omega (arith, all, long, parts, made)
+pub leaves_self : (disk : MemDisk) → LeavesNoMore disk disk
+leaves_self disk = leaves_within disk disk (λ content left. left)
 
-none_added : (i : List InboxRecord) → [] ≡ records.records_of_inbox i → i ≡ []
-none_added [] e = refl
-none_added (r ∷ i) e = absurd (cc e)
+pub leaves_on : (first second third : MemDisk) → LeavesNoMore first second → LeavesNoMore second third → LeavesNoMore first third
+leaves_on first second third a b closing refused k = b closing refused (a closing refused k)
 
--- no records are an inbox
-no_records : (flow : Flow) → records.IsInbox flow [] []
-no_records flow = record { spelled = refl; fits = λ before after r split. absurd (never_empty before after r split) }
+-- a journal that a left content has is one of the images
+pub is_image : (disk : MemDisk) (content : List ℕ) (closing refused h : List Dated) → may_leave disk content → LeavesImages disk closing refused → IsJournal content h → IsImage closing refused h
+is_image disk content closing refused h left k is = k (Some h) (content, left, is)
+
+-- a disk that leaves but one list, which another may leave, leaves no more
+pub leaves_one : (before after : MemDisk) (content : List ℕ) (h : List Dated) → may_leave before content → IsJournal content h → LeavesImages after h [] → LeavesNoMore before after
+leaves_one before after content h left is one closing refused k image leaves = by_image image (one image leaves)
   where
-    never_empty : (before after : List InboxRecord) (r : InboxRecord) → [] ≡ before ++ r ∷ after → ⊥
-    never_empty [] after r split = cc
-    never_empty (x ∷ before) after r split = cc
+    by_image : (image : Option (List Dated)) → IsSomeAnd image (IsImage h []) → IsSomeAnd image (IsImage closing refused)
+    by_image None none = none
+    by_image (Some x) i = subst (λ (ds : List Dated). IsImage closing refused ds) (sym (i.holds ∙ (ap (λ (ds : List Dated). h ++ ds) (nothing i.kept i.beginning) ∙ append-nil h))) (is_image before content closing refused h left k is)
+      where
+        nothing : (kept : List Dated) → IsPrefix kept [] → kept ≡ []
+        nothing [] p = refl
+        nothing (d ∷ ds) p = absurd (cc p.1)
 
-notices_prop : (n : Notes) (i : List InboxRecord) → IsProp (Notices n i)
-notices_prop n i = hlevel props
+module _ {J : Type 0} {G : Ghosts J} where
+  -- what an outbox stands for, of whose journal each list is an image
+  pub outbox_left : (journal : J) (box : Outbox J G) (closing refused : List Dated) → Unchanged G.stands G.leaves journal (outboxes.journal_of box)
+      → ((ds : List Dated) → G.stands journal ds → IsImage closing refused ds) → (h : History) → outboxes.StandsFor box h → IsLeft closing refused (records_of_history h)
+  outbox_left journal box closing refused same each h s = record { dated = s.dated; bare = s.bare; image = each s.dated ((same.records s.dated).1 s.journal) }
 
--- a journal that stands for no others stands for no records without their moments
-none_bare : {J : Type 0} (stands : J → List Dated → Type 0) (journal : J) → ((h : List Dated) → stands journal h → h ≡ []) → (rs : List Record) → Undated stands journal rs → rs ≡ []
-none_bare stands journal alone rs u = sym u.2 ∙ ap undated (alone u.0 u.1)
+  pub inbox_left : (journal : J) (box : Inbox J G) (closing refused : List Dated) → Unchanged G.stands G.leaves journal (inboxes.journal_of box)
+      → ((ds : List Dated) → G.stands journal ds → IsImage closing refused ds) → (i : List InboxRecord) → inboxes.StandsFor box i → IsLeft closing refused (records_of_inbox i)
+  inbox_left journal box closing refused same each i s = record { dated = s.dated; bare = s.bare; image = each s.dated ((same.records s.dated).1 s.journal) }
 
--- of a journal that stands for no records, and no others, both boxes are empty
-module _ {J : Type 0} {G : Ghosts J} (journal : J) (holds : Holds G.stands G.leaves journal [] []) (alone : (h : List Dated) → G.stands journal h → h ≡ []) where
-  pub outbox_empty : {E : Type 0} (r : Result (Outbox J G) E) (o : Option (Outbox J G)) → o ≡ result_ok r
-      → IfOk r (λ box. ∥ ((rs : List Record) × Undated G.stands journal rs × outboxes.OpensOn box rs) ∥₁) → IfSome o (λ box. outboxes.front_of box ≡ 0)
-  outbox_empty {E} r o is opened = subst (λ (x : Option (Outbox J G)). IfSome x (λ box. outboxes.front_of box ≡ 0)) (sym is) (of_result r opened)
-    where
-      of_result : (r : Result (Outbox J G) E) → IfOk r (λ box. ∥ ((rs : List Record) × Undated G.stands journal rs × outboxes.OpensOn box rs) ∥₁) → IfSome (result_ok r) (λ box. outboxes.front_of box ≡ 0)
-      of_result (Ok box) opened = ∥∥₁_elim opened (ℕ_set _ _) (λ k.
-          let x : outboxes.OpensOn box k.0 = k.2 in
-          x.holds.tallied.all ∙ none_made x.history (sym (none_bare G.stands journal alone k.0 k.1) ∙ x.outbox.spelled))
-      of_result (Err e) opened = tt
+-- of a disk that leaves nothing there are no records
+none_left : (records : List Record) → IsLeft [] [] records → records ≡ []
+none_left records l = sym l.bare ∙ ap undated (l.image.holds ∙ nothing l.image.kept l.image.beginning)
+  where
+    nothing : (kept : List Dated) → IsPrefix kept [] → kept ≡ []
+    nothing [] p = refl
+    nothing (d ∷ ds) p = absurd (cc p.1)
 
-  -- what an inbox notes of no records
-  none_noticed : (box : Inbox J G) (rs : List Record) → Undated G.stands journal rs → inboxes.OpensOn box rs → Notices box.notes []
-  none_noticed box rs u o = subst (λ (i : List InboxRecord). Notices box.notes i) (none_added o.list (sym (none_bare G.stands journal alone rs u) ∙ o.inbox.spelled)) o.holds.noticed
+pub none_made : (h : History) → IsLeft [] [] (records_of_history h) → outbox_of h ≡ []
+none_made h l = empty (outbox_of h) (none_left (records_of_history h) l)
+  where
+    empty : (rs : List _) → map record_of rs ≡ [] → rs ≡ []
+    empty [] e = refl
+    empty (r ∷ rs) e = absurd (cc e)
 
-  all_noticed : (box : Inbox J G) → ∥ ((rs : List Record) × Undated G.stands journal rs × inboxes.OpensOn box rs) ∥₁ → Notices box.notes []
-  all_noticed box opened = ∥∥₁_elim opened (notices_prop box.notes []) (λ k. none_noticed box k.0 k.1 k.2)
+pub none_added : (i : List InboxRecord) → IsLeft [] [] (records_of_inbox i) → i ≡ []
+none_added i l = empty i (none_left (records_of_inbox i) l)
+  where
+    empty : (rs : List InboxRecord) → records_of_inbox rs ≡ [] → rs ≡ []
+    empty [] e = refl
+    empty (r ∷ rs) e = absurd (cc e)
 
-  pub inbox_empty : {E : Type 0} (r : Result (Inbox J G) E) (o : Option (Inbox J G)) → o ≡ result_ok r
-      → IfOk r (λ box. ∥ ((rs : List Record) × Undated G.stands journal rs × inboxes.OpensOn box rs) ∥₁) → IfOk r (λ box. Unchanged G.stands G.leaves journal (inboxes.journal_of box))
-      → IfSome o (λ box. inboxes.HoldsBox box [] [])
-  inbox_empty {E} r o is opened same = subst (λ (x : Option (Inbox J G)). IfSome x (λ box. inboxes.HoldsBox box [] [])) (sym is) (of_result r opened same)
-    where
-      of_result : (r : Result (Inbox J G) E) → IfOk r (λ box. ∥ ((rs : List Record) × Undated G.stands journal rs × inboxes.OpensOn box rs) ∥₁)
-          → IfOk r (λ box. Unchanged G.stands G.leaves journal (inboxes.journal_of box)) → IfSome (result_ok r) (λ box. inboxes.HoldsBox box [] [])
-      of_result (Ok box) opened same = record {
-        dated = [];
-        late = [];
-        bare = refl;
-        bare_late = refl;
-        journal = holds_same G.stands G.leaves journal box.journal same [] [] holds;
-        inbox = no_records box.flow;
-        noticed = all_noticed box opened;
-      }
-      of_result (Err e) opened same = tt
+-- a life over disks that leave nothing begins on empty journals
+pub begins_empty : (own peer : Flow) (disks : Disks) (e : DrivenEnd) → LeavesImages disks.outbox [] [] → LeavesImages disks.inbox [] [] → BeginsOnLeft own peer disks e → BeginsOn own peer [] [] e
+begins_empty own peer disks e outbox inbox n =
+    subst (λ (rs : List OutboxRecord). BeginsOn own peer rs [] e) (none_made (opening_of e.gate).history (n.outbox_left [] [] outbox))
+    (subst (λ (i : List InboxRecord). BeginsOn own peer (outbox_of (opening_of e.gate).history) i e) (none_added n.inbox (n.inbox_left [] [] inbox)) n.begins)
 
-  pub inbox_numbered : {E : Type 0} (r : Result (Inbox J G) E) (o : Option (Inbox J G)) → o ≡ result_ok r
-      → IfOk r (λ box. ∥ ((rs : List Record) × Undated G.stands journal rs × inboxes.OpensOn box rs) ∥₁) → IfOk r (λ box. Unchanged G.stands G.leaves journal (inboxes.journal_of box))
-      → IfSome o (λ box. inboxes.next_of box + 1 < 2 ^ 64)
-  inbox_numbered {E} r o is opened same = by_option o (inbox_empty r o is opened same)
-    where
-      by_option : (o : Option (Inbox J G)) → IfSome o (λ box. inboxes.HoldsBox box [] []) → IfSome o (λ box. inboxes.next_of box + 1 < 2 ^ 64)
-      by_option None k = tt
-      by_option (Some box) k = let next : inboxes.next_of box ≡ 1 = k.noticed.next in omega (arith, next)
+-- a life over boxes that were opened on disks begins on what is left of those
+pub begins_on_left : {J : Type 0} {G : Ghosts J} (own peer : Flow) (disks : Disks) (box : Outbox J G) (ibox : Inbox J G) (e : DrivenEnd) → outboxes.front_of box < 2 ^ 40 → OutboxIsLeft disks.outbox box → InboxIsLeft disks.inbox ibox
+    → ((i : List InboxRecord) → inboxes.HoldsBox ibox i [] → BeginsOn own peer (outbox_of (opening_of e.gate).history) i e) → outboxes.StandsFor box (opening_of e.gate).history
+    → ((i : List InboxRecord) × inboxes.HoldsBox ibox i []) → BeginsOnLeft own peer disks e
+begins_on_left own peer disks box ibox e few left left_in begins s k =
+    let h : inboxes.HoldsBox ibox k.0 [] = k.1 in
+    record {
+      inbox = k.0;
+      begins = begins k.0 h;
+      history = s.outbox;
+      few = omega (arith, s.tallied.all, few);
+      outbox_left = λ closing refused leaves. left closing refused leaves (opening_of e.gate).history s;
+      inbox_left = λ closing refused leaves. left_in closing refused leaves k.0 (record { dated = h.dated; bare = h.bare; journal = h.journal.stands_for; inbox = h.inbox; noticed = h.noticed });
+    }

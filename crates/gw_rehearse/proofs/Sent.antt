@@ -14,7 +14,7 @@ use Rattle.gate_turn.specs.Places.{known}
 use Rattle.gate_turn.specs.Listed.{pass_at, known_if, known_at}
 use Rattle.gate_turn.specs.declared.pass.Pass.{Pass}
 use Rattle.gate_turn.specs.declared.passes.Passes.{Passes}
-use Rattle.gate_senders.specs.Gate.{ClosedWith}
+use Rattle.gate_senders.specs.Gate.{ClosedWith, opening_of}
 use Rattle.gate_senders.specs.declared.gate.Gate.{Gate}
 use Rattle.gate_senders.specs.declared.kept.Kept.{Kept}
 use Rattle.gate_plans.specs.Runs.{CountedEach}
@@ -72,19 +72,28 @@ module _ {J : Type 0} {G : Ghosts J} where
           ∥∥₁_elim closed.holds (ℕ_set _ _) (λ h. h.tallied.each (i + 1) (omega arith, omega (arith, within, many, few))) in
           counted ∙ (ap length (sym mine) ∙ sym (get_or-map made senders i d 0 within))
 
-  -- the connection's pass has seen a beginning of the history that the outbox holds then
-  pub last_found : (gate : Gate J G) (given out : Passes (Kept J G)) (senders : List (Sender J G)) (count : ℕ) (box : Outbox J G) (p : Pass (Kept J G)) → count ≡ length senders → Seated gate senders (count + 1)
-      → (count ≡ 0 → (known p).made ≡ 1) → pass_at given (count + 1) ≡ Some p → HasTheirs given out senders → (k : ClosedWith gate out box) → BeginsHistory (known p).seen k.history
-  last_found gate given out senders count box p many seated alone there theirs k =
-      subst (λ (x : Part). BeginsHistory x.seen k.history) knows (k.closed.found (count + 1) (record { from_one = omega arith; up_to = omega (arith, made senders refl) })).seen
-    where
-      knows : known_at out (count + 1) ≡ known p
-      knows = ap (λ (o : Option (Pass (Kept J G))). known_if o) (theirs.others (count + 1) (omega (arith, many)) ∙ there)
+  -- where all passes are back, the connection's is the one behind those of the senders
+  module _ (given out : Passes (Kept J G)) (senders : List (Sender J G)) (count : ℕ) (p : Pass (Kept J G)) (many : count ≡ length senders) (alone : count ≡ 0 → (known p).made ≡ 1)
+      (there : pass_at given (count + 1) ≡ Some p) (theirs : HasTheirs given out senders) where
+    knows : known_at out (count + 1) ≡ known p
+    knows = ap (λ (o : Option (Pass (Kept J G))). known_if o) (theirs.others (count + 1) (omega (arith, many)) ∙ there)
 
-      made : (xs : List (Sender J G)) → xs ≡ senders → (known_at out 1).made ≡ count + 1
-      made [] e =
-          let none : count ≡ 0 = many ∙ sym (ap length e) in
-          ap (λ (x : Part). x.made) (subst (λ (n : ℕ). known_at out (n + 1) ≡ known p) none knows) ∙ (alone none ∙ omega (arith, none))
-      made (x ∷ xs) e =
-          let some : 0 < length senders = omega (arith, ap length e) in
-          ap (λ (y : Part). y.made) (ap (λ (o : Option (Pass (Kept J G))). known_if o) (theirs.theirs 0 x some)) ∙ seated.first x some
+    made_all : (gate : Gate J G) → Seated gate senders (count + 1) → (xs : List (Sender J G)) → xs ≡ senders → (known_at out 1).made ≡ count + 1
+    made_all gate seated [] e =
+        let none : count ≡ 0 = many ∙ sym (ap length e) in
+        ap (λ (x : Part). x.made) (subst (λ (n : ℕ). known_at out (n + 1) ≡ known p) none knows) ∙ (alone none ∙ omega (arith, none))
+    made_all gate seated (x ∷ xs) e =
+        let some : 0 < length senders = omega (arith, ap length e) in
+        ap (λ (y : Part). y.made) (ap (λ (o : Option (Pass (Kept J G))). known_if o) (theirs.theirs 0 x some)) ∙ seated.first x some
+
+    -- it has seen a beginning of the history that the outbox holds then
+    pub last_found : (gate : Gate J G) (box : Outbox J G) → Seated gate senders (count + 1) → (k : ClosedWith gate out box) → BeginsHistory (known p).seen k.history
+    last_found gate box seated k =
+        subst (λ (x : Part). BeginsHistory x.seen k.history) knows (k.closed.found (count + 1) (record { from_one = omega arith; up_to = omega (arith, made_all gate seated senders refl) })).seen
+
+    -- which goes on from what the gate was made with
+    pub opened_found : (gate : Gate J G) (box : Outbox J G) → Seated gate senders (count + 1) → (k : ClosedWith gate out box) → BeginsHistory (opening_of gate).history k.history
+    opened_found gate box seated k =
+        let found = k.closed.found (count + 1) (record { from_one = omega arith; up_to = omega (arith, made_all gate seated senders refl) }) in
+        let opened = k.closed.opened (count + 1) (record { from_one = omega arith; up_to = omega (arith, made_all gate seated senders refl) }) in
+        subst (λ a. BeginsHistory a.history k.history) opened found.begins

@@ -1,5 +1,6 @@
 -- Both ends together, behind each call of a pair.
-use Rattle.std.proofs.Common.{◌≡◌, ℕ, true, false, ◌||◌, if◌then◌else◌, Bool, List, [], ◌∷◌, ◌++◌, Option, Some, None, refl, sym, ap, subst, ◌∙◌, true≢false}
+use Rattle.std.proofs.Common.{◌≡◌, ℕ, true, false, ◌||◌, if◌then◌else◌, Bool, List, [], ◌∷◌, ◌++◌, Option, Some, None, refl, sym, ap, subst, ◌∙◌, append_assoc, true≢false}
+use Rattle.std.specs.List.{AllZip}
 use Rattle.std.proofs.Math.Logic.{∥∥₁_map}
 use Rattle.session_model.specs.Inbox.{InboxRecord}
 use Rattle.jr_kept.specs.Inbox.{HoldsBox}
@@ -7,20 +8,20 @@ use Rattle.gate_turn.specs.Places.{known}
 use Rattle.conn_loop.specs.Conn.{line_of}
 use Rattle.std.proofs.lemmas.List.Elements.{AllZip-push}
 use Rattle.fixp_msgs.specs.declared.flow.Flow.{Flow}
-use Rattle.fixp_machine.specs.Machine.{State}
 use Rattle.gw_link_fakes.specs.Pipes.{Held, new_pipe, told_at}
 use Rattle.gw_link_fakes.specs.declared.pipe.Side.TheVariants.{Left, Right}
 use Rattle.turn_laws.specs.Legs.{TurnedLeg}
-use Rattle.two_ends.specs.Driving.{EndNow, IsFirst, begun_leg, Between, During}
+use Rattle.two_ends.specs.Driving.{EndNow, Beginning, Awaits, begun_leg, Between, During}
 use Rattle.two_ends.specs.Pairing.{ReadEachOther, UnderWay}
+use Rattle.two_ends.specs.Stories.{untold}
 use Rattle.two_ends.proofs.Moving.{bytes_move, turned_round}
 use Rattle.gw_rehearse.specs.declared.end.DrivenEnd.{DrivenEnd}
 use Rattle.gw_rehearse.specs.declared.standing.Standing.{Standing}
 use Rattle.gw_rehearse.specs.declared.standing.Standing.TheVariants as standings
 use Rattle.gw_rehearse.specs.Standing.{is_given, is_going}
-use Rattle.gw_rehearse.specs.Driven.{now_of, StandsBehind, RunsOver, TurnsOn, IsNew}
+use Rattle.gw_rehearse.specs.Driven.{now_of, StandsBehind, RunsOver, TurnsOn, BeginsOn, beginning_on}
 use Rattle.gw_rehearse.specs.Together.{Together, is_lost, PairNow, StaysSound}
-use Rattle.gw_rehearse.proofs.Stories.{ended_over}
+use Rattle.gw_rehearse.proofs.Stories.{opens_same, ended_over}
 
 pub neither : (a b : Bool) → (a || b) ≡ false → (a ≡ false) × (b ≡ false)
 neither true b e = absurd (true≢false e)
@@ -44,12 +45,18 @@ stays_self p = record { client = refl; server = refl; sound = λ e. e }
 pub stays_on : (p q r : PairNow) → StaysSound p q → StaysSound q r → StaysSound p r
 stays_on p q r s t = record { client = t.client ∙ s.client; server = t.server ∙ s.server; sound = λ e. t.sound (s.sound e) }
 
+-- one more connection of both is paired
+pub paired_more : (ls ms ks ns : List TurnedLeg) (a b : TurnedLeg) → AllZip ReadEachOther (ls ++ ms) (ks ++ ns) → ReadEachOther a b → AllZip ReadEachOther (ls ++ (ms ++ a ∷ [])) (ks ++ (ns ++ b ∷ []))
+paired_more ls ms ks ns a b all one = subst (λ (xs : List TurnedLeg). AllZip ReadEachOther xs (ks ++ (ns ++ b ∷ []))) (append_assoc ls ms (a ∷ []))
+    (subst (λ (ys : List TurnedLeg). AllZip ReadEachOther ((ls ++ ms) ++ a ∷ []) ys) (append_assoc ks ns (b ∷ [])) (AllZip-push ReadEachOther (ls ++ ms) (ks ++ ns) a b all one))
+
 -- an end whose connection, pass and inbox are the same
 record SameEnd (e e' : DrivenEnd) : Type 0 where
   standing : e'.standing ≡ e.standing
   conn : e'.conn ≡ e.conn
   pass : e'.pass ≡ e.pass
   inbox : e'.inbox ≡ e.inbox
+  gate : e'.gate ≡ e.gate
 
 same_of : (e e' : DrivenEnd) → e' ≡ record e { senders = e'.senders } → SameEnd e e'
 same_of e e' same = record {
@@ -57,51 +64,50 @@ same_of e e' same = record {
   conn = ap (λ (x : DrivenEnd). x.conn) same;
   pass = ap (λ (x : DrivenEnd). x.pass) same;
   inbox = ap (λ (x : DrivenEnd). x.inbox) same;
+  gate = ap (λ (x : DrivenEnd). x.gate) same;
 }
 
 now_same : (e e' : DrivenEnd) (i : List InboxRecord) → SameEnd e e' → now_of e i ≡ now_of e' i
 now_same e e' i s =
     ap (λ c. record { line = line_of c; seen = (known e.pass).seen; inbox = i }) (sym s.conn) ∙ ap (λ p. record { line = line_of e'.conn; seen = (known p).seen; inbox = i }) (sym s.pass)
 
-stands_same : (m : State) (legs : List TurnedLeg) (e e' : DrivenEnd) → SameEnd e e' → StandsBehind m legs e → StandsBehind m legs e'
-stands_same m legs e e' s k = record {
+stands_same : (b : Beginning) (legs : List TurnedLeg) (e e' : DrivenEnd) → SameEnd e e' → StandsBehind b legs e → StandsBehind b legs e'
+stands_same b legs e e' s k = record {
   over = s.standing ∙ k.over;
+  opens = opens_same b e e' s.gate k.opens;
   inbox = k.inbox;
   holds = subst (λ box. HoldsBox box k.inbox []) (sym s.inbox) k.holds;
-  between = subst (λ (x : EndNow). Between m legs x) (now_same e e' k.inbox s) k.between;
+  between = subst (λ (x : EndNow). Between b legs x) (now_same e e' k.inbox s) k.between;
 }
 
-runs_same : (m : State) (past : List TurnedLeg) (leg : TurnedLeg) (e e' : DrivenEnd) → SameEnd e e' → RunsOver m past leg e → RunsOver m past leg e'
-runs_same m past leg e e' s k = record {
+runs_same : (b : Beginning) (past : List TurnedLeg) (leg : TurnedLeg) (e e' : DrivenEnd) → SameEnd e e' → RunsOver b past leg e → RunsOver b past leg e'
+runs_same b past leg e e' s k = record {
+  opens = opens_same b e e' s.gate k.opens;
   uncut = k.uncut;
   inbox = k.inbox;
   holds = subst (λ box. HoldsBox box k.inbox []) (sym s.inbox) k.holds;
-  during = λ going. subst (λ (x : EndNow). During m past leg x) (now_same e e' k.inbox s) (k.during (sym s.standing ∙ going));
-  between = λ over. subst (λ (x : EndNow). Between m (past ++ leg ∷ []) x) (now_same e e' k.inbox s) (k.between (sym s.standing ∙ over));
+  during = λ going. subst (λ (x : EndNow). During b past leg x) (now_same e e' k.inbox s) (k.during (sym s.standing ∙ going));
+  between = λ over. subst (λ (x : EndNow). Between b (past ++ leg ∷ []) x) (now_same e e' k.inbox s) (k.between (sym s.standing ∙ over));
 }
 
 module _ (client server : Flow) where
   -- what its senders submit changes nothing of an end's connections
   together_same : (i i' a : DrivenEnd) (pipe : Option Held) → SameEnd i i' → Together client server i a pipe → Together client server i' a pipe
   together_same i i' a None s t = record {
-    machine = t.machine;
-    machine_a = t.machine_a;
-    began = t.began;
-    began_a = t.began_a;
+    lives = t.lives;
+    lives_a = t.lives_a;
     past = t.past;
     past_a = t.past_a;
     paired = t.paired;
-    meet = (stands_same t.machine t.past i i' s t.meet.0, t.meet.1);
+    meet = (stands_same t.lives.begins t.past i i' s t.meet.0, t.meet.1);
   }
   together_same i i' a (Some p) s t = record {
-    machine = t.machine;
-    machine_a = t.machine_a;
-    began = t.began;
-    began_a = t.began_a;
+    lives = t.lives;
+    lives_a = t.lives_a;
     past = t.past;
     past_a = t.past_a;
     paired = t.paired;
-    meet = record { leg = t.meet.leg; leg_a = t.meet.leg_a; way = t.meet.way; runs = runs_same t.machine t.past t.meet.leg i i' s t.meet.runs; runs_a = t.meet.runs_a };
+    meet = record { leg = t.meet.leg; leg_a = t.meet.leg_a; way = t.meet.way; runs = runs_same t.lives.begins t.past t.meet.leg i i' s t.meet.runs; runs_a = t.meet.runs_a };
   }
 
   pub submitted : (i i' a : DrivenEnd) (pipe : Option Held) → i' ≡ record i { senders = i'.senders } → (is_lost i a ≡ false → ∥ Together client server i a pipe ∥₁)
@@ -111,12 +117,10 @@ module _ (client server : Flow) where
       ∥∥₁_map (k (ap (λ x. is_given x || is_given a.standing) (sym s.standing) ∙ sound)) (λ t. together_same i i' a pipe s t)
 
   -- two new ends
-  pub new_pair : (i a : DrivenEnd) → IsNew client server i → IsNew server client a → Together client server i a None
+  pub new_pair : (i a : DrivenEnd) → BeginsOn client server [] [] i → BeginsOn server client [] [] a → Together client server i a None
   new_pair i a k l = record {
-    machine = k.machine;
-    machine_a = l.machine;
-    began = k.began;
-    began_a = l.began;
+    lives = record { legs = []; begins = beginning_on k.machine [] []; story = untold; began = k.began };
+    lives_a = record { legs = []; begins = beginning_on l.machine [] []; story = untold; began = l.began };
     past = [];
     past_a = [];
     paired = tt;
@@ -124,16 +128,14 @@ module _ (client server : Flow) where
   }
 
   -- both begin a connection
-  pub both_begin : (i a i' a' : DrivenEnd) (room : ℕ) → ((m : State) (legs : List TurnedLeg) → StandsBehind m legs i → (now : ℕ) × RunsOver m legs (begun_leg now) i')
-      → ((m : State) (legs : List TurnedLeg) → StandsBehind m legs a → (now : ℕ) × RunsOver m legs (begun_leg now) a') → Together client server i a None → Together client server i' a' (Some (new_pipe room))
+  pub both_begin : (i a i' a' : DrivenEnd) (room : ℕ) → ((b : Beginning) (legs : List TurnedLeg) → StandsBehind b legs i → (now : ℕ) × RunsOver b legs (begun_leg now) i')
+      → ((b : Beginning) (legs : List TurnedLeg) → StandsBehind b legs a → (now : ℕ) × RunsOver b legs (begun_leg now) a') → Together client server i a None → Together client server i' a' (Some (new_pipe room))
   both_begin i a i' a' room begins begins_a t =
-      let x = begins t.machine t.past t.meet.0 in
-      let y = begins_a t.machine_a t.past_a t.meet.1 in
+      let x = begins t.lives.begins t.past t.meet.0 in
+      let y = begins_a t.lives_a.begins t.past_a t.meet.1 in
       record {
-        machine = t.machine;
-        machine_a = t.machine_a;
-        began = t.began;
-        began_a = t.began_a;
+        lives = t.lives;
+        lives_a = t.lives_a;
         past = t.past;
         past_a = t.past_a;
         paired = t.paired;
@@ -144,12 +146,10 @@ module _ (client server : Flow) where
   pub left_turns : (i i' a : DrivenEnd) (p q : Held) → TurnsOn i i' (Some (told_at Left p)) (Some (told_at Left q)) → is_given i'.standing ≡ false → Together client server i a (Some p) → Together client server i' a (Some q)
   left_turns i i' a p q turns sound t =
       let k = t.meet in
-      let x = turns.goes t.machine t.past k.leg t.began.first k.runs sound in
+      let x = turns.goes t.lives.begins t.past k.leg t.lives.began.awaits k.runs sound in
       record {
-        machine = t.machine;
-        machine_a = t.machine_a;
-        began = t.began;
-        began_a = t.began_a;
+        lives = t.lives;
+        lives_a = t.lives_a;
         past = t.past;
         past_a = t.past_a;
         paired = t.paired;
@@ -166,12 +166,10 @@ module _ (client server : Flow) where
   pub right_turns : (i a a' : DrivenEnd) (p q : Held) → TurnsOn a a' (Some (told_at Right p)) (Some (told_at Right q)) → is_given a'.standing ≡ false → Together client server i a (Some p) → Together client server i a' (Some q)
   right_turns i a a' p q turns sound t =
       let k = t.meet in
-      let x = turns.goes t.machine_a t.past_a k.leg_a t.began_a.first k.runs_a sound in
+      let x = turns.goes t.lives_a.begins t.past_a k.leg_a t.lives_a.began.awaits k.runs_a sound in
       record {
-        machine = t.machine;
-        machine_a = t.machine_a;
-        began = t.began;
-        began_a = t.began_a;
+        lives = t.lives;
+        lives_a = t.lives_a;
         past = t.past;
         past_a = t.past_a;
         paired = t.paired;
@@ -197,45 +195,41 @@ module _ (client server : Flow) where
   read a b to_a to_b w = ((to_a, sym w.homeward), (to_b, sym w.outward))
 
   -- once the connections of both are over no pipe stands
-  pub all_over : (i a i' a' : DrivenEnd) (p : Held) → ((m : State) (past : List TurnedLeg) (leg : TurnedLeg) → IsFirst m → RunsOver m past leg i → StandsBehind m (past ++ leg ∷ []) i')
-      → ((m : State) (past : List TurnedLeg) (leg : TurnedLeg) → IsFirst m → RunsOver m past leg a → StandsBehind m (past ++ leg ∷ []) a') → Together client server i a (Some p) → Together client server i' a' None
+  pub all_over : (i a i' a' : DrivenEnd) (p : Held) → ((b : Beginning) (past : List TurnedLeg) (leg : TurnedLeg) → Awaits b → RunsOver b past leg i → StandsBehind b (past ++ leg ∷ []) i')
+      → ((b : Beginning) (past : List TurnedLeg) (leg : TurnedLeg) → Awaits b → RunsOver b past leg a → StandsBehind b (past ++ leg ∷ []) a') → Together client server i a (Some p) → Together client server i' a' None
   all_over i a i' a' p over over_a t =
       let k = t.meet in
       record {
-        machine = t.machine;
-        machine_a = t.machine_a;
-        began = t.began;
-        began_a = t.began_a;
+        lives = t.lives;
+        lives_a = t.lives_a;
         past = t.past ++ k.leg ∷ [];
         past_a = t.past_a ++ k.leg_a ∷ [];
-        paired = AllZip-push ReadEachOther t.past t.past_a k.leg k.leg_a t.paired (read k.leg k.leg_a p.to_left p.to_right k.way);
-        meet = (over t.machine t.past k.leg t.began.first k.runs, over_a t.machine_a t.past_a k.leg_a t.began_a.first k.runs_a);
+        paired = paired_more t.lives.legs t.past t.lives_a.legs t.past_a k.leg k.leg_a t.paired (read k.leg k.leg_a p.to_left p.to_right k.way);
+        meet = (over t.lives.begins t.past k.leg t.lives.began.awaits k.runs, over_a t.lives_a.begins t.past_a k.leg_a t.lives_a.began.awaits k.runs_a);
       }
 
   -- as where both ended by themselves
   pub both_ended : (i a : DrivenEnd) (p : Held) → i.standing ≡ standings.Over → a.standing ≡ standings.Over → Together client server i a (Some p) → Together client server i a None
-  both_ended i a p over over_a = all_over i a i a p (λ m past leg first k. ended_over m past leg i over k) (λ m past leg first k. ended_over m past leg a over_a k)
+  both_ended i a p over over_a = all_over i a i a p (λ b past leg first k. ended_over b past leg i over k) (λ b past leg first k. ended_over b past leg a over_a k)
 
   -- and where the connection that stands is cut, if one stands
-  pub both_cut : (i a i' a' : DrivenEnd) (pipe : Option Held) → ((m : State) (past : List TurnedLeg) (leg : TurnedLeg) → IsFirst m → RunsOver m past leg i → is_given i.standing ≡ false → StandsBehind m (past ++ leg ∷ []) i')
-      → (i.standing ≡ standings.Over → i' ≡ i) → ((m : State) (past : List TurnedLeg) (leg : TurnedLeg) → IsFirst m → RunsOver m past leg a → is_given a.standing ≡ false → StandsBehind m (past ++ leg ∷ []) a')
+  pub both_cut : (i a i' a' : DrivenEnd) (pipe : Option Held) → ((b : Beginning) (past : List TurnedLeg) (leg : TurnedLeg) → Awaits b → RunsOver b past leg i → is_given i.standing ≡ false → StandsBehind b (past ++ leg ∷ []) i')
+      → (i.standing ≡ standings.Over → i' ≡ i) → ((b : Beginning) (past : List TurnedLeg) (leg : TurnedLeg) → Awaits b → RunsOver b past leg a → is_given a.standing ≡ false → StandsBehind b (past ++ leg ∷ []) a')
       → (a.standing ≡ standings.Over → a' ≡ a) → is_lost i a ≡ false → Together client server i a pipe → Together client server i' a' None
   both_cut i a i' a' None over rests over_a rests_a sound t = record {
-    machine = t.machine;
-    machine_a = t.machine_a;
-    began = t.began;
-    began_a = t.began_a;
+    lives = t.lives;
+    lives_a = t.lives_a;
     past = t.past;
     past_a = t.past_a;
     paired = t.paired;
     meet = (
-      subst (λ (e : DrivenEnd). StandsBehind t.machine t.past e) (sym (rests t.meet.0.over)) t.meet.0,
-      subst (λ (e : DrivenEnd). StandsBehind t.machine_a t.past_a e) (sym (rests_a t.meet.1.over)) t.meet.1,
+      subst (λ (e : DrivenEnd). StandsBehind t.lives.begins t.past e) (sym (rests t.meet.0.over)) t.meet.0,
+      subst (λ (e : DrivenEnd). StandsBehind t.lives_a.begins t.past_a e) (sym (rests_a t.meet.1.over)) t.meet.1,
     );
   }
   both_cut i a i' a' (Some p) over rests over_a rests_a sound t =
       let parts = neither (is_given i.standing) (is_given a.standing) sound in
-      all_over i a i' a' p (λ m past leg first k. over m past leg first k parts.0) (λ m past leg first k. over_a m past leg first k parts.1) t
+      all_over i a i' a' p (λ b past leg first k. over b past leg first k parts.0) (λ b past leg first k. over_a b past leg first k parts.1) t
 
   -- behind a round the pipe stands where the connection goes on
   pub round_behind : (i a : DrivenEnd) (q : Held) (b : Bool) (o : Option Held) → o ≡ (if b then Some q else None) → b ≡ (is_going i.standing || is_going a.standing) → is_lost i a ≡ false

@@ -1,7 +1,7 @@
 -- What is known of an end that is driven, over the connections that it had (this project's profile).
 use Rattle.std.specs.Prelude.{◌≡◌, ℕ, ◌*◌, ◌^◌, ◌<◌, List, [], ◌∷◌, ◌++◌, false, None, Option, vec_len}
 use Rattle.gw_links.specs.Links.{LinkTold, Steps}
-use Rattle.session_model.specs.Journal.{History, BeginsHistory}
+use Rattle.session_model.specs.Journal.{History, BeginsHistory, OutboxRecord}
 use Rattle.session_model.specs.Inbox.{InboxRecord}
 use Rattle.fixp_msgs.specs.declared.flow.Flow.{Flow}
 use Rattle.fixp_shake.specs.declared.config.EndConfig.{EndConfig}
@@ -9,13 +9,15 @@ use Rattle.fixp_replies.specs.declared.facts.EndState.{EndState}
 use Rattle.fixp_machine.specs.Machine.{State, fresh}
 use Rattle.jr_kept.specs.Inbox.{HoldsBox}
 use Rattle.jr_kept.specs.Outbox as outboxes
+use Rattle.jr_boxes.specs.Outboxes.{outbox_of}
 use Rattle.gate_turn.specs.Places.{known}
-use Rattle.connection_laws.specs.Ranges.{IsInRange}
+use Rattle.gate_senders.specs.Gate.{opening_of}
 use Rattle.conn_loop.specs.Conn.{line_of, new_line}
 use Rattle.conn_loop.specs.declared.conn.Conn.{Conn}
 use Rattle.turn_laws.specs.Legs.{TurnedLeg}
-use Rattle.two_ends.specs.Driving.{EndNow, IsFirst, Between, During}
+use Rattle.two_ends.specs.Driving.{EndNow, Beginning, Awaits, Between, During}
 use Rattle.two_ends.specs.Pairing.{Carries}
+use Rattle.two_ends.specs.Stories.{Began}
 use Rattle.gw_rehearse.specs.declared.end.DrivenEnd.{DrivenEnd}
 use Rattle.gw_rehearse.specs.declared.journals.Journals.{Journals}
 use Rattle.gw_rehearse.specs.declared.standing.Standing.TheVariants as standings
@@ -36,52 +38,57 @@ pub record IsMadeOf (config : EndConfig) (next sent : ℕ) (conn : Conn) : Type 
   pub sent_is : state.sent ≡ sent
   pub line : line_of conn ≡ new_line (fresh config state (2 ^ 24))
 
--- the machine with which the life of an end with these flows began
-pub record Began (own peer : Flow) (m : State) : Type 0 where
-  pub first : IsFirst m
-  pub range : IsInRange m
-  pub own_flow : m.config.own_flow ≡ own
-  pub peer_flow : m.config.peer_flow ≡ peer
+-- its gate opened on the outbox with which its life began
+abbrev pub OpensWith : Beginning → DrivenEnd → Type 0
+OpensWith b e = b.outbox ≡ outbox_of (opening_of e.gate).history
 
--- its connections were these, and are all over; its inbox holds what they added
-pub record StandsBehind (m : State) (legs : List TurnedLeg) (e : DrivenEnd) : Type 0 where
+-- the connections of its life were these, and are all over; its inbox holds what they added
+pub record StandsBehind (b : Beginning) (legs : List TurnedLeg) (e : DrivenEnd) : Type 0 where
   pub over : e.standing ≡ standings.Over
+  pub opens : OpensWith b e
   pub inbox : List InboxRecord
   pub holds : HoldsBox e.inbox inbox []
-  pub between : Between m legs (now_of e inbox)
+  pub between : Between b legs (now_of e inbox)
 
 -- behind connections that are over it had one over the pipe that stands, which goes on or is over too
-pub record RunsOver (m : State) (past : List TurnedLeg) (leg : TurnedLeg) (e : DrivenEnd) : Type 0 where
+pub record RunsOver (b : Beginning) (past : List TurnedLeg) (leg : TurnedLeg) (e : DrivenEnd) : Type 0 where
+  pub opens : OpensWith b e
   pub uncut : leg.cut ≡ None
   pub inbox : List InboxRecord
   pub holds : HoldsBox e.inbox inbox []
-  pub during : e.standing ≡ standings.Open → During m past leg (now_of e inbox)
-  pub between : e.standing ≡ standings.Over → Between m (past ++ leg ∷ []) (now_of e inbox)
+  pub during : e.standing ≡ standings.Open → During b past leg (now_of e inbox)
+  pub between : e.standing ≡ standings.Over → Between b (past ++ leg ∷ []) (now_of e inbox)
 
 -- that connection goes on by what its link gave and took
-pub record TurnedOn (m : State) (past : List TurnedLeg) (leg : TurnedLeg) (e : DrivenEnd) (told told' : Option LinkTold) : Type 0 where
+pub record TurnedOn (b : Beginning) (past : List TurnedLeg) (leg : TurnedLeg) (e : DrivenEnd) (told told' : Option LinkTold) : Type 0 where
   pub later : TurnedLeg
   pub given : List ℕ
   pub sent : List ℕ
   pub carries : Carries leg later given sent
   pub moved : Steps told told' given sent
-  pub runs : RunsOver m past later e
+  pub runs : RunsOver b past later e
 
 -- a turn of an end, over a link that told this before and that behind it, goes on with the connection that it had, unless the end was given up
 pub record TurnsOn (old new : DrivenEnd) (told told' : Option LinkTold) : Type 0 where
-  pub goes : (m : State) (past : List TurnedLeg) (leg : TurnedLeg) → IsFirst m → RunsOver m past leg old → is_given new.standing ≡ false
-      → TurnedOn m past leg new told told'
+  pub goes : (b : Beginning) (past : List TurnedLeg) (leg : TurnedLeg) → Awaits b → RunsOver b past leg old → is_given new.standing ≡ false
+      → TurnedOn b past leg new told told'
 
--- a new end with these flows has had no connection
-pub record IsNew (own peer : Flow) (e : DrivenEnd) : Type 0 where
+-- a life over journals with these records
+abbrev pub beginning_on : State → List OutboxRecord → List InboxRecord → Beginning
+beginning_on machine outbox inbox = record { machine = machine; outbox = outbox; inbox = inbox }
+
+-- a life of an end with these flows begins over journals with these records; it has had no connection
+pub record BeginsOn (own peer : Flow) (outbox : List OutboxRecord) (inbox : List InboxRecord) (e : DrivenEnd) : Type 0 where
   pub machine : State
-  pub began : Began own peer machine
-  pub stands : StandsBehind machine [] e
+  pub began : Began own peer (beginning_on machine outbox inbox)
+  pub stands : StandsBehind (beginning_on machine outbox inbox) [] e
 
--- the journals of an end: its outbox stands for a history that begins with what its pass has seen, and its inbox is as it was
+-- the journals of an end: its outbox stands for a history that begins with the one on which it opened, and with what its pass has seen, and its inbox is
+-- as it was
 pub record ClosedOn (e : DrivenEnd) (j : Journals) : Type 0 where
   pub history : History
   pub stands : ∥ outboxes.StandsFor j.outbox history ∥₁
   pub few : outboxes.front_of j.outbox < 2 ^ 40
+  pub opened : BeginsHistory (opening_of e.gate).history history
   pub seen : BeginsHistory (known e.pass).seen history
   pub inbox : j.inbox ≡ e.inbox

@@ -1,5 +1,6 @@
 pub mod Driven
 pub mod Payloads
 pub mod Standing
+pub mod Stopped
 pub mod Summaries
 pub mod Together

@@ -1,46 +1,52 @@
 -- What holds of both ends of a rehearsal together (this project's profile).
-use Rattle.std.specs.Prelude.{◌≡◌, ℕ, ◌||◌, Bool, false, List, [], length, Option, None, Some}
+use Rattle.std.specs.Prelude.{◌≡◌, ℕ, ◌||◌, Bool, false, List, [], ◌++◌, length, Option, None, Some}
 use Rattle.std.specs.List.{AllZip}
 use Rattle.session_model.specs.Journal.{History, payloads, counts_from}
 use Rattle.session_model.specs.Inbox.{InboxRecord, applied, skips, payloads_of, numbers_of}
 use Rattle.fixp_msgs.specs.declared.flow.Flow.{Flow}
 use Rattle.fixp_msgs.specs.declared.flow.Flow.TheVariants as flows
-use Rattle.fixp_machine.specs.Machine.{State}
 use Rattle.jr_kept.specs.Inbox as inboxes
 use Rattle.jr_kept.specs.Outbox as outboxes
 use Rattle.gw_link_fakes.specs.Pipes.{Held}
 use Rattle.turn_laws.specs.Legs.{TurnedLeg}
 use Rattle.two_ends.specs.Meeting.{Holds}
+use Rattle.two_ends.specs.Driving.{Beginning}
 use Rattle.two_ends.specs.Pairing.{ReadEachOther, UnderWay}
+use Rattle.two_ends.specs.Stories.{Began, Story}
 use Rattle.gw_rehearse.specs.declared.end.DrivenEnd.{DrivenEnd}
 use Rattle.gw_rehearse.specs.declared.journals.Journals.{Journals}
 use Rattle.gw_rehearse.specs.Standing.{is_given}
-use Rattle.gw_rehearse.specs.Driven.{Began, StandsBehind, RunsOver}
+use Rattle.gw_rehearse.specs.Driven.{StandsBehind, RunsOver}
 
 -- both have one more connection, over this pipe, and what is under way between them is in it
-pub record MeetOver (m n : State) (past past_a : List TurnedLeg) (initiator acceptor : DrivenEnd) (pipe : Held) : Type 0 where
+pub record MeetOver (b b_a : Beginning) (past past_a : List TurnedLeg) (initiator acceptor : DrivenEnd) (pipe : Held) : Type 0 where
   pub leg : TurnedLeg
   pub leg_a : TurnedLeg
   pub way : UnderWay leg leg_a pipe.to_left pipe.to_right
-  pub runs : RunsOver m past leg initiator
-  pub runs_a : RunsOver n past_a leg_a acceptor
+  pub runs : RunsOver b past leg initiator
+  pub runs_a : RunsOver b_a past_a leg_a acceptor
 
 -- no pipe stands, and the connections of both are over; or one stands
-abbrev pub Meet : (m n : State) (past past_a : List TurnedLeg) (initiator acceptor : DrivenEnd) → Option Held → Type 0
-Meet m n past past_a initiator acceptor None = StandsBehind m past initiator × StandsBehind n past_a acceptor
-Meet m n past past_a initiator acceptor (Some pipe) = MeetOver m n past past_a initiator acceptor pipe
+abbrev pub Meet : (b b_a : Beginning) (past past_a : List TurnedLeg) (initiator acceptor : DrivenEnd) → Option Held → Type 0
+Meet b b_a past past_a initiator acceptor None = StandsBehind b past initiator × StandsBehind b_a past_a acceptor
+Meet b b_a past past_a initiator acceptor (Some pipe) = MeetOver b b_a past past_a initiator acceptor pipe
 
--- Both are ends of one session, with these flows: each connection of one was one of the other's, in order, and was given of what that sent; each
--- is turns of its end, from empty journals on, and the inboxes hold what they added
+-- the lives of an end with these flows that are over had these connections, and its present one began on what they left
+pub record Lives (own peer : Flow) : Type 0 where
+  pub legs : List TurnedLeg
+  pub begins : Beginning
+  pub story : Story own peer legs begins.outbox begins.inbox
+  pub began : Began own peer begins
+
+-- Both are ends of one session, with these flows: each connection of one was one of the other's, in order, over all lives of both, and was given of
+-- what that sent; each is turns of its end, over the life in which it was, and the inboxes hold what the connections of the present lives added
 pub record Together (client server : Flow) (initiator acceptor : DrivenEnd) (pipe : Option Held) : Type 0 where
-  pub machine : State
-  pub machine_a : State
-  pub began : Began client server machine
-  pub began_a : Began server client machine_a
+  pub lives : Lives client server
+  pub lives_a : Lives server client
   pub past : List TurnedLeg
   pub past_a : List TurnedLeg
-  pub paired : AllZip ReadEachOther past past_a
-  pub meet : Meet machine machine_a past past_a initiator acceptor pipe
+  pub paired : AllZip ReadEachOther (lives.legs ++ past) (lives_a.legs ++ past_a)
+  pub meet : Meet lives.begins lives_a.begins past past_a initiator acceptor pipe
 
 -- an end was given up
 abbrev pub is_lost : (initiator acceptor : DrivenEnd) → Bool

@@ -1,21 +1,26 @@
 //! An end that is driven.
 
-ghost use Rattle.std.specs.Prelude.{◌≡◌, ℕ, ◌+◌, ◌≤◌, ◌<◌, ◌^◌, All, List, [], ◌∷◌, ◌++◌, length, vec_len, false, if◌then◌else◌, Some, None, IfOk, IfSome, IsTrue};
-ghost use Rattle.fixp_machine.specs.Machine.{State, fresh};
+ghost use Rattle.std.specs.Prelude.{◌≡◌, ℕ, ◌+◌, ◌≤◌, ◌<◌, ◌^◌, All, List, [], ◌∷◌, ◌++◌, length, vec_len, false, if◌then◌else◌, Some, None, IfErr, IfOk, IfSome, IsTrue};
+ghost use Rattle.fixp_machine.specs.Machine.{fresh};
 ghost use Rattle.session_model.specs.Journal.{BeginsHistory};
+ghost use Rattle.session_model.specs.Inbox.{InboxRecord};
+ghost use Rattle.jr_boxes.specs.Outboxes.{outbox_of};
+ghost use Rattle.jr_kept.specs.Outbox as outboxes;
 ghost use Rattle.jr_kept.specs.Inbox.{HoldsBox, flow_of, limits_of, next_of, is_negotiated, peer_last_of};
 ghost use Rattle.gate_turn.specs.Views.{Part};
 ghost use Rattle.gate_senders.specs.Gate.{opening_of};
 ghost use Rattle.conn_loop.specs.Conn.{line_of, new_line};
 ghost use Rattle.turn_laws.specs.Legs.{TurnedLeg};
-ghost use Rattle.two_ends.specs.Driving.{IsFirst, begun_leg};
+ghost use Rattle.two_ends.specs.Driving.{Beginning, Awaits, begun_leg};
 ghost use Rattle.cmd_script.specs.Script.{IsCount};
 ghost use Rattle.gw_rehearse.specs.Standing.{Rests, is_given, is_going, sent_by};
-ghost use Rattle.gw_rehearse.specs.Driven.{ClosedOn, IsDriven, IsMadeOf, IsNew, RunsOver, StandsBehind, TurnsOn};
+ghost use Rattle.gw_rehearse.specs.Driven.{BeginsOn, ClosedOn, IsDriven, IsMadeOf, RunsOver, StandsBehind, TurnsOn};
+ghost use Rattle.gw_rehearse.specs.Stopped.{BeginsOnLeft, DisksLeaveNoMore};
 ghost use Rattle.gw_rehearse.specs.Summaries.{counts_to};
 ghost use Rattle.gw_rehearse.specs.declared.standing.Standing.TheVariants as standings;
 
-use crate::journals::{Journals, Log, MOST, new_inbox, new_outbox};
+use crate::disks::{Disks, open_inbox, open_outbox};
+use crate::journals::{Journals, Log, MOST};
 use crate::senders::{finish, have_sent, submit_next};
 use crate::standing::Standing;
 use crate::turning::make_turn;
@@ -26,7 +31,7 @@ use gate_senders::{Gate, Kept};
 use gate_turn::{Pass, Passes};
 use gw_link_fakes::MemClock;
 use gw_links::Link;
-use jr_kept::Inbox;
+use jr_kept::{Inbox, Outbox};
 use plan_values::Plan;
 use std::alloc::{AllocError, Global};
 use std::sync::Wait;
@@ -121,11 +126,75 @@ impl DrivenEnd {
         requires senders { senders ≤ 16 }
         requires session { length config.session ≡ 16 }
         ensures driven { IfSome result (λ end. IsDriven end) }
-        ensures flow { IfSome result (λ end. flow_of end.inbox ≡ config.peer_flow) }
-        ensures first { IfSome result (λ end. IsNew config.own_flow config.peer_flow end) }
+        ensures sound { IfSome result (λ end. is_given end.standing ≡ false) }
+        ensures first { IfSome result (λ end. ∥ BeginsOn config.own_flow config.peer_flow [] [] end ∥₁) }
     {
-        let outbox = new_outbox(alloc)?;
-        let inbox = new_inbox(alloc, config.peer_flow)?;
+        let disks = Disks::formatted(alloc)?;
+        match DrivenEnd::reopen(alloc, config, disks, senders) {
+            Ok(end) => Some(end),
+            Err(_) => None,
+        }
+    }
+
+    /// An end over the journals of these disks, with so many senders, which has begun no connection. The disks come back where a call of one
+    /// failed; none do where memory runs out, or a journal has too many records.
+    pub(crate) fn reopen(
+        alloc: Global,
+        config: EndConfig,
+        disks: Disks,
+        senders: u16,
+    ) -> Result<DrivenEnd, Option<Disks>>
+        requires keepalive { (100 ≤ config.keepalive) × (config.keepalive ≤ 60000) }
+        requires credentials { length config.credentials ≤ 2048 }
+        requires senders { senders ≤ 16 }
+        requires session { length config.session ≡ 16 }
+        ensures driven { IfOk result (λ end. IsDriven end) }
+        ensures sound { IfOk result (λ end. is_given end.standing ≡ false) }
+        ensures begins { IfOk result (λ end. ∥ BeginsOnLeft config.own_flow config.peer_flow disks end ∥₁) }
+        ensures returned { IfErr result (λ o. IfSome o (DisksLeaveNoMore disks)) }
+    {
+        let Disks { outbox, inbox } = disks;
+        let outbox = match open_outbox(alloc, outbox) {
+            Ok(outbox) => outbox,
+            Err(Some(outbox)) => return Err(Some(Disks { outbox, inbox })),
+            Err(None) => return Err(None),
+        };
+        let inbox = match open_inbox(alloc, inbox, config.peer_flow) {
+            Ok(inbox) => inbox,
+            Err(Some(inbox)) => {
+                let outbox = outbox.into_journal().close();
+                return Err(Some(Disks { outbox, inbox }));
+            }
+            Err(None) => return Err(None),
+        };
+        match DrivenEnd::over(alloc, config, outbox, inbox, senders) {
+            Some(end) => Ok(end),
+            None => Err(None),
+        }
+    }
+
+    /// An end over these boxes, with so many senders, which has begun no connection; none where memory runs out, or the outbox has too
+    /// many entries.
+    fn over(
+        alloc: Global,
+        config: EndConfig,
+        outbox: Outbox<Log>,
+        inbox: Inbox<Log>,
+        senders: u16,
+    ) -> Option<DrivenEnd>
+        requires keepalive { (100 ≤ config.keepalive) × (config.keepalive ≤ 60000) }
+        requires credentials { length config.credentials ≤ 2048 }
+        requires senders { senders ≤ 16 }
+        requires session { length config.session ≡ 16 }
+        requires sound { outboxes.is_broken outbox ≡ false }
+        requires flow { flow_of inbox ≡ config.peer_flow }
+        requires limit { (limits_of inbox).entries ≡ 2 ^ 24 }
+        requires next { next_of inbox ≤ 2 ^ 24 + 1 }
+        ensures driven { IfSome result (λ end. IsDriven end) }
+        ensures sound { IfSome result (λ end. is_given end.standing ≡ false) }
+        ensures stands { IfSome result (λ end. ∥ outboxes.StandsFor outbox (opening_of end.gate).history ∥₁) }
+        ensures begins { IfSome result (λ end. (i : List InboxRecord) → HoldsBox inbox i [] → BeginsOn config.own_flow config.peer_flow (outbox_of (opening_of end.gate).history) i end) }
+    {
         let plans = empty_plans(alloc, senders)?;
         let seats = Vec::with_capacity(alloc, plans.len()).ok()?;
         let Ok((gate, mut passes)) = Gate::new(alloc, outbox, senders) else {
@@ -219,7 +288,7 @@ impl DrivenEnd {
         ensures driven { IsDriven self.new }
         ensures inbox { self.new.inbox ≡ self.old.inbox }
         ensures given { is_given self.new.standing ≡ is_given self.old.standing }
-        ensures begun { (m : State) (legs : List TurnedLeg) → StandsBehind m legs self.old → (now : ℕ) × RunsOver m legs (begun_leg now) self.new }
+        ensures begun { (b : Beginning) (legs : List TurnedLeg) → StandsBehind b legs self.old → (now : ℕ) × RunsOver b legs (begun_leg now) self.new }
     {
         let Standing::Over = self.standing else {
             return;
@@ -266,7 +335,7 @@ impl DrivenEnd {
         ensures driven { IsDriven self.new }
         ensures inbox { self.new.inbox ≡ self.old.inbox }
         ensures given { is_given self.new.standing ≡ is_given self.old.standing }
-        ensures over { (m : State) (past : List TurnedLeg) (leg : TurnedLeg) → IsFirst m → RunsOver m past leg self.old → is_given self.old.standing ≡ false → StandsBehind m (past ++ leg ∷ []) self.new }
+        ensures over { (b : Beginning) (past : List TurnedLeg) (leg : TurnedLeg) → Awaits b → RunsOver b past leg self.old → is_given self.old.standing ≡ false → StandsBehind b (past ++ leg ∷ []) self.new }
         ensures rests { self.old.standing ≡ standings.Over → self.new ≡ self.old }
     {
         let Standing::Open = self.standing else {

@@ -1,6 +1,6 @@
 //! Both ends, and what lies between them.
 
-ghost use Rattle.std.specs.Prelude.{◌≡◌, ◌≤◌, ◌||◌, All, length, false, if◌then◌else◌, None, Some, IfOk, IfSome, IsTrue, OnErr, OnOk};
+ghost use Rattle.std.specs.Prelude.{◌≡◌, ◌≤◌, ◌||◌, [], All, length, false, if◌then◌else◌, None, Some, IfOk, IfSome, IsTrue, OnErr, OnOk};
 ghost use Rattle.fixp_msgs.specs.declared.flow.Flow.{Flow};
 ghost use Rattle.jr_kept.specs.Inbox.{flow_of, next_of};
 ghost use Rattle.gw_link_fakes.specs.Pipes.{told_at};
@@ -8,7 +8,7 @@ ghost use Rattle.gw_link_fakes.specs.declared.pipe.Side.TheVariants.{Left, Right
 ghost use Rattle.cmd_config.specs.Settings.{own_flow, peer_flow};
 ghost use Rattle.cmd_script.specs.Script.{IsCount, IsScript};
 ghost use Rattle.gw_rehearse.specs.Standing.{is_given, is_going};
-ghost use Rattle.gw_rehearse.specs.Driven.{IsDriven, IsNew, TurnsOn};
+ghost use Rattle.gw_rehearse.specs.Driven.{BeginsOn, IsDriven, TurnsOn};
 ghost use Rattle.gw_rehearse.specs.Together.{KeepsSession, StaysSound, Together, is_lost};
 ghost use Rattle.gw_rehearse.specs.Summaries.{counts_to};
 
@@ -92,7 +92,8 @@ fn open_end(alloc: Global, script: &Script, role: Role, senders: u16) -> Option<
     requires script { IsScript script.now }
     requires senders { senders ≤ 16 }
     ensures driven { IfSome result (λ end. IsDriven end) }
-    ensures first { IfSome result (λ end. IsNew (own_flow role script.now.link.client_flow script.now.link.server_flow) (peer_flow role script.now.link.client_flow script.now.link.server_flow) end) }
+    ensures sound { IfSome result (λ end. is_given end.standing ≡ false) }
+    ensures first { IfSome result (λ end. ∥ BeginsOn (own_flow role script.now.link.client_flow script.now.link.server_flow) (peer_flow role script.now.link.client_flow script.now.link.server_flow) [] [] end ∥₁) }
 {
     let config = config_of(alloc, script, role).ok()?;
     DrivenEnd::open(alloc, config, senders)

@@ -21,7 +21,8 @@ use Rattle.conn_serve.specs.Served.{WasGivenUp}
 use Rattle.life_laws.specs.Lives.{LifeOfLoop, LifeMayTurn, ServedKeeps}
 use Rattle.life_laws.proofs.Turned.{IsTurnedOne}
 use Rattle.life_laws.proofs.Behind.{AreBehind, last_faithful, given_turned, turned_append, given_adds, AllTurned, with_given, all_turned, life_behind}
-use Rattle.life_laws.proofs.Waits.{Waits, waits_or_none}
+use Rattle.turn_laws.specs.Standing.{Waits}
+use Rattle.life_laws.proofs.Waits.{waits_or_none}
 
 -- a life of which a stop may leave nothing that was refused
 whole_life : (opening closing refused : List OutboxRecord) (m : State) (i : List InboxRecord) (cs : List Connection) (left : List InboxRecord) → Opens (entries opening) (entries closing) m i

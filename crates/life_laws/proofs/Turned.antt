@@ -1,5 +1,5 @@
 -- A connection of a served life is a list of turns, and adds to the inbox what it is said to add.
-use Rattle.std.proofs.Common.{◌≡◌, ◌≤◌, ℕ, Bool, true, false, if◌then◌else◌, List, [], ◌∷◌, ◌++◌, length, Option, Some, None, refl, sym, ap, subst, ◌∙◌, true≢false, append-nil, append_assoc}
+use Rattle.std.proofs.Common.{◌≡◌, ◌≤◌, List, [], ◌∷◌, ◌++◌, length, Option, Some, None, sym, ap, subst, ◌∙◌, append-nil, append_assoc}
 use Rattle.std.specs.Prelude.{IfSome, option_to_list}
 use Rattle.std.specs.List.{AllByRecursion, flat_map}
 use Rattle.std.proofs.lemmas.Grind.{flat_map-append}
@@ -7,28 +7,21 @@ use mathlib.Core.List.{IsPrefix}
 use Rattle.session_model.specs.Journal.{Entry, History}
 use Rattle.session_model.specs.Inbox.{InboxRecord, next_number}
 use Rattle.session_model.proofs.Lists.{prefix_trans}
-use Rattle.fixp_replies.specs.declared.act.Act.{Act}
-use Rattle.fixp_replies.specs.declared.act.Act.TheVariants as acts
-use Rattle.fixp_replies.specs.Acts.{is_record}
-use Rattle.fixp_replies.specs.Incoming.{Incoming}
-use Rattle.fixp_replies.specs.Outcomes.{Outcome}
-use Rattle.fixp_replies.specs.Replies.{reply_of}
-use Rattle.fixp_machine.specs.Machine.{State, Call, around}
-use Rattle.fixp_machine.specs.Machine as calls
-use Rattle.fixp_machine.specs.Accepting.{records_of}
+use Rattle.fixp_machine.specs.Machine.{State, Call}
 use Rattle.conn_turns.specs.declared.news.NewsItem.{NewsItem}
-use Rattle.conn_turns.specs.Lines.{Line, TakenFrame}
+use Rattle.conn_turns.specs.Lines.{Line}
 use Rattle.conn_turns.specs.Frames.{added}
-use Rattle.conn_turns.specs.Turns.{Turn, IsFaithful, cut_short, first_calls, calls_of_frames, calls_of}
-use Rattle.connection_laws.specs.Courses.{Waiting, Course, inbox_of, beginning, counting, called, next_course, course_after}
+use Rattle.conn_turns.specs.Turns.{Turn, IsFaithful, calls_of}
+use Rattle.connection_laws.specs.Courses.{Course, inbox_of, beginning, course_after}
 use Rattle.connection_laws.proofs.Continuing.{calls_go_on}
-use Rattle.turn_laws.specs.Turns.{line_received, IsCutShort, IsCut, adds_in}
+use Rattle.turn_laws.specs.Turns.{IsCut, adds_in}
 use Rattle.turn_laws.specs.Standing.{StandsAt, Has}
 use Rattle.turn_laws.specs.Legs.{AreTurns, TurnedLeg, calls_on, first_line, AreTurnsOf, course_on}
 use Rattle.turn_laws.proofs.Going.{after_append}
 use Rattle.turn_laws.proofs.Working.{turn_may_stand}
 use Rattle.turn_laws.proofs.Running.{all_seen, turns_stand, begin_stands, leg_stands}
-use Rattle.turn_laws.proofs.Adding.{turn_adds, cut_adds}
+use Rattle.turn_laws.proofs.Adding.{turn_adds}
+use Rattle.turn_laws.proofs.Refusing.{cut_turn_adds}
 use Rattle.conn_serve.specs.Connections.{Connection, IsFaithfulLeg, IsConnection}
 use Rattle.conn_serve.proofs.Following.{PlainTurns, PlainCut, PlainConnection, plain, plain_are_turns}
 
@@ -50,44 +43,6 @@ turns_add h before after old new (t ∷ later) news adds c s has w faithful =
     ∙ (turns_add h between after mid new later w.4 w.5 d x.after has w.8 faithful.1
     ∙ (ap (λ (rs : List InboxRecord). rs ++ w.5) (turn_adds h before between old mid t c s w.3)
     ∙ (append_assoc c.added (adds_in old t) w.5 ∙ ap (λ (rs : List InboxRecord). c.added ++ rs) (sym w.7))))
-
--- an act that is no record adds nothing
-pub none_recorded : (a : Act) (i : Incoming) → is_record a ≡ false → records_of a i ≡ []
-none_recorded acts.Nothing i e = refl
-none_recorded (acts.Apply n) i e = absurd (true≢false e)
-none_recorded (acts.Skip from count) i e = absurd (true≢false e)
-none_recorded acts.Negotiated i e = absurd (true≢false e)
-none_recorded (acts.PeerFinished last) i e = absurd (true≢false e)
-none_recorded (acts.Told from count) i e = refl
-none_recorded acts.Ended i e = refl
-
--- a frame whose act is still to be done, or is no record, adds nothing
-frame_adds_nothing : (d : Course) (incoming : Incoming) (at now : ℕ) → (next_course d (calls.frame incoming at now)).added ≡ d.added
-frame_adds_nothing d incoming at now = by_test (is_record o.act) refl
-  where
-    o : Outcome
-    o = reply_of (around d.state at now) d.state.facts incoming
-
-    w : Waiting
-    w = record { incoming = incoming; at = at; moment = now }
-
-    by_test : (b : Bool) → is_record o.act ≡ b
-        → (if b then record (called d (calls.frame incoming at now)) { waiting = Some w } else counting (called d (calls.frame incoming at now)) o incoming).added ≡ d.added
-    by_test true e = refl
-    by_test false e = ap (λ (rs : List InboxRecord). d.added ++ rs) (none_recorded o.act incoming e) ∙ append-nil d.added
-
--- what a turn that was cut short adds, also behind the frames that it took
-cut_turn_adds : (h : List Entry) (old : Line) (now : ℕ) (received : List ℕ) (frames : List TakenFrame) (next : Option TakenFrame) (c : Course) → StandsAt h c old → (k : IsCutShort now received frames next old)
-    → (course_after c (calls_of (cut_short now received frames next))).added ≡ c.added ++ added now (line_received old now received k.got) frames
-cut_turn_adds h old now received frames None c s k = cut_adds h old now received frames c s k
-cut_turn_adds h old now received frames (Some t) c s k =
-    let call : Call = calls.frame t.incoming t.at now in
-    let took : List Call = calls_of_frames now frames in
-    let d : Course = course_after c (first_calls now ++ took) in
-    let joined : course_after c (first_calls now ++ (took ++ call ∷ [])) ≡ next_course d call =
-    after_append c (first_calls now) (took ++ call ∷ []) ∙ (after_append (course_after c (first_calls now)) took (call ∷ [])
-    ∙ ap (λ (e : Course). next_course e call) (sym (after_append c (first_calls now) took))) in
-    ap (λ (e : Course). e.added) joined ∙ (frame_adds_nothing d t.incoming t.at now ∙ cut_adds h old now received frames c s (record { got = k.got; taken = k.taken; next = tt }))
 
 cut_part_adds : (h : List Entry) (c : Course) (last : Line) (cut : Option Turn) (news : List NewsItem) (adds refused wanted : List InboxRecord) → StandsAt h c last → PlainCut last cut news adds refused wanted
     → (course_after c (flat_map calls_of (option_to_list cut))).added ≡ c.added ++ adds

@@ -19,7 +19,7 @@ use Rattle.connection_laws.specs.Courses.{inbox_of, reply_to}
 use Rattle.connection_laws.specs.Ranges.{IsInRange, IsOutbox}
 use Rattle.conn_turns.specs.Lines.{Line}
 use Rattle.conn_turns.specs.Turns.{Turn}
-use Rattle.turn_laws.specs.Standing.{Has}
+use Rattle.turn_laws.specs.Standing.{Has, Waits}
 use Rattle.turn_laws.specs.Legs.{TurnedLeg, AreTurns, first_line, course_on}
 use Rattle.turn_laws.specs.Lives.{state_after, inbox_after}
 use Rattle.jr_dated.specs.declared.journal.Journal.{Ghosts}
@@ -34,7 +34,7 @@ use Rattle.conn_serve.specs.Served.{WasGivenUp, ServedLife}
 use Rattle.life_laws.proofs.Opened.{opened_in_range}
 use Rattle.life_laws.proofs.Behind.{AreBehind, life_behind, given_turned, last_faithful, served_is_turned}
 use Rattle.life_laws.proofs.Turned.{IsTurnedOne}
-use Rattle.life_laws.proofs.Waits.{Waits, waits_or_none}
+use Rattle.life_laws.proofs.Waits.{waits_or_none}
 use Rattle.run_laws.proofs.Ordered.{begins_within, history_of-records}
 use Rattle.honest_turns.specs.Sides.{Side, MakesTurns}
 use Rattle.honest_turns.specs.Lives.{End, side_of, sides, end_after, EndInTime}

@@ -6,3 +6,4 @@ pub mod Running
 pub mod Sent
 pub mod Adding
 pub mod Repacking
+pub mod Refusing

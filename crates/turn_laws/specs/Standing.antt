@@ -1,11 +1,13 @@
 -- Each call of a turn may come where it came, in the words of the laws over connections.
-use Rattle.std.specs.Prelude.{◌≡◌, ℕ, ◌^◌, ◌<◌, List, ◌++◌, length, None}
+use Rattle.std.specs.Prelude.{◌≡◌, ℕ, ◌^◌, ◌<◌, List, ◌++◌, length, Some, None}
 use mathlib.Core.List.{IsPrefix}
 use Rattle.session_model.specs.Journal.{Entry, History}
+use Rattle.session_model.specs.Inbox.{InboxRecord}
+use Rattle.fixp_machine.specs.Accepting.{records_of}
 use Rattle.conn_turns.specs.Lines.{Line, TakenFrame}
 use Rattle.conn_turns.specs.Frames.{added}
 use Rattle.conn_turns.specs.Turns.{Turn, IsFaithful, cut_short, calls_of}
-use Rattle.connection_laws.specs.Courses.{Course, course_after}
+use Rattle.connection_laws.specs.Courses.{Waiting, Course, reply_to, course_after}
 use Rattle.connection_laws.specs.Standing.{Stands, AllMayStand}
 use Rattle.turn_laws.specs.Turns.{line_received, IsTurn, IsCutShort, IsCut, adds_in}
 
@@ -44,3 +46,9 @@ abbrev pub CutAdds : Type 0
 CutAdds = (h : List Entry) (old : Line) (now : ℕ) (received : List ℕ) (frames : List TakenFrame) (c : Course)
     → StandsAt h c old → (k : IsCutShort now received frames None old)
     → (course_after c (calls_of (cut_short now received frames None))).added ≡ c.added ++ added now (line_received old now received k.got) frames
+
+-- a frame waits, and its act has these records
+pub record Waits (d : Course) (left : List InboxRecord) : Type 0 where
+  pub waiting : Waiting
+  pub is : d.waiting ≡ Some waiting
+  pub left_are : records_of (reply_to d.state waiting).act waiting.incoming ≡ left

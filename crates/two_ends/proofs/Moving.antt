@@ -18,8 +18,14 @@ on_turn f t turn e =
     ∙ (ap (λ (bs : List ℕ). flat_map f t.turns ++ bs) (append-nil (f turn))
     ∙ ap (λ (ts : List Turn). flat_map f ts ++ f turn) (sym (ap (λ (c : Option Turn). t.turns ++ option_to_list c) e ∙ append-nil t.turns)))))
 
+on_cut : (f : Turn → List ℕ) (t : TurnedLeg) (turn : Turn) → t.cut ≡ None → flat_map f (t.turns ++ turn ∷ []) ≡ flat_map f (t.turns ++ option_to_list t.cut) ++ f turn
+on_cut f t turn e = sym (ap (λ (ts : List Turn). flat_map f ts) (ap (λ (c : Option Turn). (t.turns ++ turn ∷ []) ++ option_to_list c) e ∙ append-nil (t.turns ++ turn ∷ []))) ∙ on_turn f t turn e
+
 pub turn_carries : TurnCarries
-turn_carries t turn e = record { gave = on_turn given_in t turn e; took = on_turn sent_in t turn e }
+turn_carries t turn e = (
+  record { gave = on_turn given_in t turn e; took = on_turn sent_in t turn e },
+  record { gave = on_cut given_in t turn e; took = on_cut sent_in t turn e },
+)
 
 pub bytes_move : BytesMove
 bytes_move a a' b given sent to_a to_b to_a' to_b' c w gave took = record {

@@ -1,51 +1,73 @@
 -- What an end that is driven turn by turn has come to, and what two such ends hold of each other.
-use Rattle.std.specs.Prelude.{◌≡◌, ℕ, List, [], ◌∷◌, ◌++◌, length, None}
+use Rattle.std.specs.Prelude.{◌≡◌, ◌⊎◌, ℕ, List, [], ◌∷◌, ◌++◌, length, Option, None}
 use Rattle.std.specs.List.{AllZip}
 use mathlib.Core.List.{IsPrefix}
-use Rattle.session_model.specs.Journal.{OutboxRecord, entries}
+use Rattle.session_model.specs.Journal.{Entry, OutboxRecord, entries}
 use Rattle.session_model.specs.Inbox.{InboxRecord}
 use Rattle.fixp_msgs.specs.declared.flow.Flow.{Flow}
-use Rattle.fixp_machine.specs.Machine.{State, taken, link_end, run}
-use Rattle.conn_turns.specs.Turns.{Turn, IsFaithful}
+use Rattle.fixp_machine.specs.Machine.{taken, link_end, run}
+use Rattle.conn_turns.specs.Lines.{TakenFrame}
+use Rattle.conn_turns.specs.Frames.{added}
+use Rattle.conn_turns.specs.Turns.{Turn, IsFaithful, cut_short, calls_of}
+use Rattle.connection_laws.specs.Courses.{Course, course_after}
 use Rattle.connection_laws.specs.Ranges.{IsInTime}
-use Rattle.turn_laws.specs.Turns.{IsTurn, adds_in}
+use Rattle.turn_laws.specs.Turns.{line_received, IsTurn, IsCutShort, adds_in}
+use Rattle.turn_laws.specs.Standing.{StandsAt, Has, Waits}
 use Rattle.turn_laws.specs.Legs.{TurnedLeg, first_line, given_in, sent_in, IsTimelyTurn}
 use Rattle.two_ends.specs.Meeting.{Holds}
-use Rattle.two_ends.specs.Driving.{EndNow, IsFirst, begun_leg, with_turn, Between, During}
-use Rattle.two_ends.specs.Pairing.{ReadEachOther, UnderWay, Carries, DrivenLife}
+use Rattle.two_ends.specs.Driving.{EndNow, Beginning, Awaits, begun_leg, with_turn, cut_leg, Between, During}
+use Rattle.two_ends.specs.Pairing.{ReadEachOther, UnderWay, Carries}
+use Rattle.two_ends.specs.Stories.{IsOver, Story}
 
 -- a connection begins
 abbrev pub LegBegins : Type 0
-LegBegins = (m : State) (legs : List TurnedLeg) (e : EndNow) (now : ℕ) → Between m legs e → IsInTime now
-    → During m legs (begun_leg now) (record e { line = first_line e.line.machine now })
+LegBegins = (b : Beginning) (legs : List TurnedLeg) (e : EndNow) (now : ℕ) → Between b legs e → IsInTime now
+    → During b legs (begun_leg now) (record e { line = first_line e.line.machine now })
 
 -- it goes on by a turn that sent of the outbox what it had seen
 abbrev pub TurnGoesOn : Type 0
-TurnGoesOn = (m : State) (past : List TurnedLeg) (leg : TurnedLeg) (e e' : EndNow) (t : Turn) → IsFirst m → During m past leg e
+TurnGoesOn = (b : Beginning) (past : List TurnedLeg) (leg : TurnedLeg) (e e' : EndNow) (t : Turn) → Awaits b → During b past leg e
     → e.line.machine.ending ≡ None → IsPrefix e.seen.made e'.seen.made → IsTurn e.seen e'.seen e.line e'.line t → IsFaithful t
-    → IsTimelyTurn t → e'.inbox ≡ e.inbox ++ adds_in e.line t → During m past (with_turn leg t) e'
+    → IsTimelyTurn t → e'.inbox ≡ e.inbox ++ adds_in e.line t → During b past (with_turn leg t) e'
 
 -- it is over
 abbrev pub LegEnds : Type 0
-LegEnds = (m : State) (past : List TurnedLeg) (leg : TurnedLeg) (e : EndNow) → IsFirst m → During m past leg e → Between m (past ++ leg ∷ []) e
+LegEnds = (b : Beginning) (past : List TurnedLeg) (leg : TurnedLeg) (e : EndNow) → Awaits b → During b past leg e → Between b (past ++ leg ∷ []) e
 
 -- and so it is where it is given up: what is unsent is dropped, and the link ends
 abbrev pub CutEnds : Type 0
-CutEnds = (m : State) (legs : List TurnedLeg) (e e' : EndNow) → Between m legs e
-    → e'.line.machine ≡ run e.line.machine (taken (length e.line.machine.unsent) ∷ link_end ∷ []) → e'.seen ≡ e.seen → e'.inbox ≡ e.inbox → Between m legs e'
+CutEnds = (b : Beginning) (legs : List TurnedLeg) (e e' : EndNow) → Between b legs e
+    → e'.line.machine ≡ run e.line.machine (taken (length e.line.machine.unsent) ∷ link_end ∷ []) → e'.seen ≡ e.seen → e'.inbox ≡ e.inbox → Between b legs e'
 
--- by a turn its link gave and took what the turn received and sent
+-- by a turn its link gave and took what the turn received and sent, also where it was cut short
 abbrev pub TurnCarries : Type 0
-TurnCarries = (leg : TurnedLeg) (t : Turn) → leg.cut ≡ None → Carries leg (with_turn leg t) (given_in t) (sent_in t)
+TurnCarries = (leg : TurnedLeg) (t : Turn) → leg.cut ≡ None
+    → Carries leg (with_turn leg t) (given_in t) (sent_in t) × Carries leg (cut_leg leg t) (given_in t) (sent_in t)
 
 -- what one end was given is no longer under way to it, and what it sent is under way to the other
 abbrev pub BytesMove : Type 0
 BytesMove = (a a' b : TurnedLeg) (given sent to_a to_b to_a' to_b' : List ℕ) → Carries a a' given sent → UnderWay a b to_a to_b
     → to_a ≡ given ++ to_a' → to_b' ≡ to_b ++ sent → UnderWay a' b to_a' to_b'
 
--- Two lives, each of whose connections was one of the other's, in order, and was given of what that sent: each inbox holds of the other's
--- outbox what the session guarantee says, by the kind of that end's flow
-abbrev pub DrivenHold : Type 0
-DrivenHold = (client server : Flow) (outbox_a outbox_b : List OutboxRecord) (legs_a legs_b : List TurnedLeg) (inbox_a inbox_b : List InboxRecord)
-    → DrivenLife client server outbox_a legs_a inbox_a → DrivenLife server client outbox_b legs_b inbox_b → AllZip ReadEachOther legs_a legs_b
+-- a life whose connections are all over may be over, and nothing of it was refused
+abbrev pub LifeEnds : Type 0
+LifeEnds = (b : Beginning) (legs : List TurnedLeg) (e : EndNow) (closing : List OutboxRecord) → Awaits b → Between b legs e → Has (entries closing) e.seen
+    → IsOver closing b legs e.inbox []
+
+-- it is over where a connection that goes on is cut short in a turn: the inbox holds what the frames before the refused one add, and what a stop may leave
+-- of that one is nothing, or what its act has, for which it waits
+abbrev pub LifeFails : Type 0
+LifeFails = (b : Beginning) (past : List TurnedLeg) (leg : TurnedLeg) (e : EndNow) (now : ℕ) (received : List ℕ) (frames : List TakenFrame)
+    (next : Option TakenFrame) (refused : List InboxRecord) (closing : List OutboxRecord) → Awaits b → During b past leg e
+    → (k : IsCutShort now received frames next e.line) → IsTimelyTurn (cut_short now received frames next)
+    → ((h : List Entry) (c : Course) → StandsAt h c e.line → (refused ≡ []) ⊎ Waits (course_after c (calls_of (cut_short now received frames next))) refused)
+    → Has (entries closing) e.seen
+    → IsOver closing b (past ++ cut_leg leg (cut_short now received frames next) ∷ []) (e.inbox ++ added now (line_received e.line now received k.got) frames)
+    refused
+
+-- Two ends, each over any number of lives, each of whose connections was one of the other's, in order, and was given of what that sent: each inbox
+-- holds of the other's outbox what the session guarantee says, by the kind of that end's flow
+abbrev pub StoriesHold : Type 0
+StoriesHold = (client server : Flow) (outbox_a outbox_b : List OutboxRecord) (legs_a legs_b : List TurnedLeg) (inbox_a inbox_b : List InboxRecord)
+    → Story client server legs_a outbox_a inbox_a → Story server client legs_b outbox_b inbox_b → AllZip ReadEachOther legs_a legs_b
     → Holds client (entries outbox_a) inbox_b × Holds server (entries outbox_b) inbox_a

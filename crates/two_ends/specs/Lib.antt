@@ -8,4 +8,5 @@ pub mod LoopLaws
 pub mod LoopSamples
 pub mod Driving
 pub mod Pairing
+pub mod Stories
 pub mod DrivingLaws

@@ -1,6 +1,6 @@
-//! An end over one life, turn by turn, and two such ends.
+//! An end over its lives, turn by turn, and two such ends.
 
-ghost use Rattle.two_ends.specs.DrivingLaws.{LegBegins, TurnGoesOn, LegEnds, CutEnds, TurnCarries, BytesMove, DrivenHold};
+ghost use Rattle.two_ends.specs.DrivingLaws.{LegBegins, TurnGoesOn, LegEnds, CutEnds, TurnCarries, BytesMove, LifeEnds, LifeFails, StoriesHold};
 
 /// Behind connections that are over the next one begins.
 pub fn leg_begins()
@@ -32,7 +32,17 @@ pub fn bytes_move()
     ensures law { BytesMove }
 {}
 
-/// Each inbox holds of the other's outbox what the session guarantee says.
-pub fn driven_hold()
-    ensures law { DrivenHold }
+/// A life may be over between two connections.
+pub fn life_ends()
+    ensures law { LifeEnds }
+{}
+
+/// A life is over where a turn is cut short.
+pub fn life_fails()
+    ensures law { LifeFails }
+{}
+
+/// Each inbox holds of the other's outbox what the session guarantee says, over any number of lives of both.
+pub fn stories_hold()
+    ensures law { StoriesHold }
 {}

@@ -1,7 +1,7 @@
 //! Laws of two ends of a session. Over bytes: what one end accepts on a connection is of what the other wrote on it, since the bytes
 //! that it read are a beginning of those that the other wrote. Over turns: what the links gave and took over the turns of their
 //! connections makes them such ends, and so each inbox holds of the other's outbox what the session guarantee says; also of two ends that are
-//! driven turn by turn over pipes, each over one life. Each function has an empty body; its clause is a statement about the definitions.
+//! driven turn by turn over pipes, each over any number of lives. Each function has an empty body; its clause is a statement about the definitions.
 #![tactic(auto)]
 
 mod driving;
@@ -13,7 +13,8 @@ mod refusing;
 mod samples;
 
 pub use driving::{
-    bytes_move, cut_ends, driven_hold, leg_begins, leg_ends, turn_carries, turn_goes_on,
+    bytes_move, cut_ends, leg_begins, leg_ends, life_ends, life_fails, stories_hold, turn_carries,
+    turn_goes_on,
 };
 pub use hearing::linked_bytes;
 pub use loops::{given_came, loops_are_a_session, loops_are_ends, loops_hold, sent_are_whole};

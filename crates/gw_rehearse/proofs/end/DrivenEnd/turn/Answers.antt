@@ -3,19 +3,19 @@ use Rattle.gw_rehearse.proofs.Stories.{turned, unturned}
 use Rattle.gw_rehearse.proofs.end.DrivenEnd.turn.Goals as goal
 
 pub returns-in_default : goal.returns-in_default
-returns-in_default g c = record { driven = c.requires.driven; flow = refl; sound = λ e. e; turned = record { goes = λ m past leg first k sound. unturned m past leg c.args.self.now _ k }; place = refl }
+returns-in_default g c = record { driven = c.requires.driven; flow = refl; sound = λ e. e; turned = record { goes = λ b past leg first k sound. unturned b past leg c.args.self.now _ k }; place = refl }
 
 pub returns-then-self-ge-TURNS-clause-turned : goal.returns-then-self-ge-TURNS-clause-turned
-returns-then-self-ge-TURNS-clause-turned g c = record { goes = λ m past leg first k sound. unturned m past leg c.args.self.now _ k }
+returns-then-self-ge-TURNS-clause-turned g c = record { goes = λ b past leg first k sound. unturned b past leg c.args.self.now _ k }
 
 pub returns-then-matches-clause-turned : goal.returns-then-matches-clause-turned
 returns-then-matches-clause-turned g c = record {
-  goes = λ m past leg first k sound.
-      turned m past leg c.args.self.now _ _ _ _ _ _ _ _ _ first c.in-Open.is (c.requires.driven.1.turns c.in-Open.is).goes.unended c.make_turn-self.ensures.looks (c.make_turn-self.ensures.whole sound) k;
+  goes = λ b past leg first k sound.
+      turned b past leg c.args.self.now _ _ _ _ _ _ _ _ _ first refl c.in-Open.is (c.requires.driven.1.turns c.in-Open.is).goes.unended c.make_turn-self.ensures.looks (c.make_turn-self.ensures.whole sound) k;
 }
 
 pub returns-else-matches-clause-turned : goal.returns-else-matches-clause-turned
 returns-else-matches-clause-turned g c = record {
-  goes = λ m past leg first k sound.
-      turned m past leg c.args.self.now _ _ _ _ _ _ _ _ _ first c.in-Open.is (c.requires.driven.1.turns c.in-Open.is).goes.unended c.make_turn-self.ensures.looks (c.make_turn-self.ensures.whole sound) k;
+  goes = λ b past leg first k sound.
+      turned b past leg c.args.self.now _ _ _ _ _ _ _ _ _ first refl c.in-Open.is (c.requires.driven.1.turns c.in-Open.is).goes.unended c.make_turn-self.ensures.looks (c.make_turn-self.ensures.whole sound) k;
 }

@@ -1,0 +1,5 @@
+use Rattle.gw_rehearse.proofs.Opening.{none_leaves}
+use Rattle.gw_rehearse.proofs.disks.formatted.Goals as goal
+
+pub returns-in-Ok : goal.returns-in-Ok
+returns-in-Ok c = none_leaves c.format.new.disk c.in-Ok.ensures.ok
