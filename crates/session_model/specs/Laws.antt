@@ -6,7 +6,7 @@ use Rattle.session_model.specs.Journal.{Entry, OutboxRecord, entries, History, B
 use Rattle.session_model.specs.Inbox.{InboxRecord, applied, skips, missing, settled, next_number, numbers_of, payloads_of, times, SameNumbers, Ascending}
 use Rattle.session_model.specs.Events.{Announcer, Event, announce, handshake, message, with_number, standing, numbered, messages, TrueOfJournal, Rising, IsHandshake, HandshakeFirst, BeginsWithHandshake}
 use Rattle.session_model.specs.Growth.{Flow, recoverable, idempotent, unsequenced, GrownInOrder, GrownRecoverable, GrownIdempotent, GrownUnsequenced, Grown, GrownLater, GrownThrough, jumps_through, AppliesPrefix, SettlesOnce, DeliversRising}
-use Rattle.session_model.specs.Plans.{Continues, Completes}
+use Rattle.session_model.specs.Plans.{GoesOn, Continues, Completes}
 use Rattle.session_model.specs.Lives.{Served, Life, served_on, written_of, Writes, KeepsConnections, KeepsOutbox, KeepsContract, Chained, TakenFrom}
 
 -- Numbering looks back: behind an announcement and so many messages stands its number and as many more, whatever came before;
@@ -139,6 +139,18 @@ UnsequencedKeepsRising = (begun h : List Entry) (es : List Event) (before after 
 -- a sender that had sent a beginning of its plan has still sent one, and all of it where the plan was completed
 abbrev pub PlanGoesOn : Type 0
 PlanGoesOn = (plan before after : List (List ℕ)) → IsPrefix before plan → Continues plan before after → IsPrefix after plan
+
+-- what continues a plan over some applied messages, and then the plan over more of them, continues the latter
+abbrev pub ContinuesGoesOn : Type 0
+ContinuesGoesOn = (plan : ℕ → List (List ℕ) → List (List ℕ)) (s : ℕ) (earlier later first second third : List (List ℕ))
+    → GoesOn plan → IsPrefix earlier later → Continues (plan s earlier) first second → Continues (plan s later) second third
+    → Continues (plan s later) first third
+
+-- and what completes the latter then, completes it from the start
+abbrev pub ContinuesCompletes : Type 0
+ContinuesCompletes = (plan : ℕ → List (List ℕ) → List (List ℕ)) (s : ℕ) (earlier later first second third : List (List ℕ))
+    → GoesOn plan → IsPrefix earlier later → Continues (plan s earlier) first second → Completes (plan s later) second third
+    → Completes (plan s later) first third
 
 abbrev pub PlanCompletes : Type 0
 PlanCompletes = (plan before after : List (List ℕ)) → IsPrefix before plan → Completes plan before after → after ≡ plan

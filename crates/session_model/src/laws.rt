@@ -1,7 +1,7 @@
 //! The laws of the definitions. Each function has an empty body: its clause is a statement about every list.
 //! They rest on nothing but the definitions of `specs/`.
 
-ghost use Rattle.session_model.specs.Laws.{NumberingLooksBack, MessageTakesStanding, NumberingSplits, TrueSplits, TrueStaysTrue, HandshakeSplits, HandshakeBeforeMessages, TakenIsTrue, AnnouncedEntriesAreTrue, CountsStandOnce, RisingStaysRising, RisingGoesOn, GrowthGoesOn, HeldGoesOn, NothingHeld, ConnectionsGoOn, RecoverableConnections, IdempotentConnections, UnsequencedConnections, NoEventsGrowNothing, RecoverableCounts, IdempotentSettles, RecoverableKeepsPrefix, IdempotentKeepsOnce, UnsequencedKeepsRising, PlanGoesOn, PlanCompletes, SeenStaysKept, ServingGoesOn, ContractJoins, HistoriesGoOn, RecordsBeginHistory, ChainedSplits};
+ghost use Rattle.session_model.specs.Laws.{NumberingLooksBack, MessageTakesStanding, NumberingSplits, TrueSplits, TrueStaysTrue, HandshakeSplits, HandshakeBeforeMessages, TakenIsTrue, AnnouncedEntriesAreTrue, CountsStandOnce, RisingStaysRising, RisingGoesOn, GrowthGoesOn, HeldGoesOn, NothingHeld, ConnectionsGoOn, RecoverableConnections, IdempotentConnections, UnsequencedConnections, NoEventsGrowNothing, RecoverableCounts, IdempotentSettles, RecoverableKeepsPrefix, IdempotentKeepsOnce, UnsequencedKeepsRising, PlanGoesOn, PlanCompletes, ContinuesGoesOn, ContinuesCompletes, SeenStaysKept, ServingGoesOn, ContractJoins, HistoriesGoOn, RecordsBeginHistory, ChainedSplits};
 
 /// Behind an announcement and so many messages stands its number and as many more, whatever came before it.
 pub fn numbering_looks_back()
@@ -167,4 +167,14 @@ pub fn chained_splits()
 /// To stand among the numbers from 1 to k is to stand there once.
 pub fn counts_stand_once()
     ensures law { CountsStandOnce }
+{}
+
+/// What continues a plan over some applied messages, and then the plan over more of them, continues the latter.
+pub fn continues_goes_on()
+    ensures law { ContinuesGoesOn }
+{}
+
+/// What continues a plan over some applied messages, and then completes the plan over more of them, completes the latter.
+pub fn continues_completes()
+    ensures law { ContinuesCompletes }
 {}
