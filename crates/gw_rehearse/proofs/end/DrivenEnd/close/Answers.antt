@@ -1,6 +1,6 @@
 use Rattle.std.proofs.Common.{ℕ, ◌+◌, length, refl, sym, ◌∙◌, subst, arith}
 use Rattle.jr_segments.specs.Lawful.{few_by}
-use Rattle.jr_segments.specs.Numbers.{numbers_of}
+use Rattle.jr_places.specs.Numbers.{numbers_of}
 use Rattle.gate_senders.proofs.Keeping.{keeps_stands}
 use Rattle.gate_plans.specs.Seats.{Seated}
 use Rattle.gw_rehearse.proofs.Sent.{sent_back, last_found, opened_found}
