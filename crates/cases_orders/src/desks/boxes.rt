@@ -1,0 +1,83 @@
+//! Outboxes on disks in memory.
+ghost use Rattle.std.specs.Prelude.{◌≡◌, false, IfSome};
+ghost use Rattle.jr_kept.specs.Outbox.{is_broken};
+
+use cases_words::digits;
+use gw_fakes::MemDisk;
+use jr_dated::Limits;
+use jr_kept::Outbox;
+use jr_segments::{SegJournal, format};
+use sbe_value::Bytes;
+use std::alloc::{AllocError, Global};
+
+/// A journal on a disk in memory.
+pub type Log = SegJournal<MemDisk>;
+
+/// More than any case has.
+const WIDE: Limits = Limits {
+    entries: 1000,
+    bytes: 100_000,
+};
+
+/// The room of each disk, in bytes.
+const ROOM: usize = 65_536;
+
+/// An outbox that has nothing; None where it is refused.
+pub fn empty(alloc: Global) -> Option<Outbox<Log>>
+    ensures sound { IfSome result (λ box. is_broken box ≡ false) }
+{
+    let mut disk = MemDisk::without_faults(alloc, ROOM).ok()?;
+    format(&mut disk).ok()?;
+    // one value, since what the journal says of its limits is said of the one that it was given
+    let limits = WIDE;
+    let journal = SegJournal::open(alloc, disk, limits).ok()?;
+    Outbox::open(alloc, journal, limits).ok()
+}
+
+/// Adds the entry of a number behind those of another outbox; None where it is not there, or refused.
+fn add_entry(from: &mut Outbox<Log>, number: u64, to: &mut Outbox<Log>) -> Option<u64> {
+    if number == 0 || number > from.front() {
+        return None;
+    }
+    let (sender, payload) = from.entry(number).ok()?;
+    to.accept(sender, payload.as_slice()).ok()
+}
+
+/// An outbox with the first so many entries of another; None where one is not there, or refused.
+pub fn copied(alloc: Global, from: &mut Outbox<Log>, count: u64) -> Option<Outbox<Log>>
+    ensures sound { IfSome result (λ box. is_broken box ≡ false) }
+{
+    let mut to = empty(alloc)?;
+    for place in 0..count {
+        add_entry(from, place + 1, &mut to)?;
+    }
+    (!to.broken()).then_some(to)
+}
+
+/// The sender and the payload of an entry; None where it is not there.
+fn entry(outbox: &mut Outbox<Log>, number: u64) -> Option<(u16, Bytes)> {
+    if number == 0 || number > outbox.front() {
+        return None;
+    }
+    outbox.entry(number).ok()
+}
+
+/// Adds the payloads of a desk's reports, in hexadecimal, in their order.
+pub fn add_reports(
+    alloc: Global,
+    outbox: &mut Outbox<Log>,
+    desk: u16,
+    told: &mut String,
+) -> Result<(), AllocError> {
+    write!(told, "desk {desk}\n")?;
+    for place in 0..outbox.front() {
+        let Some((sender, payload)) = entry(outbox, place + 1) else {
+            continue;
+        };
+        if sender == desk {
+            let digits = digits(alloc, payload.as_slice())?;
+            write!(told, "{digits}\n")?;
+        }
+    }
+    Ok(())
+}
