@@ -6,3 +6,4 @@ pub mod Living
 pub mod Opening
 pub mod Marking
 pub mod Following
+pub mod Resuming

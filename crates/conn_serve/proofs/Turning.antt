@@ -208,6 +208,10 @@ module _ {J : Type 0} {G : Ghosts J} {tells : Type 0} where
   was_short eager before after old new none was =
       subst (All IsShort) (sym (was.news_are ∙ ap (λ (ns : List NewsItem). ns ++ tells_in old.line was.turn) none)) (turn_short old.seen new.seen old.line new.line was.turn was.made.is)
 
+  pub was_few : (eager : Bool) (before after : ℕ) (old new : EndAt J G) → old.news ≡ [] → WasTurn tells eager before after old new → length new.news ≤ 16
+  was_few eager before after old new none was =
+      omega (arith, ap (λ (ns : List NewsItem). length ns) (was.news_are ∙ ap (λ (ns : List NewsItem). ns ++ tells_in old.line was.turn) none), turn_few old.seen new.seen old.line new.line was.turn was.made.is)
+
   -- ---- turns
 
   pub turned_none : (eager : Bool) (told : Option LinkTold) (carried : Option Carried) (out : Option (List ℕ)) (seen : History) (clock : ℕ) (l : Line) (box : Inbox J G)

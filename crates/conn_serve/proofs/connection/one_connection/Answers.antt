@@ -20,13 +20,15 @@ loop-init g c =
       out = omega arith;
       place = refl;
       failed = omega arith;
+      has = c.requires.has;
+      same = (refl, refl);
     }
 
-pub returns-then-load-clause-stays : goal.returns-then-load-clause-stays
-returns-then-load-clause-stays g c = stays_on _ _ _ c.loop.invariant.stays c.cut.ensures.stays
+pub returns-then-must_stop-clause-stays : goal.returns-then-must_stop-clause-stays
+returns-then-must_stop-clause-stays g c = stays_on _ _ _ c.loop.invariant.stays c.cut.ensures.stays
 
-pub returns-then-load-clause-stopped : goal.returns-then-load-clause-stopped
-returns-then-load-clause-stopped g c = λ e.
+pub returns-then-must_stop-clause-stopped : goal.returns-then-must_stop-clause-stopped
+returns-then-must_stop-clause-stopped g c = λ e.
     let cut = c.cut.ensures in
     given_first _ _ (connection_in _ _ _ c.args.end.now) (connection_in _ _ _ c.cut.new.self) (line_in c.begin.new.self) _ _ c.begin.ensures.begun (record { time = c.begin.ensures.limit; is = refl; later = c.begin.ensures.stays.ticks })
     (given_in_cut _ _ _ _ _ _ c.loop.end c.cut.new.self cut.pass cut.inbox cut.clock
@@ -76,6 +78,8 @@ loop-preserved g c =
       out = omega (arith, was.out, one.never_falls);
       place = one.place ∙ was.place;
       failed = omega (arith, was.failed, one.failed);
+      has = c.answer_turn.ensures.own;
+      same = (c.answer_turn.ensures.same.0 ∙ was.same.0, c.answer_turn.ensures.same.1 ∙ was.same.1);
     }
 
 pub returns-clause-stays : goal.returns-clause-stays

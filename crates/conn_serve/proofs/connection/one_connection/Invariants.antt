@@ -1,4 +1,6 @@
 use Rattle.std.proofs.Common.{◌≡◌, ◌≤◌}
+use Rattle.gate_business.specs.Business.{lock_of}
+use Rattle.conn_serve.specs.Answering.{business_of}
 use Rattle.conn_loop.specs.Ends.{line_in, MayTurn, Stays}
 use Rattle.conn_serve.specs.Turned.{Turned}
 use Rattle.conn_serve.specs.Ends.{connection_in}
@@ -14,4 +16,6 @@ invariant-loop g l = record {
   out : g.K.Sink.faults l.fn.out ≤ g.K.Sink.faults l.out;
   place : g.L.Link.place l.link ≡ g.L.Link.place l.fn.link;
   failed : g.L.Link.faults l.fn.link ≤ g.L.Link.faults l.link;
+  has : g.B.Business.has (business_of l.answering) (lock_of l.gate);
+  same : (g.B.Business.count (business_of l.answering) ≡ g.B.Business.count (business_of l.fn.answering)) × (g.B.Business.plan (business_of l.answering) ≡ g.B.Business.plan (business_of l.fn.answering));
 }

@@ -22,10 +22,12 @@ loop-number-init g c = record {
   dialer = omega arith;
   ticks = omega arith;
   told = refl;
+  has = c.requires.has;
+  same = (refl, refl);
 }
 
-pub returns-then-load-clause-served : goal.returns-then-load-clause-served
-returns-then-load-clause-served g c = over_stopped _ _ _ _ (life_at _ _ _ c.args.inbox.now) (life_at _ _ _ c.loop-number.inbox) _ _ c.loop-number.invariant.lived
+pub returns-then-must_stop-clause-served : goal.returns-then-must_stop-clause-served
+returns-then-must_stop-clause-served g c = over_stopped _ _ _ _ (life_at _ _ _ c.args.inbox.now) (life_at _ _ _ c.loop-number.inbox) _ _ c.loop-number.invariant.lived
 
 pub returns-in-Some-clause-kind : goal.returns-in-Some-clause-kind
 returns-in-Some-clause-kind g c =
@@ -76,4 +78,6 @@ loop-number-preserved g c =
       dialer = omega (arith, was.dialer, one.never_falls.2);
       ticks = omega (arith, was.ticks, one.ticks);
       told = one.told ∙ was.told;
+      has = one.has;
+      same = (one.same.0 ∙ was.same.0, one.same.1 ∙ was.same.1);
     }

@@ -4,6 +4,8 @@ use Rattle.jr_kept.specs.Inbox.{faults_of}
 use Rattle.gate_turn.specs.Places.{known}
 use Rattle.gate_turn.specs.Calls.{IsFree}
 use Rattle.gate_senders.specs.Gate.{IsPassAt}
+use Rattle.gate_business.specs.Business.{lock_of}
+use Rattle.conn_serve.specs.Answering.{business_of}
 use Rattle.conn_steps.specs.Settling.{SameKind}
 use Rattle.conn_loop.specs.Conn.{line_of, Looks}
 use Rattle.conn_serve.specs.Moments.{life_at}
@@ -26,6 +28,8 @@ invariant-loop-number g l = record {
   dialer : g.N.Dialer.faults l.fn.dialer ≤ g.N.Dialer.faults l.dialer;
   ticks : g.C.Clock.last l.fn.clock ≤ g.C.Clock.last l.clock;
   told : g.C.Clock.told l.clock ≡ g.C.Clock.told l.fn.clock;
+  has : g.B.Business.has (business_of l.answering) (lock_of l.gate);
+  same : (g.B.Business.count (business_of l.answering) ≡ g.B.Business.count (business_of l.fn.answering)) × (g.B.Business.plan (business_of l.answering) ≡ g.B.Business.plan (business_of l.fn.answering));
 }
 
 -- nothing is promised behind the connections that no dialer gives

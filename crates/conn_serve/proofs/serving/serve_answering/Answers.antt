@@ -1,0 +1,47 @@
+use Rattle.std.proofs.Common.{Ok, Err, ap, sym, ◌∙◌, arith}
+use Rattle.gate_turn.specs.Places.{known}
+use Rattle.gate_senders.specs.Gate.{opening_of}
+use Rattle.conn_turns.specs.Lines.{Line}
+use Rattle.conn_door.specs.Answers.{answer_of}
+use Rattle.conn_door.specs.declared.answer.LifeEnd.TheVariants as ends
+use Rattle.conn_door.specs.declared.answer.ServeFault.TheVariants as faults
+use Rattle.conn_serve.specs.Moments.{life_at, faults_at}
+use Rattle.conn_serve.proofs.Living.{nothing_served}
+use Rattle.conn_serve.proofs.Opening.{may_open, blamed_none}
+use Rattle.conn_serve.proofs.Resuming.{kind_resumed, may_resumed, blamed_resumed, over_resumed, none_resumed}
+use Rattle.conn_serve.proofs.serving.serve_answering.Goals as goal
+
+pub returns-in_default-clause-through : goal.returns-in_default-clause-through
+returns-in_default-clause-through g c = record {
+  connections = Err faults.Memory;
+  life = nothing_served g.N.Link.Link (g.C.Clock.last c.args.clock.now) _ _ _ _ c.args.inbox.now;
+  blamed = blamed_none (faults_at _ _ _ c.args.inbox.now) (faults_at _ _ _ c.args.inbox.now);
+  answer = ap (answer_of (Err faults.Memory)) (sym c.requires.unrefused);
+}
+
+pub serve_connections-requires-clause-may : goal.serve_connections-requires-clause-may
+serve_connections-requires-clause-may g c =
+    let r = c.requires in
+    let took = c.resume_business.ensures in
+    may_resumed _ (known c.args.pass.now) c.args.inbox.now c.resume_business.new.inbox took.content took.kind
+    (may_open c.args.config c.args.most (opening_of c.args.gate.now).history _ (known c.args.pass.now) c.args.inbox.now (ap (λ (l : Line). l.machine) c.in-Ok.ensures) r.opened r.sent r.credentials r.flow r.within)
+
+pub returns-in-Some-clause-through : goal.returns-in-Some-clause-through
+returns-in-Some-clause-through g c = record {
+  connections = Ok ends.Stopped;
+  life = none_resumed g.N.Link.Link (g.C.Clock.last c.args.clock.now) _ _ _ c.args.inbox.now c.resume_business.new.inbox _ c.resume_business.ensures.content c.resume_business.ensures.kind.0;
+  blamed = tt;
+  answer = ap (answer_of (Ok ends.Stopped)) (sym c.in-Some.is ∙ c.refused.ensures);
+}
+
+pub returns-clause-through : goal.returns-clause-through
+returns-clause-through g c =
+    let took = c.resume_business.ensures in
+    let one = c.serve_connections.ensures in
+    record {
+      connections = c.serve_connections.result;
+      life = over_resumed g.N.Link.Link _ _ _ _ _ c.args.inbox.now c.resume_business.new.inbox (life_at _ _ _ c.serve_connections.new.inbox) _ _ c.serve_connections.result took.content took.kind.0 (ap (λ (l : Line). l.machine) c.in-Ok.ensures) one.served;
+      blamed = blamed_resumed (faults_at _ _ (known c.args.pass.now) c.args.inbox.now) (faults_at _ _ (known c.args.pass.now) c.resume_business.new.inbox) (faults_at _ _ (known c.serve_connections.new.pass) c.serve_connections.new.inbox) c.serve_connections.result
+          (omega arith) (omega arith) (omega arith) took.never_falls one.never_falls.0 (kind_resumed c.args.inbox.now c.resume_business.new.inbox took.kind (took.unbroken (sym c.refused.ensures ∙ c.in_default-refused.is))) one.blamed;
+      answer = ?;
+    }
