@@ -7,3 +7,4 @@ pub mod Opening
 pub mod Marking
 pub mod Following
 pub mod Resuming
+pub mod Upto

@@ -15,6 +15,7 @@ use Rattle.conn_steps.specs.Settling.{Refuses, HaveRoom, SameKind}
 use Rattle.conn_door.specs.declared.answer.ServeFault.{ServeFault}
 use Rattle.conn_door.specs.declared.answer.LifeEnd.{LifeEnd}
 use Rattle.conn_door.specs.declared.answer.LifeEnd.TheVariants as ends
+use Rattle.conn_serve.specs.Connections.{all_of, adds_of}
 use Rattle.conn_serve.specs.Served.{ServedLife, ServedOver}
 use Rattle.conn_serve.specs.Moments.{LifeAt, FaultsAt, life_at}
 use Rattle.conn_serve.specs.Causes.{IsBlamed}
@@ -57,45 +58,45 @@ module _ {J : Type 0} {G : Ghosts J} {tells : Type 0} where
   blamed_resumed old mid new (Ok end) out dialer pass inbox later kind b = tt
   blamed_resumed old mid new (Err fault) out dialer pass inbox later kind b = blamed_since old mid new fault out dialer pass inbox later kind b
 
-module _ {J : Type 0} {G : Ghosts J} {tells : Type 0} {L : Type 0} (links : LinkGhosts L) (before behind : ℕ) where
+module _ {J : Type 0} {G : Ghosts J} {tells : Type 0} {L : Type 0} (P : List InboxRecord → Type 0) (links : LinkGhosts L) (before behind : ℕ) where
+  -- the connections were served so, and this is known of the records that they added
+  abbrev pub OverSo : (old new : LifeAt J G) → State → Result LifeEnd ServeFault → Type 0
+  OverSo old new m result = (s : ServedOver tells links before behind old new m result) × P (adds_of (all_of s.life.ended s.life.given_up))
+
   over_content : (dialed : Option DialerTold) (out : Option (List ℕ)) (seen : History) (box mid : Inbox J G) (new : LifeAt J G) (m : State) (result : Result LifeEnd ServeFault)
-      → SameContent box mid → limits_of mid ≡ limits_of box
-      → ServedOver tells links before behind (life_at dialed out seen mid) new m result → ServedOver tells links before behind (life_at dialed out seen box) new m result
-  over_content dialed out seen box mid new m result content limits s =
+      → SameContent box mid → limits_of mid ≡ limits_of box → OverSo (life_at dialed out seen mid) new m result → OverSo (life_at dialed out seen box) new m result
+  over_content dialed out seen box mid new m result content limits (s, k) =
       let l = s.life in
-      record {
-        life = record {
-          ended = l.ended;
-          given_up = l.given_up;
-          behind = l.behind;
-          mid = l.mid;
-          were = l.were;
-          gave_up = l.gave_up;
-          followed = l.followed;
-          timely = l.timely;
-          faithful = l.faithful;
-          refuses = refuses_resumed box mid new.box _ _ content limits l.refuses;
-          lines = l.lines;
-          came = l.came;
-          tells = l.tells;
-          answer = l.answer;
-          past = l.past;
-        };
-        links = s.links;
-        clock = s.clock;
-      }
+      let life : ServedLife tells (life_at dialed out seen box) new m result = record {
+        ended = l.ended;
+        given_up = l.given_up;
+        behind = l.behind;
+        mid = l.mid;
+        were = l.were;
+        gave_up = l.gave_up;
+        followed = l.followed;
+        timely = l.timely;
+        faithful = l.faithful;
+        refuses = refuses_resumed box mid new.box _ _ content limits l.refuses;
+        lines = l.lines;
+        came = l.came;
+        tells = l.tells;
+        answer = l.answer;
+        past = l.past;
+      } in
+      (record { life = life; links = s.links; clock = s.clock }, k)
 
   -- the connections were served from the machine n on
   pub over_resumed : (dialed : Option DialerTold) (out : Option (List ℕ)) (seen : History) (box mid : Inbox J G) (new : LifeAt J G) (m n : State) (result : Result LifeEnd ServeFault)
       → SameContent box mid → limits_of mid ≡ limits_of box → m ≡ n
-      → ServedOver tells links before behind (life_at dialed out seen mid) new m result → ServedOver tells links before behind (life_at dialed out seen box) new n result
+      → OverSo (life_at dialed out seen mid) new m result → OverSo (life_at dialed out seen box) new n result
   over_resumed dialed out seen box mid new m n result content limits is s =
-      subst (λ (x : State). ServedOver tells links before behind (life_at dialed out seen box) new x result) is (over_content dialed out seen box mid new m result content limits s)
+      subst (λ (x : State). OverSo (life_at dialed out seen box) new x result) is (over_content dialed out seen box mid new m result content limits s)
 
 -- no connection was served, since the business did not take its place
-pub none_resumed : {J : Type 0} {G : Ghosts J} {tells : Type 0} {L : Type 0} (links : LinkGhosts L) (clock : ℕ) (dialed : Option DialerTold) (out : Option (List ℕ)) (seen : History) (box mid : Inbox J G) (m : State)
-    → SameContent box mid → limits_of mid ≡ limits_of box
-    → ServedOver tells links clock clock (life_at dialed out seen box) (life_at dialed out seen mid) m (Ok ends.Stopped)
-none_resumed links clock dialed out seen box mid m content limits =
-    over_resumed links clock clock dialed out seen box mid (life_at dialed out seen mid) m m (Ok ends.Stopped) content limits refl
-    (over_stopped links clock clock 1 (life_at dialed out seen mid) (life_at dialed out seen mid) m m (lived_none links clock dialed out seen m mid))
+pub none_resumed : {J : Type 0} {G : Ghosts J} {tells : Type 0} {L : Type 0} (P : List InboxRecord → Type 0) (links : LinkGhosts L) (clock : ℕ) (dialed : Option DialerTold) (out : Option (List ℕ)) (seen : History) (box mid : Inbox J G) (m : State)
+    → SameContent box mid → limits_of mid ≡ limits_of box → P []
+    → (s : ServedOver tells links clock clock (life_at dialed out seen box) (life_at dialed out seen mid) m (Ok ends.Stopped)) × P (adds_of (all_of s.life.ended s.life.given_up))
+none_resumed P links clock dialed out seen box mid m content limits known =
+    over_resumed P links clock clock dialed out seen box mid (life_at dialed out seen mid) m m (Ok ends.Stopped) content limits refl
+    (over_stopped P links clock clock 1 (life_at dialed out seen mid) (life_at dialed out seen mid) m m (lived_none P links clock dialed out seen m mid known))

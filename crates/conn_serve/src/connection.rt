@@ -1,13 +1,13 @@
 //! One connection: its turns, one after another, until it ends, is told to stop, or is given up.
 
-ghost use Rattle.std.specs.Prelude.{◌≡◌, ℕ, ◌<◌, ◌≤◌, ◌^◌, [], All, length, Ok, Some, None, IfOk, IfErr, OnOk};
+ghost use Rattle.std.specs.Prelude.{⊤, ◌≡◌, ℕ, ◌<◌, ◌≤◌, ◌^◌, false, [], ◌++◌, All, length, Ok, Some, None, IfOk, IfErr, OnOk};
 ghost use Rattle.jr_kept.specs.Inbox.{faults_of};
 ghost use Rattle.gate_turn.specs.Places.{known};
 ghost use Rattle.gate_turn.specs.Calls.{IsFree};
 ghost use Rattle.gate_senders.specs.Gate.{IsPassAt, senders_of};
 ghost use Rattle.gate_business.specs.Business.{lock_of};
-ghost use Rattle.conn_serve.specs.Answering.{business_of};
-ghost use Rattle.conn_turns.specs.News.{items_of};
+ghost use Rattle.conn_serve.specs.Answering.{business_of, refused_in, messages_of, business_at, AnswersMore};
+ghost use Rattle.conn_turns.specs.News.{items_of, delivered_in};
 ghost use Rattle.gw_outside.specs.Faults.{HasRisen};
 ghost use Rattle.conn_lines.specs.declared.close.Close.{Close};
 ghost use Rattle.conn_lines.specs.declared.close.Close.TheVariants as closes;
@@ -98,7 +98,8 @@ fn turn_once<L: Link, K: Sink, O: Journal, I: Journal, C: Clock, R: Wait>(
     requires place { (line_in end.old).place < 2 ^ 63 }
     ensures stays { Stays end.old end.new }
     ensures few { OnOk result (length (items_of teller.new.news) ≤ 16) }
-    ensures turned { OnOk result (Turned O.tells L.eager (connection_in (L.told link.old) (L.carried link.old) (K.taken out.old) end.old) (connection_in (L.told link.new) (L.carried link.new) (K.taken out.new) end.new) 1) }
+    ensures turned { OnOk result ((t : Turned O.tells L.eager (connection_in (L.told link.old) (L.carried link.old) (K.taken out.old) end.old) (connection_in (L.told link.new) (L.carried link.new) (K.taken out.new) end.new) 1)
+        × (delivered_in (items_of teller.new.news) ≡ messages_of t.adds)) }
     ensures goes { result ≡ Ok None → MayTurn end.new }
     ensures closed { (close : Close) → result ≡ Ok (Some close) → ClosesAs close (line_in end.new).machine.ending }
     ensures leaves { OnOk result (Leaves (line_in end.new).machine (pass_in end.new) end.new.inbox.now) }
@@ -121,7 +122,9 @@ fn turn_once<L: Link, K: Sink, O: Journal, I: Journal, C: Clock, R: Wait>(
 }
 
 /// Whether no further turn and no further connection may begin: the life was told to stop, or its business was refused.
-pub(crate) fn must_stop<B>(answering: &Answering<B>, signals: &Signals) -> bool {
+pub(crate) fn must_stop<B>(answering: &Answering<B>, signals: &Signals) -> bool
+    ensures unrefused { result ≡ false → refused_in answering.now ≡ None }
+{
     signals.stop().load(Ordering::SeqCst) || answering.refused().is_some()
 }
 
@@ -148,11 +151,14 @@ fn one_connection<
     requires few { B.count (business_of answering.old) ≤ senders_of gate.now }
     requires may { MayBegin (line_in end.old).machine (pass_in end.old) end.old.inbox.now }
     ensures stays { Stays end.old end.new }
-    ensures turned { (close : Close) → result ≡ Ok (Some close) → TurnedOn O.tells L.eager (connection_in (L.told link.old) (L.carried link.old) (K.taken out.old) end.old) (connection_in (L.told link.new) (L.carried link.new) (K.taken out.new) end.new) }
+    ensures turned { (close : Close) → result ≡ Ok (Some close) → (t : TurnedOn O.tells L.eager (connection_in (L.told link.old) (L.carried link.old) (K.taken out.old) end.old) (connection_in (L.told link.new) (L.carried link.new) (K.taken out.new) end.new))
+        × AnswersMore ⊤ (business_at B.stands B.plan B.count B.part answering.old) (business_at B.stands B.plan B.count B.part answering.new) end.old.inbox.now t.turned.adds }
     ensures closed { (close : Close) → result ≡ Ok (Some close) → ClosesAs close (line_in end.new).machine.ending }
     ensures leaves { (close : Close) → result ≡ Ok (Some close) → Leaves (line_in end.new).machine (pass_in end.new) end.new.inbox.now }
-    ensures stopped { result ≡ Ok None → GivenUpOn O.tells L.eager None (connection_in (L.told link.old) (L.carried link.old) (K.taken out.old) end.old) (connection_in (L.told link.new) (L.carried link.new) (K.taken out.new) end.new) }
-    ensures given_up { IfErr result (λ fault. GivenUpOn O.tells L.eager (Some fault) (connection_in (L.told link.old) (L.carried link.old) (K.taken out.old) end.old) (connection_in (L.told link.new) (L.carried link.new) (K.taken out.new) end.new)) }
+    ensures stopped { result ≡ Ok None → (g : GivenUpOn O.tells L.eager None (connection_in (L.told link.old) (L.carried link.old) (K.taken out.old) end.old) (connection_in (L.told link.new) (L.carried link.new) (K.taken out.new) end.new))
+        × AnswersMore ⊤ (business_at B.stands B.plan B.count B.part answering.old) (business_at B.stands B.plan B.count B.part answering.new) end.old.inbox.now (g.given_up.adds ++ g.given_up.cut_added) }
+    ensures given_up { IfErr result (λ fault. (g : GivenUpOn O.tells L.eager (Some fault) (connection_in (L.told link.old) (L.carried link.old) (K.taken out.old) end.old) (connection_in (L.told link.new) (L.carried link.new) (K.taken out.new) end.new))
+        × AnswersMore (IsOfTurn fault → ⊥) (business_at B.stands B.plan B.count B.part answering.old) (business_at B.stands B.plan B.count B.part answering.new) end.old.inbox.now (g.given_up.adds ++ g.given_up.cut_added)) }
     ensures blamed { IfErr result (IsBlamed O.tells (faults_in_end (K.faults out.old) 0 end.old) (faults_in_end (K.faults out.new) 0 end.new)) }
     ensures of_connection { IfErr result IsOfConnection }
     ensures never_falls { K.faults out.old ≤ K.faults out.new }
@@ -168,13 +174,16 @@ fn one_connection<
             let _ = end.cut();
             return Ok(None);
         }
+        let told = end.peer_finished();
         match turn_once(end, link, out, teller, rt) {
             Ok(None) => {
                 signals.turned(end.end(), rt);
-                answer_turn(answering, &mut teller.news, end.peer_finished(), gate, rt);
+                let finished = end.peer_finished();
+                answer_turn(answering, &mut teller.news, told, finished, gate, rt);
             }
             Ok(Some(close)) => {
-                answer_turn(answering, &mut teller.news, end.peer_finished(), gate, rt);
+                let finished = end.peer_finished();
+                answer_turn(answering, &mut teller.news, told, finished, gate, rt);
                 return Ok(Some(close));
             }
             Err(fault) => return Err(fault),
@@ -214,11 +223,14 @@ pub(crate) fn lent_connection<
     ensures own { IsPassAt gate.now pass.new }
     ensures free { IsFree pass.new }
     ensures looks { Looks (known pass.old) (known pass.new) }
-    ensures turned { (close : Close) → result ≡ Ok (Some close) → TurnedOn O.tells L.eager (connection_at (L.told link.old) (L.carried link.old) (K.taken out.old) (known pass.old).seen (C.last clock.old) (line_of conn.old) inbox.old) (connection_at (L.told link.new) (L.carried link.new) (K.taken out.new) (known pass.new).seen (C.last clock.new) (line_of conn.new) inbox.new) }
+    ensures turned { (close : Close) → result ≡ Ok (Some close) → (t : TurnedOn O.tells L.eager (connection_at (L.told link.old) (L.carried link.old) (K.taken out.old) (known pass.old).seen (C.last clock.old) (line_of conn.old) inbox.old) (connection_at (L.told link.new) (L.carried link.new) (K.taken out.new) (known pass.new).seen (C.last clock.new) (line_of conn.new) inbox.new))
+        × AnswersMore ⊤ (business_at B.stands B.plan B.count B.part answering.old) (business_at B.stands B.plan B.count B.part answering.new) inbox.old t.turned.adds }
     ensures closed { (close : Close) → result ≡ Ok (Some close) → ClosesAs close (line_of conn.new).machine.ending }
     ensures leaves { (close : Close) → result ≡ Ok (Some close) → Leaves (line_of conn.new).machine (known pass.new) inbox.new }
-    ensures stopped { result ≡ Ok None → GivenUpOn O.tells L.eager None (connection_at (L.told link.old) (L.carried link.old) (K.taken out.old) (known pass.old).seen (C.last clock.old) (line_of conn.old) inbox.old) (connection_at (L.told link.new) (L.carried link.new) (K.taken out.new) (known pass.new).seen (C.last clock.new) (line_of conn.new) inbox.new) }
-    ensures given_up { IfErr result (λ fault. GivenUpOn O.tells L.eager (Some fault) (connection_at (L.told link.old) (L.carried link.old) (K.taken out.old) (known pass.old).seen (C.last clock.old) (line_of conn.old) inbox.old) (connection_at (L.told link.new) (L.carried link.new) (K.taken out.new) (known pass.new).seen (C.last clock.new) (line_of conn.new) inbox.new)) }
+    ensures stopped { result ≡ Ok None → (g : GivenUpOn O.tells L.eager None (connection_at (L.told link.old) (L.carried link.old) (K.taken out.old) (known pass.old).seen (C.last clock.old) (line_of conn.old) inbox.old) (connection_at (L.told link.new) (L.carried link.new) (K.taken out.new) (known pass.new).seen (C.last clock.new) (line_of conn.new) inbox.new))
+        × AnswersMore ⊤ (business_at B.stands B.plan B.count B.part answering.old) (business_at B.stands B.plan B.count B.part answering.new) inbox.old (g.given_up.adds ++ g.given_up.cut_added) }
+    ensures given_up { IfErr result (λ fault. (g : GivenUpOn O.tells L.eager (Some fault) (connection_at (L.told link.old) (L.carried link.old) (K.taken out.old) (known pass.old).seen (C.last clock.old) (line_of conn.old) inbox.old) (connection_at (L.told link.new) (L.carried link.new) (K.taken out.new) (known pass.new).seen (C.last clock.new) (line_of conn.new) inbox.new))
+        × AnswersMore (IsOfTurn fault → ⊥) (business_at B.stands B.plan B.count B.part answering.old) (business_at B.stands B.plan B.count B.part answering.new) inbox.old (g.given_up.adds ++ g.given_up.cut_added)) }
     ensures blamed { IfErr result (IsBlamed O.tells (faults_at (K.faults out.old) 0 (known pass.old) inbox.old) (faults_at (K.faults out.new) 0 (known pass.new) inbox.new)) }
     ensures of_connection { IfErr result IsOfConnection }
     ensures kind { SameKind inbox.old inbox.new }

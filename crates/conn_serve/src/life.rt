@@ -8,14 +8,15 @@ ghost use Rattle.gate_turn.specs.Places.{known};
 ghost use Rattle.gate_turn.specs.Calls.{IsFree};
 ghost use Rattle.gate_senders.specs.Gate.{IsPassAt, senders_of};
 ghost use Rattle.gate_business.specs.Business.{lock_of};
-ghost use Rattle.conn_serve.specs.Answering.{business_of};
+ghost use Rattle.conn_serve.specs.Answering.{business_of, business_at, AnswersMore, AnsweredEach};
+ghost use Rattle.conn_serve.specs.Connections.{all_of, adds_of};
 ghost use Rattle.conn_steps.specs.Settling.{SameKind};
 ghost use Rattle.conn_loop.specs.Conn.{line_of, Looks};
 ghost use Rattle.conn_serve.specs.Answers.{end_behind};
 ghost use Rattle.conn_door.specs.declared.answer.ServeFault.TheVariants as faults;
 ghost use Rattle.conn_serve.specs.Causes.{IsBlamed};
 ghost use Rattle.conn_serve.specs.Turned.{MayBegin};
-ghost use Rattle.conn_serve.specs.Served.{IsOverBy, IsRound, ServedOver, IsNext};
+ghost use Rattle.conn_serve.specs.Served.{IsRoundOf, IsRound, ServedOver, IsNext};
 ghost use Rattle.conn_serve.specs.Moments.{life_at, faults_at};
 
 use crate::answering::Answering;
@@ -108,7 +109,7 @@ fn serve_next<
     ensures free { IsFree pass.new }
     ensures looks { Looks (known pass.old) (known pass.new) }
     ensures lent { N.lent dialer.new ≡ false }
-    ensures round { IsRound O.tells (IsOverBy N.Link.Link (C.last clock.old) (C.last clock.new)) number (life_at (N.told dialer.old) (K.taken out.old) (known pass.old).seen inbox.old) (life_at (N.told dialer.new) (K.taken out.new) (known pass.new).seen inbox.new) (line_of conn.old).machine (line_of conn.new).machine result }
+    ensures round { IsRound O.tells (IsRoundOf N.Link.Link (C.last clock.old) (C.last clock.new) (AnswersMore (AnsweredEach result) (business_at B.stands B.plan B.count B.part answering.old) (business_at B.stands B.plan B.count B.part answering.new) inbox.old)) number (life_at (N.told dialer.old) (K.taken out.old) (known pass.old).seen inbox.old) (life_at (N.told dialer.new) (K.taken out.new) (known pass.new).seen inbox.new) (line_of conn.old).machine (line_of conn.new).machine result }
     ensures goes { result ≡ Ok None → MayBegin (line_of conn.new).machine (known pass.new) inbox.new }
     ensures blamed { IfErr result (IsBlamed O.tells (faults_at (K.faults out.old) (N.faults dialer.old) (known pass.old) inbox.old) (faults_at (K.faults out.new) (N.faults dialer.new) (known pass.new) inbox.new)) }
     ensures kind { SameKind inbox.old inbox.new }
@@ -181,7 +182,8 @@ pub fn serve_connections<
     ensures free { IsFree pass.new }
     ensures looks { Looks (known pass.old) (known pass.new) }
     ensures lent { N.lent dialer.new ≡ false }
-    ensures served { ServedOver O.tells N.Link.Link (C.last clock.old) (C.last clock.new) (life_at (N.told dialer.old) (K.taken out.old) (known pass.old).seen inbox.old) (life_at (N.told dialer.new) (K.taken out.new) (known pass.new).seen inbox.new) (line_of conn.old).machine result }
+    ensures served { (s : ServedOver O.tells N.Link.Link (C.last clock.old) (C.last clock.new) (life_at (N.told dialer.old) (K.taken out.old) (known pass.old).seen inbox.old) (life_at (N.told dialer.new) (K.taken out.new) (known pass.new).seen inbox.new) (line_of conn.old).machine result)
+        × AnswersMore (AnsweredEach result) (business_at B.stands B.plan B.count B.part answering.old) (business_at B.stands B.plan B.count B.part answering.new) inbox.old (adds_of (all_of s.life.ended s.life.given_up)) }
     ensures blamed { IfErr result (IsBlamed O.tells (faults_at (K.faults out.old) (N.faults dialer.old) (known pass.old) inbox.old) (faults_at (K.faults out.new) (N.faults dialer.new) (known pass.new) inbox.new)) }
     ensures kind { SameKind inbox.old inbox.new }
     ensures never_falls { (faults_of inbox.old ≤ faults_of inbox.new) × (K.faults out.old ≤ K.faults out.new) × (N.faults dialer.old ≤ N.faults dialer.new) }

@@ -17,7 +17,7 @@ ghost use Rattle.conn_loop.specs.Conn.{line_of, new_line, Looks};
 ghost use Rattle.conn_serve.specs.Turned.{MayBegin};
 ghost use Rattle.conn_door.specs.Senders.{SomeMarked};
 ghost use Rattle.conn_serve.specs.Opening.{opened_state, ServedBy, ServedThrough};
-ghost use Rattle.conn_serve.specs.Answering.{business_of, refused_in, AnsweredSo};
+ghost use Rattle.conn_serve.specs.Answering.{business_of, refused_in, business_at, answering_at, AnsweredSo};
 ghost use Rattle.conn_serve.specs.Served.{ServedOver};
 ghost use Rattle.conn_serve.specs.Moments.{serving_at, life_at, faults_at};
 
@@ -234,7 +234,10 @@ pub fn serve_answering<
     ensures free { IsFree pass.new }
     ensures looks { Looks (known pass.old) (known pass.new) }
     ensures lent { N.lent dialer.new ≡ false }
-    ensures through { AnsweredSo O.tells (ServedOver O.tells N.Link.Link (C.last clock.old) (C.last clock.new) (life_at (N.told dialer.old) (K.taken out.old) (known pass.old).seen inbox.old) (life_at (N.told dialer.new) (K.taken out.new) (known pass.new).seen inbox.new) (fresh config (opened_state (opening_of gate.now).history inbox.old) most)) (faults_at (K.faults out.old) (N.faults dialer.old) (known pass.old) inbox.old) (faults_at (K.faults out.new) (N.faults dialer.new) (known pass.new) inbox.new) (refused_in answering.new) result }
+    ensures through { AnsweredSo O.tells N.Link.Link (C.last clock.old) (C.last clock.new)
+        (answering_at (N.told dialer.old) (K.taken out.old) (K.faults out.old) (N.faults dialer.old) (known pass.old) inbox.old (business_at B.stands B.plan B.count B.part answering.old))
+        (answering_at (N.told dialer.new) (K.taken out.new) (K.faults out.new) (N.faults dialer.new) (known pass.new) inbox.new (business_at B.stands B.plan B.count B.part answering.new))
+        (fresh config (opened_state (opening_of gate.now).history inbox.old) most) result }
     ensures kind { (limits_of inbox.new ≡ limits_of inbox.old) × (flow_of inbox.new ≡ flow_of inbox.old) }
     ensures never_falls { (faults_of inbox.old ≤ faults_of inbox.new) × (K.faults out.old ≤ K.faults out.new) × (N.faults dialer.old ≤ N.faults dialer.new) }
     ensures told { C.told clock.new ≡ C.told clock.old }

@@ -2,10 +2,10 @@
 
 ghost use Rattle.std.specs.Prelude.{◌≡◌, [], ◌∷◌, ◌++◌, IfOk, OnOk, OnErr};
 
-use core::mem;
 use gw_outside::{Bytes, Payloads};
 use lists::List;
 use std::alloc::{AllocError, Global};
+use std::mem;
 
 /// One piece of news.
 #[derive(Debug, Drop)]

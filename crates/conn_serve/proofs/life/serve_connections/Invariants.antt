@@ -5,7 +5,8 @@ use Rattle.gate_turn.specs.Places.{known}
 use Rattle.gate_turn.specs.Calls.{IsFree}
 use Rattle.gate_senders.specs.Gate.{IsPassAt}
 use Rattle.gate_business.specs.Business.{lock_of}
-use Rattle.conn_serve.specs.Answering.{business_of}
+use Rattle.conn_serve.specs.Answering.{business_of, business_at, AnswersMore}
+use Rattle.conn_serve.specs.Connections.{adds_of}
 use Rattle.conn_steps.specs.Settling.{SameKind}
 use Rattle.conn_loop.specs.Conn.{line_of, Looks}
 use Rattle.conn_serve.specs.Moments.{life_at}
@@ -20,8 +21,9 @@ invariant-loop-number g l = record {
   looks : Looks (known l.fn.pass) (known l.pass);
   may : MayBegin (line_of l.conn).machine (known l.pass) l.inbox;
   lent : g.N.Dialer.lent l.dialer ≡ false;
-  lived : LivedTo g.O.Journal.tells g.N.Link.Link (g.C.Clock.last l.fn.clock) (g.C.Clock.last l.clock) l.number (life_at (g.N.Dialer.told l.fn.dialer) (g.K.Sink.taken l.fn.out) (known l.fn.pass).seen l.fn.inbox)
-      (life_at (g.N.Dialer.told l.dialer) (g.K.Sink.taken l.out) (known l.pass).seen l.inbox) (line_of l.fn.conn).machine (line_of l.conn).machine;
+  lived : (t : LivedTo g.O.Journal.tells g.N.Link.Link (g.C.Clock.last l.fn.clock) (g.C.Clock.last l.clock) l.number (life_at (g.N.Dialer.told l.fn.dialer) (g.K.Sink.taken l.fn.out) (known l.fn.pass).seen l.fn.inbox)
+      (life_at (g.N.Dialer.told l.dialer) (g.K.Sink.taken l.out) (known l.pass).seen l.inbox) (line_of l.fn.conn).machine (line_of l.conn).machine)
+      × AnswersMore ⊤ (business_at g.B.Business.stands g.B.Business.plan g.B.Business.count g.B.Business.part l.fn.answering) (business_at g.B.Business.stands g.B.Business.plan g.B.Business.count g.B.Business.part l.answering) l.fn.inbox (adds_of t.ended);
   kind : SameKind l.fn.inbox l.inbox;
   inbox : faults_of l.fn.inbox ≤ faults_of l.inbox;
   out : g.K.Sink.faults l.fn.out ≤ g.K.Sink.faults l.out;
