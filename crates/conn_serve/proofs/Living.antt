@@ -13,7 +13,8 @@ use Rattle.session_model.specs.Inbox.{InboxRecord}
 use Rattle.session_model.proofs.Lists.{all_append}
 use Rattle.fixp_replies.specs.declared.act.Ending.{Ending}
 use Rattle.fixp_replies.specs.declared.act.Ending.TheVariants as endings
-use Rattle.fixp_machine.specs.Machine.{State}
+use Rattle.fixp_shake.specs.declared.phase.Phase.{Phase}
+use Rattle.fixp_machine.specs.Machine.{State, phase_of}
 use Rattle.gw_links.specs.Links.{Carried, HasCarried, CarriedNothing, carry}
 use Rattle.gw_links.specs.Dialers.{DialerTold, returned}
 use Rattle.gw_links.specs.declared.link.Link.{Ghosts as LinkGhosts}
@@ -41,7 +42,7 @@ use Rattle.conn_serve.specs.Connections.{IsOver, ByClock, Connection, IsFaithful
 use Rattle.conn_serve.specs.Lines.{news_lines, close_line, lines_from}
 use Rattle.conn_serve.specs.Causes.{lacks_at, Tells, TellsUntil, TellsNews, AreLate, TellsAll}
 use Rattle.conn_serve.specs.Turned.{TurnedOn, GivenUpOn, MayBegin}
-use Rattle.conn_serve.specs.Served.{AllCame, carried_by, IsTold, IsNextLink, IsLifeAnswer, lacks_lines, IsRoundOf, ServedLife, ServedOver, Lived, EndedOne, GaveOneUp, MadeNone, IsRound}
+use Rattle.conn_serve.specs.Served.{IsNext, AllCame, carried_by, IsTold, IsNextLink, IsLifeAnswer, lacks_lines, IsRoundOf, ServedLife, ServedOver, Lived, EndedOne, GaveOneUp, MadeNone, IsRound}
 use Rattle.conn_serve.proofs.Turning.{lines_on, tells_all, no_more}
 use Rattle.conn_serve.specs.Moments.{LifeAt, connection_at, life_at}
 
@@ -380,6 +381,20 @@ module _ {J : Type 0} {G : Ghosts J} {tells : Type 0} where
   round_given known n old new m m' (faults.Full entries bytes) is g = g
   round_given known n old new m m' faults.Turns is g = g
   round_given known n old new m m' faults.Memory is g = inr g
+
+  -- where there was no link
+  pub round_none : {L : Type 0} (carried : L → Option Carried) (known : Option Connection → Type 0) (n : ℕ) (dialed later : Option DialerTold) (out : Option (List ℕ)) (seen : History) (m : State) (box : Inbox J G) (fault : ServeFault)
+      → IsNext carried dialed later (Err fault) → ((phase : Phase) → ◌≡◌ {A = Result (Option L) ServeFault} (Err fault) (Err (faults.Unfinished phase)) → phase ≡ phase_of m) → known None
+      → IsRound tells known n (life_at dialed out seen box) (life_at later out seen box) m m (Err fault)
+  round_none carried known n dialed later out seen m box faults.Output next phase none = absurd next
+  round_none carried known n dialed later out seen m box faults.Journal next phase none = absurd next
+  round_none carried known n dialed later out seen m box (faults.Changed at) next phase none = absurd next
+  round_none carried known n dialed later out seen m box faults.Dial next phase none = (made_none dialed later out seen m box next, none)
+  round_none carried known n dialed later out seen m box (faults.Unfinished p) next phase none = (made_none dialed later out seen m box next.0, phase p refl, next.1, none)
+  round_none carried known n dialed later out seen m box (faults.Rejected template code) next phase none = absurd next
+  round_none carried known n dialed later out seen m box (faults.Full entries bytes) next phase none = absurd next
+  round_none carried known n dialed later out seen m box faults.Turns next phase none = absurd next
+  round_none carried known n dialed later out seen m box faults.Memory next phase none = absurd next
 
   pub lived_none : {L : Type 0} (P : List InboxRecord → Type 0) (G' : LinkGhosts L) (clock : ℕ) (dialed : Option DialerTold) (out : Option (List ℕ)) (seen : History) (m : State) (box : Inbox J G)
       → P [] → (l : LivedTo tells G' clock clock 1 (life_at dialed out seen box) (life_at dialed out seen box) m m) × P (adds_of l.ended)
