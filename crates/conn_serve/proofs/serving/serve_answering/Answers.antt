@@ -1,4 +1,5 @@
-use Rattle.std.proofs.Common.{⊤, inl, inr, refl, Ok, Err, ap, sym, ◌∙◌, arith}
+use Rattle.std.proofs.Common.{inl, inr, refl, Ok, Err, ap, sym, ◌∙◌, arith}
+use Rattle.std.specs.Bool.{⊤}
 use Rattle.gate_turn.specs.Places.{known}
 use Rattle.gate_senders.specs.Gate.{opening_of}
 use Rattle.conn_turns.specs.Lines.{Line}
@@ -34,7 +35,7 @@ returns-in-Some-clause-through g c =
     let took = c.resume_business.ensures in
     let old = answering_at _ _ _ _ (known c.args.pass.now) c.args.inbox.now (business_at g.B.Business.stands g.B.Business.plan g.B.Business.count g.B.Business.part c.args.answering.now) in
     let new = answering_at _ _ _ _ (known c.args.pass.now) c.resume_business.new.inbox (business_at g.B.Business.stands g.B.Business.plan g.B.Business.count g.B.Business.part c.resume_business.new.answering) in
-    let none = none_resumed (AnsweredLife ⊤ old new) g.N.Link.Link (g.C.Clock.last c.args.clock.now) _ _ _ c.args.inbox.now c.resume_business.new.inbox _ took.content took.kind.0 (life_resumed old new took.told took.read) in
+    let none = none_resumed g.O.Journal.tells (AnsweredLife ⊤ old new) g.N.Link.Link (g.C.Clock.last c.args.clock.now) _ _ _ c.args.inbox.now c.resume_business.new.inbox _ took.content took.kind.0 (life_resumed old new took.told took.read) in
     record {
       connections = Ok ends.Stopped;
       life = none.0;
@@ -51,12 +52,12 @@ returns-clause-through g c =
     let mid = answering_at _ _ _ _ (known c.args.pass.now) c.resume_business.new.inbox (business_at g.B.Business.stands g.B.Business.plan g.B.Business.count g.B.Business.part c.resume_business.new.answering) in
     let new = answering_at _ _ _ _ (known c.serve_connections.new.pass) c.serve_connections.new.inbox (business_at g.B.Business.stands g.B.Business.plan g.B.Business.count g.B.Business.part c.serve_connections.new.answering) in
     let each = AnsweredEach c.serve_connections.result in
-    let served = over_resumed (AnsweredLife each old new) g.N.Link.Link _ _ _ _ _ c.args.inbox.now c.resume_business.new.inbox (life_at _ _ _ c.serve_connections.new.inbox) _ _ c.serve_connections.result took.content took.kind.0 (ap (λ (l : Line). l.machine) c.in-Ok.ensures)
+    let served = over_resumed g.O.Journal.tells (AnsweredLife each old new) g.N.Link.Link _ _ _ _ _ c.args.inbox.now c.resume_business.new.inbox (life_at _ _ _ c.serve_connections.new.inbox) _ _ c.serve_connections.result took.content took.kind.0 (ap (λ (l : Line). l.machine) c.in-Ok.ensures)
         (one.served.0, life_more old mid new each _ took.content took.told took.read one.served.1) in
     record {
       connections = c.serve_connections.result;
       life = served.0;
-      blamed = blamed_resumed (faults_at _ _ (known c.args.pass.now) c.args.inbox.now) (faults_at _ _ (known c.args.pass.now) c.resume_business.new.inbox) (faults_at _ _ (known c.serve_connections.new.pass) c.serve_connections.new.inbox) c.serve_connections.result
+      blamed = blamed_resumed g.O.Journal.tells (faults_at _ _ (known c.args.pass.now) c.args.inbox.now) (faults_at _ _ (known c.args.pass.now) c.resume_business.new.inbox) (faults_at _ _ (known c.serve_connections.new.pass) c.serve_connections.new.inbox) c.serve_connections.result
           (omega arith) (omega arith) (omega arith) took.never_falls one.never_falls.0 (kind_resumed c.args.inbox.now c.resume_business.new.inbox took.kind (took.unbroken (sym c.refused.ensures ∙ c.in_default-refused.is))) one.blamed;
       answer = ?;
       business = inl served.1;
