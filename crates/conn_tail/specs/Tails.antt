@@ -1,5 +1,6 @@
 -- The end of a file of lines about a session (this project's profile).
 use Rattle.std.specs.Prelude.{◌≡◌, ℕ, ◌^◌, ◌<◌, ◌≤◌, List, [], ◌∷◌, ◌++◌, length, All, Option, MatchOption}
+use Rattle.hex.specs.Hex.{IsBytes}
 use Rattle.conn_lines.specs.Lines.{deliver_line}
 use Rattle.gw_lines.specs.Lines.{IsFeedless, with_feeds}
 
@@ -8,7 +9,7 @@ pub record IsDeliver (line : List ℕ) (number : ℕ) : Type 0 where
   pub size : number < 2 ^ 64
   pub payload : List ℕ
   pub short : length payload ≤ 16386
-  pub each : All (λ b. b < 256) payload
+  pub each : IsBytes payload
   pub written : line ++ 10 ∷ [] ≡ deliver_line number payload
 
 -- a line tells of no applied message

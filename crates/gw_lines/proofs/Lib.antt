@@ -1,3 +1,3 @@
 mod Fronts
-mod Steps
+pub mod Steps
 mod TextLines

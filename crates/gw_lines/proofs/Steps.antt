@@ -11,16 +11,16 @@ use Rattle.gw_lines.specs.Kept.{kept_behind, ToldOf, EndsAs}
 use Rattle.gw_lines.proofs.Fronts.{kept_tells, lost_tells, kept_more}
 
 -- more bytes behind a text
-more_behind : (lines : List (List ℕ)) (rest more : List ℕ) → with_feeds lines rest ++ more ≡ with_feeds lines (rest ++ more)
+pub more_behind : (lines : List (List ℕ)) (rest more : List ℕ) → with_feeds lines rest ++ more ≡ with_feeds lines (rest ++ more)
 more_behind [] rest more = refl
 more_behind (line ∷ lines) rest more = append_assoc line (10 ∷ with_feeds lines rest) more ∙ ap (λ (bs : List ℕ). line ++ 10 ∷ bs) (more_behind lines rest more)
 
 -- one line more
-line_behind : (lines : List (List ℕ)) (line rest : List ℕ) → with_feeds (lines ++ line ∷ []) rest ≡ with_feeds lines (line ++ 10 ∷ rest)
+pub line_behind : (lines : List (List ℕ)) (line rest : List ℕ) → with_feeds (lines ++ line ∷ []) rest ≡ with_feeds lines (line ++ 10 ∷ rest)
 line_behind [] line rest = refl
 line_behind (first ∷ lines) line rest = ap (λ (bs : List ℕ). first ++ 10 ∷ bs) (line_behind lines line rest)
 
-none_feedless : IsFeedless []
+pub none_feedless : IsFeedless []
 none_feedless k l e = absurd (omega arith)
 
 -- two parts without a line feed
