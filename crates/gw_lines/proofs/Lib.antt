@@ -1,3 +1,4 @@
 mod Fronts
+mod Returns
 pub mod Steps
 mod TextLines

@@ -1,6 +1,7 @@
 -- What a reader has given, one step after another.
-use Rattle.std.proofs.Common.{◌≡◌, ℕ, zero, suc, ◌+◌, ◌-◌, ◌<◌, ◌≤◌, ◌^◌, min, List, [], ◌∷◌, ◌++◌, length, get_or, refl, ap, sym, ◌∙◌, subst, append_assoc, append-nil, length-append, arith}
-use Rattle.std.specs.Prelude.{Option, Some, None, All}
+use Rattle.std.proofs.Common.{◌≡◌, ℕ, zero, suc, ◌+◌, ◌-◌, ◌<◌, ◌≤◌, ◌^◌, min, List, [], ◌∷◌, ◌++◌, length, take, drop, get_or, refl, ap, sym, ◌∙◌, subst, append_assoc, append-nil, length-append, arith}
+use Rattle.std.specs.Prelude.{Option, Some, All, slice_range}
+use Rattle.std.proofs.lemmas.List.{drop-drop, drop-take}
 use Rattle.std.proofs.lemmas.List.Elements.{All-push, All-nil}
 use Rattle.sbe_text.specs.Lines.{unreturned}
 use Rattle.gw_lines.specs.declared.found.Found.{Found}
@@ -25,7 +26,7 @@ none_feedless k l e = absurd (omega arith)
 
 -- two parts without a line feed
 pub feedless_append : (xs ys : List ℕ) → IsFeedless xs → IsFeedless ys → IsFeedless (xs ++ ys)
-feedless_append [] ys p q = q
+feedless_append [] ys p q k l e = q k l e
 feedless_append (x ∷ xs) ys p q zero l e = p 0 (omega arith) e
 feedless_append (x ∷ xs) ys p q (suc k) l e = feedless_append xs ys (λ j m. p (suc j) (omega arith)) q k (omega arith) e
 
@@ -33,29 +34,42 @@ pub nothing_given : (line : List ℕ) → HasGiven [] [] (record { number = 0; l
 nothing_given line = record { front = []; bytes = refl; each = All-nil IsFeedless; feedless = none_feedless; kept_is = refl; counted = refl }
 
 -- bytes are read where none wait
-pub read_more : (read more : List ℕ) (lines : List (List ℕ)) (old new : Reading) → HasGiven read lines old → old.waiting ≡ [] → new ≡ record old { waiting = more } → HasGiven (read ++ more) lines new
-read_more read more lines old new h none e = rw e (record {
+pub read_more : (read : List ℕ) (lines : List (List ℕ)) (old new : Reading) → HasGiven read lines old → old.waiting ≡ [] → new.number ≡ old.number → new.front ≡ old.front
+    → HasGiven (read ++ new.waiting) lines new
+read_more read lines old new h none number front = record {
   front = h.front;
   bytes =
-      ap (λ (bs : List ℕ). bs ++ more) (h.bytes ∙ ap (λ (bs : List ℕ). with_feeds lines (h.front ++ bs)) none ∙ ap (with_feeds lines) (append-nil h.front))
-      ∙ more_behind lines h.front more;
+      ap (λ (bs : List ℕ). bs ++ new.waiting) (h.bytes ∙ ap (λ (bs : List ℕ). with_feeds lines (h.front ++ bs)) none ∙ ap (with_feeds lines) (append-nil h.front))
+      ∙ more_behind lines h.front new.waiting;
   each = h.each;
   feedless = h.feedless;
-  kept_is = h.kept_is;
-  counted = h.counted;
-})
-
--- all that waits is looked at, and has no line feed
-pub all_looked : (read : List ℕ) (lines : List (List ℕ)) (old new : Reading) → HasGiven read lines old → IsFeedless old.waiting → new.number ≡ old.number → new.waiting ≡ []
-    → new.front ≡ kept_behind old.front old.waiting → HasGiven read lines new
-all_looked read lines old new h feedless number none front = record {
-  front = h.front ++ old.waiting;
-  bytes = h.bytes ∙ ap (with_feeds lines) (sym (append-nil (h.front ++ old.waiting)) ∙ ap (λ (bs : List ℕ). (h.front ++ old.waiting) ++ bs) (sym none));
-  each = h.each;
-  feedless = feedless_append h.front old.waiting h.feedless feedless;
-  kept_is = front ∙ ap (λ (f : Option (List ℕ)). kept_behind f old.waiting) h.kept_is ∙ kept_more h.front old.waiting;
+  kept_is = front ∙ h.kept_is;
   counted = number ∙ h.counted;
 }
+
+-- all that waits is looked at, and has no line feed
+pub all_looked : (read : List ℕ) (lines : List (List ℕ)) (old new : Reading) (part : List ℕ) → HasGiven read lines old → old.waiting ≡ part → IsFeedless part → new.number ≡ old.number
+    → new.waiting ≡ [] → new.front ≡ kept_behind old.front part → HasGiven read lines new
+all_looked read lines old new part h waits feedless number none front = record {
+  front = h.front ++ part;
+  bytes =
+      h.bytes ∙ ap (λ (bs : List ℕ). with_feeds lines (h.front ++ bs)) waits
+      ∙ ap (with_feeds lines) (sym (append-nil (h.front ++ part)) ∙ ap (λ (bs : List ℕ). (h.front ++ part) ++ bs) (sym none));
+  each = h.each;
+  feedless = feedless_append h.front part h.feedless feedless;
+  kept_is = front ∙ ap (λ (f : Option (List ℕ)). kept_behind f part) h.kept_is ∙ kept_more h.front part;
+  counted = number ∙ h.counted;
+}
+
+-- nothing stands between a place and itself
+pub none_between : (xs : List ℕ) (n : ℕ) → slice_range xs n n ≡ []
+none_between xs n = let none : n - n ≡ 0 = omega arith in ap (λ (k : ℕ). take k (drop n xs)) none
+
+-- what stands behind the front of a range
+pub range_behind : (xs : List ℕ) (start end n : ℕ) → start + n ≤ end → slice_range xs (start + n) end ≡ drop n (slice_range xs start end)
+range_behind xs start end n within =
+    let size : n + (end - (start + n)) ≡ end - start = omega arith in
+    ap (take (end - (start + n))) (sym (drop-drop n start xs)) ∙ sym (drop-take n (end - (start + n)) (drop start xs)) ∙ ap (λ (k : ℕ). drop n (take k (drop start xs))) size
 
 -- a number that is not passed, after one more
 capped : (b a n most : ℕ) → a ≡ min n most → b ≡ min (a + 1) most → b ≡ min (n + 1) most

@@ -62,7 +62,6 @@ impl Front {
             fill(&mut self.bytes, more);
         } else {
             self.is_over = true;
-            self.bytes.clear();
         }
     }
 
@@ -75,6 +74,7 @@ impl Front {
     {
         if self.is_over {
             self.is_over = false;
+            self.bytes.clear();
             return Found::TooLong;
         }
         mem::swap(&mut self.bytes, line);

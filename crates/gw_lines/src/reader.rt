@@ -1,6 +1,6 @@
 //! A reader of lines: it reads its source a piece at a time, and goes once over the bytes.
 
-ghost use Rattle.std.specs.Prelude.{◌≡◌, ℕ, ◌+◌, ◌<◌, ◌≤◌, ◌-◌, ◌^◌, List, [], ◌∷◌, ◌++◌, length, min, drop, Some, IfOk, IfSome, IfNone, OnErr, vec_capacity};
+ghost use Rattle.std.specs.Prelude.{◌≡◌, ℕ, ◌+◌, ◌<◌, ◌≤◌, ◌-◌, ◌^◌, List, [], ◌∷◌, ◌++◌, length, min, take, drop, Some, IfOk, IfSome, IfNone, OnErr, vec_capacity};
 ghost use Rattle.std.specs.Io.KnownBytes.{Consumes, IsAtEnd, Keeps};
 ghost use Rattle.gw_outside.specs.Faults.{HasCause};
 ghost use Rattle.sbe_text.specs.Lines.{unreturned};
@@ -57,14 +57,28 @@ fn before_feed(bytes: &[u8]) -> Option<&[u8]>
     None
 }
 
+/// How many bytes a line has without the carriage return at its end.
+#[tactic(auto, using(crate::proofs::Returns::without_return, crate::proofs::Returns::with_none))]
+fn size_said(line: &[u8]) -> usize
+    ensures { take result line.now ≡ unreturned line.now }
+{
+    let Some((last, front)) = line.split_last() else {
+        return 0;
+    };
+    if *last == b'\r' {
+        front.len()
+    } else {
+        line.len()
+    }
+}
+
 /// Takes a line's carriage return from its end.
 fn drop_return(line: &mut Vec<u8>)
     ensures items { line.new.items ≡ unreturned line.old.items }
     ensures room { vec_capacity line.old ≤ vec_capacity line.new }
 {
-    if let Some(&b'\r') = line.as_slice().last() {
-        let _return = line.pop();
-    }
+    let size = size_said(line.as_slice());
+    line.truncate(size);
 }
 
 impl LineReader {
