@@ -1,12 +1,12 @@
 -- What a reader has given, one step after another.
-use Rattle.std.proofs.Common.{◌≡◌, ℕ, zero, suc, ◌+◌, ◌-◌, ◌<◌, ◌≤◌, ◌^◌, min, List, [], ◌∷◌, ◌++◌, length, take, drop, get_or, refl, ap, sym, ◌∙◌, subst, append_assoc, append-nil, length-append, arith}
-use Rattle.std.specs.Prelude.{Option, Some, All, slice_range}
+use Rattle.std.proofs.Common.{◌≡◌, ℕ, zero, suc, ◌+◌, ◌-◌, ◌<◌, ◌≤◌, ◌^◌, min, List, [], ◌∷◌, ◌++◌, length, take, drop, refl, ap, sym, ◌∙◌, subst, append_assoc, append-nil, length-append, arith}
+use Rattle.std.specs.Prelude.{Option, Some, slice_range}
 use Rattle.std.proofs.lemmas.List.{drop-drop, drop-take}
 use Rattle.std.proofs.lemmas.List.Elements.{All-push, All-nil}
 use Rattle.sbe_text.specs.Lines.{unreturned}
 use Rattle.gw_lines.specs.declared.found.Found.{Found}
 use Rattle.gw_lines.specs.declared.found.Found.TheVariants.{Whole, TooLong}
-use Rattle.gw_lines.specs.Lines.{longest, IsFeedless, with_feeds, IsTold}
+use Rattle.gw_lines.specs.Lines.{IsFeedless, with_feeds, IsTold}
 use Rattle.gw_lines.specs.Reading.{Reading, kept, HasGiven, GivesNext, GivesLast}
 use Rattle.gw_lines.specs.Kept.{kept_behind, ToldOf, EndsAs}
 use Rattle.gw_lines.proofs.Fronts.{kept_tells, lost_tells, kept_more}

@@ -1,4 +1,4 @@
-use Rattle.std.proofs.Common.{◌≡◌, ap}
+use Rattle.std.proofs.Common.{ap}
 use Rattle.gw_lines.specs.Reading.{Reading}
 use Rattle.gw_lines.proofs.Steps.{read_more}
 use Rattle.gw_lines.proofs.reader.LineReader.read.Goals as goal
