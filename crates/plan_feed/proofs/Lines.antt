@@ -1,5 +1,5 @@
 -- Laws of what lines say.
-use Rattle.std.proofs.Common.{◌≡◌, ℕ, ◌+◌, ◌*◌, ◌<◌, ◌≤◌, ◌^◌, ◌⊎◌, inl, inr, List, ◌∷◌, ◌++◌, length, refl, ap, sym, subst, ◌∙◌, length-append, decimal, arith}
+use Rattle.std.proofs.Common.{◌≡◌, ℕ, suc, ◌+◌, ◌*◌, ◌<◌, ◌≤◌, ◌^◌, ◌⊎◌, inl, inr, List, ◌∷◌, ◌++◌, length, refl, ap, sym, subst, ◌∙◌, length-append, decimal, arith}
 use Rattle.std.specs.Prelude.{Ok}
 use Rattle.std.proofs.lemmas.Fmt.{length-decimal-le}
 use Rattle.hex.specs.Hex.{decode_of}
@@ -57,5 +57,5 @@ givers_are_short senders line g few gives =
     let all : length line ≡ length (decimal g.sender) + length (32 ∷ gives.digits) = ap length gives.written ∙ length-append (decimal g.sender) (32 ∷ gives.digits) in
     sized (length line) (length (decimal g.sender)) (length gives.digits) (length g.payload) (length a.frame.message) all word digits.2 payload most
   where
-    sized : (line word digits payload message : ℕ) → line ≡ word + (digits + 1) → word ≤ 5 → digits ≡ 2 * payload → 2 + message ≡ payload → message ≤ 16384 → line ≤ 32778
+    sized : (line word digits payload message : ℕ) → line ≡ word + suc digits → word ≤ 5 → digits ≡ 2 * payload → 2 + message ≡ payload → message ≤ 16384 → line ≤ 32778
     sized line word digits payload message all few twice parts most = omega arith

@@ -88,14 +88,24 @@ abbrev pub Says : ℕ → List ℕ → Fed → Type 0
 Says senders line (fed.Payload sender payload) = Gives senders line (record { sender = sender; payload = payload })
 Says senders line (fed.Wrong wrong) = IsWrong senders line wrong
 
--- why, in words
+-- a payload has so many bytes, which are too few or too many
+unfoldable pub size_words : ℕ → List ℕ
+size_words bytes = codes "its payload has " ++ decimal bytes ++ codes " bytes, and a frame's encoding type and an application message have 10 to 16386"
+
+-- a payload begins with this number, which is no encoding type
+unfoldable pub encoding_words : ℕ → List ℕ
+encoding_words found = codes "its payload begins with the encoding type " ++ encode_lower (to_be_bytes w16 found) ++ codes ", neither eb50 nor 5be0"
+
+-- the message of a payload is none of an application
+unfoldable pub session_words : List ℕ
+session_words = codes "its payload is no application message: its schema id is that of the session"
+
+-- why a line gives nothing to one of so many senders, in words
 abbrev pub wrong_words : ℕ → Wrong → List ℕ
 wrong_words senders NoSenders = codes "no line is awaited, since there are no senders"
 wrong_words senders Form = codes "a sender from 1 to " ++ decimal senders ++ codes ", a blank and a payload in hexadecimal are awaited here"
 wrong_words senders (Sender number) = codes "sender " ++ decimal number ++ codes " is not from 1 to " ++ decimal senders
 wrong_words senders Digits = codes "its payload is not in pairs of hexadecimal digits"
-wrong_words senders (Size bytes) =
-    codes "its payload has " ++ decimal bytes ++ codes " bytes, and a frame's encoding type and an application message have 10 to 16386"
-wrong_words senders (Encoding found) =
-    codes "its payload begins with the encoding type " ++ encode_lower (to_be_bytes w16 found) ++ codes ", neither eb50 nor 5be0"
-wrong_words senders Session = codes "its payload is no application message: its schema id is that of the session"
+wrong_words senders (Size bytes) = size_words bytes
+wrong_words senders (Encoding found) = encoding_words found
+wrong_words senders Session = session_words

@@ -1,8 +1,8 @@
 //! Why a line gives no payload to a sender, and the words for it.
 
-ghost use Rattle.std.specs.Prelude.{◌≡◌, ℕ, ◌++◌, OnOk};
-ghost use Rattle.plan_feed.specs.declared.wrong.Wrong.TheVariants.{Form, Sender, Size, Encoding};
-ghost use Rattle.plan_feed.specs.Wrongs.{wrong_words};
+ghost use Rattle.std.specs.Prelude.{◌≡◌, ◌++◌, OnOk};
+ghost use Rattle.plan_feed.specs.declared.wrong.Wrong.TheVariants.{Form, Sender};
+ghost use Rattle.plan_feed.specs.Wrongs.{encoding_words, session_words, size_words, wrong_words};
 
 use std::alloc::AllocError;
 use text_words::{push_hex, push_number};
@@ -44,9 +44,7 @@ pub fn push_wrong(lines: &mut Vec<u8>, senders: u16, wrong: Wrong) -> Result<(),
         }
         Wrong::Size { bytes } => push_size(lines, bytes),
         Wrong::Encoding { found } => push_encoding(lines, found),
-        Wrong::Session => lines.extend_from_slice(
-            b"its payload is no application message: its schema id is that of the session",
-        ),
+        Wrong::Session => push_session(lines),
     }
 }
 
@@ -63,24 +61,37 @@ fn push_sender(lines: &mut Vec<u8>, senders: u16, number: u64) -> Result<(), All
     ensures { OnOk result (lines.new.items ≡ lines.old.items ++ wrong_words senders (Sender number)) }
 {
     push_number(lines, b"sender ", number)?;
-    push_number(lines, b" is not from 1 to ", u64::from(senders))
+    push_number(lines, b" is not from 1 to ", u64::from(senders))?;
+    Ok(())
 }
 
 /// Adds that a payload has too few or too many bytes.
 fn push_size(lines: &mut Vec<u8>, bytes: u64) -> Result<(), AllocError>
-    ensures { OnOk result ((senders : ℕ) → lines.new.items ≡ lines.old.items ++ wrong_words senders (Size bytes)) }
+    ensures { OnOk result (lines.new.items ≡ lines.old.items ++ size_words bytes) }
 {
     push_number(lines, b"its payload has ", bytes)?;
     lines.extend_from_slice(
         b" bytes, and a frame's encoding type and an application message have 10 to 16386",
-    )
+    )?;
+    Ok(())
 }
 
 /// Adds that a payload begins with no encoding type.
 fn push_encoding(lines: &mut Vec<u8>, found: u16) -> Result<(), AllocError>
-    ensures { OnOk result ((senders : ℕ) → lines.new.items ≡ lines.old.items ++ wrong_words senders (Encoding found)) }
+    ensures { OnOk result (lines.new.items ≡ lines.old.items ++ encoding_words found) }
 {
     lines.extend_from_slice(b"its payload begins with the encoding type ")?;
     push_hex(lines, &found.to_be_bytes())?;
-    lines.extend_from_slice(b", neither eb50 nor 5be0")
+    lines.extend_from_slice(b", neither eb50 nor 5be0")?;
+    Ok(())
+}
+
+/// Adds that a message is none of an application.
+fn push_session(lines: &mut Vec<u8>) -> Result<(), AllocError>
+    ensures { OnOk result (lines.new.items ≡ lines.old.items ++ session_words) }
+{
+    lines.extend_from_slice(
+        b"its payload is no application message: its schema id is that of the session",
+    )?;
+    Ok(())
 }
