@@ -35,12 +35,7 @@ fn payload_of(alloc: Global, digits: &[u8]) -> Result<Option<Vec<u8>>, AllocErro
 }
 
 /// Whether a line is written of this number and this payload.
-fn is_written(
-    alloc: Global,
-    number: u64,
-    payload: &[u8],
-    line: &[u8],
-) -> Result<bool, AllocError>
+fn is_written(alloc: Global, number: u64, payload: &[u8], line: &[u8]) -> Result<bool, AllocError>
     requires { length payload.now ≤ 2 ^ 20 }
     ensures { IfOk result (λ is. IsTrue is ↔ (line.now ++ 10 ∷ [] ≡ deliver_line number payload.now)) }
 {

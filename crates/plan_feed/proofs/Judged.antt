@@ -1,17 +1,16 @@
 -- What bytes lack to be the payload of an application message.
-use Rattle.std.proofs.Common.{◌≡◌, ℕ, zero, suc, ◌+◌, ◌<◌, ◌≤◌, ◌^◌, ◌⊎◌, inl, inr, List, [], ◌∷◌, ◌++◌, length, take, drop, refl, ap, sym, subst, ◌∙◌, length-append, arith}
+use Rattle.std.proofs.Common.{◌≡◌, ℕ, ◌+◌, ◌<◌, ◌≤◌, ◌^◌, ◌⊎◌, inl, inr, List, ◌++◌, length, take, drop, refl, ap, sym, ◌∙◌, length-append, arith}
 use Rattle.std.specs.Prelude.{Some, None}
 use Rattle.std.specs.Int.{w16, to_be_bytes, from_be_bytes}
 use Rattle.std.proofs.lemmas.Nat.{from_be_bytes-to_be_bytes_2}
 use Rattle.sbe_prim.specs.declared.Order.{Order}
 use Rattle.sbe_prim.specs.declared.Order.TheVariants.{Little, Big}
 use Rattle.sofh_frame.specs.Framing.{encoding_of, order_of}
-use Rattle.fixp_msgs.specs.declared.frames.FrameKind.TheVariants.{App}
 use Rattle.fixp_msgs.specs.Header.{kind_of}
 use Rattle.fixp_msgs.specs.Payload.{IsApplication}
 use Rattle.plan_feed.specs.declared.wrong.Wrong.{Wrong}
 use Rattle.plan_feed.specs.declared.wrong.Wrong.TheVariants.{NoSenders, Form, Sender, Digits, Size, Encoding, Session}
-use Rattle.plan_feed.specs.Wrongs.{IsMessage, HasOther, HasSession, IsLacking}
+use Rattle.plan_feed.specs.Wrongs.{HasSession, IsLacking}
 
 two_bytes : (n : ℕ) → length (to_be_bytes w16 n) ≡ 2
 two_bytes n = refl

@@ -1,6 +1,5 @@
 -- Laws of what lines say.
-use Rattle.std.proofs.Common.{◌≡◌, ℕ, suc, ◌+◌, ◌*◌, ◌<◌, ◌≤◌, ◌^◌, ◌⊎◌, inl, inr, List, ◌∷◌, ◌++◌, length, refl, ap, sym, subst, ◌∙◌, length-append, decimal, arith}
-use Rattle.std.specs.Prelude.{Ok}
+use Rattle.std.proofs.Common.{◌≡◌, ℕ, suc, ◌+◌, ◌*◌, ◌<◌, ◌≤◌, ◌^◌, ◌⊎◌, inl, inr, List, ◌∷◌, ◌++◌, length, ap, sym, subst, ◌∙◌, length-append, decimal, arith}
 use Rattle.std.proofs.lemmas.Fmt.{length-decimal-le}
 use Rattle.hex.specs.Hex.{decode_of}
 use Rattle.hex.proofs.HexLemmas.{decode_of-ok, decode_of-same}
@@ -11,7 +10,7 @@ use Rattle.std.specs.Int.{w16, to_be_bytes}
 use Rattle.plan_text.specs.Plans.{Gift, Gives}
 use Rattle.plan_feed.specs.declared.wrong.Wrong.{Wrong}
 use Rattle.plan_feed.specs.declared.wrong.Wrong.TheVariants.{NoSenders, Form, Sender, Digits, Size, Encoding, Session}
-use Rattle.plan_feed.specs.Wrongs.{BeginsWith, IsWrong, GivesLacking}
+use Rattle.plan_feed.specs.Wrongs.{GivesLacking}
 use Rattle.plan_feed.specs.Laws.{WrongGivesNothing, GiversAreShort}
 use Rattle.plan_feed.proofs.Judged.{lacks_nothing}
 

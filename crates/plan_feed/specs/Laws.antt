@@ -1,5 +1,5 @@
 -- Laws of what lines say.
-use Rattle.std.specs.Prelude.{◌≡◌, ℕ, ◌^◌, ◌<◌, ◌≤◌, List, length}
+use Rattle.std.specs.Prelude.{ℕ, ◌^◌, ◌<◌, ◌≤◌, List, length}
 use Rattle.plan_text.specs.Plans.{Gift, Gives}
 use Rattle.plan_feed.specs.declared.wrong.Wrong.{Wrong}
 use Rattle.plan_feed.specs.Wrongs.{IsWrong}

@@ -1,5 +1,5 @@
 -- What a line says, and why it gives no payload to a sender (this project's profile).
-use Rattle.std.specs.Prelude.{◌≡◌, ℕ, ◌^◌, ◌<◌, ◌≤◌, ◌⊎◌, List, [], ◌∷◌, ◌++◌, length, codes, decimal, Some, None, Ok}
+use Rattle.std.specs.Prelude.{◌≡◌, ℕ, ◌^◌, ◌<◌, ◌≤◌, ◌⊎◌, List, ◌∷◌, ◌++◌, length, codes, decimal, None, Ok}
 use Rattle.std.specs.Int.{w16, to_be_bytes}
 use Rattle.hex.specs.Hex.{decode_of, encode_lower}
 use Rattle.sofh_frame.specs.Framing.{Frame, encoding_of, order_of}

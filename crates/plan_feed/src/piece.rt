@@ -62,9 +62,7 @@ impl Piece {
         if self.plan.len() == 0 {
             return true;
         }
-        sender == self.sender
-            && self.plan.len() < MOST_MESSAGES
-            && size <= MOST_BYTES - self.bytes
+        sender == self.sender && self.plan.len() < MOST_MESSAGES && size <= MOST_BYTES - self.bytes
     }
 
     /// Adds a message behind the others.

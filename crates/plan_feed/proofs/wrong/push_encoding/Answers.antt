@@ -1,4 +1,4 @@
-use Rattle.std.proofs.Common.{codes, ap, ◌∙◌, ◌++◌, List, ℕ}
+use Rattle.std.proofs.Common.{codes}
 use Rattle.std.specs.Int.{w16, to_be_bytes}
 use Rattle.hex.specs.Hex.{encode_lower}
 use Rattle.plan_feed.specs.Wrongs.{encoding_words}
