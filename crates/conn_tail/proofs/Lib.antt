@@ -1,0 +1,4 @@
+mod Contents
+mod Whole
+mod Walk
+mod Delivers
