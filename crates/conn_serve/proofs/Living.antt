@@ -410,17 +410,16 @@ module _ {J : Type 0} {G : Ghosts J} {tells : Type 0} where
 
   pub lived_none : {L : Type 0} (P : List InboxRecord → Type 0) (G' : LinkGhosts L) (clock : ℕ) (dialed : Option DialerTold) (out : Option (List ℕ)) (seen : History) (m : State) (box : Inbox J G)
       → P [] → (l : LivedTo tells G' clock clock 1 (life_at dialed out seen box) (life_at dialed out seen box) m m) × P (adds_of l.ended)
-  lived_none P G' clock dialed out seen m box known =
-      (
-        record {
-          ended = [];
-          links = tt;
-          clock = omega arith;
-          number = refl;
-          lived = record { were = (refl, refl); gains = gains_none box box refl; lines = Appends-nil out; came = came_none dialed; tells = λ told. All-nil IsTold; timely = tt; faithful = λ t. tt; followed = All-nil IsFollowed };
-        },
-        known,
-      )
+  lived_none P G' clock dialed out seen m box known = (
+    record {
+      ended = [];
+      links = tt;
+      clock = omega arith;
+      number = refl;
+      lived = record { were = (refl, refl); gains = gains_none box box refl; lines = Appends-nil out; came = came_none dialed; tells = λ told. All-nil IsTold; timely = tt; faithful = λ t. tt; followed = All-nil IsFollowed };
+    },
+    known,
+  )
 
   pub lived_more : {L : Type 0} (P Q R : List InboxRecord → Type 0) (G' : LinkGhosts L) (p q t n : ℕ) (old mid new : LifeAt J G) (m m' m'' : State)
       → ((l : LivedTo tells G' p q n old mid m m') × P (adds_of l.ended)) → IsRound tells (IsRoundOf G' q t Q) n mid new m' m'' (Ok None) → Joined P Q R old mid

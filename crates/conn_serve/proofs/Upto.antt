@@ -1,10 +1,10 @@
 -- How far a business answered: turn by turn, and connection by connection.
-use Rattle.std.proofs.Common.{◌≡◌, ◌≢◌, ◌⊎◌, inl, inr, ℕ, ◌≤◌, Bool, true, false, true≢false, List, [], ◌∷◌, ◌++◌, length, is_some, Option, Some, None, Result, Ok, Err, refl, sym, ap, subst, ◌∙◌, arith, append-nil, append_assoc}
+use Rattle.std.proofs.Common.{◌≡◌, ◌≢◌, ◌⊎◌, inl, inr, ℕ, Bool, true, false, true≢false, List, [], ◌∷◌, ◌++◌, length, is_some, Option, Some, None, Result, Ok, Err, refl, sym, ap, subst, ◌∙◌, append-nil, append_assoc}
 use Rattle.std.specs.Bool.{⊤}
 use Rattle.std.proofs.Math.Logic.{∥∥₁_map}
 use Rattle.std.proofs.lemmas.Option.{none-some}
 use mathlib.Core.List.{IsPrefix}
-use Rattle.session_model.specs.Inbox.{InboxRecord, apply, skip, negotiated, peer_finished, applied, payloads_of, has_peer_finished}
+use Rattle.session_model.specs.Inbox.{InboxRecord, apply, skip, negotiated, peer_finished, applied, has_peer_finished}
 use Rattle.session_model.specs.Plans.{GoesOn}
 use Rattle.session_model.proofs.Lists.{prefix_self, prefix_of_append, prefix_trans}
 use Rattle.fixp_machine.specs.Machine.{State}
@@ -31,7 +31,6 @@ use Rattle.turn_laws.specs.Turns.{adds_in, tells_in}
 use Rattle.conn_steps.specs.Settling.{Gains}
 use Rattle.conn_door.specs.declared.answer.ServeFault.{ServeFault}
 use Rattle.conn_door.specs.declared.answer.LifeEnd.{LifeEnd}
-use Rattle.conn_door.specs.Answers.{submit_fault}
 use Rattle.conn_serve.specs.Answering.{call_fault, resume_fault, messages_of, BusinessAt, AnsweredTo, Answers, AnswersMore, AnsweringAt, AnsweredLife, AnsweredEach}
 use Rattle.conn_serve.specs.Moments.{LifeAt}
 use Rattle.conn_serve.specs.Served.{IsRound, IsRoundOf}
@@ -229,7 +228,7 @@ module _ {J : Type 0} {G : Ghosts J} where
     pub more_turn : (d : BusinessAt) (mid new : Inbox J G) (told finished : Bool) (news : List NewsItem) (xs ys : List InboxRecord) → Gains box mid xs → Gains mid new ys
         → told ≡ is_some (peer_last_of mid) → finished ≡ is_some (peer_last_of new) → delivered_in news ≡ messages_of ys
         → ((p : ℕ → Part) (opening : List InboxRecord) (before : List (List ℕ)) (adds more : List InboxRecord) → told ≡ has_peer_finished (opening ++ adds) → finished ≡ has_peer_finished (opening ++ (adds ++ more)) → delivered_in news ≡ messages_of more
-          → Answers ⊤ c p opening before adds → Answers ⊤ d p opening before (adds ++ more))
+        → Answers ⊤ c p opening before adds → Answers ⊤ d p opening before (adds ++ more))
         → AnswersMore ⊤ b c box xs → AnswersMore ⊤ b d box (xs ++ ys)
     more_turn d mid new told finished news xs ys gains later was is delivered call m p opening before adds h a =
         let h' : HoldsBox mid (opening ++ (adds ++ xs)) [] = subst (λ l. HoldsBox mid l []) (append_assoc opening adds xs) (gains.holds (opening ++ adds) h) in

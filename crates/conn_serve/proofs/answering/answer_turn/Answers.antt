@@ -1,4 +1,4 @@
-use Rattle.std.proofs.Common.{◌≡◌, false, ap, length, sym, ◌∙◌, arith}
+use Rattle.std.proofs.Common.{ap, length, sym, ◌∙◌, arith}
 use Rattle.std.specs.Bool.{⊤}
 use Rattle.conn_turns.specs.News.{items_of}
 use Rattle.conn_turns.proofs.Delivering.{delivered_few}

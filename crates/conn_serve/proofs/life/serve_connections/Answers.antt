@@ -1,11 +1,10 @@
-use Rattle.std.proofs.Common.{Ok, refl, ap, subst, ◌∙◌, arith}
+use Rattle.std.proofs.Common.{Ok, refl, ap, ◌∙◌, arith}
 use Rattle.std.specs.Bool.{⊤}
 use Rattle.gate_turn.specs.Places.{known}
 use Rattle.conn_steps.proofs.Inboxes.{kind_self, kind_on}
 use Rattle.conn_loop.proofs.Working.{looks_self, looks_on}
 use Rattle.conn_serve.specs.Answers.{IsOfTurn}
-use Rattle.conn_serve.specs.Answering.{business_at, AnswersMore, AnsweredEach}
-use Rattle.conn_serve.specs.Served.{IsRound, IsRoundOf}
+use Rattle.conn_serve.specs.Answering.{business_at, AnswersMore}
 use Rattle.conn_serve.proofs.Making.{blamed_since}
 use Rattle.conn_serve.proofs.Living.{lived_none, lived_more, over_stopped, over_ok, over_err}
 use Rattle.conn_serve.proofs.Upto.{more_none, more_on, round_at}

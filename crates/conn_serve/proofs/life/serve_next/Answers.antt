@@ -4,7 +4,7 @@ use Rattle.gate_turn.specs.Places.{known}
 use Rattle.conn_loop.specs.Conn.{line_of}
 use Rattle.conn_serve.specs.Answers.{IsOfTurn, end_behind}
 use Rattle.conn_serve.specs.Answering.{business_at, AnswersMore, AnsweredEach}
-use Rattle.conn_serve.specs.Served.{IsRoundOf, IsRound, IsNext}
+use Rattle.conn_serve.specs.Served.{IsNext}
 use Rattle.conn_serve.proofs.Upto.{more_none, more_weaker, round_at}
 use Rattle.conn_serve.proofs.Living.{may_begin, made_none, round_none, lost_at, ended_one, gave_one, round_lacking, round_ended, round_given}
 use Rattle.conn_serve.specs.Moments.{life_at}

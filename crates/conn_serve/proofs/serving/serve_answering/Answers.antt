@@ -53,7 +53,7 @@ returns-clause-through g c =
     let new = answering_at _ _ _ _ (known c.serve_connections-connections.new.pass) c.serve_connections-connections.new.inbox (business_at g.B.Business.stands g.B.Business.plan g.B.Business.count g.B.Business.part c.serve_connections-connections.new.answering) in
     let each = AnsweredEach c.serve_connections-connections.result in
     let served = over_resumed g.O.Journal.tells (AnsweredLife each old new) g.N.Link.Link _ _ _ _ _ c.args.inbox.now c.resume_business.new.inbox (life_at _ _ _ c.serve_connections-connections.new.inbox) _ _ c.serve_connections-connections.result took.content took.kind.0 (ap (λ (l : Line). l.machine) c.in-Ok.ensures)
-        (one.served.0, life_more old mid new each _ took.content took.told took.read one.served.1) in
+    (one.served.0, life_more old mid new each _ took.content took.told took.read one.served.1) in
     record {
       connections = c.serve_connections-connections.result;
       life = served.0;
