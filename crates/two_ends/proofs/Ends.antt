@@ -118,7 +118,7 @@ last_zip h s inbox (Some r) awaits enough range payloads k timely =
 last_refuses : (h : List Entry) (s : State) (inbox : List InboxRecord) (q : Option RefusedLeg) → s.facts.recorded.inbox_next ≡ next_number inbox → s.facts.recorded.sent ≤ length h
     → IfSome q (IsRefusedOn h s inbox) → IfSome (option_map (refused_leg s inbox) q) (MayRefuse h s inbox)
 last_refuses h s inbox None awaits enough k = tt
-last_refuses h s inbox (Some r) awaits enough k = record { runs = turns_run h s inbox r.leg awaits enough k.turns; waits = k.waits }
+last_refuses h s inbox (Some r) awaits enough k = record { runs = turns_run h s inbox r.leg awaits enough k.turns; refuses = k.refuses }
 
 -- a life of the loop is one of the machine
 record IsLife (own peer : Flow) (l : LoopLife) : Type 0 where

@@ -274,6 +274,7 @@ call_fits (calls.live payloads now) fits time = tt
 call_fits (calls.again payloads now) fits time = tt
 call_fits (calls.taken count) fits time = tt
 call_fits calls.reserve fits time = tt
+call_fits calls.held_done fits time = tt
 
 each_fits : (cs : List Call) → AllByRecursion FitsIncoming (came cs) → AllByRecursion IsOnTime cs → AllByRecursion FitsCall cs
 each_fits [] fits time = tt
