@@ -49,7 +49,8 @@ use Rattle.honest_ends.specs.Knowing.{Knows, StartsKnown, goes_back}
 use Rattle.honest_ends.specs.Numbered.{Numbered, Follows, Expects, TellsNext, awaits, next_live}
 use Rattle.honest_ends.proofs.NumberLaws.{numbered_holds}
 use Rattle.honest_ends.specs.FinishLaws.{NoFinish}
-use Rattle.honest_ends.proofs.Behind.{Behind, Brings, Begins, Exact, last_entry, heard_by_reader, heard_by_writer, told_behind, kept_behind, none_late, open_not_closing}
+use Rattle.honest_ends.proofs.Behind.{Behind, Brings, Begins, Exact, last_entry, heard_by_reader, heard_by_writer, told_behind, kept_behind, none_late}
+use Rattle.honest_ends.proofs.Held.{open_not_closing}
 use Rattle.honest_ends.proofs.Meeting.{begins_behind, first_behind}
 
 -- a world that some steps have reached from the beginning

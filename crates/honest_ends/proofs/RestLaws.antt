@@ -28,7 +28,7 @@ use Rattle.honest_ends.specs.Numbered.{Expects, Follows, ReturnsFirst, awaits, a
 use Rattle.honest_ends.proofs.Awaiting.{awaited_then, live_is, inbox_of}
 use Rattle.honest_ends.proofs.Numbering.{counted_at_first, counted_after, numbered_of}
 use Rattle.honest_ends.specs.Finished.{IsLast, Tells}
-use Rattle.honest_ends.proofs.Behind.{open_not_closing}
+use Rattle.honest_ends.proofs.Held.{open_not_closing}
 use Rattle.honest_ends.proofs.FinishLaws.{finished_holds}
 use Rattle.honest_ends.specs.Resting.{IsIdle, HasAll, EndsLast}
 use Rattle.honest_ends.specs.RestLaws.{QuietHasAll, OverHasAll, RestHasAll, StaysEnded, AllIsEqual}
