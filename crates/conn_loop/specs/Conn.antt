@@ -46,11 +46,12 @@ pub record HasSeen (m : State) (p : Part) : Type 0 where
   pub entries : m.facts.recorded.sent ≤ length p.seen.made
   pub finish : IfSome m.facts.recorded.finish (λ n. (p.seen.finished ≡ true) × (length p.seen.made ≡ n))
 
--- between two calls of a turn nothing else changed: no act is pending that was not, the same is recorded and still to be told, no
--- moment lies ahead, and little more is unsent
+-- between two calls of a turn nothing else changed: no act is pending that was not, and no held message to be applied, the same is
+-- recorded and still to be told, no moment lies ahead, and little more is unsent
 pub record KeepsAll (old new : State) (now : ℕ) : Type 0 where
   pub begun : new.begun ≡ old.begun
   pub done : old.pending ≡ None → new.pending ≡ None
+  pub drained : front_of old ≡ None → front_of new ≡ None
   pub config : new.config ≡ old.config
   pub most : new.most ≡ old.most
   pub recorded : new.facts.recorded ≡ old.facts.recorded
