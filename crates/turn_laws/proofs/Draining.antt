@@ -115,14 +115,11 @@ stuck m (suc k) none = stuck (step m held_done) k (ap (λ (o : Option Numbered).
 
 pub were_ready : (m : State) (k : ℕ) (next : Numbered) → front_of (run m (replicate k held_done)) ≡ Some next → k ≤ length (ready_in m)
 were_ready m zero next awaits = omega arith
-were_ready m (suc k) next awaits = by_front (front_of m) refl
+were_ready m (suc k) next awaits = by_front (were_ready (step m held_done) k next awaits) (front_of m) refl
   where
-    by_front : (o : Option Numbered) → front_of m ≡ o → suc k ≤ length (ready_in m)
-    by_front None e = absurd (cc (stuck m (suc k) e, awaits))
-    by_front (Some first) e =
-        let is = ap (λ (ms : List Numbered). length ms) (ready_held m first e) in
-        let rest = were_ready (step m held_done) k next awaits in
-        omega (arith, is, rest)
+    by_front : k ≤ length (ready_in (step m held_done)) → (o : Option Numbered) → front_of m ≡ o → suc k ≤ length (ready_in m)
+    by_front rest None e = absurd (cc (stuck m (suc k) e, awaits))
+    by_front rest (Some first) e = let is = ap (λ (ms : List Numbered). length ms) (ready_held m first e) in omega (arith, is, rest)
 
 -- an act with which a connection ends leaves none awaited
 pub act_open : (now : ℕ) (l : Line) (t : TakenFrame) → t.recorded ≡ is_record (reply_at now l t).act → IsSome (front_of (run l.machine (act_calls now t))) → (run l.machine (act_calls now t)).ending ≡ None

@@ -1,7 +1,7 @@
 -- Each call of a turn may come where it came.
 use Rattle.turn_laws.proofs.Draining.{link_drained, first_drained, frames_drained, closing_drained, again_calls_drained, live_calls_drained, finish_calls_drained, sending_drained, helds_ready}
 use Rattle.conn_turns.specs.Refusals.{IsRefused}
-use Rattle.std.proofs.Common.{◌≡◌, ℕ, Bool, true, false, ◌&&◌, if◌then◌else◌, List, [], ◌∷◌, ◌++◌, length, Option, Some, None, refl, sym, ap, subst, ◌∙◌, true≢false}
+use Rattle.std.proofs.Common.{◌≡◌, ℕ, Bool, true, false, ◌&&◌, if◌then◌else◌, List, [], ◌∷◌, ◌++◌, length, Option, Some, None, refl, sym, ap, subst, ◌∙◌, true≢false, ◌<◌}
 use Rattle.std.specs.Prelude.{IfSome, is_none, nat_lt}
 use mathlib.Core.List.{IsPrefix}
 use Rattle.session_model.specs.Journal.{Entry, History}
@@ -11,7 +11,7 @@ use Rattle.fixp_replies.specs.declared.act.Ending.{Ending}
 use Rattle.fixp_machine.specs.Machine.{State, Call, link_end, run, IsDrained, front_of}
 use Rattle.conn_turns.specs.Lines.{Line, TakenFrame, IsNext, lines_after}
 use Rattle.conn_turns.specs.Frames.{is_unframed, unframed_at, is_bad}
-use Rattle.conn_turns.specs.Turns.{Work, Turn, IsFaithful, only_sends, works, link_lost, cut_short, not_begun, first_calls, calls_of_frames, closing_calls, again_calls, live_calls, finish_calls, outbox_calls, sending_calls, calls_of, Refusal, of_act, of_held, refused_calls, live_beside}
+use Rattle.conn_turns.specs.Turns.{Work, Turn, IsFaithful, only_sends, works, link_lost, cut_short, not_begun, first_calls, calls_of_frames, closing_calls, again_calls, live_calls, finish_calls, outbox_calls, sending_calls, calls_of, Refusal, of_act, of_held, refused_calls, live_beside, live_of}
 use Rattle.fixp_machine.specs.Machine as calls
 use Rattle.conn_turns.specs.Exact.{Served, closed_at}
 use Rattle.conn_turns.proofs.Taking.{run_append, frames_make_calls, work_makes_calls}
