@@ -5,13 +5,11 @@ use Rattle.session_model.specs.Journal.{Entry, History}
 use Rattle.session_model.specs.Inbox.{InboxRecord, Numbered}
 use Rattle.fixp_machine.specs.Machine.{front_of, IsDrained}
 use Rattle.fixp_machine.specs.Accepting.{records_of}
-use Rattle.conn_turns.specs.Lines.{Line, TakenFrame, lines_after}
-use Rattle.conn_turns.specs.Frames.{added}
+use Rattle.conn_turns.specs.Lines.{Line, TakenFrame}
 use Rattle.conn_turns.specs.Turns.{Turn, Refusal, IsFaithful, cut_short, calls_of}
-use Rattle.conn_loop.specs.Turned.{stood_of}
 use Rattle.connection_laws.specs.Courses.{Waiting, Course, reply_to, course_after}
 use Rattle.connection_laws.specs.Standing.{Stands, AllMayStand}
-use Rattle.turn_laws.specs.Turns.{line_received, IsTurn, IsCutShort, IsCut, adds_in}
+use Rattle.turn_laws.specs.Turns.{line_received, IsTurn, IsCutShort, IsCut, adds_in, adds_cut}
 
 -- a connection stands where the line of a turn is, with no act to be done, nor a held message to be applied
 pub record StandsAt (h : List Entry) (c : Course) (l : Line) : Type 0 where
@@ -49,7 +47,7 @@ abbrev pub CutAdds : Type 0
 CutAdds = (h : List Entry) (old : Line) (now : ℕ) (received : List ℕ) (frames : List TakenFrame) (refusal : Option Refusal) (c : Course)
     → StandsAt h c old → (k : IsCutShort now received frames refusal old)
     → (course_after c (calls_of (cut_short now received frames refusal))).added
-    ≡ c.added ++ (added now (line_received old now received k.got) frames ++ stood_of now (lines_after now (line_received old now received k.got) frames) refusal)
+    ≡ c.added ++ adds_cut now (line_received old now received k.got) frames refusal
 
 -- these records were refused: those of the act for which a frame waits, or that of the held message that the inbox awaits
 pub data Waits (d : Course) (left : List InboxRecord) : Type 0 where

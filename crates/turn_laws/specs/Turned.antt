@@ -9,13 +9,13 @@ use Rattle.conn_turns.specs.declared.answer.TurnEnd.{TurnEnd}
 use Rattle.conn_turns.specs.declared.answer.TurnFault.{TurnFault}
 use Rattle.conn_turns.specs.declared.answer.TurnFault.TheVariants as faults
 use Rattle.conn_turns.specs.Lines.{TakenFrame, lines_after}
-use Rattle.conn_turns.specs.Frames.{added, told}
+use Rattle.conn_turns.specs.Frames.{told}
 use Rattle.conn_turns.specs.Turns.{Turn, Refusal, IsFaithful, cut_short}
 use Rattle.conn_steps.specs.Settling.{IsPast, Gains, Refuses}
 use Rattle.conn_steps.specs.Taking.{OfInbox}
 use Rattle.conn_loop.specs.Live.{EndAt}
-use Rattle.conn_loop.specs.Turned.{DidTurn, NotBegun, CutTurn, stood_of, told_of, refused_of, wanted_of}
-use Rattle.turn_laws.specs.Turns.{line_received, adds_in, tells_in}
+use Rattle.conn_loop.specs.Turned.{DidTurn, NotBegun, CutTurn, told_of, refused_of, wanted_of}
+use Rattle.turn_laws.specs.Turns.{line_received, adds_in, adds_cut, tells_in}
 use Rattle.turn_laws.specs.Legs.{IsTimelyTurn}
 use Rattle.turn_laws.specs.Made.{turn_at, MadeTurn, MadeCut}
 
@@ -50,8 +50,7 @@ module _ {J : Type 0} {G : Ghosts J} where
     pub few : length frames ≤ 16
     pub made : MadeCut eager (turn_at old before) (turn_at new after) now received frames refusal
     pub timely : IsTimelyTurn (cut_short now received frames refusal)
-    pub refuses : Refuses old.box new.box
-        (added now (line_received old.line now received made.cut.got) frames ++ stood_of now (lines_after now (line_received old.line now received made.cut.got) frames) refusal)
+    pub refuses : Refuses old.box new.box (adds_cut now (line_received old.line now received made.cut.got) frames refusal)
         (refused_of fault now (lines_after now (line_received old.line now received made.cut.got) frames) refusal)
     pub past : (entries bytes : ℕ) → fault ≡ faults.Full entries bytes
         → IsPast (limits_of new.box).bytes bytes (wanted_of now (lines_after now (line_received old.line now received made.cut.got) frames) refusal)

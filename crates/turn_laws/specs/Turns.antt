@@ -1,4 +1,5 @@
 -- What a turn made of a line, as far as the machine, the bytes held and what was seen of the outbox go (this project's profile).
+use Rattle.conn_loop.specs.Turned.{stood_of}
 use Rattle.conn_turns.specs.Refusals.{IsRefused}
 use Rattle.std.specs.Prelude.{◌≡◌, ℕ, ◌||◌, Bool, List, [], ◌∷◌, ◌++◌, Option, IfSome}
 use mathlib.Core.List.{IsPrefix}
@@ -56,6 +57,10 @@ adds_in old (works w) = added w.now (line_received old w.now w.received w.got) w
 adds_in old (link_lost now) = []
 adds_in old (cut_short now received frames refused) = []
 adds_in old not_begun = []
+
+-- the records that one that was cut short adds, which took frames of this line: those of the frames, and what stood before the refusal
+abbrev pub adds_cut : ℕ → Line → List TakenFrame → Option Refusal → List InboxRecord
+adds_cut now l frames refusal = added now l frames ++ stood_of now (lines_after now l frames) refusal
 
 -- what a whole turn tells: what the frames that it took tell
 abbrev pub tells_in : Line → Turn → List NewsItem
