@@ -3,7 +3,7 @@ use Rattle.honest_ends.proofs.Lying.{LiesSo, lies_behind}
 use Rattle.honest_ends.proofs.Past.{lies_empty, held_below, lies_passes}
 use Rattle.honest_ends.proofs.Windowing.{Window}
 use Rattle.fixp_replies.specs.Incoming.{Incoming}
-use Rattle.std.proofs.Common.{◌≡◌, ◌⊎◌, inl, inr, ℕ, ◌+◌, true, false, List, [], ◌∷◌, ◌++◌, Option, Some, None, refl, sym, ap, subst, ◌∙◌, true≢false}
+use Rattle.std.proofs.Common.{◌≡◌, ◌⊎◌, inl, inr, ℕ, ◌+◌, true, false, List, [], ◌∷◌, ◌++◌, Option, Some, None, refl, sym, ap, subst, ◌∙◌, true≢false, arith, ◌≤◌}
 use Rattle.std.specs.List.{AllByRecursion}
 use Rattle.session_model.specs.Journal.{Entry}
 use Rattle.fixp_msgs.specs.declared.flow.Flow.{Flow}

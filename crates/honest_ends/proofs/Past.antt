@@ -149,8 +149,8 @@ lies_reads x f p held rec is shaken line lies drained fits h none = by_holds o.h
         (λ s. subst (λ (ms : List Numbered). AllByRecursion (λ n. n < o.next.connection.receiver.live) (numbers_of ms)) (sym (lies.soft s)) tt)
         (λ firm. let up = live_up firm in all_weaker (λ n. n < f.connection.receiver.live) (λ n. n < o.next.connection.receiver.live) (λ n b. omega (arith, b, up)) (numbers_of held) lies.below)
 
-    none_there : {ms : List Numbered} → front f.recorded.inbox_next ms ≡ None → o.next.recorded.inbox_next ≡ f.recorded.inbox_next → IsSome (front o.next.recorded.inbox_next ms) → ⊥
-    none_there {ms = ms} gone same some = false≢true (sym (ap (λ (m : Option Numbered). is_some m) (ap (λ (n : ℕ). front n ms) same ∙ gone)) ∙ some)
+    none_there : (ms : List Numbered) → front f.recorded.inbox_next ms ≡ None → o.next.recorded.inbox_next ≡ f.recorded.inbox_next → IsSome (front o.next.recorded.inbox_next ms) → ⊥
+    none_there ms gone same some = false≢true (sym (ap (λ (m : Option Numbered). is_some m) (ap (λ (n : ℕ). front n ms) same ∙ gone)) ∙ some)
 
     comes_so : Applies f l o → IsSome (front o.next.recorded.inbox_next held) → request_is.is_coming o.next.connection.requester ≡ true
     comes_so a some =
@@ -169,7 +169,7 @@ lies_reads x f p held rec is shaken line lies drained fits h none = by_holds o.h
           soft = soft_before;
           reach = subst (λ (n : ℕ). InReach n held) (sym same) lies.reach;
           below = below;
-          coming = λ some. absurd (none_there drained same some);
+          coming = λ some. absurd (none_there held drained same some);
         }
         by_moved (inr a) = record {
           soft = soft_before;
@@ -201,7 +201,7 @@ lies_reads x f p held rec is shaken line lies drained fits h none = by_holds o.h
               soft = λ t. absurd (true≢false (sym t ∙ m.firm));
               reach = subst (λ (j : ℕ). InReach j (holding n (payload_in i) held)) (sym same) (holding_in_reach f.recorded.inbox_next n (payload_in i) held (omega (arith, above)) m.near lies.reach);
               below = all_holding (λ j. j < o.next.connection.receiver.live) n (payload_in i) held (below_live n e m.number) below;
-              coming = λ some. absurd (none_there (front_holding f.recorded.inbox_next n (payload_in i) held m.above m.near lies.reach drained) same some);
+              coming = λ some. absurd (none_there (holding n (payload_in i) held) (front_holding f.recorded.inbox_next n (payload_in i) held m.above m.near lies.reach drained) same some);
             }
         by_moved (inr a) = absurd (cc (a.none, e))
 

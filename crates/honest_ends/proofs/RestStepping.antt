@@ -1,33 +1,45 @@
 -- Both ends over any steps: a gap is asked for at once, and what is recorded of a finish comes behind all of its flow.
-use Rattle.std.proofs.Common.{◌≡◌, ℕ, ◌+◌, ◌≤◌, ◌||◌, Bool, true, false, if◌then◌else◌, List, [], ◌∷◌, Option, Some, None, refl, sym, ap, subst, ◌∙◌, arith, true≢false}
-use Rattle.std.specs.Prelude.{is_some, IfSome}
+use Rattle.honest_ends.proofs.Past.{least_above}
+use Rattle.honest_ends.proofs.Lying.{LiesSo}
+use Rattle.honest_ends.proofs.Windowing.{Window}
+use Rattle.honest_ends.proofs.PhaseOpening.{asks_unheld}
+use Rattle.fixp_replies.specs.Incoming.{payload_in}
+use Rattle.fixp_replies.specs.declared.act.Ending.{Ending}
+use Rattle.flow_window.specs.Window.{least, holding}
+use Rattle.session_model.specs.Inbox.{Numbered}
+use Rattle.fixp_msgs.specs.declared.numbering.Range.{Range}
+use Rattle.std.proofs.lemmas.Bool.{ltb-true, ltb-false}
+use Rattle.std.proofs.Common.{◌≡◌, ℕ, ◌+◌, ◌≤◌, ◌||◌, Bool, true, false, if◌then◌else◌, List, [], ◌∷◌, Option, Some, None, refl, sym, ap, subst, ◌∙◌, arith, true≢false, ◌-◌, ◌==◌, ◌<◌, min, nat_lt, ◌⊎◌, inl, inr, IsSome, eqb-true}
+use Rattle.std.specs.Prelude.{is_some, IfSome, unwrap_or}
 use Rattle.session_model.specs.Journal.{Entry}
 use Rattle.flow_recover.specs.Receiving as receiver_is
 use Rattle.flow_recover.specs.Receiving.{Receiving}
 use Rattle.flow_retrans.specs.declared.request.Request.{Request}
-use Rattle.flow_retrans.specs.Requests.{outstanding}
+use Rattle.flow_retrans.specs.declared.request.Request.TheVariants as requests
+use Rattle.fixp_shake.specs.declared.phase.Phase.TheVariants as phases
+use Rattle.flow_retrans.specs.Requests.{outstanding, is_coming}
 use Rattle.fixp_shake.specs.declared.config.EndConfig.{EndConfig}
 use Rattle.fixp_shake.specs.Flows.{is_recoverable, is_sequenced}
 use Rattle.fixp_shake.specs.Phases.{is_closing}
 use Rattle.fixp_replies.specs.declared.facts.Facts.{Facts}
 use Rattle.fixp_replies.specs.declared.facts.PeerFinish.{PeerFinish}
-use Rattle.fixp_replies.specs.Facts.{Around, is_initiator, gap_to_ask, peer_is_exchanged}
+use Rattle.fixp_replies.specs.Facts.{Around, is_initiator, gap_to_ask, peer_is_exchanged, connecting}
 use Rattle.fixp_replies.specs.Outcomes.{Outcome}
 use Rattle.fixp_replies.specs.Replies.{reply_of}
-use Rattle.fixp_machine.specs.Machine.{State, Call, begin, around, step, run, fresh}
+use Rattle.fixp_machine.specs.Machine.{State, Call, begin, around, step, run, fresh, IsDrained, held_until, held_with}
 use Rattle.fixp_machine.proofs.Tests.{no_gap}
 use Rattle.connection_laws.specs.Standing.{IsOpen, MayStand}
 use Rattle.connection_laws.specs.Writing.{Piece}
 use Rattle.two_ends.specs.Reading.{incoming_of}
 use Rattle.two_ends.proofs.Refused.{closing_is_deaf}
-use Rattle.honest_ends.specs.Worlds.{World, Step, meets, initiator_reads, acceptor_reads, initiator_does, acceptor_does, reading, written, initiator_read, acceptor_read, after, world_after, IsOther, MayStep, AllMayStep}
+use Rattle.honest_ends.specs.Worlds.{World, Step, meets, initiator_reads, acceptor_reads, initiator_does, acceptor_does, reading, written, initiator_read, acceptor_read, after, world_after, IsOther, MayStep, AllMayStep, MayRead}
 use Rattle.honest_ends.proofs.Moving.{Reads, reads_as, does_as}
 use Rattle.honest_ends.proofs.Phased.{begun_as}
-use Rattle.honest_ends.proofs.Serving.{by_bool, serves_as, was_none}
+use Rattle.honest_ends.proofs.Serving.{by_bool, serves_as, was_none, Serves, Passes, Remains}
 use Rattle.honest_ends.proofs.Telling.{tells_as}
 use Rattle.honest_ends.specs.Numbered.{Follows}
 use Rattle.honest_ends.proofs.Numbering.{Counted, counted_step, numbered_of}
-use Rattle.honest_ends.proofs.Settling.{Ended, Ends, Waits, Settles, settles}
+use Rattle.honest_ends.proofs.Settling.{Ended, Ends, Waits, Settles, settles, rise, holding_so}
 
 -- the gap that an end is to ask for
 abbrev pub gap_in : State → Option Range
@@ -49,7 +61,7 @@ keeps_on s t u a b = record { asked = λ h. b.asked (a.asked h); ends = λ e. b.
 begins : (s : State) (now : ℕ) → Keeps s (step s (begin now))
 begins s now = let b = by_case (is_initiator s.config.role) s.facts.recorded.negotiated in record { asked = λ _ _. b.0; ends = b.1; config = refl }
   where
-    none : (f : Facts) → f.connection.receiver ≡ fresh_receiver s.facts.recorded.inbox_next → gap_to_ask (around (step s (begin now)) 0 0) f ≡ None
+    none : (f : Facts) → f.connection.receiver ≡ receiver_is.fresh s.facts.recorded.inbox_next → gap_to_ask (around (step s (begin now)) 0 0) f ≡ None
     none f e = asks_unheld (around (step s (begin now)) 0 0) f refl (ap (λ (r : Receiving). receiver_is.gap None r) e ∙ no_gap s.facts.recorded.inbox_next s.facts.recorded.inbox_next refl)
 
     by_case : (i n : Bool)

@@ -1,5 +1,5 @@
 -- How a reply leaves an end, row by row: a gap is asked for at once, and what is recorded of a finish comes behind all of its flow.
-use Rattle.std.proofs.Common.{◌||◌, ◌≡◌, ℕ, ◌+◌, ◌-◌, ◌≤◌, ◌==◌, ◌&&◌, min, max, not, Bool, true, false, if◌then◌else◌, List, [], ◌∷◌, ◌++◌, Option, Some, None, refl, sym, subst, ◌∙◌, arith, true≢false, eqb-true, ◌<◌, nat_lt}
+use Rattle.std.proofs.Common.{◌||◌, ◌≡◌, ℕ, ◌+◌, ◌-◌, ◌≤◌, ◌==◌, ◌&&◌, min, max, not, Bool, true, false, if◌then◌else◌, List, [], ◌∷◌, ◌++◌, Option, Some, None, refl, sym, subst, ◌∙◌, arith, true≢false, eqb-true, ◌<◌, nat_lt, ap}
 use Rattle.std.specs.Prelude.{is_some, is_none, unwrap_or, IfSome, Result, Ok, Err}
 use Rattle.std.proofs.lemmas.Bool.{and_parts, ltb-false}
 use Rattle.fixp_msgs.specs.declared.numbering.Range.{Range}
@@ -66,7 +66,7 @@ pub record Settles (x : Around) (f : Facts) (o : Outcome) : Type 0 where
   pub asked : gap_to_ask x f ≡ None → o.ending ≡ None → gap_to_ask (holding_so x o.holds) o.next ≡ None
   pub ends : Waits x f → Ends x.config.peer_flow f → Ends x.config.peer_flow o.next
 
-rise : (t : Bool) (l : Option ℕ) (a b : ℕ) (q : PeerFinish) → a ≤ b → Ended t l a q → Ended t l b q
+pub rise : (t : Bool) (l : Option ℕ) (a b : ℕ) (q : PeerFinish) → a ≤ b → Ended t l a q → Ended t l b q
 rise t l a b q h e = record { reached = λ s. more l (e.reached s); recorded = e.recorded }
   where
     more : (k : Option ℕ) → IfSome k (λ n. n + 1 ≤ a) → IfSome k (λ n. n + 1 ≤ b)
@@ -187,7 +187,10 @@ pub gap_reached : (h : Option ℕ) (r : Receiving) (inbox : ℕ) → r.next ≡ 
 gap_reached None r inbox w held e = no_gap_live r e
 gap_reached (Some n) r inbox w held e = by_test (nat_lt r.next n) refl e
   where
-    by_test : (b : Bool) → nat_lt r.next n ≡ b → (if b then Some (record { from = r.next; count = n - r.next }) else None) ≡ None → r.live ≤ r.next
+    missing : Range
+    missing = record { from = r.next; count = n - r.next }
+
+    by_test : (b : Bool) → nat_lt r.next n ≡ b → (if b then Some missing else None) ≡ None → r.live ≤ r.next
     by_test true t e = absurd cc
     by_test false t e = let low = ltb-false r.next n t in absurd (omega (arith, w, held, low))
 
