@@ -134,7 +134,7 @@ served_of (Some r) h = Some (payloads_from h r.from (min 16 r.count))
 -- nothing is sent live beside what was sent again
 abbrev pub live_beside : Option (List (List ℕ)) → Option (List (List ℕ)) → Option (List (List ℕ))
 live_beside None due = due
-live_beside (Some again) due = None
+live_beside (Some sent) due = None
 
 -- entries are sent live: in phase Established, where the connection is open, nothing is served, and there is an own flow
 abbrev pub sends_live : State → Bool
