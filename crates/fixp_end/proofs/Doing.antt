@@ -1,5 +1,5 @@
 -- What the act of a reply leaves, as the caller of an end sees it.
-use Rattle.std.proofs.Common.{◌≡◌, ◌⊎◌, inl, inr, ℕ, ◌≤◌, List, length, Option, Some, None, refl, sym, ap, subst, ◌∙◌}
+use Rattle.std.proofs.Common.{◌≡◌, ◌⊎◌, inl, inr, ℕ, ◌≤◌, List, length, Option, Some, None, refl, sym, subst}
 use Rattle.std.specs.Prelude.{IfSome}
 use Rattle.sbe_prim.specs.declared.Order.{Order}
 use Rattle.fixp_msgs.specs.declared.flow.Flow.{Flow}

@@ -1,11 +1,11 @@
 -- What is held in an end, and the facts that it fits.
-use Rattle.std.proofs.Common.{◌≡◌, ◌⊎◌, ℕ, ◌+◌, ◌<◌, ◌≤◌, ◌==◌, Bool, true, false, if◌then◌else◌, List, [], ◌∷◌, drop, Option, Some, None, IsSome, refl, sym, ap, subst, ◌∙◌, arith, nat_lt, eqb-true, true≢false}
-use Rattle.std.specs.Prelude.{⊤, is_some, IfSome, option_map}
+use Rattle.std.proofs.Common.{◌≡◌, ℕ, ◌+◌, ◌<◌, ◌≤◌, ◌==◌, Bool, true, false, if◌then◌else◌, List, [], ◌∷◌, drop, Option, Some, None, IsSome, refl, sym, ap, subst, ◌∙◌, nat_lt, eqb-true, true≢false}
+use Rattle.std.specs.Prelude.{IfSome, option_map}
 use Rattle.std.specs.List.{AllByRecursion}
 use Rattle.std.proofs.lemmas.Bool.{false≢true}
 use Rattle.std.proofs.lemmas.Option.{none-some}
 use Rattle.session_model.specs.Inbox.{Numbered, numbers_of}
-use Rattle.flow_window.specs.Window.{Holding, holding, front}
+use Rattle.flow_window.specs.Window.{holding, front}
 use Rattle.sbe_prim.specs.declared.Order.{Order}
 use Rattle.fixp_msgs.specs.Numbering.{payload_of}
 use Rattle.fixp_msgs.specs.Payload.{IsApplication}
@@ -16,17 +16,15 @@ use Rattle.flow_recover.specs.Receiving.{Receiving, past}
 use Rattle.fixp_replies.specs.declared.facts.EndState.{EndState}
 use Rattle.fixp_machine.proofs.Windowing.{IsFront}
 use Rattle.fixp_shake.specs.Flows.{is_recoverable, is_idempotent}
-use Rattle.fixp_shake.specs.declared.phase.Phase.TheVariants as phases
 use Rattle.fixp_replies.specs.declared.act.Act.{Act}
 use Rattle.fixp_replies.specs.declared.act.Act.TheVariants as acts
 use Rattle.fixp_replies.specs.declared.act.Ending.{Ending}
 use Rattle.fixp_replies.specs.declared.facts.Facts.{Facts}
-use Rattle.fixp_replies.specs.declared.facts.OwnFinish.TheVariants as own
 use Rattle.fixp_msgs.specs.declared.numbering.Range.{Range}
 use Rattle.fixp_replies.specs.Acts.{is_record}
-use Rattle.fixp_replies.specs.Facts.{Around, in_phase, receiving, awaiting}
+use Rattle.fixp_replies.specs.Facts.{Around, receiving, awaiting}
 use Rattle.fixp_replies.specs.Incoming.{Incoming, IsIncoming, application, session, wrong_order, too_short, unknown, payload_in}
-use Rattle.fixp_replies.specs.Events.{Made, outbox_finished, tells_finish, finish_told, closes, turn_ended}
+use Rattle.fixp_replies.specs.Events.{tells_finish, finish_told, closes, turn_ended}
 use Rattle.fixp_replies.specs.Outcomes.{Outcome}
 use Rattle.fixp_machine.specs.Fitting.{IsMessage, CanTake}
 use Rattle.fixp_machine.specs.Sound.{Advances, HeldFits, MayHold, KeepsHeld}

@@ -1,5 +1,4 @@
-use Rattle.std.proofs.Common.{List, Option, sym, ap, subst}
-use Rattle.session_model.specs.Inbox.{Numbered}
+use Rattle.std.proofs.Common.{Option, sym, ap, subst}
 use Rattle.fixp_replies.specs.declared.act.Ending.{Ending}
 use Rattle.fixp_replies.specs.Outcomes.{Outcome}
 use Rattle.fixp_machine.specs.Machine.{Windowed, held_until}
