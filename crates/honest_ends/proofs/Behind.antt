@@ -11,10 +11,7 @@ use Rattle.fixp_msgs.specs.declared.numbering.Range.{Range}
 use Rattle.fixp_msgs.specs.declared.flow.Flow.{Flow}
 use Rattle.fixp_msgs.specs.Message.{sequence, finished_sending}
 use Rattle.flow_retrans.specs.declared.request.Request.{Request}
-use Rattle.flow_retrans.specs.declared.request.Request.TheVariants as requests
 use Rattle.flow_retrans.specs.Requests as request_is
-use Rattle.fixp_shake.specs.declared.phase.Phase.{Phase}
-use Rattle.fixp_shake.specs.declared.phase.Phase.TheVariants as phases
 use Rattle.fixp_shake.specs.Flows.{is_sequenced}
 use Rattle.fixp_shake.specs.Phases.{is_established, is_closing}
 use Rattle.fixp_replies.specs.declared.act.Ending.{Ending}

@@ -451,8 +451,11 @@ sequence_lined x f next k = subst (λ (a : Awaited). Decides (Lined ⊤ f a None
   λ _. (
     λ some. refusing x ⊤ f g (announcement_fault x g 7 (Some next)) (exactly next) None refl some
         (number_fault ⊤ x g 7 (Some next) (λ _ _. (not_less (x.most + 1) next top, not_less next (expected_number x g) high))),
-    λ _. (λ _. following x ⊤ f g next (announced x g (Some next)) (exactly next) None refl
-        (subst (λ (a : Announced). HeldBelow x a.facts) (sym is) (less_still x.held (lowest f) next enough k.held)) (ap (λ (a : Announced). a.facts.recorded.inbox_next) is) reached, λ e. absurd (true≢false e)),
+    λ _. (
+      λ _. following x ⊤ f g next (announced x g (Some next)) (exactly next) None refl
+          (subst (λ (a : Announced). HeldBelow x a.facts) (sym is) (less_still x.held (lowest f) next enough k.held)) (ap (λ (a : Announced). a.facts.recorded.inbox_next) is) reached,
+      λ e. absurd (true≢false e),
+    ),
   ),
 )
   where

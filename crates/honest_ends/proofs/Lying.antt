@@ -1,5 +1,5 @@
 -- What a reader holds behind a message that it reads.
-use Rattle.std.proofs.Common.{◌≡◌, ℕ, ◌+◌, ◌≤◌, ◌||◌, Bool, true, false, List, [], ◌∷◌, Option, Some, None, IsSome, refl, sym, ap, subst, ◌∙◌, true≢false}
+use Rattle.std.proofs.Common.{◌≡◌, ℕ, ◌+◌, ◌≤◌, ◌||◌, Bool, true, false, List, [], ◌∷◌, Option, None, IsSome, refl, sym, ap, subst, ◌∙◌, true≢false}
 use Rattle.session_model.specs.Inbox.{Numbered}
 use Rattle.fixp_shake.specs.declared.config.EndConfig.{EndConfig}
 use Rattle.fixp_shake.specs.Flows.{is_recoverable}
@@ -20,7 +20,7 @@ use Rattle.honest_ends.specs.Numbers.{IsFlowing, Peer, HeldBelow, Before, After}
 use Rattle.honest_ends.proofs.Held.{holds_so}
 use Rattle.honest_ends.proofs.Moving.{Reads, reads_as}
 use Rattle.honest_ends.proofs.Serving.{by_bool}
-use Rattle.honest_ends.proofs.Windowing.{Window, until_none, holds_none}
+use Rattle.honest_ends.proofs.Windowing.{Window, holds_none}
 use Rattle.honest_ends.proofs.Expected.{reader_expects}
 use Rattle.honest_ends.proofs.Awaiting.{Ready}
 use Rattle.honest_ends.proofs.Past.{Lies, lies_empty, held_below, lies_reads}

@@ -3,7 +3,7 @@ use Rattle.honest_ends.proofs.Lying.{LiesSo, lies_behind}
 use Rattle.honest_ends.proofs.Past.{lies_empty, held_below, lies_passes}
 use Rattle.honest_ends.proofs.Windowing.{Window}
 use Rattle.fixp_replies.specs.Incoming.{Incoming}
-use Rattle.std.proofs.Common.{◌≡◌, ◌⊎◌, inl, inr, ℕ, ◌+◌, true, false, List, [], ◌∷◌, ◌++◌, Option, Some, None, refl, sym, ap, subst, ◌∙◌, true≢false, arith, ◌≤◌}
+use Rattle.std.proofs.Common.{◌≡◌, ◌⊎◌, inl, inr, ℕ, ◌+◌, true, false, List, [], ◌∷◌, ◌++◌, Option, Some, None, refl, sym, ap, subst, ◌∙◌, true≢false, arith}
 use Rattle.std.specs.List.{AllByRecursion}
 use Rattle.session_model.specs.Journal.{Entry}
 use Rattle.fixp_msgs.specs.declared.flow.Flow.{Flow}
@@ -19,7 +19,7 @@ use Rattle.fixp_replies.specs.Outcomes.{Outcome}
 use Rattle.fixp_replies.specs.Replies.{reply_of}
 use Rattle.fixp_machine.specs.Machine.{State, around, run, Call, begin, step, IsDrained}
 use Rattle.connection_laws.specs.Writing.{Piece, said_all}
-use Rattle.connection_laws.specs.Standing.{IsOpen, MayStand}
+use Rattle.connection_laws.specs.Standing.{MayStand}
 use Rattle.two_ends.specs.Reading.{incoming_of}
 use Rattle.fixp_shake.specs.Flows.{is_recoverable}
 use Rattle.fixp_replies.specs.Facts.{is_initiator}

@@ -3,11 +3,11 @@ use Rattle.honest_ends.proofs.Awaiting.{awaited_firm, not_softly, live_is, Ready
 use Rattle.honest_ends.specs.Numbered.{awaits, awaited}
 use Rattle.fixp_shake.specs.declared.config.EndConfig.{EndConfig}
 use Rattle.fixp_machine.specs.Fitting.{IsMessage}
-use Rattle.std.proofs.Common.{◌≡◌, ◌⊎◌, inl, inr, ℕ, ◌+◌, ◌<◌, ◌≤◌, ◌==◌, Bool, true, false, if◌then◌else◌, List, [], ◌∷◌, Option, Some, None, IsSome, refl, sym, ap, subst, ◌∙◌, arith, true≢false, ne_eqb, ◌&&◌}
+use Rattle.std.proofs.Common.{◌≡◌, ◌⊎◌, inl, inr, ℕ, ◌+◌, ◌<◌, ◌≤◌, Bool, true, false, if◌then◌else◌, List, [], ◌∷◌, Option, Some, None, IsSome, refl, sym, ap, subst, ◌∙◌, arith, true≢false, ne_eqb, ◌&&◌}
 use Rattle.std.specs.Prelude.{is_some, unwrap_or, IfSome}
 use Rattle.std.specs.List.{AllByRecursion}
 use Rattle.std.proofs.lemmas.Bool.{false≢true}
-use Rattle.session_model.specs.Inbox.{Numbered, numbers_of, Ascending}
+use Rattle.session_model.specs.Inbox.{Numbered, numbers_of}
 use Rattle.session_model.proofs.Lists.{all_weaker}
 use Rattle.fixp_msgs.specs.declared.flow.Flow.{Flow}
 use Rattle.flow_recover.specs.Receiving as receiver_is
@@ -25,15 +25,15 @@ use Rattle.fixp_replies.specs.Facts.{Around}
 use Rattle.fixp_replies.specs.Incoming.{Incoming, payload_in}
 use Rattle.fixp_replies.specs.Outcomes.{Outcome}
 use Rattle.fixp_replies.specs.Replies.{reply_of}
-use Rattle.fixp_machine.specs.Machine.{State, around, held_with, past_held}
+use Rattle.fixp_machine.specs.Machine.{State, held_with, past_held}
 use Rattle.fixp_machine.specs.Sound.{Matches, MayHold, KeepsHeld}
 use Rattle.fixp_machine.proofs.Holding.{holding_goes_on, held_messages}
-use Rattle.fixp_machine.proofs.Windowing.{IsFront, front_there}
+use Rattle.fixp_machine.proofs.Windowing.{front_there}
 use Rattle.connection_laws.specs.Writing.{Piece, said, entry}
 use Rattle.two_ends.specs.Reading.{incoming_of}
-use Rattle.honest_ends.specs.Numbers.{Awaited, exactly, at_most, softly, announces, live_after, awaited_after, left_after, HasOne, Fits, to_come, Line, goes_softly, expecting, lowest, HeldBelow, Applies, Reaches, After, Runs}
+use Rattle.honest_ends.specs.Numbers.{Awaited, exactly, at_most, softly, announces, live_after, awaited_after, left_after, HasOne, Fits, to_come, Line, goes_softly, expecting, lowest, Applies, Reaches, After, Runs}
 use Rattle.honest_ends.proofs.Lining.{firm_expecting, entry_reach, number_below}
-use Rattle.honest_ends.proofs.Serving.{Still, Passes, by_bool, Drops, Remains}
+use Rattle.honest_ends.proofs.Serving.{Passes, by_bool, Remains}
 
 -- Nothing while the reader is soft. Else it lies within reach of the number awaited and below the live one, and that number is held only
 -- while messages come again

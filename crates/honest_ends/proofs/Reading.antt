@@ -13,9 +13,7 @@ use Rattle.fixp_replies.specs.declared.facts.Facts.{Facts}
 use Rattle.fixp_replies.specs.Facts.{Around}
 use Rattle.fixp_replies.specs.Outcomes.{Outcome}
 use Rattle.fixp_replies.specs.Replies.{reply_of}
-use Rattle.connection_laws.specs.Writing.{Piece, WritesOwn, nothing, shakes, returns, resends}
-use Rattle.connection_laws.proofs.Owned.{returning}
-use Rattle.connection_laws.proofs.Replied.{frame_writes}
+use Rattle.connection_laws.specs.Writing.{Piece}
 use Rattle.two_ends.specs.Reading.{incoming_of}
 use Rattle.honest_ends.specs.Numbers.{Awaited, exactly, at_most, softly, starts, live_after, awaited_after, left_after, Fits, Runs, Answers, Idle, Before, After, BeforeOther, AfterOther, Peer, IsFlowing, to_come, goes_softly, expecting, lowest, HeldBelow}
 use Rattle.fixp_msgs.specs.declared.flow.Flow.{Flow}

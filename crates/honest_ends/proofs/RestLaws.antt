@@ -13,7 +13,6 @@ use Rattle.session_model.proofs.Inboxes.{length-payloads_of}
 use Rattle.session_model.proofs.Recoverable.{next_of_counted}
 use Rattle.fixp_msgs.specs.declared.flow.Flow.{Flow}
 use Rattle.fixp_msgs.specs.declared.flow.Flow.TheVariants as flows
-use Rattle.flow_recover.specs.Receiving as receiver_is
 use Rattle.flow_retrans.specs.declared.request.Request.{Request}
 use Rattle.flow_retrans.specs.declared.request.Request.TheVariants as requests
 use Rattle.flow_retrans.specs.Requests.{outstanding, is_coming}
@@ -92,8 +91,8 @@ quiet_one own h writer reader way back follows none sends idle so gap numbered =
     reached rec = by_bool (f.connection.receiver.live ≤ f.connection.receiver.next) f.connection.soft
         (λ soft. ltb-false f.connection.receiver.next f.connection.receiver.live (sym (ap (λ b. b && nat_lt f.connection.receiver.next f.connection.receiver.live) soft) ∙ never_soft))
         (λ firm. gap_reached (least reader.held) f.connection.receiver f.recorded.inbox_next (expects.line rec).waits
-            (least_above f.recorded.inbox_next reader.held lies.reach (none_ready reader lies idle.unasked))
-            (sym (recoverable_gap (around reader 0 0) f rec) ∙ unasked_gap (around reader 0 0) f firm idle.unasked gap))
+        (least_above f.recorded.inbox_next reader.held lies.reach (none_ready reader lies idle.unasked))
+        (sym (recoverable_gap (around reader 0 0) f rec) ∙ unasked_gap (around reader 0 0) f firm idle.unasked gap))
 
     by_flow : (r : Bool) → is_recoverable reader.config.peer_flow ≡ r → f.recorded.inbox_next ≡ length h + 1
     by_flow true rec =

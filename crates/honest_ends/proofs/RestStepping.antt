@@ -9,7 +9,7 @@ use Rattle.flow_window.specs.Window.{least, holding}
 use Rattle.session_model.specs.Inbox.{Numbered}
 use Rattle.fixp_msgs.specs.declared.numbering.Range.{Range}
 use Rattle.std.proofs.lemmas.Bool.{ltb-true, ltb-false}
-use Rattle.std.proofs.Common.{◌≡◌, ℕ, ◌+◌, ◌≤◌, ◌||◌, Bool, true, false, if◌then◌else◌, List, [], ◌∷◌, Option, Some, None, refl, sym, ap, subst, ◌∙◌, arith, true≢false, ◌-◌, ◌==◌, ◌<◌, min, nat_lt, ◌⊎◌, inl, inr, IsSome, eqb-true}
+use Rattle.std.proofs.Common.{◌≡◌, ℕ, ◌+◌, ◌≤◌, ◌||◌, Bool, true, false, if◌then◌else◌, List, [], ◌∷◌, Option, Some, None, refl, sym, ap, subst, ◌∙◌, arith, true≢false, ◌-◌, ◌==◌, min, nat_lt, inl, inr, IsSome, eqb-true}
 use Rattle.std.specs.Prelude.{is_some, IfSome, unwrap_or}
 use Rattle.session_model.specs.Journal.{Entry}
 use Rattle.flow_recover.specs.Receiving as receiver_is
@@ -28,7 +28,7 @@ use Rattle.fixp_replies.specs.Outcomes.{Outcome}
 use Rattle.fixp_replies.specs.Replies.{reply_of}
 use Rattle.fixp_machine.specs.Machine.{State, Call, begin, around, step, run, fresh, IsDrained, held_until, held_with}
 use Rattle.fixp_machine.proofs.Tests.{no_gap}
-use Rattle.connection_laws.specs.Standing.{IsOpen, MayStand}
+use Rattle.connection_laws.specs.Standing.{MayStand}
 use Rattle.connection_laws.specs.Writing.{Piece}
 use Rattle.two_ends.specs.Reading.{incoming_of}
 use Rattle.two_ends.proofs.Refused.{closing_is_deaf}

@@ -13,7 +13,7 @@ use Rattle.fixp_machine.specs.Machine.{run, reply_applied}
 use Rattle.fixp_machine.specs.Machine as calls
 use Rattle.conn_turns.specs.Lines.{Line, TakenFrame, IsNext, frame_calls, reply_at, lines_after}
 use Rattle.conn_turns.specs.Turns.{only_sends, works, link_lost, cut_short, not_begun, calls_of_frames, of_act, of_held}
-use Rattle.conn_turns.proofs.Taking.{run_append, frames_make_calls, taken_more}
+use Rattle.conn_turns.proofs.Taking.{run_append, frames_make_calls}
 use Rattle.turn_laws.specs.Turns.{line_received, IsCut}
 use Rattle.turn_laws.specs.Standing.{StandsAt}
 use Rattle.turn_laws.proofs.Going.{after_append}

@@ -15,7 +15,7 @@ use Rattle.fixp_replies.specs.Outcomes.{Outcome}
 use Rattle.fixp_replies.specs.Replies.{reply_of}
 use Rattle.fixp_machine.specs.Machine.{State, Call, did, around, reply_applied, done_pending, step, run, held_done, held_with, IsDrained}
 use Rattle.fixp_machine.specs.Machine as calls
-use Rattle.conn_turns.specs.Lines.{Line, TakenFrame, size_of, frame_calls, IsTaken, line_after, lines_after, AreTaken, IsNext, reply_at, act_calls, ready_behind}
+use Rattle.conn_turns.specs.Lines.{Line, TakenFrame, size_of, frame_calls, line_after, lines_after, AreTaken, IsNext, reply_at, act_calls, ready_behind}
 use Rattle.conn_turns.specs.Frames.{is_bad}
 use Rattle.conn_turns.specs.Turns.{calls_of_frames}
 use Rattle.connection_laws.specs.Writing.{Piece, said, entry, said_all, said_with, writes, bytes_written}

@@ -15,7 +15,7 @@ use Rattle.fixp_replies.specs.Outcomes.{Outcome}
 use Rattle.fixp_replies.specs.Replies.{reply_of}
 use Rattle.fixp_machine.specs.Machine.{State, Call, did, tick, reserve, around, bytes_of, wrote, broken_by, step, run, held_done, front_of}
 use Rattle.fixp_machine.specs.Machine as calls
-use Rattle.conn_turns.specs.Lines.{Line, TakenFrame, frame_calls, lines_after, AreTaken, act_calls}
+use Rattle.conn_turns.specs.Lines.{Line, TakenFrame, frame_calls, lines_after, act_calls}
 use Rattle.conn_turns.specs.Turns.{Turn, first_calls, calls_of_frames}
 use Rattle.conn_turns.proofs.Taking.{frames_make_calls}
 use Rattle.connection_laws.specs.Writing.{Piece, said_all, said_breaking, bytes_of_piece, bytes_written}
@@ -24,7 +24,7 @@ use Rattle.connection_laws.specs.Courses.{Waiting, Course, counting, called, nex
 use Rattle.connection_laws.specs.Ranges.{IsInTime, FitsCall}
 use Rattle.turn_laws.specs.Turns.{line_received}
 use Rattle.turn_laws.specs.Legs.{given_in, sent_in, moment_of, IsTimelyTurn}
-use Rattle.turn_laws.proofs.Going.{Goes, may_append, after_append, and_then, first_go, frames_go}
+use Rattle.turn_laws.proofs.Going.{Goes, may_append, after_append, and_then, first_go}
 use Rattle.turn_laws.proofs.Working.{steady_at}
 use Rattle.honest_ends.specs.Worlds.{World, written, initiator_calls}
 use Rattle.honest_turns.proofs.Reaching.{Reaches}

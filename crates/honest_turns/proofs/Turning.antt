@@ -7,7 +7,7 @@ use Rattle.session_model.proofs.Lists.{all_append}
 use Rattle.sofh_frame.specs.Framing.{first_of}
 use Rattle.fixp_shake.specs.Flows.{is_absent}
 use Rattle.fixp_machine.specs.Machine.{State, Call, tick, turn_done, closed, link_end, reserve, step, run, IsDrained}
-use Rattle.conn_turns.specs.Lines.{Line, TakenFrame, lines_after, AreTaken}
+use Rattle.conn_turns.specs.Lines.{Line, TakenFrame, lines_after}
 use Rattle.conn_turns.specs.Frames.{is_bad, may_take}
 use Rattle.conn_turns.specs.Turns.{Turn, only_sends, works, link_lost, cut_short, not_begun, first_calls, calls_of_frames, bad_calls, end_calls, closing_calls, again_calls, live_calls, finish_calls, outbox_calls, sending_calls, calls_of, finish_of}
 use Rattle.conn_turns.specs.Exact.{closed_at}

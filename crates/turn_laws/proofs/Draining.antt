@@ -1,9 +1,8 @@
 -- Behind which calls no held message is to be applied, and held messages that are applied one after another.
 use Rattle.conn_turns.specs.Refusals.{IsAwaited}
-use Rattle.std.proofs.Common.{◌≡◌, ◌-◌, ◌+◌, ◌≤◌, ℕ, zero, suc, Bool, true, false, if◌then◌else◌, List, [], ◌∷◌, ◌++◌, length, take, Option, Some, None, refl, sym, ap, subst, ◌∙◌, arith, true≢false}
+use Rattle.std.proofs.Common.{◌≡◌, ◌-◌, ◌+◌, ◌≤◌, ℕ, zero, suc, Bool, true, false, if◌then◌else◌, List, [], ◌∷◌, ◌++◌, length, Option, Some, None, refl, sym, ap, subst, ◌∙◌, arith, true≢false}
 use Rattle.std.specs.Prelude.{replicate, is_some, IsSome}
 use Rattle.session_model.specs.Inbox.{Numbered}
-use Rattle.session_model.specs.Journal.{History}
 use Rattle.flow_window.specs.Window.{front}
 use Rattle.fixp_msgs.specs.declared.numbering.Range.{Range}
 use Rattle.fixp_shake.specs.declared.violation.Violation.{Violation}
@@ -13,12 +12,12 @@ use Rattle.fixp_replies.specs.Incoming.{payload_in}
 use Rattle.fixp_replies.specs.Outcomes.{Outcome}
 use Rattle.fixp_replies.specs.Events.{heartbeats, lateness, closes, turn_ended, outbox_finished, tells_finish, finish_told, link_ending}
 use Rattle.flow_idem.specs.Runs.{runs_of}
-use Rattle.fixp_machine.specs.Machine.{State, Call, tick, turn_done, closed, link_end, taken, reserve, live, again, held_done, around, bytes_of, wrote, made, reply_applied, broken_by, ticked, after_turn, after_closed, link_ended, served_again, held_until, held_with, held_applied, front_of, IsDrained, step, run}
+use Rattle.fixp_machine.specs.Machine.{State, turn_done, reserve, held_done, around, bytes_of, wrote, made, reply_applied, broken_by, ticked, after_turn, after_closed, link_ended, served_again, held_until, held_with, held_applied, front_of, IsDrained, step, run}
 use Rattle.fixp_machine.specs.Machine as calls
 use Rattle.fixp_replies.specs.Facts.{Around}
 use Rattle.fixp_machine.proofs.Calls.{either, one_made}
-use Rattle.conn_turns.specs.Lines.{Line, TakenFrame, reply_at, act_calls, frame_calls, ready_in, ready_behind, IsTaken, line_after, lines_after, AreTaken}
-use Rattle.conn_turns.specs.Turns.{Work, Turn, only_sends, works, link_lost, cut_short, not_begun, first_calls, calls_of_frames, bad_calls, end_calls, closing_calls, again_calls, live_calls, finish_calls, outbox_calls, sending_calls, calls_of}
+use Rattle.conn_turns.specs.Lines.{Line, TakenFrame, reply_at, act_calls, ready_in, ready_behind, IsTaken, line_after, lines_after, AreTaken}
+use Rattle.conn_turns.specs.Turns.{first_calls, bad_calls, end_calls, again_calls, live_calls, finish_calls, sending_calls}
 use Rattle.conn_turns.proofs.Taking.{run_append}
 use Rattle.conn_steps.proofs.Holding.{ready_held, ready_none}
 

@@ -1,29 +1,24 @@
 -- What a turn that was cut short adds, and that the frame whose act was refused waits for it.
-use Rattle.std.proofs.Common.{◌≡◌, ◌⊎◌, inl, inr, ℕ, ◌-◌, Bool, true, false, if◌then◌else◌, List, [], ◌∷◌, ◌++◌, Option, Some, None, refl, sym, ap, subst, ◌∙◌, true≢false, append-nil}
+use Rattle.std.proofs.Common.{◌≡◌, ◌⊎◌, inl, inr, ℕ, ◌-◌, Bool, true, false, if◌then◌else◌, List, [], ◌∷◌, ◌++◌, Option, Some, None, refl, sym, ap, subst, ◌∙◌}
 use Rattle.session_model.specs.Journal.{Entry}
 use Rattle.session_model.specs.Inbox.{InboxRecord}
-use Rattle.fixp_replies.specs.declared.act.Act.{Act}
-use Rattle.fixp_replies.specs.declared.act.Act.TheVariants as acts
 use Rattle.fixp_replies.specs.Acts.{is_record}
-use Rattle.fixp_replies.specs.Incoming.{Incoming, payload_in}
+use Rattle.fixp_replies.specs.Incoming.{payload_in}
 use Rattle.fixp_replies.specs.Outcomes.{Outcome}
-use Rattle.fixp_replies.specs.Replies.{reply_of}
-use Rattle.fixp_machine.specs.Machine.{State, Call, around, reply_applied, step, run, held_with}
+use Rattle.fixp_machine.specs.Machine.{State, Call, reply_applied, step, run, held_with}
 use Rattle.fixp_machine.specs.Machine as calls
 use Rattle.fixp_machine.specs.Accepting.{records_of}
 use Rattle.conn_turns.specs.declared.answer.TurnFault.{TurnFault}
 use Rattle.conn_turns.specs.declared.answer.TurnFault.TheVariants as faults
 use Rattle.conn_turns.specs.Lines.{Line, TakenFrame, reply_at, lines_after}
-use Rattle.conn_turns.specs.Frames.{adds, added}
 use Rattle.conn_turns.specs.Turns.{cut_short, first_calls, calls_of_frames, calls_of, Refusal, of_act, of_held}
 use Rattle.conn_turns.proofs.Taking.{run_append, frames_make_calls}
 use Rattle.conn_steps.specs.Taking.{refused_by}
 use Rattle.conn_loop.specs.Turned.{refused_of}
-use Rattle.connection_laws.specs.Courses.{Waiting, Course, counting, called, next_course, reply_to, course_after}
+use Rattle.connection_laws.specs.Courses.{Waiting, Course, reply_to, course_after}
 use Rattle.connection_laws.proofs.Continuing.{state_is_run}
 use Rattle.turn_laws.specs.Turns.{line_received, IsCutShort}
 use Rattle.turn_laws.specs.Standing.{StandsAt, Waits, for_act, for_held}
-use Rattle.turn_laws.proofs.Going.{after_append}
 use Rattle.turn_laws.proofs.Running.{refused_waits, held_awaits}
 use Rattle.turn_laws.proofs.Adding.{none_recorded}
 

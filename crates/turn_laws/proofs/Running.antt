@@ -11,7 +11,7 @@ use Rattle.session_model.proofs.Lists.{prefix_trans, prefix_equal}
 use Rattle.fixp_replies.specs.Acts.{is_record}
 use Rattle.fixp_replies.specs.Outcomes.{Outcome}
 use Rattle.fixp_replies.specs.Replies.{reply_of}
-use Rattle.fixp_machine.specs.Machine.{State, Call, around, connected, run, front_of}
+use Rattle.fixp_machine.specs.Machine.{State, Call, around, run, front_of}
 use Rattle.fixp_machine.specs.Machine as calls
 use Rattle.conn_turns.specs.Lines.{Line, lines_after, frame_calls}
 use Rattle.conn_turns.specs.Turns.{Turn, IsFaithful, only_sends, works, link_lost, cut_short, not_begun, first_calls, calls_of_frames, calls_of}

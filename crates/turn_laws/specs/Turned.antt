@@ -1,6 +1,6 @@
 -- What the contract of the loop says of a turn, as a turn of the laws over connections.
 use Rattle.conn_turns.specs.Refusals.{IsOfRecord}
-use Rattle.std.specs.Prelude.{◌≡◌, ◌⊎◌, ℕ, ◌≤◌, max, Bool, true, List, ◌++◌, length, Option, IfSome, Result}
+use Rattle.std.specs.Prelude.{◌≡◌, ◌⊎◌, ℕ, ◌≤◌, max, Bool, List, ◌++◌, length, Option, IfSome, Result}
 use Rattle.connection_laws.specs.Ranges.{IsInTime}
 use Rattle.jr_dated.specs.declared.journal.Journal.{Ghosts}
 use Rattle.jr_kept.specs.declared.inbox.Inbox.{Inbox}

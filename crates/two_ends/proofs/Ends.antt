@@ -23,7 +23,7 @@ use Rattle.connection_laws.specs.Ranges.{IsInRange}
 use Rattle.connection_laws.specs.LegalLaws.{StaysLegal}
 use Rattle.connection_laws.proofs.Written.{written_is_legal}
 use Rattle.two_ends.specs.Hearing.{came, AreFirstOf}
-use Rattle.two_ends.specs.Meeting.{Run, course_in, TookWhole, ReadsFrom, LinkedByBytes, Refused, runs_on, last_run, runs_of, MayRefuse, MayLive}
+use Rattle.two_ends.specs.Meeting.{Run, TookWhole, ReadsFrom, LinkedByBytes, runs_on, last_run, runs_of, MayRefuse, MayLive}
 use Rattle.two_ends.specs.Meeting
 use Rattle.two_ends.proofs.Sessions.{session_of_ends, ends_hold}
 use Rattle.turn_laws.specs.Legs.{TurnedLeg, IsTimely, calls_on, AreTurnsOf, given_on, sent_on, course_on, leg_of}

@@ -7,7 +7,7 @@ use Rattle.sofh_frame.specs.Splits.{frames_of}
 use Rattle.session_model.specs.Journal.{Entry, entries}
 use Rattle.session_model.specs.Inbox.{InboxRecord}
 use Rattle.session_model.specs.Events.{Event}
-use Rattle.session_model.specs.Lives.{Connection, Served, served_on, Life, KeepsConnections, KeepsOutbox, KeepsContract, TakenFrom, rest_lost, taken, rejected, Linked}
+use Rattle.session_model.specs.Lives.{Served, served_on, Life, KeepsConnections, KeepsOutbox, KeepsContract, TakenFrom, rest_lost, taken, rejected, Linked}
 use Rattle.session_model.specs.Lives
 use Rattle.session_model.proofs.Lists.{prefix_trans, all_append}
 use Rattle.session_model.specs.Growth as model
