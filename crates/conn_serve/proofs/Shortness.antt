@@ -9,7 +9,7 @@ use Rattle.sbe_prim.specs.declared.Order.{Order}
 use Rattle.fixp_replies.specs.declared.act.Act.{Act}
 use Rattle.fixp_replies.specs.declared.act.Act.TheVariants as acts
 use Rattle.fixp_replies.specs.Incoming.{Incoming, IsIncoming, application, session, wrong_order, too_short, unknown}
-use Rattle.fixp_machine.specs.Accepting.{payload_in}
+use Rattle.fixp_replies.specs.Incoming.{payload_in}
 use Rattle.conn_turns.specs.News.{told_by}
 use Rattle.conn_turns.specs.Lines.{Line, TakenFrame, IsTaken, AreTaken, reply_at, line_after}
 use Rattle.conn_turns.specs.Frames.{tells, told}

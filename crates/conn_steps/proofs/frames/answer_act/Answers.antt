@@ -2,7 +2,7 @@ use Rattle.std.proofs.Common.{◌≡◌, true, false, sym, subst, ◌∙◌}
 use Rattle.fixp_replies.specs.Acts.{is_record}
 use Rattle.fixp_machine.specs.Machine.{State, done_pending}
 use Rattle.conn_steps.proofs.Answering.{done_is, refused_record, past_as, refuses_as, replied, answered}
-use Rattle.conn_steps.proofs.frames.answer_frame.Goals as goal
+use Rattle.conn_steps.proofs.frames.answer_act.Goals as goal
 
 pub returns-in-Err-clause-refused : goal.returns-in-Err-clause-refused
 returns-in-Err-clause-refused g c =
