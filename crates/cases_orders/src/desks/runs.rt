@@ -12,6 +12,7 @@ use gate_business::{Business, give_connection, take_connection};
 use gate_plans::Door;
 use gate_senders::{Gate, Kept};
 use gate_turn::Passes;
+use jr_dated::Journal;
 use jr_kept::{Inbox, Outbox};
 use order_book_gate::BookDesk;
 use order_gate::{Desks, Terms};
@@ -38,12 +39,12 @@ pub struct Asked<'a> {
 }
 
 /// Has a business take its place behind an inbox, and answer messages that come then; and says whether it answered all.
-fn answers<B: Business<Log> + Send, R: Threads + Wait + Sync>(
+fn answers<J: Journal + Send, B: Business<J> + Send, R: Threads + Wait + Sync>(
     alloc: Global,
     business: &mut B,
     inbox: &mut Inbox<Log>,
     payloads: &Payloads,
-    gate: &Gate<Log>,
+    gate: &Gate<J>,
     rt: &R,
 ) -> bool
     requires own { B.has business.old (lock_of gate.now) }
@@ -63,14 +64,14 @@ fn answers<B: Business<Log> + Send, R: Threads + Wait + Sync>(
 }
 
 /// A life of a business: it answers, and gives its passes back; and whether it answered all.
-fn live<B: Business<Log, Held = Kept<Log>> + Send, R: Threads + Wait + Sync>(
+fn live<J: Journal + Send, B: Business<J, Held = Kept<J>> + Send, R: Threads + Wait + Sync>(
     alloc: Global,
     business: B,
     inbox: &mut Inbox<Log>,
     payloads: &Payloads,
-    gate: &Gate<Log>,
+    gate: &Gate<J>,
     rt: &R,
-) -> (Passes<Kept<Log>>, bool)
+) -> (Passes<Kept<J>>, bool)
     requires own { B.has business (lock_of gate.now) }
     requires few { B.count business ≤ senders_of gate.now }
     requires most { length payloads.now ≤ 512 }
@@ -83,15 +84,15 @@ fn live<B: Business<Log, Held = Kept<Log>> + Send, R: Threads + Wait + Sync>(
 }
 
 /// A life of desks that take these passes.
-fn live_desks<D: Door + Send + Copy + Drop, R: Threads + Wait + Sync>(
+fn live_desks<J: Journal + Send, D: Door + Send + Copy + Drop, R: Threads + Wait + Sync>(
     alloc: Global,
-    gate: &Gate<Log>,
-    passes: Passes<Kept<Log>>,
+    gate: &Gate<J>,
+    passes: Passes<Kept<J>>,
     inbox: &mut Inbox<Log>,
     asked: Asked<'_>,
     door: D,
     rt: &R,
-) -> (Passes<Kept<Log>>, bool)
+) -> (Passes<Kept<J>>, bool)
     requires version { IsVersion asked.terms.version }
     requires few { asked.terms.desks ≤ 16 }
     requires senders { asked.terms.desks ≤ senders_of gate.now }
@@ -107,15 +108,15 @@ fn live_desks<D: Door + Send + Copy + Drop, R: Threads + Wait + Sync>(
 }
 
 /// A life of a book of a version that takes the pass of number 1.
-fn live_book<R: Threads + Wait + Sync>(
+fn live_book<J: Journal + Send, R: Threads + Wait + Sync>(
     alloc: Global,
-    gate: &Gate<Log>,
-    passes: Passes<Kept<Log>>,
+    gate: &Gate<J>,
+    passes: Passes<Kept<J>>,
     inbox: &mut Inbox<Log>,
     version: u16,
     payloads: &Payloads,
     rt: &R,
-) -> (Passes<Kept<Log>>, bool)
+) -> (Passes<Kept<J>>, bool)
     requires version { IsVersion version }
     requires senders { 1 ≤ senders_of gate.now }
     requires most { length payloads.now ≤ 512 }
@@ -130,15 +131,15 @@ fn live_book<R: Threads + Wait + Sync>(
 }
 
 /// A life of those who are asked. A book has one pass, and does nothing with more.
-fn live_asked<D: Door + Send + Copy + Drop, R: Threads + Wait + Sync>(
+fn live_asked<J: Journal + Send, D: Door + Send + Copy + Drop, R: Threads + Wait + Sync>(
     alloc: Global,
-    gate: &Gate<Log>,
-    passes: Passes<Kept<Log>>,
+    gate: &Gate<J>,
+    passes: Passes<Kept<J>>,
     inbox: &mut Inbox<Log>,
     asked: Asked<'_>,
     door: D,
     rt: &R,
-) -> (Passes<Kept<Log>>, bool)
+) -> (Passes<Kept<J>>, bool)
     requires version { IsVersion asked.terms.version }
     requires few { asked.terms.desks ≤ 16 }
     requires senders { asked.terms.desks ≤ senders_of gate.now }
