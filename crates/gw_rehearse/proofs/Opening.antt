@@ -1,5 +1,5 @@
 -- What stops leave of a disk, and what is opened on it.
-use Rattle.std.proofs.Common.{◌<◌, ◌^◌, arith, ◌≡◌, ℕ, List, [], ◌∷◌, ◌++◌, map, Option, Some, None, refl, sym, ap, subst, ◌∙◌, append-nil}
+use Rattle.std.proofs.Common.{◌<◌, ◌^◌, arith, ◌≡◌, ◌+◌, ℕ, List, [], ◌∷◌, ◌++◌, map, Option, Some, None, refl, sym, ap, subst, ◌∙◌, append-nil}
 use Rattle.std.specs.Prelude.{IsTrue, IsSomeAnd}
 use mathlib.Core.List.{IsPrefix}
 use Rattle.session_model.specs.Journal.{History, OutboxRecord}

@@ -1,5 +1,5 @@
 -- Both ends together, behind each call of a pair.
-use Rattle.std.proofs.Common.{◌≡◌, ℕ, true, false, ◌||◌, if◌then◌else◌, Bool, List, [], ◌∷◌, ◌++◌, Option, Some, None, refl, sym, ap, subst, ◌∙◌, append_assoc, true≢false}
+use Rattle.std.proofs.Common.{◌≡◌, ℕ, true, false, ◌||◌, if◌then◌else◌, Bool, List, [], ◌∷◌, ◌++◌, Option, Some, None, refl, sym, ap, subst, ◌∙◌, append-nil, append_assoc, true≢false}
 use Rattle.std.specs.List.{AllZip}
 use Rattle.std.proofs.Math.Logic.{∥∥₁_map}
 use Rattle.session_model.specs.Inbox.{InboxRecord}
@@ -18,10 +18,10 @@ use Rattle.two_ends.proofs.Moving.{bytes_move, turned_round}
 use Rattle.gw_rehearse.specs.declared.end.DrivenEnd.{DrivenEnd}
 use Rattle.gw_rehearse.specs.declared.standing.Standing.{Standing}
 use Rattle.gw_rehearse.specs.declared.standing.Standing.TheVariants as standings
-use Rattle.gw_rehearse.specs.Standing.{is_given, is_going}
+use Rattle.gw_rehearse.specs.Standing.{is_given, is_going, is_failed}
 use Rattle.gw_rehearse.specs.Driven.{now_of, StandsBehind, RunsOver, TurnsOn, BeginsOn, beginning_on}
-use Rattle.gw_rehearse.specs.Together.{Together, is_lost, PairNow, StaysSound}
-use Rattle.gw_rehearse.proofs.Stories.{opens_same, ended_over}
+use Rattle.gw_rehearse.specs.Together.{GoesOnBehind, Together, is_lost, PairNow, StaysSound}
+use Rattle.gw_rehearse.proofs.Stories.{opens_same, ended_over, ended_none, ended_one}
 
 pub neither : (a b : Bool) → (a || b) ≡ false → (a ≡ false) × (b ≡ false)
 neither true b e = absurd (true≢false e)
@@ -36,6 +36,7 @@ lost_back a b a' b' left right e =
 pub is_over : (s : Standing) → is_going s ≡ false → is_given s ≡ false → s ≡ standings.Over
 is_over standings.Over going given = refl
 is_over standings.Open going given = absurd (true≢false going)
+is_over standings.Failed going given = absurd (true≢false going)
 is_over standings.GivenUp going given = absurd (true≢false given)
 
 -- it stays so over several calls
@@ -83,9 +84,11 @@ stands_same b legs e e' s k = record {
 runs_same : (b : Beginning) (past : List TurnedLeg) (leg : TurnedLeg) (e e' : DrivenEnd) → SameEnd e e' → RunsOver b past leg e → RunsOver b past leg e'
 runs_same b past leg e e' s k = record {
   opens = opens_same b e e' s.gate k.opens;
-  uncut = k.uncut;
   inbox = k.inbox;
-  holds = subst (λ box. HoldsBox box k.inbox []) (sym s.inbox) k.holds;
+  refused = k.refused;
+  holds = subst (λ box. HoldsBox box k.inbox k.refused) (sym s.inbox) k.holds;
+  whole = λ whole. k.whole (ap is_failed (sym s.standing) ∙ whole);
+  failed = λ failed closing has. k.failed (sym s.standing ∙ failed) closing (subst (λ p. Has (entries closing) (known p).seen) s.pass has);
   during = λ going. subst (λ (x : EndNow). During b past leg x) (now_same e e' k.inbox s) (k.during (sym s.standing ∙ going));
   between = λ over. subst (λ (x : EndNow). Between b (past ++ leg ∷ []) x) (now_same e e' k.inbox s) (k.between (sym s.standing ∙ over));
 }
@@ -213,10 +216,10 @@ module _ (client server : Flow) where
   both_ended i a p over over_a = all_over i a i a p (λ b past leg first k. ended_over b past leg i over k) (λ b past leg first k. ended_over b past leg a over_a k)
 
   -- and where the connection that stands is cut, if one stands
-  pub both_cut : (i a i' a' : DrivenEnd) (pipe : Option Held) → ((b : Beginning) (past : List TurnedLeg) (leg : TurnedLeg) → Awaits b → RunsOver b past leg i → is_given i.standing ≡ false → StandsBehind b (past ++ leg ∷ []) i')
-      → (i.standing ≡ standings.Over → i' ≡ i) → ((b : Beginning) (past : List TurnedLeg) (leg : TurnedLeg) → Awaits b → RunsOver b past leg a → is_given a.standing ≡ false → StandsBehind b (past ++ leg ∷ []) a')
-      → (a.standing ≡ standings.Over → a' ≡ a) → is_lost i a ≡ false → Together client server i a pipe → Together client server i' a' None
-  both_cut i a i' a' None over rests over_a rests_a sound t = record {
+  pub both_cut : (i a i' a' : DrivenEnd) (pipe : Option Held) → ((b : Beginning) (past : List TurnedLeg) (leg : TurnedLeg) → Awaits b → RunsOver b past leg i → is_given i.standing ≡ false → is_failed i.standing ≡ false → StandsBehind b (past ++ leg ∷ []) i')
+      → (i.standing ≡ standings.Over → i' ≡ i) → ((b : Beginning) (past : List TurnedLeg) (leg : TurnedLeg) → Awaits b → RunsOver b past leg a → is_given a.standing ≡ false → is_failed a.standing ≡ false → StandsBehind b (past ++ leg ∷ []) a')
+      → (a.standing ≡ standings.Over → a' ≡ a) → is_lost i a ≡ false → is_failed i.standing ≡ false → is_failed a.standing ≡ false → Together client server i a pipe → Together client server i' a' None
+  both_cut i a i' a' None over rests over_a rests_a sound whole whole_a t = record {
     lives = t.lives;
     lives_a = t.lives_a;
     past = t.past;
@@ -227,9 +230,9 @@ module _ (client server : Flow) where
       subst (λ (e : DrivenEnd). StandsBehind t.lives_a.begins t.past_a e) (sym (rests_a t.meet.1.over)) t.meet.1,
     );
   }
-  both_cut i a i' a' (Some p) over rests over_a rests_a sound t =
+  both_cut i a i' a' (Some p) over rests over_a rests_a sound whole whole_a t =
       let parts = neither (is_given i.standing) (is_given a.standing) sound in
-      all_over i a i' a' p (λ b past leg first k. over b past leg first k parts.0) (λ b past leg first k. over_a b past leg first k parts.1) t
+      all_over i a i' a' p (λ b past leg first k. over b past leg first k parts.0 whole) (λ b past leg first k. over_a b past leg first k parts.1 whole_a) t
 
   -- behind a round the pipe stands where the connection goes on
   pub round_behind : (i a : DrivenEnd) (q : Held) (b : Bool) (o : Option Held) → o ≡ (if b then Some q else None) → b ≡ (is_going i.standing || is_going a.standing) → is_lost i a ≡ false
@@ -239,3 +242,55 @@ module _ (client server : Flow) where
       let parts = neither (is_given i.standing) (is_given a.standing) sound in
       let over = neither (is_going i.standing) (is_going a.standing) (sym going) in
       subst (λ (x : Option Held). Together client server i a x) (sym is) (both_ended i a q (is_over i.standing over.0 parts.0) (is_over a.standing over.1 parts.1) t)
+
+  -- the initiator goes on from its journals, as its life is over and the connection that stood is given up by the acceptor
+  pub initiator_next : (i a i' a' : DrivenEnd) (pipe : Option Held) → ((b : Beginning) (past : List TurnedLeg) (leg : TurnedLeg) → Awaits b → RunsOver b past leg a → is_given a.standing ≡ false → is_failed a.standing ≡ false
+      → StandsBehind b (past ++ leg ∷ []) a') → (a.standing ≡ standings.Over → a' ≡ a) → is_lost i a ≡ false → is_failed a.standing ≡ false → GoesOnBehind client server i i' → Together client server i a pipe
+      → ∥ Together client server i' a' None ∥₁
+  initiator_next i a i' a' None over rests sound whole n t =
+      ∥∥₁_map (n.next t.lives t.past (ended_none t.lives.begins t.past i t.lives.began.awaits t.meet.0)) (λ x. record {
+        lives = x.lives;
+        lives_a = t.lives_a;
+        past = [];
+        past_a = t.past_a;
+        paired = subst (λ (ts : List TurnedLeg). AllZip ReadEachOther ts (t.lives_a.legs ++ t.past_a)) (sym (append-nil x.lives.legs ∙ x.legs_are)) t.paired;
+        meet = (x.stands, subst (λ (e : DrivenEnd). StandsBehind t.lives_a.begins t.past_a e) (sym (rests t.meet.1.over)) t.meet.1);
+      })
+  initiator_next i a i' a' (Some p) over rests sound whole n t =
+      let k = t.meet in
+      let parts = neither (is_given i.standing) (is_given a.standing) sound in
+      ∥∥₁_map (n.next t.lives (t.past ++ k.leg ∷ []) (ended_one t.lives.begins t.past k.leg i t.lives.began.awaits parts.0 k.runs)) (λ x. record {
+        lives = x.lives;
+        lives_a = t.lives_a;
+        past = [];
+        past_a = t.past_a ++ k.leg_a ∷ [];
+        paired = subst (λ (ts : List TurnedLeg). AllZip ReadEachOther ts (t.lives_a.legs ++ (t.past_a ++ k.leg_a ∷ []))) (sym (append-nil x.lives.legs ∙ x.legs_are))
+            (paired_more t.lives.legs t.past t.lives_a.legs t.past_a k.leg k.leg_a t.paired (read k.leg k.leg_a p.to_left p.to_right k.way));
+        meet = (x.stands, over t.lives_a.begins t.past_a k.leg_a t.lives_a.began.awaits k.runs_a parts.1 whole);
+      })
+
+  -- and so the acceptor
+  pub acceptor_next : (i a i' a' : DrivenEnd) (pipe : Option Held) → ((b : Beginning) (past : List TurnedLeg) (leg : TurnedLeg) → Awaits b → RunsOver b past leg i → is_given i.standing ≡ false → is_failed i.standing ≡ false
+      → StandsBehind b (past ++ leg ∷ []) i') → (i.standing ≡ standings.Over → i' ≡ i) → is_lost i a ≡ false → is_failed i.standing ≡ false → GoesOnBehind server client a a' → Together client server i a pipe
+      → ∥ Together client server i' a' None ∥₁
+  acceptor_next i a i' a' None over rests sound whole n t =
+      ∥∥₁_map (n.next t.lives_a t.past_a (ended_none t.lives_a.begins t.past_a a t.lives_a.began.awaits t.meet.1)) (λ x. record {
+        lives = t.lives;
+        lives_a = x.lives;
+        past = t.past;
+        past_a = [];
+        paired = subst (λ (ts : List TurnedLeg). AllZip ReadEachOther (t.lives.legs ++ t.past) ts) (sym (append-nil x.lives.legs ∙ x.legs_are)) t.paired;
+        meet = (subst (λ (e : DrivenEnd). StandsBehind t.lives.begins t.past e) (sym (rests t.meet.0.over)) t.meet.0, x.stands);
+      })
+  acceptor_next i a i' a' (Some p) over rests sound whole n t =
+      let k = t.meet in
+      let parts = neither (is_given i.standing) (is_given a.standing) sound in
+      ∥∥₁_map (n.next t.lives_a (t.past_a ++ k.leg_a ∷ []) (ended_one t.lives_a.begins t.past_a k.leg_a a t.lives_a.began.awaits parts.1 k.runs_a)) (λ x. record {
+        lives = t.lives;
+        lives_a = x.lives;
+        past = t.past ++ k.leg ∷ [];
+        past_a = [];
+        paired = subst (λ (ts : List TurnedLeg). AllZip ReadEachOther (t.lives.legs ++ (t.past ++ k.leg ∷ [])) ts) (sym (append-nil x.lives.legs ∙ x.legs_are))
+            (paired_more t.lives.legs t.past t.lives_a.legs t.past_a k.leg k.leg_a t.paired (read k.leg k.leg_a p.to_left p.to_right k.way));
+        meet = (over t.lives.begins t.past k.leg t.lives.began.awaits k.runs parts.0 whole, x.stands);
+      })
