@@ -1,7 +1,8 @@
 -- Both ends together, behind each call of a pair.
 use Rattle.std.proofs.Common.{◌≡◌, ℕ, true, false, ◌||◌, if◌then◌else◌, Bool, List, [], ◌∷◌, ◌++◌, Option, Some, None, refl, sym, ap, subst, ◌∙◌, append-nil, append_assoc, true≢false}
 use Rattle.std.specs.List.{AllZip}
-use Rattle.std.proofs.Math.Logic.{∥∥₁_map}
+use Rattle.std.proofs.Math.Logic.{∥∥₁_map, ∥∥₁_elim, ∥∥₁_prop}
+use Rattle.session_model.specs.Journal.{entries}
 use Rattle.session_model.specs.Inbox.{InboxRecord}
 use Rattle.jr_kept.specs.Inbox.{HoldsBox}
 use Rattle.gate_turn.specs.Places.{known}
@@ -10,6 +11,7 @@ use Rattle.std.proofs.lemmas.List.Elements.{AllZip-push}
 use Rattle.fixp_msgs.specs.declared.flow.Flow.{Flow}
 use Rattle.gw_link_fakes.specs.Pipes.{Held, new_pipe, told_at}
 use Rattle.gw_link_fakes.specs.declared.pipe.Side.TheVariants.{Left, Right}
+use Rattle.turn_laws.specs.Standing.{Has}
 use Rattle.turn_laws.specs.Legs.{TurnedLeg}
 use Rattle.two_ends.specs.Driving.{EndNow, Beginning, Awaits, begun_leg, Between, During}
 use Rattle.two_ends.specs.Pairing.{ReadEachOther, UnderWay}
@@ -294,3 +296,19 @@ module _ (client server : Flow) where
             (paired_more t.lives.legs t.past t.lives_a.legs t.past_a k.leg k.leg_a t.paired (read k.leg k.leg_a p.to_left p.to_right k.way));
         meet = (over t.lives.begins t.past k.leg t.lives.began.awaits k.runs parts.0 whole, x.stands);
       })
+
+  -- so it is of a pair in which the initiator is stopped, whatever its senders do then
+  pub initiator_on : (i a i' i'' a' : DrivenEnd) (pipe : Option Held) → ((b : Beginning) (past : List TurnedLeg) (leg : TurnedLeg) → Awaits b → RunsOver b past leg a → is_given a.standing ≡ false → is_failed a.standing ≡ false
+      → StandsBehind b (past ++ leg ∷ []) a') → (a.standing ≡ standings.Over → a' ≡ a) → is_lost i a ≡ false → is_failed a.standing ≡ false → GoesOnBehind client server i i' → i'' ≡ record i' { senders = i''.senders }
+      → (is_lost i a ≡ false → ∥ Together client server i a pipe ∥₁) → ∥ Together client server i'' a' None ∥₁
+  initiator_on i a i' i'' a' pipe over rests sound whole n same k =
+      ∥∥₁_elim (k sound) ∥∥₁_prop (λ t. ∥∥₁_map (initiator_next i a i' a' pipe over rests sound whole n t) (λ u. together_same i' i'' a' None (same_of i' i'' same) u))
+
+  pub acceptor_on : (i a i' a' : DrivenEnd) (pipe : Option Held) → ((b : Beginning) (past : List TurnedLeg) (leg : TurnedLeg) → Awaits b → RunsOver b past leg i → is_given i.standing ≡ false → is_failed i.standing ≡ false
+      → StandsBehind b (past ++ leg ∷ []) i') → (i.standing ≡ standings.Over → i' ≡ i) → is_lost i a ≡ false → is_failed i.standing ≡ false → GoesOnBehind server client a a'
+      → (is_lost i a ≡ false → ∥ Together client server i a pipe ∥₁) → ∥ Together client server i' a' None ∥₁
+  acceptor_on i a i' a' pipe over rests sound whole n k = ∥∥₁_elim (k sound) ∥∥₁_prop (λ t. acceptor_next i a i' a' pipe over rests sound whole n t)
+
+-- the same by flows that are those
+pub behind_as : (own peer own' peer' : Flow) (e e' : DrivenEnd) → own' ≡ own → peer' ≡ peer → GoesOnBehind own peer e e' → GoesOnBehind own' peer' e e'
+behind_as own peer own' peer' e e' is is_peer n = subst (λ (f : Flow). GoesOnBehind f peer' e e') (sym is) (subst (λ (f : Flow). GoesOnBehind own f e e') (sym is_peer) n)
