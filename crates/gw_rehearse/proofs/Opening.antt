@@ -1,7 +1,8 @@
 -- What stops leave of a disk, and what is opened on it.
-use Rattle.std.proofs.Common.{◌<◌, ◌^◌, arith, ◌≡◌, ◌+◌, ℕ, List, [], ◌∷◌, ◌++◌, length, map, Option, Some, None, refl, sym, ap, subst, ◌∙◌, append-nil}
-use Rattle.std.proofs.lemmas.Bool.{and_parts, eqb-true, false≢true}
-use Rattle.std.specs.Prelude.{IsTrue, IsSomeAnd, ◌==◌}
+use Rattle.std.proofs.Common.{◌<◌, ◌^◌, arith, ◌≡◌, ◌+◌, ℕ, List, [], ◌∷◌, ◌++◌, length, map, Option, Some, None, Result, refl, sym, ap, subst, ◌∙◌, append-nil}
+use Rattle.std.proofs.lemmas.Bool.{and_parts, eqb-true, leb-true, false≢true}
+use Rattle.std.specs.Prelude.{IsTrue, IsSomeAnd, IfOk, IfSome, ◌==◌}
+use Rattle.std.proofs.Math.Logic.{∥∥₁_map}
 use mathlib.Core.List.{IsPrefix}
 use Rattle.session_model.specs.Journal.{History, OutboxRecord}
 use Rattle.session_model.specs.Inbox.{InboxRecord}
@@ -52,7 +53,7 @@ leaves_on first second third a b closing refused k = b closing refused (a closin
 -- what is left where no write is pending is what was synced
 only_synced : (synced image : List ℕ) → IsTrue (is_left synced (none_pending (length synced)) image) → image ≡ synced
 only_synced [] [] left = refl
-only_synced [] (b ∷ bs) left = absurd (false≢true left)
+only_synced [] (b ∷ bs) left = absurd (omega (arith, leb-true _ _ left))
 only_synced (s ∷ ss) [] left = absurd (false≢true left)
 only_synced (s ∷ ss) (b ∷ bs) left =
     let parts = and_parts (b == s) (is_left ss (none_pending (length ss)) bs) left in
@@ -141,3 +142,23 @@ begins_on_left own peer disks box ibox e few left left_in begins s k =
       outbox_left = λ closing refused leaves. left closing refused leaves (opening_of e.gate).history s;
       inbox_left = λ closing refused leaves. left_in closing refused leaves k.0 (record { dated = h.dated; bare = h.bare; journal = h.journal.stands_for; inbox = h.inbox; noticed = h.noticed });
     }
+
+-- it begins on what is left of disks that may leave more
+pub begins_more : (own peer : Flow) (before after : Disks) (e : DrivenEnd) → DisksLeaveNoMore before after → BeginsOnLeft own peer after e → BeginsOnLeft own peer before e
+begins_more own peer before after e more n = record {
+  inbox = n.inbox;
+  begins = n.begins;
+  history = n.history;
+  few = n.few;
+  outbox_left = λ closing refused leaves. n.outbox_left closing refused (more.outbox closing refused leaves);
+  inbox_left = λ closing refused leaves. n.inbox_left closing refused (more.inbox closing refused leaves);
+}
+
+pub begins_as : {E : Type 0} (own peer own' peer' : Flow) (disks : Disks) (r : Result DrivenEnd E) → own ≡ own' → peer ≡ peer' → IfOk r (λ e. ∥ BeginsOnLeft own peer disks e ∥₁) → IfOk r (λ e. ∥ BeginsOnLeft own' peer' disks e ∥₁)
+begins_as own peer own' peer' disks r is is_peer n =
+    subst (λ (f : Flow). IfOk r (λ e. ∥ BeginsOnLeft f peer' disks e ∥₁)) is (subst (λ (f : Flow). IfOk r (λ e. ∥ BeginsOnLeft own f disks e ∥₁)) is_peer n)
+
+-- an end beside something else, if one was opened
+pub begins_if : {T : Type 0} (own peer : Flow) (before after : Disks) (o : Option (DrivenEnd × T)) → DisksLeaveNoMore before after → IfSome o (λ r. ∥ BeginsOnLeft own peer after r.0 ∥₁) → IfSome o (λ r. ∥ BeginsOnLeft own peer before r.0 ∥₁)
+begins_if own peer before after None more n = tt
+begins_if own peer before after (Some r) more n = ∥∥₁_map n (λ b. begins_more own peer before after r.0 more b)

@@ -1,5 +1,6 @@
 -- A life that is over, and the one that begins on what a stop left of its disks.
-use Rattle.std.proofs.Common.{◌≡◌, ◌<◌, ◌^◌, ℕ, true, false, Bool, List, [], ◌∷◌, ◌++◌, length, map, take, refl, sym, ap, subst, ◌∙◌, true≢false}
+use Rattle.std.proofs.Common.{◌≡◌, ◌<◌, ◌^◌, ℕ, true, false, Bool, List, [], ◌∷◌, ◌++◌, length, map, take, Option, Some, None, refl, sym, ap, subst, ◌∙◌, true≢false}
+use Rattle.std.specs.Prelude.{IfSome}
 use Rattle.std.proofs.Math.Logic.{∥∥₁_map₂}
 use Rattle.std.proofs.lemmas.List.{map-append}
 use Rattle.std.specs.List.{AllByRecursion}
@@ -29,7 +30,8 @@ use Rattle.gw_rehearse.specs.declared.journals.Journals.{Journals}
 use Rattle.gw_rehearse.specs.declared.disks.Disks.{Disks}
 use Rattle.gw_rehearse.specs.Driven.{IsEnded, ClosedOn, beginning_on}
 use Rattle.gw_rehearse.specs.Stopped.{LeavesNoMore, IsLeft, BeginsOnLeft}
-use Rattle.gw_rehearse.specs.Together.{Lives, NextLife}
+use Rattle.gw_rehearse.specs.Together.{GoesOnBehind, Lives, NextLife}
+use Rattle.gw_rehearse.proofs.Opening.{leaves_self}
 use Rattle.gw_rehearse.proofs.Outboxes.{entries-outbox_of, outbox_goes_on}
 
 -- ---- records of a history, and more behind them
@@ -134,3 +136,11 @@ next_life own peer l legs e e' j disks c o out_more in_more held n =
 pub lives_on : (own peer : Flow) (l : Lives own peer) (legs : List TurnedLeg) (e e' : DrivenEnd) (j : Journals) (disks : Disks) → (c : ClosedOn e j) → IsEnded l.begins legs e
     → LeavesNoMore (disk_of (outboxes.journal_of j.outbox)) disks.outbox → LeavesNoMore (disk_of (inboxes.journal_of j.inbox)) disks.inbox → ∥ BeginsOnLeft own peer disks e' ∥₁ → ∥ NextLife own peer l legs e' ∥₁
 lives_on own peer l legs e e' j disks c o out_more in_more begins = ∥∥₁_map₂ c.holds begins (λ held n. next_life own peer l legs e e' j disks c o out_more in_more held n)
+
+-- so goes on an end that was opened on disks that stood as its journals did, beside something else
+pub lives_if : {T : Type 0} (own peer : Flow) (e : DrivenEnd) (j : Journals) (disks : Disks) (o : Option (DrivenEnd × T)) → ClosedOn e j → disks.outbox ≡ disk_of (outboxes.journal_of j.outbox)
+    → disks.inbox ≡ disk_of (inboxes.journal_of j.inbox) → IfSome o (λ r. ∥ BeginsOnLeft own peer disks r.0 ∥₁) → IfSome o (λ r. GoesOnBehind own peer e r.0)
+lives_if own peer e j disks None c out_is in_is n = tt
+lives_if own peer e j disks (Some r) c out_is in_is n = record {
+  next = λ l legs ended. lives_on own peer l legs e r.0 j disks c ended (subst (λ d. LeavesNoMore d disks.outbox) out_is (leaves_self disks.outbox)) (subst (λ d. LeavesNoMore d disks.inbox) in_is (leaves_self disks.inbox)) n;
+}

@@ -1,6 +1,5 @@
 -- What is known of an end over the connections that it had, behind each of its calls.
 use Rattle.std.proofs.Common.{◌≡◌, ◌+◌, ◌≤◌, ◌^◌, ℕ, false, Bool, List, [], ◌∷◌, ◌++◌, length, Option, Some, None, refl, sym, ap, subst, ◌∙◌, append-nil, arith, true≢false}
-use Rattle.std.specs.Prelude.{⊤}
 use Rattle.gw_links.specs.Links.{LinkTold, Carried, Steps}
 use Rattle.session_model.specs.Journal.{Entry, History, BeginsHistory, OutboxRecord, entries}
 use Rattle.session_model.specs.Inbox.{InboxRecord, next_number}
@@ -20,11 +19,10 @@ use Rattle.conn_turns.specs.declared.answer.TurnFault.{TurnFault}
 use Rattle.conn_loop.specs.Turned.{refused_of}
 use Rattle.conn_turns.specs.declared.news.NewsItem.{NewsItem}
 use Rattle.conn_loop.specs.Conn.{line_of, line_begun, line_cut, Looks}
-use Rattle.conn_loop.specs.Live.{EndAt, live_end}
+use Rattle.conn_loop.specs.Live.{live_end}
 use Rattle.turn_laws.specs.Standing.{Has}
 use Rattle.turn_laws.specs.Legs.{TurnedLeg, given_in, sent_in}
 use Rattle.turn_laws.specs.Turns.{line_received, adds_in}
-use Rattle.turn_laws.specs.Turned.{WasTurn, WasCut}
 use Rattle.turn_laws.proofs.Refusing.{cut_waits}
 use Rattle.two_ends.specs.Driving.{Beginning, Awaits, begun_leg, with_turn, cut_leg, Between, During}
 use Rattle.two_ends.specs.Stories.{IsOver}
@@ -80,18 +78,15 @@ begun b legs e e' now gate time going line pass box k =
 
 module _ (b : Beginning) (past : List TurnedLeg) (leg : TurnedLeg) (e e' : DrivenEnd) (eager : Bool) (before after : ℕ) (told told' : Option LinkTold) (carried carried' : Option Carried) (news : List NewsItem) (awaits : Awaits b)
     (gate : e'.gate ≡ e.gate) (going : e.standing ≡ standings.Open) (unended : (line_of e.conn).machine.ending ≡ None) (looks : Looks (known e.pass) (known e'.pass)) (k : RunsOver b past leg e) where
-  -- what the turn found, and what it left
-  abbrev found : EndAt _ _
-  found = live_end told carried (known e.pass).seen (line_of e.conn) e.inbox []
-
-  abbrev left : EndAt _ _
-  left = live_end told' carried' (known e'.pass).seen (line_of e'.conn) e'.inbox news
+  -- the turn, by where it left the end
+  abbrev pub Made : Standing → Type 0
+  Made s = WasMade s eager before after (live_end told carried (known e.pass).seen (line_of e.conn) e.inbox []) (live_end told' carried' (known e'.pass).seen (line_of e'.conn) e'.inbox news)
 
   uncut : leg.cut ≡ None
   uncut = (k.whole (ap is_failed going)).1
 
   -- it goes on by a whole one
-  whole_turned : is_failed e'.standing ≡ false → WasTurn ⊤ eager before after found left → TurnedOn b past leg e' told told'
+  whole_turned : is_failed e'.standing ≡ false → Made standings.Open → TurnedOn b past leg e' told told'
   whole_turned whole w =
       let inbox : List InboxRecord = k.inbox ++ adds_in (line_of e.conn) w.turn in
       let later : TurnedLeg = with_turn leg w.turn in
@@ -115,8 +110,10 @@ module _ (b : Beginning) (past : List TurnedLeg) (leg : TurnedLeg) (e e' : Drive
       }
 
   -- or its life is over, as a call of a disk failed
-  cut_turned : e'.standing ≡ standings.Failed → (fault : TurnFault) → WasCut eager before after found left fault → TurnedOn b past leg e' told told'
-  cut_turned failed fault w =
+  cut_turned : e'.standing ≡ standings.Failed → Made standings.Failed → TurnedOn b past leg e' told told'
+  cut_turned failed made =
+      let fault : TurnFault = made.0 in
+      let w = made.1 in
       let later : TurnedLeg = cut_leg leg (cut_short w.now w.received w.frames w.refused) in
       let gained : List InboxRecord = added w.now (line_received (line_of e.conn) w.now w.received w.made.cut.got) w.frames in
       let lost : List InboxRecord = refused_of fault w.now (lines_after w.now (line_received (line_of e.conn) w.now w.received w.made.cut.got) w.frames) w.refused in
@@ -140,13 +137,13 @@ module _ (b : Beginning) (past : List TurnedLeg) (leg : TurnedLeg) (e e' : Drive
         };
       }
 
-  pub turned : is_given e'.standing ≡ false → WasMade e'.standing eager before after found left → TurnedOn b past leg e' told told'
+  pub turned : is_given e'.standing ≡ false → Made e'.standing → TurnedOn b past leg e' told told'
   turned sound made = by_standing e'.standing refl sound made
     where
-      by_standing : (s : Standing) → e'.standing ≡ s → is_given s ≡ false → WasMade s eager before after found left → TurnedOn b past leg e' told told'
+      by_standing : (s : Standing) → e'.standing ≡ s → is_given s ≡ false → Made s → TurnedOn b past leg e' told told'
       by_standing standings.Over is sound w = whole_turned (ap is_failed is) w
       by_standing standings.Open is sound w = whole_turned (ap is_failed is) w
-      by_standing standings.Failed is sound w = cut_turned is w.0 w.1
+      by_standing standings.Failed is sound w = cut_turned is w
       by_standing standings.GivenUp is sound w = absurd (true≢false sound)
 
 -- a link of which nothing is asked gives and takes nothing

@@ -22,12 +22,16 @@ use Rattle.gw_rehearse.specs.declared.standing.Standing.{Standing}
 use Rattle.gw_rehearse.specs.declared.standing.Standing.TheVariants as standings
 use Rattle.gw_rehearse.specs.Standing.{is_given, is_going, is_failed}
 use Rattle.gw_rehearse.specs.Driven.{now_of, StandsBehind, RunsOver, TurnsOn, BeginsOn, beginning_on}
-use Rattle.gw_rehearse.specs.Together.{GoesOnBehind, Together, is_lost, PairNow, StaysSound}
+use Rattle.cmd_script.specs.declared.script.Script.{Script}
+use Rattle.gw_rehearse.specs.Together.{GoesOnBehind, IsPairOf, Together, is_lost, PairNow, StaysSound}
 use Rattle.gw_rehearse.proofs.Stories.{opens_same, ended_over, ended_none, ended_one}
 
 pub neither : (a b : Bool) → (a || b) ≡ false → (a ≡ false) × (b ≡ false)
 neither true b e = absurd (true≢false e)
 neither false b e = (refl, e)
+
+pub neither_is : (a b : Bool) → a ≡ false → b ≡ false → (a || b) ≡ false
+neither_is a b e f = ap (λ (x : Bool). x || b) e ∙ f
 
 pub lost_back : (a b a' b' : Bool) → (a' ≡ false → a ≡ false) → (b' ≡ false → b ≡ false) → (a' || b') ≡ false → (a || b) ≡ false
 lost_back a b a' b' left right e =
@@ -47,6 +51,9 @@ stays_self p = record { client = refl; server = refl; sound = λ e. e }
 
 pub stays_on : (p q r : PairNow) → StaysSound p q → StaysSound q r → StaysSound p r
 stays_on p q r s t = record { client = t.client ∙ s.client; server = t.server ∙ s.server; sound = λ e. t.sound (s.sound e) }
+
+pub pair_on : (script : Script) (p q : PairNow) → IsPairOf script p → StaysSound p q → IsPairOf script q
+pair_on script p q is s = record { client = s.client ∙ is.client; server = s.server ∙ is.server }
 
 -- one more connection of both is paired
 pub paired_more : (ls ms ks ns : List TurnedLeg) (a b : TurnedLeg) → AllZip ReadEachOther (ls ++ ms) (ks ++ ns) → ReadEachOther a b → AllZip ReadEachOther (ls ++ (ms ++ a ∷ [])) (ks ++ (ns ++ b ∷ []))

@@ -71,11 +71,6 @@ pub record PairNow : Type 0 where
   pub lost : Bool
   pub failed : Bool
 
--- no end was given up, and none failed
-pub record IsUnbroken (p : PairNow) : Type 0 where
-  pub sound : p.lost ≡ false
-  pub whole : p.failed ≡ false
-
 -- its flows are those of a script
 pub record IsPairOf (script : Script) (p : PairNow) : Type 0 where
   pub client : p.client ≡ script.link.client_flow

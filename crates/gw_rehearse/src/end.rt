@@ -379,34 +379,14 @@ impl DrivenEnd {
         go_on(alloc, &self.gate, &mut self.senders, messages, rt)
     }
 
-    /// The end is stopped, and goes on from what the pick leaves of its disks; none where memory runs out.
-    pub(crate) fn restart(self, alloc: Global, config: EndConfig, pick: Pick) -> Option<DrivenEnd>
-        requires keepalive { (100 ≤ config.keepalive) × (config.keepalive ≤ 60000) }
-        requires credentials { length config.credentials ≤ 2048 }
-        requires session { length config.session ≡ 16 }
-        requires driven { IsDriven self }
-        ensures driven { IfSome result (λ end. IsDriven end) }
-        ensures sound { IfSome result (λ end. is_given end.standing ≡ false) }
-        ensures next { IfSome result (λ end. GoesOnBehind config.own_flow config.peer_flow self end) }
-    {
-        let finished = self.finished;
-        let journals = self.close();
-        let senders = journals.senders;
-        let disks = journals.into_disks().stop(pick);
-        match DrivenEnd::reopen(alloc, config, disks, senders, finished) {
-            Ok(end) => Some(end),
-            Err(_) => None,
-        }
-    }
-
-    /// The end goes on from its disks, of each of which `after` more calls pass. Where one fails in the opening it is stopped at once, and goes on
-    /// from what the pick leaves. Answers the end, and whether it is still to be stopped; none where memory runs out.
-    pub(crate) fn restart_fused(
+    /// The end goes on from its disks: once they were stopped as the pick says, or, where there is a fuse, with so many more calls of each. Where
+    /// one fails in the opening, it is stopped at once. Answers the end, and whether it is still to be stopped; none where memory runs out.
+    pub(crate) fn restart(
         self,
         alloc: Global,
         script: &Script,
         role: Role,
-        after: u32,
+        fuse: Option<u32>,
         pick: Pick,
     ) -> Option<(DrivenEnd, bool)>
         requires script { IsScript script.now }
@@ -418,15 +398,11 @@ impl DrivenEnd {
         let finished = self.finished;
         let journals = self.close();
         let senders = journals.senders;
-        let disks = journals.into_disks().fuse(u64::from(after));
-        let config = config_of(alloc, script, role).ok()?;
-        match DrivenEnd::reopen(alloc, config, disks, senders, finished) {
-            Ok(end) => Some((end, true)),
-            Err(disks) => {
-                let disks = disks?.stop(pick);
-                let config = config_of(alloc, script, role).ok()?;
-                let end = DrivenEnd::reopen(alloc, config, disks, senders, finished).ok()?;
-                Some((end, false))
+        let disks = journals.into_disks();
+        match fuse {
+            None => reopen_stopped(alloc, script, role, disks, pick, senders, finished),
+            Some(after) => {
+                reopen_fused(alloc, script, role, disks, after, pick, senders, finished)
             }
         }
     }
@@ -457,5 +433,78 @@ impl DrivenEnd {
             inbox,
             senders: count,
         }
+    }
+}
+
+/// The end of a role over the journals of these disks. The disks come back where a call of one failed; none do where memory runs out.
+fn reopen_as(
+    alloc: Global,
+    script: &Script,
+    role: Role,
+    disks: Disks,
+    senders: u16,
+    finished: bool,
+) -> Result<DrivenEnd, Option<Disks>>
+    requires script { IsScript script.now }
+    requires senders { senders ≤ 16 }
+    ensures driven { IfOk result (λ end. IsDriven end) }
+    ensures sound { IfOk result (λ end. is_given end.standing ≡ false) }
+    ensures begins { IfOk result (λ end. ∥ BeginsOnLeft (own_flow role script.now.link.client_flow script.now.link.server_flow) (peer_flow role script.now.link.client_flow script.now.link.server_flow) disks end ∥₁) }
+    ensures returned { IfErr result (λ o. IfSome o (DisksLeaveNoMore disks)) }
+{
+    let Ok(config) = config_of(alloc, script, role) else {
+        return Err(None);
+    };
+    DrivenEnd::reopen(alloc, config, disks, senders, finished)
+}
+
+/// The end of a role over the journals of these disks, once they were stopped, which is not to be stopped again; none where memory runs out.
+fn reopen_stopped(
+    alloc: Global,
+    script: &Script,
+    role: Role,
+    disks: Disks,
+    pick: Pick,
+    senders: u16,
+    finished: bool,
+) -> Option<(DrivenEnd, bool)>
+    requires script { IsScript script.now }
+    requires senders { senders ≤ 16 }
+    ensures driven { IfSome result (λ r. IsDriven r.0) }
+    ensures sound { IfSome result (λ r. is_given r.0.standing ≡ false) }
+    ensures begins { IfSome result (λ r. ∥ BeginsOnLeft (own_flow role script.now.link.client_flow script.now.link.server_flow) (peer_flow role script.now.link.client_flow script.now.link.server_flow) disks r.0 ∥₁) }
+{
+    let stopped = disks.stop(pick);
+    match reopen_as(alloc, script, role, stopped, senders, finished) {
+        Ok(end) => Some((end, false)),
+        Err(_) => None,
+    }
+}
+
+/// The end of a role over the journals of these disks, of each of which `after` more calls pass. Where one fails in the opening they are
+/// stopped at once. Answers the end, and whether it is still to be stopped; none where memory runs out.
+fn reopen_fused(
+    alloc: Global,
+    script: &Script,
+    role: Role,
+    disks: Disks,
+    after: u32,
+    pick: Pick,
+    senders: u16,
+    finished: bool,
+) -> Option<(DrivenEnd, bool)>
+    requires script { IsScript script.now }
+    requires senders { senders ≤ 16 }
+    ensures driven { IfSome result (λ r. IsDriven r.0) }
+    ensures sound { IfSome result (λ r. is_given r.0.standing ≡ false) }
+    ensures begins { IfSome result (λ r. ∥ BeginsOnLeft (own_flow role script.now.link.client_flow script.now.link.server_flow) (peer_flow role script.now.link.client_flow script.now.link.server_flow) disks r.0 ∥₁) }
+{
+    let fused = disks.fuse(u64::from(after));
+    match reopen_as(alloc, script, role, fused, senders, finished) {
+        Ok(end) => Some((end, true)),
+        Err(Some(failed)) => {
+            reopen_stopped(alloc, script, role, failed, pick, senders, finished)
+        }
+        Err(None) => None,
     }
 }

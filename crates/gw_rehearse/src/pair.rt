@@ -9,7 +9,7 @@ ghost use Rattle.cmd_config.specs.Settings.{own_flow, peer_flow};
 ghost use Rattle.cmd_script.specs.Script.{IsCount, IsScript};
 ghost use Rattle.gw_rehearse.specs.Standing.{is_given, is_going};
 ghost use Rattle.gw_rehearse.specs.Driven.{BeginsOn, IsDriven, TurnsOn};
-ghost use Rattle.gw_rehearse.specs.Together.{IsPairOf, IsUnbroken, KeepsSession, StaysSound, Together, is_lost};
+ghost use Rattle.gw_rehearse.specs.Together.{IsPairOf, KeepsSession, StaysSound, Together, is_lost};
 ghost use Rattle.gw_rehearse.specs.Summaries.{counts_to};
 
 use crate::configs::config_of;
@@ -337,6 +337,7 @@ impl Pair {
     ///
     /// # Errors
     /// Want of memory.
+    #[tactic(auto, using(crate::proofs::Together::stays_self, crate::proofs::Together::stays_on, crate::proofs::Together::pair_on))]
     fn burst<R: Threads + Wait + Sync>(
         self,
         script: &Script,
@@ -361,6 +362,7 @@ impl Pair {
     ///
     /// # Errors
     /// Want of memory.
+    #[tactic(auto, using(crate::proofs::Together::stays_self, crate::proofs::Together::stays_on, crate::proofs::Together::pair_on))]
     fn run<R: Wait>(self, script: &Script, count: u32, rt: &R) -> Result<Pair, Spent>
         requires script { IsScript script.now }
         requires flows { IsPairOf script.now self }
@@ -391,19 +393,56 @@ impl Pair {
         ensures stays { IfOk result (StaysSound self) }
     {
         match self.pending {
-            Some(stop) => match stop.end {
-                Role::Initiator => self.stop_initiator(script, stop.pick, rt),
-                Role::Acceptor => self.stop_acceptor(script, stop.pick),
-            },
+            Some(stop) => self.renew(script, stop, None, rt),
             None => Err(self.give_up()),
         }
     }
 
-    /// The initiator is stopped, and goes on from what the pick leaves of its journals.
+    /// The stop that is to come is made, where one is, or where an end failed.
     ///
     /// # Errors
-    /// Want of memory; also where the acceptor failed.
-    fn stop_initiator<R: Wait>(self, script: &Script, pick: Pick, rt: &R) -> Result<Pair, Spent>
+    /// Want of memory.
+    #[tactic(auto, using(crate::proofs::Together::stays_self, crate::proofs::Together::stays_on, crate::proofs::Together::pair_on))]
+    fn stop_due<R: Wait>(self, script: &Script, rt: &R) -> Result<Pair, Spent>
+        requires script { IsScript script.now }
+        requires flows { IsPairOf script.now self }
+        ensures stays { IfOk result (StaysSound self) }
+    {
+        if self.pending.is_some() || self.has_failed() {
+            return self.stop_pending(script, rt);
+        }
+        Ok(self)
+    }
+
+    /// The end of a stop goes on from its journals, once it was stopped, or, where there is a fuse, with so many more calls of each disk.
+    ///
+    /// # Errors
+    /// Want of memory; also where the other end failed.
+    fn renew<R: Wait>(
+        self,
+        script: &Script,
+        stop: Stop,
+        fuse: Option<u32>,
+        rt: &R,
+    ) -> Result<Pair, Spent>
+        requires script { IsScript script.now }
+        requires flows { IsPairOf script.now self }
+        ensures stays { IfOk result (StaysSound self) }
+    {
+        match stop.end {
+            Role::Initiator => self.renew_initiator(script, stop, fuse, rt),
+            Role::Acceptor => self.renew_acceptor(script, stop, fuse),
+        }
+    }
+
+    /// The initiator goes on from its journals, and the connection is cut.
+    fn renew_initiator<R: Wait>(
+        self,
+        script: &Script,
+        stop: Stop,
+        fuse: Option<u32>,
+        rt: &R,
+    ) -> Result<Pair, Spent>
         requires script { IsScript script.now }
         requires flows { IsPairOf script.now self }
         ensures stays { IfOk result (StaysSound self) }
@@ -411,9 +450,6 @@ impl Pair {
         if self.acceptor.has_failed() || is_lost(&self.initiator, &self.acceptor) {
             return Err(self.give_up());
         }
-        let Ok(config) = config_of(self.alloc, script, Role::Initiator) else {
-            return Err(self.give_up());
-        };
         let Pair {
             initiator,
             mut acceptor,
@@ -425,7 +461,9 @@ impl Pair {
             alloc,
         } = self;
         acceptor.cut();
-        let Some(mut initiator) = initiator.restart(alloc, config, pick) else {
+        let Some((mut initiator, pending)) =
+            initiator.restart(alloc, script, Role::Initiator, fuse, stop.pick)
+        else {
             let _ = acceptor.close();
             return Err(Spent);
         };
@@ -438,7 +476,7 @@ impl Pair {
             pipe: None,
             client,
             server,
-            pending: None,
+            pending: if pending { Some(stop) } else { None },
             alloc,
         };
         match answer {
@@ -447,11 +485,8 @@ impl Pair {
         }
     }
 
-    /// The acceptor is stopped, and goes on from what the pick leaves of its journals.
-    ///
-    /// # Errors
-    /// Want of memory; also where the initiator failed.
-    fn stop_acceptor(self, script: &Script, pick: Pick) -> Result<Pair, Spent>
+    /// The acceptor goes on from its journals, and the connection is cut.
+    fn renew_acceptor(self, script: &Script, stop: Stop, fuse: Option<u32>) -> Result<Pair, Spent>
         requires script { IsScript script.now }
         requires flows { IsPairOf script.now self }
         ensures stays { IfOk result (StaysSound self) }
@@ -459,9 +494,6 @@ impl Pair {
         if self.initiator.has_failed() || is_lost(&self.initiator, &self.acceptor) {
             return Err(self.give_up());
         }
-        let Ok(config) = config_of(self.alloc, script, Role::Acceptor) else {
-            return Err(self.give_up());
-        };
         let Pair {
             mut initiator,
             acceptor,
@@ -473,7 +505,9 @@ impl Pair {
             alloc,
         } = self;
         initiator.cut();
-        let Some(acceptor) = acceptor.restart(alloc, config, pick) else {
+        let Some((acceptor, pending)) =
+            acceptor.restart(alloc, script, Role::Acceptor, fuse, stop.pick)
+        else {
             let _ = initiator.close();
             return Err(Spent);
         };
@@ -484,7 +518,7 @@ impl Pair {
             pipe: None,
             client,
             server,
-            pending: None,
+            pending: if pending { Some(stop) } else { None },
             alloc,
         })
     }
@@ -494,6 +528,7 @@ impl Pair {
     ///
     /// # Errors
     /// Want of memory.
+    #[tactic(auto, using(crate::proofs::Together::stays_self, crate::proofs::Together::stays_on, crate::proofs::Together::pair_on))]
     fn begin_stop<R: Wait>(
         self,
         script: &Script,
@@ -505,116 +540,15 @@ impl Pair {
         requires flows { IsPairOf script.now self }
         ensures stays { IfOk result (StaysSound self) }
     {
-        let pair = if self.pending.is_some() {
-            self.stop_pending(script, rt)?
-        } else {
-            self
-        };
-        if pair.has_failed() || is_lost(&pair.initiator, &pair.acceptor) {
-            return Err(pair.give_up());
-        }
-        match stop.end {
-            Role::Initiator => pair.fuse_initiator(script, after, stop, rt),
-            Role::Acceptor => pair.fuse_acceptor(script, after, stop),
-        }
-    }
-
-    /// The initiator goes on from its journals, each of whose disks passes `after` more calls.
-    fn fuse_initiator<R: Wait>(
-        self,
-        script: &Script,
-        after: u32,
-        stop: Stop,
-        rt: &R,
-    ) -> Result<Pair, Spent>
-        requires script { IsScript script.now }
-        requires flows { IsPairOf script.now self }
-        requires whole { IsUnbroken self }
-        ensures stays { IfOk result (StaysSound self) }
-    {
-        let Pair {
-            initiator,
-            mut acceptor,
-            clock,
-            pipe: _,
-            client,
-            server,
-            pending: _,
-            alloc,
-        } = self;
-        acceptor.cut();
-        let messages = script.load.messages.as_slice();
-        let Some((mut initiator, pending)) = initiator.restart_fused(
-            alloc,
-            script,
-            Role::Initiator,
-            after,
-            stop.pick,
-        ) else {
-            let _ = acceptor.close();
-            return Err(Spent);
-        };
-        let answer = initiator.go_on(alloc, messages, rt);
-        let pair = Pair {
-            initiator,
-            acceptor,
-            clock,
-            pipe: None,
-            client,
-            server,
-            pending: if pending { Some(stop) } else { None },
-            alloc,
-        };
-        match answer {
-            Ok(()) => Ok(pair),
-            Err(_) => Err(pair.give_up()),
-        }
-    }
-
-    /// The acceptor goes on from its journals, each of whose disks passes `after` more calls.
-    fn fuse_acceptor(self, script: &Script, after: u32, stop: Stop) -> Result<Pair, Spent>
-        requires script { IsScript script.now }
-        requires flows { IsPairOf script.now self }
-        requires whole { IsUnbroken self }
-        ensures stays { IfOk result (StaysSound self) }
-    {
-        let Pair {
-            mut initiator,
-            acceptor,
-            clock,
-            pipe: _,
-            client,
-            server,
-            pending: _,
-            alloc,
-        } = self;
-        initiator.cut();
-        let Some((acceptor, pending)) = acceptor.restart_fused(
-            alloc,
-            script,
-            Role::Acceptor,
-            after,
-            stop.pick,
-        ) else {
-            let _ = initiator.close();
-            return Err(Spent);
-        };
-        Ok(Pair {
-            initiator,
-            acceptor,
-            clock,
-            pipe: None,
-            client,
-            server,
-            pending: if pending { Some(stop) } else { None },
-            alloc,
-        })
+        let pair = self.stop_due(script, rt)?;
+        pair.renew(script, stop, Some(after), rt)
     }
 
     /// A step of the script, and behind it the stop that was to come before it.
     ///
     /// # Errors
     /// Want of memory.
+    #[tactic(auto, using(crate::proofs::Together::stays_self, crate::proofs::Together::stays_on, crate::proofs::Together::pair_on))]
     fn step<R: Threads + Wait + Sync>(
         self,
         script: &Script,
@@ -625,28 +559,31 @@ impl Pair {
         requires flows { IsPairOf script.now self }
         ensures stays { IfOk result (StaysSound self) }
     {
-        let pair = match step {
-            Step::Burst { count, rounds } => self.burst(script, u64::from(count), rounds, rt)?,
-            Step::Rounds { count } => self.run(script, count, rt)?,
+        match step {
+            Step::Burst { count, rounds } => {
+                let pair = self.burst(script, u64::from(count), rounds, rt)?;
+                pair.stop_due(script, rt)
+            }
+            Step::Rounds { count } => {
+                let pair = self.run(script, count, rt)?;
+                pair.stop_due(script, rt)
+            }
             Step::Cut => {
                 let mut pair = self;
                 pair.cut();
-                pair
+                pair.stop_due(script, rt)
             }
             Step::Stop { end, after, pick } => {
-                return self.begin_stop(script, Stop { end, pick }, after, rt);
+                self.begin_stop(script, Stop { end, pick }, after, rt)
             }
-        };
-        if pair.pending.is_some() || pair.has_failed() {
-            return pair.stop_pending(script, rt);
         }
-        Ok(pair)
     }
 
     /// All steps of a script, and behind them what the senders still have to submit, which counts as a step for a stop that is to come.
     ///
     /// # Errors
     /// Want of memory.
+    #[tactic(auto, using(crate::proofs::Together::stays_self, crate::proofs::Together::stays_on, crate::proofs::Together::pair_on))]
     pub(crate) fn steps<R: Threads + Wait + Sync>(
         self,
         script: &Script,

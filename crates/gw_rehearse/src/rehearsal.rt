@@ -52,6 +52,7 @@ fn total(messages: &[u64]) -> u64 {
 ///
 /// # Errors
 /// Want of memory.
+#[tactic(auto, using(crate::proofs::Together::stays_self, crate::proofs::Together::stays_on))]
 fn run<R: Threads + Wait + Sync>(pair: Pair, script: &Script, rt: &R) -> Result<(Pair, bool), Spent>
     requires script { IsScript script.now }
     requires flows { IsPairOf script.now pair }
@@ -65,7 +66,10 @@ fn run<R: Threads + Wait + Sync>(pair: Pair, script: &Script, rt: &R) -> Result<
     let Ok(()) = pair.drain(most, rt) else {
         return Err(pair.give_up());
     };
-    let done = pair.is_over() && pair.has_sent(messages, rt);
+    if !pair.is_over() {
+        return Ok((pair, false));
+    }
+    let done = pair.has_sent(messages, rt);
     Ok((pair, done))
 }
 
