@@ -7,3 +7,4 @@ mod Together
 mod Closing
 mod Arriving
 mod Outboxes
+mod Stopping
