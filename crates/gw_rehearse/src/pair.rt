@@ -461,9 +461,13 @@ impl Pair {
             alloc,
         } = self;
         acceptor.cut();
-        let Some((mut initiator, pending)) =
-            initiator.restart(alloc, script, Role::Initiator, fuse, stop.pick)
-        else {
+        let Some((mut initiator, pending)) = initiator.restart(
+            alloc,
+            script,
+            Role::Initiator,
+            fuse,
+            stop.pick,
+        ) else {
             let _ = acceptor.close();
             return Err(Spent);
         };
@@ -505,9 +509,13 @@ impl Pair {
             alloc,
         } = self;
         initiator.cut();
-        let Some((acceptor, pending)) =
-            acceptor.restart(alloc, script, Role::Acceptor, fuse, stop.pick)
-        else {
+        let Some((acceptor, pending)) = acceptor.restart(
+            alloc,
+            script,
+            Role::Acceptor,
+            fuse,
+            stop.pick,
+        ) else {
             let _ = initiator.close();
             return Err(Spent);
         };
