@@ -8,3 +8,4 @@ mod Closing
 mod Arriving
 mod Outboxes
 mod Stopping
+mod Staying
