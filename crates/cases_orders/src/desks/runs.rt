@@ -1,6 +1,14 @@
 //! Runs of a business at a gate: of desks, or of a book.
 ghost use Rattle.std.specs.Prelude.{◌≡◌, ℕ, ◌+◌, ◌<◌, ◌≤◌, false, length, IfSome};
+ghost use denote.Param.Send.{IsSend};
 ghost use Rattle.jr_kept.specs.Outbox.{is_broken};
+ghost use Rattle.gw_fakes.specs.contracts.disk.MemDisk as disk;
+ghost use Rattle.gw_fakes.specs.contracts.disk.MemDiskDisk.TheImpl as on_disk;
+ghost use Rattle.jr_segments.specs.contracts.journal.SegJournal as journal;
+ghost use Rattle.jr_segments.specs.contracts.journal.SegJournalJournal.TheImpl as of_journal;
+ghost use Rattle.order_gate.specs.contracts.desk.Desk as desk;
+ghost use Rattle.order_gate.specs.contracts.form.Form as form;
+ghost use Rattle.order_book.specs.contracts.book.Book as book;
 ghost use Rattle.gate_turn.specs.Rule.{In};
 ghost use Rattle.gate_turn.specs.Listed.{known_at};
 ghost use Rattle.gate_senders.specs.Gate.{senders_of};
@@ -12,10 +20,10 @@ use gate_business::{Business, give_connection, take_connection};
 use gate_plans::Door;
 use gate_senders::{Gate, Kept};
 use gate_turn::Passes;
-use jr_dated::Journal;
 use jr_kept::{Inbox, Outbox};
+use order_book::Book;
 use order_book_gate::BookDesk;
-use order_gate::{Desks, Terms};
+use order_gate::{Desk, Desks, Form, Terms};
 use sbe_value::Payloads;
 use std::alloc::Global;
 use std::sync::Wait;
@@ -39,12 +47,12 @@ pub struct Asked<'a> {
 }
 
 /// Has a business take its place behind an inbox, and answer messages that come then; and says whether it answered all.
-fn answers<J: Journal + Send, B: Business<J> + Send, R: Threads + Wait + Sync>(
+fn answers<B: Business<Log> + Send, R: Threads + Wait + Sync>(
     alloc: Global,
     business: &mut B,
     inbox: &mut Inbox<Log>,
     payloads: &Payloads,
-    gate: &Gate<J>,
+    gate: &Gate<Log>,
     rt: &R,
 ) -> bool
     requires own { B.has business.old (lock_of gate.now) }
@@ -64,14 +72,14 @@ fn answers<J: Journal + Send, B: Business<J> + Send, R: Threads + Wait + Sync>(
 }
 
 /// A life of a business: it answers, and gives its passes back; and whether it answered all.
-fn live<J: Journal + Send, B: Business<J, Held = Kept<J>> + Send, R: Threads + Wait + Sync>(
+fn live<B: Business<Log, Held = Kept<Log>> + Send, R: Threads + Wait + Sync>(
     alloc: Global,
     business: B,
     inbox: &mut Inbox<Log>,
     payloads: &Payloads,
-    gate: &Gate<J>,
+    gate: &Gate<Log>,
     rt: &R,
-) -> (Passes<Kept<J>>, bool)
+) -> (Passes<Kept<Log>>, bool)
     requires own { B.has business (lock_of gate.now) }
     requires few { B.count business ≤ senders_of gate.now }
     requires most { length payloads.now ≤ 512 }
@@ -83,16 +91,42 @@ fn live<J: Journal + Send, B: Business<J, Held = Kept<J>> + Send, R: Threads + W
     (business.end(), whole)
 }
 
+/// Says of a type that its values may go to another thread. Said of each part apart, since all of a desk is too much for one search.
+fn sends<T: Send>()
+    ensures { IsSend T.row }
+{}
+
+/// The form of orders may go to another thread.
+fn form_sends()
+    ensures { IsSend form.the_row }
+{
+    sends::<Form>();
+}
+
+/// An order book may go to another thread.
+fn book_sends()
+    ensures { IsSend book.the_row }
+{
+    sends::<Book>();
+}
+
+/// One desk may go to another thread.
+fn desk_sends()
+    ensures { IsSend (desk.the_row (journal.the_row disk.the_row on_disk.ghosts) (of_journal.ghosts disk.the_row on_disk.ghosts on_disk.dict)) }
+{
+    sends::<Desk<Log>>();
+}
+
 /// A life of desks that take these passes.
-fn live_desks<J: Journal + Send, D: Door + Send + Copy + Drop, R: Threads + Wait + Sync>(
+fn live_desks<D: Door + Send + Copy + Drop, R: Threads + Wait + Sync>(
     alloc: Global,
-    gate: &Gate<J>,
-    passes: Passes<Kept<J>>,
+    gate: &Gate<Log>,
+    passes: Passes<Kept<Log>>,
     inbox: &mut Inbox<Log>,
     asked: Asked<'_>,
     door: D,
     rt: &R,
-) -> (Passes<Kept<J>>, bool)
+) -> (Passes<Kept<Log>>, bool)
     requires version { IsVersion asked.terms.version }
     requires few { asked.terms.desks ≤ 16 }
     requires senders { asked.terms.desks ≤ senders_of gate.now }
@@ -101,6 +135,8 @@ fn live_desks<J: Journal + Send, D: Door + Send + Copy + Drop, R: Threads + Wait
     ensures these { HasThese (lock_of gate.now) result.0 asked.entry.terms.desks }
     ensures made { (n : ℕ) → In asked.entry.terms.desks n → (known_at result.0 n).made ≡ (known_at passes n).made }
 {
+    form_sends();
+    desk_sends();
     match Desks::new(alloc, passes, asked.terms, door) {
         Ok(desks) => live(alloc, desks, inbox, asked.payloads, gate, rt),
         Err(passes) => (passes, false),
@@ -108,15 +144,15 @@ fn live_desks<J: Journal + Send, D: Door + Send + Copy + Drop, R: Threads + Wait
 }
 
 /// A life of a book of a version that takes the pass of number 1.
-fn live_book<J: Journal + Send, R: Threads + Wait + Sync>(
+fn live_book<R: Threads + Wait + Sync>(
     alloc: Global,
-    gate: &Gate<J>,
-    passes: Passes<Kept<J>>,
+    gate: &Gate<Log>,
+    passes: Passes<Kept<Log>>,
     inbox: &mut Inbox<Log>,
     version: u16,
     payloads: &Payloads,
     rt: &R,
-) -> (Passes<Kept<J>>, bool)
+) -> (Passes<Kept<Log>>, bool)
     requires version { IsVersion version }
     requires senders { 1 ≤ senders_of gate.now }
     requires most { length payloads.now ≤ 512 }
@@ -124,6 +160,9 @@ fn live_book<J: Journal + Send, R: Threads + Wait + Sync>(
     ensures these { HasThese (lock_of gate.now) result.0 1 }
     ensures made { (n : ℕ) → In 1 n → (known_at result.0 n).made ≡ (known_at passes n).made }
 {
+    form_sends();
+    desk_sends();
+    book_sends();
     match BookDesk::new(alloc, passes, version) {
         Ok(book) => live(alloc, book, inbox, payloads, gate, rt),
         Err(passes) => (passes, false),
@@ -131,15 +170,15 @@ fn live_book<J: Journal + Send, R: Threads + Wait + Sync>(
 }
 
 /// A life of those who are asked. A book has one pass, and does nothing with more.
-fn live_asked<J: Journal + Send, D: Door + Send + Copy + Drop, R: Threads + Wait + Sync>(
+fn live_asked<D: Door + Send + Copy + Drop, R: Threads + Wait + Sync>(
     alloc: Global,
-    gate: &Gate<J>,
-    passes: Passes<Kept<J>>,
+    gate: &Gate<Log>,
+    passes: Passes<Kept<Log>>,
     inbox: &mut Inbox<Log>,
     asked: Asked<'_>,
     door: D,
     rt: &R,
-) -> (Passes<Kept<J>>, bool)
+) -> (Passes<Kept<Log>>, bool)
     requires version { IsVersion asked.terms.version }
     requires few { asked.terms.desks ≤ 16 }
     requires senders { asked.terms.desks ≤ senders_of gate.now }
