@@ -6,8 +6,8 @@ use Rattle.std.proofs.lemmas.Bool.{cases_lt}
 use Rattle.std.specs.List.{slice_range}
 use Rattle.std.proofs.lemmas.List.{length-take, length-drop}
 use Rattle.gw_outside.specs.Disk.{ReadsAt, LeavesSame}
-use Rattle.conn_tail.specs.Tails.{IsDeliver, TellsNothing}
-use Rattle.conn_tail.specs.Places.{StandsAt, BeginsLine, IsLine}
+use Rattle.conn_tail.specs.Tails.{TellsNothing}
+use Rattle.conn_tail.specs.Places.{StandsAt, IsLine}
 use Rattle.conn_tail.proofs.Contents.{stands, nothing_stands, reaches, reads_all, line_read}
 
 -- a read that is not short
