@@ -1,10 +1,10 @@
 -- Lines that tell of an applied message, part by part.
-use Rattle.std.proofs.Common.{◌≡◌, ℕ, ◌+◌, ◌*◌, ◌<◌, ◌≤◌, ◌^◌, List, [], ◌∷◌, ◌++◌, length, refl, ap, sym, subst, ◌∙◌, append_assoc, length-append, codes, decimal, arith}
+use Rattle.std.proofs.Common.{◌≡◌, ℕ, suc, ◌+◌, ◌*◌, ◌<◌, ◌≤◌, ◌^◌, List, [], ◌∷◌, ◌++◌, length, ap, sym, ◌∙◌, append_assoc, length-append, codes, decimal, arith}
 use Rattle.std.specs.Prelude.{Ok}
 use Rattle.std.proofs.lemmas.List.{append_cancel_left, append_cancel_right}
 use Rattle.std.proofs.lemmas.Fmt.{length-decimal-le}
 use Rattle.hex.specs.Hex.{decode_of, encode_lower, lower_digits}
-use Rattle.hex.proofs.HexLemmas.{decode_of-encode_lower, decode_of-same, length-encode_with}
+use Rattle.hex.proofs.HexLemmas.{decode_of-encode_lower, decode_of-ok, decode_of-same, length-encode_with}
 use Rattle.conn_lines.specs.Lines.{deliver_line}
 use Rattle.conn_tail.specs.Tails.{IsDeliver, TellsNothing}
 
@@ -48,5 +48,15 @@ too_long line long number h =
     numbers (length line) (length (decimal number)) (length (encode_lower h.payload)) (length h.payload) long word digits h.short
     (size ∙ ap (λ (k : ℕ). 8 + k) (length-append (decimal number) (32 ∷ encode_lower h.payload)))
   where
-    numbers : (line word digits payload : ℕ) → 32801 < line → word ≤ 20 → digits ≡ 2 * payload → payload ≤ 16386 → line ≡ 8 + (word + (digits + 1)) → ⊥
+    numbers : (line word digits payload : ℕ) → 32801 < line → word ≤ 20 → digits ≡ 2 * payload → payload ≤ 16386 → line ≡ 8 + (word + suc digits) → ⊥
     numbers line word digits payload long few twice short size = omega arith
+
+-- a line that is written of a number and of what its digits spell
+pub is_deliver : (line digits bytes lent : List ℕ) (n : ℕ) → n < 2 ^ 64 → length bytes ≤ 16386 → decode_of digits ≡ Ok bytes → lent ≡ bytes → line ++ 10 ∷ [] ≡ deliver_line n lent → IsDeliver line n
+is_deliver line digits bytes lent n small short spelled same written = record {
+  size = small;
+  payload = bytes;
+  short = short;
+  each = (decode_of-ok digits bytes spelled).3;
+  written = written ∙ ap (deliver_line n) same;
+}

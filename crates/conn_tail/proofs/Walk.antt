@@ -1,11 +1,11 @@
 -- The walk back over lines.
-use Rattle.std.proofs.Common.{◌≡◌, ℕ, zero, suc, ◌+◌, ◌-◌, ◌<◌, ◌≤◌, ◌⊎◌, inl, inr, List, [], ◌∷◌, ◌++◌, length, get_or, take, drop, refl, ap, sym, subst, ◌∙◌, append_assoc, append-nil, take-append-drop, arith}
-use Rattle.std.specs.Prelude.{All, Option, Some, None}
+use Rattle.std.proofs.Common.{◌≡◌, ℕ, ◌+◌, ◌-◌, ◌<◌, ◌≤◌, ◌⊎◌, inl, inr, List, [], ◌∷◌, ◌++◌, length, get_or, take, drop, refl, ap, sym, subst, ◌∙◌, append_assoc, append-nil, take-append-drop, arith}
+use Rattle.std.specs.Prelude.{Option, Some, None}
 use Rattle.std.specs.List.{slice_range}
 use Rattle.std.proofs.lemmas.List.{take_more, length-take-le, length-drop, get_or-drop}
 use Rattle.std.proofs.lemmas.List.Elements.{All-nil, All-cons, All-append}
 use Rattle.gw_lines.specs.Lines.{IsFeedless, with_feeds}
-use Rattle.conn_tail.specs.Tails.{IsDeliver, TellsNothing, IsLastDeliver, TellsLast, HasTail}
+use Rattle.conn_tail.specs.Tails.{IsDeliver, TellsNothing, TellsLast, HasTail}
 use Rattle.conn_tail.specs.Places.{BeginsLine, IsLine, Passed}
 use Rattle.conn_tail.proofs.Contents.{at_line, range_feedless}
 use Rattle.conn_tail.proofs.Whole.{Lines, nothing, ended}

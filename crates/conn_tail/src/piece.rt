@@ -43,6 +43,35 @@ fn load<D: Disk>(disk: &mut D, piece: &mut [u8], place: u64) -> Result<Part, Tai
     Ok(Part { at, size })
 }
 
+/// Has the byte at a place stand in the piece.
+fn bring<D: Disk>(
+    disk: &mut D,
+    piece: &mut [u8],
+    part: &mut Part,
+    place: u64,
+) -> Result<(), TailFault>
+    requires piece { length piece.old ≡ 65536 }
+    requires most { part.old.size ≤ 65536 }
+    requires small { place < 2 ^ 40 }
+    requires place { ForSome (D.told disk.old) (λ content. place < length content) }
+    requires stands { ForSome (D.told disk.old) (λ content. StandsAt content piece.old part.old.at part.old.size) }
+    ensures before { OnOk result (part.new.at ≤ place) }
+    ensures behind { OnOk result (place < part.new.at + part.new.size) }
+    ensures most { OnOk result (part.new.size ≤ 65536) }
+    ensures stands { OnOk result (ForSome (D.told disk.old) (λ content. StandsAt content piece.new part.new.at part.new.size)) }
+    ensures content { D.told disk.new ≡ D.told disk.old }
+    ensures images { LeavesSame (D.may_leave disk.old) (D.may_leave disk.new) }
+    ensures counted { D.faults disk.old ≤ D.faults disk.new }
+    ensures fault { IsErrOf result TailFault.Disk → HasRisen (D.faults disk.old) (D.faults disk.new) }
+    ensures short { IsErrOf result TailFault.Short → D.told disk.old ≡ None }
+{
+    if place >= part.at && place - part.at < part.size as u64 {
+        return Ok(());
+    }
+    *part = load(disk, piece, place)?;
+    Ok(())
+}
+
 /// The byte at a place, from the piece where it stands there.
 fn byte_at<D: Disk>(
     disk: &mut D,
@@ -64,9 +93,7 @@ fn byte_at<D: Disk>(
     ensures fault { IsErrOf result TailFault.Disk → HasRisen (D.faults disk.old) (D.faults disk.new) }
     ensures short { IsErrOf result TailFault.Short → D.told disk.old ≡ None }
 {
-    if place < part.at || place - part.at >= part.size as u64 {
-        *part = load(disk, piece, place)?;
-    }
+    bring(disk, piece, part, place)?;
     Ok(piece[(place - part.at) as usize])
 }
 

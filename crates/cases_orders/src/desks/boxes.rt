@@ -36,9 +36,10 @@ fn formatted(alloc: Global) -> Option<MemDisk> {
 pub fn empty(alloc: Global) -> Option<Outbox<Log>>
     ensures sound { IfSome result (λ box. is_broken box ≡ false) }
 {
+    let disk = formatted(alloc)?;
     // one value, since what the journal says of its limits is said of the one that it was given
     let limits = WIDE;
-    let journal = SegJournal::open(alloc, formatted(alloc)?, limits).ok()?;
+    let journal = SegJournal::open(alloc, disk, limits).ok()?;
     Outbox::open(alloc, journal, limits).ok()
 }
 
@@ -72,8 +73,9 @@ fn apply(alloc: Global, inbox: &mut Inbox<Log>, payload: &[u8]) -> Option<Bytes>
 
 /// An inbox that has applied these messages; None where one is no message of an application, or refused.
 pub fn applied(alloc: Global, payloads: &Payloads) -> Option<Inbox<Log>> {
+    let disk = formatted(alloc)?;
     let limits = WIDE;
-    let journal = SegJournal::open(alloc, formatted(alloc)?, limits).ok()?;
+    let journal = SegJournal::open(alloc, disk, limits).ok()?;
     let mut inbox = Inbox::open(alloc, journal, limits, Flow::Recoverable).ok()?;
     for payload in payloads.as_slice() {
         apply(alloc, &mut inbox, payload.as_slice())?;

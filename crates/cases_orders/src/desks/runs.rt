@@ -1,6 +1,14 @@
 //! Runs of a business at a gate: of desks, or of a book.
 ghost use Rattle.std.specs.Prelude.{◌≡◌, ℕ, ◌+◌, ◌<◌, ◌≤◌, false, length, IfSome};
+ghost use denote.Param.Send.{IsSend};
 ghost use Rattle.jr_kept.specs.Outbox.{is_broken};
+ghost use Rattle.gw_fakes.specs.contracts.disk.MemDisk as disk;
+ghost use Rattle.gw_fakes.specs.contracts.disk.MemDiskDisk.TheImpl as on_disk;
+ghost use Rattle.jr_segments.specs.contracts.journal.SegJournal as journal;
+ghost use Rattle.jr_segments.specs.contracts.journal.SegJournalJournal.TheImpl as of_journal;
+ghost use Rattle.order_gate.specs.contracts.desk.Desk as desk;
+ghost use Rattle.order_gate.specs.contracts.form.Form as form;
+ghost use Rattle.order_book.specs.contracts.book.Book as book;
 ghost use Rattle.gate_turn.specs.Rule.{In};
 ghost use Rattle.gate_turn.specs.Listed.{known_at};
 ghost use Rattle.gate_senders.specs.Gate.{senders_of};
@@ -13,8 +21,9 @@ use gate_plans::Door;
 use gate_senders::{Gate, Kept};
 use gate_turn::Passes;
 use jr_kept::{Inbox, Outbox};
+use order_book::Book;
 use order_book_gate::BookDesk;
-use order_gate::{Desks, Terms};
+use order_gate::{Desk, Desks, Form, Terms};
 use sbe_value::Payloads;
 use std::alloc::Global;
 use std::sync::Wait;
@@ -82,6 +91,32 @@ fn live<B: Business<Log, Held = Kept<Log>> + Send, R: Threads + Wait + Sync>(
     (business.end(), whole)
 }
 
+/// Says of a type that its values may go to another thread. Said of each part apart, since all of a desk is too much for one search.
+fn sends<T: Send>()
+    ensures { IsSend T.row }
+{}
+
+/// The form of orders may go to another thread.
+fn form_sends()
+    ensures { IsSend form.the_row }
+{
+    sends::<Form>();
+}
+
+/// An order book may go to another thread.
+fn book_sends()
+    ensures { IsSend book.the_row }
+{
+    sends::<Book>();
+}
+
+/// One desk may go to another thread.
+fn desk_sends()
+    ensures { IsSend (desk.the_row (journal.the_row disk.the_row on_disk.ghosts) (of_journal.ghosts disk.the_row on_disk.ghosts on_disk.dict)) }
+{
+    sends::<Desk<Log>>();
+}
+
 /// A life of desks that take these passes.
 fn live_desks<D: Door + Send + Copy + Drop, R: Threads + Wait + Sync>(
     alloc: Global,
@@ -100,6 +135,8 @@ fn live_desks<D: Door + Send + Copy + Drop, R: Threads + Wait + Sync>(
     ensures these { HasThese (lock_of gate.now) result.0 asked.entry.terms.desks }
     ensures made { (n : ℕ) → In asked.entry.terms.desks n → (known_at result.0 n).made ≡ (known_at passes n).made }
 {
+    form_sends();
+    desk_sends();
     match Desks::new(alloc, passes, asked.terms, door) {
         Ok(desks) => live(alloc, desks, inbox, asked.payloads, gate, rt),
         Err(passes) => (passes, false),
@@ -123,6 +160,9 @@ fn live_book<R: Threads + Wait + Sync>(
     ensures these { HasThese (lock_of gate.now) result.0 1 }
     ensures made { (n : ℕ) → In 1 n → (known_at result.0 n).made ≡ (known_at passes n).made }
 {
+    form_sends();
+    desk_sends();
+    book_sends();
     match BookDesk::new(alloc, passes, version) {
         Ok(book) => live(alloc, book, inbox, payloads, gate, rt),
         Err(passes) => (passes, false),
