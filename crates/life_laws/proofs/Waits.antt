@@ -1,4 +1,5 @@
--- Where a connection was given up, either a stop may leave nothing of what was refused, or a frame waits whose act has those records.
+-- Where a connection was given up, either a stop may leave nothing of what was refused, or that is still to be added: of the act for which a frame
+-- waits, or of the held message that is awaited.
 use Rattle.std.proofs.Common.{◌≡◌, ◌⊎◌, inl, ◌-◌, List, [], ◌∷◌, Option, Some, None, sym, ap, subst, ◌∙◌, append-nil}
 use Rattle.std.specs.Prelude.{option_to_list}
 use Rattle.std.specs.List.{flat_map}
@@ -20,8 +21,8 @@ by_cut : (h : List Entry) (c : Course) (last : Line) (cut : Option Turn) (told :
     → (refused ≡ []) ⊎ Waits (course_after c (flat_map calls_of (option_to_list cut))) refused
 by_cut h c last None told added refused wanted s k = inl k.2
 by_cut h c last (Some t) told added refused wanted s k =
-    let is : flat_map calls_of (t ∷ []) ≡ calls_of (cut_short k.now k.received k.frames k.next) = append-nil (calls_of t) ∙ ap calls_of k.is in
-    subst (λ (cs : List Call). (refused ≡ []) ⊎ Waits (course_after c cs) refused) (sym is) (cut_waits h c last k.now k.received k.frames k.next k.fault refused s k.cut k.refused_are)
+    let is : flat_map calls_of (t ∷ []) ≡ calls_of (cut_short k.now k.received k.frames k.refusal) = append-nil (calls_of t) ∙ ap calls_of k.is in
+    subst (λ (cs : List Call). (refused ≡ []) ⊎ Waits (course_after c cs) refused) (sym is) (cut_waits h c last k.now k.received k.frames k.refusal k.fault refused s k.cut k.refused_are)
 
 pub waits_or_none : (h : List Entry) (before after : History) (m : State) (machine : State) (i : List InboxRecord) (last : Line) (c : Connection) → IsConnection before after machine last c → IsTurnedOne h m i last c
     → (c.refused ≡ []) ⊎ Waits (course_on m i c.leg) c.refused
