@@ -52,7 +52,8 @@ next_of n xs x ys e =
       left = ap (λ (k : ℕ). drop k xs) (add-one n) ∙ behind;
     }
 
-front_number : (next : ℕ) (held : List Numbered) (m : Numbered) → front next held ≡ Some m → m.number ≡ next
+-- the message that is awaited has the number awaited
+pub front_number : (next : ℕ) (held : List Numbered) (m : Numbered) → front next held ≡ Some m → m.number ≡ next
 front_number next held m e =
     let k = front_there next held (ap is_some e) in
     let same : k.first ≡ m = (let is = k.front_is in cc (is, e)) in
@@ -183,44 +184,4 @@ module _ {J : Type 0} {G : Ghosts J} where
     next = ap (λ (r : EndState). r.inbox_next) recorded ∙ (ap (λ (n : ℕ). n + 1) here ∙ sym (ap (λ (r : EndState). r.inbox_next) facts));
     negotiated = ap (λ (r : EndState). r.negotiated) recorded ∙ (a.negotiated ∙ sym (ap (λ (r : EndState). r.negotiated) facts));
     peer_last = ap (λ (r : EndState). r.peer_last) recorded ∙ (a.peer_last ∙ sym (ap (λ (r : EndState). r.peer_last) facts));
-  }
-
-  -- what an inbox is blamed for that refused a record, behind calls in which the count of its disk did not fall
-  pub blames_refused : (box mid after : Inbox J G) (news later : List NewsItem) (records : List InboxRecord) (fault : AppendFault) (answer : TurnFault) → faults_of box ≤ faults_of mid
-      → answer ≡ fault_of (count_of after) fault → Refused mid after news later records fault → Blames box after answer
-  blames_refused box mid after news later records fault answer falls is r = subst (λ (f : TurnFault). Blames box after f) (sym is) (by_fault fault r)
-    where
-      by_fault : (f : AppendFault) → Refused mid after news later records f → Blames box after (fault_of (count_of after) f)
-      by_fault append.Broken r = record {
-        risen = λ e. cc;
-        broken = λ _. r.broken refl;
-        full = λ entries bytes e. cc;
-        no_other = record { no_link = λ e. cc; no_outbox = λ e. cc; no_change = λ at e. cc };
-      }
-      by_fault (append.Full n) r = record {
-        risen = λ e. cc;
-        broken = λ e. cc;
-        full = λ entries bytes e. let size = r.full n refl in (cc (e), cc (e, size));
-        no_other = record { no_link = λ e. cc; no_outbox = λ e. cc; no_change = λ at e. cc };
-      }
-      by_fault append.Memory r = record {
-        risen = λ e. cc;
-        broken = λ e. cc;
-        full = λ entries bytes e. cc;
-        no_other = record { no_link = λ e. cc; no_outbox = λ e. cc; no_change = λ at e. cc };
-      }
-      by_fault append.Fault r = record {
-        risen = λ _. (let risen = r.risen refl in omega (arith, falls, risen));
-        broken = λ e. cc;
-        full = λ entries bytes e. cc;
-        no_other = record { no_link = λ e. cc; no_outbox = λ e. cc; no_change = λ at e. cc };
-      }
-
-  -- or for, behind other calls
-  pub blames_on : (box mid after : Inbox J G) (fault : TurnFault) → faults_of box ≤ faults_of mid → Blames mid after fault → Blames box after fault
-  blames_on box mid after fault falls b = record {
-    risen = λ e. (let risen = b.risen e in omega (arith, falls, risen));
-    broken = b.broken;
-    full = b.full;
-    no_other = b.no_other;
   }
