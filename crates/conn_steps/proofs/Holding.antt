@@ -1,7 +1,7 @@
 -- Held messages that are applied one after another: which are ready, and what the machine, the inbox and the news are behind some.
-use Rattle.std.proofs.Common.{◌≡◌, ℕ, suc, ◌+◌, ◌<◌, ◌≤◌, List, [], ◌∷◌, ◌++◌, length, take, drop, get_or, Option, Some, None, refl, sym, ap, subst, ◌∙◌, arith, add-one, length-drop, append_assoc, append-nil}
+use Rattle.std.proofs.Common.{◌≡◌, ℕ, suc, ◌+◌, ◌<◌, List, [], ◌∷◌, ◌++◌, length, take, drop, get_or, Option, Some, None, refl, sym, ap, subst, ◌∙◌, arith, add-one, length-drop, append_assoc, append-nil}
 use Rattle.std.specs.Prelude.{is_some, replicate}
-use Rattle.std.proofs.Math.Seq.{take-suc, drop-cons, take-length}
+use Rattle.std.proofs.Math.Seq.{take-suc, drop-cons}
 use Rattle.std.proofs.lemmas.List.{map-append}
 use Rattle.std.proofs.lemmas.Grind.{replicate_next}
 use Rattle.session_model.specs.Inbox.{InboxRecord, Numbered}
@@ -17,19 +17,16 @@ use Rattle.fixp_machine.proofs.Windowing.{front_there}
 use Rattle.jr_dated.specs.declared.journal.Journal.{Ghosts}
 use Rattle.jr_dated.specs.declared.limits.Limits.{Limits}
 use Rattle.jr_record.specs.declared.faults.AppendFault.{AppendFault}
-use Rattle.jr_record.specs.declared.faults.AppendFault.TheVariants as append
 use Rattle.jr_kept.specs.declared.inbox.Inbox.{Inbox}
-use Rattle.jr_kept.specs.Inbox.{faults_of, count_of, limits_of}
 use Rattle.conn_turns.specs.declared.news.NewsItem.{NewsItem}
 use Rattle.conn_turns.specs.declared.news.NewsItem.TheVariants as items
 use Rattle.conn_turns.specs.declared.answer.TurnFault.{TurnFault}
-use Rattle.conn_turns.specs.declared.answer.TurnFault.TheVariants as faults
 use Rattle.conn_turns.specs.Lines.{ready_in}
 use Rattle.conn_turns.specs.Frames.{applies, delivers}
 use Rattle.conn_turns.proofs.Taking.{run_append}
 use Rattle.conn_steps.specs.Settling.{SameKind, Gains, Refused, recorded_in}
 use Rattle.conn_steps.specs.Agreeing.{IsInTurn, Agrees, KeepsOwn, unheld}
-use Rattle.conn_steps.specs.Taking.{AppliedHeld, RefusedLater, Blames, fault_of}
+use Rattle.conn_steps.specs.Taking.{AppliedHeld, RefusedLater, fault_of}
 use Rattle.conn_steps.specs.Ends.{AnsweringEnd, answering_end}
 use Rattle.conn_steps.proofs.Answering.{past_as, refuses_as}
 use Rattle.conn_steps.proofs.Rooms.{gains_none, gains_on}
