@@ -14,6 +14,7 @@ use Rattle.fixp_replies.specs.declared.act.Act.{Act}
 use Rattle.fixp_replies.specs.declared.act.Act.TheVariants as acts
 use Rattle.fixp_replies.specs.Incoming.{Incoming}
 use Rattle.fixp_machine.specs.Machine.{State, fresh}
+use Rattle.fixp_machine.proofs.Windowing.{windowed_empty}
 use Rattle.fixp_machine.specs.Accepting.{records_of}
 use Rattle.connection_laws.specs.Courses.{Course, inbox_of}
 use Rattle.connection_laws.specs.Ranges.{IsInRange, IsOutbox}
@@ -155,7 +156,10 @@ module _ {J : Type 0} {G : Ghosts J} {tells : Type 0} (at behind : LifeAt J G) (
         soft = λ t. absurd (true≢false (sym t));
         role = λ _. refl;
       };
+      windowed = windowed_empty m.config m.most m.facts m.ending;
       pending = tt;
+      holding = tt;
+      waits = λ _. refl;
     };
     last = holds.noticed.peer_last;
     finish = finish;
