@@ -10,7 +10,7 @@ use Rattle.fixp_replies.specs.Incoming.{payload_in}
 use Rattle.fixp_replies.specs.Outcomes.{Outcome}
 use Rattle.fixp_machine.specs.Machine.{State, Call, did, reply_applied, step, run, held_done, held_with, front_of}
 use Rattle.fixp_machine.specs.Machine as calls
-use Rattle.conn_turns.specs.Lines.{Line, TakenFrame, IsNext, frame_calls, reply_at, lines_after, act_calls, ready_in, ready_behind}
+use Rattle.conn_turns.specs.Lines.{Line, TakenFrame, IsNext, frame_calls, reply_at, lines_after, act_calls, ready_behind}
 use Rattle.conn_turns.specs.Turns.{Turn, cut_short, calls_of_frames, calls_of, Refusal, of_act, of_held, refused_calls}
 use Rattle.conn_turns.proofs.Taking.{run_append, frames_make_calls, taken_more}
 use Rattle.conn_turns.specs.Refusals.{IsRefused}

@@ -1,6 +1,6 @@
 -- Where a connection was given up, either a stop may leave nothing of what was refused, or that is still to be added: of the act for which a frame
 -- waits, or of the held message that is awaited.
-use Rattle.std.proofs.Common.{◌≡◌, ℕ, ◌⊎◌, inl, List, [], ◌∷◌, Option, Some, None, sym, ap, subst, ◌∙◌, append-nil, inr, refl}
+use Rattle.std.proofs.Common.{◌≡◌, ℕ, ◌⊎◌, inl, List, [], ◌∷◌, Option, Some, None, sym, subst, append-nil, inr, refl}
 use Rattle.std.specs.Prelude.{option_to_list}
 use Rattle.std.specs.List.{flat_map}
 use Rattle.session_model.specs.Journal.{Entry, History}

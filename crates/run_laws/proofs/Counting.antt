@@ -1,5 +1,5 @@
 -- A connection on which a frame waits, or a held message, with that counted as done: its inbox has the records of it too.
-use Rattle.std.proofs.Common.{◌≡◌, ◌≤◌, ℕ, true, List, [], ◌∷◌, ◌++◌, length, Option, Some, None, IfSome, IsSome, refl, sym, ap, subst, ◌∙◌, append-nil, append_assoc, ◌+◌, zero, suc, arith}
+use Rattle.std.proofs.Common.{◌≡◌, ◌≤◌, ℕ, List, [], ◌∷◌, ◌++◌, length, Option, Some, None, IsSome, refl, sym, ap, subst, ◌∙◌, append-nil, append_assoc, ◌+◌, zero, suc, arith}
 use Rattle.std.specs.Prelude.{option_map, option_to_list, replicate}
 use Rattle.std.specs.List.{AllZip, flat_map}
 use Rattle.std.proofs.lemmas.Grind.{flat_map-append}
