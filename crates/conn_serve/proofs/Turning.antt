@@ -162,7 +162,7 @@ cut_dropped eager a b l (Some t) news adds refused wanted k = record {
   now = k.now;
   received = k.received;
   frames = k.frames;
-  next = k.next;
+  refusal = k.refusal;
   fault = k.fault;
   is = k.is;
   made = record { cut = k.made.cut; more = k.made.more; found = k.made.found; moved = k.made.moved; moment = k.made.moment; clock = k.made.clock };

@@ -1,7 +1,7 @@
 -- Held messages that are applied one after another: which are ready, and what the machine, the inbox and the news are behind some.
-use Rattle.std.proofs.Common.{◌≡◌, ℕ, suc, ◌+◌, ◌<◌, ◌≤◌, List, [], ◌∷◌, ◌++◌, length, take, drop, get_or, Option, Some, None, refl, sym, ap, subst, ◌∙◌, arith, add-one, length-drop, append_assoc, append-nil}
+use Rattle.std.proofs.Common.{◌≡◌, ℕ, suc, ◌+◌, ◌<◌, List, [], ◌∷◌, ◌++◌, length, take, drop, get_or, Option, Some, None, refl, sym, ap, subst, ◌∙◌, arith, add-one, length-drop, append_assoc, append-nil}
 use Rattle.std.specs.Prelude.{is_some, replicate}
-use Rattle.std.proofs.Math.Seq.{take-suc, drop-cons, take-length}
+use Rattle.std.proofs.Math.Seq.{take-suc, drop-cons}
 use Rattle.std.proofs.lemmas.List.{map-append}
 use Rattle.std.proofs.lemmas.Grind.{replicate_next}
 use Rattle.session_model.specs.Inbox.{InboxRecord, Numbered}
@@ -17,19 +17,16 @@ use Rattle.fixp_machine.proofs.Windowing.{front_there}
 use Rattle.jr_dated.specs.declared.journal.Journal.{Ghosts}
 use Rattle.jr_dated.specs.declared.limits.Limits.{Limits}
 use Rattle.jr_record.specs.declared.faults.AppendFault.{AppendFault}
-use Rattle.jr_record.specs.declared.faults.AppendFault.TheVariants as append
 use Rattle.jr_kept.specs.declared.inbox.Inbox.{Inbox}
-use Rattle.jr_kept.specs.Inbox.{faults_of, count_of, limits_of}
 use Rattle.conn_turns.specs.declared.news.NewsItem.{NewsItem}
 use Rattle.conn_turns.specs.declared.news.NewsItem.TheVariants as items
 use Rattle.conn_turns.specs.declared.answer.TurnFault.{TurnFault}
-use Rattle.conn_turns.specs.declared.answer.TurnFault.TheVariants as faults
 use Rattle.conn_turns.specs.Lines.{ready_in}
 use Rattle.conn_turns.specs.Frames.{applies, delivers}
 use Rattle.conn_turns.proofs.Taking.{run_append}
 use Rattle.conn_steps.specs.Settling.{SameKind, Gains, Refused, recorded_in}
 use Rattle.conn_steps.specs.Agreeing.{IsInTurn, Agrees, KeepsOwn, unheld}
-use Rattle.conn_steps.specs.Taking.{AppliedHeld, RefusedLater, Blames, fault_of}
+use Rattle.conn_steps.specs.Taking.{AppliedHeld, RefusedLater, fault_of}
 use Rattle.conn_steps.specs.Ends.{AnsweringEnd, answering_end}
 use Rattle.conn_steps.proofs.Answering.{past_as, refuses_as}
 use Rattle.conn_steps.proofs.Rooms.{gains_none, gains_on}
@@ -52,7 +49,8 @@ next_of n xs x ys e =
       left = ap (λ (k : ℕ). drop k xs) (add-one n) ∙ behind;
     }
 
-front_number : (next : ℕ) (held : List Numbered) (m : Numbered) → front next held ≡ Some m → m.number ≡ next
+-- the message that is awaited has the number awaited
+pub front_number : (next : ℕ) (held : List Numbered) (m : Numbered) → front next held ≡ Some m → m.number ≡ next
 front_number next held m e =
     let k = front_there next held (ap is_some e) in
     let same : k.first ≡ m = (let is = k.front_is in cc (is, e)) in
@@ -183,44 +181,4 @@ module _ {J : Type 0} {G : Ghosts J} where
     next = ap (λ (r : EndState). r.inbox_next) recorded ∙ (ap (λ (n : ℕ). n + 1) here ∙ sym (ap (λ (r : EndState). r.inbox_next) facts));
     negotiated = ap (λ (r : EndState). r.negotiated) recorded ∙ (a.negotiated ∙ sym (ap (λ (r : EndState). r.negotiated) facts));
     peer_last = ap (λ (r : EndState). r.peer_last) recorded ∙ (a.peer_last ∙ sym (ap (λ (r : EndState). r.peer_last) facts));
-  }
-
-  -- what an inbox is blamed for that refused a record, behind calls in which the count of its disk did not fall
-  pub blames_refused : (box mid after : Inbox J G) (news later : List NewsItem) (records : List InboxRecord) (fault : AppendFault) (answer : TurnFault) → faults_of box ≤ faults_of mid
-      → answer ≡ fault_of (count_of after) fault → Refused mid after news later records fault → Blames box after answer
-  blames_refused box mid after news later records fault answer falls is r = subst (λ (f : TurnFault). Blames box after f) (sym is) (by_fault fault r)
-    where
-      by_fault : (f : AppendFault) → Refused mid after news later records f → Blames box after (fault_of (count_of after) f)
-      by_fault append.Broken r = record {
-        risen = λ e. cc;
-        broken = λ _. r.broken refl;
-        full = λ entries bytes e. cc;
-        no_other = record { no_link = λ e. cc; no_outbox = λ e. cc; no_change = λ at e. cc };
-      }
-      by_fault (append.Full n) r = record {
-        risen = λ e. cc;
-        broken = λ e. cc;
-        full = λ entries bytes e. let size = r.full n refl in (cc (e), cc (e, size));
-        no_other = record { no_link = λ e. cc; no_outbox = λ e. cc; no_change = λ at e. cc };
-      }
-      by_fault append.Memory r = record {
-        risen = λ e. cc;
-        broken = λ e. cc;
-        full = λ entries bytes e. cc;
-        no_other = record { no_link = λ e. cc; no_outbox = λ e. cc; no_change = λ at e. cc };
-      }
-      by_fault append.Fault r = record {
-        risen = λ _. (let risen = r.risen refl in omega (arith, falls, risen));
-        broken = λ e. cc;
-        full = λ entries bytes e. cc;
-        no_other = record { no_link = λ e. cc; no_outbox = λ e. cc; no_change = λ at e. cc };
-      }
-
-  -- or for, behind other calls
-  pub blames_on : (box mid after : Inbox J G) (fault : TurnFault) → faults_of box ≤ faults_of mid → Blames mid after fault → Blames box after fault
-  blames_on box mid after fault falls b = record {
-    risen = λ e. (let risen = b.risen e in omega (arith, falls, risen));
-    broken = b.broken;
-    full = b.full;
-    no_other = b.no_other;
   }

@@ -18,7 +18,7 @@ use Rattle.conn_turns.specs.declared.answer.TurnFault.{TurnFault}
 use Rattle.conn_turns.specs.declared.answer.TurnFault.TheVariants as faults
 use Rattle.fixp_machine.specs.Accepting.{records_of}
 use Rattle.conn_turns.specs.News.{told_by}
-use Rattle.conn_turns.specs.Lines.{TakenFrame, IsNext, IsTaken, AreTaken, reply_at, act_calls, ready_in, line_after, lines_after}
+use Rattle.conn_turns.specs.Lines.{TakenFrame, IsTaken, AreTaken, act_calls, ready_in, line_after, lines_after}
 use Rattle.conn_turns.specs.Frames.{applies, delivers, adds, tells, added, told}
 use Rattle.conn_turns.specs.Turns.{Refusal}
 use Rattle.conn_turns.specs.Refusals.{IsRefused, stood, told_before, refused, IsOfRecord, line_refused}

@@ -10,12 +10,11 @@ use Rattle.fixp_replies.specs.Incoming.{payload_in}
 use Rattle.fixp_replies.specs.Outcomes.{Outcome}
 use Rattle.fixp_machine.specs.Machine.{State, Call, did, reply_applied, step, run, held_done, held_with, front_of}
 use Rattle.fixp_machine.specs.Machine as calls
-use Rattle.conn_turns.specs.Lines.{Line, TakenFrame, IsNext, frame_calls, reply_at, lines_after, act_calls, ready_in, ready_behind}
+use Rattle.conn_turns.specs.Lines.{Line, TakenFrame, IsNext, frame_calls, reply_at, lines_after, act_calls, ready_behind}
 use Rattle.conn_turns.specs.Turns.{Turn, cut_short, calls_of_frames, calls_of, Refusal, of_act, of_held, refused_calls}
 use Rattle.conn_turns.proofs.Taking.{run_append, frames_make_calls, taken_more}
 use Rattle.conn_turns.specs.Refusals.{IsRefused}
-use Rattle.conn_steps.proofs.Holding.{ready_held, ready_none}
-use Rattle.turn_laws.proofs.Draining.{awaited_in, were_ready}
+use Rattle.turn_laws.proofs.Draining.{none_ready, all_ready}
 use Rattle.turn_laws.specs.Turns.{line_received, IsCutShort, IsCut}
 use Rattle.turn_laws.specs.Legs.{all_turns, given_in, sent_in, IsTimelyTurn}
 use Rattle.honest_turns.specs.Links.{Move, initiator_turns, acceptor_turns, of_initiator, of_acceptor, Passes}
@@ -107,16 +106,6 @@ one_further m (suc n) = one_further (step m held_done) n
 
 one_more : (m : State) (n : ℕ) → run m (replicate (n + 1) held_done) ≡ step (run m (replicate n held_done)) held_done
 one_more m n = let next : n + 1 ≡ suc n = omega arith in ap (λ (j : ℕ). run m (replicate j held_done)) next ∙ one_further m n
-
--- where one is awaited behind some, and none behind one more, these were all that were ready
-all_ready : (m : State) (n : ℕ) (next : Numbered) → front_of (run m (replicate n held_done)) ≡ Some next → front_of (step (run m (replicate n held_done)) held_done) ≡ None → n + 1 ≡ length (ready_in m)
-all_ready m zero next awaits none = sym (ap (λ (ms : List Numbered). length ms) (ready_held m next awaits) ∙ ap (λ (ms : List Numbered). suc (length ms)) (ready_none (step m held_done) none))
-all_ready m (suc n) next awaits none =
-    let few = were_ready m (suc n) next awaits in
-    let a = awaited_in m n (omega (arith, few)) in
-    let is = ap (λ (ms : List Numbered). length ms) a.ready_is in
-    let rest = all_ready (step m held_done) n next awaits none in
-    omega (arith, is, rest)
 
 pub refused_counts : RefusedCounts
 refused_counts s now received frames r k enough cut waits = record {
@@ -222,7 +211,7 @@ refused_counts s now received frames r k enough cut waits = record {
       where
         by_refusal : (x : Refusal) → front_of (run n.machine (frame_calls now (frame_counted x))) ≡ None → behind s ≡ run n.machine (refused_calls now x) → IsRefused now n x
             → (frame_counted x).helds ≡ length (ready_behind now n (frame_counted x))
-        by_refusal (of_act g) empty e is = sym (ap (λ (ms : List Numbered). length ms) (ready_none (run n.machine (act_calls now (frame_counted (of_act g)))) empty))
+        by_refusal (of_act g) empty e is = none_ready (run n.machine (act_calls now (frame_counted (of_act g)))) empty
         by_refusal (of_held g m) empty e is =
             let acted : State = run n.machine (act_calls now g) in
             all_ready acted g.helds m (ap (λ (x : State). front_of x) (sym (run_append n.machine (act_calls now g) (replicate g.helds held_done))) ∙ is.awaits)

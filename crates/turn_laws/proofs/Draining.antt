@@ -120,6 +120,20 @@ were_ready m (suc k) next awaits = by_front (were_ready (step m held_done) k nex
     by_front rest None e = absurd (cc (stuck m (suc k) e, awaits))
     by_front rest (Some first) e = let is = ap (λ (ms : List Numbered). length ms) (ready_held m first e) in omega (arith, is, rest)
 
+-- where none is awaited, none is ready
+pub none_ready : (m : State) → front_of m ≡ None → 0 ≡ length (ready_in m)
+none_ready m none = sym (ap (λ (ms : List Numbered). length ms) (ready_none m none))
+
+-- where one is awaited behind some, and none behind one more, these were all that were ready
+pub all_ready : (m : State) (n : ℕ) (next : Numbered) → front_of (run m (replicate n held_done)) ≡ Some next → front_of (step (run m (replicate n held_done)) held_done) ≡ None → n + 1 ≡ length (ready_in m)
+all_ready m zero next awaits none = sym (ap (λ (ms : List Numbered). length ms) (ready_held m next awaits) ∙ ap (λ (ms : List Numbered). suc (length ms)) (ready_none (step m held_done) none))
+all_ready m (suc n) next awaits none =
+    let few = were_ready m (suc n) next awaits in
+    let a = awaited_in m n (omega (arith, few)) in
+    let is = ap (λ (ms : List Numbered). length ms) a.ready_is in
+    let rest = all_ready (step m held_done) n next awaits none in
+    omega (arith, is, rest)
+
 -- an act with which a connection ends leaves none awaited
 pub act_open : (now : ℕ) (l : Line) (t : TakenFrame) → t.recorded ≡ is_record (reply_at now l t).act → IsSome (front_of (run l.machine (act_calls now t))) → (run l.machine (act_calls now t)).ending ≡ None
 act_open now l t recorded some = by_record t.recorded recorded some
