@@ -18,10 +18,10 @@ use Rattle.conn_loop.proofs.Machine.{finish_same}
 
 -- live entries are due unless a range is served
 beside_is : (serving : Option Range) (h : History) (sent due : Option (List (List ℕ))) → IsAsDue (served_of serving h) sent → (if is_some serving then None else due) ≡ live_beside sent due
-beside_is None h None due as = refl
-beside_is None h (Some ps) due as = absurd as
-beside_is (Some r) h None due as = absurd as
-beside_is (Some r) h (Some ps) due as = refl
+beside_is None h None due fits = refl
+beside_is None h (Some ps) due fits = absurd fits
+beside_is (Some r) h None due fits = absurd fits
+beside_is (Some r) h (Some ps) due fits = refl
 
 pub served_outbox : (tells : Type 0) (now : ℕ) (h first last : History) (old one two new : Line) → BeginsHistory h first → BeginsHistory first last
     → SentDue tells (served_of (served_now old.machine) first) (again_calls now) old one

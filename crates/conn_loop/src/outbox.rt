@@ -2,7 +2,7 @@
 
 ghost use Rattle.std.specs.Prelude.{◌≡◌, ◌≢◌, ℕ, ◌+◌, ◌*◌, ◌^◌, ◌<◌, ◌≤◌, not, length, true, false, None, Ok, Err, IfOk, IfErr, IfSome, OnOk, is_some, if◌then◌else◌, min};
 ghost use Rattle.fixp_shake.specs.Flows.{is_absent};
-ghost use Rattle.fixp_machine.specs.Machine.{run};
+ghost use Rattle.fixp_machine.specs.Machine.{front_of, run};
 ghost use Rattle.jr_dated.specs.declared.faults.FetchFault.TheVariants as fetching;
 ghost use Rattle.gate_turn.specs.Views.{HasFailed, Part};
 ghost use Rattle.gate_turn.specs.Places.{known};
@@ -210,6 +210,7 @@ impl Conn {
     #[tactic(auto, using(crate::proofs::Machine::closed_keeps, crate::proofs::Machine::closed_drained))]
     fn tell_finish(&mut self, mark: Option<u64>, now: u64)
         requires done { (line_of self.old).machine.pending ≡ None }
+        requires drained { front_of (line_of self.old).machine ≡ None }
         requires little { length (line_of self.old).machine.unsent ≤ 4900000 }
         requires time { ((line_of self.old).machine.moment ≤ now) × (now < 2 ^ 44) }
         ensures finish { line_of self.new ≡ record (line_of self.old) { machine = run (line_of self.old).machine (finish_calls now mark) } }
