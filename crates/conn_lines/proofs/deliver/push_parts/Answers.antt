@@ -15,14 +15,16 @@ loop-part-preserved c =
       search rules,
       tt,
       steps.0 ∙ c.loop-part.invariant.2,
-      ap (λ (ls : List ℕ). ls ++ encode_lower rest) c.in_default.ensures.added
+      ap (λ (ls : List ℕ). ls ++ encode_lower rest) c.in_ok-push_hex.ensures
           ∙ (append_assoc c.loop-part.lines.items (encode_lower c.in-Some.part.now) (encode_lower rest)
           ∙ (ap (λ (ls : List ℕ). c.loop-part.lines.items ++ ls) (sym (encode_with-append lower_digits c.in-Some.part.now rest) ∙ ap (λ (ls : List ℕ). encode_lower ls) (sym steps.1.0))
           ∙ c.loop-part.invariant.3)),
     )
 
-pub returns-clause-added : goal.returns-clause-added
+pub returns : goal.returns
 unfolding encode_with
-returns-clause-added c =
+returns c = record {
+  added =
     let none = nil_from_length _ c.in-None.ensures.steps.1.0 in
-    sym (append-nil c.loop-part.lines.items) ∙ (ap (λ (ls : List ℕ). c.loop-part.lines.items ++ encode_lower ls) (sym none) ∙ c.loop-part.invariant.3)
+    sym (append-nil c.loop-part.lines.items) ∙ (ap (λ (ls : List ℕ). c.loop-part.lines.items ++ encode_lower ls) (sym none) ∙ c.loop-part.invariant.3);
+}
