@@ -1,5 +1,6 @@
-use Rattle.std.proofs.Common.{[], refl, sym, ◌∙◌}
+use Rattle.std.proofs.Common.{[], refl, sym, subst, ◌∙◌}
 use Rattle.std.proofs.lemmas.Result.{on_ok_weaker}
+use Rattle.fixp_machine.specs.Machine.{State, Windowed}
 use Rattle.conn_turns.specs.declared.answer.TurnFault.{TurnFault}
 use Rattle.conn_loop.specs.Ends.{line_in, pass_in, in_turn}
 use Rattle.turn_laws.proofs.Repacking.{turn_is_one, cut_is_one}
@@ -22,8 +23,9 @@ returns-clause-cut g c =
 
 pub returns-clause-few : goal.returns-clause-few
 returns-clause-few g c =
-    let m = (line_in c.args.end.now).machine in
-    let held = held_few m.config m.most m.facts m.ending m.held c.windowed.ensures c.requires.may.goes.drained in
+    let m : State = (line_in c.args.end.now).machine in
+    let windowed = subst (λ (s : State). Windowed s.config s.most s.facts s.ending s.held) c.end.ensures c.windowed.ensures in
+    let held = held_few m.config m.most m.facts m.ending m.held windowed c.requires.may.goes.drained in
     on_both _ _ _ c.close_of.result (returns-clause-whole g c) (returns-clause-cut g c)
     (was_few _ _ _ (in_turn _ _ c.args.end.now []) (in_turn _ _ c.turn.new.self _) refl held)
     (λ why. cut_is_few _ _ _ (in_turn _ _ c.args.end.now []) (in_turn _ _ c.turn.new.self _) why refl held)
