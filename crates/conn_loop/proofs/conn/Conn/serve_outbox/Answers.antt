@@ -11,8 +11,8 @@ use Rattle.conn_loop.proofs.Serving.{served_outbox}
 use Rattle.conn_loop.proofs.Working.{looks_on}
 use Rattle.conn_loop.proofs.conn.Conn.serve_outbox.Goals as goal
 
-pub returns-in-Ok-clause-served : goal.returns-in-Ok-clause-served
-returns-in-Ok-clause-served g c =
+pub returns-in-Ok-send_beside-clause-served : goal.returns-in-Ok-send_beside-clause-served
+returns-in-Ok-send_beside-clause-served g c =
     let again = c.in-Ok.ensures in
     let live = c.in-Ok-send_beside.ensures in
     let between : Line = line_of c.send_beside.new.self in
@@ -21,15 +21,15 @@ returns-in-Ok-clause-served g c =
     again.looks.seen live.looks.seen again.again (subst (λ (b : Bool). SentDue g.J.Journal.tells (if b then None else live_of (line_of c.send_again.new.self).machine (known c.send_beside.new.pass).seen) (live_calls c.args.now) (line_of c.send_again.new.self) (line_of c.send_beside.new.self)) again.some live.live)
     (c.tell_finish.ensures.finish ∙ ap (λ (o : Option ℕ). record between { machine = run between.machine (finish_calls c.args.now o) }) live.mark) again.same.config
 
-pub returns-in-Ok-clause-serve : goal.returns-in-Ok-clause-serve
-returns-in-Ok-clause-serve g c =
+pub returns-in-Ok-send_beside-clause-serve : goal.returns-in-Ok-send_beside-clause-serve
+returns-in-Ok-send_beside-clause-serve g c =
     let h = (known c.send_beside.new.pass).seen in
     c.tell_finish.ensures.serve (known c.send_beside.new.pass)
     (subst (λ (o : Option ℕ). IfSome o (λ n. (h.finished ≡ true) × (length h.made ≡ n))) (sym c.in-Ok-send_beside.ensures.mark) (finish_seen c.send_again.new.self.end h))
     c.in-Ok-send_beside.ensures.serve
 
-pub returns-in-Ok-clause-looks : goal.returns-in-Ok-clause-looks
-returns-in-Ok-clause-looks g c =
+pub returns-in-Ok-send_beside-clause-looks : goal.returns-in-Ok-send_beside-clause-looks
+returns-in-Ok-send_beside-clause-looks g c =
     looks_on (known c.args.pass.now) (known c.send_again.new.pass) (known c.send_beside.new.pass) c.send_again.ensures.looks c.send_beside.ensures.looks
 
 pub returns-in-Err-send_beside-clause-looks : goal.returns-in-Err-send_beside-clause-looks
