@@ -44,7 +44,7 @@ pub struct Link {
 }
 
 /// What a configuration says of those who send and of their orders.
-#[derive(Clone, Copy, Debug, PartialEq, Eq)]
+#[derive(Clone, Copy, PartialEq, Eq)]
 pub struct Trade {
     /// How many senders there are, 0 to 16.
     pub senders: u8,
@@ -57,7 +57,7 @@ pub struct Trade {
 }
 
 /// A configuration: the values of all ten keys.
-#[derive(Debug, Drop)]
+#[derive(Drop)]
 pub struct Configuration {
     /// The session, its flows and credentials.
     pub link: Link,

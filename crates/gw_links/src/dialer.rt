@@ -11,7 +11,6 @@ use gw_outside::Failed;
 use std::sync::atomic::AtomicBool;
 
 /// What a dialer answers that did not fail.
-#[derive(Debug)]
 pub enum Next<L> {
     /// The next connection.
     Link(L),

@@ -41,7 +41,7 @@ pub struct SchemaFault {
 }
 
 /// An array of tables in the text of a schema.
-#[derive(Debug, Clone, Copy, PartialEq, Eq)]
+#[derive(Clone, Copy, PartialEq, Eq)]
 pub enum TableArray {
     /// The types of the schema.
     Types,
@@ -62,7 +62,7 @@ pub enum TableArray {
 }
 
 /// A step of a path: a table of one array, by its place in it from 0.
-#[derive(Debug, Clone, Copy, PartialEq, Eq)]
+#[derive(Clone, Copy, PartialEq, Eq)]
 pub struct PathStep {
     /// The array.
     pub array: TableArray,

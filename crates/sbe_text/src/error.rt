@@ -19,7 +19,7 @@ pub enum TextError {
 }
 
 /// Why lines are not read on.
-#[derive(Debug, Clone, Copy, PartialEq, Eq)]
+#[derive(Clone, Copy, PartialEq, Eq)]
 pub enum Refusal {
     /// So many lines are left, and the first of them is refused; none where the text ends too early.
     Left(u64),

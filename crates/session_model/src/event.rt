@@ -15,7 +15,7 @@ pub enum Flow {
 }
 
 /// An entry of an outbound journal.
-#[derive(Clone, Copy, Debug, PartialEq, Eq)]
+#[derive(Clone, Copy, PartialEq, Eq)]
 pub struct Entry<'a> {
     /// Which sender handed it in.
     pub sender: u64,
@@ -25,7 +25,7 @@ pub struct Entry<'a> {
 }
 
 /// Who announces a number.
-#[derive(Clone, Copy, Debug, PartialEq, Eq)]
+#[derive(Clone, Copy, PartialEq, Eq)]
 pub enum Announcer {
     /// Establish or EstablishmentAck.
     Handshake,
@@ -34,7 +34,7 @@ pub enum Announcer {
 }
 
 /// An event of a flow on a connection.
-#[derive(Clone, Copy, Debug, PartialEq, Eq)]
+#[derive(Clone, Copy, PartialEq, Eq)]
 pub enum Event<'a> {
     /// An announcement of the next number, or of none.
     Announce(Announcer, Option<u64>),
@@ -43,7 +43,7 @@ pub enum Event<'a> {
 }
 
 /// A message with its implied number, from 1 on.
-#[derive(Clone, Copy, Debug, PartialEq, Eq)]
+#[derive(Clone, Copy, PartialEq, Eq)]
 pub struct Numbered<'a> {
     pub number: u128,
     pub payload: &'a [u8],
@@ -57,7 +57,7 @@ pub struct Range {
 }
 
 /// A record of an inbox.
-#[derive(Clone, Copy, Debug, PartialEq, Eq)]
+#[derive(Clone, Copy, PartialEq, Eq)]
 pub enum Record<'a> {
     /// A message was applied.
     Apply(Numbered<'a>),

@@ -11,7 +11,7 @@ use crate::header::FirstFrame;
 use std::alloc::{AllocError, Global};
 
 /// A frame with a message of its own.
-#[derive(Debug, Drop)]
+#[derive(Drop)]
 pub struct OwnedFrame {
     /// The byte order that the encoding type names.
     pub order: Order,
@@ -31,7 +31,7 @@ pub enum End {
 }
 
 /// The frames of some bytes, and what follows them.
-#[derive(Debug, Drop)]
+#[derive(Drop)]
 pub struct Split {
     /// The whole frames, in order.
     pub frames: Vec<OwnedFrame>,
