@@ -2,9 +2,9 @@
 
 use crate::report::Report;
 use cmd_run::Status;
-use say_words::quoted;
 use session_files::role_of;
 use std::alloc::{AllocError, Global};
+use text_words::quoted;
 
 pub const VERSION: &str = "fixpgw 0.1.0";
 

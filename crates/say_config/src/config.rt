@@ -5,11 +5,11 @@ use crate::admitted::{
 };
 use cmd_config::Purpose;
 use say_toml::{Broken, found_at, last_key, list_key, push_value, push_where, schema_fault};
-use say_words::push_path;
 use sbe_schema::SchemaFault;
 use sbe_value::Path;
 use schema_toml::{ConfigFault, TEXT_LIMIT};
 use std::alloc::{AllocError, Global};
+use text_words::push_path;
 use toml::Value;
 use toml_walk::TomlFault;
 

@@ -3,7 +3,6 @@
 use crate::admitted::{push_form, push_listed, push_message_names, push_messages};
 use crate::filled::{Filled, plain, with_one, with_three, with_two};
 use crate::walk::{Awaited, Found, found_at, push_awaited};
-use say_words::push_quoted;
 use sbe_encode::EncodeFault;
 use sbe_grammar::DecodeFault;
 use sbe_layout::{ItemKind, ItemPlan, Plan};
@@ -11,6 +10,7 @@ use sbe_prim::{Primitive, default_greatest, default_least};
 use sbe_text::{count_lines, first_line, first_message};
 use sbe_value::{Item, Message, Path, text_of_path};
 use std::alloc::{AllocError, Global};
+use text_words::push_quoted;
 
 /// What is wrong with the bytes of a message.
 fn decode_fault(fault: DecodeFault) -> Filled {

@@ -11,7 +11,6 @@ use fixp_msgs::{
 };
 use gw_watch::{Ear, Heard};
 use say_faults::push_rejected;
-use say_words::push_file;
 use session_files::{Outlook, Session, Walked, push_place, text_of_file, walk_journal};
 use std::alloc::{AllocError, Global};
 use std::cell::Cell;
@@ -20,7 +19,7 @@ use std::net::SocketAddr;
 use std::os::unix::fs::MetadataExt;
 use std::rt::Files;
 use std::time::Clock;
-use text_words::parse_address;
+use text_words::{parse_address, push_file};
 
 /// Why running again cannot help where numbers went back, or the peer ended before the session was established.
 const APART: &str =

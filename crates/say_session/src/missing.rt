@@ -1,10 +1,10 @@
 //! A journal that is missing, or was, and the other one that is there.
 
 use gw_real::Named;
-use say_words::push_file;
 use std::alloc::AllocError;
 use std::io::ErrorKind;
 use std::rt::Files;
+use text_words::push_file;
 
 /// The size of a journal without records, in bytes.
 const EMPTY: u64 = 17;

@@ -2,10 +2,10 @@
 
 use crate::place::text_at;
 use crate::value::{one_step, push_value};
-use say_words::push_quoted;
 use sbe_prim::{Primitive, find_primitive};
 use sbe_value::{Path, Step};
 use std::alloc::{AllocError, Global};
+use text_words::push_quoted;
 use toml::Value;
 use toml_walk::{is_name, wide_number};
 

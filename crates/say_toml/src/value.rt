@@ -1,8 +1,8 @@
 //! Values of a TOML text, found again and shown.
 
-use say_words::push_quoted;
 use sbe_value::{Path, Step};
 use std::alloc::AllocError;
+use text_words::push_quoted;
 use toml::Value;
 
 /// What lies one step further.

@@ -1,8 +1,8 @@
 //! A file of the command line, as lines name it.
 
 use gw_real::{Named, STANDARD_OUTPUT};
-use say_words::push_file;
 use std::alloc::AllocError;
+use text_words::push_file;
 
 /// Adds a file's role and path; standard output has no path.
 pub fn push_name(line: &mut String, name: Named<'_>) -> Result<(), AllocError> {
