@@ -10,3 +10,4 @@ pub mod Seen
 pub mod Senders
 pub mod Passes
 pub mod Boxes
+pub mod Answering
